@@ -1,0 +1,4 @@
+pub mod AscendingLemmas
+pub mod OrderLemmas
+pub mod OrderedLemmas
+pub mod ShapeLemmas

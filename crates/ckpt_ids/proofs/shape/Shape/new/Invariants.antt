@@ -1,0 +1,10 @@
+use Rattle.std.proofs.Common.{◌≡◌, sum, take}
+use Rattle.ckpt_ids.specs.Shapes.{IsShape}
+use Rattle.ckpt_ids.proofs.shape.Shape.new.Given as goal
+
+abbrev pub invariant-loop-parallelism : goal.invariant-loop-parallelism
+invariant-loop-parallelism l = record {
+  shape : IsShape l.list;
+  items : l.parallelisms.items ≡ take l.parallelism-index l.list;
+  size : l.size ≡ sum (take l.parallelism-index l.list);
+}

@@ -1,0 +1,12 @@
+use Rattle.std.proofs.Common.{◌≡◌, ◌∙◌, sym, arith, length, ◌<◌, ◌≤◌, get_or}
+use Rattle.ckpt_ids.proofs.ShapeLemmas.{subtask_found, subtask_further}
+use Rattle.ckpt_ids.proofs.shape.Shape.nth.Goals as goal
+
+pub loop-vertex-preserved : goal.loop-vertex-preserved
+loop-vertex-preserved c =
+    sym (subtask_further c.deref-parallelism-items.result.now c.loop-vertex.vertex c.loop-vertex.left (omega arith) (omega arith)) ∙ c.loop-vertex.invariant
+
+pub returns-then-left-parallelism : goal.returns-then-left-parallelism
+returns-then-left-parallelism c =
+    let found = subtask_found c.deref-parallelism-items.result.now c.loop-vertex.vertex c.loop-vertex.left (omega arith) (omega arith) in
+    rw (← c.self.view_is, ← c.deref-parallelism-items.ensures.value) (sym found ∙ c.loop-vertex.invariant)

@@ -1,0 +1,6 @@
+pub mod Acknowledged
+pub mod Ascending
+pub mod Configuration
+pub mod Ordered
+pub mod Records
+pub mod Shapes

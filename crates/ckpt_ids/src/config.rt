@@ -1,0 +1,149 @@
+ghost use Rattle.std.specs.Prelude.{◌≡◌, ◌^◌, ◌≤◌, ◌↔◌, Bool, true, false, IsErr, IsTrue, OnOk, IfOk};
+ghost use Rattle.ckpt_ids.specs.Configuration.{Configuration, IsWithinLimits, is_within_limits};
+
+use std::marker::Model;
+use thiserror::Error;
+
+const LONGEST: u64 = 1 << 40;
+
+const MOST_AT_ONCE: u64 = 64;
+
+const MOST_TOLERABLE: u64 = 1000;
+
+const MOST_RETAINED: u64 = 1000;
+
+/// A value of the configuration is outside its limits.
+#[derive(Clone, Copy, Debug, PartialEq, Eq, Error)]
+#[error("a value of the configuration is outside its limits")]
+pub struct BadConfig;
+
+/// How a job takes checkpoints.
+///
+/// Source of the values: the Flink documentation, "Configuration": `execution.checkpointing.interval`,
+/// `.min-pause`, `.max-concurrent-checkpoints`, `.timeout`, `.tolerable-failed-checkpoints`,
+/// `.externalized-checkpoint-retention` and `state.checkpoints.num-retained`. The limits are this
+/// project's own.
+#[derive(Clone, Copy, Debug, PartialEq, Eq)]
+pub struct Config {
+    interval: u64,
+    pause: u64,
+    at_once: u32,
+    timeout: u64,
+    tolerable: u32,
+    retained: u32,
+    keep_on_cancel: bool,
+}
+
+impl Model for Config {
+    ghost use Rattle.ckpt_ids.specs.Configuration.{Configuration, IsWithinLimits};
+
+    ghost Value = { Configuration };
+
+    ghost view = { λ c. record { interval = c.interval; pause = c.pause; at_once = c.at_once; timeout = c.timeout; tolerable = c.tolerable; retained = c.retained; keep_on_cancel = c.keep_on_cancel } };
+
+    ghost invariant = { λ c. IsWithinLimits (record { interval = c.interval; pause = c.pause; at_once = c.at_once; timeout = c.timeout; tolerable = c.tolerable; retained = c.retained; keep_on_cancel = c.keep_on_cancel }) };
+
+    ghost inverse = { λ c. record { interval = c.interval; pause = c.pause; at_once = c.at_once; timeout = c.timeout; tolerable = c.tolerable; retained = c.retained; keep_on_cancel = c.keep_on_cancel } };
+}
+
+impl Config {
+    /// The configuration of these values.
+    ///
+    /// `interval` is 10 to 2^40 milliseconds between two triggers, `pause` 0 to 2^40 milliseconds
+    /// between a completion and the next trigger, `at_once` 1 to 64 checkpoints that may be
+    /// pending, `timeout` 1 to 2^40 milliseconds after which a pending record expires, `tolerable`
+    /// 0 to 1000 failed checkpoints in a row, `retained` 1 to 1000 completed checkpoints that are
+    /// kept, and `keep_on_cancel` says whether they are kept when the job is cancelled.
+    ///
+    /// Answers [`BadConfig`] exactly where one of them is outside its limits.
+    pub fn new(
+        interval: u64,
+        pause: u64,
+        at_once: u64,
+        timeout: u64,
+        tolerable: u64,
+        retained: u64,
+        keep_on_cancel: bool,
+    ) -> Result<Config, BadConfig>
+        ensures refused { IsErr result ↔ (is_within_limits (record { interval = interval; pause = pause; at_once = at_once; timeout = timeout; tolerable = tolerable; retained = retained; keep_on_cancel = keep_on_cancel }) ≡ false) }
+        ensures value { IfOk result (λ config. config ≡ record { interval = interval; pause = pause; at_once = at_once; timeout = timeout; tolerable = tolerable; retained = retained; keep_on_cancel = keep_on_cancel }) }
+    {
+        let good = 10 <= interval
+            && interval <= LONGEST
+            && pause <= LONGEST
+            && 1 <= at_once
+            && at_once <= MOST_AT_ONCE
+            && 1 <= timeout
+            && timeout <= LONGEST
+            && tolerable <= MOST_TOLERABLE
+            && 1 <= retained
+            && retained <= MOST_RETAINED;
+        if !good {
+            return Err(BadConfig);
+        }
+        Ok(Config {
+            interval,
+            pause,
+            at_once: at_once as u32,
+            timeout,
+            tolerable: tolerable as u32,
+            retained: retained as u32,
+            keep_on_cancel,
+        })
+    }
+
+    /// Milliseconds between two triggers.
+    pub fn interval(&self) -> u64
+        ensures value { result ≡ self.now.interval }
+        ensures limits { IsWithinLimits self.now }
+    {
+        self.interval
+    }
+
+    /// Milliseconds between a completion and the next trigger.
+    pub fn pause(&self) -> u64
+        ensures value { result ≡ self.now.pause }
+        ensures limits { IsWithinLimits self.now }
+    {
+        self.pause
+    }
+
+    /// How many checkpoints may be pending at once.
+    pub fn at_once(&self) -> u32
+        ensures value { result ≡ self.now.at_once }
+        ensures limits { IsWithinLimits self.now }
+    {
+        self.at_once
+    }
+
+    /// Milliseconds after which a pending record expires.
+    pub fn timeout(&self) -> u64
+        ensures value { result ≡ self.now.timeout }
+        ensures limits { IsWithinLimits self.now }
+    {
+        self.timeout
+    }
+
+    /// How many failed checkpoints in a row are tolerated.
+    pub fn tolerable(&self) -> u32
+        ensures value { result ≡ self.now.tolerable }
+        ensures limits { IsWithinLimits self.now }
+    {
+        self.tolerable
+    }
+
+    /// How many completed checkpoints are kept.
+    pub fn retained(&self) -> u32
+        ensures value { result ≡ self.now.retained }
+        ensures limits { IsWithinLimits self.now }
+    {
+        self.retained
+    }
+
+    /// Whether completed checkpoints are kept when the job is cancelled.
+    pub fn keep_on_cancel(&self) -> bool
+        ensures { result ≡ self.now.keep_on_cancel }
+    {
+        self.keep_on_cancel
+    }
+}

@@ -1,0 +1,26 @@
+//! The names of the checkpoint coordinator: numbers of checkpoints, state files and subtasks, the
+//! shape and the configuration of a job, and the calls and replies of the coordinator.
+//!
+//! Begin with [`Call`] and [`Reply`], which say what the coordinator is asked and what it answers,
+//! and with [`Config`] and [`Shape`], which say what it is opened with. The other crates of this
+//! project stand on these types; `specs/Records.antt` defines what a record is, and what uses a
+//! file.
+#![tactic(auto)]
+
+pub mod ack;
+pub mod call;
+pub mod config;
+pub mod files;
+pub mod numbers;
+pub mod reply;
+pub mod shape;
+pub mod subtask;
+
+pub use ack::{Acked, Acks, Metadata};
+pub use call::{Call, Target};
+pub use config::{BadConfig, Config};
+pub use files::{Files, Handed};
+pub use numbers::{CheckpointId, FileId, Kind};
+pub use reply::{Answer, Choice, Refusal, Reply, TickEnd};
+pub use shape::{Shape, ShapeFault};
+pub use subtask::SubtaskId;

@@ -1,0 +1,38 @@
+ghost use Rattle.std.specs.Prelude.{ℕ};
+
+use std::marker::Model;
+
+/// The number of a checkpoint or savepoint, 1 to 2^62 - 1 where the coordinator gave it.
+///
+/// Checkpoints and savepoints share one row of numbers, which rises by one with each trigger.
+#[derive(Clone, Copy, Debug, PartialEq, Eq, PartialOrd, Ord, Hash)]
+pub struct CheckpointId(pub u64);
+
+impl Model for CheckpointId {
+    ghost Value = { ℕ };
+
+    ghost view = { λ c. c.0 };
+
+    ghost inverse = { λ n. record { 0 = n } };
+}
+
+/// A state file, by the number that the state backend gave it. Any `u64` is a name.
+#[derive(Clone, Copy, Debug, PartialEq, Eq, PartialOrd, Ord, Hash)]
+pub struct FileId(pub u64);
+
+impl Model for FileId {
+    ghost Value = { ℕ };
+
+    ghost view = { λ f. f.0 };
+
+    ghost inverse = { λ n. record { 0 = n } };
+}
+
+/// Whether a record is a checkpoint, which the coordinator owns, or a savepoint, which its user owns.
+///
+/// Source of the rule: the Flink documentation, "Checkpoints vs. Savepoints".
+#[derive(Clone, Copy, Debug, PartialEq, Eq)]
+pub enum Kind {
+    Checkpoint,
+    Savepoint,
+}

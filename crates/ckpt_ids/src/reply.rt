@@ -1,0 +1,94 @@
+use crate::ack::Metadata;
+use crate::files::Handed;
+use crate::numbers::{CheckpointId, FileId};
+
+/// What the job would restart from now.
+#[derive(Clone, Copy, Debug, PartialEq, Eq)]
+pub enum Choice {
+    Checkpoint(CheckpointId),
+    Savepoint(CheckpointId),
+    Fresh,
+}
+
+/// How a tick ended.
+#[derive(Clone, Copy, Debug, PartialEq, Eq)]
+pub enum TickEnd {
+    /// A checkpoint was triggered, with this number.
+    Triggered(CheckpointId),
+    /// The next checkpoint is not due yet.
+    HeldInterval,
+    /// As many checkpoints are pending as may be at once.
+    HeldAtOnce,
+    /// The pause after the last completion has not passed.
+    HeldPause,
+    /// Too many checkpoints failed in a row, and the job fails over.
+    Failed,
+}
+
+/// What an accepted call is answered. Counts of dropped records are at most 1128, counts of
+/// released files any `u64`.
+#[derive(Debug, Drop, PartialEq, Eq)]
+pub enum Reply {
+    /// `expired` pending records were too old.
+    Ticked { expired: u32, end: TickEnd },
+    SavepointTriggered(CheckpointId),
+    /// So many subtasks have not acknowledged yet.
+    AckPending(u32),
+    /// The record is complete: `dropped` other records went, and `released` files wait for deletion.
+    AckCompleted { dropped: u32, released: u64 },
+    /// The record had ended; so many of the fresh files wait for deletion now.
+    AckLate(u64),
+    /// The record was aborted, and so many files were released.
+    DeclineAborted(u64),
+    /// The record was aborted and the job fails over; so many files were released.
+    DeclineFailed(u64),
+    DeclineLate,
+    Disposed(u64),
+    Restored { from: Choice, released: u64 },
+    Cancelled { dropped: u32, released: u64 },
+    Taken(Handed),
+    Deleted(FileId),
+    Undeleted(FileId),
+    Shown(Metadata),
+    Counted(FileId, u32),
+}
+
+/// Why a call was refused. They are tested in this order, and a refused call changes nothing.
+#[derive(Clone, Copy, Debug, PartialEq, Eq)]
+pub enum Refusal {
+    /// The moment is above 2^62 - 1 milliseconds.
+    MomentTooLarge,
+    /// The job has failed or was cancelled.
+    NotRunning,
+    /// An acknowledgement names more than 4096 files.
+    TooManyFiles,
+    /// An acknowledgement names a file twice.
+    RepeatedFile,
+    /// The number was never given.
+    UnknownCheckpoint,
+    /// The record is pending and has no such subtask.
+    UnknownSubtask,
+    /// The record is pending and has this subtask's acknowledgement.
+    AlreadyAcknowledged,
+    /// The least fresh file that is in use, or waits for deletion.
+    NameTaken(FileId),
+    /// The least reused file that no live record uses.
+    FileGone(FileId),
+    NoSuchSavepoint,
+    /// The job was rolled back to this savepoint, and no checkpoint has completed since.
+    InUse,
+    /// 1000 savepoints are pending or done.
+    TooManySavepoints,
+    /// The file was not fetched for deletion, or is reported already.
+    NotTaken,
+    NoSuchRecord,
+    /// All numbers up to 2^62 - 1 were given.
+    IdsUsedUp,
+}
+
+/// The answer to a call.
+#[derive(Debug, Drop, PartialEq, Eq)]
+pub enum Answer {
+    Done(Reply),
+    Refused(Refusal),
+}

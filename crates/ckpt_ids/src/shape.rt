@@ -1,0 +1,183 @@
+ghost use Rattle.std.specs.Prelude.{◌≡◌, ◌+◌, ◌≤◌, ◌^◌, ◌↔◌, ◌≢◌, Bool, true, false, Ok, Err, None, Some, IsTrue, IsOk, IfOk, OnOk, OnErr, sum, length, nat_le, slice_get, is_some};
+ghost use Rattle.std.specs.List.{list_all};
+ghost use Rattle.ckpt_ids.specs.Shapes.{IsShape, is_shape, is_subtask, subtasks};
+
+use crate::subtask::SubtaskId;
+use std::alloc::{AllocError, Global};
+use std::marker::Model;
+use thiserror::Error;
+
+const MOST_VERTICES: usize = 256;
+
+const MOST_SUBTASKS: u64 = 4096;
+
+/// Why a shape was not made.
+#[derive(Clone, Copy, Debug, PartialEq, Eq, Error)]
+pub enum ShapeFault {
+    #[error("a shape has 1 to 256 parallelisms, each at least 1, and at most 4096 in sum")]
+    BadShape,
+    #[error("out of memory")]
+    Memory,
+}
+
+impl From<AllocError> for ShapeFault {
+    ghost use Rattle.std.specs.Prelude.{◌≡◌};
+    ghost use Rattle.ckpt_ids.specs.declared.shape.ShapeFault.TheVariants.{Memory};
+
+    ghost from_gives = { λ _ fault. fault ≡ Memory };
+
+    fn from(_error: AllocError) -> ShapeFault {
+        ShapeFault::Memory
+    }
+}
+
+/// The shape of a job: the parallelism of each vertex of its job graph.
+///
+/// 1 to 256 vertices, each with a parallelism of at least 1, and at most 4096 subtasks in all.
+#[derive(Debug, Drop)]
+pub struct Shape {
+    parallelisms: Vec<u32>,
+    size: u32,
+}
+
+impl Model for Shape {
+    ghost use Rattle.std.specs.Prelude.{◌≡◌, ℕ, List, sum};
+    ghost use Rattle.ckpt_ids.specs.Shapes.{IsShape};
+
+    ghost Value = { List ℕ };
+
+    ghost view = { λ s. s.parallelisms.items };
+
+    ghost invariant = { λ s. IsShape s.parallelisms.items × (s.size ≡ sum s.parallelisms.items) };
+}
+
+impl Shape {
+    /// The shape of these parallelisms, one for each vertex.
+    ///
+    /// Answers [`ShapeFault::BadShape`] exactly outside 1 to 256 parallelisms, each at least 1, at
+    /// most 4096 in sum, and else [`ShapeFault::Memory`] where memory runs out.
+    pub fn new(alloc: Global, list: &[u64]) -> Result<Shape, ShapeFault>
+        ensures refused { (result ≡ Err ShapeFault.BadShape) ↔ (is_shape list.now ≡ false) }
+        ensures value { IfOk result (λ shape. shape ≡ list.now) }
+    {
+        if !is_shape(list) {
+            return Err(ShapeFault::BadShape);
+        }
+        let mut parallelisms = Vec::with_capacity(alloc, list.len())?;
+        let mut size = 0;
+        for parallelism in list {
+            let parallelism = *parallelism as u32;
+            parallelisms.push(parallelism).map_err(AllocError::from)?;
+            size += parallelism;
+        }
+        Ok(Shape { parallelisms, size })
+    }
+
+    /// How many subtasks the job has, 1 to 4096.
+    pub fn size(&self) -> u32
+        ensures value { result ≡ length (subtasks self.now) }
+        ensures sum { result ≡ sum self.now }
+        ensures limits { IsShape self.now }
+    {
+        self.size
+    }
+
+    /// Whether the job has this subtask.
+    pub fn contains(&self, subtask: SubtaskId) -> bool
+        ensures { result ≡ is_subtask self.now subtask }
+    {
+        let vertex = usize::from(subtask.vertex);
+        vertex < self.parallelisms.len() && u32::from(subtask.index) < self.parallelisms[vertex]
+    }
+
+    /// The subtask at this place, in the order of subtasks, or `None` past the last.
+    pub fn nth(&self, place: u32) -> Option<SubtaskId>
+        ensures { result ≡ slice_get (subtasks self.now) place }
+    {
+        let mut left = place;
+        for (vertex, parallelism) in self.parallelisms.iter().enumerate() {
+            if left < *parallelism {
+                return Some(SubtaskId {
+                    vertex: vertex as u16,
+                    index: left as u16,
+                });
+            }
+            left -= *parallelism;
+        }
+        None
+    }
+
+    /// How many vertices the job has, 1 to 256.
+    pub fn vertices(&self) -> u32
+        ensures value { result ≡ length self.now }
+        ensures limits { IsShape self.now }
+    {
+        self.parallelisms.len() as u32
+    }
+
+    /// The parallelism of this vertex, or `None` past the last.
+    pub fn parallelism(&self, vertex: u32) -> Option<u32>
+        ensures { result ≡ slice_get self.now vertex }
+    {
+        self.parallelisms.get(vertex as usize).copied()
+    }
+
+    /// An equal shape. Fails only for want of memory.
+    pub fn copy(&self) -> Result<Shape, AllocError>
+        ensures { IfOk result (λ shape. shape ≡ self.now) }
+    {
+        Ok(Shape {
+            parallelisms: self.parallelisms.clone()?,
+            size: self.size,
+        })
+    }
+}
+
+impl PartialEq for Shape {
+    ghost use Rattle.std.specs.Prelude.{nat_eq};
+    ghost use Rattle.std.specs.Cmp.{nat_eq_equiv, partial_equiv_from_equiv};
+    ghost use Rattle.std.specs.Cmp.Lexicographic.{pointwise, lists_per};
+
+    ghost eq = { pointwise nat_eq };
+
+    ghost laws = { lists_per (partial_equiv_from_equiv nat_eq_equiv) };
+
+    fn eq(&self, other: &Shape) -> bool {
+        self.parallelisms == other.parallelisms
+    }
+}
+
+impl Eq for Shape {
+    ghost use Rattle.std.specs.Cmp.{nat_eq_equiv};
+    ghost use Rattle.std.specs.Cmp.Lexicographic.{lists_equiv};
+
+    ghost laws = { lists_equiv nat_eq_equiv };
+}
+
+fn is_shape(list: &[u64]) -> bool
+    ensures { result ≡ is_shape list.now }
+{
+    if list.is_empty() || list.len() > MOST_VERTICES {
+        return false;
+    }
+    each_is_positive(list) && sum_is_at_most(list, MOST_SUBTASKS)
+}
+
+fn each_is_positive(list: &[u64]) -> bool
+    ensures { result ≡ list_all (nat_le 1) list.now }
+{
+    list.iter().all(|number| 1 <= *number)
+}
+
+fn sum_is_at_most(list: &[u64], most: u64) -> bool
+    ensures { result ≡ nat_le (sum list.now) most }
+{
+    let mut left = most;
+    for number in list {
+        if *number > left {
+            return false;
+        }
+        left -= *number;
+    }
+    true
+}
