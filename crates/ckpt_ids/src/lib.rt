@@ -11,6 +11,7 @@ pub mod ack;
 pub mod call;
 pub mod config;
 pub mod files;
+pub mod handed;
 pub mod numbers;
 pub mod reply;
 pub mod shape;
@@ -19,8 +20,12 @@ pub mod subtask;
 pub use ack::{Acked, Acks, Metadata};
 pub use call::{Call, Target};
 pub use config::{BadConfig, Config};
-pub use files::{Files, Handed};
+pub use files::Files;
+pub use handed::Handed;
 pub use numbers::{CheckpointId, FileId, Kind};
 pub use reply::{Answer, Choice, Refusal, Reply, TickEnd};
 pub use shape::{Shape, ShapeFault};
 pub use subtask::SubtaskId;
+
+#[cfg(test)]
+mod tests;

@@ -1,5 +1,5 @@
 use crate::ack::Metadata;
-use crate::files::Handed;
+use crate::handed::Handed;
 use crate::numbers::{CheckpointId, FileId};
 
 /// What the job would restart from now.

@@ -126,9 +126,10 @@ impl Shape {
     pub fn copy(&self) -> Result<Shape, AllocError>
         ensures { IfOk result (λ shape. shape ≡ self.now) }
     {
+        let Shape { parallelisms, size } = self;
         Ok(Shape {
-            parallelisms: self.parallelisms.clone()?,
-            size: self.size,
+            parallelisms: parallelisms.clone()?,
+            size: *size,
         })
     }
 }

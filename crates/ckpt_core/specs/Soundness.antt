@@ -1,0 +1,62 @@
+-- What holds of a coordinator's state at each moment: of the opening, and after each call.
+use Rattle.std.specs.Prelude.{◌≡◌, ◌≢◌, ℕ, ◌<◌, ◌≤◌, ◌^◌, Bool, true, false, not, ◌&&◌, nat_lt, List, [], ◌∷◌, ◌++◌, count_by, Some}
+use Rattle.ckpt_ids.specs.declared.ack.Acked.{Acked}
+use Rattle.ckpt_ids.specs.Acknowledged.{AreInSubtaskOrder}
+use Rattle.ckpt_ids.specs.Ascending.{IsAscendingSet}
+use Rattle.ckpt_ids.specs.Configuration.{IsWithinLimits}
+use Rattle.ckpt_ids.specs.Ordered.{IsIn, IsInOrder}
+use Rattle.ckpt_ids.specs.Records.{Record, IsFull, missing, uses, is_present}
+use Rattle.ckpt_ids.specs.Shapes.{IsShape, is_subtask}
+use Rattle.ckpt_rules.specs.Trigger.{limit}
+use Rattle.ckpt_core.specs.declared.mode.Mode.TheVariants.{Running}
+use Rattle.ckpt_core.specs.State.{State, is_checkpoint, is_pending, is_done_checkpoint, in_outbox}
+use Rattle.ckpt_core.specs.Refusals.{is_done_savepoint, savepoints}
+use Rattle.ckpt_core.specs.Steps.{pending_checkpoints}
+
+abbrev pub id_before : Record → Record → Bool
+id_before r s = nat_lt r.id s.id
+
+-- no file stands twice
+abbrev pub AreDistinct : List ℕ → Type 0
+AreDistinct [] = Unit {0}
+AreDistinct (x ∷ xs) = (IsIn x xs → ⊥) × AreDistinct xs
+
+-- the acknowledgements of a record are of its own subtasks, each at most once, and name each file once
+pub record IsRecord (r : Record) : Type 0 where
+  pub shape : IsShape r.shape
+  pub acks_in_order : AreInSubtaskOrder r.acks
+  pub acks_of_subtasks : (a : Acked) → IsIn a r.acks → is_subtask r.shape a.subtask ≡ true
+  pub files : (a : Acked) → IsIn a r.acks → IsAscendingSet a.files
+  pub pins : IsAscendingSet r.pins
+  -- a pending record lacks an acknowledgement
+  pub pending : r.done ≡ false → 0 < missing r
+  -- a done one has exactly one of each subtask, and holds no file beside theirs
+  pub full : r.done ≡ true → IsFull r
+  pub unpinned : r.done ≡ true → r.pins ≡ []
+
+pub record IsSound (m : State) : Type 0 where
+  pub config : IsWithinLimits m.opening.config
+  pub shape : IsShape m.shape
+  pub latest : m.latest < 2 ^ 62
+  -- numbers rise, and lie from the first to below the next
+  pub first : 1 ≤ m.opening.first
+  pub next_from : m.opening.first ≤ m.next
+  pub next_to : m.next ≤ 2 ^ 62
+  pub in_order : IsInOrder id_before m.records
+  pub from_first : (r : Record) → IsIn r m.records → m.opening.first ≤ r.id
+  pub below_next : (r : Record) → IsIn r m.records → r.id < m.next
+  pub each : (r : Record) → IsIn r m.records → IsRecord r
+  pub started : (r : Record) → IsIn r m.records → r.started < 2 ^ 62
+  -- how many there are
+  pub retained : count_by is_done_checkpoint m.records ≤ m.opening.config.retained
+  pub at_once : pending_checkpoints m ≤ limit m.opening.config
+  pub savepoints_to : savepoints m ≤ 1000
+  -- each pending checkpoint is newer than all done ones
+  pub newer : (r s : Record) → IsIn r m.records → IsIn s m.records → (is_pending r && is_checkpoint r) ≡ true → is_done_checkpoint s ≡ true → s.id < r.id
+  pub base : (id : ℕ) → m.base ≡ Some id → is_done_savepoint m id ≡ true
+  -- nothing is pending unless the job runs, and then few checkpoints have failed in a row
+  pub idle : m.mode ≢ Running → (r : Record) → IsIn r m.records → r.done ≡ true
+  pub failures : m.mode ≡ Running → m.failures ≤ m.opening.config.tolerable
+  -- no file that waits for deletion or was fetched for it is in use, and none is there twice
+  pub unused : (f : ℕ) → in_outbox m f ≡ true → is_present (uses m.records) f ≡ false
+  pub apart : AreDistinct (m.waiting ++ m.taken)

@@ -1,0 +1,9 @@
+/// What a job is doing.
+#[derive(Clone, Copy, Debug, PartialEq, Eq)]
+pub enum Mode {
+    Running,
+    /// Too many checkpoints failed in a row. A restore starts the job again.
+    Failed,
+    /// The job has ended for good.
+    Cancelled,
+}

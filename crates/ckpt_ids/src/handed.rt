@@ -1,0 +1,81 @@
+ghost use Rattle.std.specs.Prelude.{◌≡◌, ◌≤◌, ◌↔◌, [], IsTrue, length, drop, slice_get};
+
+use crate::numbers::FileId;
+use std::marker::Model;
+
+/// Files in the order in which they were handed out.
+#[derive(Debug, Drop)]
+pub struct Handed {
+    numbers: Vec<FileId>,
+}
+
+impl Model for Handed {
+    ghost use Rattle.std.specs.Prelude.{ℕ, List};
+
+    ghost Value = { List ℕ };
+
+    ghost view = { λ h. h.numbers.items };
+}
+
+impl Handed {
+    /// These files, in this order. Takes no memory.
+    pub fn of(numbers: Vec<FileId>) -> Handed
+        ensures { result ≡ numbers.items }
+    {
+        Handed { numbers }
+    }
+
+    /// How many files there are.
+    pub fn len(&self) -> usize
+        ensures { result ≡ length self.now }
+    {
+        self.numbers.len()
+    }
+
+    /// Whether there is no file.
+    pub fn is_empty(&self) -> bool
+        ensures { IsTrue result ↔ (self.now ≡ []) }
+    {
+        self.numbers.is_empty()
+    }
+
+    /// The file at this place, or `None` past the last.
+    pub fn get(&self, place: usize) -> Option<FileId>
+        ensures { result ≡ slice_get self.now place }
+    {
+        self.numbers.get(place).copied()
+    }
+
+    /// The files without the first `count`. Works in place, and takes no memory.
+    pub fn rest(self, count: usize) -> Handed
+        requires { count ≤ length self }
+        ensures { result ≡ drop count self }
+    {
+        let mut numbers = self.numbers;
+        let kept = numbers.len() - count;
+        numbers.rotate_left(count);
+        numbers.truncate(kept);
+        Handed::of(numbers)
+    }
+}
+
+impl PartialEq for Handed {
+    ghost use Rattle.std.specs.Prelude.{nat_eq};
+    ghost use Rattle.std.specs.Cmp.{nat_eq_equiv, partial_equiv_from_equiv};
+    ghost use Rattle.std.specs.Cmp.Lexicographic.{pointwise, lists_per};
+
+    ghost eq = { pointwise nat_eq };
+
+    ghost laws = { lists_per (partial_equiv_from_equiv nat_eq_equiv) };
+
+    fn eq(&self, other: &Handed) -> bool {
+        self.numbers == other.numbers
+    }
+}
+
+impl Eq for Handed {
+    ghost use Rattle.std.specs.Cmp.{nat_eq_equiv};
+    ghost use Rattle.std.specs.Cmp.Lexicographic.{lists_equiv};
+
+    ghost laws = { lists_equiv nat_eq_equiv };
+}

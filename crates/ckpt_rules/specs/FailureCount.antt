@@ -1,0 +1,8 @@
+-- How many checkpoints failed in a row.
+use Rattle.std.specs.Prelude.{ℕ}
+
+pub record FailureCount : Type 0 where
+  -- how many are tolerated
+  pub tolerable : ℕ
+  -- how many there were since the last that completed
+  pub number : ℕ

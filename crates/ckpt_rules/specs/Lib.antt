@@ -1,0 +1,3 @@
+pub mod FailureCount
+pub mod Moments
+pub mod Trigger

@@ -1,0 +1,20 @@
+-- The moments that decide when the next checkpoint may start, in milliseconds.
+use Rattle.std.specs.Prelude.{ℕ, ◌+◌, ◌<◌, ◌^◌, nat_lt, IsTrue, Bool, true, Option, Some, None}
+
+pub record Moments : Type 0 where
+  -- the greatest moment seen
+  pub latest : ℕ
+  -- no checkpoint starts before it
+  pub due : ℕ
+  -- the last completion since the job was started, where there was one
+  pub completed : Option ℕ
+
+abbrev pub is_moment : Option ℕ → Bool
+is_moment None = true
+is_moment (Some moment) = nat_lt moment (2 ^ 62)
+
+-- the limits are this project's own, and leave room for sums in 64 bits
+pub record IsInRange (m : Moments) : Type 0 where
+  pub latest_to : m.latest < 2 ^ 62
+  pub due_to : m.due < 2 ^ 62 + 2 ^ 41
+  pub completed_to : IsTrue (is_moment m.completed)

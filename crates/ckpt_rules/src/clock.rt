@@ -1,0 +1,125 @@
+ghost use Rattle.std.specs.Prelude.{◌≡◌, ◌+◌, ◌<◌, ◌^◌, max, Some, None};
+ghost use Rattle.ckpt_rules.specs.Moments.{Moments, IsInRange};
+ghost use Rattle.ckpt_rules.specs.Trigger.{gap, limit, hold};
+
+use crate::hold::Hold;
+use ckpt_ids::Config;
+use std::marker::Model;
+
+/// The moments that decide when the next checkpoint may start, in milliseconds.
+///
+/// Each moment that is handed in is below 2^62. No call takes memory.
+#[derive(Clone, Copy, Debug, PartialEq, Eq)]
+pub struct Clock {
+    latest: u64,
+    due: u64,
+    completed: Option<u64>,
+}
+
+impl Model for Clock {
+    ghost use Rattle.ckpt_rules.specs.Moments.{Moments, IsInRange};
+
+    ghost Value = { Moments };
+
+    ghost view = { λ c. record { latest = c.latest; due = c.due; completed = c.completed } };
+
+    ghost invariant = { λ c. IsInRange (record { latest = c.latest; due = c.due; completed = c.completed }) };
+
+    ghost inverse = { λ m. record { latest = m.latest; due = m.due; completed = m.completed } };
+}
+
+/// Milliseconds from a trigger to the next: a pause above the interval lifts it.
+fn gap_of(config: &Config) -> u64
+    ensures value { result ≡ gap config.now }
+    ensures limit { result < 2 ^ 41 }
+{
+    config.interval().max(config.pause())
+}
+
+/// How many checkpoints may be pending: one, where there is a pause between them.
+fn limit_of(config: &Config) -> u32
+    ensures { result ≡ limit config.now }
+{
+    if config.pause() > 0 {
+        1
+    } else {
+        config.at_once()
+    }
+}
+
+impl Clock {
+    /// The clock of a job that starts at this moment, with no completed checkpoint.
+    pub fn new(config: &Config, start: u64) -> Clock
+        requires { start < 2 ^ 62 }
+        ensures { result ≡ record { latest = start; due = start + gap config.now; completed = None } }
+    {
+        Clock {
+            latest: start,
+            due: start + gap_of(config),
+            completed: None,
+        }
+    }
+
+    /// The greater of `now` and the greatest moment seen.
+    pub fn read(&self, now: u64) -> u64
+        requires { now < 2 ^ 62 }
+        ensures value { result ≡ max now self.now.latest }
+        ensures limit { result < 2 ^ 62 }
+        ensures moments { IsInRange self.now }
+    {
+        self.latest.max(now)
+    }
+
+    /// Sees this moment: the greatest one is kept.
+    pub fn see(&mut self, now: u64)
+        requires { now < 2 ^ 62 }
+        ensures { self.new ≡ record self.old { latest = max now self.old.latest } }
+    {
+        self.latest = self.latest.max(now);
+    }
+
+    /// Whether a checkpoint may start `now`, where `pending` checkpoints are pending.
+    ///
+    /// Source of the rule: the Flink documentation, "Configuration", and this project, as
+    /// `specs/Trigger.antt` says.
+    pub fn held(&self, config: &Config, now: u64, pending: u32) -> Hold
+        requires { now < 2 ^ 62 }
+        ensures { result ≡ hold config.now self.now.due self.now.completed now pending }
+    {
+        if now < self.due {
+            return Hold::Interval;
+        }
+        if pending >= limit_of(config) {
+            return Hold::AtOnce;
+        }
+        match self.completed {
+            Some(completed) if now < completed + config.pause() => Hold::Pause,
+            _ => Hold::Go,
+        }
+    }
+
+    /// A checkpoint was triggered `now`: the next is due after the gap.
+    pub fn triggered(&mut self, config: &Config, now: u64)
+        requires { now < 2 ^ 62 }
+        ensures { self.new ≡ record self.old { due = now + gap config.now } }
+    {
+        self.due = now + gap_of(config);
+    }
+
+    /// A checkpoint completed `now`: the pause begins.
+    pub fn completed(&mut self, now: u64)
+        requires { now < 2 ^ 62 }
+        ensures { self.new ≡ record self.old { completed = Some now } }
+    {
+        self.completed = Some(now);
+    }
+
+    /// The job was restarted `now`: the next checkpoint is due after the gap, and no pause runs.
+    pub fn restarted(&mut self, config: &Config, now: u64)
+        requires { now < 2 ^ 62 }
+        ensures { self.new ≡ record self.old { due = now + gap config.now; completed = None } }
+    {
+        self.triggered(config, now);
+        self.completed = None;
+    }
+}

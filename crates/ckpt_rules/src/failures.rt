@@ -1,0 +1,53 @@
+ghost use Rattle.std.specs.Prelude.{◌≡◌, ◌+◌, ◌<◌, ◌^◌, ◌↔◌, IsTrue};
+ghost use Rattle.ckpt_rules.specs.FailureCount.{FailureCount};
+
+use std::marker::Model;
+
+/// How many checkpoints failed in a row, and how many a job tolerates.
+///
+/// Source of the rule: the Flink documentation, "Configuration",
+/// `execution.checkpointing.tolerable-failed-checkpoints`. No call takes memory.
+#[derive(Clone, Copy, Debug, PartialEq, Eq)]
+pub struct Failures {
+    tolerable: u32,
+    number: u32,
+}
+
+impl Model for Failures {
+    ghost use Rattle.ckpt_rules.specs.FailureCount.{FailureCount};
+
+    ghost Value = { FailureCount };
+
+    ghost view = { λ f. record { tolerable = f.tolerable; number = f.number } };
+
+    ghost inverse = { λ f. record { tolerable = f.tolerable; number = f.number } };
+}
+
+impl Failures {
+    /// No failures yet, of which this many in a row are tolerated.
+    pub fn new(tolerable: u32) -> Failures
+        ensures { result ≡ record { tolerable = tolerable; number = 0 } }
+    {
+        Failures {
+            tolerable,
+            number: 0,
+        }
+    }
+
+    /// Adds `more` failures, and answers whether there are now more than are tolerated.
+    pub fn add(&mut self, more: u32) -> bool
+        requires { self.old.number + more < 2 ^ 32 }
+        ensures number { self.new ≡ record self.old { number = self.old.number + more } }
+        ensures intolerable { IsTrue result ↔ (self.new.tolerable < self.new.number) }
+    {
+        self.number += more;
+        self.tolerable < self.number
+    }
+
+    /// No failures: a checkpoint completed, or the job was restarted.
+    pub fn reset(&mut self)
+        ensures { self.new ≡ record self.old { number = 0 } }
+    {
+        self.number = 0;
+    }
+}

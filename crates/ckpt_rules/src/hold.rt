@@ -1,0 +1,12 @@
+/// Why a checkpoint is held back, or that it may go.
+#[derive(Clone, Copy, Debug, PartialEq, Eq)]
+pub enum Hold {
+    /// The interval since the last trigger has not passed.
+    Interval,
+    /// As many checkpoints are pending as may be.
+    AtOnce,
+    /// The pause since the last completion has not passed.
+    Pause,
+    /// The next checkpoint may start.
+    Go,
+}

@@ -1,0 +1,17 @@
+//! When a checkpoint may start, and how many failed ones a job tolerates.
+//!
+//! [`Clock`] keeps the moments of a coordinator and answers by [`Clock::held`] whether the next
+//! checkpoint may start; [`Failures`] counts the failed ones in a row. Neither takes memory.
+//! `specs/Trigger.antt` defines the rule.
+#![tactic(auto)]
+
+pub mod clock;
+pub mod failures;
+pub mod hold;
+
+pub use clock::Clock;
+pub use failures::Failures;
+pub use hold::Hold;
+
+#[cfg(test)]
+mod tests;
