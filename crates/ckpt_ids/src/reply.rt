@@ -25,7 +25,7 @@ pub enum TickEnd {
     Failed,
 }
 
-/// What an accepted call is answered. Counts of dropped records are at most 1128, counts of
+/// What an accepted call is answered. Counts of dropped records fit 32 bits, counts of
 /// released files any `u64`.
 #[derive(Debug, Drop, PartialEq, Eq)]
 pub enum Reply {

@@ -1,0 +1,187 @@
+-- What holds of files that are distinct, and of their places.
+use Rattle.std.proofs.Common.{◌≡◌, ℕ, ◌<◌, Bool, true, false, not, cond, ◌||◌, ◌==◌, nat_lt, List, [], ◌∷◌, ◌++◌, take, drop, Some, None, is_some, refl, sym, ap, subst, ◌∙◌, ⊎_elim, arith}
+use Rattle.std.specs.Map.{values_of}
+use Rattle.std.specs.Option.{option_or}
+use Rattle.std.proofs.lemmas.Bool.{cases_Bool, cases_eq, both_ways, ltb-true, eqb-true, eq-eqb, ne_eqb, or_parts, or_from, or_left, or_right, or_cases, cond-false, false_from_ne_true}
+use Rattle.std.proofs.lemmas.List.Folds.{list_any-append}
+use Rattle.std.proofs.lemmas.List.{take-append-drop}
+use Rattle.ckpt_ids.specs.Ordered.{IsIn}
+use Rattle.ckpt_ids.specs.Ascending.{IsAscendingSet}
+use Rattle.ckpt_ids.proofs.OrderedLemmas.{list_any-from_IsIn, IsIn-from_list_any, ComesBefore-at}
+use Rattle.ckpt_outbox.specs.declared.places.Place.TheVariants.{Waiting, Taken}
+use Rattle.ckpt_outbox.specs.Queues.{is_in, AreDistinct, without}
+use Rattle.ckpt_outbox.specs.Places.{taken_place, place_of}
+
+pub eqb_flip : (a b : ℕ) → (a == b) ≡ (b == a)
+eqb_flip a b = ⊎_elim (λ (e : a ≡ b). eq-eqb a b e ∙ sym (eq-eqb b a (sym e))) (λ (n : a ≡ b → ⊥). ne_eqb a b n ∙ sym (ne_eqb b a (λ e. n (sym e)))) (cases_eq a b)
+
+pub eqb_itself : (a : ℕ) → (a == a) ≡ true
+eqb_itself a = eq-eqb a a refl
+
+-- membership
+
+pub is_in-append : (x : ℕ) (xs ys : List ℕ) → is_in x (xs ++ ys) ≡ (is_in x xs || is_in x ys)
+is_in-append x xs ys = list_any-append (λ g. x == g) xs ys
+
+pub is_in-left : (x : ℕ) (xs ys : List ℕ) → is_in x xs ≡ true → is_in x (xs ++ ys) ≡ true
+is_in-left x xs ys h = is_in-append x xs ys ∙ or_left (is_in x xs) (is_in x ys) h
+
+pub is_in-right : (x : ℕ) (xs ys : List ℕ) → is_in x ys ≡ true → is_in x (xs ++ ys) ≡ true
+is_in-right x xs ys h = is_in-append x xs ys ∙ or_right (is_in x xs) (is_in x ys) h
+
+pub not_in-parts : (x : ℕ) (xs ys : List ℕ) → is_in x (xs ++ ys) ≡ false → (is_in x xs ≡ false) × (is_in x ys ≡ false)
+not_in-parts x xs ys h = or_parts (is_in x xs) (is_in x ys) (sym (is_in-append x xs ys) ∙ h)
+
+pub not_in-append : (x : ℕ) (xs ys : List ℕ) → is_in x xs ≡ false → is_in x ys ≡ false → is_in x (xs ++ ys) ≡ false
+not_in-append x xs ys h k = is_in-append x xs ys ∙ or_from (is_in x xs) (is_in x ys) h k
+
+-- two elements, one in the list and one not, differ
+pub apart : (x y : ℕ) (xs : List ℕ) → is_in x xs ≡ false → is_in y xs ≡ true → (x == y) ≡ false
+apart x y xs h k = ne_eqb x y (λ e. both_ways (is_in y xs) (ap (λ z. is_in z xs) (sym e) ∙ h) k)
+
+-- distinct files
+
+pub AreDistinct-append : (xs ys : List ℕ) → AreDistinct xs → AreDistinct ys → ((x : ℕ) → is_in x xs ≡ true → is_in x ys ≡ false) → AreDistinct (xs ++ ys)
+AreDistinct-append [] ys a b f = b
+AreDistinct-append (x ∷ xs) ys a b f =
+    (not_in-append x xs ys a.0 (f x (or_left (x == x) (is_in x xs) (eqb_itself x))), AreDistinct-append xs ys a.1 b (λ y h. f y (or_right (y == x) (is_in y xs) h)))
+
+pub AreDistinct-left : (xs ys : List ℕ) → AreDistinct (xs ++ ys) → AreDistinct xs
+AreDistinct-left [] ys a = tt
+AreDistinct-left (x ∷ xs) ys a = ((not_in-parts x xs ys a.0).0, AreDistinct-left xs ys a.1)
+
+pub AreDistinct-right : (xs ys : List ℕ) → AreDistinct (xs ++ ys) → AreDistinct ys
+AreDistinct-right [] ys a = a
+AreDistinct-right (x ∷ xs) ys a = AreDistinct-right xs ys a.1
+
+pub AreDistinct-apart : (xs ys : List ℕ) → AreDistinct (xs ++ ys) → (x : ℕ) → is_in x xs ≡ true → is_in x ys ≡ false
+AreDistinct-apart [] ys a x h = absurd (both_ways false refl h)
+AreDistinct-apart (y ∷ xs) ys a x h =
+    let here : (x == y) ≡ true → is_in x ys ≡ false = λ (e : (x == y) ≡ true). ap (λ z. is_in z ys) (eqb-true x y e) ∙ (not_in-parts y xs ys a.0).1 in
+    ⊎_elim here (λ (k : is_in x xs ≡ true). AreDistinct-apart xs ys a.1 x k) (or_cases (x == y) (is_in x xs) h)
+
+pub AreDistinct-swap : (xs ys : List ℕ) → AreDistinct (xs ++ ys) → AreDistinct (ys ++ xs)
+AreDistinct-swap xs ys a =
+    AreDistinct-append ys xs (AreDistinct-right xs ys a) (AreDistinct-left xs ys a) (λ x h. false_from_ne_true (is_in x xs) (λ k. both_ways (is_in x ys) (AreDistinct-apart xs ys a x k) h))
+
+pub AreDistinct-push : (x : ℕ) (xs : List ℕ) → AreDistinct xs → is_in x xs ≡ false → AreDistinct (xs ++ x ∷ [])
+AreDistinct-push x xs a h =
+    AreDistinct-append xs (x ∷ []) a (refl, tt) (λ y k. or_from (y == x) false (eqb_flip y x ∙ apart x y xs h k) refl)
+
+-- what `without` keeps
+
+pub is_in-without : (x f : ℕ) (xs : List ℕ) → is_in x (without f xs) ≡ true → (is_in x xs ≡ true) × ((x == f) ≡ false)
+is_in-without x f [] h = absurd (both_ways false refl h)
+is_in-without x f (y ∷ xs) h =
+    let Q : Type 0 = (is_in x (y ∷ xs) ≡ true) × ((x == f) ≡ false) in
+    let later : is_in x (without f xs) ≡ true → Q = λ (k : is_in x (without f xs) ≡ true). let q = is_in-without x f xs k in (or_right (x == y) (is_in x xs) q.0, q.1) in
+    let P : Bool → Type 0 = λ b. is_in x (cond (not b) (y ∷ without f xs) (without f xs)) ≡ true in
+    let gone : (y == f) ≡ true → Q = λ (e : (y == f) ≡ true). let k : is_in x (without f xs) ≡ true = subst P e h in later k in
+    let here : (y == f) ≡ false → (x == y) ≡ true → Q = λ (e : (y == f) ≡ false). λ (k : (x == y) ≡ true). (or_left (x == y) (is_in x xs) k, ap (λ z. z == f) (eqb-true x y k) ∙ e) in
+    let kept : (y == f) ≡ false → Q = λ (e : (y == f) ≡ false). let k : is_in x (y ∷ without f xs) ≡ true = subst P e h in ⊎_elim (here e) later (or_cases (x == y) (is_in x (without f xs)) k) in
+    ⊎_elim gone kept (cases_Bool (y == f))
+
+pub not_in-without : (x f : ℕ) (xs : List ℕ) → is_in x xs ≡ false → is_in x (without f xs) ≡ false
+not_in-without x f xs h = false_from_ne_true (is_in x (without f xs)) (λ k. both_ways (is_in x xs) h (is_in-without x f xs k).0)
+
+pub gone_without : (f : ℕ) (xs : List ℕ) → is_in f (without f xs) ≡ false
+gone_without f xs = false_from_ne_true (is_in f (without f xs)) (λ k. both_ways (f == f) (is_in-without f f xs k).1 (eqb_itself f))
+
+pub AreDistinct-without : (f : ℕ) (xs : List ℕ) → AreDistinct xs → AreDistinct (without f xs)
+AreDistinct-without f [] a = tt
+AreDistinct-without f (y ∷ xs) a =
+    let P : Bool → Type 0 = λ b. AreDistinct (cond (not b) (y ∷ without f xs) (without f xs)) in
+    let rest : AreDistinct (without f xs) = AreDistinct-without f xs a.1 in
+    ⊎_elim (λ (e : (y == f) ≡ true). subst P (sym e) rest) (λ (e : (y == f) ≡ false). subst P (sym e) (not_in-without y f xs a.0, rest)) (cases_Bool (y == f))
+
+pub without_absent : (f : ℕ) (xs : List ℕ) → is_in f xs ≡ false → without f xs ≡ xs
+without_absent f [] h = refl
+without_absent f (y ∷ xs) h =
+    let parts : ((f == y) ≡ false) × (is_in f xs ≡ false) = or_parts (f == y) (is_in f xs) h in
+    ap (λ b. cond (not b) (y ∷ without f xs) (without f xs)) (eqb_flip y f ∙ parts.0) ∙ ap (λ w. y ∷ w) (without_absent f xs parts.1)
+
+-- the queues stay distinct
+
+pub distinct_deleted : (f : ℕ) (ws ts : List ℕ) → AreDistinct (ws ++ ts) → AreDistinct (ws ++ without f ts)
+distinct_deleted f ws ts a =
+    AreDistinct-append ws (without f ts) (AreDistinct-left ws ts a) (AreDistinct-without f ts (AreDistinct-right ws ts a)) (λ x h. not_in-without x f ts (AreDistinct-apart ws ts a x h))
+
+pub distinct_undeleted : (f : ℕ) (ws ts : List ℕ) → AreDistinct (ws ++ ts) → is_in f ws ≡ false → AreDistinct ((ws ++ f ∷ []) ++ without f ts)
+distinct_undeleted f ws ts a h =
+    let first : AreDistinct (ws ++ f ∷ []) = AreDistinct-push f ws (AreDistinct-left ws ts a) h in
+    let both : (x : ℕ) → is_in x (ws ++ f ∷ []) ≡ true → is_in x (without f ts) ≡ false = λ x k.
+    ⊎_elim (λ (i : is_in x ws ≡ true). not_in-without x f ts (AreDistinct-apart ws ts a x i)) (λ (i : is_in x (f ∷ []) ≡ true). ⊎_elim (λ (e : (x == f) ≡ true). ap (λ z. is_in z (without f ts)) (eqb-true x f e) ∙ gone_without f ts) (λ (e : false ≡ true). absurd (both_ways false refl e)) (or_cases (x == f) false i)) (or_cases (is_in x ws) (is_in x (f ∷ [])) (sym (is_in-append x ws (f ∷ [])) ∙ k)) in
+    AreDistinct-append (ws ++ f ∷ []) (without f ts) first (AreDistinct-without f ts (AreDistinct-right ws ts a)) both
+
+pub distinct_put : (f : ℕ) (ws ts : List ℕ) → AreDistinct (ws ++ ts) → is_in f (ws ++ ts) ≡ false → AreDistinct ((ws ++ f ∷ []) ++ ts)
+distinct_put f ws ts a h =
+    let parts : (is_in f ws ≡ false) × (is_in f ts ≡ false) = not_in-parts f ws ts h in
+    let both : (x : ℕ) → is_in x (ws ++ f ∷ []) ≡ true → is_in x ts ≡ false = λ x k.
+    ⊎_elim (λ (i : is_in x ws ≡ true). AreDistinct-apart ws ts a x i) (λ (i : is_in x (f ∷ []) ≡ true). ⊎_elim (λ (e : (x == f) ≡ true). ap (λ z. is_in z ts) (eqb-true x f e) ∙ parts.1) (λ (e : false ≡ true). absurd (both_ways false refl e)) (or_cases (x == f) false i)) (or_cases (is_in x ws) (is_in x (f ∷ [])) (sym (is_in-append x ws (f ∷ [])) ∙ k)) in
+    AreDistinct-append (ws ++ f ∷ []) ts (AreDistinct-push f ws (AreDistinct-left ws ts a) parts.0) (AreDistinct-right ws ts a) both
+
+pub distinct_taken : (front rest ts : List ℕ) → AreDistinct ((front ++ rest) ++ ts) → AreDistinct (rest ++ (ts ++ front))
+distinct_taken front rest ts a =
+    let ws : AreDistinct (front ++ rest) = AreDistinct-left (front ++ rest) ts a in
+    let across : (x : ℕ) → is_in x (front ++ rest) ≡ true → is_in x ts ≡ false = AreDistinct-apart (front ++ rest) ts a in
+    let later : AreDistinct (ts ++ front) = AreDistinct-swap front ts (AreDistinct-append front ts (AreDistinct-left front rest ws) (AreDistinct-right (front ++ rest) ts a) (λ x h. across x (is_in-left x front rest h))) in
+    let swapped : AreDistinct (rest ++ front) = AreDistinct-swap front rest ws in
+    AreDistinct-append rest (ts ++ front) (AreDistinct-right front rest ws) later (λ x h. not_in-append x ts front (across x (is_in-right x front rest h)) (AreDistinct-apart rest front swapped x h))
+
+-- places
+
+pub is_some_taken_place : (x : ℕ) (es : List (ℕ × ℕ)) → is_some (taken_place x es) ≡ is_in x (values_of es)
+is_some_taken_place x [] = refl
+is_some_taken_place x (e ∷ es) =
+    let P : Bool → Type 0 = λ b. is_some (cond b (Some (Taken e.0)) (taken_place x es)) ≡ (b || is_in x (values_of es)) in
+    ⊎_elim (λ (k : (x == e.1) ≡ true). subst P (sym k) refl) (λ (k : (x == e.1) ≡ false). subst P (sym k) (is_some_taken_place x es)) (cases_Bool (x == e.1))
+
+pub is_some_place : (ws : List ℕ) (es : List (ℕ × ℕ)) (x : ℕ) → is_some (place_of ws es x) ≡ is_in x (ws ++ values_of es)
+is_some_place ws es x =
+    let P : Bool → Type 0 = λ b. is_some (cond b (Some Waiting) (taken_place x es)) ≡ (b || is_in x (values_of es)) in
+    ⊎_elim (λ (k : is_in x ws ≡ true). subst P (sym k) refl) (λ (k : is_in x ws ≡ false). subst P (sym k) (is_some_taken_place x es)) (cases_Bool (is_in x ws)) ∙ sym (is_in-append x ws (values_of es))
+
+pub no_taken_place : (x : ℕ) (es : List (ℕ × ℕ)) → is_in x (values_of es) ≡ false → taken_place x es ≡ None
+no_taken_place x [] h = refl
+no_taken_place x (e ∷ es) h =
+    let parts : ((x == e.1) ≡ false) × (is_in x (values_of es) ≡ false) = or_parts (x == e.1) (is_in x (values_of es)) h in
+    cond-false (x == e.1) (Some (Taken e.0)) (taken_place x es) parts.0 ∙ no_taken_place x es parts.1
+
+pub taken_place-append : (x : ℕ) (es fs : List (ℕ × ℕ)) → taken_place x (es ++ fs) ≡ option_or (taken_place x es) (taken_place x fs)
+taken_place-append x [] fs = refl
+taken_place-append x (e ∷ es) fs =
+    let P : Bool → Type 0 = λ b. cond b (Some (Taken e.0)) (taken_place x (es ++ fs)) ≡ option_or (cond b (Some (Taken e.0)) (taken_place x es)) (taken_place x fs) in
+    ⊎_elim (λ (k : (x == e.1) ≡ true). subst P (sym k) refl) (λ (k : (x == e.1) ≡ false). subst P (sym k) (taken_place-append x es fs)) (cases_Bool (x == e.1))
+
+-- the place after one more file waits
+pub place_of-put : (f : ℕ) (ws : List ℕ) (es : List (ℕ × ℕ)) (x : ℕ) → place_of (ws ++ f ∷ []) es x ≡ cond (f == x) (Some Waiting) (place_of ws es x)
+place_of-put f ws es x =
+    let P : Bool → Bool → Type 0 = λ a b. cond (a || (b || false)) (Some Waiting) (taken_place x es) ≡ cond b (Some Waiting) (cond a (Some Waiting) (taken_place x es)) in
+    let all : (a b : Bool) → P a b = λ a b. ⊎_elim (λ (k : a ≡ true). subst (λ v. P v b) (sym k) (⊎_elim (λ (j : b ≡ true). subst (P true) (sym j) refl) (λ (j : b ≡ false). subst (P true) (sym j) refl) (cases_Bool b))) (λ (k : a ≡ false). subst (λ v. P v b) (sym k) (⊎_elim (λ (j : b ≡ true). subst (P false) (sym j) refl) (λ (j : b ≡ false). subst (P false) (sym j) refl) (cases_Bool b))) (cases_Bool a) in
+    ap (λ v. cond v (Some Waiting) (taken_place x es)) (is_in-append x ws (f ∷ [])) ∙ all (is_in x ws) (x == f) ∙ ap (λ v. cond v (Some Waiting) (place_of ws es x)) (eqb_flip x f)
+
+-- a part of distinct files
+pub AreDistinct-take : (n : ℕ) (xs : List ℕ) → AreDistinct xs → AreDistinct (take n xs)
+AreDistinct-take n xs a = AreDistinct-left (take n xs) (drop n xs) (subst AreDistinct (sym (take-append-drop n xs)) a)
+
+-- the last of distinct files is none of the others
+pub last_is_new : (x : ℕ) (xs : List ℕ) → AreDistinct (xs ++ x ∷ []) → is_in x xs ≡ false
+last_is_new x xs a = AreDistinct-apart (x ∷ []) xs (AreDistinct-swap xs (x ∷ []) a) x (or_left (x == x) false (eqb_itself x))
+
+-- for callers of `put`
+
+pub is_in-from_IsIn : (x : ℕ) (xs : List ℕ) → IsIn x xs → is_in x xs ≡ true
+is_in-from_IsIn x xs h = list_any-from_IsIn (λ g. x == g) x xs h (eqb_itself x)
+
+pub IsIn-from_is_in : (x : ℕ) (xs : List ℕ) → is_in x xs ≡ true → IsIn x xs
+IsIn-from_is_in x xs h =
+    let found : (y : ℕ) × IsIn y xs × ((x == y) ≡ true) = IsIn-from_list_any (λ g. x == g) xs h in
+    let P : ℕ → Type 0 = λ y. IsIn y xs in
+    subst P (sym (eqb-true x found.0 found.2)) found.1
+
+-- files that ascend are distinct
+pub AreDistinct-from_ascending : (xs : List ℕ) → IsAscendingSet xs → AreDistinct xs
+AreDistinct-from_ascending [] a = tt
+AreDistinct-from_ascending (x ∷ xs) a =
+    let absent : is_in x xs ≡ true → ⊥ = λ h. let l : x < x = ltb-true x x (ComesBefore-at nat_lt x x xs a.0 (IsIn-from_is_in x xs h)) in omega arith in
+    (false_from_ne_true (is_in x xs) absent, AreDistinct-from_ascending xs a.1)

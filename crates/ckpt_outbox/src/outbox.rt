@@ -1,0 +1,193 @@
+ghost use Rattle.std.specs.Prelude.{◌≡◌, ◌≤◌, ◌<◌, ◌+◌, ◌-◌, ◌^◌, ◌↔◌, ◌++◌, ◌∷◌, ℕ, [], true, false, max, min, length, take, drop, IsErr, IfOk, OnOk, OnErr};
+ghost use Rattle.std.specs.VecDeque.{deque_capacity};
+ghost use Rattle.ckpt_outbox.specs.Queues.{Queues, is_in, is_known, is_taken, without, AreDistinct};
+
+use crate::places::{Index, Place, note, note_new, ticket};
+use crate::tickets::{Tickets, give};
+use ckpt_ids::{FileId, Handed};
+use std::alloc::{AllocError, Global};
+use std::collections::{BTreeMap, HashMap, VecDeque};
+use std::marker::Model;
+use thiserror::Error;
+
+/// The file was not taken, or was reported already.
+#[derive(Clone, Copy, Debug, PartialEq, Eq, Error)]
+#[error("the file is not taken")]
+pub struct NotTaken;
+
+/// The files that were handed out: those that wait to be fetched, and those that were taken and are
+/// not yet reported.
+#[derive(Debug, Drop)]
+pub struct Outbox {
+    alloc: Global,
+    waiting: VecDeque<FileId>,
+    taken: Tickets,
+    index: Index,
+    spare: u64,
+}
+
+impl Model for Outbox {
+    ghost use Rattle.std.specs.Map.{values_of};
+    ghost use Rattle.std.specs.VecDeque.{deque_capacity};
+    ghost use Rattle.ckpt_outbox.specs.Queues.{Queues};
+    ghost use Rattle.ckpt_outbox.specs.Places.{IsSound};
+
+    ghost Value = { Queues };
+
+    ghost view = { λ o. record { waiting = o.waiting.items; taken = values_of o.taken.files.entries; spare = o.spare } };
+
+    ghost invariant = { λ o. IsSound o.waiting.items (deque_capacity o.waiting) o.taken.files.entries o.taken.next o.index o.spare };
+}
+
+/// The first `count` files of the queue.
+fn front(queue: &VecDeque<FileId>, count: usize, alloc: Global) -> Result<Vec<FileId>, AllocError>
+    requires { count ≤ length queue.now.items }
+    ensures { IfOk result (λ files. files.items ≡ take count queue.now.items) }
+{
+    queue.range(..count).copied().collect(alloc)
+}
+
+/// Takes the first `count` files out of the queue.
+fn drop_front(queue: &mut VecDeque<FileId>, count: usize)
+    requires { count ≤ length queue.old.items }
+    ensures items { queue.new.items ≡ drop count queue.old.items }
+    ensures capacity { deque_capacity queue.new ≡ deque_capacity queue.old }
+{
+    for _ in 0..count {
+        queue.pop_front();
+    }
+}
+
+impl Outbox {
+    /// An empty outbox. Takes no memory.
+    pub fn new(alloc: Global) -> Outbox
+        ensures { result ≡ record { waiting = []; taken = []; spare = 0 } }
+    {
+        Outbox {
+            alloc,
+            waiting: VecDeque::new(alloc),
+            taken: Tickets {
+                files: BTreeMap::new(alloc),
+                next: 0,
+            },
+            index: HashMap::new(alloc),
+            spare: 0,
+        }
+    }
+
+    /// Makes room, so that `n` files can be put without memory. Room that is there stays.
+    ///
+    /// Fails only for want of memory, and then nothing has changed.
+    pub fn reserve(&mut self, n: u64) -> Result<(), AllocError>
+        ensures ok { OnOk result (self.new ≡ record self.old { spare = max n self.old.spare }) }
+        ensures err { OnErr result (self.new ≡ self.old) }
+    {
+        if n <= self.spare {
+            return Ok(());
+        }
+        self.waiting
+            .reserve(self.taken.files.len().saturating_add(n as usize))?;
+        self.index.reserve(n as usize)?;
+        self.spare = n;
+        Ok(())
+    }
+
+    /// Puts one file at the end of waiting.
+    fn put_one(&mut self, file: FileId)
+        requires room { 0 < self.old.spare }
+        requires unknown { is_known self.old file ≡ false }
+        ensures { self.new ≡ record self.old { waiting = self.old.waiting ++ file ∷ []; spare = self.old.spare - 1 } }
+    {
+        self.waiting.push_back_reserved(file);
+        note_new(&mut self.index, file, Place::Waiting);
+        self.spare -= 1;
+    }
+
+    /// Hands these files out: they go to the end of waiting, in this order. Takes no memory, since
+    /// `reserve` made the room.
+    pub fn put(&mut self, files: &[FileId])
+        requires room { length files.now ≤ self.old.spare }
+        requires distinct { AreDistinct files.now }
+        requires unknown { (file : ℕ) → is_in file files.now ≡ true → is_known self.old file ≡ false }
+        ensures { self.new ≡ record self.old { waiting = self.old.waiting ++ files.now; spare = self.old.spare - length files.now } }
+    {
+        for file in files {
+            self.put_one(*file);
+        }
+    }
+
+    /// Takes the first `most` files of waiting, or all where there are fewer, and answers them. They
+    /// go to the end of taken.
+    ///
+    /// Fails only for want of memory, and then nothing has changed.
+    pub fn take(&mut self, most: u64) -> Result<Handed, AllocError>
+        ensures files { IfOk result (λ files. files ≡ take most self.old.waiting) }
+        ensures ok { OnOk result (self.new ≡ record self.old { waiting = drop most self.old.waiting; taken = self.old.taken ++ take most self.old.waiting }) }
+        ensures err { OnErr result (self.new ≡ self.old) }
+    {
+        let count = self.waiting.len().min(most as usize);
+        let files = front(&self.waiting, count, self.alloc)?;
+        give(&mut self.taken, &mut self.index, &files, self.alloc)?;
+        drop_front(&mut self.waiting, count);
+        Ok(Handed::of(files))
+    }
+
+    /// The file was deleted: it leaves taken. Takes no memory.
+    ///
+    /// Answers [`NotTaken`] exactly where the file is not taken, and then nothing has changed.
+    pub fn deleted(&mut self, file: FileId) -> Result<(), NotTaken>
+        ensures refused { IsErr result ↔ (is_taken self.old file ≡ false) }
+        ensures ok { OnOk result (self.new ≡ record self.old { taken = without file self.old.taken }) }
+        ensures err { OnErr result (self.new ≡ self.old) }
+    {
+        let Some(number) = ticket(&self.index, file) else {
+            return Err(NotTaken);
+        };
+        self.taken.files.remove(&number);
+        self.index.remove(&file);
+        Ok(())
+    }
+
+    /// The file could not be deleted: it goes from taken to the end of waiting. Takes no memory,
+    /// since waiting keeps room for all of taken.
+    ///
+    /// Answers [`NotTaken`] exactly where the file is not taken, and then nothing has changed.
+    pub fn undeleted(&mut self, file: FileId) -> Result<(), NotTaken>
+        ensures refused { IsErr result ↔ (is_taken self.old file ≡ false) }
+        ensures ok { OnOk result (self.new ≡ record self.old { waiting = self.old.waiting ++ file ∷ []; taken = without file self.old.taken }) }
+        ensures err { OnErr result (self.new ≡ self.old) }
+    {
+        let Some(number) = ticket(&self.index, file) else {
+            return Err(NotTaken);
+        };
+        self.taken.files.remove(&number);
+        self.waiting.push_back_reserved(file);
+        note(&mut self.index, file, Place::Waiting);
+        Ok(())
+    }
+
+    /// Whether the file waits or is taken. A look-up.
+    pub fn knows(&self, file: FileId) -> bool
+        ensures value { result ≡ is_known self.now file }
+        ensures distinct { AreDistinct (self.now.waiting ++ self.now.taken) }
+    {
+        self.index.contains_key(&file)
+    }
+
+    /// Whether the file is taken. A look-up.
+    pub fn is_taken(&self, file: FileId) -> bool
+        ensures { result ≡ is_taken self.now file }
+    {
+        ticket(&self.index, file).is_some()
+    }
+
+    /// How many files wait.
+    pub fn waiting(&self) -> u64
+        ensures { result ≡ length self.now.waiting }
+    {
+        self.waiting.len() as u64
+    }
+}
+
+#[cfg(test)]
+mod tests;
