@@ -1,0 +1,191 @@
+-- What one change of the counters does to the count of each file.
+use Rattle.std.proofs.Common.{◌≡◌, ℕ, ◌+◌, ◌<◌, ◌≤◌, ◌^◌, cond, eqb, ltb, nat_eq, List, [], ◌∷◌, ◌++◌, length, get_or, take, refl, sym, ap, ◌∙◌, ⊎_elim, arith, Option, Some, None, Result, Ok, Err, unwrap_or, is_some, IfOk, if◌then◌else◌}
+use Rattle.std.proofs.lemmas.Bool.{cases_eq, eq-eqb, ne_eqb, lt-ltb, le-ltb, cases_lt, cond-true, cond-false}
+use Rattle.std.proofs.lemmas.Option.{none-some, same_Some}
+use Rattle.std.proofs.lemmas.List.Sums.{sum_by_more, sum_by_push, sum_by-take-le}
+use Rattle.std.specs.Result.{IsOk, OnOk, OnErr}
+use Rattle.std.proofs.lemmas.Bool.{false≢true}
+use Rattle.std.specs.Map.{lookup}
+use Rattle.indexmap.specs.IndexMap.{get}
+use Rattle.ckpt_registry.proofs.ListLemmas.{one_if, one_if-true, one_if-false}
+use Rattle.ckpt_registry.specs.Counters.{Counts, counter, counted_once, times, AreInRange}
+
+-- n has w at k, and else what m has
+abbrev pub Sets : Counts → Counts → ℕ → Option ℕ → Type 0
+Sets m n k w = (q : ℕ) → get nat_eq n q ≡ cond (eqb k q) w (get nat_eq m q)
+
+pub get-set_at : (m n : Counts) (k : ℕ) (w : Option ℕ) → Sets m n k w → (f : ℕ) → k ≡ f → get nat_eq n f ≡ w
+get-set_at m n k w s f e = s f ∙ cond-true (eqb k f) w (get nat_eq m f) (eq-eqb k f e)
+
+pub get-set_off : (m n : Counts) (k : ℕ) (w : Option ℕ) → Sets m n k w → (f : ℕ) → (k ≡ f → ⊥) → get nat_eq n f ≡ get nat_eq m f
+get-set_off m n k w s f ne = s f ∙ cond-false (eqb k f) w (get nat_eq m f) (ne_eqb k f ne)
+
+abbrev value_of : Option ℕ → ℕ
+value_of o = unwrap_or o 0
+
+pub counter-set_at : (m n : Counts) (k : ℕ) (w : Option ℕ) → Sets m n k w → (f : ℕ) → k ≡ f → counter n f ≡ unwrap_or w 0
+counter-set_at m n k w s f e = ap value_of (get-set_at m n k w s f e)
+
+pub counter-set_off : (m n : Counts) (k : ℕ) (w : Option ℕ) → Sets m n k w → (f : ℕ) → (k ≡ f → ⊥) → counter n f ≡ counter m f
+counter-set_off m n k w s f ne = ap value_of (get-set_off m n k w s f ne)
+
+-- a counter above 0 is there
+pub get-from_counter : (m : Counts) (f : ℕ) → 0 < counter m f → get nat_eq m f ≡ Some (counter m f)
+get-from_counter m f h = by (get nat_eq m f) h
+  where
+    by : (o : Option ℕ) → 0 < unwrap_or o 0 → o ≡ Some (unwrap_or o 0)
+    by None h = absurd (omega arith)
+    by (Some n) h = refl
+
+-- a file that is not counted has no counter
+pub get-none : (m : Counts) → AreInRange m → (f : ℕ) → counter m f ≡ 0 → get nat_eq m f ≡ None
+get-none m r f h = by (get nat_eq m f) refl
+  where
+    by : (o : Option ℕ) → get nat_eq m f ≡ o → o ≡ None
+    by None e = refl
+    by (Some n) e = let p = (r f n e).0 in let v : counter m f ≡ n = ap (λ o. unwrap_or o 0) e in absurd (omega (arith, p))
+
+pub AreInRange-below : (m : Counts) → AreInRange m → (f : ℕ) → counter m f < 2 ^ 32
+AreInRange-below m r f = by (get nat_eq m f) refl
+  where
+    by : (o : Option ℕ) → get nat_eq m f ≡ o → unwrap_or o 0 < 2 ^ 32
+    by None e = omega arith
+    by (Some n) e = (r f n e).1
+
+pub AreInRange-set : (m n : Counts) (k v : ℕ) → Sets m n k (Some v) → AreInRange m → 0 < v → v < 2 ^ 32 → AreInRange n
+AreInRange-set m n k v s r above below = λ f x h.
+    let at : k ≡ f → (0 < x) × (x < 2 ^ 32) = λ (e : k ≡ f). let same : v ≡ x = same_Some v x (sym (get-set_at m n k (Some v) s f e) ∙ h) in (omega arith, omega arith) in
+    let off : (k ≡ f → ⊥) → (0 < x) × (x < 2 ^ 32) = λ (ne : k ≡ f → ⊥). r f x (sym (get-set_off m n k (Some v) s f ne) ∙ h) in
+    ⊎_elim at off (cases_eq k f)
+
+pub AreInRange-gone : (m n : Counts) (k : ℕ) → Sets m n k None → AreInRange m → AreInRange n
+AreInRange-gone m n k s r = λ f x h.
+    let at : k ≡ f → (0 < x) × (x < 2 ^ 32) = λ (e : k ≡ f). absurd (none-some x (sym (get-set_at m n k None s f e) ∙ h)) in
+    let off : (k ≡ f → ⊥) → (0 < x) × (x < 2 ^ 32) = λ (ne : k ≡ f → ⊥). r f x (sym (get-set_off m n k None s f ne) ∙ h) in
+    ⊎_elim at off (cases_eq k f)
+
+-- one use less
+pub counter-lowered : (m n : Counts) (k v : ℕ) (w : Option ℕ) → Sets m n k w → counter m k ≡ v → unwrap_or w 0 + 1 ≡ v → (f : ℕ) → counter n f + one_if (eqb f k) ≡ counter m f
+counter-lowered m n k v w s had less f =
+    let at : k ≡ f → counter n f + one_if (eqb f k) ≡ counter m f = λ (e : k ≡ f).
+    let one : one_if (eqb f k) ≡ 1 = one_if-true (eqb f k) (eq-eqb f k (sym e)) in
+    let now : counter n f ≡ unwrap_or w 0 = counter-set_at m n k w s f e in
+    let was : counter m k ≡ counter m f = ap (counter m) e in omega arith in
+    let off : (k ≡ f → ⊥) → counter n f + one_if (eqb f k) ≡ counter m f = λ (ne : k ≡ f → ⊥).
+    let none : one_if (eqb f k) ≡ 0 = one_if-false (eqb f k) (ne_eqb f k (λ e. ne (sym e))) in
+    let same : counter n f ≡ counter m f = counter-set_off m n k w s f ne in omega arith in
+    ⊎_elim at off (cases_eq k f)
+
+pub counted_once-above : (m : Counts) (f : ℕ) → 0 < counter m f → counted_once m f ≡ 1
+counted_once-above m f h = one_if-true (ltb 0 (counter m f)) (lt-ltb 0 (counter m f) h)
+
+pub counted_once-zero : (m : Counts) (f : ℕ) → counter m f ≡ 0 → counted_once m f ≡ 0
+counted_once-zero m f h = one_if-false (ltb 0 (counter m f)) (le-ltb 0 (counter m f) (omega arith))
+
+counted_once-same : (m n : Counts) (f : ℕ) → counter n f ≡ counter m f → counted_once n f ≡ counted_once m f
+counted_once-same m n f e = ap (λ c. one_if (ltb 0 c)) e
+
+pub times_push : (f x : ℕ) (xs : List ℕ) → times f (xs ++ x ∷ []) ≡ times f xs + one_if (eqb x f)
+times_push f x xs = sum_by_push (λ y. one_if (eqb y f)) xs x
+
+-- a file whose count only falls stays where it is
+pub counted_once-kept : (m n : Counts) (k v w : ℕ) → Sets m n k (Some w) → counter m k ≡ v → 0 < v → 0 < w → (f : ℕ) → counted_once n f ≡ counted_once m f
+counted_once-kept m n k v w s had above still f =
+    let at : k ≡ f → counted_once n f ≡ counted_once m f = λ (e : k ≡ f).
+    let now : counter n f ≡ w = counter-set_at m n k (Some w) s f e in
+    let was : counter m k ≡ counter m f = ap (counter m) e in
+    counted_once-above n f (omega arith) ∙ sym (counted_once-above m f (omega arith)) in
+    let off : (k ≡ f → ⊥) → counted_once n f ≡ counted_once m f = λ (ne : k ≡ f → ⊥). counted_once-same m n f (counter-set_off m n k (Some w) s f ne) in
+    ⊎_elim at off (cases_eq k f)
+
+-- a file whose last use goes is released
+pub times-released : (m n : Counts) (k : ℕ) (xs : List ℕ) → Sets m n k None → 0 < counter m k → (f : ℕ) → times f (xs ++ k ∷ []) + counted_once n f ≡ times f xs + counted_once m f
+times-released m n k xs s above f =
+    let pushed : times f (xs ++ k ∷ []) ≡ times f xs + one_if (eqb k f) = times_push f k xs in
+    let at : k ≡ f → times f (xs ++ k ∷ []) + counted_once n f ≡ times f xs + counted_once m f = λ (e : k ≡ f).
+    let one : one_if (eqb k f) ≡ 1 = one_if-true (eqb k f) (eq-eqb k f e) in
+    let was : counter m k ≡ counter m f = ap (counter m) e in
+    let before : counted_once m f ≡ 1 = counted_once-above m f (omega arith) in
+    let after : counted_once n f ≡ 0 = counted_once-zero n f (counter-set_at m n k None s f e) in omega arith in
+    let off : (k ≡ f → ⊥) → times f (xs ++ k ∷ []) + counted_once n f ≡ times f xs + counted_once m f = λ (ne : k ≡ f → ⊥).
+    let none : one_if (eqb k f) ≡ 0 = one_if-false (eqb k f) (ne_eqb k f ne) in
+    let same : counted_once n f ≡ counted_once m f = counted_once-same m n f (counter-set_off m n k None s f ne) in omega arith in
+    ⊎_elim at off (cases_eq k f)
+
+-- one use more
+pub counter-raised : (m n : Counts) (k w : ℕ) → Sets m n k (Some w) → w ≡ counter m k + 1 → (f : ℕ) → counter n f ≡ counter m f + one_if (eqb k f)
+counter-raised m n k w s more f =
+    let at : k ≡ f → counter n f ≡ counter m f + one_if (eqb k f) = λ (e : k ≡ f).
+    let one : one_if (eqb k f) ≡ 1 = one_if-true (eqb k f) (eq-eqb k f e) in
+    let now : counter n f ≡ w = counter-set_at m n k (Some w) s f e in
+    let was : counter m k ≡ counter m f = ap (counter m) e in omega arith in
+    let off : (k ≡ f → ⊥) → counter n f ≡ counter m f + one_if (eqb k f) = λ (ne : k ≡ f → ⊥).
+    let none : one_if (eqb k f) ≡ 0 = one_if-false (eqb k f) (ne_eqb k f ne) in
+    let same : counter n f ≡ counter m f = counter-set_off m n k (Some w) s f ne in omega arith in
+    ⊎_elim at off (cases_eq k f)
+
+pub times_more : (f : ℕ) (xs : List ℕ) (i d : ℕ) → i < length xs → times f (take (i + 1) xs) ≡ times f (take i xs) + one_if (eqb (get_or xs i d) f)
+times_more f xs i d h = sum_by_more (λ y. one_if (eqb y f)) xs i d h
+
+-- one more file counted, of a list of which i were
+pub counter_more : (was m n : Counts) (xs : List ℕ) (i k w : ℕ) → Sets m n k (Some w) → w ≡ counter m k + 1 → i < length xs → k ≡ get_or xs i k → ((f : ℕ) → counter m f ≡ counter was f + times f (take i xs)) → (f : ℕ) → counter n f ≡ counter was f + times f (take (i + 1) xs)
+counter_more was m n xs i k w s more within at inv f =
+    let once : ℕ → ℕ = λ y. one_if (eqb y f) in
+    let here : once k ≡ once (get_or xs i k) = ap once at in
+    omega (arith, counter-raised m n k w s more f, inv f, times_more f xs i k within)
+
+-- a call that succeeds does what it promises
+pub OnOk-at : {T E : Type 0} (r : Result T E) (P : Type 0) → IsOk r → OnOk r P → P
+OnOk-at (Ok x) P ok p = p
+OnOk-at (Err e) P ok p = absurd (false≢true ok)
+
+-- so does one that cannot fail
+pub OnOk-unless : {T E : Type 0} (r : Result T E) (P Q : Type 0) → (Q → ⊥) → OnErr r Q → OnOk r P → P
+OnOk-unless (Ok x) P Q never q p = p
+OnOk-unless (Err e) P Q never q p = absurd (never q)
+
+-- a file that stands once is not among those before it
+pub times_before : (xs : List ℕ) (i k : ℕ) → times k xs ≤ 1 → i < length xs → k ≡ get_or xs i k → times k (take i xs) ≡ 0
+times_before xs i k once within at =
+    let one : one_if (eqb (get_or xs i k) k) ≡ 1 = one_if-true (eqb (get_or xs i k) k) (eq-eqb (get_or xs i k) k (sym at)) in
+    omega (arith, times_more k xs i k within, sum_by-take-le (λ y. cond (eqb y k) 1 0) xs (i + 1))
+
+-- an entry more where there was none
+pub length_fresh : {E : Type 0} (r : Result (Option ℕ) E) (o : Option ℕ) (l n : ℕ) → IsOk r → o ≡ None → IfOk r (λ old. old ≡ o) → IfOk r (λ old. n ≡ l + (if is_some old then 0 else 1)) → n ≡ l + 1
+length_fresh (Ok old) o l n ok none was len = len ∙ ap (λ p. l + (if is_some p then 0 else 1)) (was ∙ none)
+length_fresh (Err e) o l n ok none was len = absurd (false≢true ok)
+
+-- and none more where there was one
+pub length_same : {E : Type 0} (r : Result (Option ℕ) E) (o : Option ℕ) (l n v : ℕ) → IsOk r → o ≡ Some v → IfOk r (λ old. old ≡ o) → IfOk r (λ old. n ≡ l + (if is_some old then 0 else 1)) → n ≡ l
+length_same (Ok old) o l n v ok some was len = len ∙ ap (λ p. l + (if is_some p then 0 else 1)) (was ∙ some) ∙ omega arith
+length_same (Err e) o l n v ok some was len = absurd (false≢true ok)
+
+-- a file and those before it, of a list
+pub times_through : (xs : List ℕ) (i k : ℕ) → i < length xs → k ≡ get_or xs i k → times k (take i xs) + 1 ≤ times k xs
+times_through xs i k within at =
+    let one : one_if (eqb (get_or xs i k) k) ≡ 1 = one_if-true (eqb (get_or xs i k) k) (eq-eqb (get_or xs i k) k (sym at)) in
+    omega (arith, times_more k xs i k within, sum_by-take-le (λ y. cond (eqb y k) 1 0) xs (i + 1))
+
+pub counted_once-le : (m : Counts) (f : ℕ) → counted_once m f ≤ 1
+counted_once-le m f =
+    ⊎_elim (λ (h : 0 < counter m f). omega (arith, counted_once-above m f h)) (λ (h : counter m f ≤ 0). omega (arith, counted_once-zero m f (omega arith))) (cases_lt 0 (counter m f))
+
+pub above_from_counted_once : (m : Counts) (f : ℕ) → 0 < counted_once m f → 0 < counter m f
+above_from_counted_once m f c =
+    ⊎_elim (λ (h : 0 < counter m f). h) (λ (h : counter m f ≤ 0). absurd (omega (arith, counted_once-zero m f (omega arith)))) (cases_lt 0 (counter m f))
+
+pub zero_from_counted_once : (m : Counts) (f : ℕ) → counted_once m f ≡ 0 → counter m f ≡ 0
+zero_from_counted_once m f c =
+    ⊎_elim (λ (h : 0 < counter m f). absurd (omega (arith, counted_once-above m f h))) (λ (h : counter m f ≤ 0). omega arith) (cases_lt 0 (counter m f))
+
+-- a file that is counted has a counter, and no other has
+pub is_some-get : (m : Counts) → AreInRange m → (f : ℕ) → is_some (get nat_eq m f) ≡ ltb 0 (counter m f)
+is_some-get m r f = by (get nat_eq m f) refl
+  where
+    by : (o : Option ℕ) → get nat_eq m f ≡ o → is_some o ≡ ltb 0 (unwrap_or o 0)
+    by None e = refl
+    by (Some n) e = sym (lt-ltb 0 n (r f n e).0)
+
+-- room that was made changes no counter
+pub counter-unchanged : (m n : Counts) → n.entries ≡ m.entries → (f : ℕ) → counter n f ≡ counter m f
+counter-unchanged m n same f = ap (λ es. unwrap_or (lookup (eqb f) es) 0) same

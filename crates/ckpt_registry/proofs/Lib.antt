@@ -1,0 +1,5 @@
+pub mod CounterLemmas
+pub mod EarlierLemmas
+pub mod HoldingLemmas
+pub mod ListLemmas
+pub mod RegistryLemmas

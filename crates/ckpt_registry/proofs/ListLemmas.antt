@@ -1,0 +1,181 @@
+-- How often the elements of a list pass a test, and what a filter leaves.
+use Rattle.std.proofs.Common.{◌≡◌, ℕ, ◌+◌, ◌<◌, ◌≤◌, Bool, true, false, not, cond, ◌&&◌, List, [], ◌∷◌, ◌++◌, map, refl, sym, ap, subst, ◌∙◌, ◌⊎◌, inl, inr, ⊎_elim, arith, count_by}
+use Rattle.std.specs.List.{filter}
+use Rattle.std.proofs.lemmas.Bool.{cases_Bool, cases_lt, both_ways, cond-true, cond-false}
+use Rattle.std.proofs.lemmas.List.Sums.{sum_by-cons, sum_by-append}
+use Rattle.ckpt_ids.specs.Ordered.{IsIn, IsInOrder, put_once, in_order_once, IsStrictOrder}
+use Rattle.ckpt_ids.proofs.OrderedLemmas.{IsIn-append_left, IsIn-append_right, IsIn-append_cases, IsIn-filter, IsIn-from_filter, IsInOrder-filter, IsInOrder-in_order_once, IsIn-in_order_once, IsIn-from_in_order_once, ComesBefore-at, same_from_members}
+
+-- a test as a number
+abbrev pub one_if : Bool → ℕ
+one_if b = cond b 1 0
+
+pub one_if-true : (b : Bool) → b ≡ true → one_if b ≡ 1
+one_if-true b e = ap one_if e
+
+pub one_if-false : (b : Bool) → b ≡ false → one_if b ≡ 0
+one_if-false b e = ap one_if e
+
+module _ {X : Type 0} where
+  pub count_by-cons : (p : X → Bool) (x : X) (xs : List X) → count_by p (x ∷ xs) ≡ one_if (p x) + count_by p xs
+  count_by-cons p x xs = sum_by-cons (λ y. one_if (p y)) x xs
+
+  pub count_by-append : (p : X → Bool) (xs ys : List X) → count_by p (xs ++ ys) ≡ count_by p xs + count_by p ys
+  count_by-append p xs ys = sum_by-append (λ y. one_if (p y)) xs ys
+
+  -- the elements that pass both tests
+  pub count_by-filter : (p q : X → Bool) (xs : List X) → count_by p (filter q xs) ≡ count_by (λ x. q x && p x) xs
+  count_by-filter p q [] = refl
+  count_by-filter p q (x ∷ xs) =
+      let Goal : Type 0 = count_by p (filter q (x ∷ xs)) ≡ count_by (λ y. q y && p y) (x ∷ xs) in
+      let rest : count_by p (filter q xs) ≡ count_by (λ y. q y && p y) xs = count_by-filter p q xs in
+      let whole : count_by (λ y. q y && p y) (x ∷ xs) ≡ one_if (q x && p x) + count_by (λ y. q y && p y) xs = count_by-cons (λ y. q y && p y) x xs in
+      let kept : q x ≡ true → Goal = λ (e : q x ≡ true).
+      let here : count_by p (filter q (x ∷ xs)) ≡ one_if (p x) + count_by p (filter q xs) = ap (count_by p) (cond-true (q x) (x ∷ filter q xs) (filter q xs) e) ∙ count_by-cons p x (filter q xs) in
+      let same : one_if (q x && p x) ≡ one_if (p x) = ap (λ b. one_if (b && p x)) e in omega arith in
+      let gone : q x ≡ false → Goal = λ (e : q x ≡ false).
+      let here : count_by p (filter q (x ∷ xs)) ≡ count_by p (filter q xs) = ap (count_by p) (cond-false (q x) (x ∷ filter q xs) (filter q xs) e) in
+      let same : one_if (q x && p x) ≡ 0 = ap (λ b. one_if (b && p x)) e in omega arith in
+      ⊎_elim kept gone (cases_Bool (q x))
+
+  pub filter-all : (q : X → Bool) (xs : List X) → ((x : X) → IsIn x xs → q x ≡ true) → filter q xs ≡ xs
+  filter-all q [] h = refl
+  filter-all q (x ∷ xs) h = cond-true (q x) (x ∷ filter q xs) (filter q xs) (h x (inl refl)) ∙ ap (λ ys. x ∷ ys) (filter-all q xs (λ y k. h y (inr k)))
+
+  pub filter-none : (q : X → Bool) (xs : List X) → ((x : X) → IsIn x xs → q x ≡ false) → filter q xs ≡ []
+  filter-none q [] h = refl
+  filter-none q (x ∷ xs) h = cond-false (q x) (x ∷ filter q xs) (filter q xs) (h x (inl refl)) ∙ filter-none q xs (λ y k. h y (inr k))
+
+  -- two tests that agree on the elements keep the same
+  pub filter-same : (p q : X → Bool) (xs : List X) → ((x : X) → IsIn x xs → p x ≡ q x) → filter p xs ≡ filter q xs
+  filter-same p q [] h = refl
+  filter-same p q (x ∷ xs) h =
+      let rest : filter p xs ≡ filter q xs = filter-same p q xs (λ y k. h y (inr k)) in
+      ap (λ b. cond b (x ∷ filter p xs) (filter p xs)) (h x (inl refl)) ∙ ap (λ ys. cond (q x) (x ∷ ys) ys) rest
+
+  pub filter-filter : (p q : X → Bool) (xs : List X) → filter p (filter q xs) ≡ filter (λ x. q x && p x) xs
+  filter-filter p q [] = refl
+  filter-filter p q (x ∷ xs) =
+      let rest : filter p (filter q xs) ≡ filter (λ y. q y && p y) xs = filter-filter p q xs in
+      let Goal : Bool → Type 0 = λ b. filter p (cond b (x ∷ filter q xs) (filter q xs)) ≡ cond (b && p x) (x ∷ filter (λ y. q y && p y) xs) (filter (λ y. q y && p y) xs) in
+      let kept : q x ≡ true → Goal (q x) = λ (e : q x ≡ true). subst Goal (sym e) (ap (λ ys. cond (p x) (x ∷ ys) ys) rest) in
+      let gone : q x ≡ false → Goal (q x) = λ (e : q x ≡ false). subst Goal (sym e) rest in
+      ⊎_elim kept gone (cases_Bool (q x))
+
+  -- no element stands twice
+  abbrev pub AreApart : List X → Type 0
+  AreApart [] = Unit {0}
+  AreApart (x ∷ xs) = (IsIn x xs → ⊥) × AreApart xs
+
+  pub AreApart-append : (xs ys : List X) → AreApart xs → AreApart ys → ((x : X) → IsIn x xs → IsIn x ys → ⊥) → AreApart (xs ++ ys)
+  AreApart-append [] ys a b f = b
+  AreApart-append (x ∷ xs) ys a b f =
+      (λ h. ⊎_elim a.0 (λ (k : IsIn x ys). f x (inl refl) k) (IsIn-append_cases x xs ys h), AreApart-append xs ys a.1 b (λ y h k. f y (inr h) k))
+
+module _ {X : Type 0} {before : X → X → Bool} (o : IsStrictOrder before) where
+  pub AreApart-from_order : (xs : List X) → IsInOrder before xs → AreApart xs
+  AreApart-from_order [] a = tt
+  AreApart-from_order (x ∷ xs) a = (λ h. both_ways (before x x) (o.irreflexive x) (ComesBefore-at before x x xs a.0 h), AreApart-from_order xs a.1)
+
+  count_by-put_once : (p : X → Bool) (x : X) (xs : List X) → (IsIn x xs → ⊥) → count_by p (put_once before x xs) ≡ one_if (p x) + count_by p xs
+  count_by-put_once p x [] new = count_by-cons p x []
+  count_by-put_once p x (y ∷ xs) new =
+      let P : Bool → Type 0 = λ b. count_by p (cond b (y ∷ put_once before x xs) (cond (before x y) (x ∷ y ∷ xs) (y ∷ xs))) ≡ one_if (p x) + count_by p (y ∷ xs) in
+      let Q : Bool → Type 0 = λ b. count_by p (cond b (x ∷ y ∷ xs) (y ∷ xs)) ≡ one_if (p x) + count_by p (y ∷ xs) in
+      let later : before y x ≡ true → P (before y x) = λ (e : before y x ≡ true).
+      subst P (sym e) (omega (arith, count_by-cons p y (put_once before x xs), count_by-put_once p x xs (λ h. new (inr h)), count_by-cons p y xs)) in
+      let here : before y x ≡ false → P (before y x) = λ (e : before y x ≡ false).
+      let first : before x y ≡ true → Q (before x y) = λ (t : before x y ≡ true). subst Q (sym t) (count_by-cons p x (y ∷ xs)) in
+      let there : before x y ≡ false → Q (before x y) = λ (t : before x y ≡ false). absurd (new (inl (o.total x y t e))) in
+      subst P (sym e) (⊎_elim first there (cases_Bool (before x y))) in
+      ⊎_elim later here (cases_Bool (before y x))
+
+  -- a list whose elements differ keeps all of them when it is put in order
+  pub count_by-in_order_once : (p : X → Bool) (xs : List X) → AreApart xs → count_by p (in_order_once before xs) ≡ count_by p xs
+  count_by-in_order_once p [] a = refl
+  count_by-in_order_once p (x ∷ xs) a =
+      omega (arith, count_by-put_once p x (in_order_once before xs) (λ h. a.0 (IsIn-from_in_order_once before x xs h)), count_by-in_order_once p xs a.1, count_by-cons p x xs)
+
+  -- a filter of the list in order is the filtered list in order
+  pub in_order_once-filter : (q : X → Bool) (xs : List X) → in_order_once before (filter q xs) ≡ filter q (in_order_once before xs)
+  in_order_once-filter q xs =
+      let forth : (z : X) → IsIn z (in_order_once before (filter q xs)) → IsIn z (filter q (in_order_once before xs)) = λ z h.
+      let k = IsIn-from_filter q z xs (IsIn-from_in_order_once before z (filter q xs) h) in IsIn-filter q z (in_order_once before xs) (IsIn-in_order_once o z xs k.0) k.1 in
+      let back : (z : X) → IsIn z (filter q (in_order_once before xs)) → IsIn z (in_order_once before (filter q xs)) = λ z h.
+      let k = IsIn-from_filter q z (in_order_once before xs) h in IsIn-in_order_once o z (filter q xs) (IsIn-filter q z xs (IsIn-from_in_order_once before z xs k.0) k.1) in
+      same_from_members o (in_order_once before (filter q xs)) (filter q (in_order_once before xs)) (IsInOrder-in_order_once o (filter q xs)) (IsInOrder-filter before q (in_order_once before xs) (IsInOrder-in_order_once o xs)) forth back
+
+  -- whether two are one
+  abbrev pub is_one : X → X → Bool
+  is_one z x = not (before z x) && not (before x z)
+
+  is_one-itself : (z : X) → is_one z z ≡ true
+  is_one-itself z = ap (λ b. not b && not b) (o.irreflexive z)
+
+  is_one-same : (z x : X) → is_one z x ≡ true → z ≡ x
+  is_one-same z x h =
+      let under : before z x ≡ true → ⊥ = λ (e : before z x ≡ true). both_ways false refl (sym (ap (λ b. not b && not (before x z)) e) ∙ h) in
+      let over : before z x ≡ false → before x z ≡ true → ⊥ = λ (e : before z x ≡ false) (f : before x z ≡ true). both_ways false refl (sym (ap (λ b. not b && not (before x z)) e ∙ ap (λ b. true && not b) f) ∙ h) in
+      ⊎_elim (λ (e : before z x ≡ true). absurd (under e)) (λ (e : before z x ≡ false). ⊎_elim (λ (f : before x z ≡ true). absurd (over e f)) (λ (f : before x z ≡ false). o.total z x e f) (cases_Bool (before x z))) (cases_Bool (before z x))
+
+  pub count_by-from_IsIn : (z : X) (xs : List X) → IsIn z xs → 0 < count_by (is_one z) xs
+  count_by-from_IsIn z [] h = absurd h
+  count_by-from_IsIn z (x ∷ xs) (inl e) =
+      let one : one_if (is_one z x) ≡ 1 = one_if-true (is_one z x) (ap (is_one z) (sym e) ∙ is_one-itself z) in
+      omega (arith, count_by-cons (is_one z) x xs)
+  count_by-from_IsIn z (x ∷ xs) (inr h) = omega (arith, count_by-cons (is_one z) x xs, count_by-from_IsIn z xs h)
+
+  pub IsIn-from_count_by : (z : X) (xs : List X) → 0 < count_by (is_one z) xs → IsIn z xs
+  IsIn-from_count_by z [] h = absurd (omega arith)
+  IsIn-from_count_by z (x ∷ xs) h =
+      let here : is_one z x ≡ true → IsIn z (x ∷ xs) = λ (e : is_one z x ≡ true). inl (is_one-same z x e) in
+      let later : is_one z x ≡ false → IsIn z (x ∷ xs) = λ (e : is_one z x ≡ false).
+      let none : one_if (is_one z x) ≡ 0 = one_if-false (is_one z x) e in inr (IsIn-from_count_by z xs (omega (arith, count_by-cons (is_one z) x xs))) in
+      ⊎_elim here later (cases_Bool (is_one z x))
+
+-- counting after a change of each element
+pub count_by-map : {X Y : Type 0} (p : Y → Bool) (f : X → Y) (xs : List X) → count_by p (map f xs) ≡ count_by (λ x. p (f x)) xs
+count_by-map p f [] = refl
+count_by-map p f (x ∷ xs) = omega (arith, count_by-cons p (f x) (map f xs), count_by-map p f xs, count_by-cons (λ y. p (f y)) x xs)
+
+module _ {X : Type 0} {before : X → X → Bool} (o : IsStrictOrder before) (xs ys zs : List X) (adds : (p : X → Bool) → count_by p ys ≡ count_by p xs + count_by p zs) where
+  -- ys has the elements of xs and zs
+  pub IsIn-from_added : (z : X) → IsIn z ys → IsIn z xs ⊎ IsIn z zs
+  IsIn-from_added z h =
+      let some : 0 < count_by (is_one o z) ys = count_by-from_IsIn o z ys h in
+      let old : 0 < count_by (is_one o z) xs → IsIn z xs ⊎ IsIn z zs = λ (k : 0 < count_by (is_one o z) xs). inl (IsIn-from_count_by o z xs k) in
+      let new : count_by (is_one o z) xs ≤ 0 → IsIn z xs ⊎ IsIn z zs = λ (k : count_by (is_one o z) xs ≤ 0). inr (IsIn-from_count_by o z zs (omega (arith, adds (is_one o z)))) in
+      ⊎_elim old new (cases_lt 0 (count_by (is_one o z) xs))
+
+  pub IsIn-old_added : (z : X) → IsIn z xs → IsIn z ys
+  IsIn-old_added z h = IsIn-from_count_by o z ys (omega (arith, adds (is_one o z), count_by-from_IsIn o z xs h))
+
+  pub IsIn-new_added : (z : X) → IsIn z zs → IsIn z ys
+  IsIn-new_added z h = IsIn-from_count_by o z ys (omega (arith, adds (is_one o z), count_by-from_IsIn o z zs h))
+
+  -- in order, ys is xs with zs
+  pub in_order_once-added : in_order_once before ys ≡ in_order_once before (in_order_once before xs ++ zs)
+  in_order_once-added =
+      let forth : (z : X) → IsIn z (in_order_once before ys) → IsIn z (in_order_once before (in_order_once before xs ++ zs)) = λ z h.
+      IsIn-in_order_once o z (in_order_once before xs ++ zs) (⊎_elim
+      (λ (k : IsIn z xs). IsIn-append_left z (in_order_once before xs) zs (IsIn-in_order_once o z xs k))
+      (λ (k : IsIn z zs). IsIn-append_right z (in_order_once before xs) zs k)
+      (IsIn-from_added z (IsIn-from_in_order_once before z ys h))) in
+      let back : (z : X) → IsIn z (in_order_once before (in_order_once before xs ++ zs)) → IsIn z (in_order_once before ys) = λ z h.
+      IsIn-in_order_once o z ys (⊎_elim
+      (λ (k : IsIn z (in_order_once before xs)). IsIn-old_added z (IsIn-from_in_order_once before z xs k))
+      (λ (k : IsIn z zs). IsIn-new_added z k)
+      (IsIn-append_cases z (in_order_once before xs) zs (IsIn-from_in_order_once before z (in_order_once before xs ++ zs) h))) in
+      same_from_members o (in_order_once before ys) (in_order_once before (in_order_once before xs ++ zs)) (IsInOrder-in_order_once o ys) (IsInOrder-in_order_once o (in_order_once before xs ++ zs)) forth back
+
+  -- and none stands twice, if none of zs does or is in xs
+  pub count_by-added : ((p : X → Bool) → count_by p xs ≡ count_by p (in_order_once before xs)) → AreApart zs → ((z : X) → IsIn z (in_order_once before xs) → IsIn z zs → ⊥) → (p : X → Bool) → count_by p ys ≡ count_by p (in_order_once before ys)
+  count_by-added once apart new p =
+      let all : AreApart (in_order_once before xs ++ zs) = AreApart-append (in_order_once before xs) zs (AreApart-from_order o (in_order_once before xs) (IsInOrder-in_order_once o xs)) apart new in
+      let after : count_by p (in_order_once before ys) ≡ count_by p (in_order_once before (in_order_once before xs ++ zs)) = ap (count_by p) in_order_once-added in
+      omega (arith, adds p, once p, count_by-in_order_once o p (in_order_once before xs ++ zs) all, count_by-append p (in_order_once before xs) zs)
+
+-- filtered, none stands twice
+pub count_by-filtered : {X : Type 0} {before : X → X → Bool} (o : IsStrictOrder before) (q : X → Bool) (xs : List X) → ((p : X → Bool) → count_by p xs ≡ count_by p (in_order_once before xs)) → (p : X → Bool) → count_by p (filter q xs) ≡ count_by p (in_order_once before (filter q xs))
+count_by-filtered {X} {before} o q xs once p =
+    count_by-filter p q xs ∙ once (λ x. q x && p x) ∙ sym (count_by-filter p q (in_order_once before xs)) ∙ ap (count_by p) (sym (in_order_once-filter o q xs))

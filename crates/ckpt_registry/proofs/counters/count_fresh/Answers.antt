@@ -1,0 +1,28 @@
+use Rattle.std.proofs.Common.{◌≡◌, ℕ, ◌<◌, length, take, Some, sym, subst, arith}
+use Rattle.std.specs.Result.{IsOk}
+use Rattle.ckpt_ids.specs.Ordered.{IsIn}
+use Rattle.ckpt_ids.proofs.OrderedLemmas.{IsIn-get_or}
+use Rattle.ckpt_registry.specs.Counters.{counter, times}
+use Rattle.ckpt_registry.proofs.CounterLemmas.{Sets, OnOk-at, counter_more, AreInRange-set, get-none, times_before, length_fresh}
+use Rattle.ckpt_registry.proofs.counters.count_fresh.Goals as goal
+
+pub loop-file-preserved : goal.loop-file-preserved
+loop-file-preserved c =
+    let files = c.args.files.now in
+    let i = c.loop-file.file-index in
+    let file : ℕ = c.file-item.result in
+    let m = c.loop-file.counts in
+    let n = c.insert.new.self in
+    let before = c.loop-file.invariant in
+    let within : i < length files = c.loop-file-test.true in
+    let ok : IsOk c.insert.result = c.insert.ensures.succeeds (omega (arith, before.room)) in
+    let sets : Sets m n file (Some 1) = (OnOk-at c.insert.result _ ok c.insert.ensures.updates).0 in
+    let among : IsIn file files = let P : ℕ → Type 0 = λ x. IsIn x files in subst P (sym c.file-item.is) (IsIn-get_or files i file within) in
+    let first : times file (take i files) ≡ 0 = times_before files i file (c.requires.each_once file) within c.file-item.is in
+    let none : counter m file ≡ 0 = omega (arith, before.counted file, c.requires.absent file among) in
+    record {
+      counted = counter_more c.args.counts.now m n files i file 1 sets (omega arith) within c.file-item.is before.counted;
+      len = omega (arith, before.len, length_fresh c.insert.result _ _ _ ok (get-none m before.range file none) c.insert.ensures.old c.insert.ensures.len);
+      room = omega (arith, before.room, c.insert.ensures.spare);
+      range = AreInRange-set m n file 1 sets before.range (omega arith) (omega arith);
+    }

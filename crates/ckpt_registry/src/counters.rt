@@ -1,0 +1,63 @@
+ghost use Rattle.std.specs.Prelude.{◌≡◌, ℕ, ◌+◌, ◌^◌, ◌<◌, ◌≤◌, ◌==◌, length, if◌then◌else◌, vec_len};
+ghost use Rattle.std.specs.Vec.{vec_capacity};
+ghost use Rattle.indexmap.specs.IndexMap.{index_map_len, spare};
+ghost use Rattle.ckpt_ids.specs.Ordered.{IsIn};
+ghost use Rattle.ckpt_registry.specs.Counters.{counter, counted_once, times, AreInRange};
+ghost use Rattle.ckpt_registry.specs.Uses.{IsEachOnce};
+
+use ckpt_ids::FileId;
+use indexmap::IndexMap;
+
+/// How often each file is used; a file that is not used has no counter.
+pub(crate) type Counts = IndexMap<FileId, u32>;
+
+/// Counts files that no record uses yet, in room that was reserved.
+pub(crate) fn count_fresh(counts: &mut Counts, files: &[FileId])
+    requires room { length files.now ≤ spare counts.old }
+    requires each_once { IsEachOnce files.now }
+    requires absent { (f : ℕ) → IsIn f files.now → counter counts.old f ≡ 0 }
+    requires range { AreInRange counts.old }
+    ensures counted { (f : ℕ) → counter counts.new f ≡ counter counts.old f + times f files.now }
+    ensures len { index_map_len counts.new ≡ index_map_len counts.old + length files.now }
+    ensures range { AreInRange counts.new }
+{
+    for file in files {
+        let _ = counts.insert(*file, 1);
+    }
+}
+
+/// Counts each of these files, which are used already, once more.
+pub(crate) fn count_reused(counts: &mut Counts, files: &[FileId])
+    requires present { (f : ℕ) → IsIn f files.now → 0 < counter counts.old f }
+    requires fits { (f : ℕ) → IsIn f files.now → counter counts.old f + times f files.now < 2 ^ 32 }
+    requires range { AreInRange counts.old }
+    ensures counted { (f : ℕ) → counter counts.new f ≡ counter counts.old f + times f files.now }
+    ensures len { index_map_len counts.new ≡ index_map_len counts.old }
+    ensures range { AreInRange counts.new }
+{
+    for file in files {
+        if let Some(count) = counts.get_mut(file) {
+            *count += 1;
+        }
+    }
+}
+
+/// Takes back one use of a file, which is released with its last use.
+pub(crate) fn lower(counts: &mut Counts, released: &mut Vec<FileId>, file: FileId)
+    requires counted { 0 < counter counts.old file }
+    requires range { AreInRange counts.old }
+    requires room { index_map_len counts.old + vec_len released.old ≤ vec_capacity released.old }
+    ensures lowered { (f : ℕ) → counter counts.new f + (if f == file then 1 else 0) ≡ counter counts.old f }
+    ensures released { (f : ℕ) → times f released.new.items + counted_once counts.new f ≡ times f released.old.items + counted_once counts.old f }
+    ensures len { index_map_len counts.new + vec_len released.new ≡ index_map_len counts.old + vec_len released.old }
+    ensures capacity { vec_capacity released.new ≡ vec_capacity released.old }
+    ensures range { AreInRange counts.new }
+{
+    let count = counts.get(&file).copied().unwrap_or(0);
+    if count > 1 {
+        let _ = counts.insert(file, count - 1);
+        return;
+    }
+    counts.swap_remove(&file);
+    released.push_reserved(file);
+}

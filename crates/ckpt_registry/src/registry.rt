@@ -1,0 +1,181 @@
+ghost use Rattle.std.specs.Prelude.{◌≡◌, ℕ, ◌-◌, ◌^◌, ◌<◌, [], ◌++◌, false, true, map, length, OnOk, OnErr};
+ghost use Rattle.std.specs.Borrow.{sem};
+ghost use Rattle.ckpt_ids.specs.Ordered.{IsIn, IsInOrder, in_order_once};
+ghost use Rattle.ckpt_ids.specs.Ascending.{IsAscendingSet, ascending_set};
+ghost use Rattle.ckpt_ids.specs.Records.{Subtask, Pin, count, is_present, released, use_before};
+ghost use Rattle.ckpt_registry.specs.Uses.{IsEachOnce, HasNoUse, after_end, triples, without};
+
+use crate::counters::{Counts, count_fresh, count_reused};
+use crate::holdings::{Holder, Holdings, hold, release, release_each};
+use ckpt_ids::{CheckpointId, FileId, Files, SubtaskId};
+use indexmap::IndexMap;
+use std::alloc::{AllocError, Global};
+use std::collections::BTreeMap;
+use std::marker::Model;
+
+/// The uses of state files by live records, and how often each file is used.
+///
+/// Calls cost what they name: `count` and `contains` are look-ups, `use_files` and `pin` visit
+/// their k files, and `release` and `end` what the named records hold, each by look-ups that take
+/// O(log n) steps among n. No call visits the other files.
+#[derive(Drop)]
+pub struct Registry {
+    counts: Counts,
+    acknowledged: Holdings,
+    pinned: Holdings,
+    /// The answer of the last release, in room for all files that are present.
+    released: Vec<FileId>,
+}
+
+impl Model for Registry {
+    ghost use Rattle.std.specs.Prelude.{List};
+    ghost use Rattle.std.specs.Vec.{vec_capacity};
+    ghost use Rattle.ckpt_ids.specs.Records.{Use};
+    ghost use Rattle.ckpt_registry.specs.Sound.{IsSound, in_use};
+
+    ghost Value = { List Use };
+
+    ghost view = { λ r. in_use r.acknowledged r.pinned };
+
+    ghost invariant = { λ r. IsSound r.acknowledged r.pinned r.counts (vec_capacity r.released) };
+}
+
+impl Registry {
+    ghost use Rattle.ckpt_registry.specs.Ends.{EndsAs};
+
+    /// A registry without uses. Takes no memory.
+    pub fn new(alloc: Global) -> Registry
+        ensures { result ≡ [] }
+    {
+        Registry {
+            counts: IndexMap::new(alloc),
+            acknowledged: BTreeMap::new(alloc),
+            pinned: BTreeMap::new(alloc),
+            released: Vec::new(alloc),
+        }
+    }
+
+    /// Adds the uses of the acknowledgement of one subtask: one for each of its files.
+    ///
+    /// The fresh files have no use yet, the reused ones have, and no number stands twice. The
+    /// subtask has not acknowledged in this record. Fails only for want of memory, and then adds
+    /// none.
+    pub fn use_files(
+        &mut self,
+        id: CheckpointId,
+        subtask: SubtaskId,
+        fresh: &Files,
+        reused: &Files,
+    ) -> Result<(), AllocError>
+        requires fresh_absent { (f : ℕ) → IsIn f fresh.now → is_present self.old f ≡ false }
+        requires reused_present { (f : ℕ) → IsIn f reused.now → is_present self.old f ≡ true }
+        requires each_once { IsEachOnce (fresh.now ++ reused.now) }
+        requires below { (f : ℕ) → IsIn f reused.now → count self.old f < 2 ^ 32 - 1 }
+        requires unused { HasNoUse self.old id (Subtask subtask) }
+        ensures ok { OnOk result (self.new ≡ in_order_once use_before (self.old ++ triples id (Subtask subtask) (fresh.now ++ reused.now))) }
+        ensures err { OnErr result (self.new ≡ self.old) }
+    {
+        // All that may find no memory comes first. A file that is released has a counter, so room
+        // for as many files as counters is enough.
+        self.counts.reserve(fresh.len())?;
+        self.released.clear();
+        self.released.reserve(self.counts.capacity())?;
+        let alloc = *self.released.allocator();
+        let holder = Holder::Subtask(subtask);
+        let fresh = fresh.as_slice();
+        let reused = reused.as_slice();
+        hold(&mut self.acknowledged, alloc, id, holder, fresh, reused)?;
+        count_fresh(&mut self.counts, fresh);
+        count_reused(&mut self.counts, reused);
+        Ok(())
+    }
+
+    /// Pins files, which keeps them present until the record ends or goes: one use for each.
+    ///
+    /// Each file is named once and present, and the record has no pins yet. Fails only for want of
+    /// memory, and then adds none.
+    pub fn pin(&mut self, id: CheckpointId, files: &Files) -> Result<(), AllocError>
+        requires ascending { IsAscendingSet files.now }
+        requires present { (f : ℕ) → IsIn f files.now → is_present self.old f ≡ true }
+        requires below { (f : ℕ) → IsIn f files.now → count self.old f < 2 ^ 32 - 1 }
+        requires unpinned { HasNoUse self.old id Pin }
+        ensures ok { OnOk result (self.new ≡ in_order_once use_before (self.old ++ triples id Pin files.now)) }
+        ensures err { OnErr result (self.new ≡ self.old) }
+    {
+        let alloc = *self.released.allocator();
+        let files = files.as_slice();
+        hold(&mut self.pinned, alloc, id, Holder::Pin, &[], files)?;
+        count_reused(&mut self.counts, files);
+        Ok(())
+    }
+
+    /// Removes all uses and pins of these records, and shows the files that are no longer used:
+    /// ascending, each once.
+    ///
+    /// A record may have no use, and may be named twice. The files lie in room that `use_files`
+    /// made. Takes no memory.
+    pub fn release(&mut self, owners: &[CheckpointId]) -> &[FileId]
+        ensures* after { sem 𝓛 (EndsAs self.entry (without owners.now self.old)) }
+        ensures files { result.now ≡ released self.old (without owners.now self.old) }
+    {
+        self.released.clear();
+        release_each(
+            &mut self.acknowledged,
+            &mut self.pinned,
+            &mut self.counts,
+            &mut self.released,
+            owners,
+        );
+        self.released.sort_unstable(); // as one list, however many records go
+        self.released.as_slice()
+    }
+
+    /// Ends record `id`, which gives up its pins, and removes all uses and pins of the owners.
+    /// Shows the files that are no longer used: ascending, each once.
+    ///
+    /// What is said of the owners and the files of [`Registry::release`] holds here too. Takes no
+    /// memory.
+    pub fn end(&mut self, id: CheckpointId, owners: &[CheckpointId]) -> &[FileId]
+        ensures* after { sem 𝓛 (EndsAs self.entry (after_end id owners.now self.old)) }
+        ensures files { result.now ≡ released self.old (after_end id owners.now self.old) }
+    {
+        self.released.clear();
+        release(&mut self.pinned, &mut self.counts, &mut self.released, id);
+        release_each(
+            &mut self.acknowledged,
+            &mut self.pinned,
+            &mut self.counts,
+            &mut self.released,
+            owners,
+        );
+        self.released.sort_unstable();
+        self.released.as_slice()
+    }
+
+    /// How often a file is used, 0 to 2^32 - 1.
+    pub fn count(&self, file: FileId) -> u32
+        ensures value { result ≡ count self.now file }
+        ensures in_order { IsInOrder use_before self.now }
+    {
+        self.counts.get(&file).copied().unwrap_or(0)
+    }
+
+    /// Whether a file is present: whether it is used at all.
+    pub fn contains(&self, file: FileId) -> bool
+        ensures { result ≡ is_present self.now file }
+    {
+        self.counts.contains_key(&file)
+    }
+
+    /// How many files are present.
+    pub fn present(&self) -> u64
+        ensures value { result ≡ length (ascending_set (map (λ u. u.file) self.now)) }
+        ensures in_order { IsInOrder use_before self.now }
+        ensures below { (f : ℕ) → count self.now f < 2 ^ 32 }
+    {
+        self.counts.len() as u64
+    }
+}
+
+#[cfg(test)]
+mod tests;
