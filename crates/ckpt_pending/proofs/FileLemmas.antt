@@ -1,0 +1,90 @@
+-- The files of a record, sorted and each once.
+use Rattle.std.proofs.Common.{◌≡◌, ℕ, suc, ◌<◌, true, ltb, leb, eqb, List, [], ◌∷◌, ◌++◌, map, length, get_or, refl, sym, ap, subst, ◌∙◌, arith}
+use Rattle.std.specs.Map.{values_of}
+use Rattle.std.specs.List.{concat, flat_map, AllPairs, Contains, dedup}
+use Rattle.std.specs.List.Sorted.{IsPermutation, IsSorted}
+use Rattle.std.specs.List.Retain.{IsFiltered, DiffersFromLast}
+use Rattle.std.specs.Ordering.{nat_cmp}
+use Rattle.std.proofs.lemmas.Bool.{lt-ltb, ltb-true, le-leb}
+use Rattle.std.proofs.lemmas.List.Filters.{dedup_is}
+use Rattle.std.proofs.lemmas.List.Kept.{AllPairs-from_increasing, Contains-dedup_nat, Contains-from_dedup}
+use Rattle.std.proofs.lemmas.List.Sorted.{Contains-permutation, IsPermutation-sym}
+use Rattle.std.proofs.lemmas.Map.Keys.{IsStrictlyIncreasing-dedup}
+use Rattle.ckpt_ids.specs.declared.subtask.SubtaskId.{SubtaskId}
+use Rattle.ckpt_ids.specs.declared.ack.Acked.{Acked}
+use Rattle.ckpt_ids.specs.Ordered.{IsIn}
+use Rattle.ckpt_ids.specs.Ascending.{IsAscending, IsAscendingSet, ascending, ascending_set}
+use Rattle.ckpt_ids.specs.Records.{Record, Use, Holder, Subtask, Pin, uses}
+use Rattle.ckpt_ids.proofs.OrderedLemmas.{ComesBefore-at, ComesBefore-from, IsIn-place, IsIn-get_or, same_from_members, IsInOrder-in_order_once, IsIn-in_order_once, IsIn-from_in_order_once}
+use Rattle.ckpt_pending.specs.Acknowledging.{acks_of}
+use Rattle.ckpt_ids.proofs.AscendingLemmas.{numbers_in_order, same_from_times, IsAscending-ascending, times-ascending}
+
+IsIn-contained : (x : ℕ) (xs : List ℕ) → Contains xs x → IsIn x xs
+IsIn-contained x xs h = let P : ℕ → Type 0 = λ y. IsIn y xs in subst P h.2 (IsIn-get_or xs h.0 x h.1)
+
+IsAscendingSet-from_pairs : (xs : List ℕ) → AllPairs (λ x y. x < y) xs → IsAscendingSet xs
+IsAscendingSet-from_pairs [] h = tt
+IsAscendingSet-from_pairs (x ∷ xs) h =
+    let first : (y : ℕ) → IsIn y xs → ltb x y ≡ true = λ y k.
+    let p = IsIn-place y xs k in
+    let within : p.0 < length xs = p.1 in
+    let at : get_or xs p.0 y ≡ y = p.2 in
+    let up : x < get_or xs p.0 y = h 0 (suc p.0) y (omega arith) (omega arith) in
+    lt-ltb x y (omega arith) in
+    let rest : AllPairs (λ x y. x < y) xs = λ i j d a b. h (suc i) (suc j) d (omega arith) (omega arith) in
+    (ComesBefore-from ltb x xs first, IsAscendingSet-from_pairs xs rest)
+
+IsAscending-from_set : (xs : List ℕ) → IsAscendingSet xs → IsAscending xs
+IsAscending-from_set [] h = tt
+IsAscending-from_set (x ∷ xs) h =
+    (ComesBefore-from leb x xs (λ y k. le-leb x y (omega (arith, ltb-true x y (ComesBefore-at ltb x y xs h.0 k)))), IsAscending-from_set xs h.1)
+
+-- what a sort and a `dedup` leave
+pub ascending-from_dedup : (all sorted kept : List ℕ) → IsPermutation all sorted → IsSorted nat_cmp sorted → IsFiltered (DiffersFromLast eqb) [] sorted kept → ascending kept ≡ ascending_set all
+ascending-from_dedup all sorted kept moved s filtered =
+    let is : kept ≡ dedup eqb sorted = dedup_is eqb sorted kept filtered in
+    let P : List ℕ → Type 0 = IsAscendingSet in
+    let strict : IsAscendingSet kept = subst P (sym is) (IsAscendingSet-from_pairs (dedup eqb sorted) (AllPairs-from_increasing (dedup eqb sorted) (IsStrictlyIncreasing-dedup sorted s))) in
+    let once : ascending kept ≡ kept = same_from_times (ascending kept) kept (IsAscending-ascending kept) (IsAscending-from_set kept strict) (λ z. times-ascending z kept) in
+    let forth : (z : ℕ) → IsIn z kept → IsIn z (ascending_set all) = λ z h.
+    let In : List ℕ → Type 0 = λ xs. IsIn z xs in
+    let k : Contains sorted z = Contains-from_dedup eqb sorted z (IsIn-place z (dedup eqb sorted) (subst In is h)) in
+    IsIn-in_order_once numbers_in_order z all (IsIn-contained z all (Contains-permutation sorted all z (IsPermutation-sym all sorted moved) k)) in
+    let back : (z : ℕ) → IsIn z (ascending_set all) → IsIn z kept = λ z h.
+    let In : List ℕ → Type 0 = λ xs. IsIn z xs in
+    let k : Contains sorted z = Contains-permutation all sorted z moved (IsIn-place z all (IsIn-from_in_order_once ltb z all h)) in
+    subst In (sym is) (IsIn-contained z (dedup eqb sorted) (Contains-dedup_nat sorted z k)) in
+    once ∙ same_from_members numbers_in_order kept (ascending_set all) strict (IsInOrder-in_order_once numbers_in_order all) forth back
+
+map-append : {X Y : Type 0} (f : X → Y) (xs ys : List X) → map f (xs ++ ys) ≡ map f xs ++ map f ys
+map-append f [] ys = refl
+map-append f (x ∷ xs) ys = ap (λ zs. f x ∷ zs) (map-append f xs ys)
+
+append_none : {X : Type 0} (xs : List X) → xs ++ [] ≡ xs
+append_none [] = refl
+append_none (x ∷ xs) = ap (λ zs. x ∷ zs) (append_none xs)
+
+-- the files of uses are the files
+files_back : (id : ℕ) (a : Holder) (files : List ℕ) → map (λ (u : Use). u.file) (map (λ f. record { id = id; holder = a; file = f }) files) ≡ files
+files_back id a [] = refl
+files_back id a (f ∷ files) = ap (λ zs. f ∷ zs) (files_back id a files)
+
+files_of_acks : (id : ℕ) (acks : List Acked) → map (λ (u : Use). u.file) (flat_map (λ a. map (λ f. record { id = id; holder = Subtask a.subtask; file = f }) a.files) acks) ≡ flat_map (λ a. a.files) acks
+files_of_acks id [] = refl
+files_of_acks id (a ∷ acks) =
+    let here : List Use = map (λ f. record { id = id; holder = Subtask a.subtask; file = f }) a.files in
+    let later : List Use = flat_map (λ a. map (λ f. record { id = id; holder = Subtask a.subtask; file = f }) a.files) acks in
+    map-append (λ (u : Use). u.file) here later ∙ ap (λ zs. zs ++ map (λ (u : Use). u.file) later) (files_back id (Subtask a.subtask) a.files) ∙ ap (λ zs. a.files ++ zs) (files_of_acks id acks)
+
+-- what a record without pins uses
+pub files_of_uses : (r : Record) → r.pins ≡ [] → map (λ u. u.file) (uses (r ∷ [])) ≡ flat_map (λ a. a.files) r.acks
+files_of_uses r none =
+    let acked : List Use = flat_map (λ a. map (λ f. record { id = r.id; holder = Subtask a.subtask; file = f }) a.files) r.acks in
+    let file : Use → ℕ = λ u. u.file in
+    let pinned : List ℕ → List Use = λ pins. map (λ f. record { id = r.id; holder = Pin; file = f }) pins in
+    ap (map file) (append_none (acked ++ pinned r.pins) ∙ ap (λ pins. acked ++ pinned pins) none ∙ append_none acked) ∙ files_of_acks r.id r.acks
+
+-- the files of a map's values
+pub files_of_values : (entries : List (SubtaskId × List ℕ)) → concat (values_of entries) ≡ flat_map (λ a. a.files) (acks_of entries)
+files_of_values [] = refl
+files_of_values (e ∷ es) = ap (λ zs. e.1 ++ zs) (files_of_values es)

@@ -1,0 +1,54 @@
+-- A record is full exactly where no subtask is missing.
+use Rattle.std.proofs.Common.{◌≡◌, suc, ◌+◌, Bool, true, false, not, List, [], ◌∷◌, map, length, refl, sym, ap, subst, ◌∙◌, ⊎_elim, arith}
+use Rattle.std.specs.Prelude.{count_by}
+use Rattle.std.proofs.lemmas.Bool.{cases_Bool, both_ways}
+use Rattle.ckpt_ids.specs.declared.subtask.SubtaskId.{SubtaskId}
+use Rattle.ckpt_ids.specs.declared.ack.Acked.{Acked}
+use Rattle.ckpt_ids.specs.Ordered.{IsIn}
+use Rattle.ckpt_ids.specs.Acknowledged.{is_before, acknowledges_before}
+use Rattle.ckpt_ids.specs.Shapes.{subtasks, same_subtask}
+use Rattle.ckpt_ids.specs.Records.{Record, missing, has_acknowledged, IsFull}
+use Rattle.ckpt_ids.proofs.OrderLemmas.{subtasks_in_order, same_subtask-Decides}
+use Rattle.ckpt_ids.proofs.OrderedLemmas.{same_from_members, IsInOrder-map, IsIn-map, IsIn-from_map, IsIn-from_list_any, list_any-from_IsIn}
+use Rattle.ckpt_pending.specs.Acknowledging.{IsPending}
+use Rattle.ckpt_pending.proofs.SubtaskLemmas.{IsInOrder-subtasks, IsIn-subtasks, none_counted, count_by_none, count_by-cons, one_if}
+
+-- a subtask of a full record has acknowledged
+IsIn-acknowledged : (r : Record) (s : SubtaskId) → has_acknowledged r s ≡ true → IsIn s (map (λ a. a.subtask) r.acks)
+IsIn-acknowledged r s h =
+    let q = IsIn-from_list_any (λ (a : Acked). same_subtask s a.subtask) r.acks h in
+    let e : s ≡ q.0.subtask = (same_subtask-Decides s q.0.subtask).0 q.2 in
+    let P : SubtaskId → Type 0 = λ w. IsIn w (map (λ a. a.subtask) r.acks) in
+    subst P (sym e) (IsIn-map (λ (a : Acked). a.subtask) q.0 r.acks q.1)
+
+pub full_from_missing : (r : Record) → IsPending r → missing r ≡ 0 → IsFull r
+full_from_missing r p none =
+    let forth : (s : SubtaskId) → IsIn s (map (λ a. a.subtask) r.acks) → IsIn s (subtasks r.shape) = λ s h.
+    let q = IsIn-from_map (λ (a : Acked). a.subtask) s r.acks h in
+    let P : SubtaskId → Type 0 = λ w. IsIn w (subtasks r.shape) in
+    subst P (sym q.2) (IsIn-subtasks r.shape q.0.subtask (p.expected q.0 q.1)) in
+    let back : (s : SubtaskId) → IsIn s (subtasks r.shape) → IsIn s (map (λ a. a.subtask) r.acks) = λ s h.
+    let not_missing : not (has_acknowledged r s) ≡ false = none_counted (λ t. not (has_acknowledged r t)) s (subtasks r.shape) none h in
+    let there : has_acknowledged r s ≡ true = ⊎_elim (λ (e : has_acknowledged r s ≡ true). e) (λ (e : has_acknowledged r s ≡ false). absurd (both_ways (not (has_acknowledged r s)) not_missing (ap not e))) (cases_Bool (has_acknowledged r s)) in
+    IsIn-acknowledged r s there in
+    same_from_members subtasks_in_order (map (λ a. a.subtask) r.acks) (subtasks r.shape) (IsInOrder-map acknowledges_before is_before (λ (a : Acked). a.subtask) r.acks (λ x y h. h) p.in_order) (IsInOrder-subtasks r.shape) forth back
+
+-- the converse
+pub missing_from_full : (r : Record) → IsFull r → missing r ≡ 0
+missing_from_full r full =
+    count_by_none (λ s. not (has_acknowledged r s)) (subtasks r.shape)
+    (λ s h.
+    let P : List SubtaskId → Type 0 = λ xs. IsIn s xs in
+    let q = IsIn-from_map (λ (a : Acked). a.subtask) s r.acks (subst P (sym full) h) in
+    let same : same_subtask s q.0.subtask ≡ true = (same_subtask-Decides s q.0.subtask).1 q.2 in
+    ap not (list_any-from_IsIn (λ (a : Acked). same_subtask s a.subtask) q.0 r.acks q.1 same))
+
+-- all are missing at first
+pub count_by_all : {X : Type 0} (p : X → Bool) (xs : List X) → ((x : X) → p x ≡ true) → count_by p xs ≡ length xs
+count_by_all p [] f = refl
+count_by_all p (x ∷ xs) f =
+    let rest : count_by p xs ≡ length xs = count_by_all p xs f in
+    let here : one_if (p x) ≡ 1 = ap one_if (f x) in
+    let all : count_by p (x ∷ xs) ≡ one_if (p x) + count_by p xs = count_by-cons p x xs in
+    let more : one_if (p x) + count_by p xs ≡ suc (length xs) = omega arith in
+    all ∙ more

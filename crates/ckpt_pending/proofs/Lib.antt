@@ -1,0 +1,5 @@
+pub mod AckLemmas
+pub mod FileLemmas
+pub mod FullLemmas
+pub mod PendingLemmas
+pub mod SubtaskLemmas

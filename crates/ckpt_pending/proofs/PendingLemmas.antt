@@ -1,0 +1,100 @@
+-- A pending record stays one, with its count, through each change.
+use Rattle.std.proofs.Common.{◌≡◌, ℕ, ◌+◌, ◌-◌, ◌≤◌, Bool, true, false, not, cond, List, [], ◌∷◌, sum, length, refl, sym, ap, subst, ◌∙◌, inl, inr, ⊎_elim, arith}
+use Rattle.std.proofs.lemmas.List.Sums.{count_by-le-length}
+use Rattle.std.proofs.lemmas.Bool.{cases_Bool, both_ways}
+use Rattle.ckpt_ids.specs.declared.subtask.SubtaskId.{SubtaskId}
+use Rattle.ckpt_ids.specs.declared.numbers.Kind.{Kind}
+use Rattle.ckpt_ids.specs.declared.ack.Acked.{Acked}
+use Rattle.ckpt_ids.specs.Ordered.{IsIn, IsInOrder, put}
+use Rattle.ckpt_ids.specs.Acknowledged.{acknowledges_before, AreInSubtaskOrder, put_ack}
+use Rattle.ckpt_ids.specs.Shapes.{IsShape, subtasks, is_subtask, same_subtask}
+use Rattle.ckpt_ids.specs.Records.{Record, missing, has_acknowledged}
+use Rattle.ckpt_ids.proofs.OrderLemmas.{subtasks_in_order, same_subtask-Decides}
+use Rattle.ckpt_ids.proofs.OrderedLemmas.{ComesBefore-at, ComesBefore-from, IsIn-put_cases, IsIn-from_filter, IsInOrder-filter, IsIn-from_list_any, list_any-from_IsIn}
+use Rattle.ckpt_ids.proofs.ShapeLemmas.{length-subtasks_from}
+use Rattle.ckpt_pending.specs.Acknowledging.{pending_record, without_ack, IsPending, IsDone, IsCounted}
+use Rattle.ckpt_pending.proofs.AckLemmas.{acked, missing-put, missing-without, without_put}
+use Rattle.ckpt_pending.proofs.FullLemmas.{count_by_all, full_from_missing}
+
+pub IsCounted-new : (id : ℕ) (kind : Kind) (shape : List ℕ) (started count : ℕ) → IsShape shape → count ≡ length (subtasks shape) → IsCounted (pending_record id kind shape started []) count
+IsCounted-new id kind shape started count h e = record {
+  pending = record { not_done = refl; no_pins = refl; has_shape = h; in_order = tt; expected = λ a k. absurd k };
+  counted = e ∙ sym (count_by_all (λ s. true) (subtasks shape) (λ s. refl));
+}
+
+-- where x comes before each that does not come before it
+pub IsInOrder-put_between : {X : Type 0} (before : X → X → Bool) → ((x y z : X) → before x y ≡ true → before y z ≡ true → before x z ≡ true) → (x : X) (xs : List X) → ((y : X) → IsIn y xs → before y x ≡ false → before x y ≡ true) → IsInOrder before xs → IsInOrder before (put before x xs)
+IsInOrder-put_between before transitive x [] turns a = (tt, tt)
+IsInOrder-put_between {X} before transitive x (y ∷ xs) turns a =
+    let P : Bool → Type 0 = λ b. IsInOrder before (cond b (y ∷ put before x xs) (x ∷ y ∷ xs)) in
+    let later : before y x ≡ true → P (before y x) = λ (e : before y x ≡ true).
+    let first : (z : X) → IsIn z (put before x xs) → before y z ≡ true = λ z h. ⊎_elim (λ (k : z ≡ x). ap (before y) k ∙ e) (λ (k : IsIn z xs). ComesBefore-at before y z xs a.0 k) (IsIn-put_cases before x z xs h) in
+    subst P (sym e) (ComesBefore-from before y (put before x xs) first, IsInOrder-put_between before transitive x xs (λ z h. turns z (inr h)) a.1) in
+    let here : before y x ≡ false → P (before y x) = λ (e : before y x ≡ false).
+    let xy : before x y ≡ true = turns y (inl refl) e in
+    subst P (sym e) ((xy, ComesBefore-from before x xs (λ z h. transitive x y z xy (ComesBefore-at before y z xs a.0 h))), a) in
+    ⊎_elim later here (cases_Bool (before y x))
+
+other_subtask : (s : SubtaskId) (a : Acked) (acks : List Acked) → acked acks s ≡ false → IsIn a acks → s ≡ a.subtask → ⊥
+other_subtask s a acks h k e = both_ways (acked acks s) h (list_any-from_IsIn (λ (b : Acked). same_subtask s b.subtask) a acks k ((same_subtask-Decides s a.subtask).1 e))
+
+AreInSubtaskOrder-put : (one : Acked) (acks : List Acked) → acked acks one.subtask ≡ false → AreInSubtaskOrder acks → AreInSubtaskOrder (put_ack one acks)
+AreInSubtaskOrder-put one acks h a =
+    let turns : (b : Acked) → IsIn b acks → acknowledges_before b one ≡ false → acknowledges_before one b ≡ true = λ b k e.
+    ⊎_elim (λ (t : acknowledges_before one b ≡ true). t) (λ (t : acknowledges_before one b ≡ false). absurd (other_subtask one.subtask b acks h k (subtasks_in_order.total one.subtask b.subtask t e))) (cases_Bool (acknowledges_before one b)) in
+    IsInOrder-put_between acknowledges_before (λ x y z. subtasks_in_order.transitive x.subtask y.subtask z.subtask) one acks turns a
+
+-- the record with one acknowledgement more
+abbrev pub with_ack : SubtaskId → List ℕ → Record → Record
+with_ack s files r = record r { acks = put_ack (record { subtask = s; files = files }) r.acks }
+
+pub IsPending-put : (r : Record) (s : SubtaskId) (files : List ℕ) → IsPending r → is_subtask r.shape s ≡ true → has_acknowledged r s ≡ false → IsPending (with_ack s files r)
+IsPending-put r s files p h k =
+    let one : Acked = record { subtask = s; files = files } in
+    let expected : (a : Acked) → IsIn a (put_ack one r.acks) → is_subtask r.shape a.subtask ≡ true = λ a there.
+    ⊎_elim (λ (e : a ≡ one). ap (λ (b : Acked). is_subtask r.shape b.subtask) e ∙ h) (λ (m : IsIn a r.acks). p.expected a m) (IsIn-put_cases acknowledges_before one a r.acks there) in
+    record { not_done = p.not_done; no_pins = p.no_pins; has_shape = p.has_shape; in_order = AreInSubtaskOrder-put one r.acks k p.in_order; expected = expected }
+
+pub missing-with_ack : (r : Record) (s : SubtaskId) (files : List ℕ) → is_subtask r.shape s ≡ true → has_acknowledged r s ≡ false → missing (with_ack s files r) + 1 ≡ missing r
+missing-with_ack r s files h k = missing-put r.shape s files r.acks h k
+
+pub without-with_ack : (r : Record) (s : SubtaskId) (files : List ℕ) → has_acknowledged r s ≡ false → without_ack s (with_ack s files r) ≡ r
+without-with_ack r s files h = let make : List Acked → Record = λ acks. record r { acks = acks } in ap make (without_put s files r.acks h)
+
+pub IsCounted-put : (r : Record) (s : SubtaskId) (files : List ℕ) (count : ℕ) → IsCounted r count → is_subtask r.shape s ≡ true → has_acknowledged r s ≡ false → IsCounted (with_ack s files r) (count - 1)
+IsCounted-put r s files count c h k =
+    let less : missing (with_ack s files r) + 1 ≡ missing r = missing-with_ack r s files h k in
+    let same : count ≡ missing r = c.counted in
+    record { pending = IsPending-put r s files c.pending h k; counted = omega arith }
+
+-- and with one less
+pub IsPending-without : (r : Record) (s : SubtaskId) → IsPending r → IsPending (without_ack s r)
+IsPending-without r s p =
+    let keep : Acked → Bool = λ a. not (same_subtask s a.subtask) in
+    record { not_done = p.not_done; no_pins = p.no_pins; has_shape = p.has_shape; in_order = IsInOrder-filter acknowledges_before keep r.acks p.in_order; expected = λ a h. p.expected a (IsIn-from_filter keep a r.acks h).0 }
+
+-- a subtask that has acknowledged is one of the shape
+pub expected_acknowledged : (r : Record) (s : SubtaskId) → IsPending r → has_acknowledged r s ≡ true → is_subtask r.shape s ≡ true
+expected_acknowledged r s p h =
+    let q = IsIn-from_list_any (λ (a : Acked). same_subtask s a.subtask) r.acks h in
+    ap (is_subtask r.shape) ((same_subtask-Decides s q.0.subtask).0 q.2) ∙ p.expected q.0 q.1
+
+pub missing-without_ack : (r : Record) (s : SubtaskId) → IsPending r → has_acknowledged r s ≡ true → missing r + 1 ≡ missing (without_ack s r)
+missing-without_ack r s p h = missing-without r.shape s r.acks (expected_acknowledged r s p h) h
+
+pub IsCounted-without : (r : Record) (s : SubtaskId) (count : ℕ) → IsCounted r count → has_acknowledged r s ≡ true → IsCounted (without_ack s r) (count + 1)
+IsCounted-without r s count c h =
+    let more : missing r + 1 ≡ missing (without_ack s r) = missing-without_ack r s c.pending h in
+    let same : count ≡ missing r = c.counted in
+    record { pending = IsPending-without r s c.pending; counted = omega arith }
+
+-- no more are missing than there are
+pub missing_bound : (r : Record) → IsPending r → missing r ≤ 4096
+missing_bound r p =
+    let all : missing r ≤ length (subtasks r.shape) = count_by-le-length (λ s. not (has_acknowledged r s)) (subtasks r.shape) in
+    let size : length (subtasks r.shape) ≡ sum r.shape = length-subtasks_from 0 r.shape in
+    let limit : sum r.shape ≤ 4096 = p.has_shape.size_to in
+    omega arith
+
+pub IsDone-from_pending : (r : Record) → IsPending r → missing r ≡ 0 → IsDone (record r { done = true })
+IsDone-from_pending r p none = record { is_done = refl; no_pins = p.no_pins; has_shape = p.has_shape; in_order = p.in_order; full = full_from_missing r p none }

@@ -1,0 +1,13 @@
+use Rattle.std.proofs.Common.{◌≡◌, ◌∙◌, ◌∷◌, [], sym, ap, map}
+use Rattle.std.specs.List.{flat_map}
+use Rattle.std.proofs.lemmas.Result.{IfOk-weaker}
+use Rattle.ckpt_ids.specs.Ascending.{ascending_set}
+use Rattle.ckpt_ids.specs.Records.{uses}
+use Rattle.ckpt_pending.proofs.FileLemmas.{files_of_uses}
+use Rattle.ckpt_pending.proofs.done.Done.files.Goals as goal
+
+pub returns : goal.returns
+returns c =
+    let same : map (λ u. u.file) (uses (c.args.self.now ∷ [])) ≡ flat_map (λ a. a.files) c.args.self.now.acks = files_of_uses c.args.self.now (rw (← c.self.view_is) c.self.invariant.no_pins) in
+    let inside : flat_map (λ a. a.files) c.self.inside.record.acks ≡ flat_map (λ a. a.files) c.args.self.now.acks = ap (λ r. flat_map (λ a. a.files) r.acks) c.self.view_is in
+    IfOk-weaker c.files.result _ _ (λ files (h : files ≡ ascending_set (flat_map (λ a. a.files) c.self.inside.record.acks)). h ∙ ap ascending_set (inside ∙ sym same)) c.files.ensures

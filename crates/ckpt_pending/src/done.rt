@@ -1,0 +1,72 @@
+ghost use Rattle.std.specs.Prelude.{◌≡◌, ◌∷◌, [], true, map, IfOk};
+ghost use Rattle.ckpt_ids.specs.Ascending.{ascending_set};
+ghost use Rattle.ckpt_ids.specs.Records.{Record, missing, metadata_of, uses};
+ghost use Rattle.ckpt_pending.specs.Acknowledging.{IsDone, IsPending};
+
+use crate::pending::Pending;
+use ckpt_ids::{CheckpointId, Files, Kind, Metadata};
+use std::alloc::AllocError;
+use std::marker::Model;
+
+/// A checkpoint or savepoint that all subtasks of its shape have acknowledged, each once.
+///
+/// Only [`Pending::finish`] makes one.
+#[derive(Debug, Drop)]
+pub struct Done {
+    record: Pending,
+}
+
+impl Model for Done {
+    ghost use Rattle.std.specs.Prelude.{true};
+    ghost use Rattle.ckpt_ids.specs.Records.{Record};
+    ghost use Rattle.ckpt_pending.specs.Acknowledging.{IsDone};
+
+    ghost Value = { Record };
+
+    ghost view = { λ d. record d.record { done = true } };
+
+    ghost invariant = { λ d. IsDone (record d.record { done = true }) };
+}
+
+impl Done {
+    /// The record, none of whose subtasks is missing. Takes no memory.
+    pub(crate) fn of(full: Pending) -> Done
+        requires pending { IsPending full }
+        requires none_missing { missing full ≡ 0 }
+        ensures { result ≡ record full { done = true } }
+    {
+        Done { record: full }
+    }
+
+    /// The record's number.
+    pub fn id(&self) -> CheckpointId
+        ensures value { result ≡ self.now.id }
+        ensures done { IsDone self.now }
+    {
+        self.record.id()
+    }
+
+    /// Whether the record is a checkpoint or a savepoint.
+    pub fn kind(&self) -> Kind
+        ensures { result ≡ self.now.kind }
+    {
+        self.record.kind()
+    }
+
+    /// What is known of the record. Fails only for want of memory.
+    pub fn metadata(&self) -> Result<Metadata, AllocError>
+        ensures { IfOk result (λ metadata. metadata ≡ metadata_of self.now) }
+    {
+        let mut metadata = self.record.metadata()?;
+        metadata.done = true;
+        Ok(metadata)
+    }
+
+    /// All files that the subtasks acknowledged, in ascending order, each once. Fails only for
+    /// want of memory.
+    pub fn files(&self) -> Result<Files, AllocError>
+        ensures { IfOk result (λ files. files ≡ ascending_set (map (λ u. u.file) (uses (self.now ∷ [])))) }
+    {
+        self.record.files()
+    }
+}

@@ -1,0 +1,224 @@
+ghost use Rattle.std.specs.Prelude.{◌≡◌, ◌+◌, ◌↔◌, ◌<◌, Bool, true, false, not, [], filter, Ok, Err, IfOk, IfErr, OnOk, OnErr, IsOk, IsErr};
+ghost use Rattle.std.specs.List.{flat_map};
+ghost use Rattle.ckpt_ids.specs.Acknowledged.{put_ack};
+ghost use Rattle.ckpt_ids.specs.Ascending.{ascending_set};
+ghost use Rattle.ckpt_ids.specs.Records.{Record, has_acknowledged, missing, metadata_of};
+ghost use Rattle.ckpt_ids.specs.Shapes.{is_subtask, same_subtask};
+ghost use Rattle.ckpt_pending.specs.Acknowledging.{IsPending, acks_of, without_ack};
+
+use crate::done::Done;
+use ckpt_ids::{Acked, Acks, CheckpointId, FileId, Files, Kind, Metadata, Shape, SubtaskId};
+use std::alloc::{AllocError, Global};
+use std::collections::BTreeMap;
+use std::marker::Model;
+use thiserror::Error;
+
+/// Why an acknowledgement was not taken. They are tested in this order.
+#[derive(Clone, Copy, Debug, PartialEq, Eq, Error)]
+pub enum AckFault {
+    #[error("the record has no such subtask")]
+    UnknownSubtask,
+    #[error("the subtask has acknowledged already")]
+    AlreadyAcknowledged,
+    #[error("out of memory")]
+    Memory,
+}
+
+/// A checkpoint or savepoint that some subtasks may not have acknowledged yet.
+///
+/// Source of the rule: the Flink documentation, "Checkpoints", and Carbone et al. 2015: a snapshot
+/// is complete when each task has taken its part.
+#[derive(Debug, Drop)]
+pub struct Pending {
+    id: CheckpointId,
+    kind: Kind,
+    shape: Shape,
+    started: u64,
+    acks: BTreeMap<SubtaskId, Files>,
+    missing: u32,
+    alloc: Global,
+}
+
+impl Model for Pending {
+    ghost use Rattle.ckpt_ids.specs.Records.{Record};
+    ghost use Rattle.ckpt_pending.specs.Acknowledging.{pending_record, IsCounted};
+
+    ghost Value = { Record };
+
+    ghost view = { λ p. pending_record p.id p.kind p.shape p.started p.acks.entries };
+
+    ghost invariant = { λ p. IsCounted (pending_record p.id p.kind p.shape p.started p.acks.entries) p.missing };
+}
+
+impl Pending {
+    /// A record of this number and kind that was triggered at the moment `started`, in
+    /// milliseconds, and that no subtask has acknowledged. Takes no memory.
+    pub fn new(alloc: Global, id: CheckpointId, kind: Kind, shape: Shape, started: u64) -> Pending
+        ensures { result ≡ record { id = id; kind = kind; done = false; shape = shape; started = started; acks = []; pins = [] } }
+    {
+        let missing = shape.size();
+        Pending {
+            id,
+            kind,
+            shape,
+            started,
+            acks: BTreeMap::new(alloc),
+            missing,
+            alloc,
+        }
+    }
+
+    /// Takes the acknowledgement of a subtask, with all files of its part.
+    ///
+    /// Answers [`AckFault::UnknownSubtask`] exactly where the shape has no such subtask, then
+    /// [`AckFault::AlreadyAcknowledged`] exactly where it has acknowledged, and else
+    /// [`AckFault::Memory`] where memory runs out. After an error the record is as before.
+    pub fn ack(&mut self, subtask: SubtaskId, files: Files) -> Result<(), AckFault>
+        ensures unknown { (result ≡ Err AckFault.UnknownSubtask) ↔ (is_subtask self.old.shape subtask ≡ false) }
+        ensures already { (result ≡ Err AckFault.AlreadyAcknowledged) ↔ ((is_subtask self.old.shape subtask ≡ true) × (has_acknowledged self.old subtask ≡ true)) }
+        ensures ok { OnOk result (self.new ≡ record self.old { acks = put_ack (record { subtask = subtask; files = files }) self.old.acks }) }
+        ensures one_less { OnOk result (missing self.new + 1 ≡ missing self.old) }
+        ensures undone_by_retract { OnOk result (without_ack subtask self.new ≡ self.old) }
+        ensures err { OnErr result (self.new ≡ self.old) }
+    {
+        if !self.shape.contains(subtask) {
+            return Err(AckFault::UnknownSubtask);
+        }
+        if self.acks.contains_key(&subtask) {
+            return Err(AckFault::AlreadyAcknowledged);
+        }
+        if self.acks.insert(subtask, files).is_err() {
+            return Err(AckFault::Memory);
+        }
+        self.missing -= 1;
+        Ok(())
+    }
+
+    /// Takes back the acknowledgement of this subtask, which has acknowledged. Takes no memory.
+    pub fn retract(&mut self, subtask: SubtaskId)
+        requires { has_acknowledged self.old subtask ≡ true }
+        ensures value { self.new ≡ without_ack subtask self.old }
+        ensures one_more { missing self.new ≡ missing self.old + 1 }
+    {
+        self.acks.remove(&subtask);
+        self.missing += 1;
+    }
+
+    /// Whether the record's shape has this subtask.
+    pub fn expects(&self, subtask: SubtaskId) -> bool
+        ensures { result ≡ is_subtask self.now.shape subtask }
+    {
+        self.shape.contains(subtask)
+    }
+
+    /// Whether this subtask has acknowledged.
+    pub fn has(&self, subtask: SubtaskId) -> bool
+        ensures { result ≡ has_acknowledged self.now subtask }
+    {
+        self.acks.contains_key(&subtask)
+    }
+
+    /// How many subtasks have not acknowledged, at most 4096.
+    pub fn missing(&self) -> u32
+        ensures value { result ≡ missing self.now }
+        ensures pending { IsPending self.now }
+    {
+        self.missing
+    }
+
+    /// The record's number.
+    pub fn id(&self) -> CheckpointId
+        ensures value { result ≡ self.now.id }
+        ensures pending { IsPending self.now }
+    {
+        self.id
+    }
+
+    /// Whether the record is a checkpoint or a savepoint.
+    pub fn kind(&self) -> Kind
+        ensures { result ≡ self.now.kind }
+    {
+        self.kind
+    }
+
+    /// The moment of the trigger, in milliseconds.
+    pub fn started(&self) -> u64
+        ensures { result ≡ self.now.started }
+    {
+        self.started
+    }
+
+    /// The shape that the job had when the record was triggered.
+    pub fn shape(&self) -> &Shape
+        ensures { result.now ≡ self.now.shape }
+    {
+        &self.shape
+    }
+
+    /// What is known of the record. Fails only for want of memory.
+    pub fn metadata(&self) -> Result<Metadata, AllocError>
+        ensures { IfOk result (λ metadata. metadata ≡ metadata_of self.now) }
+    {
+        let acks = copies(self.alloc, &self.acks)?;
+        let shape = self.shape.copy()?;
+        Ok(Metadata {
+            id: self.id,
+            kind: self.kind,
+            done: false,
+            shape,
+            started: self.started,
+            acks: Acks::of(acks),
+        })
+    }
+
+    /// The files of all acknowledgements, in ascending order, each once. Fails only for want of
+    /// memory.
+    pub(crate) fn files(&self) -> Result<Files, AllocError>
+        ensures { IfOk result (λ files. files ≡ ascending_set (flat_map (λ a. a.files) self.now.acks)) }
+    {
+        let mut all = all_files(self.alloc, &self.acks)?;
+        all.sort_unstable();
+        all.dedup();
+        Ok(Files::of(all))
+    }
+
+    /// The complete record, or this one again where a subtask is missing. Takes no memory.
+    pub fn finish(self) -> Result<Done, Pending>
+        ensures complete { IsOk result ↔ (missing self ≡ 0) }
+        ensures missing { IsErr result ↔ (0 < missing self) }
+        ensures done { IfOk result (λ done. done ≡ record self { done = true }) }
+        ensures pending { IfErr result (λ pending. pending ≡ self) }
+    {
+        if self.missing == 0 {
+            Ok(Done::of(self))
+        } else {
+            Err(self)
+        }
+    }
+}
+
+fn copies(alloc: Global, acks: &BTreeMap<SubtaskId, Files>) -> Result<Vec<Acked>, AllocError>
+    ensures { IfOk result (λ copies. copies.items ≡ acks_of acks.now.entries) }
+{
+    let mut copies = Vec::with_capacity(alloc, acks.len())?;
+    for (subtask, files) in acks {
+        let files = files.copy()?;
+        copies
+            .push(Acked {
+                subtask: *subtask,
+                files,
+            })
+            .map_err(AllocError::from)?;
+    }
+    Ok(copies)
+}
+
+fn all_files(alloc: Global, acks: &BTreeMap<SubtaskId, Files>) -> Result<Vec<FileId>, AllocError>
+    ensures { IfOk result (λ all. all.items ≡ flat_map (λ a. a.files) (acks_of acks.now.entries)) }
+{
+    let mut all = Vec::new(alloc);
+    for files in acks.values() {
+        all.extend_from_slice(files.as_slice())?;
+    }
+    Ok(all)
+}

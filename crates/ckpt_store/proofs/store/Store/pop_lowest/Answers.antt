@@ -1,0 +1,5 @@
+use Rattle.ckpt_store.proofs.StoreLemmas.{IsStored-drop}
+use Rattle.ckpt_store.proofs.store.Store.pop_lowest.Goals as goal
+
+pub invariant_of-self-2 : goal.invariant_of-self-2
+invariant_of-self-2 c = rw c.pop_front.ensures.rest (IsStored-drop _ _ c.self.invariant)

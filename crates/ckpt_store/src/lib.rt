@@ -1,0 +1,13 @@
+//! What a job can restart from: the completed checkpoints that are retained, its savepoints, and
+//! the savepoint that it was rolled back to.
+//!
+//! Begin with [`Store`]. It finds records by halves, and takes memory in [`Store::reserve`] alone.
+#![tactic(auto)]
+
+mod places;
+pub mod store;
+
+pub use store::{DisposeFault, Store};
+
+#[cfg(test)]
+mod tests;

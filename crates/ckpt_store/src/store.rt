@@ -1,0 +1,218 @@
+ghost use Rattle.std.specs.Prelude.{◌≡◌, ℕ, ◌+◌, ◌-◌, ◌^◌, ◌↔◌, ◌<◌, ◌≤◌, Bool, true, false, not, ◌==◌, [], ◌∷◌, ◌++◌, length, drop, filter, Ok, Err, Some, None, OnOk, OnErr};
+ghost use Rattle.std.specs.Option.{option_copied};
+ghost use Rattle.ckpt_ids.specs.declared.numbers.Kind.TheVariants as kind;
+ghost use Rattle.ckpt_ids.specs.Ordered.{put};
+ghost use Rattle.ckpt_store.specs.Storing.{Stored, IsStored, IsAbove, by_id, has_id, has_savepoint, retained_of, past_retained, lowest, choice_of, record_of};
+
+use crate::places::{place_in_queue, place_in_row};
+use ckpt_ids::{CheckpointId, Choice, Kind};
+use ckpt_pending::Done;
+use std::alloc::{AllocError, Global};
+use std::collections::VecDeque;
+use std::marker::Model;
+use thiserror::Error;
+
+/// Why a savepoint was not let go. They are tested in this order.
+#[derive(Clone, Copy, Debug, PartialEq, Eq, Error)]
+pub enum DisposeFault {
+    #[error("there is no such savepoint")]
+    NoSuchSavepoint,
+    #[error("the job was rolled back to this savepoint")]
+    InUse,
+}
+
+/// The completed checkpoints that are retained and the completed savepoints, by number, and the
+/// base: the savepoint that the job was rolled back to, until its next checkpoint completes.
+///
+/// Source of the rules: the Flink documentation, "Checkpoints", on retained checkpoints, and
+/// "Checkpoints vs. Savepoints"; the base is this project's own.
+#[derive(Debug, Drop)]
+pub struct Store {
+    retained: u32,
+    checkpoints: VecDeque<Done>,
+    savepoints: Vec<Done>,
+    base: Option<CheckpointId>,
+}
+
+impl Model for Store {
+    ghost use Rattle.std.specs.Prelude.{◌-◌, min};
+    ghost use Rattle.std.specs.Vec.{vec_len, vec_capacity};
+    ghost use Rattle.std.specs.VecDeque.{deque_len, deque_capacity};
+    ghost use Rattle.ckpt_store.specs.Storing.{Stored, IsStored};
+
+    ghost Value = { Stored };
+
+    ghost view = { λ s. record { retained = s.retained; checkpoints = s.checkpoints.items; savepoints = s.savepoints.items; base = s.base; spare = min (deque_capacity s.checkpoints - deque_len s.checkpoints) (vec_capacity s.savepoints - vec_len s.savepoints) } };
+
+    ghost invariant = { λ s. IsStored (record { retained = s.retained; checkpoints = s.checkpoints.items; savepoints = s.savepoints.items; base = s.base; spare = min (deque_capacity s.checkpoints - deque_len s.checkpoints) (vec_capacity s.savepoints - vec_len s.savepoints) }) };
+}
+
+impl Store {
+    /// An empty store, which will keep this many completed checkpoints. Takes no memory.
+    pub fn new(alloc: Global, retained: u32) -> Store
+        requires { 1 ≤ retained }
+        ensures { result ≡ record { retained = retained; checkpoints = []; savepoints = []; base = None; spare = result.spare } }
+    {
+        Store {
+            retained,
+            checkpoints: VecDeque::new(alloc),
+            savepoints: Vec::new(alloc),
+            base: None,
+        }
+    }
+
+    /// Makes room for one more checkpoint or savepoint. Fails only for want of memory.
+    pub fn reserve(&mut self) -> Result<(), AllocError>
+        ensures ok { OnOk result (1 ≤ self.new.spare) }
+        ensures kept { self.new ≡ record self.old { spare = self.new.spare } }
+        ensures room { self.old.spare ≤ self.new.spare }
+    {
+        self.checkpoints.reserve(1)?;
+        self.savepoints.reserve(1)
+    }
+
+    /// Takes a completed checkpoint, whose number is above those of all others. There is no base
+    /// from then on. Where there are now more checkpoints than are retained, the lowest goes, and
+    /// its number is answered. Takes no memory.
+    pub fn complete(&mut self, done: Done) -> Option<CheckpointId>
+        requires room { 1 ≤ self.old.spare }
+        requires checkpoint { done.kind ≡ kind.Checkpoint }
+        requires above { IsAbove self.old.checkpoints done.id }
+        ensures value { self.new ≡ record self.old { checkpoints = retained_of self.old.retained (self.old.checkpoints ++ done ∷ []); base = None; spare = self.new.spare } }
+        ensures dropped { result ≡ past_retained self.old.retained (self.old.checkpoints ++ done ∷ []) }
+        ensures room { self.old.spare ≤ self.new.spare + 1 }
+    {
+        // Its contract says that the record is done and full.
+        let _ = done.id();
+        self.clear_base();
+        let dropped = if self.checkpoints.len() < self.retained as usize {
+            None
+        } else {
+            self.checkpoints.pop_front()
+        };
+        self.checkpoints.push_back_reserved(done);
+        dropped.map(|done| done.id())
+    }
+
+    /// Takes a completed savepoint, whose number no other has. Takes no memory.
+    pub fn add_savepoint(&mut self, done: Done)
+        requires room { 1 ≤ self.old.spare }
+        requires savepoint { done.kind ≡ kind.Savepoint }
+        requires new { has_savepoint self.old done.id ≡ false }
+        requires few { length self.old.savepoints + 1 < 2 ^ 32 }
+        ensures value { self.new ≡ record self.old { savepoints = put by_id done self.old.savepoints; spare = self.new.spare } }
+        ensures room { self.old.spare ≤ self.new.spare + 1 }
+    {
+        let id = done.id();
+        let place = self.savepoints.partition_point(|other| other.id() < id);
+        let _ = self.savepoints.insert(place, done);
+    }
+
+    /// Lets a savepoint go. Takes no memory.
+    ///
+    /// Answers [`DisposeFault::NoSuchSavepoint`] exactly where no savepoint has this number, and
+    /// then [`DisposeFault::InUse`] exactly where it is the base. After an error the store is as
+    /// before.
+    pub fn dispose(&mut self, id: CheckpointId) -> Result<(), DisposeFault>
+        ensures absent { (result ≡ Err DisposeFault.NoSuchSavepoint) ↔ (has_savepoint self.old id ≡ false) }
+        ensures in_use { (result ≡ Err DisposeFault.InUse) ↔ ((has_savepoint self.old id ≡ true) × (self.old.base ≡ Some id)) }
+        ensures ok { OnOk result (self.new ≡ record self.old { savepoints = filter (λ r. not (r.id == id)) self.old.savepoints; spare = self.new.spare }) }
+        ensures err { OnErr result (self.new ≡ self.old) }
+        ensures room { self.old.spare ≤ self.new.spare }
+    {
+        let Ok(place) = place_in_row(&self.savepoints, id) else {
+            return Err(DisposeFault::NoSuchSavepoint);
+        };
+        if self.base == Some(id) {
+            return Err(DisposeFault::InUse);
+        }
+        self.savepoints.remove(place);
+        Ok(())
+    }
+
+    /// Whether a completed savepoint has this number.
+    pub fn has_savepoint(&self, id: CheckpointId) -> bool
+        ensures { result ≡ has_savepoint self.now id }
+    {
+        place_in_row(&self.savepoints, id).is_ok()
+    }
+
+    /// How many completed savepoints there are.
+    pub fn savepoints(&self) -> u32
+        ensures value { result ≡ length self.now.savepoints }
+        ensures stored { IsStored self.now }
+    {
+        self.savepoints.len() as u32
+    }
+
+    /// How many completed checkpoints are kept now.
+    pub fn checkpoints(&self) -> u32
+        ensures value { result ≡ length self.now.checkpoints }
+        ensures stored { IsStored self.now }
+    {
+        self.checkpoints.len() as u32
+    }
+
+    /// What the job would restart from: the greatest completed checkpoint, else the base, else
+    /// nothing. Takes constant time.
+    pub fn choice(&self) -> Choice
+        ensures value { result ≡ choice_of self.now }
+        ensures stored { IsStored self.now }
+    {
+        if let Some(done) = self.checkpoints.back() {
+            return Choice::Checkpoint(done.id());
+        }
+        match self.base {
+            Some(id) => Choice::Savepoint(id),
+            None => Choice::Fresh,
+        }
+    }
+
+    /// The job is rolled back to this savepoint.
+    pub fn set_base(&mut self, id: CheckpointId)
+        requires { has_savepoint self.old id ≡ true }
+        ensures { self.new ≡ record self.old { base = Some id } }
+    {
+        self.base = Some(id);
+    }
+
+    /// The job is no longer rolled back to a savepoint.
+    pub fn clear_base(&mut self)
+        ensures { self.new ≡ record self.old { base = None } }
+    {
+        self.base = None;
+    }
+
+    /// The savepoint that the job was rolled back to, if no checkpoint has completed since.
+    pub fn base(&self) -> Option<CheckpointId>
+        ensures value { result ≡ self.now.base }
+        ensures stored { IsStored self.now }
+    {
+        self.base
+    }
+
+    /// Lets the lowest completed checkpoint go, and answers its number. Takes no memory.
+    pub fn pop_lowest(&mut self) -> Option<CheckpointId>
+        ensures value { self.new ≡ record self.old { checkpoints = drop 1 self.old.checkpoints; spare = self.new.spare } }
+        ensures dropped { result ≡ lowest self.old.checkpoints }
+        ensures room { self.old.spare ≤ self.new.spare }
+    {
+        let done = self.checkpoints.pop_front()?;
+        Some(done.id())
+    }
+
+    /// The completed checkpoint of this number, else the completed savepoint. It is searched by
+    /// halves.
+    pub fn get(&self, id: CheckpointId) -> Option<&Done>
+        ensures value { option_copied result ≡ record_of self.now id }
+        ensures stored { IsStored self.now }
+    {
+        if let Ok(place) = place_in_queue(&self.checkpoints, id) {
+            return self.checkpoints.get(place);
+        }
+        match place_in_row(&self.savepoints, id) {
+            Ok(place) => self.savepoints.get(place),
+            Err(_) => None,
+        }
+    }
+}
