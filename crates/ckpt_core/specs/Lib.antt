@@ -1,6 +1,14 @@
+pub mod Completing
+pub mod Grouped
 pub mod Histories
+pub mod Laws
+pub mod Memory
+pub mod Opening
+pub mod Parts
+pub mod PendingRecords
 pub mod Refusals
 pub mod Soundness
+pub mod Starting
 pub mod State
 pub mod Steps
 pub mod WorkedExamples

@@ -1,6 +1,8 @@
 -- What holds of a coordinator's state at each moment: of the opening, and after each call.
-use Rattle.std.specs.Prelude.{◌≡◌, ◌≢◌, ℕ, ◌<◌, ◌≤◌, ◌^◌, Bool, true, false, not, ◌&&◌, nat_lt, List, [], ◌∷◌, ◌++◌, count_by, Some}
+use Rattle.std.specs.Prelude.{◌≡◌, ◌≢◌, ℕ, ◌<◌, ◌≤◌, ◌^◌, Bool, true, false, not, ◌&&◌, nat_lt, List, [], ◌∷◌, ◌++◌, count_by, Some, IfSome, ⊤}
 use Rattle.ckpt_ids.specs.declared.ack.Acked.{Acked}
+use Rattle.ckpt_ids.specs.declared.call.Call.{Call}
+use Rattle.ckpt_ids.specs.declared.call.Call.TheVariants.{Restore}
 use Rattle.ckpt_ids.specs.Acknowledged.{AreInSubtaskOrder}
 use Rattle.ckpt_ids.specs.Ascending.{IsAscendingSet}
 use Rattle.ckpt_ids.specs.Configuration.{IsWithinLimits}
@@ -60,3 +62,8 @@ pub record IsSound (m : State) : Type 0 where
   -- no file that waits for deletion or was fetched for it is in use, and none is there twice
   pub unused : (f : ℕ) → in_outbox m f ≡ true → is_present (uses m.records) f ≡ false
   pub apart : AreDistinct (m.waiting ++ m.taken)
+
+-- a call that can be made: the shape of a restore, where it brings one, is the shape of a job
+abbrev pub IsCall : Call → Type 0
+IsCall (Restore now target shape) = IfSome shape IsShape
+IsCall call = ⊤

@@ -1,11 +1,24 @@
 //! The checkpoint coordinator of one job, for one thread.
 //!
-//! `specs/` defines what the coordinator does: its state, which calls are refused, what each call
-//! does and answers, and what holds at each moment. Begin with `specs/State.antt` and
-//! `specs/Steps.antt`; `specs/WorkedExamples.antt` has lists of calls with their answers, which the
-//! definitions compute.
+//! [`Core`] is the coordinator: `Core::apply` makes one [`ckpt_ids::Call`], and answers exactly the
+//! step that `specs/Steps.antt` defines. `specs/State.antt` has the state of a coordinator,
+//! `specs/Refusals.antt` says which calls are refused, `specs/Soundness.antt` what holds at each
+//! moment, and [`laws`] what holds over all lists of calls. `specs/WorkedExamples.antt` has lists
+//! of calls with their answers, which the definitions compute.
 #![tactic(auto)]
 
+mod acks;
+mod coordinator;
+mod drops;
+mod endings;
+pub mod laws;
 pub mod mode;
+mod opening;
+mod parts;
+mod pending_records;
+mod reads;
+mod refusals;
+mod triggers;
 
+pub use coordinator::{Core, CoreFault, OpenFault};
 pub use mode::Mode;

@@ -1,0 +1,105 @@
+-- A record with one acknowledgement more, and a record that has all of them.
+use Rattle.std.proofs.Common.{◌≡◌, ℕ, Bool, true, false, not, cond, ltb, eqb, List, [], ◌∷◌, map, refl, sym, ap, subst, ◌∙◌, inl, inr, ⊎_elim, arith}
+use Rattle.std.proofs.lemmas.Bool.{cases_Bool, both_ways, not-false, eqb-false}
+use Rattle.ckpt_ids.specs.declared.subtask.SubtaskId.{SubtaskId}
+use Rattle.ckpt_ids.specs.declared.ack.Acked.{Acked}
+use Rattle.ckpt_ids.specs.Ordered.{IsIn, IsInOrder, put}
+use Rattle.ckpt_ids.specs.Acknowledged.{is_before, acknowledges_before, put_ack, AreInSubtaskOrder}
+use Rattle.ckpt_ids.specs.Ascending.{IsAscendingSet, ascending}
+use Rattle.ckpt_ids.specs.Records.{Record, missing, has_acknowledged, IsFull}
+use Rattle.ckpt_ids.specs.Shapes.{IsShape, subtasks, is_subtask, same_subtask}
+use Rattle.ckpt_ids.proofs.AscendingLemmas.{numbers_in_order}
+use Rattle.ckpt_ids.proofs.OrderLemmas.{subtasks_in_order, same_subtask-Decides}
+use Rattle.ckpt_ids.proofs.OrderedLemmas.{ComesBefore-at, ComesBefore-from, IsIn-put_cases, IsInOrder-put, IsIn-from_in_order, IsInOrder-map, IsIn-map, IsIn-from_map, IsIn-from_list_any, list_any-from_IsIn, same_from_members}
+use Rattle.ckpt_core.specs.Soundness.{IsRecord, AreDistinct}
+use Rattle.ckpt_core.specs.Steps.{acknowledged}
+use Rattle.ckpt_pending.proofs.SubtaskLemmas.{IsInOrder-subtasks, IsIn-subtasks, none_counted}
+
+-- put in its place among those that are all before it or behind it
+pub IsInOrder-put_apart : {X : Type 0} (before : X → X → Bool) (x : X) (xs : List X) → ((a b c : X) → before a b ≡ true → before b c ≡ true → before a c ≡ true) → ((y : X) → IsIn y xs → before y x ≡ false → before x y ≡ true) → IsInOrder before xs → IsInOrder before (put before x xs)
+IsInOrder-put_apart before x [] chain apart a = (tt, tt)
+IsInOrder-put_apart {X} before x (y ∷ xs) chain apart a =
+    let P : Bool → Type 0 = λ b. IsInOrder before (cond b (y ∷ put before x xs) (x ∷ y ∷ xs)) in
+    let behind : before y x ≡ true → P (before y x) = λ (e : before y x ≡ true).
+    let first : (z : X) → IsIn z (put before x xs) → before y z ≡ true = λ z h. ⊎_elim (λ (k : z ≡ x). ap (before y) k ∙ e) (λ (k : IsIn z xs). ComesBefore-at before y z xs a.0 k) (IsIn-put_cases before x z xs h) in
+    subst P (sym e) (ComesBefore-from before y (put before x xs) first, IsInOrder-put_apart before x xs chain (λ z h. apart z (inr h)) a.1) in
+    let here : before y x ≡ false → P (before y x) = λ (e : before y x ≡ false).
+    let xy : before x y ≡ true = apart y (inl refl) e in
+    subst P (sym e) ((xy, ComesBefore-from before x xs (λ z h. chain x y z xy (ComesBefore-at before y z xs a.0 h))), a) in
+    ⊎_elim behind here (cases_Bool (before y x))
+
+-- a subtask that has not acknowledged is that of no acknowledgement
+pub new_subtask : (r : Record) (s : SubtaskId) (a : Acked) → has_acknowledged r s ≡ false → IsIn a r.acks → s ≡ a.subtask → ⊥
+new_subtask r s a none h e = both_ways (has_acknowledged r s) none (list_any-from_IsIn (λ (b : Acked). same_subtask s b.subtask) a r.acks h ((same_subtask-Decides s a.subtask).1 e))
+
+-- one acknowledgement more, of a new subtask, in its place
+pub in_order-acknowledged : (r : Record) (a : Acked) → has_acknowledged r a.subtask ≡ false → AreInSubtaskOrder r.acks → AreInSubtaskOrder (put_ack a r.acks)
+in_order-acknowledged r a none order =
+    IsInOrder-put_apart acknowledges_before a r.acks
+    (λ x y z h k. subtasks_in_order.transitive x.subtask y.subtask z.subtask h k)
+    (λ y h e. ⊎_elim (λ (t : is_before a.subtask y.subtask ≡ true). t) (λ (t : is_before a.subtask y.subtask ≡ false). absurd (new_subtask r a.subtask y none h (subtasks_in_order.total a.subtask y.subtask t e))) (cases_Bool (is_before a.subtask y.subtask)))
+    order
+
+-- numbers of which none stands twice, in ascending order
+pub ascending-distinct : (xs : List ℕ) → AreDistinct xs → IsAscendingSet (ascending xs)
+ascending-distinct [] d = tt
+ascending-distinct (x ∷ xs) d = IsInOrder-put numbers_in_order x (ascending xs) (λ h. d.0 (IsIn-from_in_order ltb x xs h)) (ascending-distinct xs d.1)
+
+-- what holds of a record with one acknowledgement more, apart from what depends on whether it is done
+pub record IsAcknowledged (r : Record) : Type 0 where
+  pub acks_in_order : AreInSubtaskOrder r.acks
+  pub acks_of_subtasks : (a : Acked) → IsIn a r.acks → is_subtask r.shape a.subtask ≡ true
+  pub files : (a : Acked) → IsIn a r.acks → IsAscendingSet a.files
+
+-- an acknowledgement more, of a subtask that lacks it, with ascending files
+pub acknowledged_is : (r : Record) (s : SubtaskId) (files : List ℕ) → IsRecord r → is_subtask r.shape s ≡ true → has_acknowledged r s ≡ false → IsAscendingSet files → IsAcknowledged (acknowledged r s files)
+acknowledged_is r s files i of_shape none up =
+    let a : Acked = record { subtask = s; files = files } in
+    record {
+      acks_in_order = in_order-acknowledged r a none i.acks_in_order;
+      acks_of_subtasks = λ b h. ⊎_elim (λ (e : b ≡ a). ap (λ x. is_subtask r.shape x.subtask) e ∙ of_shape) (i.acks_of_subtasks b) (IsIn-put_cases acknowledges_before a b r.acks h);
+      files = λ b h. let P : Acked → Type 0 = λ x. IsAscendingSet x.files in ⊎_elim (λ (e : b ≡ a). subst P (sym e) up) (i.files b) (IsIn-put_cases acknowledges_before a b r.acks h);
+    }
+
+-- still pending
+pub acknowledged_pending : (r : Record) (s : SubtaskId) (files : List ℕ) → IsRecord r → r.done ≡ false → IsAcknowledged (acknowledged r s files) → eqb (missing (acknowledged r s files)) 0 ≡ false → IsRecord (acknowledged r s files)
+acknowledged_pending r s files i pending a lacks =
+    let some : missing (acknowledged r s files) ≡ 0 → ⊥ = eqb-false (missing (acknowledged r s files)) 0 lacks in
+    record {
+      shape = i.shape;
+      acks_in_order = a.acks_in_order;
+      acks_of_subtasks = a.acks_of_subtasks;
+      files = a.files;
+      pins = i.pins;
+      pending = λ _. omega arith;
+      full = λ e. absurd (both_ways r.done pending e);
+      unpinned = λ e. absurd (both_ways r.done pending e);
+    }
+
+-- a record that lacks none has one acknowledgement of each subtask
+pub full-from_none_missing : (r : Record) → IsAcknowledged r → missing r ≡ 0 → IsFull r
+full-from_none_missing r i none =
+    let of : Acked → SubtaskId = λ a. a.subtask in
+    let lacks : SubtaskId → Bool = λ t. not (has_acknowledged r t) in
+    let forth : (t : SubtaskId) → IsIn t (map of r.acks) → IsIn t (subtasks r.shape) = λ t h.
+    let q = IsIn-from_map of t r.acks h in
+    IsIn-subtasks r.shape t (ap (is_subtask r.shape) q.2 ∙ i.acks_of_subtasks q.0 q.1) in
+    let back : (t : SubtaskId) → IsIn t (subtasks r.shape) → IsIn t (map of r.acks) = λ t h.
+    let has : has_acknowledged r t ≡ true = not-false (has_acknowledged r t) (none_counted lacks t (subtasks r.shape) none h) in
+    let q = IsIn-from_list_any (λ (a : Acked). same_subtask t a.subtask) r.acks has in
+    let P : SubtaskId → Type 0 = λ u. IsIn u (map of r.acks) in
+    subst P (sym ((same_subtask-Decides t (q.0).subtask).0 q.2)) (IsIn-map of q.0 r.acks q.1) in
+    same_from_members subtasks_in_order (map of r.acks) (subtasks r.shape) (IsInOrder-map acknowledges_before is_before of r.acks (λ a b h. h) i.acks_in_order) (IsInOrder-subtasks r.shape) forth back
+
+-- done, with no pins
+pub completed_is : (r : Record) → IsRecord r → (a : Record) → a.shape ≡ r.shape → IsAcknowledged a → missing a ≡ 0 → IsRecord (record a { done = true; pins = [] })
+completed_is r i a same k none = record {
+  shape = subst IsShape (sym same) i.shape;
+  acks_in_order = k.acks_in_order;
+  acks_of_subtasks = k.acks_of_subtasks;
+  files = k.files;
+  pins = tt;
+  pending = λ e. absurd (both_ways true e refl);
+  full = λ _. full-from_none_missing a k none;
+  unpinned = λ _. refl;
+}

@@ -1,0 +1,133 @@
+-- Counting in lists by a test, and what a filtered and changed list has.
+use Rattle.std.proofs.Common.{◌≡◌, ℕ, suc, ◌+◌, ◌<◌, ◌≤◌, Bool, true, false, cond, List, [], ◌∷◌, ◌++◌, map, refl, sym, ap, subst, ◌∙◌, inl, inr, ⊎_elim, arith}
+use Rattle.std.specs.Prelude.{count_by, find, Option, Some, None}
+use Rattle.std.specs.List.{filter}
+use Rattle.std.proofs.lemmas.Bool.{cases_Bool}
+use Rattle.std.proofs.lemmas.List.Sums.{sum_by-append, sum_by-cons}
+use Rattle.ckpt_ids.specs.Ordered.{IsIn}
+use Rattle.ckpt_ids.proofs.OrderedLemmas.{IsIn-map, IsIn-from_map, IsIn-filter, IsIn-from_filter}
+
+-- one more element in front
+pub count_by-cons : {X : Type 0} (p : X → Bool) (x : X) (xs : List X) → count_by p (x ∷ xs) ≡ cond (p x) 1 0 + count_by p xs
+count_by-cons p x xs = sum_by-cons (λ y. cond (p y) 1 0) x xs
+
+-- an element that passes counts once
+pub count_by_yes : {X : Type 0} (p : X → Bool) (x : X) (xs : List X) → p x ≡ true → count_by p (x ∷ xs) ≡ suc (count_by p xs)
+count_by_yes p x xs e =
+    let one : Bool → ℕ = λ b. cond b 1 0 in
+    let here : one (p x) ≡ 1 = ap one e in
+    omega (arith, count_by-cons p x xs)
+
+-- one that fails does not count
+pub count_by_no : {X : Type 0} (p : X → Bool) (x : X) (xs : List X) → p x ≡ false → count_by p (x ∷ xs) ≡ count_by p xs
+count_by_no p x xs e =
+    let one : Bool → ℕ = λ b. cond b 1 0 in
+    let here : one (p x) ≡ 0 = ap one e in
+    omega (arith, count_by-cons p x xs)
+
+-- one more element adds at most one
+pub count_by_at_most_more : {X : Type 0} (p : X → Bool) (x : X) (xs : List X) → count_by p (x ∷ xs) ≤ suc (count_by p xs)
+count_by_at_most_more p x xs =
+    ⊎_elim
+    (λ (e : p x ≡ true). omega (arith, count_by_yes p x xs e))
+    (λ (e : p x ≡ false). omega (arith, count_by_no p x xs e))
+    (cases_Bool (p x))
+
+-- two lists together
+pub count_by-append : {X : Type 0} (p : X → Bool) (xs ys : List X) → count_by p (xs ++ ys) ≡ count_by p xs + count_by p ys
+count_by-append p xs ys = sum_by-append (λ x. cond (p x) 1 0) xs ys
+
+-- a test that passes where another does counts no less
+pub count_by-le : {X : Type 0} (p q : X → Bool) (xs : List X) → ((x : X) → IsIn x xs → p x ≡ true → q x ≡ true) → count_by p xs ≤ count_by q xs
+count_by-le p q [] f = omega arith
+count_by-le {X} p q (x ∷ xs) f =
+    let rest : count_by p xs ≤ count_by q xs = count_by-le p q xs (λ y h. f y (inr h)) in
+    let yes : p x ≡ true → count_by p (x ∷ xs) ≤ count_by q (x ∷ xs) = λ (e : p x ≡ true). omega (arith, count_by_yes p x xs e, count_by_yes q x xs (f x (inl refl) e)) in
+    let no : p x ≡ false → count_by p (x ∷ xs) ≤ count_by q (x ∷ xs) = λ (e : p x ≡ false). omega (arith, count_by_no p x xs e, count_by-cons q x xs) in
+    ⊎_elim yes no (cases_Bool (p x))
+
+-- of changed elements
+pub count_by-map : {X Y : Type 0} (p : Y → Bool) (f : X → Y) (xs : List X) → count_by p (map f xs) ≡ count_by (λ x. p (f x)) xs
+count_by-map p f [] = refl
+count_by-map {X} {Y} p f (x ∷ xs) =
+    let here : X → Bool = λ y. p (f y) in
+    omega (arith, count_by-cons p (f x) (map f xs), count_by-cons here x xs, count_by-map p f xs)
+
+-- of what a filter keeps and a change makes of it, no more pass than passed some test before
+pub count_by-changed : {X Y : Type 0} (t : Y → Bool) (s : X → Bool) (f : X → Y) (keep : X → Bool) (xs : List X) → ((x : X) → IsIn x xs → keep x ≡ true → t (f x) ≡ true → s x ≡ true) → count_by t (map f (filter keep xs)) ≤ count_by s xs
+count_by-changed t s f keep [] h = omega arith
+count_by-changed {X} {Y} t s f keep (x ∷ xs) h =
+    let rest : count_by t (map f (filter keep xs)) ≤ count_by s xs = count_by-changed t s f keep xs (λ y k. h y (inr k)) in
+    let Goal : Bool → Type 0 = λ b. count_by t (map f (cond b (x ∷ filter keep xs) (filter keep xs))) ≤ count_by s (x ∷ xs) in
+    let kept : keep x ≡ true → Goal (keep x) = λ (e : keep x ≡ true).
+    let passes : t (f x) ≡ true → Goal true = λ (p : t (f x) ≡ true). omega (arith, count_by_yes t (f x) (map f (filter keep xs)) p, count_by_yes s x xs (h x (inl refl) e p)) in
+    let fails : t (f x) ≡ false → Goal true = λ (p : t (f x) ≡ false). omega (arith, count_by_no t (f x) (map f (filter keep xs)) p, count_by-cons s x xs) in
+    subst Goal (sym e) (⊎_elim passes fails (cases_Bool (t (f x)))) in
+    let gone : keep x ≡ false → Goal (keep x) = λ (e : keep x ≡ false). let g : Goal false = omega (arith, count_by-cons s x xs) in subst Goal (sym e) g in
+    ⊎_elim kept gone (cases_Bool (keep x))
+
+-- where an element passes, the count is above 0
+pub counted-from_IsIn : {X : Type 0} (p : X → Bool) (x : X) (xs : List X) → IsIn x xs → p x ≡ true → 0 < count_by p xs
+counted-from_IsIn p x [] h e = absurd h
+counted-from_IsIn p x (y ∷ xs) (inl same) e = omega (arith, count_by_yes p y xs (ap p (sym same) ∙ e))
+counted-from_IsIn p x (y ∷ xs) (inr h) e = let rest : 0 < count_by p xs = counted-from_IsIn p x xs h e in omega (arith, count_by-cons p y xs)
+
+-- and the other way round
+pub IsIn-from_counted : {X : Type 0} (p : X → Bool) (xs : List X) → 0 < count_by p xs → (x : X) × IsIn x xs × (p x ≡ true)
+IsIn-from_counted p [] h = absurd (omega arith)
+IsIn-from_counted {X} p (x ∷ xs) h =
+    let Found : Type 0 = (y : X) × IsIn y (x ∷ xs) × (p y ≡ true) in
+    let here : p x ≡ true → Found = λ (e : p x ≡ true). (x, inl refl, e) in
+    let later : p x ≡ false → Found = λ (e : p x ≡ false). let rest : 0 < count_by p xs = omega (arith, count_by_no p x xs e) in let q = IsIn-from_counted p xs rest in (q.0, inr q.1, q.2) in
+    ⊎_elim here later (cases_Bool (p x))
+
+-- where an element comes from, that a filter kept and a change made
+pub IsIn-from_changed : {X Y : Type 0} (f : X → Y) (keep : X → Bool) (y : Y) (xs : List X) → IsIn y (map f (filter keep xs)) → (x : X) × IsIn x xs × (keep x ≡ true) × (y ≡ f x)
+IsIn-from_changed f keep y xs h =
+    let q = IsIn-from_map f y (filter keep xs) h in
+    let k = IsIn-from_filter keep q.0 xs q.1 in
+    (q.0, k.0, k.1, q.2)
+
+-- where it goes to
+pub IsIn-changed : {X Y : Type 0} (f : X → Y) (keep : X → Bool) (x : X) (xs : List X) → IsIn x xs → keep x ≡ true → IsIn (f x) (map f (filter keep xs))
+IsIn-changed f keep x xs h k = IsIn-map f x (filter keep xs) (IsIn-filter keep x xs h k)
+
+-- what `find` finds is in the list and passes
+pub IsIn-from_find : {X : Type 0} (p : X → Bool) (x : X) (xs : List X) → find p xs ≡ Some x → IsIn x xs × (p x ≡ true)
+IsIn-from_find p x [] h = absurd (cc)
+IsIn-from_find {X} p x (y ∷ xs) h =
+    let Goal : Type 0 = IsIn x (y ∷ xs) × (p x ≡ true) in
+    let P : Bool → Type 0 = λ b. cond b (Some y) (find p xs) ≡ Some x in
+    let here : p y ≡ true → Goal = λ (e : p y ≡ true). let k : ◌≡◌ {A = Option X} (Some y) (Some x) = subst P e h in let same : y ≡ x = cc in (inl (sym same), ap p (sym same) ∙ e) in
+    let later : p y ≡ false → Goal = λ (e : p y ≡ false). let k : find p xs ≡ Some x = subst P e h in let q = IsIn-from_find p x xs k in (inr q.0, q.1) in
+    ⊎_elim here later (cases_Bool (p y))
+
+-- where nothing is found, none passes
+pub fails-from_find : {X : Type 0} (p : X → Bool) (x : X) (xs : List X) → find p xs ≡ None → IsIn x xs → p x ≡ false
+fails-from_find p x [] e h = absurd h
+fails-from_find {X} p x (y ∷ xs) e h =
+    let P : Bool → Type 0 = λ b. cond b (Some y) (find p xs) ≡ None in
+    let yes : p y ≡ true → p x ≡ false = λ (t : p y ≡ true). let k : ◌≡◌ {A = Option X} (Some y) None = subst P t e in absurd (cc) in
+    let no : p y ≡ false → p x ≡ false = λ (t : p y ≡ false). let k : find p xs ≡ None = subst P t e in
+    ⊎_elim (λ (same : x ≡ y). ap p same ∙ t) (λ (later : IsIn x xs). fails-from_find p x xs k later) h in
+    ⊎_elim yes no (cases_Bool (p y))
+
+-- where none passes, nothing is found
+pub find-none : {X : Type 0} (p : X → Bool) (xs : List X) → ((x : X) → IsIn x xs → p x ≡ false) → find p xs ≡ None
+find-none p [] f = refl
+find-none {X} p (x ∷ xs) f = ap (λ b. cond b (Some x) (find p xs)) (f x (inl refl)) ∙ find-none p xs (λ y h. f y (inr h))
+
+-- a change of elements that are kept
+pub map_same : {X Y : Type 0} (f g : X → Y) (xs : List X) → ((x : X) → IsIn x xs → f x ≡ g x) → map f xs ≡ map g xs
+map_same f g [] e = refl
+map_same {X} {Y} f g (x ∷ xs) e = ap (λ y. y ∷ map f xs) (e x (inl refl)) ∙ ap (λ ys. g x ∷ ys) (map_same f g xs (λ y h. e y (inr h)))
+
+-- a change that leaves each element
+pub map_itself : {X : Type 0} (f : X → X) (xs : List X) → ((x : X) → IsIn x xs → f x ≡ x) → map f xs ≡ xs
+map_itself f [] e = refl
+map_itself {X} f (x ∷ xs) e = ap (λ y. y ∷ map f xs) (e x (inl refl)) ∙ ap (λ ys. x ∷ ys) (map_itself f xs (λ y h. e y (inr h)))
+
+-- a filter that keeps each element
+pub filter_itself : {X : Type 0} (keep : X → Bool) (xs : List X) → ((x : X) → IsIn x xs → keep x ≡ true) → filter keep xs ≡ xs
+filter_itself keep [] e = refl
+filter_itself {X} keep (x ∷ xs) e = ap (λ b. cond b (x ∷ filter keep xs) (filter keep xs)) (e x (inl refl)) ∙ ap (λ ys. x ∷ ys) (filter_itself keep xs (λ y h. e y (inr h)))

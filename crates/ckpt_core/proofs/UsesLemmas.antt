@@ -1,0 +1,98 @@
+-- A file is present exactly where some record holds it, for an acknowledgement or as a pin.
+use Rattle.std.proofs.Common.{◌≡◌, ℕ, ◌<◌, Bool, true, false, eqb, List, map, refl, sym, ap, subst, ◌⊎◌, inl, inr, ⊎_elim}
+use Rattle.std.specs.Prelude.{count_by}
+use Rattle.std.specs.List.{flat_map}
+use Rattle.std.proofs.lemmas.Bool.{cases_Bool, both_ways, eqb-true, eq-eqb, ltb-true, lt-ltb}
+use Rattle.ckpt_ids.specs.declared.ack.Acked.{Acked}
+use Rattle.ckpt_ids.specs.Ordered.{IsIn}
+use Rattle.ckpt_ids.specs.Acknowledged.{acknowledges_before, put_ack}
+use Rattle.ckpt_ids.specs.Records.{Record, Use, Subtask, Pin, uses, uses_of, count, is_present}
+use Rattle.ckpt_ids.proofs.OrderedLemmas.{IsIn-append_left, IsIn-append_right, IsIn-append_cases, IsIn-map, IsIn-from_map, IsIn-flat_map, IsIn-from_flat_map, IsIn-put_cases, IsIn-put, IsIn-put_itself}
+use Rattle.ckpt_core.proofs.CountLemmas.{counted-from_IsIn, IsIn-from_counted}
+
+-- a record holds a file
+abbrev pub Holds : ℕ → Record → Type 0
+Holds f r = ((a : Acked) × IsIn a r.acks × IsIn f a.files) ⊎ IsIn f r.pins
+
+-- some record of a list holds it
+abbrev pub IsHeld : ℕ → List Record → Type 0
+IsHeld f records = (r : Record) × IsIn r records × Holds f r
+
+-- a use of a record is of a file that it holds
+pub Holds-from_use : (u : Use) (r : Record) → IsIn u (uses_of r) → Holds u.file r
+Holds-from_use u r h =
+    let of_ack : Acked → List Use = λ a. map (λ f. record { id = r.id; holder = Subtask a.subtask; file = f }) a.files in
+    let pin : ℕ → Use = λ f. record { id = r.id; holder = Pin; file = f } in
+    let acked : IsIn u (flat_map of_ack r.acks) → Holds u.file r = λ (k : IsIn u (flat_map of_ack r.acks)).
+    let q = IsIn-from_flat_map of_ack u r.acks k in
+    let of_file : ℕ → Use = λ f. record { id = r.id; holder = Subtask (q.0).subtask; file = f } in
+    let p = IsIn-from_map of_file u (q.0).files q.2 in
+    let P : ℕ → Type 0 = λ f. IsIn f (q.0).files in
+    let same : u.file ≡ p.0 = ap (λ v. v.file) p.2 in
+    inl (q.0, q.1, subst P (sym same) p.1) in
+    let pinned : IsIn u (map pin r.pins) → Holds u.file r = λ (k : IsIn u (map pin r.pins)).
+    let p = IsIn-from_map pin u r.pins k in
+    let P : ℕ → Type 0 = λ f. IsIn f r.pins in
+    let same : u.file ≡ p.0 = ap (λ v. v.file) p.2 in
+    inr (subst P (sym same) p.1) in
+    ⊎_elim acked pinned (IsIn-append_cases u (flat_map of_ack r.acks) (map pin r.pins) h)
+
+-- a file that a record holds has a use
+pub use-from_Holds : (f : ℕ) (r : Record) → Holds f r → (u : Use) × IsIn u (uses_of r) × (u.file ≡ f)
+use-from_Holds f r (inl h) =
+    let of_ack : Acked → List Use = λ a. map (λ g. record { id = r.id; holder = Subtask a.subtask; file = g }) a.files in
+    let pin : ℕ → Use = λ g. record { id = r.id; holder = Pin; file = g } in
+    let of_file : ℕ → Use = λ g. record { id = r.id; holder = Subtask (h.0).subtask; file = g } in
+    (of_file f, IsIn-append_left (of_file f) (flat_map of_ack r.acks) (map pin r.pins) (IsIn-flat_map of_ack h.0 (of_file f) r.acks h.1 (IsIn-map of_file f (h.0).files h.2)), refl)
+use-from_Holds f r (inr h) =
+    let of_ack : Acked → List Use = λ a. map (λ g. record { id = r.id; holder = Subtask a.subtask; file = g }) a.files in
+    let pin : ℕ → Use = λ g. record { id = r.id; holder = Pin; file = g } in
+    (pin f, IsIn-append_right (pin f) (flat_map of_ack r.acks) (map pin r.pins) (IsIn-map pin f r.pins h), refl)
+
+-- a present file is held
+pub IsHeld-from_present : (f : ℕ) (records : List Record) → is_present (uses records) f ≡ true → IsHeld f records
+IsHeld-from_present f records h =
+    let of_file : Use → Bool = λ u. eqb u.file f in
+    let some : 0 < count_by of_file (uses records) = ltb-true 0 (count (uses records) f) h in
+    let q = IsIn-from_counted of_file (uses records) some in
+    let r = IsIn-from_flat_map uses_of q.0 records q.1 in
+    let P : ℕ → Type 0 = λ g. Holds g r.0 in
+    (r.0, r.1, subst P (eqb-true (q.0).file f q.2) (Holds-from_use q.0 r.0 r.2))
+
+-- a held file is present
+pub present-from_IsHeld : (f : ℕ) (records : List Record) → IsHeld f records → is_present (uses records) f ≡ true
+present-from_IsHeld f records h =
+    let of_file : Use → Bool = λ u. eqb u.file f in
+    let q = use-from_Holds f h.0 h.2 in
+    let there : IsIn q.0 (uses records) = IsIn-flat_map uses_of h.0 q.0 records h.1 q.1 in
+    lt-ltb 0 (count (uses records) f) (counted-from_IsIn of_file q.0 (uses records) there (eq-eqb (q.0).file f q.2))
+
+-- a file that is not present is held by none
+pub not_held : (f : ℕ) (records : List Record) → is_present (uses records) f ≡ false → IsHeld f records → ⊥
+not_held f records e h = both_ways (is_present (uses records) f) e (present-from_IsHeld f records h)
+
+-- a file that none holds is not present
+pub absent-from_not_held : (f : ℕ) (records : List Record) → (IsHeld f records → ⊥) → is_present (uses records) f ≡ false
+absent-from_not_held f records h = ⊎_elim (λ (e : is_present (uses records) f ≡ true). absurd (h (IsHeld-from_present f records e))) (λ (e : is_present (uses records) f ≡ false). e) (cases_Bool (is_present (uses records) f))
+
+-- what is held after a change that adds no file was held before
+pub IsHeld_before : (f : ℕ) (before after : List Record) → ((r : Record) → IsIn r after → Holds f r → IsHeld f before) → is_present (uses before) f ≡ false → is_present (uses after) f ≡ false
+IsHeld_before f before after kept e = absent-from_not_held f after (λ h. not_held f before e (kept h.0 h.1 h.2))
+
+-- the files of one acknowledgement more
+pub Holds-put_ack : (f : ℕ) (a : Acked) (r : Record) → Holds f (record r { acks = put_ack a r.acks }) → IsIn f a.files ⊎ Holds f r
+Holds-put_ack f a r (inl h) =
+    let P : Acked → Type 0 = λ b. IsIn f b.files in
+    let new : h.0 ≡ a → IsIn f a.files ⊎ Holds f r = λ (e : h.0 ≡ a). inl (subst P e h.2) in
+    let old : IsIn h.0 r.acks → IsIn f a.files ⊎ Holds f r = λ (k : IsIn h.0 r.acks). inr (inl (h.0, k, h.2)) in
+    ⊎_elim new old (IsIn-put_cases acknowledges_before a h.0 r.acks h.1)
+Holds-put_ack f a r (inr h) = inr (inr h)
+
+-- it holds the new files
+pub Holds-put_ack_new : (f : ℕ) (a : Acked) (r : Record) → IsIn f a.files → Holds f (record r { acks = put_ack a r.acks })
+Holds-put_ack_new f a r h = inl (a, IsIn-put_itself acknowledges_before a r.acks, h)
+
+-- and what it held before
+pub Holds-put_ack_old : (f : ℕ) (a : Acked) (r : Record) → Holds f r → Holds f (record r { acks = put_ack a r.acks })
+Holds-put_ack_old f a r (inl h) = inl (h.0, IsIn-put acknowledges_before a h.0 r.acks h.1, h.2)
+Holds-put_ack_old f a r (inr h) = inr h

@@ -1,0 +1,119 @@
+-- The uses of sound records stand in strict order, and what a change of the records does to them.
+use Rattle.std.proofs.Common.{◌≡◌, ℕ, ◌+◌, ◌<◌, ◌≤◌, Bool, true, false, not, ◌&&◌, ◌||◌, cond, ltb, eqb, List, [], ◌∷◌, ◌++◌, map, refl, sym, ap, subst, ◌∙◌, ◌⊎◌, inl, inr, ⊎_elim, arith, append_assoc}
+use Rattle.std.specs.List.{filter, flat_map, list_any}
+use Rattle.std.proofs.lemmas.List.Elements.{filter-append}
+use Rattle.std.proofs.lemmas.List.Concat.{flat_map-append}
+use Rattle.std.proofs.lemmas.Bool.{cases_Bool, both_ways, lt-ltb, ltb-true, eq-eqb, or_left, or_right, and_from, not-true, not_from_false, not_from_true}
+use Rattle.ckpt_ids.specs.declared.ack.Acked.{Acked}
+use Rattle.ckpt_ids.specs.Acknowledged.{is_before, acknowledges_before, AreInSubtaskOrder}
+use Rattle.ckpt_ids.specs.Ascending.{IsAscendingSet}
+use Rattle.ckpt_ids.specs.Ordered.{IsIn, ComesBefore, IsInOrder, IsStrictOrder, in_order_once}
+use Rattle.ckpt_ids.specs.Records.{Record, Use, Holder, Subtask, Pin, use_before, holder_before, same_holder, uses, uses_of}
+use Rattle.ckpt_ids.specs.Shapes.{same_subtask}
+use Rattle.ckpt_ids.proofs.OrderedLemmas.{IsIn-append_cases, IsIn-append_left, IsIn-append_right, IsIn-from_map, IsIn-from_flat_map, ComesBefore-at, ComesBefore-from, IsInOrder-append, IsInOrder-map, same_from_members, IsInOrder-in_order_once, IsIn-in_order_once, IsIn-from_in_order_once}
+use Rattle.ckpt_ids.proofs.OrderLemmas.{uses_in_order, same_subtask-Decides}
+use Rattle.ckpt_core.specs.Soundness.{id_before, IsRecord}
+
+-- an earlier record's uses come first
+pub earlier_record : (u v : Use) → u.id < v.id → use_before u v ≡ true
+earlier_record u v h = or_left (ltb u.id v.id) (eqb u.id v.id && (holder_before u.holder v.holder || (same_holder u.holder v.holder && ltb u.file v.file))) (lt-ltb u.id v.id h)
+
+earlier_holder : (u v : Use) → u.id ≡ v.id → holder_before u.holder v.holder ≡ true → use_before u v ≡ true
+earlier_holder u v e h =
+    let rest : Bool = same_holder u.holder v.holder && ltb u.file v.file in
+    or_right (ltb u.id v.id) (eqb u.id v.id && (holder_before u.holder v.holder || rest)) (and_from (eqb u.id v.id) (holder_before u.holder v.holder || rest) (eq-eqb u.id v.id e) (or_left (holder_before u.holder v.holder) rest h))
+
+same_holder_itself : (h : Holder) → same_holder h h ≡ true
+same_holder_itself (Subtask s) = (same_subtask-Decides s s).1 refl
+same_holder_itself Pin = refl
+
+earlier_file : (id : ℕ) (h : Holder) (f g : ℕ) → ltb f g ≡ true → use_before (record { id = id; holder = h; file = f }) (record { id = id; holder = h; file = g }) ≡ true
+earlier_file id h f g lt =
+    let rest : Bool = same_holder h h && ltb f g in
+    or_right (ltb id id) (eqb id id && (holder_before h h || rest)) (and_from (eqb id id) (holder_before h h || rest) (eq-eqb id id refl) (or_right (holder_before h h) rest (and_from (same_holder h h) (ltb f g) (same_holder_itself h) lt)))
+
+-- the uses that one holder has of these files
+abbrev pub holds : ℕ → Holder → List ℕ → List Use
+holds id h files = map (λ f. record { id = id; holder = h; file = f }) files
+
+pub holds_in_order : (id : ℕ) (h : Holder) (files : List ℕ) → IsAscendingSet files → IsInOrder use_before (holds id h files)
+holds_in_order id h files a = IsInOrder-map ltb use_before (λ f. record { id = id; holder = h; file = f }) files (λ f g lt. earlier_file id h f g lt) a
+
+pub from_holds : (id : ℕ) (h : Holder) (files : List ℕ) (u : Use) → IsIn u (holds id h files) → (u.id ≡ id) × (u.holder ≡ h) × IsIn u.file files
+from_holds id h files u k =
+    let make : ℕ → Use = λ f. record { id = id; holder = h; file = f } in
+    let p = IsIn-from_map make u files k in
+    let P : ℕ → Type 0 = λ f. IsIn f files in
+    (ap (λ w. w.id) p.2, ap (λ w. w.holder) p.2, subst P (sym (ap (λ w. w.file) p.2)) p.1)
+
+abbrev held_by_acks : ℕ → List Acked → List Use
+held_by_acks id acks = flat_map (λ a. holds id (Subtask a.subtask) a.files) acks
+
+acks_in_order : (id : ℕ) (acks : List Acked) → AreInSubtaskOrder acks → ((a : Acked) → IsIn a acks → IsAscendingSet a.files) → IsInOrder use_before (held_by_acks id acks)
+acks_in_order id [] order files = tt
+acks_in_order id (a ∷ acks) order files =
+    IsInOrder-append use_before (holds id (Subtask a.subtask) a.files) (held_by_acks id acks)
+    (holds_in_order id (Subtask a.subtask) a.files (files a (inl refl)))
+    (acks_in_order id acks order.1 (λ b h. files b (inr h)))
+    (λ u v h k.
+    let p = from_holds id (Subtask a.subtask) a.files u h in
+    let q = IsIn-from_flat_map (λ b. holds id (Subtask b.subtask) b.files) v acks k in
+    let later = from_holds id (Subtask q.0.subtask) q.0.files v q.2 in
+    earlier_holder u v (p.0 ∙ sym later.0) (ap (λ w. holder_before w v.holder) p.1 ∙ ap (holder_before (Subtask a.subtask)) later.1 ∙ ComesBefore-at acknowledges_before a q.0 acks order.0 q.1))
+
+pub use_of_record : (r : Record) (u : Use) → IsIn u (uses_of r) → u.id ≡ r.id
+use_of_record r u h =
+    ⊎_elim
+    (λ (k : IsIn u (held_by_acks r.id r.acks)). let q = IsIn-from_flat_map (λ b. holds r.id (Subtask b.subtask) b.files) u r.acks k in (from_holds r.id (Subtask q.0.subtask) q.0.files u q.2).0)
+    (λ (k : IsIn u (holds r.id Pin r.pins)). (from_holds r.id Pin r.pins u k).0)
+    (IsIn-append_cases u (held_by_acks r.id r.acks) (holds r.id Pin r.pins) h)
+
+pub record_in_order : (r : Record) → IsRecord r → IsInOrder use_before (uses_of r)
+record_in_order r sound =
+    IsInOrder-append use_before (held_by_acks r.id r.acks) (holds r.id Pin r.pins)
+    (acks_in_order r.id r.acks sound.acks_in_order sound.files)
+    (holds_in_order r.id Pin r.pins sound.pins)
+    (λ u v h k.
+    let q = IsIn-from_flat_map (λ b. holds r.id (Subtask b.subtask) b.files) u r.acks h in
+    let a = from_holds r.id (Subtask q.0.subtask) q.0.files u q.2 in
+    let p = from_holds r.id Pin r.pins v k in
+    earlier_holder u v (a.0 ∙ sym p.0) (ap (λ w. holder_before w v.holder) a.1 ∙ ap (holder_before (Subtask q.0.subtask)) p.1))
+
+-- the uses of sound records in rising number are in strict order
+pub uses-in_order : (rs : List Record) → IsInOrder id_before rs → ((r : Record) → IsIn r rs → IsRecord r) → IsInOrder use_before (uses rs)
+uses-in_order [] order each = tt
+uses-in_order (r ∷ rs) order each =
+    IsInOrder-append use_before (uses_of r) (uses rs)
+    (record_in_order r (each r (inl refl)))
+    (uses-in_order rs order.1 (λ s h. each s (inr h)))
+    (λ u v h k.
+    let q = IsIn-from_flat_map uses_of v rs k in
+    let a : u.id ≡ r.id = use_of_record r u h in
+    let b : v.id ≡ q.0.id = use_of_record q.0 v q.2 in
+    earlier_record u v (omega (arith, ltb-true r.id q.0.id (ComesBefore-at id_before r q.0 rs order.0 q.1))))
+
+-- a list that is in order already stays as it is
+pub in_order_once-itself : (us : List Use) → IsInOrder use_before us → in_order_once use_before us ≡ us
+in_order_once-itself us order =
+    same_from_members uses_in_order (in_order_once use_before us) us (IsInOrder-in_order_once uses_in_order us) order
+    (λ u h. IsIn-from_in_order_once use_before u us h) (λ u h. IsIn-in_order_once uses_in_order u us h)
+
+-- without the records of some numbers, without their uses
+
+kept_or_none : (keep : ℕ → Bool) (r : Record) (us : List Use) → ((u : Use) → IsIn u us → u.id ≡ r.id) → filter (λ u. keep u.id) us ≡ cond (keep r.id) us []
+kept_or_none keep r [] same = elim (cases_Bool (keep r.id)) [ inl e ↦ rw e refl | inr e ↦ rw e refl ]
+kept_or_none keep r (u ∷ us) same =
+    let rest = kept_or_none keep r us (λ v h. same v (inr h)) in
+    let e : keep u.id ≡ keep r.id = ap keep (same u (inl refl)) in
+    ap (λ b. cond b (u ∷ filter (λ v. keep v.id) us) (filter (λ v. keep v.id) us)) e
+    ∙ ap (λ ws. cond (keep r.id) (u ∷ ws) ws) rest
+    ∙ ⊎_elim (λ (t : keep r.id ≡ true). rw t refl) (λ (t : keep r.id ≡ false). rw t refl) (cases_Bool (keep r.id))
+
+pub uses-filter : (keep : ℕ → Bool) (rs : List Record) → uses (filter (λ r. keep r.id) rs) ≡ filter (λ u. keep u.id) (uses rs)
+uses-filter keep [] = refl
+uses-filter keep (r ∷ rs) =
+    let rest : uses (filter (λ s. keep s.id) rs) ≡ filter (λ u. keep u.id) (uses rs) = uses-filter keep rs in
+    let first : filter (λ u. keep u.id) (uses_of r) ≡ cond (keep r.id) (uses_of r) [] = kept_or_none keep r (uses_of r) (use_of_record r) in
+    let P : Bool → Type 0 = λ b. uses (cond b (r ∷ filter (λ s. keep s.id) rs) (filter (λ s. keep s.id) rs)) ≡ cond b (uses_of r) [] ++ filter (λ u. keep u.id) (uses rs) in
+    let both : P (keep r.id) = ⊎_elim (λ (t : keep r.id ≡ true). subst P (sym t) (ap (λ ws. uses_of r ++ ws) rest)) (λ (t : keep r.id ≡ false). subst P (sym t) rest) (cases_Bool (keep r.id)) in
+    both ∙ ap (λ ws. ws ++ filter (λ u. keep u.id) (uses rs)) (sym first) ∙ sym (filter-append (λ u. keep u.id) (uses_of r) (uses rs))

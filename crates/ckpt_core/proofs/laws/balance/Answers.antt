@@ -1,0 +1,5 @@
+use Rattle.ckpt_core.proofs.LawBalance.{balance}
+use Rattle.ckpt_core.proofs.laws.balance.Goals as goal
+
+pub returns : goal.returns
+returns c = balance

@@ -1,0 +1,5 @@
+use Rattle.ckpt_core.proofs.LawBalance.{handed}
+use Rattle.ckpt_core.proofs.laws.handed.Goals as goal
+
+pub returns : goal.returns
+returns c = handed

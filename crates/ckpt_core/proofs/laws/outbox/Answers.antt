@@ -1,0 +1,5 @@
+use Rattle.ckpt_core.proofs.LawBalance.{outbox}
+use Rattle.ckpt_core.proofs.laws.outbox.Goals as goal
+
+pub returns : goal.returns
+returns c = outbox

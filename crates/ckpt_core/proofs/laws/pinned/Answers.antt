@@ -1,0 +1,5 @@
+use Rattle.ckpt_core.proofs.LawPinned.{pinned}
+use Rattle.ckpt_core.proofs.laws.pinned.Goals as goal
+
+pub returns : goal.returns
+returns c = pinned

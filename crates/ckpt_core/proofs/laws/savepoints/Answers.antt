@@ -1,0 +1,5 @@
+use Rattle.ckpt_core.proofs.LawSavepoints.{savepoints_stay}
+use Rattle.ckpt_core.proofs.laws.savepoints.Goals as goal
+
+pub returns : goal.returns
+returns c = savepoints_stay

@@ -1,0 +1,5 @@
+use Rattle.ckpt_core.proofs.SoundHistories.{replay_is_sound}
+use Rattle.ckpt_core.proofs.laws.sound.Goals as goal
+
+pub returns : goal.returns
+returns c = replay_is_sound

@@ -1,0 +1,5 @@
+use Rattle.ckpt_core.proofs.Exchange.{exchange}
+use Rattle.ckpt_core.proofs.laws.swap.Goals as goal
+
+pub returns : goal.returns
+returns c = exchange

@@ -1,0 +1,5 @@
+use Rattle.ckpt_core.proofs.LawBalance.{used_no_more}
+use Rattle.ckpt_core.proofs.laws.used_no_more.Goals as goal
+
+pub returns : goal.returns
+returns c = used_no_more

@@ -1,0 +1,87 @@
+-- The parts after each call are those of the lemmas.
+use Rattle.std.proofs.Common.{sym, subst}
+use Rattle.ckpt_core.specs.declared.parts.Parts.{Parts}
+use Rattle.ckpt_core.specs.Parts.{Stays}
+use Rattle.ckpt_core.proofs.AckLate.{on_each_error}
+use Rattle.ckpt_core.proofs.AckStates.{roomier_accepted, roomier_sound, roomier_stays, taking_from}
+use Rattle.ckpt_core.proofs.CompleteAnswers.{checkpoint_answers, savepoint_answers}
+use Rattle.ckpt_core.proofs.CompleteCalls.{IsLast, CanComplete, can_complete, last_above, last_made, last_new, made_place, none_missing}
+use Rattle.ckpt_core.proofs.parts.Parts.ack_last.Goals as goal
+
+pub returns-in_err-reserve-clause-err : goal.returns-in_err-reserve-clause-err
+returns-in_err-reserve-clause-err c =
+    on_each_error c.from_residual-in_err-reserve.result (Stays c.args.self.now (record c.make_room_for_files.new.self { store = c.reserve.new.self }))
+    (roomier_stays (made_place c.args.self.now c.make_room_for_files.new.self c.len.result c.reserve.new.self c.in_ok-make_room_for_files.ensures.ok c.in_err-reserve.ensures.kept) c.requires.sound)
+
+pub take_ack-requires-clause-sound : goal.take_ack-requires-clause-sound
+take_ack-requires-clause-sound c = roomier_sound (made_place c.args.self.now c.make_room_for_files.new.self c.len.result c.reserve.new.self c.in_ok-make_room_for_files.ensures.ok c.in_ok-reserve.ensures.kept) c.requires.sound
+
+pub take_ack-requires-clause-accepted : goal.take_ack-requires-clause-accepted
+take_ack-requires-clause-accepted c =
+    roomier_accepted c.args.now c.args.id c.args.subtask c.args.fresh.now c.args.reused.now (made_place c.args.self.now c.make_room_for_files.new.self c.len.result c.reserve.new.self c.in_ok-make_room_for_files.ensures.ok c.in_ok-reserve.ensures.kept) c.requires.accepted
+
+pub returns-in_err-take_ack-clause-err : goal.returns-in_err-take_ack-clause-err
+returns-in_err-take_ack-clause-err c =
+    let P : Parts → Type 0 = λ x. Stays c.args.self.now x in
+    on_each_error c.from_residual-in_err-take_ack.result (Stays c.args.self.now c.take_ack.new.self)
+    (subst P (sym c.in_err-take_ack.ensures.err) (roomier_stays (made_place c.args.self.now c.make_room_for_files.new.self c.len.result c.reserve.new.self c.in_ok-make_room_for_files.ensures.ok c.in_ok-reserve.ensures.kept) c.requires.sound))
+
+pub finish-done-requires : goal.finish-done-requires
+finish-done-requires c =
+    none_missing c.take_ack.new.self
+    (taking_from c.args.now c.args.subtask c.args.fresh.now c.args.reused.now (made_place c.args.self.now c.make_room_for_files.new.self c.len.result c.reserve.new.self c.in_ok-make_room_for_files.ensures.ok c.in_ok-reserve.ensures.kept) c.requires.sound c.requires.accepted
+    c.in_ok-take_ack.ensures.pending c.in_ok-take_ack.ensures.in_order c.in_ok-take_ack.ensures.stored c.requires.last)
+    c.requires.last.counted c.in_ok-take_ack.ensures.ok
+
+pub complete_checkpoint-requires : goal.complete_checkpoint-requires
+complete_checkpoint-requires c =
+    let l : IsLast (record c.make_room_for_files.new.self { store = c.reserve.new.self }) c.finish-done.new.self c.args.now c.args.id c.args.subtask c.args.fresh.now c.args.reused.now c.requires.last.lacking c.finish-done.result =
+    last_made c.args.self.now c.make_room_for_files.new.self c.take_ack.new.self c.finish-done.new.self c.finish-done.result c.args.now c.args.subtask c.args.fresh.now c.args.reused.now c.len.result c.reserve.new.self
+    c.requires.sound c.requires.accepted c.requires.last c.len.ensures c.in_ok-make_room_for_files.ensures.ok c.in_ok-reserve.ensures.kept c.in_ok-reserve.ensures.ok
+    c.in_ok-take_ack.ensures.pending c.in_ok-take_ack.ensures.in_order c.in_ok-take_ack.ensures.stored c.in_ok-take_ack.ensures.ok c.finish-done.ensures.value c.finish-done.ensures.rest in
+    let can : CanComplete c.finish-done.new.self = can_complete l in
+    record {
+      room = can.room;
+      checkpoint = sym c.in-Checkpoint.ensures;
+      above = last_above l (sym c.in-Checkpoint.ensures);
+      unknown = can.unknown;
+      spare = can.spare;
+      none_ended = can.none_ended;
+      places = can.places;
+      few = can.few;
+    }
+
+pub complete_savepoint-requires : goal.complete_savepoint-requires
+complete_savepoint-requires c =
+    let l : IsLast (record c.make_room_for_files.new.self { store = c.reserve.new.self }) c.finish-done.new.self c.args.now c.args.id c.args.subtask c.args.fresh.now c.args.reused.now c.requires.last.lacking c.finish-done.result =
+    last_made c.args.self.now c.make_room_for_files.new.self c.take_ack.new.self c.finish-done.new.self c.finish-done.result c.args.now c.args.subtask c.args.fresh.now c.args.reused.now c.len.result c.reserve.new.self
+    c.requires.sound c.requires.accepted c.requires.last c.len.ensures c.in_ok-make_room_for_files.ensures.ok c.in_ok-reserve.ensures.kept c.in_ok-reserve.ensures.ok
+    c.in_ok-take_ack.ensures.pending c.in_ok-take_ack.ensures.in_order c.in_ok-take_ack.ensures.stored c.in_ok-take_ack.ensures.ok c.finish-done.ensures.value c.finish-done.ensures.rest in
+    let can : CanComplete c.finish-done.new.self = can_complete l in
+    record {
+      room = can.room;
+      savepoint = sym c.in-Savepoint.ensures;
+      new = last_new l;
+      few = can.few_savepoints;
+      unknown = can.unknown;
+      spare = can.spare;
+      none_ended = can.none_ended;
+    }
+
+pub returns-in-Checkpoint-clause-ok : goal.returns-in-Checkpoint-clause-ok
+returns-in-Checkpoint-clause-ok c =
+    let l : IsLast (record c.make_room_for_files.new.self { store = c.reserve.new.self }) c.finish-done.new.self c.args.now c.args.id c.args.subtask c.args.fresh.now c.args.reused.now c.requires.last.lacking c.finish-done.result =
+    last_made c.args.self.now c.make_room_for_files.new.self c.take_ack.new.self c.finish-done.new.self c.finish-done.result c.args.now c.args.subtask c.args.fresh.now c.args.reused.now c.len.result c.reserve.new.self
+    c.requires.sound c.requires.accepted c.requires.last c.len.ensures c.in_ok-make_room_for_files.ensures.ok c.in_ok-reserve.ensures.kept c.in_ok-reserve.ensures.ok
+    c.in_ok-take_ack.ensures.pending c.in_ok-take_ack.ensures.in_order c.in_ok-take_ack.ensures.stored c.in_ok-take_ack.ensures.ok c.finish-done.ensures.value c.finish-done.ensures.rest in
+    let done = c.complete_checkpoint.ensures in
+    checkpoint_answers c.complete_checkpoint.new.self c.complete_checkpoint.result (made_place c.args.self.now c.make_room_for_files.new.self c.len.result c.reserve.new.self c.in_ok-make_room_for_files.ensures.ok c.in_ok-reserve.ensures.kept) l (sym c.in-Checkpoint.ensures) done.parts done.none_ended done.capacity done.reply
+
+pub returns-in-Savepoint-clause-ok : goal.returns-in-Savepoint-clause-ok
+returns-in-Savepoint-clause-ok c =
+    let l : IsLast (record c.make_room_for_files.new.self { store = c.reserve.new.self }) c.finish-done.new.self c.args.now c.args.id c.args.subtask c.args.fresh.now c.args.reused.now c.requires.last.lacking c.finish-done.result =
+    last_made c.args.self.now c.make_room_for_files.new.self c.take_ack.new.self c.finish-done.new.self c.finish-done.result c.args.now c.args.subtask c.args.fresh.now c.args.reused.now c.len.result c.reserve.new.self
+    c.requires.sound c.requires.accepted c.requires.last c.len.ensures c.in_ok-make_room_for_files.ensures.ok c.in_ok-reserve.ensures.kept c.in_ok-reserve.ensures.ok
+    c.in_ok-take_ack.ensures.pending c.in_ok-take_ack.ensures.in_order c.in_ok-take_ack.ensures.stored c.in_ok-take_ack.ensures.ok c.finish-done.ensures.value c.finish-done.ensures.rest in
+    let done = c.complete_savepoint.ensures in
+    savepoint_answers c.complete_savepoint.new.self c.complete_savepoint.result (made_place c.args.self.now c.make_room_for_files.new.self c.len.result c.reserve.new.self c.in_ok-make_room_for_files.ensures.ok c.in_ok-reserve.ensures.kept) l (sym c.in-Savepoint.ensures) done.parts done.none_ended done.capacity done.reply

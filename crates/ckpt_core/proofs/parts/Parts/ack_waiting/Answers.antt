@@ -1,0 +1,29 @@
+-- Making room leaves the state as it is, and so does what fails; what was taken is the step.
+use Rattle.std.proofs.Common.{◌+◌, ◌≤◌, sym, subst, length, arith}
+use Rattle.ckpt_core.specs.declared.parts.Parts.{Parts}
+use Rattle.ckpt_core.specs.Parts.{Stays, present_in}
+use Rattle.ckpt_core.proofs.AckLate.{on_each_error}
+use Rattle.ckpt_core.proofs.AckStates.{made_room, room_made, roomier_accepted, roomier_sound, roomier_stays, taking_from, waiting_answers}
+use Rattle.ckpt_core.proofs.parts.Parts.ack_waiting.Goals as goal
+
+pub take_ack-requires-clause-sound : goal.take_ack-requires-clause-sound
+take_ack-requires-clause-sound c = roomier_sound (made_room c.args.self.now c.make_room_for_files.new.self c.len.result c.in_ok-make_room_for_files.ensures.ok) c.requires.sound
+
+pub take_ack-requires-clause-accepted : goal.take_ack-requires-clause-accepted
+take_ack-requires-clause-accepted c = roomier_accepted c.args.now c.args.id c.args.subtask c.args.fresh.now c.args.reused.now (made_room c.args.self.now c.make_room_for_files.new.self c.len.result c.in_ok-make_room_for_files.ensures.ok) c.requires.accepted
+
+pub returns-in_err-take_ack-clause-err : goal.returns-in_err-take_ack-clause-err
+returns-in_err-take_ack-clause-err c =
+    let P : Parts → Type 0 = λ x. Stays c.args.self.now x in
+    on_each_error c.from_residual-in_err-take_ack.result (Stays c.args.self.now c.take_ack.new.self)
+    (subst P (sym c.in_err-take_ack.ensures.err) (roomier_stays (made_room c.args.self.now c.make_room_for_files.new.self c.len.result c.in_ok-make_room_for_files.ensures.ok) c.requires.sound))
+
+pub returns-clause-ok : goal.returns-clause-ok
+returns-clause-ok c =
+    let p = c.args.self.now in
+    let q = c.make_room_for_files.new.self in
+    let e = c.in_ok-make_room_for_files.ensures.ok in
+    let roomier = made_room p q c.len.result e in
+    let t = c.in_ok-take_ack.ensures in
+    let room : present_in q.registry + length c.args.fresh.now ≤ q.outbox.spare = omega (arith, room_made p q c.len.result e, c.len.ensures) in
+    waiting_answers c.take_ack.new.self c.args.missing roomier (taking_from c.args.now c.args.subtask c.args.fresh.now c.args.reused.now roomier c.requires.sound c.requires.accepted t.pending t.in_order t.stored c.requires.waiting) room c.requires.waiting.counted c.requires.others t.ok

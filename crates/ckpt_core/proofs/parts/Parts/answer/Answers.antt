@@ -1,0 +1,27 @@
+-- The calls that take memory in any case may want it.
+use Rattle.std.proofs.Common.{sym, ap, Some, ◌∙◌}
+use Rattle.ckpt_ids.specs.declared.call.Call.TheVariants.{Savepoint, Restore, Take, Show}
+use Rattle.ckpt_core.specs.Parts.{state_of}
+use Rattle.ckpt_core.proofs.CoreCalls.{wants_here, savepoint_wants, restore_wants, take_wants, show_wants}
+use Rattle.ckpt_core.proofs.parts.Parts.answer.Goals as goal
+
+pub returns-in-Savepoint-clause-memory : goal.returns-in-Savepoint-clause-memory
+returns-in-Savepoint-clause-memory c =
+    let m = state_of c.args.self.now in
+    wants_here c.savepoint.result m c.args.call.now (Savepoint c.in-Savepoint.now) c.in-Savepoint.is c.requires.accepted (savepoint_wants m c.in-Savepoint.now)
+
+pub returns-in-Some-clause-memory : goal.returns-in-Some-clause-memory
+returns-in-Some-clause-memory c =
+    let m = state_of c.args.self.now in
+    let in_shape = Restore c.in-Restore.now c.in-Restore.target in
+    wants_here c.restore_in.result m c.args.call.now (in_shape (Some c.in-Some.shape)) (c.in-Restore.is ∙ ap in_shape c.in-Some.is) c.requires.accepted (restore_wants m c.in-Restore.now c.in-Restore.target c.in-Some.shape)
+
+pub returns-in-Take-clause-memory : goal.returns-in-Take-clause-memory
+returns-in-Take-clause-memory c =
+    let m = state_of c.args.self.now in
+    wants_here c.take.result m c.args.call.now (Take c.in-Take.most) c.in-Take.is c.requires.accepted (take_wants m c.in-Take.most)
+
+pub returns-in-Show-clause-memory : goal.returns-in-Show-clause-memory
+returns-in-Show-clause-memory c =
+    let m = state_of c.args.self.now in
+    wants_here c.show.result m c.args.call.now (Show c.in-Show.id) c.in-Show.is c.requires.accepted (show_wants m c.in-Show.id)

@@ -1,0 +1,75 @@
+-- A late decline changes only the moment; of a pending record each of the three ends is a step of the state.
+use Rattle.std.proofs.Common.{◌≡◌, Some, None, ap, sym, subst, ◌∙◌, arith}
+use Rattle.std.specs.Prelude.{find}
+use Rattle.std.specs.Option.{option_copied}
+use Rattle.std.proofs.lemmas.Bool.{both_ways, eqb-true}
+use denote.Enum.Bare.{sameb}
+use Rattle.ckpt_ids.specs.contracts.numbers.Kind.{the_type}
+use Rattle.ckpt_ids.specs.declared.numbers.Kind.TheVariants as kind
+use Rattle.ckpt_ids.specs.declared.call.Call.TheVariants as call
+use Rattle.ckpt_ids.specs.declared.reply.Reply.TheVariants as reply
+use Rattle.ckpt_rules.specs.Moments.{Moments}
+use Rattle.ckpt_core.specs.Grouped.{with_pins}
+use Rattle.ckpt_core.specs.Parts.{state_of, Answers}
+use Rattle.ckpt_core.specs.State.{is_checkpoint}
+use Rattle.ckpt_core.proofs.Accepted.{accepted_decline}
+use Rattle.ckpt_core.proofs.CountLemmas.{IsIn-from_find}
+use Rattle.ckpt_core.proofs.Lookups.{has_number}
+use Rattle.ckpt_core.proofs.DropMoves.{groups_of}
+use Rattle.ckpt_core.proofs.EndingMoves.{late_answers, pending_there, pending_absent, few_failed, failed_answers, aborted_checkpoint_answers, aborted_savepoint_answers, declined_as, kind_test, not_many}
+use Rattle.ckpt_core.proofs.parts.Parts.decline.Goals as goal
+use Rattle.ckpt_core.proofs.parts.Parts.decline.Goals.{then-eq, else-eq, then-failed, else-failed}
+
+pub see-requires : goal.see-requires
+see-requires c = accepted_decline (state_of c.args.self.now) c.args.now c.args.id c.args.subtask c.requires.accepted
+
+pub returns-in_default : goal.returns-in_default
+returns-in_default c =
+    let p = c.args.self.now in
+    let absent : find (has_number c.args.id) p.pending ≡ None = sym c.get.ensures.value ∙ ap option_copied c.in_default.is in
+    let answers = late_answers p c.args.now c.args.id c.args.subtask c.requires.sound c.requires.accepted
+    (pending_absent p c.args.id c.requires.sound.sound (groups_of p c.recall_groups.ensures.pending c.recall_groups.ensures.stored) absent) in
+    let P : Moments → Type 0 = λ clock. Answers p (record p { clock = clock }) (call.Decline c.args.now c.args.id c.args.subtask) reply.DeclineLate in
+    subst P (sym c.see.ensures) answers
+
+pub add-failed-requires : goal.add-failed-requires
+add-failed-requires c =
+    let p = c.args.self.now in
+    let there : find (has_number c.args.id) p.pending ≡ Some c.in-Some.record.now = sym c.get.ensures.value ∙ ap option_copied c.in-Some.is in
+    omega (arith, few_failed p c.args.id c.in-Some.record.now c.requires.sound (groups_of p c.recall_groups.ensures.pending c.recall_groups.ensures.stored) there)
+
+pub see-requires-2 : goal.see-requires-2
+see-requires-2 c = accepted_decline (state_of c.args.self.now) c.args.now c.args.id c.args.subtask c.requires.accepted
+
+pub returns : goal.returns
+returns c =
+    let p = c.args.self.now in
+    let now = c.args.now in
+    let id = c.args.id in
+    let r = with_pins p.registry c.in-Some.record.now in
+    let found : find (has_number id) p.pending ≡ Some c.in-Some.record.now = sym c.get.ensures.value ∙ ap option_copied c.in-Some.is in
+    let there = pending_there p id c.in-Some.record.now c.requires.sound.sound (groups_of p c.recall_groups.ensures.pending c.recall_groups.ensures.stored) found in
+    let its : r.id ≡ id = eqb-true r.id id (IsIn-from_find (has_number id) c.in-Some.record.now p.pending found).1 in
+    let tests : is_checkpoint r ≡ c.eq.result = sym (c.eq.ensures ∙ ap (λ k. sameb the_type k kind.Checkpoint) c.kind.ensures ∙ kind_test r.kind) in
+    elim c.if-failed.branch [
+      | then-failed w ↦ elim c.if-eq.branch [
+        | then-eq v ↦ declined_as p c.if-failed.self w.fail_over.new.self now c.see-2.new.self c.if-eq.failures v.add-failed.new.self (call.Decline now id c.args.subtask) c.if-failed.reply (reply.DeclineFailed w.fail_over.result)
+            w.self-is c.see-2.ensures v.failures-is w.reply-is
+            (failed_answers p w.fail_over.new.self now id c.args.subtask r v.add-failed.new.self w.fail_over.result c.requires.sound.tied c.requires.accepted
+            there (tests ∙ v.if-eq.true) v.add-failed.ensures.number (v.add-failed.ensures.intolerable.0 (sym v.failed-is ∙ w.if-failed.true))
+            w.fail_over.ensures.state w.fail_over.ensures.count w.fail_over.ensures.tied w.fail_over.ensures.cleared)
+        | else-eq v ↦ absurd (both_ways c.if-eq.failed (v.failed-is ∙ v.if-eq.false) w.if-failed.true)
+      ]
+      | else-failed w ↦ elim c.if-eq.branch [
+        | then-eq v ↦ declined_as p c.if-failed.self w.drop_pending.new.self now c.see-2.new.self c.if-eq.failures v.add-failed.new.self (call.Decline now id c.args.subtask) c.if-failed.reply (reply.DeclineAborted w.drop_pending.result)
+            w.self-is c.see-2.ensures v.failures-is w.reply-is
+            (aborted_checkpoint_answers p w.drop_pending.new.self now id c.args.subtask r v.add-failed.new.self w.drop_pending.result c.requires.sound.tied c.requires.accepted
+            there its (tests ∙ v.if-eq.true) v.add-failed.ensures.number
+            (not_many v.add-failed.result v.add-failed.new.self.tolerable v.add-failed.new.self.number v.add-failed.ensures.intolerable (sym v.failed-is ∙ w.if-failed.false))
+            w.drop_pending.ensures)
+        | else-eq v ↦ declined_as p c.if-failed.self w.drop_pending.new.self now c.see-2.new.self c.if-eq.failures p.failures (call.Decline now id c.args.subtask) c.if-failed.reply (reply.DeclineAborted w.drop_pending.result)
+            w.self-is c.see-2.ensures v.failures-is w.reply-is
+            (aborted_savepoint_answers p w.drop_pending.new.self now id c.args.subtask r w.drop_pending.result c.requires.sound.tied c.requires.accepted
+            there its (tests ∙ v.if-eq.false) w.drop_pending.ensures)
+      ]
+    ]

@@ -1,0 +1,47 @@
+-- All numbers but those of the savepoints are noted, and each of these records is gone.
+use Rattle.std.proofs.Common.{◌≡◌, ℕ, ◌+◌, true, false, ◌++◌, length, sym, ap, subst, ◌∙◌, arith, length-append}
+use Rattle.std.proofs.lemmas.List.{length-map}
+use Rattle.ckpt_ids.specs.Records.{Record, is_present}
+use Rattle.ckpt_outbox.specs.Queues.{is_known}
+use Rattle.ckpt_core.specs.declared.parts.Parts.{Parts}
+use Rattle.ckpt_core.proofs.DropMoves.{numbers, staying, groups_of, none_known, room_to_note}
+use Rattle.ckpt_core.proofs.DropDone.{emptied, others_dropped}
+use Rattle.ckpt_core.proofs.parts.Parts.drop_all_but_savepoints.Goals as goal
+
+pub note_all-requires : goal.note_all-requires
+note_all-requires c = record { room = omega (arith, room_to_note c.args.self.now (length c.args.self.now.pending) c.requires (omega arith)) }
+
+pub note_and_pop_checkpoints-requires : goal.note_and_pop_checkpoints-requires
+note_and_pop_checkpoints-requires c =
+    let p = c.args.self.now in
+    record {
+      room = omega (
+        arith,
+        room_to_note p (length p.pending + length p.store.checkpoints) c.requires (omega arith),
+        ap length c.note_all.ensures.items,
+        length-append p.ended.items (numbers p.pending),
+        length-map p.pending (λ (r : Record). r.id),
+        c.note_all.ensures.capacity,
+      );
+    }
+
+pub hand_out-requires-clause-unknown : goal.hand_out-requires-clause-unknown
+hand_out-requires-clause-unknown c =
+    let P : Parts → Type 0 = λ a. (f : ℕ) → is_present a.registry f ≡ true → is_known a.outbox f ≡ false in
+    subst P (sym c.note_and_pop_checkpoints.ensures.parts) (none_known c.args.self.now c.requires.tied c.requires.sound)
+
+pub returns : goal.returns
+returns c =
+    let p = c.args.self.now in
+    let a = c.note_and_pop_checkpoints.new.self in
+    let q = c.hand_out.new.self in
+    let noted = c.note_all.new.ended.items in
+    others_dropped p a q noted c.hand_out.result c.requires.tied c.requires.sound
+    (groups_of p c.recall_groups.ensures.pending c.recall_groups.ensures.stored)
+    (c.note_all.ensures.items ∙ ap (λ ids. ids ++ numbers p.pending) c.requires.none_ended)
+    (c.note_and_pop_checkpoints.ensures.parts
+    ∙ ap (λ rs. record (emptied p noted a.store.spare a.ended) { pending = rs }) (c.remove_all.ensures ∙ ap (λ ids. staying ids p.pending) c.deref.ensures.value))
+    c.note_and_pop_checkpoints.ensures.noted
+    c.hand_out.ensures.parts c.hand_out.ensures.cleared
+    (c.hand_out.ensures.capacity ∙ c.note_and_pop_checkpoints.ensures.capacity ∙ c.note_all.ensures.capacity)
+    c.hand_out.ensures.count

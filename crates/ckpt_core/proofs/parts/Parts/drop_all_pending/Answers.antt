@@ -1,0 +1,28 @@
+-- The numbers that are noted are those of the pending records, and no done record has one of them.
+use Rattle.std.proofs.Common.{◌++◌, length, ap, ◌∙◌, arith}
+use Rattle.ckpt_core.specs.Parts.{state_of, is_noted}
+use Rattle.ckpt_core.proofs.DropMoves.{numbers, groups_of, noted_tied, done_not_noted, room_to_note, pending_dropped}
+use Rattle.ckpt_core.proofs.parts.Parts.drop_all_pending.Goals as goal
+
+pub note_all-requires : goal.note_all-requires
+note_all-requires c = record { room = omega (arith, room_to_note c.args.self.now (length c.args.self.now.pending) c.requires (omega arith)) }
+
+pub drop_noted-requires-clause-tied : goal.drop_noted-requires-clause-tied
+drop_noted-requires-clause-tied c = noted_tied c.args.self.now c.note_all.new.ended c.requires.tied c.note_all.ensures.capacity
+
+pub drop_noted-requires-clause-sound : goal.drop_noted-requires-clause-sound
+unfolding state_of
+drop_noted-requires-clause-sound c = c.requires.sound
+
+pub drop_noted-requires-clause-pending_only : goal.drop_noted-requires-clause-pending_only
+drop_noted-requires-clause-pending_only c = λ r h.
+    let p = c.args.self.now in
+    ap (λ ids. is_noted ids r) (c.note_all.ensures.items ∙ ap (λ ids. ids ++ numbers p.pending) c.requires.none_ended) ∙ done_not_noted p c.requires.sound r h
+
+pub returns : goal.returns
+returns c =
+    let p = c.args.self.now in
+    pending_dropped p c.drop_noted.new.self c.note_all.new.ended c.drop_noted.result c.requires.sound
+    (groups_of p c.recall_groups.ensures.pending c.recall_groups.ensures.stored)
+    (c.note_all.ensures.items ∙ ap (λ ids. ids ++ numbers p.pending) c.requires.none_ended)
+    c.drop_noted.ensures

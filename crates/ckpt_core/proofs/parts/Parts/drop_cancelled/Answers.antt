@@ -1,0 +1,43 @@
+-- What a cancelled job drops, by its configuration, is counted in the groups.
+use Rattle.std.proofs.Common.{◌+◌, ◌||◌, length, ap, sym, ◌∙◌, arith}
+use Rattle.ckpt_core.specs.Parts.{state_of}
+use Rattle.ckpt_core.specs.State.{is_pending, is_done_checkpoint}
+use Rattle.ckpt_core.specs.Steps.{cancelled}
+use Rattle.ckpt_core.proofs.DropMoves.{groups_of, drops_same}
+use Rattle.ckpt_core.proofs.EndingCounts.{few_pending, few_done, kept_tests, all_tests, pending_counted, all_counted}
+use Rattle.ckpt_core.proofs.parts.Parts.drop_cancelled.Goals as goal
+
+pub overflow_cast-pending : goal.overflow_cast-pending
+overflow_cast-pending c =
+    let p = c.args.self.now in
+    omega (arith, few_pending p c.requires (groups_of p c.recall_groups.ensures.pending c.recall_groups.ensures.stored))
+
+pub overflow_add-result : goal.overflow_add-result
+overflow_add-result c =
+    let p = c.args.self.now in
+    omega (arith, few_pending p c.requires (groups_of p c.recall_groups.ensures.pending c.recall_groups.ensures.stored), few_done p c.requires c.recall_groups.ensures.stored)
+
+pub returns-then-keep_on_cancel-clause-drops : goal.returns-then-keep_on_cancel-clause-drops
+returns-then-keep_on_cancel-clause-drops c =
+    let p = c.args.self.now in
+    drops_same p c.drop_all_pending.new.self is_pending (cancelled (state_of p)) c.drop_all_pending.result
+    (λ r h. kept_tests p (sym c.keep_on_cancel.ensures ∙ c.if-keep_on_cancel.true) r) c.drop_all_pending.ensures
+
+pub returns-then-keep_on_cancel-clause-dropped : goal.returns-then-keep_on_cancel-clause-dropped
+returns-then-keep_on_cancel-clause-dropped c =
+    let p = c.args.self.now in
+    c.len-pending.ensures
+    ∙ pending_counted p (groups_of p c.recall_groups.ensures.pending c.recall_groups.ensures.stored) (sym c.keep_on_cancel.ensures ∙ c.if-keep_on_cancel.true)
+
+pub returns-else-keep_on_cancel-clause-drops : goal.returns-else-keep_on_cancel-clause-drops
+returns-else-keep_on_cancel-clause-drops c =
+    let p = c.args.self.now in
+    drops_same p c.drop_all_but_savepoints.new.self (λ r. is_pending r || is_done_checkpoint r) (cancelled (state_of p)) c.drop_all_but_savepoints.result
+    (λ r h. all_tests p (sym c.keep_on_cancel.ensures ∙ c.if-keep_on_cancel.false) r) c.drop_all_but_savepoints.ensures
+
+pub returns-else-keep_on_cancel-clause-dropped : goal.returns-else-keep_on_cancel-clause-dropped
+returns-else-keep_on_cancel-clause-dropped c =
+    let p = c.args.self.now in
+    ap (λ n. n + c.checkpoints-done.result) c.len-pending.ensures
+    ∙ ap (λ n. length p.pending + n) c.checkpoints-done.ensures.value
+    ∙ all_counted p (groups_of p c.recall_groups.ensures.pending c.recall_groups.ensures.stored) (sym c.keep_on_cancel.ensures ∙ c.if-keep_on_cancel.false)

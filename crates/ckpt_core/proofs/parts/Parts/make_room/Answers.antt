@@ -1,0 +1,18 @@
+use Rattle.std.proofs.Common.{◌≡◌, ◌+◌, ◌≤◌, arith, ℕ, length}
+use Rattle.std.proofs.lemmas.Result.{on_ok_weaker}
+use Rattle.ckpt_core.proofs.Lookups.{length-records_of}
+use Rattle.ckpt_core.proofs.parts.Parts.make_room.Goals as goal
+
+pub overflow_add-live : goal.overflow_add-live
+overflow_add-live c = let p = c.args.self.now in omega (arith, length-records_of p.registry p.pending p.store.checkpoints p.store.savepoints, c.requires)
+
+pub overflow_add-live-2 : goal.overflow_add-live-2
+overflow_add-live-2 c = let p = c.args.self.now in omega (arith, length-records_of p.registry p.pending p.store.checkpoints p.store.savepoints, c.requires)
+
+pub overflow_add-live-3 : goal.overflow_add-live-3
+overflow_add-live-3 c = let p = c.args.self.now in omega (arith, length-records_of p.registry p.pending p.store.checkpoints p.store.savepoints, c.requires)
+
+pub returns-clause-room : goal.returns-clause-room
+returns-clause-room c =
+    let p = c.args.self.now in
+    on_ok_weaker c.reserve.result (λ h. omega (arith, length-records_of p.registry p.pending p.store.checkpoints p.store.savepoints, h)) c.reserve.ensures.ok

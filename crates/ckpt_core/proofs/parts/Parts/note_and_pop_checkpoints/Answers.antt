@@ -1,0 +1,27 @@
+-- There was room for the numbers of all checkpoints, and there still is for those that are left.
+use Rattle.std.proofs.Common.{◌≡◌, ◌+◌, ℕ, ◌<◌, ◌≤◌, ◌++◌, List, [], ◌∷◌, length, ap, arith, Some, length-append}
+use Rattle.std.proofs.lemmas.List.{length-map}
+use Rattle.std.specs.Vec.{vec_capacity}
+use Rattle.ckpt_ids.specs.Records.{Record}
+use Rattle.ckpt_store.specs.Storing.{lowest}
+use Rattle.ckpt_core.proofs.DropMoves.{numbers}
+use Rattle.ckpt_core.proofs.parts.Parts.note_and_pop_checkpoints.Goals as goal
+
+one_there : (rs : List Record) (id : ℕ) → Some id ≡ lowest rs → 0 < length rs
+one_there [] id e = absurd (cc)
+one_there (r ∷ rs) id e = omega arith
+
+room_left : (now was : List ℕ) (rs qs : List Record) (room : ℕ) → now ++ numbers rs ≡ was ++ numbers qs → length was + length qs ≤ room → 0 < length rs → length now < room
+room_left now was rs qs room e fits one =
+    omega (arith, ap length e, length-append now (numbers rs), length-append was (numbers qs), length-map rs (λ (r : Record). r.id), length-map qs (λ (r : Record). r.id))
+
+pub push_reserved-requires : goal.push_reserved-requires
+push_reserved-requires c =
+    let p = c.args.self.now in
+    let q = c.loop-id.self in
+    let room : length p.ended.items + length p.store.checkpoints ≤ vec_capacity q.ended = omega (arith, c.requires.room, c.loop-id.invariant.capacity) in
+    omega (
+      arith,
+      room_left q.ended.items p.ended.items q.store.checkpoints p.store.checkpoints (vec_capacity q.ended) c.loop-id.invariant.items room
+          (one_there q.store.checkpoints c.in-Some.id c.in-Some.ensures.dropped),
+    )

@@ -1,0 +1,28 @@
+-- After the drop the job begins again at the moment of the call.
+use Rattle.std.proofs.Common.{None, subst}
+use Rattle.ckpt_ids.specs.declared.call.Target.{Target}
+use Rattle.ckpt_ids.specs.declared.call.Call.TheVariants as call
+use Rattle.ckpt_core.specs.Parts.{state_of, IsAccepted}
+use Rattle.ckpt_core.proofs.Accepted.{accepted_restore, accepted_restore_savepoint}
+use Rattle.ckpt_core.proofs.EndingMoves.{rolled_back_in_order, restarted_clock, restored_answers}
+use Rattle.ckpt_core.proofs.parts.Parts.restore.Goals as goal
+
+pub roll_back-released-requires-clause-there : goal.roll_back-released-requires-clause-there
+roll_back-released-requires-clause-there c = λ id e.
+    let p = c.args.self.now in
+    let P : Target → Type 0 = λ t. IsAccepted p (call.Restore c.args.now t None) in
+    accepted_restore_savepoint (state_of p) c.args.now id None (subst P e c.requires.accepted)
+
+pub read-moment-requires : goal.read-moment-requires
+read-moment-requires c = accepted_restore (state_of c.args.self.now) c.args.now c.args.target None c.requires.accepted
+
+pub choice-requires : goal.choice-requires
+choice-requires c = rolled_back_in_order c.args.self.now c.roll_back-released.new.self c.args.target c.requires.sound.sound c.roll_back-released.ensures.state
+
+pub returns : goal.returns
+returns c =
+    let q = c.roll_back-released.new.self in
+    restored_answers c.args.self.now q c.args.now c.args.target c.restarted.new.self c.reset.new.self c.choice.result c.roll_back-released.result c.requires.accepted
+    c.roll_back-released.ensures.state c.roll_back-released.ensures.count c.roll_back-released.ensures.tied c.roll_back-released.ensures.cleared
+    (restarted_clock c.args.now c.read-moment.result q c.see.new.self c.restarted.new.self c.read-moment.ensures.value c.see.ensures c.restarted.ensures)
+    c.reset.ensures c.choice.ensures

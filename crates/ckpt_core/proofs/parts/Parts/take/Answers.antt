@@ -1,0 +1,6 @@
+-- The files that are taken keep their places.
+use Rattle.ckpt_core.proofs.ReadMoves.{taken_answers}
+use Rattle.ckpt_core.proofs.parts.Parts.take.Goals as goal
+
+pub returns-clause-ok : goal.returns-clause-ok
+returns-clause-ok c = taken_answers c.args.self.now c.args.most c.take.new.self c.in_ok-take.field-0 c.requires.sound c.requires.accepted c.in_ok-take.ensures.ok c.in_ok-take.ensures.files

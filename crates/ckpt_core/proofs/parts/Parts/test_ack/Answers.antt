@@ -1,0 +1,28 @@
+use Rattle.std.proofs.Common.{rules, refl}
+use Rattle.ckpt_core.specs.Parts.{state_of}
+use Rattle.ckpt_core.specs.Refusals.{refusal}
+use Rattle.ckpt_core.proofs.RefusalRows.{row_holds, row_fails, row_last, rows_hold, rows_fail}
+use Rattle.ckpt_core.proofs.RefusalLookups.{part_rows, no_part_rows}
+use Rattle.ckpt_core.proofs.parts.Parts.test_ack.Goals as goal
+
+pub returns-in_err-test_moment : goal.returns-in_err-test_moment
+unfolding refusal state_of
+returns-in_err-test_moment c = search (rules, row_holds, row_fails, row_last)
+
+pub returns-in_err-test_files : goal.returns-in_err-test_files
+unfolding refusal state_of
+returns-in_err-test_files c = search (rules, row_fails, rows_hold)
+
+pub returns-in_err-test_given : goal.returns-in_err-test_given
+unfolding refusal state_of
+returns-in_err-test_given c = search (rules, row_holds, row_fails, rows_fail)
+
+pub returns-in-Some : goal.returns-in-Some
+unfolding refusal state_of
+returns-in-Some c = row_fails _ _ _ c.in_ok-test_moment.ensures (rows_fail _ _ _ _ c.in_ok-test_files.ensures (row_fails _ _ _ c.in_ok-test_given.ensures
+    (part_rows c.args.self.now c.args.id c.args.subtask c.args.fresh.now c.args.reused.now _ c.in-Some.pending.now _ c.requires.tied c.in-Some.ensures c.test_part.ensures refl)))
+
+pub returns-in-None : goal.returns-in-None
+unfolding refusal state_of
+returns-in-None c = row_fails _ _ _ c.in_ok-test_moment.ensures (rows_fail _ _ _ _ c.in_ok-test_files.ensures (row_fails _ _ _ c.in_ok-test_given.ensures
+    (no_part_rows _ _ _ _ _ c.in-None.ensures refl)))

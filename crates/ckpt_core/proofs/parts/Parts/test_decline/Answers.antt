@@ -1,0 +1,22 @@
+use Rattle.std.proofs.Common.{rules, ◌∙◌, ap, refl, sym, Option}
+use Rattle.ckpt_ids.specs.Records.{Record}
+use Rattle.ckpt_core.specs.Parts.{state_of}
+use Rattle.ckpt_core.specs.Refusals.{refusal, is_foreign}
+use Rattle.ckpt_core.proofs.RefusalRows.{row_holds, row_fails, row_last}
+use Rattle.ckpt_core.proofs.parts.Parts.test_decline.Goals as goal
+
+pub returns-in_err-test_moment : goal.returns-in_err-test_moment
+unfolding refusal state_of
+returns-in_err-test_moment c = search (rules, row_holds, row_fails, row_last)
+
+pub returns-in_err-test_given : goal.returns-in_err-test_given
+unfolding refusal state_of
+returns-in_err-test_given c = search (rules, row_holds, row_fails, row_last)
+
+pub returns-in-Some : goal.returns-in-Some
+unfolding refusal state_of
+returns-in-Some c = row_fails _ _ _ c.in_ok-test_moment.ensures (row_fails _ _ _ c.in_ok-test_given.ensures (row_last _ _ _ (c.test_subtask.ensures ∙ ap (λ (o : Option Record). is_foreign o c.args.subtask) (sym c.in-Some.ensures)) refl))
+
+pub returns-in-None : goal.returns-in-None
+unfolding refusal state_of
+returns-in-None c = row_fails _ _ _ c.in_ok-test_moment.ensures (row_fails _ _ _ c.in_ok-test_given.ensures (row_last _ _ _ (ap (λ (o : Option Record). is_foreign o c.args.subtask) (sym c.in-None.ensures)) refl))

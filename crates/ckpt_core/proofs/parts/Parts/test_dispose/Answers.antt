@@ -1,0 +1,13 @@
+use Rattle.std.proofs.Common.{rules}
+use Rattle.ckpt_core.specs.Parts.{state_of}
+use Rattle.ckpt_core.specs.Refusals.{refusal}
+use Rattle.ckpt_core.proofs.RefusalRows.{row_holds, row_fails, row_last}
+use Rattle.ckpt_core.proofs.parts.Parts.test_dispose.Goals as goal
+
+pub returns-in_err-refuse_if : goal.returns-in_err-refuse_if
+unfolding refusal state_of
+returns-in_err-refuse_if c = search (rules, row_holds, row_fails, row_last)
+
+pub returns : goal.returns
+unfolding refusal state_of
+returns c = search (rules, row_holds, row_fails, row_last)

@@ -1,0 +1,21 @@
+use Rattle.std.proofs.Common.{rules}
+use Rattle.ckpt_core.specs.Parts.{state_of}
+use Rattle.ckpt_core.specs.Refusals.{refusal}
+use Rattle.ckpt_core.proofs.RefusalRows.{row_holds, row_fails, row_last}
+use Rattle.ckpt_core.proofs.parts.Parts.test_restore.Goals as goal
+
+pub returns-in_err-test_moment : goal.returns-in_err-test_moment
+unfolding refusal state_of
+returns-in_err-test_moment c = search (rules, row_holds, row_fails, row_last)
+
+pub returns-in_err-test_not_cancelled : goal.returns-in_err-test_not_cancelled
+unfolding refusal state_of
+returns-in_err-test_not_cancelled c = search (rules, row_holds, row_fails, row_last)
+
+pub returns-in-Latest : goal.returns-in-Latest
+unfolding refusal state_of
+returns-in-Latest c = search (rules, row_holds, row_fails, row_last)
+
+pub returns-in-Savepoint : goal.returns-in-Savepoint
+unfolding refusal state_of
+returns-in-Savepoint c = search (rules, row_holds, row_fails, row_last)

@@ -1,0 +1,17 @@
+use Rattle.std.proofs.Common.{rules}
+use Rattle.ckpt_core.specs.Parts.{state_of}
+use Rattle.ckpt_core.specs.Refusals.{refusal}
+use Rattle.ckpt_core.proofs.RefusalRows.{row_holds, row_fails, row_last}
+use Rattle.ckpt_core.proofs.parts.Parts.test_tick.Goals as goal
+
+pub returns-in_err-test_moment : goal.returns-in_err-test_moment
+unfolding refusal state_of
+returns-in_err-test_moment c = search (rules, row_holds, row_fails, row_last)
+
+pub returns-in_err-test_running : goal.returns-in_err-test_running
+unfolding refusal state_of
+returns-in_err-test_running c = search (rules, row_holds, row_fails, row_last)
+
+pub returns : goal.returns
+unfolding refusal state_of
+returns c = search (rules, row_holds, row_fails, row_last)

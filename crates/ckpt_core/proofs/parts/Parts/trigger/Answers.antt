@@ -1,0 +1,38 @@
+use Rattle.std.proofs.Common.{◌≡◌, ◌∙◌, ◌≤◌, sym, ap, subst, arith}
+use Rattle.std.proofs.lemmas.Result.{on_ok_weaker, on_err_weaker}
+use Rattle.ckpt_core.specs.declared.parts.Parts.{Parts}
+use Rattle.ckpt_core.specs.Parts.{state_of, records_in}
+use Rattle.ckpt_core.specs.Soundness.{IsSound}
+use Rattle.ckpt_core.specs.State.{State, pins_now}
+use Rattle.ckpt_core.specs.Steps.{triggered}
+use Rattle.ckpt_core.proofs.TriggerParts.{ended_state, live_records}
+use Rattle.std.proofs.Common.{Result, Ok, Err, OnErr}
+use Rattle.ckpt_core.proofs.parts.Parts.trigger.Goals as goal
+
+-- what holds anyway holds where there is an error
+on_err_from : {T E P : Type 0} (r : Result T E) → P → OnErr r P
+on_err_from (Ok x) h = tt
+on_err_from (Err e) h = h
+
+pub make_room-requires : goal.make_room-requires
+make_room-requires c = let few = live_records c.args.self.now c.requires.sound in omega arith
+
+pub returns-in_err-make_room-clause-err : goal.returns-in_err-make_room-clause-err
+returns-in_err-make_room-clause-err c =
+    on_err_from c.from_residual-in_err-make_room.result (ended_state c.args.self.now c.make_room.new.self c.make_room.ensures.parts)
+
+pub add-requires-clause-sound : goal.add-requires-clause-sound
+add-requires-clause-sound c =
+    let P : State → Type 0 = λ m. IsSound m in
+    subst P (sym (ended_state c.args.self.now c.make_room.new.self c.make_room.ensures.parts)) c.requires.sound
+
+pub add-requires-clause-pins : goal.add-requires-clause-pins
+add-requires-clause-pins c = c.in_ok-pins.ensures ∙ ap pins_now (sym (ended_state c.args.self.now c.make_room.new.self c.make_room.ensures.parts))
+
+pub returns-clause-ok : goal.returns-clause-ok
+returns-clause-ok c =
+    on_ok_weaker c.add.result (λ h. h ∙ ap (λ m. triggered m c.args.kind) (ended_state c.args.self.now c.make_room.new.self c.make_room.ensures.parts)) c.add.ensures.ok
+
+pub returns-clause-err : goal.returns-clause-err
+returns-clause-err c =
+    on_err_weaker c.add.result (λ h. h ∙ ended_state c.args.self.now c.make_room.new.self c.make_room.ensures.parts) c.add.ensures.err

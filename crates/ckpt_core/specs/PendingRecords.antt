@@ -1,0 +1,33 @@
+-- The records that wait for acknowledgements, as a list in rising number, and the map that keeps them.
+use Rattle.std.specs.Prelude.{◌≡◌, ℕ, ◌==◌, List, map, count_by, if◌then◌else◌}
+use Rattle.ckpt_ids.specs.declared.subtask.SubtaskId.{SubtaskId}
+use Rattle.ckpt_ids.specs.Ordered.{IsIn, IsInOrder}
+use Rattle.ckpt_ids.specs.Records.{Record}
+use Rattle.ckpt_pending.specs.Acknowledging.{IsPending, without_ack}
+use Rattle.ckpt_core.specs.State.{is_checkpoint}
+use Rattle.ckpt_core.specs.Soundness.{id_before}
+use Rattle.ckpt_core.specs.Steps.{acknowledged}
+
+-- the records after a subtask acknowledged the one of this number
+abbrev pub acked : ℕ → SubtaskId → List ℕ → List Record → List Record
+acked id subtask files rs = map (λ r. if r.id == id then acknowledged r subtask files else r) rs
+
+-- the records without the acknowledgement of a subtask in the one of this number
+abbrev pub retracted : ℕ → SubtaskId → List Record → List Record
+retracted id subtask rs = map (λ r. if r.id == id then without_ack subtask r else r) rs
+
+-- a map's records, in the order of its keys
+abbrev pub records_in : List (ℕ × Record) → List Record
+records_in entries = map (λ e. e.1) entries
+
+-- records with their numbers as keys
+abbrev pub by_number : List Record → List (ℕ × Record)
+by_number rs = map (λ r. (r.id, r)) rs
+
+-- what holds of the map of pending records, and of the counter beside it
+pub record AreKept (entries : List (ℕ × Record)) (checkpoints : ℕ) : Type 0 where
+  -- each key is its record's number
+  pub keys : entries ≡ by_number (records_in entries)
+  pub in_order : IsInOrder id_before (records_in entries)
+  pub pending : (r : Record) → IsIn r (records_in entries) → IsPending r
+  pub counted : checkpoints ≡ count_by is_checkpoint (records_in entries)

@@ -1,0 +1,171 @@
+ghost use Rattle.std.specs.Prelude.{◌≡◌, ◌↔◌, ℕ, true, None, Some, Err, IfOk, OnErr};
+ghost use Rattle.std.specs.Result.{result_err};
+ghost use Rattle.ckpt_ids.specs.declared.reply.Answer.TheVariants.{Done};
+ghost use Rattle.ckpt_ids.specs.declared.reply.Refusal.{Refusal};
+ghost use Rattle.ckpt_core.specs.Memory.{may_want_memory};
+ghost use Rattle.ckpt_core.specs.Opening.{open_fault};
+ghost use Rattle.ckpt_core.specs.Parts.{Answers, AreSound, IsAccepted, Stays, state_of};
+ghost use Rattle.ckpt_core.specs.Refusals.{refusal};
+ghost use Rattle.ckpt_core.specs.Soundness.{IsCall};
+ghost use Rattle.ckpt_core.specs.State.{opened};
+ghost use Rattle.ckpt_core.specs.Steps.{step};
+
+use crate::parts::Parts;
+use crate::refusals::{MOMENTS_END, NUMBERS_END};
+use ckpt_ids::{Call, Config, Refusal, Reply, Shape};
+use std::alloc::{AllocError, Global};
+use std::marker::Model;
+use thiserror::Error;
+
+/// Why a coordinator was not opened. They are tested in this order.
+#[derive(Clone, Copy, Debug, PartialEq, Eq, Error)]
+pub enum OpenFault {
+    /// The moment is above 2^62 - 1 milliseconds.
+    #[error("the moment is above 2^62 - 1 milliseconds")]
+    MomentTooLarge,
+    /// The first number is 0, or above 2^62 - 1.
+    #[error("the first number is not within 1 to 2^62 - 1")]
+    BadFirst,
+}
+
+/// Why a call has changed nothing.
+#[derive(Clone, Copy, Debug, PartialEq, Eq, Error)]
+pub enum CoreFault {
+    /// The coordinator refuses the call as it stands.
+    #[error("the call is refused")]
+    Refused(Refusal),
+    /// The call is lawful, and memory ran out.
+    #[error("out of memory")]
+    Memory,
+}
+
+impl From<AllocError> for CoreFault {
+    ghost use Rattle.std.specs.Prelude.{◌≡◌};
+    ghost use Rattle.ckpt_core.specs.declared.coordinator.CoreFault.TheVariants.{Memory};
+
+    ghost from_gives = { λ _ fault. fault ≡ Memory };
+
+    fn from(_error: AllocError) -> CoreFault {
+        CoreFault::Memory
+    }
+}
+
+/// The checkpoint coordinator of one job, for one thread.
+///
+/// It triggers checkpoints and savepoints, collects the acknowledgements of a job's subtasks,
+/// keeps what is completed, and hands out the files that no record uses any more.
+///
+/// What each call does is defined in `specs/Steps.antt`, and when it is refused in
+/// `specs/Refusals.antt`; `specs/Soundness.antt` lists what holds of a coordinator at each moment.
+/// Source: the Flink documentation, "Checkpoints", "Savepoints" and "Checkpointing".
+#[derive(Drop)]
+pub struct Core {
+    parts: Parts,
+}
+
+impl Model for Core {
+    ghost use Rattle.ckpt_core.specs.Parts.{AreSound, state_of};
+    ghost use Rattle.ckpt_core.specs.State.{State};
+
+    ghost Value = { State };
+
+    ghost view = { λ c. state_of c.parts };
+
+    ghost invariant = { λ c. AreSound c.parts };
+}
+
+impl Core {
+    /// Opens the coordinator of a job, which runs from the moment `now` on, in milliseconds. Its
+    /// first record will have the number `first`.
+    ///
+    /// Answers [`OpenFault::MomentTooLarge`] exactly where `now` is above 2^62 - 1, and else
+    /// [`OpenFault::BadFirst`] exactly where `first` is outside 1 to 2^62 - 1. Takes no memory.
+    pub fn new(
+        alloc: Global,
+        config: Config,
+        shape: Shape,
+        now: u64,
+        first: u64,
+    ) -> Result<Core, OpenFault>
+        ensures fault { result_err result ≡ open_fault now first }
+        ensures value { IfOk result (λ core. core ≡ opened (record { config = config; shape = shape; start = now; first = first })) }
+    {
+        if now >= MOMENTS_END {
+            return Err(OpenFault::MomentTooLarge);
+        }
+        if first == 0 || first >= NUMBERS_END {
+            return Err(OpenFault::BadFirst);
+        }
+        let parts = Parts::new(alloc, config, shape, now, first);
+        Ok(Core { parts })
+    }
+
+    /// Makes a call, and answers what it gave. Moments are in milliseconds.
+    ///
+    /// Answers [`CoreFault::Refused`] exactly where the table of `specs/Refusals.antt` has a row
+    /// for the call, with the first such row, and else [`CoreFault::Memory`] where memory runs
+    /// out. After an error nothing has changed, and the moment of the call is not kept.
+    ///
+    /// Memory is taken only by a tick that triggers, a savepoint, an acknowledgement (a late one
+    /// only where it hands files out), a restore with a shape, a take and a show.
+    pub fn apply(&mut self, call: &Call) -> Result<Reply, CoreFault>
+        ensures done { IfOk result (λ reply. step self.old call.now ≡ (self.new, Done reply)) }
+        ensures refused { (why : Refusal) → (result ≡ Err (CoreFault.Refused why)) ↔ (refusal self.old call.now ≡ Some why) }
+        ensures memory { result ≡ Err CoreFault.Memory → may_want_memory self.old call.now ≡ true }
+        ensures unchanged { OnErr result (self.new ≡ self.old) }
+    {
+        recall_shape(call);
+        if let Some(why) = self.parts.refusal(call) {
+            return Err(CoreFault::Refused(why));
+        }
+        Ok(self.parts.answer(call)?)
+    }
+}
+
+/// Does nothing: its contract tells that the shape of a restore is the shape of a job.
+fn recall_shape(call: &Call)
+    ensures { IsCall call.now }
+{
+    if let Call::Restore {
+        shape: Some(shape),
+        ..
+    } = call
+    {
+        let _ = shape.size();
+    }
+}
+
+impl Parts {
+    /// Makes a call that is not refused.
+    fn answer(&mut self, call: &Call) -> Result<Reply, AllocError>
+        requires sound { AreSound self.old }
+        requires accepted { IsAccepted self.old call.now }
+        ensures ok { IfOk result (Answers self.old self.new call.now) }
+        ensures err { OnErr result (Stays self.old self.new) }
+        ensures memory { OnErr result (may_want_memory (state_of self.old) call.now ≡ true) }
+    {
+        match call {
+            Call::Tick { now } => self.tick(*now),
+            Call::Savepoint { now } => self.savepoint(*now),
+            Call::Ack {
+                now,
+                id,
+                subtask,
+                fresh,
+                reused,
+            } => { self.ack(*now, *id, *subtask, fresh, reused) }
+            Call::Decline { now, id, subtask } => Ok(self.decline(*now, *id, *subtask)),
+            Call::Dispose { id } => Ok(self.dispose(*id)),
+            Call::Restore { now, target, shape } => match shape {
+                Some(shape) => self.restore_in(*now, *target, shape),
+                None => Ok(self.restore(*now, *target)),
+            },
+            Call::Cancel { now } => Ok(self.cancel(*now)),
+            Call::Take { most } => self.take(*most),
+            Call::Deleted { file } => Ok(self.deleted(*file)),
+            Call::Undeleted { file } => Ok(self.undeleted(*file)),
+            Call::Show { id } => self.show(*id),
+            Call::Count { file } => Ok(self.count(*file)),
+        }
+    }
+}

@@ -1,0 +1,133 @@
+ghost use Rattle.std.specs.Prelude.{◌≡◌, ◌-◌, ◌≤◌, ◌++◌, ◌||◌, ◌==◌, ◌≢◌, ◌+◌, ℕ, [], true, false, find, length, map, Some, IsSome, vec_len};
+ghost use Rattle.std.specs.Vec.{vec_capacity};
+ghost use Rattle.ckpt_ids.specs.Records.{Record, is_present, released};
+ghost use Rattle.ckpt_ids.specs.Ordered.{IsIn};
+ghost use Rattle.ckpt_outbox.specs.Queues.{is_known};
+ghost use Rattle.ckpt_pending.specs.Acknowledging.{IsPending};
+ghost use Rattle.ckpt_registry.specs.Uses.{without, after_end};
+ghost use Rattle.ckpt_store.specs.Storing.{IsStored, has_savepoint};
+ghost use Rattle.ckpt_core.specs.Parts.{AreSound, AreTied, Drops, is_noted, present_in, state_of};
+ghost use Rattle.ckpt_core.specs.Soundness.{IsSound};
+ghost use Rattle.ckpt_core.specs.State.{is_done_checkpoint, is_pending};
+
+use crate::parts::Parts;
+use ckpt_ids::CheckpointId;
+
+impl Parts {
+    /// Changes nothing: its contract tells that pending records are beside the store, and done ones
+    /// in it.
+    pub fn recall_groups(&self)
+        ensures pending { (r : Record) → IsIn r self.now.pending → IsPending r }
+        ensures stored { IsStored self.now.store }
+    {
+        let _ = self.pending.get(CheckpointId(0));
+        let _ = self.store.savepoints();
+    }
+
+    /// Releases the uses of the records whose numbers were noted, hands out the files that no
+    /// record uses any more, and answers how many these are. Takes no memory.
+    pub fn hand_out(&mut self) -> u64
+        requires unknown { (f : ℕ) → is_present self.old.registry f ≡ true → is_known self.old.outbox f ≡ false }
+        requires room { present_in self.old.registry ≤ self.old.outbox.spare }
+        ensures parts { let after = without self.old.ended.items self.old.registry in
+            let files = released self.old.registry after in
+            self.new ≡ record self.old { registry = after; outbox = record self.old.outbox { waiting = self.old.outbox.waiting ++ files; spare = self.old.outbox.spare - length files }; ended = self.new.ended } }
+        ensures cleared { self.new.ended.items ≡ [] }
+        ensures capacity { vec_capacity self.new.ended ≡ vec_capacity self.old.ended }
+        ensures count { result ≡ length (released self.old.registry (without self.old.ended.items self.old.registry)) }
+    {
+        let files = self.registry.release(&self.ended);
+        let count = files.len() as u64;
+        self.outbox.put(files);
+        self.ended.clear();
+        count
+    }
+
+    /// The same, where the record `id` ends too and gives up its pins.
+    pub fn hand_out_after(&mut self, id: CheckpointId) -> u64
+        requires unknown { (f : ℕ) → is_present self.old.registry f ≡ true → is_known self.old.outbox f ≡ false }
+        requires room { present_in self.old.registry ≤ self.old.outbox.spare }
+        ensures parts { let after = after_end id self.old.ended.items self.old.registry in
+            let files = released self.old.registry after in
+            self.new ≡ record self.old { registry = after; outbox = record self.old.outbox { waiting = self.old.outbox.waiting ++ files; spare = self.old.outbox.spare - length files }; ended = self.new.ended } }
+        ensures cleared { self.new.ended.items ≡ [] }
+        ensures capacity { vec_capacity self.new.ended ≡ vec_capacity self.old.ended }
+        ensures count { result ≡ length (released self.old.registry (after_end id self.old.ended.items self.old.registry)) }
+    {
+        let files = self.registry.end(id, &self.ended);
+        let count = files.len() as u64;
+        self.outbox.put(files);
+        self.ended.clear();
+        count
+    }
+
+    /// Drops the pending records whose numbers were noted, and answers how many files were
+    /// released. Takes no memory.
+    pub fn drop_noted(&mut self) -> u64
+        requires tied { AreTied self.old }
+        requires sound { IsSound (state_of self.old) }
+        requires pending_only { (r : Record) → IsIn r (self.old.store.checkpoints ++ self.old.store.savepoints) → is_noted self.old.ended.items r ≡ false }
+        ensures { Drops self.old self.new (is_noted self.old.ended.items) result }
+    {
+        self.pending.remove_all(&self.ended);
+        self.hand_out()
+    }
+
+    /// Drops all pending records, and answers how many files were released. Takes no memory.
+    pub fn drop_all_pending(&mut self) -> u64
+        requires { AreSound self.old }
+        ensures { Drops self.old self.new is_pending result }
+    {
+        self.recall_groups();
+        self.pending.note_all(&mut self.ended);
+        self.drop_noted()
+    }
+
+    /// Drops the pending record `id`, and answers how many files were released. Takes no memory.
+    pub fn drop_pending(&mut self, id: CheckpointId) -> u64
+        requires sound { AreSound self.old }
+        requires there { IsSome (find (λ r. r.id == id) self.old.pending) }
+        ensures { Drops self.old self.new (λ r. r.id == id) result }
+    {
+        self.ended.push_reserved(id);
+        self.drop_noted()
+    }
+
+    /// Drops all pending records and all completed checkpoints, and answers how many files were
+    /// released. Takes no memory.
+    pub fn drop_all_but_savepoints(&mut self) -> u64
+        requires { AreSound self.old }
+        ensures { Drops self.old self.new (λ r. is_pending r || is_done_checkpoint r) result }
+    {
+        self.recall_groups();
+        self.pending.note_all(&mut self.ended);
+        self.pending.remove_all(&self.ended);
+        self.note_and_pop_checkpoints();
+        self.hand_out()
+    }
+
+    /// Takes all completed checkpoints out of the store and notes their numbers.
+    fn note_and_pop_checkpoints(&mut self)
+        requires room { vec_len self.old.ended + length self.old.store.checkpoints ≤ vec_capacity self.old.ended }
+        ensures parts { self.new ≡ record self.old { store = record self.old.store { checkpoints = []; spare = self.new.store.spare }; ended = self.new.ended } }
+        ensures noted { self.new.ended.items ≡ self.old.ended.items ++ map (λ r. r.id) self.old.store.checkpoints }
+        ensures capacity { vec_capacity self.new.ended ≡ vec_capacity self.old.ended }
+    {
+        while let Some(id) = self.store.pop_lowest() {
+            self.ended.push_reserved(id);
+        }
+    }
+
+    /// Drops a completed savepoint that is not the base, and answers how many files were released.
+    /// Takes no memory.
+    pub fn drop_savepoint(&mut self, id: CheckpointId) -> u64
+        requires sound { AreSound self.old }
+        requires there { has_savepoint self.old.store id ≡ true }
+        requires free { self.old.store.base ≢ Some id }
+        ensures { Drops self.old self.new (λ r. r.id == id) result }
+    {
+        let _ = self.store.dispose(id);
+        self.ended.push_reserved(id);
+        self.hand_out()
+    }
+}

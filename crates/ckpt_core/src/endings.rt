@@ -1,0 +1,169 @@
+ghost use Rattle.std.specs.Prelude.{◌≡◌, ℕ, ◌||◌, true, [], length, Some, None, IfOk, OnErr};
+ghost use Rattle.ckpt_ids.specs.declared.call.Call.TheVariants as call;
+ghost use Rattle.ckpt_ids.specs.declared.call.Target.TheVariants.{Savepoint};
+ghost use Rattle.ckpt_ids.specs.Ordered.{IsInOrder};
+ghost use Rattle.ckpt_core.specs.Parts.{Answers, AreSound, AreTied, Drops, IsAccepted, Stays, records_in, state_of};
+ghost use Rattle.ckpt_core.specs.Refusals.{is_done_savepoint};
+ghost use Rattle.ckpt_core.specs.Soundness.{id_before};
+ghost use Rattle.ckpt_core.specs.State.{choice_of, drop, is_done_checkpoint, is_pending, released_by};
+ghost use Rattle.ckpt_core.specs.Steps.{cancelled, dropped_by, failed_over, rolled_back, with_base};
+
+use crate::mode::Mode;
+use crate::parts::Parts;
+use ckpt_ids::{CheckpointId, Choice, Kind, Reply, Shape, SubtaskId, Target};
+use std::alloc::AllocError;
+
+impl Parts {
+    /// The job fails over: all pending records are dropped, and nothing more is triggered until it
+    /// is restored. Answers how many files were released.
+    pub fn fail_over(&mut self) -> u64
+        requires { AreSound self.old }
+        ensures state { state_of self.new ≡ failed_over (state_of self.old) }
+        ensures count { result ≡ length (released_by (state_of self.old) is_pending None) }
+        ensures tied { AreTied self.new }
+        ensures cleared { self.new.ended.items ≡ [] }
+    {
+        let released = self.drop_all_pending();
+        self.mode = Mode::Failed;
+        released
+    }
+
+    /// A subtask could not take its part.
+    pub fn decline(&mut self, now: u64, id: CheckpointId, subtask: SubtaskId) -> Reply
+        requires sound { AreSound self.old }
+        requires accepted { IsAccepted self.old (call.Decline now id subtask) }
+        ensures { Answers self.old self.new (call.Decline now id subtask) result }
+    {
+        self.recall_groups();
+        let Some(record) = self.pending.get(id) else {
+            self.clock.see(now);
+            return Reply::DeclineLate;
+        };
+        let mut failures = self.failures;
+        // a savepoint counts for nothing
+        let failed = record.kind() == Kind::Checkpoint && failures.add(1);
+        let reply = if failed {
+            Reply::DeclineFailed(self.fail_over())
+        } else {
+            Reply::DeclineAborted(self.drop_pending(id))
+        };
+        self.failures = failures;
+        self.clock.see(now);
+        reply
+    }
+
+    /// A user lets a savepoint go.
+    pub fn dispose(&mut self, id: CheckpointId) -> Reply
+        requires sound { AreSound self.old }
+        requires accepted { IsAccepted self.old (call.Dispose id) }
+        ensures { Answers self.old self.new (call.Dispose id) result }
+    {
+        self.recall_groups();
+        Reply::Disposed(self.drop_savepoint(id))
+    }
+
+    /// The job begins again in its present shape. Takes no memory.
+    pub fn restore(&mut self, now: u64, target: Target) -> Reply
+        requires sound { AreSound self.old }
+        requires accepted { IsAccepted self.old (call.Restore now target None) }
+        ensures { Answers self.old self.new (call.Restore now target None) result }
+    {
+        let released = self.roll_back(target);
+        let moment = self.clock.read(now);
+        self.clock.see(now);
+        self.clock.restarted(&self.opened.config, moment);
+        self.failures.reset();
+        self.mode = Mode::Running;
+        Reply::Restored {
+            from: self.choice(),
+            released,
+        }
+    }
+
+    /// Drops what comes after the target, which becomes the base where it is a savepoint. Answers
+    /// how many files were released.
+    fn roll_back(&mut self, target: Target) -> u64
+        requires sound { AreSound self.old }
+        requires there { (id : ℕ) → target ≡ Savepoint id → is_done_savepoint (state_of self.old) id ≡ true }
+        ensures state { state_of self.new ≡ with_base (drop (state_of self.old) (rolled_back target) None) target }
+        ensures count { result ≡ length (released_by (state_of self.old) (rolled_back target) None) }
+        ensures tied { AreTied self.new }
+        ensures cleared { self.new.ended.items ≡ [] }
+    {
+        match target {
+            Target::Latest => self.drop_all_pending(),
+            Target::Savepoint(id) => self.drop_down_to(id),
+        }
+    }
+
+    /// Drops all but the completed savepoints, of which one becomes the base.
+    fn drop_down_to(&mut self, id: CheckpointId) -> u64
+        requires sound { AreSound self.old }
+        requires there { is_done_savepoint (state_of self.old) id ≡ true }
+        ensures state { state_of self.new ≡ record (drop (state_of self.old) (λ r. is_pending r || is_done_checkpoint r) None) { base = Some id } }
+        ensures count { result ≡ length (released_by (state_of self.old) (λ r. is_pending r || is_done_checkpoint r) None) }
+        ensures tied { AreTied self.new }
+        ensures cleared { self.new.ended.items ≡ [] }
+    {
+        self.recall_groups();
+        self.store.set_base(id);
+        self.drop_all_but_savepoints()
+    }
+
+    /// What the job would restart from.
+    fn choice(&self) -> Choice
+        requires { IsInOrder id_before (records_in self.now) }
+        ensures { result ≡ choice_of (state_of self.now) }
+    {
+        self.recall_groups();
+        self.store.choice()
+    }
+
+    /// The job begins again, in this shape.
+    pub fn restore_in(
+        &mut self,
+        now: u64,
+        target: Target,
+        shape: &Shape,
+    ) -> Result<Reply, AllocError>
+        requires sound { AreSound self.old }
+        requires accepted { IsAccepted self.old (call.Restore now target (Some shape.now)) }
+        ensures ok { IfOk result (Answers self.old self.new (call.Restore now target (Some shape.now))) }
+        ensures err { OnErr result (Stays self.old self.new) }
+    {
+        let shape = shape.copy()?;
+        let reply = self.restore(now, target);
+        self.reshaped = Some(shape);
+        Ok(reply)
+    }
+
+    /// The job ends for good.
+    pub fn cancel(&mut self, now: u64) -> Reply
+        requires sound { AreSound self.old }
+        requires accepted { IsAccepted self.old (call.Cancel now) }
+        ensures { Answers self.old self.new (call.Cancel now) result }
+    {
+        let (dropped, released) = self.drop_cancelled();
+        self.clock.see(now);
+        self.store.clear_base();
+        self.mode = Mode::Cancelled;
+        Reply::Cancelled { dropped, released }
+    }
+
+    /// Drops what a cancelled job does not keep. Answers how many records these were, and how many
+    /// files were released.
+    fn drop_cancelled(&mut self) -> (u32, u64)
+        requires { AreSound self.old }
+        ensures drops { Drops self.old self.new (cancelled (state_of self.old)) result.1 }
+        ensures dropped { result.0 ≡ dropped_by (state_of self.old) (cancelled (state_of self.old)) }
+    {
+        self.recall_groups();
+        let pending = self.pending.len() as u32;
+        let done = self.store.checkpoints();
+        if self.opened.config.keep_on_cancel() {
+            (pending, self.drop_all_pending())
+        } else {
+            (pending + done, self.drop_all_but_savepoints())
+        }
+    }
+}

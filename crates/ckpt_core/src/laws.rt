@@ -1,0 +1,74 @@
+//! The laws of the coordinator, each on a function that does nothing.
+
+ghost use Rattle.std.specs.Prelude.{ℕ, List, ◌++◌};
+ghost use Rattle.ckpt_ids.specs.declared.call.Call.{Call};
+ghost use Rattle.ckpt_core.specs.State.{State, Opening, opened};
+ghost use Rattle.ckpt_core.specs.Histories.{replay};
+ghost use Rattle.ckpt_core.specs.Soundness.{IsSound, IsCall};
+ghost use Rattle.ckpt_core.specs.Laws.{Exchange, Part, CanOpen, AreCalls, Balance, Handed, Accounted, UsedNoMore, Outbox, Acknowledgements, Numbers, Savepoints, ChoiceIsLive, Pinned};
+
+/// Two acknowledgements of different subtasks of one record, one right after the other, go in
+/// either order, with the same answers in turn and the same state after.
+pub fn swap()
+    ensures { (m : State) (now id : ℕ) (p q : Part) → IsSound m → Exchange m now id p q }
+{}
+
+/// Each time that a file is registered it is handed out once, or is present still.
+pub fn balance()
+    ensures { (o : Opening) (calls : List Call) → CanOpen o → AreCalls calls → Balance o calls }
+{}
+
+/// Where no deleted file is reported as new again, a file was handed out exactly when it was
+/// registered and no live record uses it.
+pub fn handed()
+    ensures { (o : Opening) (calls : List Call) → CanOpen o → AreCalls calls → Handed o calls }
+{}
+
+/// A registered file that no live record uses waits for deletion, or was fetched for it, or was
+/// deleted.
+pub fn accounted()
+    ensures { (o : Opening) (calls : List Call) → CanOpen o → AreCalls calls → Accounted o calls }
+{}
+
+/// A live record's acknowledgements are exactly the accepted ones of its number; a done record has
+/// one of each subtask.
+pub fn acknowledgements()
+    ensures { (o : Opening) (calls : List Call) → CanOpen o → AreCalls calls → Acknowledgements o calls }
+{}
+
+/// Numbers are given from the first on, each the one after the one before.
+pub fn numbers()
+    ensures { (o : Opening) (calls : List Call) → Numbers o calls }
+{}
+
+/// A done savepoint stays, unchanged, until an accepted Dispose of its number.
+pub fn savepoints()
+    ensures { (o : Opening) (before calls : List Call) → CanOpen o → AreCalls before → AreCalls calls → Savepoints o before calls }
+{}
+
+/// The record that the choice names is live and done, and its files are present.
+pub fn choice()
+    ensures { (o : Opening) (calls : List Call) → CanOpen o → AreCalls calls → ChoiceIsLive o calls }
+{}
+
+/// An acknowledgement for a pending record that reuses only files of the choice at that record's
+/// trigger is never refused FileGone.
+pub fn pinned()
+    ensures { (o : Opening) (before : List Call) (call : Call) (calls : List Call) → CanOpen o → AreCalls before → IsCall call → AreCalls calls → Pinned o before call calls }
+{}
+
+/// What holds of a coordinator at each moment holds after every list of calls.
+pub fn sound()
+    ensures { (o : Opening) (calls : List Call) → CanOpen o → AreCalls calls → IsSound (replay (opened o) calls) }
+{}
+
+/// A file once handed out is used by no live record, then or later, where no deleted file is
+/// reported as new again.
+pub fn used_no_more()
+    ensures { (o : Opening) (before calls : List Call) → CanOpen o → AreCalls (before ++ calls) → UsedNoMore o before calls }
+{}
+
+/// Each file is in at most one of present, waiting and taken, and there once.
+pub fn outbox()
+    ensures { (o : Opening) (calls : List Call) → CanOpen o → AreCalls calls → Outbox o calls }
+{}

@@ -1,0 +1,47 @@
+ghost use Rattle.std.specs.Prelude.{◌≡◌, ◌<◌, ◌≤◌, ◌^◌};
+ghost use Rattle.ckpt_core.specs.Parts.{AreSound, state_of};
+ghost use Rattle.ckpt_core.specs.State.{opened};
+
+use crate::mode::Mode;
+use crate::parts::{Opened, Parts};
+use crate::pending_records::PendingRecords;
+use ckpt_ids::{Config, Shape};
+use ckpt_outbox::Outbox;
+use ckpt_registry::Registry;
+use ckpt_rules::{Clock, Failures};
+use ckpt_store::Store;
+use std::alloc::Global;
+
+impl Parts {
+    /// The parts of a coordinator that is opened now, at `start` in milliseconds, and whose first
+    /// record has the number `first`. Takes no memory.
+    pub fn new(alloc: Global, config: Config, shape: Shape, start: u64, first: u64) -> Parts
+        requires start { start < 2 ^ 62 }
+        requires from { 1 ≤ first }
+        requires to { first < 2 ^ 62 }
+        ensures sound { AreSound result }
+        ensures state { state_of result ≡ opened (record { config = config; shape = shape; start = start; first = first }) }
+    {
+        // Tells that the shape is within its limits.
+        let _ = shape.size();
+        Parts {
+            alloc,
+            clock: Clock::new(&config, start),
+            failures: Failures::new(config.tolerable()),
+            store: Store::new(alloc, config.retained()),
+            opened: Opened {
+                config,
+                shape,
+                start,
+                first,
+            },
+            reshaped: None,
+            mode: Mode::Running,
+            next: first,
+            pending: PendingRecords::new(alloc),
+            registry: Registry::new(alloc),
+            outbox: Outbox::new(alloc),
+            ended: Vec::new(alloc),
+        }
+    }
+}

@@ -1,0 +1,207 @@
+ghost use Rattle.std.specs.Prelude.{◌≡◌, ℕ, ◌+◌, ◌<◌, ◌≤◌, Bool, true, false, not, ◌&&◌, nat_lt, nat_le, ◌==◌, List, [], ◌∷◌, ◌++◌, map, filter, find, length, count_by, Some, IsSome, OnOk, OnErr, vec_len};
+ghost use Rattle.std.specs.List.{list_any};
+ghost use Rattle.std.specs.Option.{option_copied};
+ghost use Rattle.std.specs.Vec.{vec_capacity};
+ghost use Rattle.ckpt_ids.specs.Ordered.{IsIn, IsInOrder};
+ghost use Rattle.ckpt_ids.specs.Records.{Record, has_acknowledged};
+ghost use Rattle.ckpt_ids.specs.Shapes.{is_subtask};
+ghost use Rattle.ckpt_pending.specs.Acknowledging.{IsPending};
+ghost use Rattle.ckpt_core.specs.PendingRecords.{acked, retracted};
+ghost use Rattle.ckpt_core.specs.Soundness.{id_before};
+ghost use Rattle.ckpt_core.specs.State.{is_checkpoint};
+
+use ckpt_ids::{CheckpointId, Files, Kind, SubtaskId};
+use ckpt_pending::Pending;
+use std::alloc::{AllocError, Global};
+use std::collections::BTreeMap;
+use std::marker::Model;
+
+/// The records that wait for acknowledgements, by number.
+#[derive(Drop)]
+pub struct PendingRecords {
+    records: BTreeMap<CheckpointId, Pending>,
+    // of these records, how many are checkpoints
+    checkpoints: usize,
+}
+
+impl Model for PendingRecords {
+    ghost use Rattle.std.specs.Prelude.{List};
+    ghost use Rattle.ckpt_ids.specs.Records.{Record};
+    ghost use Rattle.ckpt_core.specs.PendingRecords.{records_in, AreKept};
+
+    ghost Value = { List Record };
+
+    ghost view = { λ p. records_in p.records.entries };
+
+    ghost invariant = { λ p. AreKept p.records.entries p.checkpoints };
+}
+
+impl PendingRecords {
+    /// No records. Takes no memory.
+    pub fn new(alloc: Global) -> PendingRecords
+        ensures { result ≡ [] }
+    {
+        PendingRecords {
+            records: BTreeMap::new(alloc),
+            checkpoints: 0,
+        }
+    }
+
+    /// The record of this number.
+    pub fn get(&self, id: CheckpointId) -> Option<&Pending>
+        ensures value { option_copied result ≡ find (λ r. r.id == id) self.now }
+        ensures in_order { IsInOrder id_before self.now }
+        ensures pending { (r : Record) → IsIn r self.now → IsPending r }
+    {
+        self.records.get(&id)
+    }
+
+    /// Adds a record with a greater number than all others. Fails only for want of memory, and
+    /// then adds none.
+    pub fn add(&mut self, pending: Pending) -> Result<(), AllocError>
+        requires newest { (r : Record) → IsIn r self.old → r.id < pending.id }
+        ensures ok { OnOk result (self.new ≡ self.old ++ pending ∷ []) }
+        ensures err { OnErr result (self.new ≡ self.old) }
+    {
+        // a map has fewer than 2^63 entries, so the counter has room
+        let _fewer = self.records.len();
+        let added = usize::from(is_checkpoint(&pending));
+        self.records.insert(pending.id(), pending)?;
+        self.checkpoints += added;
+        Ok(())
+    }
+
+    /// Takes the acknowledgement of a subtask, with all files of its part, into the record of this
+    /// number, which waits for it. Fails only for want of memory, and then changes nothing.
+    pub fn ack(
+        &mut self,
+        id: CheckpointId,
+        subtask: SubtaskId,
+        files: Files,
+    ) -> Result<(), AllocError>
+        requires there { IsSome (find (λ r. r.id == id) self.old) }
+        requires expected { (r : Record) → find (λ r. r.id == id) self.old ≡ Some r → (is_subtask r.shape subtask ≡ true) × (has_acknowledged r subtask ≡ false) }
+        ensures ok { OnOk result (self.new ≡ acked id subtask files self.old) }
+        ensures err { OnErr result (self.new ≡ self.old) }
+    {
+        let pending = self.records.get_mut(&id).unwrap();
+        match pending.ack(subtask, files) {
+            Ok(()) => Ok(()),
+            Err(_) => Err(AllocError),
+        }
+    }
+
+    /// Takes back the acknowledgement of a subtask in the record of this number, which has it.
+    /// Takes no memory.
+    pub fn retract(&mut self, id: CheckpointId, subtask: SubtaskId)
+        requires there { IsSome (find (λ r. r.id == id) self.old) }
+        requires acknowledged { (r : Record) → find (λ r. r.id == id) self.old ≡ Some r → has_acknowledged r subtask ≡ true }
+        ensures { self.new ≡ retracted id subtask self.old }
+    {
+        let pending = self.records.get_mut(&id).unwrap();
+        pending.retract(subtask);
+    }
+
+    /// Takes out the record of this number. Takes no memory.
+    pub fn remove(&mut self, id: CheckpointId) -> Option<Pending>
+        ensures value { result ≡ find (λ r. r.id == id) self.old }
+        ensures rest { self.new ≡ filter (λ r. not (r.id == id)) self.old }
+    {
+        let removed = self.records.remove(&id)?;
+        let gone = usize::from(is_checkpoint(&removed));
+        self.checkpoints -= gone;
+        Some(removed)
+    }
+
+    /// Takes out the records of these numbers, where there are such. Takes no memory.
+    pub fn remove_all(&mut self, ids: &[CheckpointId])
+        ensures { self.new ≡ filter (λ r. not (list_any (λ i. r.id == i) ids.now)) self.old }
+    {
+        for id in ids {
+            self.remove(*id);
+        }
+    }
+
+    /// How many records there are.
+    pub fn len(&self) -> usize
+        ensures { result ≡ length self.now }
+    {
+        self.records.len()
+    }
+
+    /// How many checkpoints there are.
+    pub fn checkpoints(&self) -> usize
+        ensures { result ≡ count_by is_checkpoint self.now }
+    {
+        self.checkpoints
+    }
+
+    /// How many savepoints there are.
+    pub fn savepoints(&self) -> usize
+        ensures { result ≡ count_by (λ r. not (is_checkpoint r)) self.now }
+    {
+        self.records.len() - self.checkpoints
+    }
+
+    /// Notes the numbers of all records in room that is there. Takes no memory.
+    pub fn note_all(&self, ended: &mut Vec<CheckpointId>)
+        requires room { vec_len ended.old + length self.now ≤ vec_capacity ended.old }
+        ensures items { ended.new.items ≡ ended.old.items ++ map (λ r. r.id) self.now }
+        ensures capacity { vec_capacity ended.new ≡ vec_capacity ended.old }
+    {
+        for id in self.records.keys() {
+            ended.push_reserved(*id);
+        }
+    }
+
+    /// Notes the numbers of the records that started `timeout` milliseconds before `moment` or
+    /// earlier, in room that is there, and answers how many of these are checkpoints. Takes no
+    /// memory.
+    pub fn note_expired(&self, moment: u64, timeout: u64, ended: &mut Vec<CheckpointId>) -> usize
+        requires room { vec_len ended.old + length self.now ≤ vec_capacity ended.old }
+        ensures items { ended.new.items ≡ ended.old.items ++ map (λ r. r.id) (filter (λ r. nat_le (r.started + timeout) moment) self.now) }
+        ensures capacity { vec_capacity ended.new ≡ vec_capacity ended.old }
+        ensures checkpoints { result ≡ count_by (λ r. nat_le (r.started + timeout) moment && is_checkpoint r) self.now }
+    {
+        // a map has fewer than 2^63 entries, so the count has room
+        let _fewer = self.records.len();
+        let mut checkpoints = 0;
+        for pending in self.records.values() {
+            if is_expired(pending, moment, timeout) {
+                ended.push_reserved(pending.id());
+                checkpoints += usize::from(is_checkpoint(pending));
+            }
+        }
+        checkpoints
+    }
+
+    /// Notes the numbers of the checkpoints before this number in room that is there. Takes no
+    /// memory.
+    pub fn note_subsumed(&self, id: CheckpointId, ended: &mut Vec<CheckpointId>)
+        requires room { vec_len ended.old + length self.now ≤ vec_capacity ended.old }
+        ensures items { ended.new.items ≡ ended.old.items ++ map (λ r. r.id) (filter (λ r. is_checkpoint r && nat_lt r.id id) self.now) }
+        ensures capacity { vec_capacity ended.new ≡ vec_capacity ended.old }
+    {
+        for pending in self.records.values() {
+            if is_checkpoint(pending) && pending.id() < id {
+                ended.push_reserved(pending.id());
+            }
+        }
+    }
+}
+
+fn is_checkpoint(pending: &Pending) -> bool
+    ensures { result ≡ is_checkpoint pending.now }
+{
+    pending.kind() == Kind::Checkpoint
+}
+
+fn is_expired(pending: &Pending, moment: u64, timeout: u64) -> bool
+    ensures { result ≡ nat_le (pending.now.started + timeout) moment }
+{
+    // the sum may be past 2^64
+    match moment.checked_sub(timeout) {
+        Some(latest) => pending.started() <= latest,
+        None => false,
+    }
+}

@@ -1,0 +1,75 @@
+ghost use Rattle.std.specs.Prelude.{◌≡◌, Some, IsSome, IfOk, OnErr};
+ghost use Rattle.std.specs.Option.{option_map};
+ghost use Rattle.ckpt_ids.specs.declared.call.Call.TheVariants as call;
+ghost use Rattle.ckpt_ids.specs.Ordered.{IsInOrder};
+ghost use Rattle.ckpt_ids.specs.Records.{metadata_of};
+ghost use Rattle.ckpt_core.specs.Parts.{Answers, AreSound, IsAccepted, Stays, records_in, state_of};
+ghost use Rattle.ckpt_core.specs.Soundness.{id_before};
+ghost use Rattle.ckpt_core.specs.State.{record_of};
+
+use crate::parts::Parts;
+use ckpt_ids::{CheckpointId, FileId, Metadata, Reply};
+use std::alloc::AllocError;
+
+impl Parts {
+    /// Fetches files that wait for deletion.
+    pub fn take(&mut self, most: u64) -> Result<Reply, AllocError>
+        requires sound { AreSound self.old }
+        requires accepted { IsAccepted self.old (call.Take most) }
+        ensures ok { IfOk result (Answers self.old self.new (call.Take most)) }
+        ensures err { OnErr result (Stays self.old self.new) }
+    {
+        Ok(Reply::Taken(self.outbox.take(most)?))
+    }
+
+    /// A fetched file is deleted.
+    pub fn deleted(&mut self, file: FileId) -> Reply
+        requires sound { AreSound self.old }
+        requires accepted { IsAccepted self.old (call.Deleted file) }
+        ensures { Answers self.old self.new (call.Deleted file) result }
+    {
+        let _ = self.outbox.deleted(file);
+        Reply::Deleted(file)
+    }
+
+    /// A fetched file could not be deleted.
+    pub fn undeleted(&mut self, file: FileId) -> Reply
+        requires sound { AreSound self.old }
+        requires accepted { IsAccepted self.old (call.Undeleted file) }
+        ensures { Answers self.old self.new (call.Undeleted file) result }
+    {
+        let _ = self.outbox.undeleted(file);
+        Reply::Undeleted(file)
+    }
+
+    /// The metadata of a live record.
+    pub fn show(&mut self, id: CheckpointId) -> Result<Reply, AllocError>
+        requires sound { AreSound self.old }
+        requires accepted { IsAccepted self.old (call.Show id) }
+        ensures ok { IfOk result (Answers self.old self.new (call.Show id)) }
+        ensures err { OnErr result (Stays self.old self.new) }
+    {
+        Ok(Reply::Shown(self.metadata(id)?))
+    }
+
+    /// How often a file is used.
+    pub fn count(&mut self, file: FileId) -> Reply
+        requires sound { AreSound self.old }
+        requires accepted { IsAccepted self.old (call.Count file) }
+        ensures { Answers self.old self.new (call.Count file) result }
+    {
+        Reply::Counted(file, self.registry.count(file))
+    }
+
+    /// The metadata of a live record, which is pending or done.
+    fn metadata(&self, id: CheckpointId) -> Result<Metadata, AllocError>
+        requires in_order { IsInOrder id_before (records_in self.now) }
+        requires live { IsSome (record_of (state_of self.now) id) }
+        ensures { IfOk result (λ metadata. option_map metadata_of (record_of (state_of self.now) id) ≡ Some metadata) }
+    {
+        if let Some(record) = self.pending.get(id) {
+            return record.metadata();
+        }
+        self.store.get(id).unwrap().metadata()
+    }
+}

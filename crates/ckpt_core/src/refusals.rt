@@ -1,0 +1,329 @@
+ghost use Rattle.std.specs.Prelude.{◌≡◌, ◌++◌, ◌∷◌, ◌+◌, ◌^◌, ◌==◌, ℕ, List, [], length, find, not, nat_le, nat_lt, Option, Some};
+ghost use Rattle.std.specs.List.{list_any};
+ghost use Rattle.std.specs.Option.{option_copied, option_map};
+ghost use Rattle.std.specs.Result.{result_err};
+ghost use Rattle.ckpt_ids.specs.Ascending.{IsAscending};
+ghost use Rattle.ckpt_ids.specs.Records.{is_present};
+ghost use Rattle.ckpt_ids.specs.declared.call.Call.TheVariants.{Tick, Savepoint, Ack, Decline, Dispose, Restore, Cancel, Deleted, Show};
+ghost use Rattle.ckpt_ids.specs.declared.reply.Refusal.TheVariants.{NotRunning, TooManyFiles, RepeatedFile, UnknownCheckpoint, NameTaken, FileGone, IdsUsedUp};
+ghost use Rattle.ckpt_core.specs.Grouped.{with_pins};
+ghost use Rattle.ckpt_core.specs.Parts.{AreSound, state_of, records_in, is_known_in};
+ghost use Rattle.ckpt_core.specs.Refusals.{first_some, has_repeats, is_cancelled, is_done_savepoint, is_foreign, is_repeat, is_running, moment_too_large, named, pending_of, refusal, refuse_if, savepoints, was_not_given};
+
+use crate::mode::Mode;
+use crate::parts::Parts;
+use ckpt_ids::{Call, CheckpointId, FileId, Files, Refusal, SubtaskId, Target};
+use ckpt_pending::Pending;
+
+// all moments are below, in milliseconds
+pub const MOMENTS_END: u64 = 1 << 62;
+
+// all numbers of records are below
+pub const NUMBERS_END: u64 = 1 << 62;
+
+// of one acknowledgement
+const MOST_FILES: usize = 4096;
+
+// pending and done together
+const MOST_SAVEPOINTS: usize = 1000;
+
+/// An `Err` with the refusal where the test holds.
+fn refuse_if(test: bool, why: Refusal) -> Result<(), Refusal>
+    ensures { result_err result ≡ refuse_if test why }
+{
+    if test { Err(why) } else { Ok(()) }
+}
+
+fn test_moment(now: u64) -> Result<(), Refusal>
+    ensures { result_err result ≡ moment_too_large (Some now) }
+{
+    refuse_if(now >= MOMENTS_END, Refusal::MomentTooLarge)
+}
+
+/// Tests that the subtask is one of the record's.
+fn test_subtask(pending: &Pending, subtask: SubtaskId) -> Result<(), Refusal>
+    ensures { result_err result ≡ is_foreign (Some pending.now) subtask }
+{
+    refuse_if(!pending.expects(subtask), Refusal::UnknownSubtask)
+}
+
+/// Tests the number of an acknowledgement's files, and that each is named once.
+fn test_files(fresh: &Files, reused: &Files) -> Result<(), Refusal>
+    ensures { result_err result ≡ first_some (refuse_if (nat_lt 4096 (length fresh.now + length reused.now)) TooManyFiles ∷ refuse_if (has_repeats (fresh.now ++ reused.now)) RepeatedFile ∷ []) }
+{
+    let count = fresh.len().saturating_add(reused.len());
+    refuse_if(count > MOST_FILES, Refusal::TooManyFiles)?;
+    refuse_if(has_repeats(fresh, reused), Refusal::RepeatedFile)
+}
+
+/// Whether a file is named twice. Takes time in O(k log k) for k files.
+fn has_repeats(fresh: &Files, reused: &Files) -> bool
+    ensures { result ≡ has_repeats (fresh.now ++ reused.now) }
+{
+    let fresh = fresh.as_slice();
+    let reused = reused.as_slice();
+    repeats(fresh) || repeats(reused) || share(fresh, reused)
+}
+
+/// Whether a file stands twice. In ascending files it then stands beside itself.
+fn repeats(files: &[FileId]) -> bool
+    requires { IsAscending files.now }
+    ensures { result ≡ has_repeats files.now }
+{
+    !files.is_sorted_by(|file, next| file < next)
+}
+
+/// Whether a file is in both lists.
+fn share(fresh: &[FileId], reused: &[FileId]) -> bool
+    requires { IsAscending fresh.now }
+    ensures { result ≡ list_any (λ f. list_any (λ g. f == g) fresh.now) reused.now }
+{
+    reused.iter().any(|file| is_among(*file, fresh))
+}
+
+/// Whether the file is one of these. Searches by halves.
+fn is_among(file: FileId, files: &[FileId]) -> bool
+    requires { IsAscending files.now }
+    ensures { result ≡ list_any (λ f. file == f) files.now }
+{
+    files.binary_search(&file).is_ok()
+}
+
+impl Parts {
+    /// Why the call is refused, if it is. Takes no memory, and changes nothing.
+    pub fn refusal(&self, call: &Call) -> Option<Refusal>
+        requires { AreSound self.now }
+        ensures { result ≡ refusal (state_of self.now) call.now }
+    {
+        self.test(call).err()
+    }
+
+    fn test(&self, call: &Call) -> Result<(), Refusal>
+        requires { AreSound self.now }
+        ensures { result_err result ≡ refusal (state_of self.now) call.now }
+    {
+        match call {
+            Call::Tick { now } => self.test_tick(*now),
+            Call::Savepoint { now } => self.test_savepoint(*now),
+            Call::Ack {
+                now,
+                id,
+                subtask,
+                fresh,
+                reused,
+            } => { self.test_ack(*now, *id, *subtask, fresh, reused) }
+            Call::Decline { now, id, subtask } => self.test_decline(*now, *id, *subtask),
+            Call::Dispose { id } => self.test_dispose(*id),
+            Call::Restore { now, target, .. } => self.test_restore(*now, *target),
+            Call::Cancel { now } => self.test_cancel(*now),
+            Call::Deleted { file } | Call::Undeleted { file } => self.test_taken(*file),
+            Call::Show { id } => self.test_show(*id),
+            Call::Take { .. } | Call::Count { .. } => Ok(()),
+        }
+    }
+
+    fn test_tick(&self, now: u64) -> Result<(), Refusal>
+        ensures { result_err result ≡ refusal (state_of self.now) (Tick now) }
+    {
+        test_moment(now)?;
+        self.test_running()?;
+        self.test_next()
+    }
+
+    fn test_savepoint(&self, now: u64) -> Result<(), Refusal>
+        requires { AreSound self.now }
+        ensures { result_err result ≡ refusal (state_of self.now) (Savepoint now) }
+    {
+        test_moment(now)?;
+        self.test_running()?;
+        refuse_if(
+            self.savepoints() >= MOST_SAVEPOINTS,
+            Refusal::TooManySavepoints,
+        )?;
+        self.test_next()
+    }
+
+    fn test_ack(
+        &self,
+        now: u64,
+        id: CheckpointId,
+        subtask: SubtaskId,
+        fresh: &Files,
+        reused: &Files,
+    ) -> Result<(), Refusal>
+        requires { AreSound self.now }
+        ensures { result_err result ≡ refusal (state_of self.now) (Ack now id subtask fresh.now reused.now) }
+    {
+        test_moment(now)?;
+        test_files(fresh, reused)?;
+        self.test_given(id)?;
+        match self.pending_record(id) {
+            Some(pending) => self.test_part(pending, subtask, fresh, reused),
+            None => Ok(()),
+        }
+    }
+
+    /// Tests the acknowledgement of a subtask for a pending record.
+    fn test_part(
+        &self,
+        pending: &Pending,
+        subtask: SubtaskId,
+        fresh: &Files,
+        reused: &Files,
+    ) -> Result<(), Refusal>
+        ensures { result_err result ≡ first_some (is_foreign (Some pending.now) subtask ∷ is_repeat (Some pending.now) subtask ∷ named NameTaken (find (is_known_in self.now) fresh.now) ∷ named FileGone (find (λ f. not (is_present self.now.registry f)) reused.now) ∷ []) }
+    {
+        test_subtask(pending, subtask)?;
+        refuse_if(pending.has(subtask), Refusal::AlreadyAcknowledged)?;
+        self.test_fresh(fresh)?;
+        self.test_reused(reused)
+    }
+
+    fn test_decline(&self, now: u64, id: CheckpointId, subtask: SubtaskId) -> Result<(), Refusal>
+        requires { AreSound self.now }
+        ensures { result_err result ≡ refusal (state_of self.now) (Decline now id subtask) }
+    {
+        test_moment(now)?;
+        self.test_given(id)?;
+        match self.pending_record(id) {
+            Some(pending) => test_subtask(pending, subtask),
+            None => Ok(()),
+        }
+    }
+
+    fn test_dispose(&self, id: CheckpointId) -> Result<(), Refusal>
+        requires { AreSound self.now }
+        ensures { result_err result ≡ refusal (state_of self.now) (Dispose id) }
+    {
+        refuse_if(!self.has_savepoint(id), Refusal::NoSuchSavepoint)?;
+        refuse_if(self.store.base() == Some(id), Refusal::InUse)
+    }
+
+    fn test_restore(&self, now: u64, target: Target) -> Result<(), Refusal>
+        requires { AreSound self.now }
+        ensures { (shape : Option (List ℕ)) → result_err result ≡ refusal (state_of self.now) (Restore now target shape) }
+    {
+        test_moment(now)?;
+        self.test_not_cancelled()?;
+        match target {
+            Target::Latest => Ok(()),
+            Target::Savepoint(id) => refuse_if(!self.has_savepoint(id), Refusal::NoSuchSavepoint),
+        }
+    }
+
+    fn test_cancel(&self, now: u64) -> Result<(), Refusal>
+        ensures { result_err result ≡ refusal (state_of self.now) (Cancel now) }
+    {
+        test_moment(now)?;
+        self.test_not_cancelled()
+    }
+
+    /// Tests a report on a file that was fetched for deletion.
+    fn test_taken(&self, file: FileId) -> Result<(), Refusal>
+        ensures { result_err result ≡ refusal (state_of self.now) (Deleted file) }
+    {
+        refuse_if(!self.outbox.is_taken(file), Refusal::NotTaken)
+    }
+
+    fn test_show(&self, id: CheckpointId) -> Result<(), Refusal>
+        requires { AreSound self.now }
+        ensures { result_err result ≡ refusal (state_of self.now) (Show id) }
+    {
+        let absent = self.pending.get(id).is_none() && self.store.get(id).is_none();
+        refuse_if(absent, Refusal::NoSuchRecord)
+    }
+
+    fn test_running(&self) -> Result<(), Refusal>
+        ensures { result_err result ≡ refuse_if (not (is_running self.now.mode)) NotRunning }
+    {
+        refuse_if(self.mode != Mode::Running, Refusal::NotRunning)
+    }
+
+    fn test_not_cancelled(&self) -> Result<(), Refusal>
+        ensures { result_err result ≡ refuse_if (is_cancelled self.now.mode) NotRunning }
+    {
+        refuse_if(self.mode == Mode::Cancelled, Refusal::NotRunning)
+    }
+
+    /// Tests that a number is left.
+    fn test_next(&self) -> Result<(), Refusal>
+        ensures { result_err result ≡ refuse_if (nat_le (2 ^ 62) self.now.next) IdsUsedUp }
+    {
+        refuse_if(self.next >= NUMBERS_END, Refusal::IdsUsedUp)
+    }
+
+    /// Tests that a record was given this number.
+    fn test_given(&self, id: CheckpointId) -> Result<(), Refusal>
+        ensures { result_err result ≡ refuse_if (was_not_given (state_of self.now) id) UnknownCheckpoint }
+    {
+        let given = self.opened.first <= id.0 && id.0 < self.next;
+        refuse_if(!given, Refusal::UnknownCheckpoint)
+    }
+
+    /// Tests that no fresh file has a name that is taken.
+    fn test_fresh(&self, fresh: &Files) -> Result<(), Refusal>
+        ensures { result_err result ≡ named NameTaken (find (is_known_in self.now) fresh.now) }
+    {
+        match self.first_known(fresh.as_slice()) {
+            Some(file) => Err(Refusal::NameTaken(file)),
+            None => Ok(()),
+        }
+    }
+
+    fn first_known(&self, files: &[FileId]) -> Option<FileId>
+        ensures { result ≡ find (is_known_in self.now) files.now }
+    {
+        files.iter().copied().find(|file| self.knows(*file))
+    }
+
+    /// Tests that all reused files are there.
+    fn test_reused(&self, reused: &Files) -> Result<(), Refusal>
+        ensures { result_err result ≡ named FileGone (find (λ f. not (is_present self.now.registry f)) reused.now) }
+    {
+        match self.first_absent(reused.as_slice()) {
+            Some(file) => Err(Refusal::FileGone(file)),
+            None => Ok(()),
+        }
+    }
+
+    fn first_absent(&self, files: &[FileId]) -> Option<FileId>
+        ensures { result ≡ find (λ f. not (is_present self.now.registry f)) files.now }
+    {
+        files
+            .iter()
+            .copied()
+            .find(|file| !self.registry.contains(*file))
+    }
+
+    /// The pending record of this number.
+    fn pending_record(&self, id: CheckpointId) -> Option<&Pending>
+        requires { AreSound self.now }
+        ensures { pending_of (records_in self.now) id ≡ option_map (with_pins self.now.registry) (option_copied result) }
+    {
+        // tells that all stored records are done
+        let _ = self.store.base();
+        self.pending.get(id)
+    }
+
+    /// Whether there is a completed savepoint of this number.
+    fn has_savepoint(&self, id: CheckpointId) -> bool
+        requires { AreSound self.now }
+        ensures { result ≡ is_done_savepoint (state_of self.now) id }
+    {
+        // tells that no pending record is done
+        let _ = self.pending.get(id);
+        // tells that all stored records are done
+        let _ = self.store.base();
+        self.store.has_savepoint(id)
+    }
+
+    /// How many savepoints are pending or done.
+    fn savepoints(&self) -> usize
+        requires { AreSound self.now }
+        ensures { result ≡ savepoints (state_of self.now) }
+    {
+        // tells that no pending record is done
+        let _ = self.pending.get(CheckpointId(0));
+        self.pending.savepoints() + self.store.savepoints() as usize
+    }
+}

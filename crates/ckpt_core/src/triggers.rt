@@ -1,0 +1,238 @@
+ghost use Rattle.std.specs.Prelude.{◌≡◌, ℕ, ◌<◌, ◌^◌, ◌≤◌, ◌+◌, List, [], ◌++◌, length, vec_len, OnOk, unwrap_or, IfOk, OnErr, Some, None, true, false};
+ghost use Rattle.std.specs.Option.{option_copied};
+ghost use Rattle.std.specs.Vec.{vec_capacity};
+ghost use Rattle.ckpt_ids.specs.declared.call.Call.TheVariants as call;
+ghost use Rattle.ckpt_ids.specs.declared.reply.Answer.TheVariants as answer;
+ghost use Rattle.ckpt_ids.specs.Ordered.{IsIn, IsInOrder};
+ghost use Rattle.ckpt_ids.specs.Records.{Record, is_present};
+ghost use Rattle.ckpt_outbox.specs.Queues.{is_known};
+ghost use Rattle.ckpt_rules.specs.declared.hold.Hold.TheVariants as hold;
+ghost use Rattle.ckpt_core.specs.declared.mode.Mode.TheVariants.{Running};
+ghost use Rattle.ckpt_core.specs.Memory.{answer_wants, may_want_memory};
+ghost use Rattle.ckpt_core.specs.Parts.{Answers, AreSound, AreTied, IsAccepted, Stays, is_noted, records_in, state_of};
+ghost use Rattle.ckpt_core.specs.Soundness.{IsSound, id_before};
+ghost use Rattle.ckpt_core.specs.Starting.{Starts, held_at};
+ghost use Rattle.ckpt_core.specs.State.{choice_of, chosen, drop, pins_now};
+ghost use Rattle.ckpt_core.specs.Steps.{tick, triggered};
+
+use crate::parts::Parts;
+use ckpt_ids::{CheckpointId, Choice, Files, Kind, Reply, Shape, TickEnd};
+use ckpt_pending::{Done, Pending};
+use ckpt_rules::Hold;
+use std::alloc::AllocError;
+
+impl Parts {
+    /// The shape of the records that are triggered next.
+    fn shape(&self) -> &Shape
+        ensures { result.now ≡ unwrap_or self.now.reshaped self.now.opened.shape }
+    {
+        match &self.reshaped {
+            Some(shape) => shape,
+            None => &self.opened.shape,
+        }
+    }
+
+    /// The record that the job would restart from.
+    fn record_of_choice(&self) -> Option<&Done>
+        requires tied { AreTied self.now }
+        requires sound { IsSound (state_of self.now) }
+        ensures { option_copied result ≡ chosen (choice_of (state_of self.now)) (state_of self.now) }
+    {
+        // Tells that the records of the map are pending.
+        let _ = self.pending.get(CheckpointId(0));
+        match self.store.choice() {
+            Choice::Checkpoint(id) => self.store.get(id),
+            Choice::Savepoint(id) => self.store.get(id),
+            Choice::Fresh => None,
+        }
+    }
+
+    /// The files of the record that the job would restart from, each once.
+    fn files_of_choice(&self) -> Result<Files, AllocError>
+        requires tied { AreTied self.now }
+        requires sound { IsSound (state_of self.now) }
+        ensures { IfOk result (λ files. files ≡ pins_now (state_of self.now)) }
+    {
+        match self.record_of_choice() {
+            Some(done) => done.files(),
+            None => Ok(Files::of(Vec::new(self.alloc))),
+        }
+    }
+
+    /// Triggers a record of this kind, with the next number, at the greatest moment seen. It pins
+    /// the files of the choice. Where memory runs out nothing has changed.
+    fn trigger(&mut self, kind: Kind) -> Result<CheckpointId, AllocError>
+        requires tied { AreTied self.old }
+        requires sound { IsSound (state_of self.old) }
+        requires next { self.old.next < 2 ^ 62 }
+        ensures id { IfOk result (λ id. id ≡ self.old.next) }
+        ensures ok { OnOk result (state_of self.new ≡ triggered (state_of self.old) kind) }
+        ensures err { OnErr result (state_of self.new ≡ state_of self.old) }
+        ensures tied { AreTied self.new }
+        ensures noted { self.new.ended.items ≡ self.old.ended.items }
+    {
+        let shape = self.shape().copy()?;
+        let pins = self.files_of_choice()?;
+        self.make_room()?;
+        self.add(kind, shape, &pins)
+    }
+
+    /// Adds a pending record with the next number, which holds these pins.
+    fn add(&mut self, kind: Kind, shape: Shape, pins: &Files) -> Result<CheckpointId, AllocError>
+        requires tied { AreTied self.old }
+        requires sound { IsSound (state_of self.old) }
+        requires next { self.old.next < 2 ^ 62 }
+        requires shape { shape ≡ unwrap_or self.old.reshaped self.old.opened.shape }
+        requires pins { pins.now ≡ pins_now (state_of self.old) }
+        requires room { length (records_in self.old) + 1 ≤ vec_capacity self.old.ended }
+        ensures id { IfOk result (λ id. id ≡ self.old.next) }
+        ensures ok { OnOk result (state_of self.new ≡ triggered (state_of self.old) kind) }
+        ensures err { OnErr result (state_of self.new ≡ state_of self.old) }
+        ensures tied { AreTied self.new }
+        ensures noted { self.new.ended.items ≡ self.old.ended.items }
+    {
+        // Tells that the uses stand in order.
+        let _ = self.registry.present();
+        let id = CheckpointId(self.next);
+        let started = self.clock.read(0);
+        self.pending
+            .add(Pending::new(self.alloc, id, kind, shape, started))?;
+        if let Err(error) = self.registry.pin(id, pins) {
+            self.pending.remove(id);
+            return Err(error);
+        }
+        self.next += 1;
+        Ok(id)
+    }
+
+    /// Makes room for the number of one more live record among those that end.
+    fn make_room(&mut self) -> Result<(), AllocError>
+        requires { length (records_in self.old) < 2 ^ 32 }
+        ensures room { OnOk result (length (records_in self.old) + 1 ≤ vec_capacity self.new.ended) }
+        ensures parts { self.new ≡ record self.old { ended = self.new.ended } }
+        ensures noted { self.new.ended.items ≡ self.old.ended.items }
+        ensures capacity { vec_capacity self.old.ended ≤ vec_capacity self.new.ended }
+    {
+        let live = self.pending.len()
+            + self.store.checkpoints() as usize
+            + self.store.savepoints() as usize;
+        let noted = self.ended.len();
+        self.ended.reserve(live + 1 - noted.min(live))
+    }
+
+    /// Triggers a savepoint.
+    pub fn savepoint(&mut self, now: u64) -> Result<Reply, AllocError>
+        requires sound { AreSound self.old }
+        requires accepted { IsAccepted self.old (call.Savepoint now) }
+        ensures ok { IfOk result (Answers self.old self.new (call.Savepoint now)) }
+        ensures err { OnErr result (Stays self.old self.new) }
+    {
+        let before = self.clock;
+        self.clock.see(now);
+        match self.trigger(Kind::Savepoint) {
+            Ok(id) => Ok(Reply::SavepointTriggered(id)),
+            Err(error) => {
+                self.clock = before;
+                Err(error)
+            }
+        }
+    }
+
+    /// Time has passed: what is too old expires, and a checkpoint is triggered where nothing holds
+    /// it back. Only a trigger takes memory, and where there is none nothing has changed.
+    pub fn tick(&mut self, now: u64) -> Result<Reply, AllocError>
+        requires sound { AreSound self.old }
+        requires accepted { IsAccepted self.old (call.Tick now) }
+        ensures ok { IfOk result (Answers self.old self.new (call.Tick now)) }
+        ensures err { OnErr result (Stays self.old self.new) }
+        ensures memory { OnErr result (may_want_memory (state_of self.old) (call.Tick now) ≡ true) }
+    {
+        let before = self.clock;
+        self.clock.see(now);
+        match self.expire() {
+            Ok(reply) => Ok(reply),
+            Err(error) => {
+                self.clock = before;
+                Err(error)
+            }
+        }
+    }
+
+    /// What a tick does once the moment is seen.
+    fn expire(&mut self) -> Result<Reply, AllocError>
+        requires sound { AreSound self.old }
+        requires running { self.old.mode ≡ Running }
+        requires next { self.old.next < 2 ^ 62 }
+        ensures ok { IfOk result (λ reply. tick (state_of self.old) ≡ (state_of self.new, answer.Done reply)) }
+        ensures err { OnErr result (state_of self.new ≡ state_of self.old) }
+        ensures memory { OnErr result (answer_wants (call.Tick 0) (tick (state_of self.old)).1 ≡ true) }
+        ensures tied { AreTied self.new }
+        ensures none_ended { self.new.ended.items ≡ [] }
+    {
+        self.recall_groups();
+        let moment = self.clock.read(0);
+        let timeout = self.opened.config.timeout();
+        let late = self.pending.note_expired(moment, timeout, &mut self.ended) as u32;
+        let expired = self.ended.len() as u32;
+        let mut failures = self.failures;
+        let intolerable = failures.add(late);
+        if late > 0 && intolerable {
+            self.ended.clear();
+            self.fail_over();
+            self.failures = failures;
+            let end = TickEnd::Failed;
+            return Ok(Reply::Ticked { expired, end });
+        }
+        let pending = self.pending.checkpoints() as u32 - late;
+        match self.start_or_hold(pending) {
+            Ok(end) => {
+                self.recall_groups();
+                self.drop_expired();
+                self.failures = failures;
+                Ok(Reply::Ticked { expired, end })
+            }
+            Err(error) => {
+                self.ended.clear();
+                Err(error)
+            }
+        }
+    }
+
+    /// Triggers a checkpoint where nothing holds it back, while so many are pending.
+    fn start_or_hold(&mut self, pending: u32) -> Result<TickEnd, AllocError>
+        requires tied { AreTied self.old }
+        requires sound { IsSound (state_of self.old) }
+        requires next { self.old.next < 2 ^ 62 }
+        ensures ok { IfOk result (λ end. Starts (state_of self.old) pending (state_of self.new) end) }
+        ensures err { OnErr result (state_of self.new ≡ state_of self.old) }
+        ensures memory { OnErr result (held_at (state_of self.old) pending ≡ hold.Go) }
+        ensures tied { AreTied self.new }
+        ensures noted { self.new.ended.items ≡ self.old.ended.items }
+    {
+        let moment = self.clock.read(0);
+        match self.clock.held(&self.opened.config, moment, pending) {
+            Hold::Interval => Ok(TickEnd::HeldInterval),
+            Hold::AtOnce => Ok(TickEnd::HeldAtOnce),
+            Hold::Pause => Ok(TickEnd::HeldPause),
+            Hold::Go => {
+                let id = self.trigger(Kind::Checkpoint)?;
+                self.clock.triggered(&self.opened.config, moment);
+                Ok(TickEnd::Triggered(id))
+            }
+        }
+    }
+
+    /// Drops the pending records whose numbers were noted. Takes no memory.
+    fn drop_expired(&mut self)
+        requires tied { AreTied self.old }
+        requires in_order { IsInOrder id_before (records_in self.old) }
+        requires unknown { (f : ℕ) → is_present self.old.registry f ≡ true → is_known self.old.outbox f ≡ false }
+        requires pending_only { (r : Record) → IsIn r (self.old.store.checkpoints ++ self.old.store.savepoints) → is_noted self.old.ended.items r ≡ false }
+        ensures state { state_of self.new ≡ drop (state_of self.old) (is_noted self.old.ended.items) None }
+        ensures tied { AreTied self.new }
+        ensures none_ended { self.new.ended.items ≡ [] }
+    {
+        self.pending.remove_all(&self.ended);
+        self.hand_out();
+    }
+}
