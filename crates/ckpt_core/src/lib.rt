@@ -22,3 +22,6 @@ mod triggers;
 
 pub use coordinator::{Core, CoreFault, OpenFault};
 pub use mode::Mode;
+
+#[cfg(test)]
+mod tests;
