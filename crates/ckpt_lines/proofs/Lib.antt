@@ -1,0 +1,7 @@
+pub mod EachLemmas
+pub mod FileLemmas
+pub mod NumberLemmas
+pub mod PlaceLemmas
+pub mod ReadingLaws
+pub mod SubtaskLemmas
+pub mod WordSplits

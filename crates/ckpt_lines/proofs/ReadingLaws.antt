@@ -1,0 +1,179 @@
+-- The reading of a line never says that memory ran out.
+use Rattle.std.proofs.Common.{◌≡◌, ◌≢◌, ℕ, Bool, true, false, cond, ◌==◌, List, [], ◌∷◌, Option, Some, None, Result, Ok, Err, IfErr, refl}
+use Rattle.std.specs.Prelude.{codes}
+use Rattle.std.specs.Option.{ok_or}
+use Rattle.std.specs.Str.{bytes_eq}
+use Rattle.std.specs.Str.Lines.{strip_carriage_return}
+use Rattle.ckpt_ids.specs.declared.subtask.SubtaskId.{SubtaskId}
+use Rattle.ckpt_lines.specs.declared.fault.LineFault.{LineFault}
+use Rattle.ckpt_lines.specs.declared.fault.LineFault.TheVariants as fault
+use Rattle.ckpt_lines.specs.declared.keyword.Keyword.{Keyword}
+use Rattle.ckpt_lines.specs.declared.keyword.Keyword.TheVariants as keyword
+use Rattle.ckpt_lines.specs.declared.line.Line.{Line}
+use Rattle.ckpt_lines.specs.declared.line.Line.TheVariants as line
+use Rattle.ckpt_lines.specs.declared.values.FileWord.{FileWord}
+use Rattle.ckpt_lines.specs.declared.values.FileWord.TheVariants.{Fresh, Reused}
+use Rattle.ckpt_lines.specs.Keywords.{keyword_of}
+use Rattle.ckpt_lines.specs.Reading.{◌>>=◌, is_memory, place, number_place, subtask_place, retention_place, target_place, ended, each, config_line, job_line, some_parallelisms, number_line, file_places, ack_line, decline_line, restore_line, all_line, row, row_of, line_of, is_comment, is_too_long, reading}
+use Rattle.ckpt_lines.specs.Values.{number, subtask, retention, target_of, savepoint, file_word, signed, number_of, subtask_of}
+use Rattle.ckpt_lines.specs.Words.{words_of}
+
+abbrev NoMemory : {X : Type 0} → Result X LineFault → Type 0
+NoMemory read = IfErr read (λ why. is_memory why ≡ false)
+
+bind : {A B : Type 0} (read : Result A LineFault) (f : A → Result B LineFault) → NoMemory read → ((x : A) → NoMemory (f x)) → NoMemory (read >>= f)
+bind (Ok x) f first next = next x
+bind (Err why) f first next = first
+
+either : {X : Type 0} (b : Bool) (x y : Result X LineFault) → NoMemory x → NoMemory y → NoMemory (cond b x y)
+either true x y p q = p
+either false x y p q = q
+
+number-no_memory : (found : Option ℕ) → NoMemory (ok_or found fault.Number)
+number-no_memory None = refl
+number-no_memory (Some n) = tt
+
+subtask-no_memory : (found : Option SubtaskId) → NoMemory (ok_or found fault.Number)
+subtask-no_memory None = refl
+subtask-no_memory (Some s) = tt
+
+savepoint-no_memory : (found : Option ℕ) → NoMemory (savepoint found)
+savepoint-no_memory None = refl
+savepoint-no_memory (Some id) = tt
+
+signed-no_memory : (sign : ℕ → FileWord) (found : Option ℕ) → NoMemory (signed sign found)
+signed-no_memory sign None = refl
+signed-no_memory sign (Some file) = tt
+
+target-no_memory : (word : List ℕ) → NoMemory (target_of word)
+unfolding target_of
+target-no_memory word = either (bytes_eq word (codes "latest")) _ _ tt (savepoint-no_memory (number_of word))
+
+retention-no_memory : (word : List ℕ) → NoMemory (retention word)
+retention-no_memory word = either (bytes_eq word (codes "keep")) _ _ tt (either (bytes_eq word (codes "delete")) _ _ tt refl)
+
+file_word-no_memory : (word : List ℕ) → NoMemory (file_word word)
+unfolding file_word
+file_word-no_memory [] = refl
+file_word-no_memory (sign ∷ word) = either (sign == 43) _ _ (signed-no_memory Fresh (number_of word)) (either (sign == 61) _ _ (signed-no_memory Reused (number_of word)) refl)
+
+place-no_memory : {X : Type 0} (read : List ℕ → Result X LineFault) → ((word : List ℕ) → NoMemory (read word)) → (words : List (List ℕ)) → NoMemory (place read words)
+place-no_memory read one [] = refl
+place-no_memory read one (word ∷ words) = bind (read word) _ (one word) (λ x. tt)
+
+each-no_memory : {X : Type 0} (read : List ℕ → Result X LineFault) → ((word : List ℕ) → NoMemory (read word)) → (words : List (List ℕ)) → NoMemory (each read words)
+unfolding each
+each-no_memory read one [] = tt
+each-no_memory read one (word ∷ words) = bind (read word) _ (one word) (λ x. bind (each read words) _ (each-no_memory read one words) (λ xs. tt))
+
+number_place-no_memory : (words : List (List ℕ)) → NoMemory (number_place words)
+unfolding number_place
+number_place-no_memory words = place-no_memory number (λ word. number-no_memory (number_of word)) words
+
+subtask_place-no_memory : (words : List (List ℕ)) → NoMemory (subtask_place words)
+unfolding subtask_place
+subtask_place-no_memory words = place-no_memory subtask (λ word. subtask-no_memory (subtask_of word)) words
+
+retention_place-no_memory : (words : List (List ℕ)) → NoMemory (retention_place words)
+unfolding retention_place
+retention_place-no_memory words = place-no_memory retention retention-no_memory words
+
+target_place-no_memory : (words : List (List ℕ)) → NoMemory (target_place words)
+unfolding target_place
+target_place-no_memory words = place-no_memory target_of target-no_memory words
+
+numbers-no_memory : (words : List (List ℕ)) → NoMemory (each number words)
+numbers-no_memory words = each-no_memory number (λ word. number-no_memory (number_of word)) words
+
+ended-no_memory : (words : List (List ℕ)) → NoMemory (ended words)
+unfolding ended
+ended-no_memory [] = tt
+ended-no_memory (word ∷ words) = refl
+
+-- a number, and what is read after it
+number_then : {B : Type 0} (words : List (List ℕ)) (f : ℕ × List (List ℕ) → Result B LineFault) → ((x : ℕ × List (List ℕ)) → NoMemory (f x)) → NoMemory (number_place words >>= f)
+number_then words f next = bind (number_place words) f (number_place-no_memory words) next
+
+-- the end, and the line
+ended_then : (words : List (List ℕ)) (line : Line) → NoMemory (ended words >>= λ _. Ok line)
+ended_then words line = bind (ended words) _ (ended-no_memory words) (λ _. tt)
+
+config-no_memory : (words : List (List ℕ)) → NoMemory (config_line words)
+unfolding config_line
+config-no_memory words =
+    number_then words _ (λ interval. number_then interval.1 _ (λ pause. number_then pause.1 _ (λ at_once. number_then at_once.1 _ (λ timeout.
+    number_then timeout.1 _ (λ tolerable. number_then tolerable.1 _ (λ retained.
+    bind (retention_place retained.1) _ (retention_place-no_memory retained.1) (λ keep. ended_then keep.1 _)))))))
+
+some-no_memory : (parallelisms : List ℕ) → NoMemory (some_parallelisms parallelisms)
+some-no_memory [] = refl
+some-no_memory (first ∷ others) = tt
+
+job-no_memory : (words : List (List ℕ)) → NoMemory (job_line words)
+unfolding job_line
+job-no_memory words = bind (each number words) _ (numbers-no_memory words) (λ ps. some-no_memory ps)
+
+number_line-no_memory : (line : ℕ → Line) (words : List (List ℕ)) → NoMemory (number_line line words)
+unfolding number_line
+number_line-no_memory line words = number_then words _ (λ n. ended_then n.1 (line n.0))
+
+files-no_memory : (words : List (List ℕ)) → NoMemory (file_places words)
+unfolding file_places
+files-no_memory words = bind (each file_word words) _ (each-no_memory file_word file_word-no_memory words) (λ files. tt)
+
+ack-no_memory : (words : List (List ℕ)) → NoMemory (ack_line words)
+unfolding ack_line
+ack-no_memory words =
+    number_then words _ (λ now. number_then now.1 _ (λ id. bind (subtask_place id.1) _ (subtask_place-no_memory id.1) (λ subtask.
+    bind (file_places subtask.1) _ (files-no_memory subtask.1) (λ files. tt))))
+
+decline-no_memory : (words : List (List ℕ)) → NoMemory (decline_line words)
+unfolding decline_line
+decline-no_memory words =
+    number_then words _ (λ now. number_then now.1 _ (λ id. bind (subtask_place id.1) _ (subtask_place-no_memory id.1) (λ subtask. ended_then subtask.1 _)))
+
+restore-no_memory : (words : List (List ℕ)) → NoMemory (restore_line words)
+unfolding restore_line
+restore-no_memory words =
+    number_then words _ (λ now. bind (target_place now.1) _ (target_place-no_memory now.1) (λ target.
+    bind (each number target.1) _ (numbers-no_memory target.1) (λ ps. tt)))
+
+all-no_memory : (words : List (List ℕ)) → NoMemory (all_line words)
+unfolding all_line
+all-no_memory words =
+    number_then words _ (λ now. number_then now.1 _ (λ id. number_then id.1 _ (λ threads. number_then threads.1 _ (λ first. ended_then first.1 _))))
+
+row-no_memory : (first : Keyword) (words : List (List ℕ)) → NoMemory (row first words)
+unfolding row
+row-no_memory keyword.Config words = config-no_memory words
+row-no_memory keyword.Job words = job-no_memory words
+row-no_memory keyword.Start words = number_line-no_memory line.Start words
+row-no_memory keyword.Tick words = number_line-no_memory line.Tick words
+row-no_memory keyword.Savepoint words = number_line-no_memory line.Savepoint words
+row-no_memory keyword.Ack words = ack-no_memory words
+row-no_memory keyword.Decline words = decline-no_memory words
+row-no_memory keyword.Dispose words = number_line-no_memory line.Dispose words
+row-no_memory keyword.Restore words = restore-no_memory words
+row-no_memory keyword.Cancel words = number_line-no_memory line.Cancel words
+row-no_memory keyword.Take words = number_line-no_memory line.Take words
+row-no_memory keyword.Deleted words = number_line-no_memory line.Deleted words
+row-no_memory keyword.Undeleted words = number_line-no_memory line.Undeleted words
+row-no_memory keyword.Show words = number_line-no_memory line.Show words
+row-no_memory keyword.Count words = number_line-no_memory line.Count words
+row-no_memory keyword.All words = all-no_memory words
+
+row_of-no_memory : (first : Option Keyword) (words : List (List ℕ)) → NoMemory (row_of first words)
+row_of-no_memory None words = refl
+row_of-no_memory (Some first) words = row-no_memory first words
+
+line_of-no_memory : (words : List (List ℕ)) → NoMemory (line_of words)
+unfolding line_of
+line_of-no_memory [] = tt
+line_of-no_memory (word ∷ words) = either (is_comment word) _ _ tt (row_of-no_memory (keyword_of word) words)
+
+reading-known : (line : List ℕ) → NoMemory (reading line)
+unfolding reading
+reading-known line = either (is_too_long line) _ _ refl (line_of-no_memory (words_of (strip_carriage_return line)))
+
+pub reading-no_memory : (line : List ℕ) → reading line ≢ Err fault.Memory
+reading-no_memory line = λ e. let known : NoMemory (reading line) = reading-known line in let bad : is_memory fault.Memory ≡ false = rw e at known in cc

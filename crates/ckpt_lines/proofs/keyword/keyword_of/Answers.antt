@@ -1,0 +1,12 @@
+use Rattle.std.proofs.Common.{◌∙◌, rules, tests}
+use Rattle.std.proofs.lemmas.Iterator.{YieldsList-from_slice}
+use Rattle.std.proofs.lemmas.Iterator.Search.{find_from_yields_List}
+use Rattle.std.specs.Str.{bytes_eq}
+use Rattle.ckpt_lines.specs.Keywords.{keyword_of, keywords, spelling}
+use Rattle.ckpt_lines.proofs.keyword.keyword_of.Goals as goal
+
+pub returns : goal.returns
+unfolding keyword_of
+returns c =
+    let found = find_from_yields_List (λ keyword. bytes_eq (spelling keyword) c.args.word.now) _ _ c.find.result c.find.ensures.ran (YieldsList-from_slice keywords cc) (λ x b q k. search (rules, tests)) in
+    c.copied.ensures ∙ found

@@ -1,0 +1,5 @@
+use Rattle.ckpt_lines.proofs.ReadingLaws.{reading-no_memory}
+use Rattle.ckpt_lines.proofs.parse.parse_line.Goals as goal
+
+pub returns-clause-definite : goal.returns-clause-definite
+returns-clause-definite c = reading-no_memory c.args.line.now

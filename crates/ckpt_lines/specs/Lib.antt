@@ -1,0 +1,5 @@
+pub mod Keywords
+pub mod Reading
+pub mod Values
+pub mod Words
+pub mod WorkedLines

@@ -1,0 +1,187 @@
+-- What a line says: a line of the table, or the first fault from the left.
+use Rattle.std.specs.Prelude.{◌≡◌, ℕ, Bool, true, false, not, ◌&&◌, ◌==◌, nat_lt, List, [], ◌∷◌, length, slice_index, if◌then◌else◌, Option, Some, None, Result, Ok, Err}
+use Rattle.std.specs.List.{filter_map}
+use Rattle.std.specs.Str.Lines.{strip_carriage_return}
+use Rattle.ckpt_ids.specs.declared.subtask.SubtaskId.{SubtaskId}
+use Rattle.ckpt_ids.specs.declared.call.Target.{Target}
+use Rattle.ckpt_ids.specs.Ascending.{ascending}
+use Rattle.ckpt_lines.specs.declared.fault.LineFault.{LineFault}
+use Rattle.ckpt_lines.specs.declared.fault.LineFault.TheVariants as fault
+use Rattle.ckpt_lines.specs.declared.keyword.Keyword.{Keyword}
+use Rattle.ckpt_lines.specs.declared.keyword.Keyword.TheVariants as keyword
+use Rattle.ckpt_lines.specs.declared.line.Line.{Line}
+use Rattle.ckpt_lines.specs.declared.line.Line.TheVariants.{Skip, Config, Job, Start, Tick, Savepoint, Ack, Decline, Dispose, Restore, Cancel, Take, Deleted, Undeleted, Show, Count, All}
+use Rattle.ckpt_lines.specs.Keywords.{keyword_of, takes_memory}
+use Rattle.ckpt_lines.specs.Values.{number, subtask, retention, target_of, file_word, fresh_file, reused_file}
+use Rattle.ckpt_lines.specs.Words.{words_of}
+
+infixl 10 ◌>>=◌
+abbrev pub ◌>>=◌ : {A B : Type 0} → Result A LineFault → (A → Result B LineFault) → Result B LineFault
+(Ok x) >>= f = f x
+(Err why) >>= f = Err why
+
+-- the next word, read so, and the words after it
+abbrev pub place : {X : Type 0} → (List ℕ → Result X LineFault) → List (List ℕ) → Result (X × List (List ℕ)) LineFault
+place read [] = Err fault.Missing
+place read (word ∷ words) = do
+  x ← read word
+  Ok (x, words)
+
+unfoldable pub number_place : List (List ℕ) → Result (ℕ × List (List ℕ)) LineFault
+number_place words = place number words
+
+unfoldable pub subtask_place : List (List ℕ) → Result (SubtaskId × List (List ℕ)) LineFault
+subtask_place words = place subtask words
+
+unfoldable pub retention_place : List (List ℕ) → Result (Bool × List (List ℕ)) LineFault
+retention_place words = place retention words
+
+unfoldable pub target_place : List (List ℕ) → Result (Target × List (List ℕ)) LineFault
+target_place words = place target_of words
+
+-- no word may follow
+unfoldable pub ended : List (List ℕ) → Result (Unit {0}) LineFault
+ended [] = Ok tt
+ended (_ ∷ _) = Err fault.Extra
+
+-- all words that are left
+unfoldable pub each : {X : Type 0} → (List ℕ → Result X LineFault) → List (List ℕ) → Result (List X) LineFault
+each read [] = Ok []
+each read (word ∷ words) = do
+  x ← read word
+  xs ← each read words
+  Ok (x ∷ xs)
+
+unfoldable pub config_line : List (List ℕ) → Result Line LineFault
+config_line words = do
+  interval ← number_place words
+  pause ← number_place interval.1
+  at_once ← number_place pause.1
+  timeout ← number_place at_once.1
+  tolerable ← number_place timeout.1
+  retained ← number_place tolerable.1
+  keep ← retention_place retained.1
+  _ ← ended keep.1
+  Ok (Config interval.0 pause.0 at_once.0 timeout.0 tolerable.0 retained.0 keep.0)
+
+abbrev pub some_parallelisms : List ℕ → Result Line LineFault
+some_parallelisms [] = Err fault.Missing
+some_parallelisms (first ∷ others) = Ok (Job (first ∷ others))
+
+unfoldable pub job_line : List (List ℕ) → Result Line LineFault
+job_line words = do
+  parallelisms ← each number words
+  some_parallelisms parallelisms
+
+-- one number and no more
+unfoldable pub number_line : (ℕ → Line) → List (List ℕ) → Result Line LineFault
+number_line line words = do
+  n ← number_place words
+  _ ← ended n.1
+  Ok (line n.0)
+
+-- the new files and the reused ones, whatever the order of the words
+unfoldable pub file_places : List (List ℕ) → Result (List ℕ × List ℕ) LineFault
+file_places words = do
+  files ← each file_word words
+  Ok (ascending (filter_map fresh_file files), ascending (filter_map reused_file files))
+
+unfoldable pub ack_line : List (List ℕ) → Result Line LineFault
+ack_line words = do
+  now ← number_place words
+  id ← number_place now.1
+  subtask ← subtask_place id.1
+  files ← file_places subtask.1
+  Ok (Ack now.0 id.0 subtask.0 files.0 files.1)
+
+unfoldable pub decline_line : List (List ℕ) → Result Line LineFault
+decline_line words = do
+  now ← number_place words
+  id ← number_place now.1
+  subtask ← subtask_place id.1
+  _ ← ended subtask.1
+  Ok (Decline now.0 id.0 subtask.0)
+
+unfoldable pub restore_line : List (List ℕ) → Result Line LineFault
+restore_line words = do
+  now ← number_place words
+  target ← target_place now.1
+  parallelisms ← each number target.1
+  Ok (Restore now.0 target.0 parallelisms)
+
+unfoldable pub all_line : List (List ℕ) → Result Line LineFault
+all_line words = do
+  now ← number_place words
+  id ← number_place now.1
+  threads ← number_place id.1
+  first ← number_place threads.1
+  _ ← ended first.1
+  Ok (All now.0 id.0 threads.0 first.0)
+
+-- the words after the first
+unfoldable pub row : Keyword → List (List ℕ) → Result Line LineFault
+row keyword.Config words = config_line words
+row keyword.Job words = job_line words
+row keyword.Start words = number_line Start words
+row keyword.Tick words = number_line Tick words
+row keyword.Savepoint words = number_line Savepoint words
+row keyword.Ack words = ack_line words
+row keyword.Decline words = decline_line words
+row keyword.Dispose words = number_line Dispose words
+row keyword.Restore words = restore_line words
+row keyword.Cancel words = number_line Cancel words
+row keyword.Take words = number_line Take words
+row keyword.Deleted words = number_line Deleted words
+row keyword.Undeleted words = number_line Undeleted words
+row keyword.Show words = number_line Show words
+row keyword.Count words = number_line Count words
+row keyword.All words = all_line words
+
+abbrev pub row_of : Option Keyword → List (List ℕ) → Result Line LineFault
+row_of None words = Err fault.Word
+row_of (Some first) words = row first words
+
+abbrev pub is_comment : List ℕ → Bool
+is_comment word = slice_index word 0 == 35
+
+unfoldable pub line_of : List (List ℕ) → Result Line LineFault
+line_of [] = Ok Skip
+line_of (word ∷ words) = if is_comment word then Ok Skip else row_of (keyword_of word) words
+
+-- a carriage return at the end counts as a byte, and is no part of a word
+abbrev pub is_too_long : List ℕ → Bool
+is_too_long line = nat_lt 131072 (length line)
+
+unfoldable pub reading : List ℕ → Result Line LineFault
+reading line = if is_too_long line then Err fault.TooLong else line_of (words_of (strip_carriage_return line))
+
+abbrev pub may_take_memory : Option Keyword → Bool
+may_take_memory None = false
+may_take_memory (Some first) = takes_memory first
+
+abbrev pub begins_with_a_list : List (List ℕ) → Bool
+begins_with_a_list [] = false
+begins_with_a_list (word ∷ words) = may_take_memory (keyword_of word)
+
+-- `ack`, `job` and `restore` have lists
+unfoldable pub may_want_memory : List ℕ → Bool
+may_want_memory line = not (is_too_long line) && begins_with_a_list (words_of (strip_carriage_return line))
+
+abbrev pub is_memory : LineFault → Bool
+is_memory fault.Memory = true
+is_memory why = false
+
+-- A function that takes no memory gave what the reading gives.
+abbrev pub IsExact : {X : Type 0} → Result X LineFault → Result X LineFault → Type 0
+IsExact (Ok x) read = read ≡ Ok x
+IsExact (Err why) read = (read ≡ Err why) × (is_memory why ≡ false)
+
+-- The same of a place, which leaves these words.
+abbrev pub Gives : {X : Type 0} → Result X LineFault → List (List ℕ) → Result (X × List (List ℕ)) LineFault → Type 0
+Gives (Ok x) words read = read ≡ Ok (x, words)
+Gives (Err why) words read = (read ≡ Err why) × (is_memory why ≡ false)
+
+-- A function gave what the reading gives, unless memory ran out.
+abbrev pub Reads : {X : Type 0} → Result X LineFault → Result X LineFault → Type 0
+Reads (Ok x) read = read ≡ Ok x
+Reads (Err why) read = is_memory why ≡ false → read ≡ Err why

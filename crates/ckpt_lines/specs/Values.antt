@@ -1,0 +1,69 @@
+-- What single words say.
+use Rattle.std.specs.Prelude.{ℕ, ◌^◌, Bool, true, false, ◌&&◌, ◌==◌, nat_lt, List, [], ◌∷◌, length, if◌then◌else◌, codes, Option, Some, None, option_and_then, Result, Ok, Err}
+use Rattle.std.specs.List.{before_first, after_first}
+use Rattle.std.specs.Option.{option_map, ok_or}
+use Rattle.std.specs.Str.{all_ascii_digits, bytes_eq}
+use Rattle.std.specs.Str.Parse.{digits_value}
+use Rattle.ckpt_ids.specs.declared.subtask.SubtaskId.{SubtaskId}
+use Rattle.ckpt_ids.specs.declared.call.Target.{Target}
+use Rattle.ckpt_ids.specs.declared.call.Target.TheVariants as target
+use Rattle.ckpt_lines.specs.declared.fault.LineFault.{LineFault}
+use Rattle.ckpt_lines.specs.declared.fault.LineFault.TheVariants as fault
+use Rattle.ckpt_lines.specs.declared.values.FileWord.{FileWord}
+use Rattle.ckpt_lines.specs.declared.values.FileWord.TheVariants.{Fresh, Reused}
+
+-- one or more digits with a value of at most 2^64 - 1; zeros may stand first
+abbrev pub is_number : List ℕ → Bool
+is_number word = nat_lt 0 (length word) && all_ascii_digits word && nat_lt (digits_value 10 word) (2 ^ 64)
+
+unfoldable pub number_of : List ℕ → Option ℕ
+number_of word = if is_number word then Some (digits_value 10 word) else None
+
+abbrev pub small : ℕ → Option ℕ
+small n = if nat_lt n (2 ^ 16) then Some n else None
+
+-- a number of at most 65535
+unfoldable pub part_of : List ℕ → Option ℕ
+part_of word = option_and_then small (number_of word)
+
+abbrev pub is_dot : ℕ → Bool
+is_dot byte = byte == 46
+
+-- two such numbers with a dot between them
+unfoldable pub subtask_of : List ℕ → Option SubtaskId
+subtask_of word = option_and_then (λ vertex. option_map (λ index. record { vertex = vertex; index = index }) (part_of (after_first is_dot word))) (part_of (before_first is_dot word))
+
+abbrev pub number : List ℕ → Result ℕ LineFault
+number word = ok_or (number_of word) fault.Number
+
+abbrev pub subtask : List ℕ → Result SubtaskId LineFault
+subtask word = ok_or (subtask_of word) fault.Number
+
+-- whether checkpoints are kept at a cancel
+abbrev pub retention : List ℕ → Result Bool LineFault
+retention word = if bytes_eq word (codes "keep") then Ok true else (if bytes_eq word (codes "delete") then Ok false else Err fault.Word)
+
+abbrev pub savepoint : Option ℕ → Result Target LineFault
+savepoint (Some id) = Ok (target.Savepoint id)
+savepoint None = Err fault.Number
+
+unfoldable pub target_of : List ℕ → Result Target LineFault
+target_of word = if bytes_eq word (codes "latest") then Ok target.Latest else savepoint (number_of word)
+
+abbrev pub signed : (ℕ → FileWord) → Option ℕ → Result FileWord LineFault
+signed sign (Some file) = Ok (sign file)
+signed sign None = Err fault.Number
+
+-- a plus or an equals sign, and a number
+unfoldable pub file_word : List ℕ → Result FileWord LineFault
+file_word [] = Err fault.Word
+file_word (sign ∷ word) =
+    if sign == 43 then signed Fresh (number_of word) else (if sign == 61 then signed Reused (number_of word) else Err fault.Word)
+
+abbrev pub fresh_file : FileWord → Option ℕ
+fresh_file (Fresh file) = Some file
+fresh_file (Reused file) = None
+
+abbrev pub reused_file : FileWord → Option ℕ
+reused_file (Fresh file) = None
+reused_file (Reused file) = Some file

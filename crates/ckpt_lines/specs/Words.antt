@@ -1,0 +1,18 @@
+-- The words of a line.
+use Rattle.std.specs.Prelude.{ℕ, Bool, true, false, ◌==◌, List, [], ◌∷◌, filter}
+use Rattle.std.specs.List.{slice_split}
+
+abbrev pub is_space : ℕ → Bool
+is_space byte = byte == 32
+
+abbrev pub is_word : List ℕ → Bool
+is_word [] = false
+is_word (byte ∷ bytes) = true
+
+-- the parts between spaces, without the empty ones
+abbrev pub words_of : List ℕ → List (List ℕ)
+words_of bytes = filter is_word (slice_split is_space bytes)
+
+abbrev pub begins_with_space : List ℕ → Bool
+begins_with_space [] = false
+begins_with_space (byte ∷ bytes) = is_space byte

@@ -1,0 +1,36 @@
+ghost use Rattle.ckpt_lines.specs.Reading.{each, file_places, Reads};
+ghost use Rattle.ckpt_lines.specs.Values.{number};
+
+use crate::fault::LineFault;
+use crate::numbers::Numbers;
+use crate::values::{FileWord, file_word, number_of};
+use crate::words::Words;
+use ckpt_ids::{FileId, Files};
+use std::alloc::Global;
+
+/// The numbers up to the line's end.
+pub fn numbers(alloc: Global, words: &mut Words<'_>) -> Result<Numbers, LineFault>
+    ensures { Reads result (each number words.old) }
+{
+    let mut list = Vec::new(alloc);
+    while let Some(word) = words.next() {
+        let number = number_of(word).ok_or(LineFault::Number)?;
+        list.push(number)?;
+    }
+    Ok(Numbers::of(list))
+}
+
+/// The file words up to the line's end: the new files and the reused ones.
+pub fn files(alloc: Global, words: &mut Words<'_>) -> Result<(Files, Files), LineFault>
+    ensures { Reads result (file_places words.old) }
+{
+    let mut fresh = Vec::new(alloc);
+    let mut reused = Vec::new(alloc);
+    while let Some(word) = words.next() {
+        match file_word(word)? {
+            FileWord::Fresh(file) => fresh.push(file)?,
+            FileWord::Reused(file) => reused.push(file)?,
+        }
+    }
+    Ok((Files::of(fresh), Files::of(reused)))
+}

@@ -1,0 +1,62 @@
+ghost use Rattle.std.specs.Prelude.{◌≡◌, ◌≢◌, true, IfOk, IfErr};
+ghost use Rattle.std.specs.Str.Lines.{strip_carriage_return};
+ghost use Rattle.ckpt_lines.specs.Reading.{begins_with_a_list, line_of, may_want_memory, reading, Reads};
+
+use crate::fault::LineFault;
+use crate::keyword::keyword_of;
+use crate::line::Line;
+use crate::rows::row;
+use crate::words::Words;
+use std::alloc::Global;
+
+const LONGEST: usize = 131_072;
+
+/// The text without the one carriage return at its end, if it has one.
+fn without_return(line: &[u8]) -> &[u8]
+    ensures { result.now ≡ strip_carriage_return line.now }
+{
+    line.strip_suffix(b"\r").unwrap_or(line)
+}
+
+/// The line that these words make.
+#[tactic(auto, unfolding(crate::specs::Reading::line_of))]
+fn line_of(alloc: Global, words: &mut Words<'_>) -> Result<Line, LineFault>
+    ensures line { Reads result (line_of words.old) }
+    ensures memory { result ≡ Err LineFault.Memory → begins_with_a_list words.old ≡ true }
+{
+    let Some(word) = words.next() else {
+        return Ok(Line::Skip);
+    };
+    if word.first() == Some(&b'#') {
+        return Ok(Line::Skip);
+    }
+    let keyword = keyword_of(word).ok_or(LineFault::Word)?;
+    row(alloc, keyword, words)
+}
+
+/// Reads one line of a job script: the bytes before its newline.
+///
+/// One carriage return at the end is dropped. Words are separated by spaces, and spaces at the
+/// line's start and end are dropped. A line without words, and one whose first word begins with
+/// `#`, is [`Line::Skip`]. [`Line`] has the form of each other line.
+///
+/// A number is one or more digits with a value of at most 2^64 - 1, and zeros may stand first. A
+/// subtask is a number, a dot and a number, each at most 65535. A file word is `+` or `=` and a
+/// number; file words may be mixed.
+///
+/// Answers [`LineFault::TooLong`] for more than 131,072 bytes, the carriage return among them; else
+/// [`LineFault::Word`] where the first word is none of the known ones; else the first fault of the
+/// places from the left. [`LineFault::Memory`] is answered on `ack`, `job` and `restore` alone.
+#[tactic(auto, unfolding(crate::specs::Reading::reading, crate::specs::Reading::may_want_memory))]
+pub fn parse_line(alloc: Global, line: &[u8]) -> Result<Line, LineFault>
+    ensures line { IfOk result (λ read. reading line.now ≡ Ok read) }
+    ensures fault { IfErr result (λ why. why ≢ LineFault.Memory → reading line.now ≡ Err why) }
+    ensures memory { result ≡ Err LineFault.Memory → may_want_memory line.now ≡ true }
+    // The reading itself is a line or one of the other faults.
+    ensures definite { reading line.now ≢ Err LineFault.Memory }
+{
+    if line.len() > LONGEST {
+        return Err(LineFault::TooLong);
+    }
+    line_of(alloc, &mut Words::of(without_return(line)))
+}

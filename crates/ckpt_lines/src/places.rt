@@ -1,0 +1,39 @@
+ghost use Rattle.ckpt_lines.specs.Reading.{Gives, number_place, subtask_place, retention_place, target_place};
+
+use crate::fault::LineFault;
+use crate::values::{number_of, retention, subtask_of, target_of};
+use crate::words::Words;
+use ckpt_ids::{SubtaskId, Target};
+
+#[tactic(auto, unfolding(crate::specs::Reading::number_place))]
+pub fn number(words: &mut Words<'_>) -> Result<u64, LineFault>
+    ensures { Gives result words.new (number_place words.old) }
+{
+    let word = words.next().ok_or(LineFault::Missing)?;
+    number_of(word).ok_or(LineFault::Number)
+}
+
+#[tactic(auto, unfolding(crate::specs::Reading::subtask_place))]
+pub fn subtask(words: &mut Words<'_>) -> Result<SubtaskId, LineFault>
+    ensures { Gives result words.new (subtask_place words.old) }
+{
+    let word = words.next().ok_or(LineFault::Missing)?;
+    subtask_of(word).ok_or(LineFault::Number)
+}
+
+/// Whether completed checkpoints are kept when the job is cancelled.
+#[tactic(auto, unfolding(crate::specs::Reading::retention_place))]
+pub fn keep_or_delete(words: &mut Words<'_>) -> Result<bool, LineFault>
+    ensures { Gives result words.new (retention_place words.old) }
+{
+    let word = words.next().ok_or(LineFault::Missing)?;
+    retention(word)
+}
+
+#[tactic(auto, unfolding(crate::specs::Reading::target_place))]
+pub fn target(words: &mut Words<'_>) -> Result<Target, LineFault>
+    ensures { Gives result words.new (target_place words.old) }
+{
+    let word = words.next().ok_or(LineFault::Missing)?;
+    target_of(word)
+}

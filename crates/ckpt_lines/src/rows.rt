@@ -1,0 +1,232 @@
+ghost use Rattle.std.specs.Prelude.{◌≡◌, true};
+ghost use Rattle.ckpt_lines.specs.Keywords.{takes_memory};
+ghost use Rattle.ckpt_lines.specs.Reading.{ack_line, all_line, config_line, decline_line, ended, job_line, number_line, restore_line, row, Reads, IsExact};
+
+use crate::fault::LineFault;
+use crate::keyword::Keyword;
+use crate::line::Line;
+use crate::lists::{files, numbers};
+use crate::places::{keep_or_delete, number, subtask, target};
+use crate::words::Words;
+use ckpt_ids::{CheckpointId, FileId};
+use std::alloc::Global;
+
+/// No word follows the last place.
+#[tactic(auto, unfolding(crate::specs::Reading::ended))]
+fn end(words: &mut Words<'_>) -> Result<(), LineFault>
+    ensures { IsExact result (ended words.old) }
+{
+    if words.next().is_some() {
+        return Err(LineFault::Extra);
+    }
+    Ok(())
+}
+
+#[tactic(auto, unfolding(crate::specs::Reading::config_line))]
+fn config(words: &mut Words<'_>) -> Result<Line, LineFault>
+    ensures { IsExact result (config_line words.old) }
+{
+    let interval = number(words)?;
+    let pause = number(words)?;
+    let at_once = number(words)?;
+    let timeout = number(words)?;
+    let tolerable = number(words)?;
+    let retained = number(words)?;
+    let keep_on_cancel = keep_or_delete(words)?;
+    end(words)?;
+    Ok(Line::Config {
+        interval,
+        pause,
+        at_once,
+        timeout,
+        tolerable,
+        retained,
+        keep_on_cancel,
+    })
+}
+
+#[tactic(auto, unfolding(crate::specs::Reading::job_line))]
+fn job(alloc: Global, words: &mut Words<'_>) -> Result<Line, LineFault>
+    ensures { Reads result (job_line words.old) }
+{
+    let parallelisms = numbers(alloc, words)?;
+    if parallelisms.is_empty() {
+        return Err(LineFault::Missing);
+    }
+    Ok(Line::Job { parallelisms })
+}
+
+#[tactic(auto, unfolding(crate::specs::Reading::ack_line))]
+fn ack(alloc: Global, words: &mut Words<'_>) -> Result<Line, LineFault>
+    ensures { Reads result (ack_line words.old) }
+{
+    let now = number(words)?;
+    let id = CheckpointId(number(words)?);
+    let subtask = subtask(words)?;
+    let (fresh, reused) = files(alloc, words)?;
+    Ok(Line::Ack {
+        now,
+        id,
+        subtask,
+        fresh,
+        reused,
+    })
+}
+
+#[tactic(auto, unfolding(crate::specs::Reading::decline_line))]
+fn decline(words: &mut Words<'_>) -> Result<Line, LineFault>
+    ensures { IsExact result (decline_line words.old) }
+{
+    let now = number(words)?;
+    let id = CheckpointId(number(words)?);
+    let subtask = subtask(words)?;
+    end(words)?;
+    Ok(Line::Decline { now, id, subtask })
+}
+
+#[tactic(auto, unfolding(crate::specs::Reading::restore_line))]
+fn restore(alloc: Global, words: &mut Words<'_>) -> Result<Line, LineFault>
+    ensures { Reads result (restore_line words.old) }
+{
+    let now = number(words)?;
+    let target = target(words)?;
+    let parallelisms = numbers(alloc, words)?;
+    Ok(Line::Restore {
+        now,
+        target,
+        parallelisms,
+    })
+}
+
+#[tactic(auto, unfolding(crate::specs::Reading::all_line))]
+fn all(words: &mut Words<'_>) -> Result<Line, LineFault>
+    ensures { IsExact result (all_line words.old) }
+{
+    let now = number(words)?;
+    let id = CheckpointId(number(words)?);
+    let threads = number(words)?;
+    let first = number(words)?;
+    end(words)?;
+    Ok(Line::All {
+        now,
+        id,
+        threads,
+        first,
+    })
+}
+
+#[tactic(auto, unfolding(crate::specs::Reading::number_line))]
+fn start(words: &mut Words<'_>) -> Result<Line, LineFault>
+    ensures { IsExact result (number_line Line.Start words.old) }
+{
+    let now = number(words)?;
+    end(words)?;
+    Ok(Line::Start { now })
+}
+
+#[tactic(auto, unfolding(crate::specs::Reading::number_line))]
+fn tick(words: &mut Words<'_>) -> Result<Line, LineFault>
+    ensures { IsExact result (number_line Line.Tick words.old) }
+{
+    let now = number(words)?;
+    end(words)?;
+    Ok(Line::Tick { now })
+}
+
+#[tactic(auto, unfolding(crate::specs::Reading::number_line))]
+fn savepoint(words: &mut Words<'_>) -> Result<Line, LineFault>
+    ensures { IsExact result (number_line Line.Savepoint words.old) }
+{
+    let now = number(words)?;
+    end(words)?;
+    Ok(Line::Savepoint { now })
+}
+
+#[tactic(auto, unfolding(crate::specs::Reading::number_line))]
+fn dispose(words: &mut Words<'_>) -> Result<Line, LineFault>
+    ensures { IsExact result (number_line Line.Dispose words.old) }
+{
+    let id = CheckpointId(number(words)?);
+    end(words)?;
+    Ok(Line::Dispose { id })
+}
+
+#[tactic(auto, unfolding(crate::specs::Reading::number_line))]
+fn cancel(words: &mut Words<'_>) -> Result<Line, LineFault>
+    ensures { IsExact result (number_line Line.Cancel words.old) }
+{
+    let now = number(words)?;
+    end(words)?;
+    Ok(Line::Cancel { now })
+}
+
+#[tactic(auto, unfolding(crate::specs::Reading::number_line))]
+fn take(words: &mut Words<'_>) -> Result<Line, LineFault>
+    ensures { IsExact result (number_line Line.Take words.old) }
+{
+    let most = number(words)?;
+    end(words)?;
+    Ok(Line::Take { most })
+}
+
+#[tactic(auto, unfolding(crate::specs::Reading::number_line))]
+fn deleted(words: &mut Words<'_>) -> Result<Line, LineFault>
+    ensures { IsExact result (number_line Line.Deleted words.old) }
+{
+    let file = FileId(number(words)?);
+    end(words)?;
+    Ok(Line::Deleted { file })
+}
+
+#[tactic(auto, unfolding(crate::specs::Reading::number_line))]
+fn undeleted(words: &mut Words<'_>) -> Result<Line, LineFault>
+    ensures { IsExact result (number_line Line.Undeleted words.old) }
+{
+    let file = FileId(number(words)?);
+    end(words)?;
+    Ok(Line::Undeleted { file })
+}
+
+#[tactic(auto, unfolding(crate::specs::Reading::number_line))]
+fn show(words: &mut Words<'_>) -> Result<Line, LineFault>
+    ensures { IsExact result (number_line Line.Show words.old) }
+{
+    let id = CheckpointId(number(words)?);
+    end(words)?;
+    Ok(Line::Show { id })
+}
+
+#[tactic(auto, unfolding(crate::specs::Reading::number_line))]
+fn count(words: &mut Words<'_>) -> Result<Line, LineFault>
+    ensures { IsExact result (number_line Line.Count words.old) }
+{
+    let file = FileId(number(words)?);
+    end(words)?;
+    Ok(Line::Count { file })
+}
+
+/// The line of this kind, from the words after the first.
+#[tactic(auto, unfolding(crate::specs::Reading::row))]
+pub fn row(alloc: Global, keyword: Keyword, words: &mut Words<'_>) -> Result<Line, LineFault>
+    ensures line { Reads result (row keyword words.old) }
+    ensures memory { result ≡ Err LineFault.Memory → takes_memory keyword ≡ true }
+{
+    match keyword {
+        Keyword::Config => config(words),
+        Keyword::Job => job(alloc, words),
+        Keyword::Start => start(words),
+        Keyword::Tick => tick(words),
+        Keyword::Savepoint => savepoint(words),
+        Keyword::Ack => ack(alloc, words),
+        Keyword::Decline => decline(words),
+        Keyword::Dispose => dispose(words),
+        Keyword::Restore => restore(alloc, words),
+        Keyword::Cancel => cancel(words),
+        Keyword::Take => take(words),
+        Keyword::Deleted => deleted(words),
+        Keyword::Undeleted => undeleted(words),
+        Keyword::Show => show(words),
+        Keyword::Count => count(words),
+        Keyword::All => all(words),
+    }
+}

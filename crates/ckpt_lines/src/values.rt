@@ -1,0 +1,88 @@
+ghost use Rattle.std.specs.Prelude.{◌≡◌};
+ghost use Rattle.ckpt_lines.specs.Reading.{IsExact};
+ghost use Rattle.ckpt_lines.specs.Values.{file_word, number_of, part_of, retention, subtask_of, target_of};
+
+use crate::fault::LineFault;
+use ckpt_ids::{CheckpointId, FileId, SubtaskId, Target};
+
+/// A file word: a sign and a number.
+#[derive(Clone, Copy, Debug, PartialEq, Eq)]
+pub enum FileWord {
+    /// `+` and the number of a new file.
+    Fresh(FileId),
+    /// `=` and the number of a file that an earlier record holds.
+    Reused(FileId),
+}
+
+/// The number of at most 2^64 - 1 that the digits spell. A sign is no digit.
+pub fn number_of(word: &[u8]) -> Option<u64>
+    ensures { result ≡ number_of word.now }
+{
+    if word.starts_with(b"+") {
+        return None;
+    }
+    let text = str::from_utf8(word).ok()?;
+    text.parse().ok()
+}
+
+/// The number of a vertex, or of a subtask of one: at most 65535.
+#[tactic(auto, unfolding(crate::specs::Values::part_of))]
+fn part_of(word: &[u8]) -> Option<u16>
+    ensures { result ≡ part_of word.now }
+{
+    u16::try_from(number_of(word)?).ok()
+}
+
+/// The subtask that the word names: its vertex, a dot and its index.
+#[tactic(auto, unfolding(crate::specs::Values::subtask_of))]
+pub fn subtask_of(word: &[u8]) -> Option<SubtaskId>
+    ensures { result ≡ subtask_of word.now }
+{
+    let dot = word.iter().position(|byte| *byte == b'.')?;
+    let vertex = part_of(&word[..dot])?;
+    let index = part_of(&word[dot + 1..])?;
+    Some(SubtaskId { vertex, index })
+}
+
+/// Whether completed checkpoints are kept when the job is cancelled.
+pub fn retention(word: &[u8]) -> Result<bool, LineFault>
+    ensures { IsExact result (retention word.now) }
+{
+    if word == b"keep".as_slice() {
+        return Ok(true);
+    }
+    if word == b"delete".as_slice() {
+        return Ok(false);
+    }
+    Err(LineFault::Word)
+}
+
+/// What a job is restored from.
+#[tactic(auto, unfolding(crate::specs::Values::target_of))]
+pub fn target_of(word: &[u8]) -> Result<Target, LineFault>
+    ensures { IsExact result (target_of word.now) }
+{
+    if word == b"latest".as_slice() {
+        return Ok(Target::Latest);
+    }
+    let id = number_of(word).ok_or(LineFault::Number)?;
+    Ok(Target::Savepoint(CheckpointId(id)))
+}
+
+/// A new or a reused file.
+#[tactic(auto, unfolding(crate::specs::Values::file_word))]
+pub fn file_word(word: &[u8]) -> Result<FileWord, LineFault>
+    ensures { result ≡ file_word word.now }
+{
+    match word {
+        [b'+', number @ ..] => {
+            let file = number_of(number).ok_or(LineFault::Number)?;
+            Ok(FileWord::Fresh(FileId(file)))
+        }
+        [b'=', number @ ..] => {
+            let file = number_of(number).ok_or(LineFault::Number)?;
+            Ok(FileWord::Reused(FileId(file)))
+        }
+        _ => Err(LineFault::Word),
+    }
+}

@@ -1,0 +1,57 @@
+ghost use Rattle.std.specs.Prelude.{◌≡◌, false, [], ◌∷◌, MatchOption};
+ghost use Rattle.ckpt_lines.specs.Words.{begins_with_space, words_of};
+
+use std::marker::Model;
+
+/// The words of a line that are still to be read. One or more spaces stand between two words.
+#[derive(Drop)]
+pub struct Words<'a> {
+    rest: &'a [u8],
+}
+
+impl<'a> Model for Words<'a> {
+    ghost use Rattle.std.specs.Prelude.{ℕ, List};
+    ghost use Rattle.ckpt_lines.specs.Words.{words_of};
+
+    ghost Value = { List (List ℕ) };
+
+    ghost view = { λ w. words_of w.rest.now };
+}
+
+/// The text without the spaces at its start.
+fn without_spaces(text: &[u8]) -> &[u8]
+    ensures words { words_of result.now ≡ words_of text.now }
+    ensures start { begins_with_space result.now ≡ false }
+{
+    let mut rest = text;
+    while let [b' ', after @ ..] = rest {
+        rest = after;
+    }
+    rest
+}
+
+impl<'a> Words<'a> {
+    /// The words of this text.
+    pub fn of(text: &'a [u8]) -> Words<'a>
+        ensures { result ≡ words_of text.now }
+    {
+        Words { rest: text }
+    }
+
+    /// The next word, or `None` where there is none.
+    pub fn next(&mut self) -> Option<&'a [u8]>
+        ensures { MatchOption result (self.old ≡ []) (λ word. self.old ≡ word.now ∷ self.new) }
+    {
+        let text = without_spaces(self.rest);
+        if text.is_empty() {
+            return None;
+        }
+        let end = text
+            .iter()
+            .position(|byte| *byte == b' ')
+            .unwrap_or(text.len());
+        let (word, rest) = text.split_at(end);
+        self.rest = rest;
+        Some(word)
+    }
+}
