@@ -1,0 +1,2 @@
+pub mod MetadataTexts
+pub mod Texts

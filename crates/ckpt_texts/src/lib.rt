@@ -1,0 +1,17 @@
+//! What is printed for an answer of the coordinator: one line for each, and for a record its
+//! metadata as JSON.
+//!
+//! [`answer_text`] gives the line, [`metadata_text`] the JSON. `specs/Texts.antt` and
+//! `specs/MetadataTexts.antt` say what they are, byte for byte.
+#![tactic(auto)]
+
+pub mod answers;
+pub mod metadata;
+mod refusals;
+mod replies;
+
+pub use answers::answer_text;
+pub use metadata::metadata_text;
+
+#[cfg(test)]
+mod tests;
