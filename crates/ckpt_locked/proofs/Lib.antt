@@ -1,0 +1,4 @@
+pub mod AcceptedOnce
+pub mod OpeningKept
+pub mod Openings
+pub mod Replays

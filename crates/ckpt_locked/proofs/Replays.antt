@@ -1,0 +1,86 @@
+-- One call more, in the list and in the state.
+use Rattle.std.proofs.Common.{◌≡◌, ℕ, List, [], ◌∷◌, ◌++◌, refl, sym, ap, subst, ◌∙◌}
+use Rattle.std.specs.Prelude.{Some}
+use Rattle.std.proofs.lemmas.List.{map-append}
+use Rattle.ckpt_ids.specs.declared.call.Call.{Call}
+use Rattle.ckpt_ids.specs.declared.call.Call.TheVariants.{Count}
+use Rattle.ckpt_ids.specs.declared.reply.Answer.{Answer}
+use Rattle.ckpt_ids.specs.declared.reply.Answer.TheVariants.{Done, Refused}
+use Rattle.ckpt_ids.specs.declared.reply.Refusal.{Refusal}
+use Rattle.ckpt_ids.specs.declared.reply.Reply.TheVariants.{Counted}
+use Rattle.ckpt_ids.specs.Records.{count, uses}
+use Rattle.ckpt_core.specs.Histories.{replay}
+use Rattle.ckpt_core.specs.Laws.{CanOpen, AreCalls}
+use Rattle.ckpt_core.specs.Refusals.{refusal}
+use Rattle.ckpt_core.specs.Soundness.{IsCall}
+use Rattle.ckpt_core.specs.State.{State, Opening, opened}
+use Rattle.ckpt_core.specs.Steps.{effect, step, unless_refused}
+use Rattle.ckpt_locked.specs.declared.book.Entry.{Entry}
+use Rattle.ckpt_locked.specs.Books.{History, IsKept, calls_of, history_of, state_of_book, answer_to, entered}
+use Rattle.ckpt_locked.proofs.OpeningKept.{step_keeps_opening}
+
+replay-push : (m : State) (calls : List Call) (call : Call) → replay m (calls ++ call ∷ []) ≡ (step (replay m calls) call).0
+replay-push m [] call = refl
+replay-push m (first ∷ calls) call = replay-push (step m first).0 calls call
+
+are_calls-push : (calls : List Call) (call : Call) → AreCalls calls → IsCall call → AreCalls (calls ++ call ∷ [])
+are_calls-push [] call a c = (c, tt)
+are_calls-push (first ∷ calls) call a c = (a.0, are_calls-push calls call a.1 c)
+
+pub are_calls-append : (before calls : List Call) → AreCalls (before ++ calls) → AreCalls before × AreCalls calls
+are_calls-append [] calls a = (tt, a)
+are_calls-append (first ∷ before) calls a = let rest : AreCalls before × AreCalls calls = are_calls-append before calls a.1 in ((a.0, rest.0), rest.1)
+
+calls_of-push : (entries : List Entry) (entry : Entry) → calls_of (entries ++ entry ∷ []) ≡ calls_of entries ++ entry.call ∷ []
+calls_of-push entries entry = map-append (λ e. e.call) entries (entry ∷ [])
+
+-- the coordinator after a call, and the list with it, are a book
+kept_step : (core : State) (entries : List Entry) (entry : Entry) → IsKept core entries → IsCall entry.call → IsKept (step core entry.call).0 (entries ++ entry ∷ [])
+unfolding state_of_book
+kept_step core entries entry kept call =
+    let after : State = (step core entry.call).0 in
+    let more : List Entry = entries ++ entry ∷ [] in
+    let same_opening : core.opening ≡ after.opening = sym (step_keeps_opening core entry.call) in
+    let same_calls : calls_of entries ++ entry.call ∷ [] ≡ calls_of more = sym (calls_of-push entries entry) in
+    record {
+      history = record {
+        can_open = subst CanOpen same_opening kept.history.can_open;
+        are_calls = subst AreCalls same_calls (are_calls-push (calls_of entries) entry.call kept.history.are_calls call);
+      };
+      is_replay =
+          ap (λ m. (step m entry.call).0) kept.is_replay
+          ∙ sym (replay-push (opened core.opening) (calls_of entries) entry.call)
+          ∙ ap (replay (opened core.opening)) same_calls
+          ∙ ap (λ o. replay (opened o) (calls_of more)) same_opening;
+    }
+
+pub kept_entered : (core after : State) (entries : List Entry) (entry : Entry) (answer : Answer) → IsKept core entries → IsCall entry.call → step core entry.call ≡ (after, answer) → IsKept after (entries ++ entry ∷ [])
+kept_entered core after entries entry answer kept call e =
+    let Kept : State → Type 0 = λ m. IsKept m (entries ++ entry ∷ []) in
+    let there : (step core entry.call).0 ≡ after = ap (λ s. s.0) e in
+    subst Kept there (kept_step core entries entry kept call)
+
+-- what the two tell is the entry more
+pub history_entered : (core after : State) (entries more : List Entry) (seat : ℕ) (call : Call) (answer : Answer) → step core call ≡ (after, answer) → more ≡ entries ++ record { seat = seat; call = call } ∷ [] → history_of after more ≡ entered (history_of core entries) seat call
+history_entered core after entries more seat call answer e is_more =
+    let same_opening : after.opening ≡ core.opening = sym (ap (λ s. s.0.opening) e) ∙ step_keeps_opening core call in
+    let of_opening : Opening → History = λ o. record { opening = o; entries = more } in
+    let of_entries : List Entry → History = λ xs. record { opening = core.opening; entries = xs } in
+    ap of_opening same_opening ∙ ap of_entries is_more
+
+-- what it answers is the answer to the list
+pub answer_is : (core after : State) (entries : List Entry) (call : Call) (answer : Answer) → IsKept core entries → step core call ≡ (after, answer) → answer ≡ answer_to (history_of core entries) call
+unfolding answer_to
+answer_is core after entries call answer kept e =
+    let here : (step core call).1 ≡ answer = ap (λ s. s.1) e in
+    sym here ∙ ap (λ m. (step m call).1) kept.is_replay
+
+-- a refused call
+pub step_refused : (m : State) (call : Call) (why : Refusal) → refusal m call ≡ Some why → step m call ≡ (m, Refused why)
+unfolding step
+step_refused m call why e = ap (unless_refused m call) e
+
+-- the answer to a Count
+pub count_answer : (h : History) (file : ℕ) → answer_to h (Count file) ≡ Done (Counted file (count (uses (state_of_book h).records) file))
+unfolding answer_to step refusal effect
+count_answer h file = refl

@@ -1,0 +1,43 @@
+-- A book: what a coordinator was opened with and all calls since, and the state that they lead to.
+use Rattle.std.specs.Prelude.{◌≡◌, ℕ, List, [], ◌∷◌, ◌++◌, map}
+use Rattle.ckpt_ids.specs.declared.call.Call.{Call}
+use Rattle.ckpt_ids.specs.declared.reply.Answer.{Answer}
+use Rattle.ckpt_core.specs.State.{State, Opening, opened}
+use Rattle.ckpt_core.specs.Steps.{step}
+use Rattle.ckpt_core.specs.Histories.{replay}
+use Rattle.ckpt_core.specs.Laws.{CanOpen, AreCalls}
+use Rattle.ckpt_locked.specs.declared.book.Entry.{Entry}
+
+-- what a book tells: the opening, and each call with who made it, refused calls too
+pub record History : Type 0 where
+  pub opening : Opening
+  pub entries : List Entry
+
+abbrev pub calls_of : List Entry → List Call
+calls_of entries = map (λ e. e.call) entries
+
+-- the state that the calls lead to
+unfoldable pub state_of_book : History → State
+state_of_book h = replay (opened h.opening) (calls_of h.entries)
+
+-- one entry more, at the end
+abbrev pub entered : History → ℕ → Call → History
+entered h seat call = record h { entries = h.entries ++ record { seat = seat; call = call } ∷ [] }
+
+-- what the call is answered after all of these
+unfoldable pub answer_to : History → Call → Answer
+answer_to h call = (step (state_of_book h) call).1
+
+-- a coordinator can be opened so, and each of the calls can be made
+pub record IsHistory (h : History) : Type 0 where
+  pub can_open : CanOpen h.opening
+  pub are_calls : AreCalls (calls_of h.entries)
+
+-- what the coordinator and the list beside it tell together
+abbrev pub history_of : State → List Entry → History
+history_of core entries = record { opening = core.opening; entries = entries }
+
+-- the coordinator is the replay of the list
+pub record IsKept (core : State) (entries : List Entry) : Type 0 where
+  pub history : IsHistory (history_of core entries)
+  pub is_replay : core ≡ state_of_book (history_of core entries)

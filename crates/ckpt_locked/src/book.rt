@@ -1,0 +1,185 @@
+ghost use Rattle.std.specs.Prelude.{◌≡◌, ◌↔◌, ℕ, [], length, slice_get, IsTrue, IfOk, IfErr, OnOk, OnErr};
+ghost use Rattle.std.specs.Option.{option_copied};
+ghost use Rattle.std.specs.Result.{result_err};
+ghost use Rattle.ckpt_ids.specs.declared.call.Call.TheVariants.{Count};
+ghost use Rattle.ckpt_ids.specs.declared.reply.Answer.TheVariants.{Done};
+ghost use Rattle.ckpt_ids.specs.declared.reply.Reply.TheVariants.{Counted};
+ghost use Rattle.ckpt_ids.specs.Records.{count, uses};
+ghost use Rattle.ckpt_core.specs.Laws.{Accounted, Acknowledgements, Balance, ChoiceIsLive, Handed, Numbers, Outbox};
+ghost use Rattle.ckpt_core.specs.Opening.{open_fault};
+ghost use Rattle.ckpt_core.specs.Soundness.{IsCall, IsSound};
+ghost use Rattle.ckpt_core.specs.Steps.{step};
+
+use ckpt_core::{Core, CoreFault, OpenFault, laws};
+use ckpt_ids::{Answer, Call, Config, Shape};
+use std::alloc::{AllocError, Global};
+use std::marker::Model;
+
+/// An entry of the book: who made the call, and the call, also where it was refused.
+#[derive(Debug, Drop, PartialEq, Eq)]
+pub struct Entry {
+    /// The number that the caller goes by. The book takes whatever it is given.
+    pub seat: u32,
+    pub call: Call,
+}
+
+/// A coordinator with the list of all its calls, for one thread.
+///
+/// At each moment the coordinator is the replay of the list from its opening: [`Book::core`] says
+/// so, and what follows from it.
+#[derive(Drop)]
+pub struct Book {
+    core: Core,
+    entries: Vec<Entry>,
+}
+
+impl Model for Book {
+    ghost use Rattle.ckpt_locked.specs.Books.{History, IsKept, history_of};
+
+    ghost Value = { History };
+
+    ghost view = { λ b. history_of b.core b.entries.items };
+
+    ghost invariant = { λ b. IsKept b.core b.entries.items };
+}
+
+/// Does nothing: its contract tells that the shape of a restore is the shape of a job.
+fn recall_shape(call: &Call)
+    ensures { IsCall call.now }
+{
+    if let Call::Restore {
+        shape: Some(shape),
+        ..
+    } = call
+    {
+        let _ = shape.size();
+    }
+}
+
+/// Makes a call, and answers it also where it is refused.
+///
+/// Fails only for want of memory, and then nothing has changed.
+fn answer(core: &mut Core, call: &Call) -> Result<Answer, AllocError>
+    ensures call { IsCall call.now }
+    ensures step { IfOk result (λ answer. step core.old call.now ≡ (core.new, answer)) }
+    ensures unchanged { OnErr result (core.new ≡ core.old) }
+{
+    recall_shape(call);
+    match core.apply(call) {
+        Ok(reply) => Ok(Answer::Done(reply)),
+        Err(CoreFault::Refused(why)) => Ok(Answer::Refused(why)),
+        Err(CoreFault::Memory) => Err(AllocError),
+    }
+}
+
+impl Book {
+    ghost use Rattle.ckpt_locked.specs.Books.{IsHistory, answer_to, calls_of, entered, state_of_book};
+    ghost use Rattle.ckpt_locked.specs.Promises.{AreDoneFull, AreHandedForGood, ExactlyOne, PinsHold, SavepointsStay};
+
+    /// Opens a coordinator as [`Core::new`] does, with an empty list. Takes no memory.
+    ///
+    /// `now` is in milliseconds. Answers [`OpenFault::MomentTooLarge`] exactly where it is above
+    /// 2^62 - 1, and else [`OpenFault::BadFirst`] exactly where `first` is outside 1 to 2^62 - 1.
+    pub fn new(
+        alloc: Global,
+        config: Config,
+        shape: Shape,
+        now: u64,
+        first: u64,
+    ) -> Result<Book, OpenFault>
+        ensures fault { result_err result ≡ open_fault now first }
+        ensures value { IfOk result (λ book. book ≡ record { opening = record { config = config; shape = shape; start = now; first = first }; entries = [] }) }
+    {
+        // Tells that both are within their limits.
+        let _ = (config.interval(), shape.size());
+        let core = Core::new(alloc, config, shape, now, first)?;
+        let entries = Vec::new(alloc);
+        Ok(Book { core, entries })
+    }
+
+    /// Makes a call, enters it, and answers what it gave. A refused call is entered too.
+    ///
+    /// Gives the call back for want of memory alone, and then nothing has changed. An entry takes
+    /// memory now and then, so any call may be given back, a refused one too.
+    pub fn apply(&mut self, seat: u32, call: Call) -> Result<Answer, Call>
+        ensures entered { OnOk result (self.new ≡ entered self.old seat call) }
+        ensures answer { IfOk result (λ answer. answer ≡ answer_to self.old call) }
+
+        // The answer to a Count is the number of uses by live records.
+        ensures count { (file : ℕ) → call ≡ Count file → IfOk result (λ answer. answer ≡ Done (Counted file (count (uses (state_of_book self.old).records) file))) }
+
+        // Want of memory.
+        ensures returned { IfErr result (λ back. back ≡ call) }
+        ensures unchanged { OnErr result (self.new ≡ self.old) }
+    {
+        if self.entries.reserve(1).is_err() {
+            return Err(call);
+        }
+        let Ok(answer) = answer(&mut self.core, &call) else {
+            return Err(call);
+        };
+        self.entries.push_reserved(Entry { seat, call });
+        Ok(answer)
+    }
+
+    /// How many calls were entered.
+    pub fn len(&self) -> u64
+        ensures { result ≡ length self.now.entries }
+    {
+        self.entries.len() as u64
+    }
+
+    /// Whether no call was entered.
+    pub fn is_empty(&self) -> bool
+        ensures { IsTrue result ↔ (self.now.entries ≡ []) }
+    {
+        self.entries.is_empty()
+    }
+
+    /// The entry at this place, counted from 0, or `None` past the last.
+    pub fn entry(&self, place: u64) -> Option<&Entry>
+        ensures { option_copied result ≡ slice_get self.now.entries place }
+    {
+        self.entries.get(place as usize)
+    }
+
+    /// The coordinator: the replay of the list from its opening. The other clauses are what follows
+    /// of every book.
+    pub fn core(&self) -> &Core
+        ensures replay { result.now ≡ state_of_book self.now }
+        ensures history { IsHistory self.now }
+        ensures sound { IsSound result.now }
+
+        // Records: what completes one, and what keeps one.
+        ensures full { AreDoneFull result.now }
+        ensures acknowledged { Acknowledgements self.now.opening (calls_of self.now.entries) }
+        ensures exactly_one { ExactlyOne self.now }
+        ensures numbers { Numbers self.now.opening (calls_of self.now.entries) }
+        ensures savepoints { SavepointsStay self.now }
+
+        // Files: each is in use, or was handed out, and none in use is lost.
+        ensures balance { Balance self.now.opening (calls_of self.now.entries) }
+        ensures handed { Handed self.now.opening (calls_of self.now.entries) }
+        ensures handed_for_good { AreHandedForGood self.now }
+        ensures accounted { Accounted self.now.opening (calls_of self.now.entries) }
+        ensures one_place { Outbox self.now.opening (calls_of self.now.entries) }
+
+        // What the job would restart from.
+        ensures choice { ChoiceIsLive self.now.opening (calls_of self.now.entries) }
+        ensures pinned { PinsHold self.now }
+    {
+        // These do nothing: their contracts are the laws.
+        laws::sound();
+        laws::acknowledgements();
+        laws::numbers();
+        laws::savepoints();
+        laws::balance();
+        laws::handed();
+        laws::used_no_more();
+        laws::accounted();
+        laws::outbox();
+        laws::choice();
+        laws::pinned();
+        &self.core
+    }
+}
