@@ -36,7 +36,7 @@ use Rattle.ckpt_core.proofs.AckLate.{ack_step}
 use Rattle.ckpt_core.proofs.AckMoves.{ack_groups, ack_uses, no_pin-holds, with_instead, id-with_instead, replaced_members}
 use Rattle.ckpt_core.proofs.AckRecords.{IsAcknowledged}
 use Rattle.ckpt_core.proofs.AckTakes.{found_pending, found_record}
-use Rattle.ckpt_core.proofs.AckUses.{record_uses_in_order, all_uses_in_order, present_more}
+use Rattle.ckpt_core.proofs.AckUses.{present_more}
 use Rattle.ckpt_core.proofs.CountLemmas.{IsIn-from_find, map_same}
 use Rattle.ckpt_core.proofs.DropMoves.{apart_in, groups_of}
 use Rattle.ckpt_core.proofs.GroupedLemmas.{apart_between}
@@ -46,7 +46,7 @@ use Rattle.ckpt_core.proofs.PendingRecordLemmas.{find-from_IsIn}
 use Rattle.ckpt_core.proofs.Replacing.{same_record}
 use Rattle.ckpt_core.proofs.SoundAcks.{IsAcking, with_ack, with_ack_is}
 use Rattle.ckpt_core.proofs.SoundCalls.{acking}
-use Rattle.ckpt_core.proofs.UsesOrder.{holds, from_holds, record_in_order, uses-in_order}
+use Rattle.ckpt_core.proofs.UsesOrder.{holds, from_holds, all_uses_in_order, record_in_order, record_uses_in_order, uses-in_order}
 
 -- the parts with other room
 

@@ -19,49 +19,6 @@ use Rattle.ckpt_core.proofs.CountLemmas.{IsIn-from_counted}
 use Rattle.ckpt_core.proofs.HandOut.{present-from_use}
 use Rattle.ckpt_core.proofs.UsesOrder.{holds, from_holds, holds_in_order, earlier_record, use_of_record}
 
--- the uses of one record, whether it lacks acknowledgements or not
-
-same_record_uses : (u v : Use) → u.id ≡ v.id → holder_before u.holder v.holder ≡ true → use_before u v ≡ true
-same_record_uses u v e h =
-    let rest : Bool = same_holder u.holder v.holder && ltb u.file v.file in
-    or_right (ltb u.id v.id) (eqb u.id v.id && (holder_before u.holder v.holder || rest)) (and_from (eqb u.id v.id) (holder_before u.holder v.holder || rest) (eq-eqb u.id v.id e) (or_left (holder_before u.holder v.holder) rest h))
-
-abbrev acked_uses : ℕ → List Acked → List Use
-acked_uses id acks = flat_map (λ a. holds id (Subtask a.subtask) a.files) acks
-
-acked_in_order : (id : ℕ) (acks : List Acked) → AreInSubtaskOrder acks → ((a : Acked) → IsIn a acks → IsAscendingSet a.files) → IsInOrder use_before (acked_uses id acks)
-acked_in_order id [] order files = tt
-acked_in_order id (a ∷ acks) order files =
-    IsInOrder-append use_before (holds id (Subtask a.subtask) a.files) (acked_uses id acks)
-    (holds_in_order id (Subtask a.subtask) a.files (files a (inl refl)))
-    (acked_in_order id acks order.1 (λ b h. files b (inr h)))
-    (λ u v h k.
-    let p = from_holds id (Subtask a.subtask) a.files u h in
-    let q = IsIn-from_flat_map (λ b. holds id (Subtask b.subtask) b.files) v acks k in
-    let later = from_holds id (Subtask q.0.subtask) q.0.files v q.2 in
-    same_record_uses u v (p.0 ∙ sym later.0) (ap (λ w. holder_before w v.holder) p.1 ∙ ap (holder_before (Subtask a.subtask)) later.1 ∙ ComesBefore-at acknowledges_before a q.0 acks order.0 q.1))
-
-pub record_uses_in_order : (r : Record) → AreInSubtaskOrder r.acks → ((a : Acked) → IsIn a r.acks → IsAscendingSet a.files) → IsAscendingSet r.pins → IsInOrder use_before (uses_of r)
-record_uses_in_order r order files pins =
-    IsInOrder-append use_before (acked_uses r.id r.acks) (holds r.id Pin r.pins)
-    (acked_in_order r.id r.acks order files)
-    (holds_in_order r.id Pin r.pins pins)
-    (λ u v h k.
-    let q = IsIn-from_flat_map (λ b. holds r.id (Subtask b.subtask) b.files) u r.acks h in
-    let a = from_holds r.id (Subtask q.0.subtask) q.0.files u q.2 in
-    let p = from_holds r.id Pin r.pins v k in
-    same_record_uses u v (a.0 ∙ sym p.0) (ap (λ w. holder_before w v.holder) a.1 ∙ ap (holder_before (Subtask q.0.subtask)) p.1))
-
-pub all_uses_in_order : (rs : List Record) → IsInOrder id_before rs → ((r : Record) → IsIn r rs → IsInOrder use_before (uses_of r)) → IsInOrder use_before (uses rs)
-all_uses_in_order [] order each = tt
-all_uses_in_order (r ∷ rs) order each =
-    IsInOrder-append use_before (uses_of r) (uses rs) (each r (inl refl)) (all_uses_in_order rs order.1 (λ s h. each s (inr h)))
-    (λ u v h k.
-    let q = IsIn-from_flat_map uses_of v rs k in
-    let a : u.id ≡ r.id = use_of_record r u h in
-    let b : v.id ≡ q.0.id = use_of_record q.0 v q.2 in
-    earlier_record u v (omega (arith, ltb-true r.id q.0.id (ComesBefore-at id_before r q.0 rs order.0 q.1))))
-
 -- how many files are in use after an acknowledgement
 
 length-put_once : (x : ℕ) (xs : List ℕ) → length (put_once ltb x xs) ≤ suc (length xs)

@@ -104,7 +104,7 @@ others_dropped p a q noted n tied sound groups noted_is a_is items q_is none cap
     let is : q ≡ left p ids spare q.ended = q_is ∙ ap (λ w. handed w q.ended) a_is ∙ same in
     let counted : n ≡ length (released p.registry (without ids p.registry)) = count ∙ ap (λ us. length (released us (without ids us))) (ap (λ w. w.registry) a_is) in
     drops_same p q (is_noted ids) (λ r. is_pending r || is_done_checkpoint r) n (λ r h. ap (λ xs. is_noted xs r) ids_are ∙ noted_are_others p sound groups r h)
-    (drops_from p q ids spare n tied sound is none capacity counted)
+    (drops_from p q ids spare n tied (apart_in p sound) is none capacity counted)
 
 -- one savepoint
 
@@ -142,7 +142,7 @@ savepoint_dropped p a q id spare n tied sound there a_is items q_is none capacit
     let is : q ≡ left p a.ended.items spare q.ended = q_is ∙ ap (λ w. handed w q.ended) a_is ∙ same in
     let counted : n ≡ length (released p.registry (without a.ended.items p.registry)) = count ∙ ap (λ us. length (released us (without a.ended.items us))) (ap (λ w. w.registry) a_is) in
     drops_same p q (is_noted a.ended.items) (λ r. eqb r.id id) n (λ r h. ap (λ xs. is_noted xs r) items ∙ one_noted id r)
-    (drops_from p q a.ended.items spare n tied sound is none capacity counted)
+    (drops_from p q a.ended.items spare n tied apart is none capacity counted)
 
 at_least_one : (rs : List Record) (r : Record) → IsIn r rs → 1 ≤ length rs
 at_least_one [] r h = absurd h

@@ -117,11 +117,10 @@ left_tied p ids spare ended tied apart room =
       room = omega (arith, ap length same, parts, room);
     }
 
-pub left_drops : (p : Parts) (ids : List ℕ) (spare : ℕ) (ended : Vec ℕ Global) → AreTied p → IsSound (state_of p) → ended.items ≡ [] → length (records_in p) ≤ vec_capacity ended →
+pub left_drops : (p : Parts) (ids : List ℕ) (spare : ℕ) (ended : Vec ℕ Global) → AreTied p → AreApart (grouped p.registry p.pending p.store.checkpoints p.store.savepoints) → ended.items ≡ [] → length (records_in p) ≤ vec_capacity ended →
     Drops p (left p ids spare ended) (is_noted ids) (length (released p.registry (without ids p.registry)))
 unfolding state_of
-left_drops p ids spare ended tied sound none room =
-    let apart : AreApart (grouped p.registry p.pending p.store.checkpoints p.store.savepoints) = apart_in p sound in
+left_drops p ids spare ended tied apart none room =
     record {
       state_is = left_state p ids spare ended tied apart;
       count_is = ap length (left_released p ids tied.uses_are);
@@ -162,13 +161,13 @@ none_known p tied sound f h =
     (cases_Bool (is_known p.outbox f))
 
 -- the parts after: by name
-pub drops_from : (p q : Parts) (ids : List ℕ) (spare n : ℕ) → AreTied p → IsSound (state_of p) → q ≡ left p ids spare q.ended → q.ended.items ≡ [] → vec_capacity q.ended ≡ vec_capacity p.ended →
+pub drops_from : (p q : Parts) (ids : List ℕ) (spare n : ℕ) → AreTied p → AreApart (grouped p.registry p.pending p.store.checkpoints p.store.savepoints) → q ≡ left p ids spare q.ended → q.ended.items ≡ [] → vec_capacity q.ended ≡ vec_capacity p.ended →
     n ≡ length (released p.registry (without ids p.registry)) → Drops p q (is_noted ids) n
-drops_from p q ids spare n tied sound is none capacity count =
+drops_from p q ids spare n tied apart is none capacity count =
     let room : length (records_in p) ≤ vec_capacity q.ended = omega (arith, tied.room, capacity) in
     let P : Parts → Type 0 = λ x. Drops p x (is_noted ids) (length (released p.registry (without ids p.registry))) in
     let Q : ℕ → Type 0 = λ k. Drops p q (is_noted ids) k in
-    subst Q (sym count) (subst P (sym is) (left_drops p ids spare q.ended tied sound none room))
+    subst Q (sym count) (subst P (sym is) (left_drops p ids spare q.ended tied apart none room))
 
 -- where no done record is noted, those stay as they are
 pub staying_done : (p : Parts) (ids : List ℕ) → ((r : Record) → IsIn r (p.store.checkpoints ++ p.store.savepoints) → is_noted ids r ≡ false) →

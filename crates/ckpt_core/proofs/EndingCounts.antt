@@ -12,10 +12,7 @@ use Rattle.ckpt_core.specs.State.{is_pending, is_checkpoint, is_done_checkpoint}
 use Rattle.ckpt_core.specs.Steps.{cancelled, dropped_by}
 use Rattle.ckpt_core.proofs.GroupLookups.{is_checkpoint-kind, is_savepoint-kind, pending_checkpoints-groups, savepoints-groups}
 use Rattle.ckpt_core.proofs.Lookups.{AreGroups, count_by-records_of, count_none, count_all, count_same}
-
--- one of the two tests or the other
-both_counted : (rs : List Record) → count_by is_checkpoint rs + count_by (λ r. not (is_checkpoint r)) rs ≡ length rs
-both_counted rs = omega (arith, length-filter is_checkpoint rs, length-filter (λ r. not (is_checkpoint r)) rs, length-filter_both is_checkpoint (λ r. not (is_checkpoint r)) (λ r. refl) rs)
+use Rattle.ckpt_core.proofs.PendingRecordLemmas.{count_by-others}
 
 limit_to : (pause at_once : ℕ) → at_once ≤ 64 → cond (ltb 0 pause) 1 at_once ≤ 64
 limit_to pause at_once h = ⊎_elim (λ (e : ltb 0 pause ≡ true). rw e (omega arith)) (λ (e : ltb 0 pause ≡ false). rw e h) (cases_Bool (ltb 0 pause))
@@ -25,7 +22,7 @@ unfolding state_of
 few_pending p sound groups =
     omega (
       arith,
-      both_counted p.pending,
+      count_by-others is_checkpoint p.pending,
       pending_checkpoints-groups p.registry p.pending p.store.checkpoints p.store.savepoints groups,
       savepoints-groups p.registry p.pending p.store.checkpoints p.store.savepoints groups,
       sound.sound.at_once,

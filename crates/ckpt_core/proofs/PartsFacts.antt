@@ -18,20 +18,10 @@ use Rattle.ckpt_core.specs.Soundness.{IsSound, id_before}
 use Rattle.ckpt_core.specs.Grouped.{with_pins, grouped, records_of}
 use Rattle.ckpt_core.specs.Parts.{state_of, records_in}
 use Rattle.ckpt_core.proofs.CountLemmas.{find-none}
+use Rattle.ckpt_core.proofs.DropMoves.{apart_in, groups_of}
 use Rattle.ckpt_core.proofs.GroupedLemmas.{AreApart, apart-from_in_order, apart_between}
 use Rattle.ckpt_core.proofs.Lookups.{AreGroups, has_number}
 use Rattle.ckpt_core.proofs.GroupLookups.{last_checkpoint-groups, last_id, last_id-greatest, record_of-groups, first_found}
-
-pub parts_apart : (p : Parts) → IsSound (state_of p) → AreApart (grouped p.registry p.pending p.store.checkpoints p.store.savepoints)
-unfolding state_of
-parts_apart p sound = apart-from_in_order (grouped p.registry p.pending p.store.checkpoints p.store.savepoints) sound.in_order
-
-pub parts_groups : (pending : List Record) (s : Stored) → IsStored s → ((r : Record) → IsIn r pending → IsPending r) → AreGroups pending s.checkpoints s.savepoints
-parts_groups pending s stored each = record {
-  not_done = λ r h. (each r h).not_done;
-  checkpoints_done = λ r h. let k = stored.checkpoints_done r h in (k.0.is_done, k.1);
-  savepoints_done = λ r h. let k = stored.savepoints_done r h in (k.0.is_done, k.1);
-}
 
 -- the choice
 
@@ -43,9 +33,9 @@ same_choice None None = refl
 pub choice-parts : (p : Parts) → IsSound (state_of p) → IsStored p.store → ((r : Record) → IsIn r p.pending → IsPending r) → choice_of (state_of p) ≡ storing.choice_of p.store
 unfolding state_of choice_of
 choice-parts p sound stored each =
-    let groups : AreGroups p.pending p.store.checkpoints p.store.savepoints = parts_groups p.pending p.store stored each in
+    let groups : AreGroups p.pending p.store.checkpoints p.store.savepoints = groups_of p each stored in
     let last : last_checkpoint (records_in p) ≡ greatest p.store.checkpoints =
-    last_checkpoint-groups p.registry p.pending p.store.checkpoints p.store.savepoints (parts_apart p sound) groups stored.checkpoints_rise ∙ last_id-greatest p.store.checkpoints in
+    last_checkpoint-groups p.registry p.pending p.store.checkpoints p.store.savepoints (apart_in p sound) groups stored.checkpoints_rise ∙ last_id-greatest p.store.checkpoints in
     ap (λ o. choice_from o p.store.base) last ∙ same_choice (greatest p.store.checkpoints) p.store.base
 
 in_last : (rs : List Record) (id : ℕ) → last_id rs ≡ Some id → (r : Record) × IsIn r rs × (r.id ≡ id)
@@ -65,7 +55,7 @@ in_last (r ∷ rs) id e =
 pub not_pending : (p : Parts) → IsSound (state_of p) → (r : Record) → IsIn r (p.store.checkpoints ++ p.store.savepoints) → find (has_number r.id) p.pending ≡ None
 not_pending p sound r h =
     find-none (has_number r.id) p.pending (λ q k.
-    let apart = parts_apart p sound in
+    let apart = apart_in p sound in
     ⊎_elim
     (λ (e : eqb q.id r.id ≡ true). absurd (apart_between _ (p.store.checkpoints ++ p.store.savepoints) apart (with_pins p.registry q) r (IsIn-map (with_pins p.registry) q p.pending k) h (eqb-true q.id r.id e)))
     (λ (e : eqb q.id r.id ≡ false). e)
@@ -86,7 +76,7 @@ pub record_of-done : (p : Parts) → IsSound (state_of p) → (id : ℕ) → (r 
 unfolding state_of
 record_of-done p sound id r h e =
     let none : find (has_number id) p.pending ≡ None = let P : ℕ → Type 0 = λ n. find (has_number n) p.pending ≡ None in subst P e (not_pending p sound r h) in
-    record_of-groups id p.registry p.pending p.store.checkpoints p.store.savepoints (parts_apart p sound)
+    record_of-groups id p.registry p.pending p.store.checkpoints p.store.savepoints (apart_in p sound)
     ∙ ap (λ o. first_found (option_map (with_pins p.registry) o) (first_found (find (has_number id) p.store.checkpoints) (find (has_number id) p.store.savepoints))) none
     ∙ first_of_none p.registry (first_found (find (has_number id) p.store.checkpoints) (find (has_number id) p.store.savepoints))
     ∙ same_record_of p.store id

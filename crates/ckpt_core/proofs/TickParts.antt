@@ -124,9 +124,9 @@ old_same p timeout moment t m r =
     ap (λ x. leb (r.started + x) p.clock.latest) (sym t) ∙ ap (leb (r.started + timeout)) same
 
 -- a count over pending records alone
-pub pending_counted : (p : Parts) (t u : Record → Bool) → AreGroups p.pending p.store.checkpoints p.store.savepoints → ((r : Record) → t (with_pins p.registry r) ≡ t r) → ((r : Record) → r.done ≡ true → t r ≡ false) → ((r : Record) → r.done ≡ false → t r ≡ u r) →
+pub counted_in_pending : (p : Parts) (t u : Record → Bool) → AreGroups p.pending p.store.checkpoints p.store.savepoints → ((r : Record) → t (with_pins p.registry r) ≡ t r) → ((r : Record) → r.done ≡ true → t r ≡ false) → ((r : Record) → r.done ≡ false → t r ≡ u r) →
     count_by t (records_in p) ≡ count_by u p.pending
-pending_counted p t u groups same none agree =
+counted_in_pending p t u groups same none agree =
     let all : count_by t (records_in p) ≡ count_by t p.pending + (count_by t p.store.checkpoints + count_by t p.store.savepoints) = count_by-records_of t p.registry p.pending p.store.checkpoints p.store.savepoints same in
     let a : count_by t p.store.checkpoints ≡ 0 = count_none t p.store.checkpoints (λ r h. none r (groups.checkpoints_done r h).0) in
     let b : count_by t p.store.savepoints ≡ 0 = count_none t p.store.savepoints (λ r h. none r (groups.savepoints_done r h).0) in
@@ -137,7 +137,7 @@ pub expired_counted : (p : Parts) (timeout moment : ℕ) → AreGroups p.pending
     dropped_by (state_of p) (is_expired (state_of p) p.clock.latest) ≡ length (filter (is_old timeout moment) p.pending)
 unfolding state_of
 expired_counted p timeout moment groups t m =
-    pending_counted p (is_expired (state_of p) p.clock.latest) (is_old timeout moment) groups (λ r. refl) (λ r d. ap (λ b. not b && leb (r.started + p.opened.config.timeout) p.clock.latest) d)
+    counted_in_pending p (is_expired (state_of p) p.clock.latest) (is_old timeout moment) groups (λ r. refl) (λ r d. ap (λ b. not b && leb (r.started + p.opened.config.timeout) p.clock.latest) d)
     (λ r d. ap (λ b. not b && leb (r.started + p.opened.config.timeout) p.clock.latest) d ∙ old_same p timeout moment t m r)
     ∙ counted_length (is_old timeout moment) p.pending
   where
@@ -148,7 +148,7 @@ pub late_counted : (p : Parts) (timeout moment : ℕ) → AreGroups p.pending p.
     count_by (is_late (state_of p)) (records_in p) ≡ count_by (λ r. is_old timeout moment r && is_checkpoint r) p.pending
 unfolding state_of
 late_counted p timeout moment groups t m =
-    pending_counted p (is_late (state_of p)) (λ r. is_old timeout moment r && is_checkpoint r) groups (λ r. refl) (λ r d. ap (λ b. (not b && leb (r.started + p.opened.config.timeout) p.clock.latest) && is_checkpoint r) d)
+    counted_in_pending p (is_late (state_of p)) (λ r. is_old timeout moment r && is_checkpoint r) groups (λ r. refl) (λ r d. ap (λ b. (not b && leb (r.started + p.opened.config.timeout) p.clock.latest) && is_checkpoint r) d)
     (λ r d. ap (λ b. (not b && leb (r.started + p.opened.config.timeout) p.clock.latest) && is_checkpoint r) d ∙ ap (λ b. b && is_checkpoint r) (old_same p timeout moment t m r))
 
 -- two pending records with one number are one

@@ -2,7 +2,7 @@
 use Rattle.std.proofs.Common.{◌≡◌, ℕ, suc, ◌+◌, ◌-◌, ◌<◌, ◌≤◌, Bool, true, false, not, ◌&&◌, cond, ltb, leb, eqb, List, [], ◌∷◌, ◌++◌, map, length, refl, sym, ap, subst, ◌∙◌, ◌⊎◌, inl, inr, ⊎_elim, arith, Option, Some, None}
 use Rattle.std.specs.Prelude.{count_by}
 use Rattle.std.specs.List.{filter, list_any}
-use Rattle.std.proofs.lemmas.Bool.{cases_Bool, both_ways, and_parts, not-true, not_from_true, not_from_false, ltb-true, ltb-false, lt-ltb}
+use Rattle.std.proofs.lemmas.Bool.{cases_Bool, both_ways, and_parts, and_right, not-true, not_from_true, not_from_false, ltb-true, ltb-false, lt-ltb}
 use Rattle.std.proofs.lemmas.List.{map-append}
 use Rattle.std.proofs.lemmas.List.Elements.{filter-append}
 use Rattle.ckpt_ids.specs.declared.numbers.Kind.TheVariants as kind
@@ -26,12 +26,14 @@ use Rattle.ckpt_core.specs.State.{State, is_checkpoint, is_pending, is_expired, 
 use Rattle.ckpt_core.specs.Soundness.{IsSound, id_before}
 use Rattle.ckpt_core.specs.Starting.{Starts, held_at}
 use Rattle.ckpt_core.specs.Steps.{Stepped, triggered, start_or_hold, after_expiry, tick, failed_over, pending_checkpoints, dropped_by}
+use Rattle.ckpt_registry.proofs.ListLemmas.{count_by-filter}
 use Rattle.ckpt_core.proofs.CountLemmas.{map_itself, count_by-cons}
 use Rattle.ckpt_core.proofs.UsesLemmas.{IsHeld, Holds, IsHeld-from_present, present-from_IsHeld, Holds-from_use}
 use Rattle.ckpt_core.proofs.Released.{ascending-released, before-from_released, after-from_released, IsIn-released, IsIn-from_test}
 use Rattle.ckpt_core.proofs.RecordLists.{IsSoundOutbox}
 use Rattle.ckpt_core.proofs.SoundTriggers.{new_record, outbox_triggered, held-from_pins}
 use Rattle.ckpt_core.proofs.GroupMoves.{filter_all, filter_same}
+use Rattle.ckpt_core.proofs.Lookups.{count_same}
 use Rattle.ckpt_core.proofs.DropMoves.{drop_same, fails}
 use Rattle.ckpt_core.proofs.PinsLemmas.{pins_stay, pins_same}
 
@@ -261,23 +263,10 @@ pending_left m failures =
     late_is : (m : State) (r : Record) → pending_checkpoint r ≡ true → is_expired m m.latest r ≡ is_late m r
     late_is m r e = and_true (is_expired m m.latest r) (is_checkpoint r) (and_parts (is_pending r) (is_checkpoint r) e).1
 
-    same_one : (p q t : Record → Bool) (r : Record) → ((s : Record) → p s ≡ true → q s ≡ t s) → ◌≡◌ {A = ℕ} (cond (q r) (cond (p r) 1 0) 0) (cond (t r) (cond (p r) 1 0) 0)
-    same_one p q t r agree =
-        let none : (a : Bool) → ◌≡◌ {A = ℕ} (cond a 0 0) 0 = λ a. elim a as (λ b. ◌≡◌ {A = ℕ} (cond b 0 0) 0) [ true ↦ refl | false ↦ refl ] in
-        let P : Bool → Type 0 = λ b. ◌≡◌ {A = ℕ} (cond (q r) (cond b 1 0) 0) (cond (t r) (cond b 1 0) 0) in
-        ⊎_elim (λ (e : p r ≡ true). ap (λ b. cond b (cond (p r) 1 0) 0) (agree r e)) (λ (e : p r ≡ false). subst P (sym e) (none (q r) ∙ sym (none (t r)))) (cases_Bool (p r))
-
-    counted_one : (p q : Record → Bool) (r : Record) (rs : List Record) → count_by p (cond (q r) (r ∷ rs) rs) ≡ cond (q r) (cond (p r) 1 0) 0 + count_by p rs
-    counted_one p q r rs =
-        let P : Bool → Type 0 = λ b. count_by p (cond b (r ∷ rs) rs) ≡ cond b (cond (p r) 1 0) 0 + count_by p rs in
-        ⊎_elim (λ (e : q r ≡ true). subst P (sym e) (count_by-cons p r rs)) (λ (e : q r ≡ false). let zero : count_by p rs ≡ 0 + count_by p rs = omega arith in subst P (sym e) zero) (cases_Bool (q r))
-
     count_by-filter_agree : (p q t : Record → Bool) (rs : List Record) → ((r : Record) → p r ≡ true → q r ≡ t r) → count_by p (filter q rs) ≡ count_by p (filter t rs)
-    count_by-filter_agree p q t [] agree = refl
-    count_by-filter_agree p q t (r ∷ rs) agree =
-        let rest : count_by p (filter q rs) ≡ count_by p (filter t rs) = count_by-filter_agree p q t rs agree in
-        counted_one p q r (filter q rs) ∙ ap (λ n. cond (q r) (cond (p r) 1 0) 0 + n) rest
-        ∙ ap (λ n. n + count_by p (filter t rs)) (same_one p q t r agree) ∙ sym (counted_one p t r (filter t rs))
+    count_by-filter_agree p q t rs agree =
+        let both : (r : Record) → (q r && p r) ≡ (t r && p r) = λ r. ⊎_elim (λ (e : p r ≡ true). ap (λ b. b && p r) (agree r e)) (λ (e : p r ≡ false). and_right (q r) (p r) e ∙ sym (and_right (t r) (p r) e)) (cases_Bool (p r)) in
+        count_by-filter p q rs ∙ count_same (λ r. q r && p r) (λ r. t r && p r) rs (λ r h. both r) ∙ sym (count_by-filter p t rs)
 
 -- the whole tick
 

@@ -25,6 +25,7 @@ use Rattle.ckpt_core.specs.Steps.{triggered}
 use Rattle.ckpt_core.specs.Grouped.{with_pins, grouped, records_of}
 use Rattle.ckpt_core.specs.Parts.{state_of, records_in, present_in, AreTied}
 use Rattle.ckpt_core.proofs.CountLemmas.{IsIn-from_find, counted-from_IsIn, count_by-cons}
+use Rattle.ckpt_core.proofs.HandOut.{present-from_use}
 use Rattle.ckpt_core.proofs.UsesLemmas.{present-from_IsHeld, IsHeld-from_present, Holds-from_use}
 use Rattle.ckpt_core.proofs.UsesOrder.{holds, from_holds, use_of_record}
 use Rattle.ckpt_core.proofs.GroupMoves.{filter_all, filter_none, trigger_groups, trigger_uses, uses_of-triggered}
@@ -62,9 +63,6 @@ chosen_in m (choice.Checkpoint id) r e = (IsIn-from_find (λ q. eqb q.id id) r m
 chosen_in m (choice.Savepoint id) r e = (IsIn-from_find (λ q. eqb q.id id) r m.records e).0
 chosen_in m choice.Fresh r e = absurd (cc)
 
-pub present-from_use : (us : List Use) (u : Use) (f : ℕ) → IsIn u us → u.file ≡ f → is_present us f ≡ true
-present-from_use us u f h e = lt-ltb 0 (count_by (λ v. eqb v.file f) us) (counted-from_IsIn (λ v. eqb v.file f) u us h (eq-eqb u.file f e))
-
 -- a file of the choice is a use of a live record
 pub pin_used : (m : State) (f : ℕ) → IsIn f (pins_now m) → (u : Use) × IsIn u (uses m.records) × (u.file ≡ f)
 unfolding pins_now
@@ -88,7 +86,7 @@ pins_used p tied f h =
     (q.0, subst P (sym tied.uses_are) q.1, q.2)
 
 pub pins_present : (p : Parts) → AreTied p → (f : ℕ) → IsIn f (pins_now (state_of p)) → is_present p.registry f ≡ true
-pins_present p tied f h = let q = pins_used p tied f h in present-from_use p.registry q.0 f q.1 q.2
+pins_present p tied f h = let q = pins_used p tied f h in ap (is_present p.registry) (sym q.2) ∙ present-from_use q.0 p.registry q.1
 
 -- a file more for a file that is there does not make more files
 pub present_same : (us vs : List Use) → ((u : Use) → IsIn u us → IsIn u.file (map (λ v. v.file) vs)) → ((v : Use) → IsIn v vs → IsIn v.file (map (λ u. u.file) us)) → present_in us ≡ present_in vs

@@ -68,29 +68,34 @@ use_of_record r u h =
     (λ (k : IsIn u (holds r.id Pin r.pins)). (from_holds r.id Pin r.pins u k).0)
     (IsIn-append_cases u (held_by_acks r.id r.acks) (holds r.id Pin r.pins) h)
 
-pub record_in_order : (r : Record) → IsRecord r → IsInOrder use_before (uses_of r)
-record_in_order r sound =
+-- whether the record lacks acknowledgements or not
+pub record_uses_in_order : (r : Record) → AreInSubtaskOrder r.acks → ((a : Acked) → IsIn a r.acks → IsAscendingSet a.files) → IsAscendingSet r.pins → IsInOrder use_before (uses_of r)
+record_uses_in_order r order files pins =
     IsInOrder-append use_before (held_by_acks r.id r.acks) (holds r.id Pin r.pins)
-    (acks_in_order r.id r.acks sound.acks_in_order sound.files)
-    (holds_in_order r.id Pin r.pins sound.pins)
+    (acks_in_order r.id r.acks order files)
+    (holds_in_order r.id Pin r.pins pins)
     (λ u v h k.
     let q = IsIn-from_flat_map (λ b. holds r.id (Subtask b.subtask) b.files) u r.acks h in
     let a = from_holds r.id (Subtask q.0.subtask) q.0.files u q.2 in
     let p = from_holds r.id Pin r.pins v k in
     earlier_holder u v (a.0 ∙ sym p.0) (ap (λ w. holder_before w v.holder) a.1 ∙ ap (holder_before (Subtask q.0.subtask)) p.1))
 
--- the uses of sound records in rising number are in strict order
-pub uses-in_order : (rs : List Record) → IsInOrder id_before rs → ((r : Record) → IsIn r rs → IsRecord r) → IsInOrder use_before (uses rs)
-uses-in_order [] order each = tt
-uses-in_order (r ∷ rs) order each =
-    IsInOrder-append use_before (uses_of r) (uses rs)
-    (record_in_order r (each r (inl refl)))
-    (uses-in_order rs order.1 (λ s h. each s (inr h)))
+pub record_in_order : (r : Record) → IsRecord r → IsInOrder use_before (uses_of r)
+record_in_order r sound = record_uses_in_order r sound.acks_in_order sound.files sound.pins
+
+-- the uses of records in rising number are in strict order where those of each are
+pub all_uses_in_order : (rs : List Record) → IsInOrder id_before rs → ((r : Record) → IsIn r rs → IsInOrder use_before (uses_of r)) → IsInOrder use_before (uses rs)
+all_uses_in_order [] order each = tt
+all_uses_in_order (r ∷ rs) order each =
+    IsInOrder-append use_before (uses_of r) (uses rs) (each r (inl refl)) (all_uses_in_order rs order.1 (λ s h. each s (inr h)))
     (λ u v h k.
     let q = IsIn-from_flat_map uses_of v rs k in
     let a : u.id ≡ r.id = use_of_record r u h in
     let b : v.id ≡ q.0.id = use_of_record q.0 v q.2 in
     earlier_record u v (omega (arith, ltb-true r.id q.0.id (ComesBefore-at id_before r q.0 rs order.0 q.1))))
+
+pub uses-in_order : (rs : List Record) → IsInOrder id_before rs → ((r : Record) → IsIn r rs → IsRecord r) → IsInOrder use_before (uses rs)
+uses-in_order rs order each = all_uses_in_order rs order (λ r h. record_in_order r (each r h))
 
 -- a list that is in order already stays as it is
 pub in_order_once-itself : (us : List Use) → IsInOrder use_before us → in_order_once use_before us ≡ us

@@ -35,14 +35,14 @@ fn joined(alloc: Global, fresh: &Files, reused: &Files) -> Result<Files, AllocEr
 
 impl Parts {
     /// Whether a file is in use, waits for deletion or was fetched for it.
-    pub fn knows(&self, file: FileId) -> bool
+    pub(crate) fn knows(&self, file: FileId) -> bool
         ensures { result ≡ is_known_in self.now file }
     {
         self.registry.contains(file) || self.outbox.knows(file)
     }
 
     /// A subtask has taken its part.
-    pub fn ack(
+    pub(crate) fn ack(
         &mut self,
         now: u64,
         id: CheckpointId,

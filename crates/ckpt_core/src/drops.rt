@@ -1,13 +1,13 @@
 ghost use Rattle.std.specs.Prelude.{◌≡◌, ◌-◌, ◌≤◌, ◌++◌, ◌||◌, ◌==◌, ◌≢◌, ◌+◌, ℕ, [], true, false, find, length, map, Some, IsSome, vec_len};
 ghost use Rattle.std.specs.Vec.{vec_capacity};
 ghost use Rattle.ckpt_ids.specs.Records.{Record, is_present, released};
-ghost use Rattle.ckpt_ids.specs.Ordered.{IsIn};
+ghost use Rattle.ckpt_ids.specs.Ordered.{IsIn, IsInOrder};
 ghost use Rattle.ckpt_outbox.specs.Queues.{is_known};
 ghost use Rattle.ckpt_pending.specs.Acknowledging.{IsPending};
 ghost use Rattle.ckpt_registry.specs.Uses.{without, after_end};
 ghost use Rattle.ckpt_store.specs.Storing.{IsStored, has_savepoint};
-ghost use Rattle.ckpt_core.specs.Parts.{AreSound, AreTied, Drops, is_noted, present_in, state_of};
-ghost use Rattle.ckpt_core.specs.Soundness.{IsSound};
+ghost use Rattle.ckpt_core.specs.Parts.{AreSound, AreTied, Drops, is_noted, present_in, records_in, state_of};
+ghost use Rattle.ckpt_core.specs.Soundness.{id_before};
 ghost use Rattle.ckpt_core.specs.State.{is_done_checkpoint, is_pending};
 
 use crate::parts::Parts;
@@ -16,7 +16,7 @@ use ckpt_ids::CheckpointId;
 impl Parts {
     /// Changes nothing: its contract tells that pending records are beside the store, and done ones
     /// in it.
-    pub fn recall_groups(&self)
+    pub(crate) fn recall_groups(&self)
         ensures pending { (r : Record) → IsIn r self.now.pending → IsPending r }
         ensures stored { IsStored self.now.store }
     {
@@ -26,7 +26,7 @@ impl Parts {
 
     /// Releases the uses of the records whose numbers were noted, hands out the files that no
     /// record uses any more, and answers how many these are. Takes no memory.
-    pub fn hand_out(&mut self) -> u64
+    pub(crate) fn hand_out(&mut self) -> u64
         requires unknown { (f : ℕ) → is_present self.old.registry f ≡ true → is_known self.old.outbox f ≡ false }
         requires room { present_in self.old.registry ≤ self.old.outbox.spare }
         ensures parts { let after = without self.old.ended.items self.old.registry in
@@ -44,7 +44,7 @@ impl Parts {
     }
 
     /// The same, where the record `id` ends too and gives up its pins.
-    pub fn hand_out_after(&mut self, id: CheckpointId) -> u64
+    pub(crate) fn hand_out_after(&mut self, id: CheckpointId) -> u64
         requires unknown { (f : ℕ) → is_present self.old.registry f ≡ true → is_known self.old.outbox f ≡ false }
         requires room { present_in self.old.registry ≤ self.old.outbox.spare }
         ensures parts { let after = after_end id self.old.ended.items self.old.registry in
@@ -63,9 +63,10 @@ impl Parts {
 
     /// Drops the pending records whose numbers were noted, and answers how many files were
     /// released. Takes no memory.
-    pub fn drop_noted(&mut self) -> u64
+    pub(crate) fn drop_noted(&mut self) -> u64
         requires tied { AreTied self.old }
-        requires sound { IsSound (state_of self.old) }
+        requires in_order { IsInOrder id_before (records_in self.old) }
+        requires unknown { (f : ℕ) → is_present self.old.registry f ≡ true → is_known self.old.outbox f ≡ false }
         requires pending_only { (r : Record) → IsIn r (self.old.store.checkpoints ++ self.old.store.savepoints) → is_noted self.old.ended.items r ≡ false }
         ensures { Drops self.old self.new (is_noted self.old.ended.items) result }
     {
@@ -74,7 +75,7 @@ impl Parts {
     }
 
     /// Drops all pending records, and answers how many files were released. Takes no memory.
-    pub fn drop_all_pending(&mut self) -> u64
+    pub(crate) fn drop_all_pending(&mut self) -> u64
         requires { AreSound self.old }
         ensures { Drops self.old self.new is_pending result }
     {
@@ -84,7 +85,7 @@ impl Parts {
     }
 
     /// Drops the pending record `id`, and answers how many files were released. Takes no memory.
-    pub fn drop_pending(&mut self, id: CheckpointId) -> u64
+    pub(crate) fn drop_pending(&mut self, id: CheckpointId) -> u64
         requires sound { AreSound self.old }
         requires there { IsSome (find (λ r. r.id == id) self.old.pending) }
         ensures { Drops self.old self.new (λ r. r.id == id) result }
@@ -95,7 +96,7 @@ impl Parts {
 
     /// Drops all pending records and all completed checkpoints, and answers how many files were
     /// released. Takes no memory.
-    pub fn drop_all_but_savepoints(&mut self) -> u64
+    pub(crate) fn drop_all_but_savepoints(&mut self) -> u64
         requires { AreSound self.old }
         ensures { Drops self.old self.new (λ r. is_pending r || is_done_checkpoint r) result }
     {
@@ -120,7 +121,7 @@ impl Parts {
 
     /// Drops a completed savepoint that is not the base, and answers how many files were released.
     /// Takes no memory.
-    pub fn drop_savepoint(&mut self, id: CheckpointId) -> u64
+    pub(crate) fn drop_savepoint(&mut self, id: CheckpointId) -> u64
         requires sound { AreSound self.old }
         requires there { has_savepoint self.old.store id ≡ true }
         requires free { self.old.store.base ≢ Some id }

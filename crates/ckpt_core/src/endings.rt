@@ -16,7 +16,7 @@ use std::alloc::AllocError;
 impl Parts {
     /// The job fails over: all pending records are dropped, and nothing more is triggered until it
     /// is restored. Answers how many files were released.
-    pub fn fail_over(&mut self) -> u64
+    pub(crate) fn fail_over(&mut self) -> u64
         requires { AreSound self.old }
         ensures state { state_of self.new ≡ failed_over (state_of self.old) }
         ensures count { result ≡ length (released_by (state_of self.old) is_pending None) }
@@ -29,7 +29,7 @@ impl Parts {
     }
 
     /// A subtask could not take its part.
-    pub fn decline(&mut self, now: u64, id: CheckpointId, subtask: SubtaskId) -> Reply
+    pub(crate) fn decline(&mut self, now: u64, id: CheckpointId, subtask: SubtaskId) -> Reply
         requires sound { AreSound self.old }
         requires accepted { IsAccepted self.old (call.Decline now id subtask) }
         ensures { Answers self.old self.new (call.Decline now id subtask) result }
@@ -53,7 +53,7 @@ impl Parts {
     }
 
     /// A user lets a savepoint go.
-    pub fn dispose(&mut self, id: CheckpointId) -> Reply
+    pub(crate) fn dispose(&mut self, id: CheckpointId) -> Reply
         requires sound { AreSound self.old }
         requires accepted { IsAccepted self.old (call.Dispose id) }
         ensures { Answers self.old self.new (call.Dispose id) result }
@@ -63,7 +63,7 @@ impl Parts {
     }
 
     /// The job begins again in its present shape. Takes no memory.
-    pub fn restore(&mut self, now: u64, target: Target) -> Reply
+    pub(crate) fn restore(&mut self, now: u64, target: Target) -> Reply
         requires sound { AreSound self.old }
         requires accepted { IsAccepted self.old (call.Restore now target None) }
         ensures { Answers self.old self.new (call.Restore now target None) result }
@@ -120,7 +120,7 @@ impl Parts {
     }
 
     /// The job begins again, in this shape.
-    pub fn restore_in(
+    pub(crate) fn restore_in(
         &mut self,
         now: u64,
         target: Target,
@@ -138,7 +138,7 @@ impl Parts {
     }
 
     /// The job ends for good.
-    pub fn cancel(&mut self, now: u64) -> Reply
+    pub(crate) fn cancel(&mut self, now: u64) -> Reply
         requires sound { AreSound self.old }
         requires accepted { IsAccepted self.old (call.Cancel now) }
         ensures { Answers self.old self.new (call.Cancel now) result }

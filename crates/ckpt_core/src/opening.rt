@@ -15,7 +15,7 @@ use std::alloc::Global;
 impl Parts {
     /// The parts of a coordinator that is opened now, at `start` in milliseconds, and whose first
     /// record has the number `first`. Takes no memory.
-    pub fn new(alloc: Global, config: Config, shape: Shape, start: u64, first: u64) -> Parts
+    pub(crate) fn new(alloc: Global, config: Config, shape: Shape, start: u64, first: u64) -> Parts
         requires start { start < 2 ^ 62 }
         requires from { 1 ≤ first }
         requires to { first < 2 ^ 62 }

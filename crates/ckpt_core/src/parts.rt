@@ -9,28 +9,28 @@ use std::alloc::Global;
 
 /// What a coordinator was opened with, which no call changes.
 #[derive(Drop)]
-pub struct Opened {
-    pub config: Config,
-    pub shape: Shape,
-    pub start: u64,
-    pub first: u64,
+pub(crate) struct Opened {
+    pub(crate) config: Config,
+    pub(crate) shape: Shape,
+    pub(crate) start: u64,
+    pub(crate) first: u64,
 }
 
 /// The parts of a coordinator, which `specs/Parts.antt` sees as its state.
 #[derive(Drop)]
-pub struct Parts {
-    pub alloc: Global,
-    pub opened: Opened,
+pub(crate) struct Parts {
+    pub(crate) alloc: Global,
+    pub(crate) opened: Opened,
     /// The shape that a restore gave the job, in place of the first.
-    pub reshaped: Option<Shape>,
-    pub mode: Mode,
-    pub clock: Clock,
-    pub failures: Failures,
-    pub next: u64,
-    pub pending: PendingRecords,
-    pub store: Store,
-    pub registry: Registry,
-    pub outbox: Outbox,
+    pub(crate) reshaped: Option<Shape>,
+    pub(crate) mode: Mode,
+    pub(crate) clock: Clock,
+    pub(crate) failures: Failures,
+    pub(crate) next: u64,
+    pub(crate) pending: PendingRecords,
+    pub(crate) store: Store,
+    pub(crate) registry: Registry,
+    pub(crate) outbox: Outbox,
     /// The numbers of the records that end in a call, in room for all live ones.
-    pub ended: Vec<CheckpointId>,
+    pub(crate) ended: Vec<CheckpointId>,
 }

@@ -18,7 +18,7 @@ use std::marker::Model;
 
 /// The records that wait for acknowledgements, by number.
 #[derive(Drop)]
-pub struct PendingRecords {
+pub(crate) struct PendingRecords {
     records: BTreeMap<CheckpointId, Pending>,
     // of these records, how many are checkpoints
     checkpoints: usize,
@@ -38,7 +38,7 @@ impl Model for PendingRecords {
 
 impl PendingRecords {
     /// No records. Takes no memory.
-    pub fn new(alloc: Global) -> PendingRecords
+    pub(crate) fn new(alloc: Global) -> PendingRecords
         ensures { result ≡ [] }
     {
         PendingRecords {
@@ -48,7 +48,7 @@ impl PendingRecords {
     }
 
     /// The record of this number.
-    pub fn get(&self, id: CheckpointId) -> Option<&Pending>
+    pub(crate) fn get(&self, id: CheckpointId) -> Option<&Pending>
         ensures value { option_copied result ≡ find (λ r. r.id == id) self.now }
         ensures in_order { IsInOrder id_before self.now }
         ensures pending { (r : Record) → IsIn r self.now → IsPending r }
@@ -58,7 +58,7 @@ impl PendingRecords {
 
     /// Adds a record with a greater number than all others. Fails only for want of memory, and
     /// then adds none.
-    pub fn add(&mut self, pending: Pending) -> Result<(), AllocError>
+    pub(crate) fn add(&mut self, pending: Pending) -> Result<(), AllocError>
         requires newest { (r : Record) → IsIn r self.old → r.id < pending.id }
         ensures ok { OnOk result (self.new ≡ self.old ++ pending ∷ []) }
         ensures err { OnErr result (self.new ≡ self.old) }
@@ -73,7 +73,7 @@ impl PendingRecords {
 
     /// Takes the acknowledgement of a subtask, with all files of its part, into the record of this
     /// number, which waits for it. Fails only for want of memory, and then changes nothing.
-    pub fn ack(
+    pub(crate) fn ack(
         &mut self,
         id: CheckpointId,
         subtask: SubtaskId,
@@ -93,7 +93,7 @@ impl PendingRecords {
 
     /// Takes back the acknowledgement of a subtask in the record of this number, which has it.
     /// Takes no memory.
-    pub fn retract(&mut self, id: CheckpointId, subtask: SubtaskId)
+    pub(crate) fn retract(&mut self, id: CheckpointId, subtask: SubtaskId)
         requires there { IsSome (find (λ r. r.id == id) self.old) }
         requires acknowledged { (r : Record) → find (λ r. r.id == id) self.old ≡ Some r → has_acknowledged r subtask ≡ true }
         ensures { self.new ≡ retracted id subtask self.old }
@@ -103,7 +103,7 @@ impl PendingRecords {
     }
 
     /// Takes out the record of this number. Takes no memory.
-    pub fn remove(&mut self, id: CheckpointId) -> Option<Pending>
+    pub(crate) fn remove(&mut self, id: CheckpointId) -> Option<Pending>
         ensures value { result ≡ find (λ r. r.id == id) self.old }
         ensures rest { self.new ≡ filter (λ r. not (r.id == id)) self.old }
     {
@@ -114,7 +114,7 @@ impl PendingRecords {
     }
 
     /// Takes out the records of these numbers, where there are such. Takes no memory.
-    pub fn remove_all(&mut self, ids: &[CheckpointId])
+    pub(crate) fn remove_all(&mut self, ids: &[CheckpointId])
         ensures { self.new ≡ filter (λ r. not (list_any (λ i. r.id == i) ids.now)) self.old }
     {
         for id in ids {
@@ -123,28 +123,28 @@ impl PendingRecords {
     }
 
     /// How many records there are.
-    pub fn len(&self) -> usize
+    pub(crate) fn len(&self) -> usize
         ensures { result ≡ length self.now }
     {
         self.records.len()
     }
 
     /// How many checkpoints there are.
-    pub fn checkpoints(&self) -> usize
+    pub(crate) fn checkpoints(&self) -> usize
         ensures { result ≡ count_by is_checkpoint self.now }
     {
         self.checkpoints
     }
 
     /// How many savepoints there are.
-    pub fn savepoints(&self) -> usize
+    pub(crate) fn savepoints(&self) -> usize
         ensures { result ≡ count_by (λ r. not (is_checkpoint r)) self.now }
     {
         self.records.len() - self.checkpoints
     }
 
     /// Notes the numbers of all records in room that is there. Takes no memory.
-    pub fn note_all(&self, ended: &mut Vec<CheckpointId>)
+    pub(crate) fn note_all(&self, ended: &mut Vec<CheckpointId>)
         requires room { vec_len ended.old + length self.now ≤ vec_capacity ended.old }
         ensures items { ended.new.items ≡ ended.old.items ++ map (λ r. r.id) self.now }
         ensures capacity { vec_capacity ended.new ≡ vec_capacity ended.old }
@@ -157,7 +157,12 @@ impl PendingRecords {
     /// Notes the numbers of the records that started `timeout` milliseconds before `moment` or
     /// earlier, in room that is there, and answers how many of these are checkpoints. Takes no
     /// memory.
-    pub fn note_expired(&self, moment: u64, timeout: u64, ended: &mut Vec<CheckpointId>) -> usize
+    pub(crate) fn note_expired(
+        &self,
+        moment: u64,
+        timeout: u64,
+        ended: &mut Vec<CheckpointId>,
+    ) -> usize
         requires room { vec_len ended.old + length self.now ≤ vec_capacity ended.old }
         ensures items { ended.new.items ≡ ended.old.items ++ map (λ r. r.id) (filter (λ r. nat_le (r.started + timeout) moment) self.now) }
         ensures capacity { vec_capacity ended.new ≡ vec_capacity ended.old }
@@ -177,7 +182,7 @@ impl PendingRecords {
 
     /// Notes the numbers of the checkpoints before this number in room that is there. Takes no
     /// memory.
-    pub fn note_subsumed(&self, id: CheckpointId, ended: &mut Vec<CheckpointId>)
+    pub(crate) fn note_subsumed(&self, id: CheckpointId, ended: &mut Vec<CheckpointId>)
         requires room { vec_len ended.old + length self.now ≤ vec_capacity ended.old }
         ensures items { ended.new.items ≡ ended.old.items ++ map (λ r. r.id) (filter (λ r. is_checkpoint r && nat_lt r.id id) self.now) }
         ensures capacity { vec_capacity ended.new ≡ vec_capacity ended.old }

@@ -13,7 +13,7 @@ use std::alloc::AllocError;
 
 impl Parts {
     /// Fetches files that wait for deletion.
-    pub fn take(&mut self, most: u64) -> Result<Reply, AllocError>
+    pub(crate) fn take(&mut self, most: u64) -> Result<Reply, AllocError>
         requires sound { AreSound self.old }
         requires accepted { IsAccepted self.old (call.Take most) }
         ensures ok { IfOk result (Answers self.old self.new (call.Take most)) }
@@ -23,7 +23,7 @@ impl Parts {
     }
 
     /// A fetched file is deleted.
-    pub fn deleted(&mut self, file: FileId) -> Reply
+    pub(crate) fn deleted(&mut self, file: FileId) -> Reply
         requires sound { AreSound self.old }
         requires accepted { IsAccepted self.old (call.Deleted file) }
         ensures { Answers self.old self.new (call.Deleted file) result }
@@ -33,7 +33,7 @@ impl Parts {
     }
 
     /// A fetched file could not be deleted.
-    pub fn undeleted(&mut self, file: FileId) -> Reply
+    pub(crate) fn undeleted(&mut self, file: FileId) -> Reply
         requires sound { AreSound self.old }
         requires accepted { IsAccepted self.old (call.Undeleted file) }
         ensures { Answers self.old self.new (call.Undeleted file) result }
@@ -43,7 +43,7 @@ impl Parts {
     }
 
     /// The metadata of a live record.
-    pub fn show(&mut self, id: CheckpointId) -> Result<Reply, AllocError>
+    pub(crate) fn show(&mut self, id: CheckpointId) -> Result<Reply, AllocError>
         requires sound { AreSound self.old }
         requires accepted { IsAccepted self.old (call.Show id) }
         ensures ok { IfOk result (Answers self.old self.new (call.Show id)) }
@@ -53,7 +53,7 @@ impl Parts {
     }
 
     /// How often a file is used.
-    pub fn count(&mut self, file: FileId) -> Reply
+    pub(crate) fn count(&mut self, file: FileId) -> Reply
         requires sound { AreSound self.old }
         requires accepted { IsAccepted self.old (call.Count file) }
         ensures { Answers self.old self.new (call.Count file) result }

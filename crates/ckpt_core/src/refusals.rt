@@ -16,10 +16,10 @@ use ckpt_ids::{Call, CheckpointId, FileId, Files, Refusal, SubtaskId, Target};
 use ckpt_pending::Pending;
 
 // all moments are below, in milliseconds
-pub const MOMENTS_END: u64 = 1 << 62;
+pub(crate) const MOMENTS_END: u64 = 1 << 62;
 
 // all numbers of records are below
-pub const NUMBERS_END: u64 = 1 << 62;
+pub(crate) const NUMBERS_END: u64 = 1 << 62;
 
 // of one acknowledgement
 const MOST_FILES: usize = 4096;
@@ -91,7 +91,7 @@ fn is_among(file: FileId, files: &[FileId]) -> bool
 
 impl Parts {
     /// Why the call is refused, if it is. Takes no memory, and changes nothing.
-    pub fn refusal(&self, call: &Call) -> Option<Refusal>
+    pub(crate) fn refusal(&self, call: &Call) -> Option<Refusal>
         requires { AreSound self.now }
         ensures { result ≡ refusal (state_of self.now) call.now }
     {

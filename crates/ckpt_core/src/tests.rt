@@ -1,3 +1,6 @@
+mod checkpoints;
+mod job;
+
 use crate::Core;
 use ckpt_ids::{
     Call, CheckpointId, Choice, Config, FileId, Files, Reply, Shape, SubtaskId, Target, TickEnd,

@@ -121,7 +121,7 @@ impl Parts {
     }
 
     /// Triggers a savepoint.
-    pub fn savepoint(&mut self, now: u64) -> Result<Reply, AllocError>
+    pub(crate) fn savepoint(&mut self, now: u64) -> Result<Reply, AllocError>
         requires sound { AreSound self.old }
         requires accepted { IsAccepted self.old (call.Savepoint now) }
         ensures ok { IfOk result (Answers self.old self.new (call.Savepoint now)) }
@@ -140,7 +140,7 @@ impl Parts {
 
     /// Time has passed: what is too old expires, and a checkpoint is triggered where nothing holds
     /// it back. Only a trigger takes memory, and where there is none nothing has changed.
-    pub fn tick(&mut self, now: u64) -> Result<Reply, AllocError>
+    pub(crate) fn tick(&mut self, now: u64) -> Result<Reply, AllocError>
         requires sound { AreSound self.old }
         requires accepted { IsAccepted self.old (call.Tick now) }
         ensures ok { IfOk result (Answers self.old self.new (call.Tick now)) }
@@ -187,7 +187,7 @@ impl Parts {
         match self.start_or_hold(pending) {
             Ok(end) => {
                 self.recall_groups();
-                self.drop_expired();
+                self.drop_noted();
                 self.failures = failures;
                 Ok(Reply::Ticked { expired, end })
             }
@@ -220,19 +220,5 @@ impl Parts {
                 Ok(TickEnd::Triggered(id))
             }
         }
-    }
-
-    /// Drops the pending records whose numbers were noted. Takes no memory.
-    fn drop_expired(&mut self)
-        requires tied { AreTied self.old }
-        requires in_order { IsInOrder id_before (records_in self.old) }
-        requires unknown { (f : ℕ) → is_present self.old.registry f ≡ true → is_known self.old.outbox f ≡ false }
-        requires pending_only { (r : Record) → IsIn r (self.old.store.checkpoints ++ self.old.store.savepoints) → is_noted self.old.ended.items r ≡ false }
-        ensures state { state_of self.new ≡ drop (state_of self.old) (is_noted self.old.ended.items) None }
-        ensures tied { AreTied self.new }
-        ensures none_ended { self.new.ended.items ≡ [] }
-    {
-        self.pending.remove_all(&self.ended);
-        self.hand_out();
     }
 }

@@ -1,7 +1,7 @@
 -- The numbers that are noted are those of the pending records, and no done record has one of them.
 use Rattle.std.proofs.Common.{◌++◌, length, ap, ◌∙◌, arith}
 use Rattle.ckpt_core.specs.Parts.{state_of, is_noted}
-use Rattle.ckpt_core.proofs.DropMoves.{numbers, groups_of, noted_tied, done_not_noted, room_to_note, pending_dropped}
+use Rattle.ckpt_core.proofs.DropMoves.{numbers, groups_of, none_known, noted_tied, done_not_noted, room_to_note, pending_dropped}
 use Rattle.ckpt_core.proofs.parts.Parts.drop_all_pending.Goals as goal
 
 pub note_all-requires : goal.note_all-requires
@@ -10,9 +10,12 @@ note_all-requires c = record { room = omega (arith, room_to_note c.args.self.now
 pub drop_noted-requires-clause-tied : goal.drop_noted-requires-clause-tied
 drop_noted-requires-clause-tied c = noted_tied c.args.self.now c.note_all.new.ended c.requires.tied c.note_all.ensures.capacity
 
-pub drop_noted-requires-clause-sound : goal.drop_noted-requires-clause-sound
+pub drop_noted-requires-clause-in_order : goal.drop_noted-requires-clause-in_order
 unfolding state_of
-drop_noted-requires-clause-sound c = c.requires.sound
+drop_noted-requires-clause-in_order c = c.requires.sound.in_order
+
+pub drop_noted-requires-clause-unknown : goal.drop_noted-requires-clause-unknown
+drop_noted-requires-clause-unknown c = none_known c.args.self.now c.requires.tied c.requires.sound
 
 pub drop_noted-requires-clause-pending_only : goal.drop_noted-requires-clause-pending_only
 drop_noted-requires-clause-pending_only c = λ r h.

@@ -1,7 +1,7 @@
 -- The number of a pending record is noted, and no done record has it.
 use Rattle.std.proofs.Common.{◌++◌, ◌∷◌, [], ap, ◌∙◌, arith}
 use Rattle.ckpt_core.specs.Parts.{state_of}
-use Rattle.ckpt_core.proofs.DropMoves.{room_to_note}
+use Rattle.ckpt_core.proofs.DropMoves.{none_known, room_to_note}
 use Rattle.ckpt_core.proofs.DropDone.{one_pending, done_is_other, pending_one_dropped}
 use Rattle.ckpt_core.proofs.parts.Parts.drop_pending.Goals as goal
 
@@ -10,9 +10,12 @@ push_reserved-requires c =
     let p = c.args.self.now in
     omega (arith, room_to_note p 1 c.requires.sound (omega (arith, one_pending p c.args.id c.requires.there)))
 
-pub drop_noted-requires-clause-sound : goal.drop_noted-requires-clause-sound
+pub drop_noted-requires-clause-in_order : goal.drop_noted-requires-clause-in_order
 unfolding state_of
-drop_noted-requires-clause-sound c = c.requires.sound.sound
+drop_noted-requires-clause-in_order c = c.requires.sound.sound.in_order
+
+pub drop_noted-requires-clause-unknown : goal.drop_noted-requires-clause-unknown
+drop_noted-requires-clause-unknown c = none_known c.args.self.now c.requires.sound.tied c.requires.sound.sound
 
 pub drop_noted-requires-clause-pending_only : goal.drop_noted-requires-clause-pending_only
 drop_noted-requires-clause-pending_only c =

@@ -103,19 +103,19 @@ unfolding state_of
 start_or_hold-requires-clause-sound c = c.requires.sound.sound
 
 -- src/triggers.rt:193:17
-pub drop_expired-requires-clause-in_order : goal.drop_expired-requires-clause-in_order
+pub drop_noted-requires-clause-in_order : goal.drop_noted-requires-clause-in_order
 unfolding state_of
-drop_expired-requires-clause-in_order c = starts_in_order (state_of c.args.self.now) (c.checkpoints.result - c.note_expired-late.result) (state_of c.start_or_hold.new.self) c.in-Ok.end c.requires.sound.sound c.in-Ok.ensures.ok
+drop_noted-requires-clause-in_order c = starts_in_order (state_of c.args.self.now) (c.checkpoints.result - c.note_expired-late.result) (state_of c.start_or_hold.new.self) c.in-Ok.end c.requires.sound.sound c.in-Ok.ensures.ok
 
 -- src/triggers.rt:193:17
-pub drop_expired-requires-clause-unknown : goal.drop_expired-requires-clause-unknown
+pub drop_noted-requires-clause-unknown : goal.drop_noted-requires-clause-unknown
 unfolding state_of
-drop_expired-requires-clause-unknown c = unknown_after c.args.self.now c.start_or_hold.new.self (c.checkpoints.result - c.note_expired-late.result) c.in-Ok.end c.requires.sound.sound c.in-Ok.ensures.tied c.in-Ok.ensures.ok
+drop_noted-requires-clause-unknown c = unknown_after c.args.self.now c.start_or_hold.new.self (c.checkpoints.result - c.note_expired-late.result) c.in-Ok.end c.requires.sound.sound c.in-Ok.ensures.tied c.in-Ok.ensures.ok
 
 -- src/triggers.rt:193:17
-pub drop_expired-requires-clause-pending_only : goal.drop_expired-requires-clause-pending_only
+pub drop_noted-requires-clause-pending_only : goal.drop_noted-requires-clause-pending_only
 unfolding state_of
-drop_expired-requires-clause-pending_only c =
+drop_noted-requires-clause-pending_only c =
     let p = c.args.self.now in
     let groups = groups_of p c.recall_groups.ensures.pending c.recall_groups.ensures.stored in
     let ids_are : c.note_expired-late.new.ended.items ≡ numbers (filter (is_old c.timeout-timeout.result c.read-moment.result) p.pending) =
@@ -144,14 +144,14 @@ returns-in-Ok-clause-ok c =
       | else-late-gt0-via-then-late-gt0+else-intolerable w ↦ inr (not_many c.add-intolerable.result c.add-intolerable.new.self.tolerable c.add-intolerable.new.self.number c.add-intolerable.ensures.intolerable w.if-intolerable.false)
       | else-late-gt0-via-else-late-gt0 w ↦ inl (omega (arith, w.if-late-gt0.false))
     ] in
-    expiry_goes p c.start_or_hold.new.self c.drop_expired.new.self c.note_expired-late.new.ended c.add-intolerable.new.self c.timeout-timeout.result c.read-moment.result c.note_expired-late.result c.len-expired.result (c.checkpoints.result - c.note_expired-late.result) c.in-Ok.end c.requires.sound groups c.timeout-timeout.ensures.value c.read-moment.ensures.value
-    c.note_expired-late.ensures.checkpoints expired c.add-intolerable.ensures.number rest few c.in-Ok.ensures.ok (c.in-Ok.ensures.noted ∙ ids_are) c.drop_expired.ensures.state
+    expiry_goes p c.start_or_hold.new.self c.drop_noted.new.self c.note_expired-late.new.ended c.add-intolerable.new.self c.timeout-timeout.result c.read-moment.result c.note_expired-late.result c.len-expired.result (c.checkpoints.result - c.note_expired-late.result) c.in-Ok.end c.requires.sound groups c.timeout-timeout.ensures.value c.read-moment.ensures.value
+    c.note_expired-late.ensures.checkpoints expired c.add-intolerable.ensures.number rest few c.in-Ok.ensures.ok (c.in-Ok.ensures.noted ∙ ids_are) c.drop_noted.ensures.state_is
 
 -- src/triggers.rt:166:5
 pub returns-in-Ok-clause-tied : goal.returns-in-Ok-clause-tied
 returns-in-Ok-clause-tied c =
     let p = c.args.self.now in
-    tied_failures c.drop_expired.new.self c.add-intolerable.new.self (started_tolerable p c.start_or_hold.new.self c.drop_expired.new.self c.note_expired-late.new.ended c.add-intolerable.new.self c.note_expired-late.result (c.checkpoints.result - c.note_expired-late.result) c.in-Ok.end c.requires.sound.tied c.add-intolerable.ensures.number c.in-Ok.ensures.ok c.drop_expired.ensures.state) c.drop_expired.ensures.tied
+    tied_failures c.drop_noted.new.self c.add-intolerable.new.self (started_tolerable p c.start_or_hold.new.self c.drop_noted.new.self c.note_expired-late.new.ended c.add-intolerable.new.self c.note_expired-late.result (c.checkpoints.result - c.note_expired-late.result) c.in-Ok.end c.requires.sound.tied c.add-intolerable.ensures.number c.in-Ok.ensures.ok c.drop_noted.ensures.state_is) c.drop_noted.ensures.tied
 
 -- src/triggers.rt:166:5
 pub returns-in-Err-clause-err : goal.returns-in-Err-clause-err

@@ -5,14 +5,9 @@ use Rattle.ckpt_core.specs.Parts.{state_of, records_in}
 use Rattle.ckpt_core.specs.Soundness.{IsSound}
 use Rattle.ckpt_core.specs.State.{State, pins_now}
 use Rattle.ckpt_core.specs.Steps.{triggered}
+use Rattle.ckpt_core.proofs.TickParts.{on_err_from}
 use Rattle.ckpt_core.proofs.TriggerParts.{ended_state, live_records}
-use Rattle.std.proofs.Common.{Result, Ok, Err, OnErr}
 use Rattle.ckpt_core.proofs.parts.Parts.trigger.Goals as goal
-
--- what holds anyway holds where there is an error
-on_err_from : {T E P : Type 0} (r : Result T E) → P → OnErr r P
-on_err_from (Ok x) h = tt
-on_err_from (Err e) h = h
 
 pub make_room-requires : goal.make_room-requires
 make_room-requires c = let few = live_records c.args.self.now c.requires.sound in omega arith
