@@ -1,0 +1,25 @@
+//! Runs a job script: reads it on standard input, and writes what its lines print to standard
+//! output.
+//!
+//! Ends with status 0; with 1 where a line had a fault; with 2 where the run ended before the end
+//! of the script, and then standard error says why.
+#![tactic(auto)]
+
+use ckpt_script::run;
+use std::process::ExitCode;
+
+/// The run ended before the end of the script.
+const CUT: u8 = 2;
+
+fn main(rt: HostRuntime) -> ExitCode {
+    let mut reader = rt.stdin();
+    let mut writer = rt.stdout();
+    match run(rt.alloc(), &mut reader, &mut writer) {
+        Ok(summary) => ExitCode::from(u8::from(summary.faults > 0)),
+        Err(fault) => {
+            // Where standard error fails too, the status alone tells.
+            let _ = eprintln!(rt; "fault: {fault}");
+            ExitCode::from(CUT)
+        }
+    }
+}

@@ -1,0 +1,77 @@
+-- What was written and what waits, from step to step.
+use Rattle.std.proofs.Common.{◌≡◌, ℕ, ◌+◌, ◌≤◌, List, [], ◌++◌, length, take, drop, Option, None, Some, refl, sym, ap, subst, ◌∙◌, arith, append_assoc, append-nil}
+use Rattle.std.specs.Io.KnownBytes.{Appends, Keeps}
+use Rattle.std.proofs.lemmas.List.{take-append-drop}
+use Rattle.std.specs.Prelude.{Result, Ok, Err, OnOk, OnErr, IfErr}
+use Rattle.std.specs.Result.{IsErrAnd}
+use Rattle.ckpt_script.specs.Known.{Passes}
+
+pub Appends-trans : (a b c : Option (List ℕ)) (xs ys : List ℕ) → Appends a b xs → Appends b c ys → Appends a c (xs ++ ys)
+Appends-trans None b c xs ys p q = tt
+Appends-trans (Some a) (Some b) (Some c) xs ys p q = q ∙ ap (λ (zs : List ℕ). zs ++ ys) p ∙ append_assoc a xs ys
+Appends-trans (Some a) (Some b) None xs ys p q = q
+Appends-trans (Some a) None c xs ys p q = absurd p
+
+pub Appends-none : (a : Option (List ℕ)) → Appends a a []
+Appends-none None = tt
+Appends-none (Some a) = sym (append-nil a)
+
+pub Appends-kept : (a b c : Option (List ℕ)) (xs : List ℕ) → Appends a b xs → Keeps b c → Appends a c xs
+Appends-kept None b c xs p q = tt
+Appends-kept (Some a) (Some b) (Some c) xs p q = q ∙ p
+Appends-kept (Some a) (Some b) None xs p q = q
+Appends-kept (Some a) None c xs p q = absurd p
+
+pub Appends-as : (a b : Option (List ℕ)) (xs ys : List ℕ) → xs ≡ ys → Appends a b xs → Appends a b ys
+Appends-as None b xs ys e p = tt
+Appends-as (Some a) (Some b) xs ys e p = p ∙ ap (λ (zs : List ℕ). a ++ zs) e
+Appends-as (Some a) None xs ys e p = p
+
+pub Keeps-appends : (a b : Option (List ℕ)) → Keeps a b → Appends a b []
+Keeps-appends None b k = tt
+Keeps-appends (Some a) (Some b) k = k ∙ sym (append-nil a)
+Keeps-appends (Some a) None k = k
+
+module _ (before between after : Option (List ℕ)) where
+  -- all that waited was written, and nothing waits
+  pub passes_out : (waiting text written : List ℕ) → Appends before between waiting → Appends between after written → (left : List ℕ) → written ++ left ≡ text → Passes before after waiting text left
+  passes_out waiting text written p q left e = record {
+    written = waiting ++ written;
+    appended = Appends-trans before between after waiting written p q;
+    in_turn = append_assoc waiting written left ∙ ap (λ (zs : List ℕ). waiting ++ zs) e;
+  }
+
+-- a front of what waited was written
+pub passes_part : (before after : Option (List ℕ)) (waiting text : List ℕ) (count : ℕ) → Appends before after (take count waiting) → Passes before after waiting text (drop count waiting ++ text)
+passes_part before after waiting text count p = record {
+  written = take count waiting;
+  appended = p;
+  in_turn = sym (append_assoc (take count waiting) (drop count waiting) text) ∙ ap (λ (zs : List ℕ). zs ++ text) (take-append-drop count waiting);
+}
+
+-- nothing was written
+pub passes_none : (before : Option (List ℕ)) (waiting text : List ℕ) → Passes before before waiting text (waiting ++ text)
+passes_none before waiting text = record { written = []; appended = Appends-none before; in_turn = refl }
+
+-- on either side of a result
+
+pub on_err : {T E : Type 0} (r : Result T E) {P : Type 0} → P → OnErr r P
+on_err (Ok x) p = tt
+on_err (Err e) p = p
+
+pub on_ok_map : {T E : Type 0} (r : Result T E) {P Q : Type 0} → (P → Q) → OnOk r P → OnOk r Q
+on_ok_map (Ok x) f p = f p
+on_ok_map (Err e) f p = tt
+
+pub on_err_map : {T E : Type 0} (r : Result T E) {P : E → Type 0} {Q : Type 0} → ((e : E) → P e → Q) → IfErr r P → OnErr r Q
+on_err_map (Ok x) f p = tt
+on_err_map (Err e) f p = f e p
+
+-- the exit of a `?` that hands an error on
+pub if_err_is : {T E : Type 0} (r : Result T E) (x : E) (P : E → Type 0) → IsErrAnd r (λ y. y ≡ x) → P x → IfErr r P
+if_err_is (Ok z) x P e p = tt
+if_err_is (Err y) x P e p = subst P (sym e) p
+
+pub from_err : {T E : Type 0} (r : Result T E) (x : E) (P : Result T E → Type 0) → IsErrAnd r (λ y. y ≡ x) → P (Err x) → P r
+from_err (Ok z) x P e p = absurd e
+from_err {T} {E} (Err y) x P e p = subst (λ (w : E). P (Err w)) (sym e) p

@@ -1,0 +1,13 @@
+use Rattle.std.specs.Io.KnownBytes.{Appends}
+use Rattle.ckpt_lines.specs.Reading.{reading}
+use Rattle.ckpt_script.specs.Sessions.{said}
+use Rattle.ckpt_script.proofs.PassesLemmas.{passes_none, on_err}
+use Rattle.ckpt_script.proofs.runner.Runner.obey.Goals as goal
+
+-- src/run.rt:48:13
+pub returns-in-Err-Memory-clause-cut : goal.returns-in-Err-Memory-clause-cut
+returns-in-Err-Memory-clause-cut g c = (_, passes_none (g.W.Write.contents c.args.writer.now) c.args.self.now.printed _)
+
+-- src/run.rt:51:20
+pub returns-in_err-text-clause-cut : goal.returns-in_err-text-clause-cut
+returns-in_err-text-clause-cut g c = on_err c.from_residual.result (_, passes_none (g.W.Write.contents c.args.writer.now) c.args.self.now.printed _)

@@ -1,0 +1,15 @@
+-- What a reader has left, and what a writer was given, where that is known.
+use Rattle.std.specs.Prelude.{◌≡◌, ℕ, List, ◌++◌, ⊤, Option, None, Some}
+use Rattle.std.specs.Io.KnownBytes.{Appends}
+
+-- the two lists are known where the first is, and the fact holds of them
+abbrev pub WhereKnown : Option (List ℕ) → Option (List ℕ) → (List ℕ → List ℕ → Type 0) → Type 0
+WhereKnown None after P = ⊤
+WhereKnown (Some bytes) None P = ⊥
+WhereKnown (Some bytes) (Some rest) P = P bytes rest
+
+-- What waited and then the text are, in this order, what was written between these two moments and what waits still.
+pub record Passes (before after : Option (List ℕ)) (waiting text left : List ℕ) : Type 0 where
+  pub written : List ℕ
+  pub appended : Appends before after written
+  pub in_turn : written ++ left ≡ waiting ++ text

@@ -1,0 +1,8 @@
+pub mod AllLines
+pub mod Known
+pub mod Lines
+pub mod Outputs
+pub mod ScriptTexts
+pub mod Sessions
+pub mod Telling
+pub mod Unread

@@ -1,0 +1,50 @@
+-- What a script prints: a function of its text alone.
+use Rattle.std.specs.Prelude.{◌≡◌, ℕ, ◌+◌, ◌<◌, ◌≤◌, List, [], ◌∷◌, ◌++◌, length, take, count_by, Result, Ok, Err, Option, Some, IfSome, is_err}
+use Rattle.std.specs.Io.KnownBytes.{Appends}
+use Rattle.ckpt_lines.specs.Reading.{reading}
+use Rattle.ckpt_script.specs.declared.fault.RunFault.{RunFault}
+use Rattle.ckpt_script.specs.declared.fault.RunFault.TheVariants.{Read, Write, TooManyLines, Memory}
+use Rattle.ckpt_script.specs.declared.summary.Summary.{Summary}
+use Rattle.ckpt_script.specs.Known.{WhereKnown}
+use Rattle.ckpt_script.specs.Lines.{lines_of, whole_lines}
+use Rattle.ckpt_script.specs.Sessions.{Scene, opening_scene, said}
+
+-- what lines print one after the other, from this number and this scene on
+abbrev pub outputs : ℕ → Scene → List (List ℕ) → List ℕ
+outputs number scene [] = []
+outputs number scene (line ∷ lines) = (said number scene (reading line)).1 ++ outputs (number + 1) (said number scene (reading line)).0 lines
+
+-- the scene that they leave
+abbrev pub scene_after : ℕ → Scene → List (List ℕ) → Scene
+scene_after number scene [] = scene
+scene_after number scene (line ∷ lines) = scene_after (number + 1) (said number scene (reading line)).0 lines
+
+-- how many of the lines have a fault
+abbrev pub faults_in : List (List ℕ) → ℕ
+faults_in lines = count_by (λ line. is_err (reading line)) lines
+
+-- so many lines are run at most
+abbrev pub most_lines : ℕ
+most_lines = 1000000
+
+-- the output of a text
+abbrev pub output : List ℕ → List ℕ
+output text = outputs 1 opening_scene (take most_lines (lines_of text))
+
+-- a front of the output was written between these two moments
+abbrev pub IsCut : Option (List ℕ) → Option (List ℕ) → List ℕ → Type 0
+IsCut before after all = (written rest : List ℕ) × Appends before after written × (written ++ rest ≡ all)
+
+-- What was written of a text, by how its run ended. `text` is what the reader had, `rest` what it has left, and `before`
+-- and `after` are what the writer held.
+abbrev pub Ran : Option (List ℕ) → Option (List ℕ) → Option (List ℕ) → Option (List ℕ) → Result Summary RunFault → Type 0
+Ran text rest before after (Ok summary) = IfSome text (λ text.
+    Appends before after (output text)
+    × (length (lines_of text) ≤ most_lines)
+    × (summary ≡ record { lines = length (lines_of text); faults = faults_in (lines_of text) }))
+Ran text rest before after (Err Read) = WhereKnown text rest (λ text rest.
+    (read : List ℕ) × (text ≡ read ++ rest) × Appends before after (output (whole_lines read)))
+Ran text rest before after (Err TooManyLines) = IfSome text (λ text.
+    (most_lines < length (lines_of text)) × Appends before after (output text))
+Ran text rest before after (Err Write) = IfSome text (λ text. IsCut before after (output text))
+Ran text rest before after (Err Memory) = IfSome text (λ text. IsCut before after (output text))

@@ -1,0 +1,199 @@
+ghost use Rattle.std.specs.Prelude.{◌≡◌, ◌≢◌, ◌≤◌, ◌<◌, ◌+◌, ◌^◌, ℕ, take, List, [], Err, Option, true, false, OnOk, OnErr, IfOk, IfErr, is_err, if◌then◌else◌};
+ghost use Rattle.std.specs.Io.KnownBytes.{Appends, IsAtEnd, prepend_known};
+ghost use Rattle.ckpt_lines.specs.Reading.{reading};
+ghost use Rattle.ckpt_script.specs.Known.{Passes};
+ghost use Rattle.ckpt_script.specs.Outputs.{Ran, most_lines};
+ghost use Rattle.ckpt_script.specs.Sessions.{opening_scene, said};
+ghost use Rattle.ckpt_script.specs.Telling.{IsSoFar, Stopped, keeps_lines};
+
+use crate::ahead::Ahead;
+use crate::fault::RunFault;
+use crate::printed::Printed;
+use crate::session::Session;
+use crate::summary::Summary;
+use ckpt_lines::{LineFault, laws, parse_line};
+use std::alloc::{AllocError, Global};
+use std::io::{Read, Write};
+
+/// How many lines are run.
+const MOST_LINES: u64 = 1_000_000;
+
+/// A script that is being run.
+#[derive(Drop)]
+struct Runner {
+    alloc: Global,
+    ahead: Ahead,
+    line: Vec<u8>,
+    session: Session,
+    printed: Printed,
+    summary: Summary,
+}
+
+impl Runner {
+    /// Obeys the line that is held, and prints what it says.
+    fn obey<W: Write>(&mut self, writer: &mut W) -> Result<(), RunFault>
+        requires lines { self.old.summary.lines < most_lines }
+        requires faults { self.old.summary.faults ≤ self.old.summary.lines }
+        ensures kept { self.new.ahead ≡ self.old.ahead }
+        ensures lines { OnOk result (self.new.summary.lines ≡ self.old.summary.lines + 1) }
+        ensures faults { OnOk result (self.new.summary.faults ≡ self.old.summary.faults + (if is_err (reading self.old.line.items) then 1 else 0)) }
+        ensures scene { OnOk result (self.new.session ≡ (said (self.old.summary.lines + 1) self.old.session (reading self.old.line.items)).0) }
+        ensures shown { OnOk result (Passes (W.contents writer.old) (W.contents writer.new) self.old.printed (said (self.old.summary.lines + 1) self.old.session (reading self.old.line.items)).1 self.new.printed) }
+        ensures cut { OnErr result ((left : List ℕ) × Passes (W.contents writer.old) (W.contents writer.new) self.old.printed (said (self.old.summary.lines + 1) self.old.session (reading self.old.line.items)).1 left) }
+        ensures fault { IfErr result (λ why. (why ≢ RunFault.Read) × (why ≢ RunFault.TooManyLines)) }
+    {
+        let number = self.summary.lines + 1;
+        let line = parse_line(self.alloc, self.line.as_slice());
+        if let Err(LineFault::Memory) = line {
+            return Err(RunFault::Memory);
+        }
+        let is_faulty = line.is_err();
+        let text = self.session.say(number, line)?;
+        self.printed.print(writer, text.as_bytes())?;
+        self.summary.lines = number;
+        self.summary.faults += u64::from(is_faulty);
+        Ok(())
+    }
+
+    /// Reads the next line and obeys it. Answers whether there was one.
+    fn next<R: Read, W: Write>(&mut self, reader: &mut R, writer: &mut W) -> Result<bool, RunFault>
+        requires ended { self.old.ahead.is_ended ≡ true → IsAtEnd (R.remaining reader.old) }
+        requires lines { self.old.summary.lines ≤ most_lines }
+        requires faults { self.old.summary.faults ≤ self.old.summary.lines }
+        ensures ended { self.new.ahead.is_ended ≡ true → IsAtEnd (R.remaining reader.new) }
+        ensures lines { OnOk result (self.new.summary.lines ≤ most_lines) }
+        ensures faults { OnOk result (self.new.summary.faults ≤ self.new.summary.lines) }
+        ensures more { IfOk result (λ more. more ≡ true → self.new.summary.lines ≡ self.old.summary.lines + 1) }
+        ensures end { IfOk result (λ more. more ≡ false → (self.new.ahead.bytes ≡ []) × (self.new.ahead.is_ended ≡ true)) }
+        ensures so_far { OnOk result ((text before : Option (List ℕ)) →
+            IsSoFar text (prepend_known self.old.ahead.bytes (R.remaining reader.old)) before (W.contents writer.old) self.old.ahead.is_ended self.old.summary self.old.session self.old.printed
+            → IsSoFar text (prepend_known self.new.ahead.bytes (R.remaining reader.new)) before (W.contents writer.new) self.new.ahead.is_ended self.new.summary self.new.session self.new.printed) }
+        ensures stopped { IfErr result (λ why. (text before : Option (List ℕ)) →
+            IsSoFar text (prepend_known self.old.ahead.bytes (R.remaining reader.old)) before (W.contents writer.old) self.old.ahead.is_ended self.old.summary self.old.session self.old.printed
+            → Stopped text (R.remaining reader.new) before (W.contents writer.new) self.new.printed why) }
+    {
+        laws::front();
+        self.ahead.fill(reader)?;
+        if self.ahead.is_empty() {
+            return Ok(false);
+        }
+        if self.summary.lines == MOST_LINES {
+            return Err(RunFault::TooManyLines);
+        }
+        self.ahead.read_line(reader, &mut self.line)?;
+        self.obey(writer)?;
+        Ok(true)
+    }
+
+    /// Nothing has been read yet.
+    fn new(alloc: Global) -> Result<Runner, AllocError>
+        ensures ahead { IfOk result (λ run. run.ahead ≡ record { bytes = []; is_ended = false; reads_left = 2 ^ 32 }) }
+        ensures scene { IfOk result (λ run. run.session ≡ opening_scene) }
+        ensures printed { IfOk result (λ run. run.printed ≡ []) }
+        ensures summary { IfOk result (λ run. run.summary ≡ record { lines = 0; faults = 0 }) }
+    {
+        Ok(Runner {
+            alloc,
+            ahead: Ahead::new(alloc)?,
+            line: Vec::new(alloc),
+            session: Session::new(alloc),
+            printed: Printed::new(alloc)?,
+            summary: Summary {
+                lines: 0,
+                faults: 0,
+            },
+        })
+    }
+
+    /// Reads and obeys all lines.
+    fn obey_all<R: Read, W: Write>(
+        &mut self,
+        reader: &mut R,
+        writer: &mut W,
+    ) -> Result<(), RunFault>
+        requires ended { self.old.ahead.is_ended ≡ true → IsAtEnd (R.remaining reader.old) }
+        requires lines { self.old.summary.lines ≤ most_lines }
+        requires faults { self.old.summary.faults ≤ self.old.summary.lines }
+        ensures lines { OnOk result (self.new.summary.lines ≤ most_lines) }
+        ensures faults { OnOk result (self.new.summary.faults ≤ self.new.summary.lines) }
+        ensures end { OnOk result ((self.new.ahead.bytes ≡ []) × IsAtEnd (R.remaining reader.new)) }
+        ensures so_far { OnOk result ((text before : Option (List ℕ)) →
+            IsSoFar text (prepend_known self.old.ahead.bytes (R.remaining reader.old)) before (W.contents writer.old) self.old.ahead.is_ended self.old.summary self.old.session self.old.printed
+            → IsSoFar text (prepend_known self.new.ahead.bytes (R.remaining reader.new)) before (W.contents writer.new) self.new.ahead.is_ended self.new.summary self.new.session self.new.printed) }
+        ensures stopped { IfErr result (λ why. (text before : Option (List ℕ)) →
+            IsSoFar text (prepend_known self.old.ahead.bytes (R.remaining reader.old)) before (W.contents writer.old) self.old.ahead.is_ended self.old.summary self.old.session self.old.printed
+            → Stopped text (R.remaining reader.new) before (W.contents writer.new) self.new.printed why) }
+    {
+        loop {
+            if !self.next(reader, writer)? {
+                return Ok(());
+            }
+        }
+    }
+
+    /// Writes what waits.
+    fn finish<W: Write>(&mut self, writer: &mut W) -> Result<(), RunFault>
+        ensures ok { OnOk result (Appends (W.contents writer.old) (W.contents writer.new) self.old.printed) }
+        ensures err { IfErr result (λ why. (why ≡ RunFault.Write) × ((count : ℕ) × Appends (W.contents writer.old) (W.contents writer.new) (take count self.old.printed))) }
+        ensures summary { self.new.summary ≡ self.old.summary }
+    {
+        self.printed.write_out(writer)?;
+        match writer.flush() {
+            Ok(()) => Ok(()),
+            Err(_) => Err(RunFault::Write),
+        }
+    }
+
+    /// Ends the run by a fault. Where the lines before it are whole, what they print is written
+    /// first.
+    fn stop<W: Write>(&mut self, writer: &mut W, fault: RunFault) -> RunFault
+        ensures { (text rest before : Option (List ℕ)) → Stopped text rest before (W.contents writer.old) self.old.printed fault → Ran text rest before (W.contents writer.new) (Err result) }
+    {
+        if !keeps_lines(fault) {
+            return fault;
+        }
+        match self.finish(writer) {
+            Ok(()) => fault,
+            Err(failed) => failed,
+        }
+    }
+}
+
+/// Whether the lines before the fault are whole, so that all that they print is written.
+fn keeps_lines(fault: RunFault) -> bool
+    ensures { result ≡ keeps_lines fault }
+{
+    match fault {
+        RunFault::Read | RunFault::TooManyLines => true,
+        RunFault::Write | RunFault::Memory => false,
+    }
+}
+
+/// Runs a script: reads its lines, makes their calls, and writes what they print.
+///
+/// A script has at most 1,000,000 lines of at most 131,072 bytes. A read that gives no bytes is its
+/// end. No read or write that failed is tried again, and a write that takes nothing has failed.
+///
+/// Answers [`RunFault::Read`] where the reader failed or was asked 2^32 times, and each line that
+/// was read whole has been run; [`RunFault::TooManyLines`] where a further line began, and the lines
+/// before it have been run; [`RunFault::Write`] where the writer failed and [`RunFault::Memory`]
+/// where memory ran out, and what was written is the front of the output.
+///
+/// `docs/SCRIPT.md` of the repository says what a script is, and what its lines print.
+pub fn run<R: Read, W: Write>(
+    alloc: Global,
+    reader: &mut R,
+    writer: &mut W,
+) -> Result<Summary, RunFault>
+    ensures ran { Ran (R.remaining reader.old) (R.remaining reader.new) (W.contents writer.old) (W.contents writer.new) result }
+    ensures summary { IfOk result (λ summary. (summary.faults ≤ summary.lines) × (summary.lines ≤ most_lines)) }
+{
+    let mut runner = Runner::new(alloc)?;
+    match runner.obey_all(reader, writer) {
+        Ok(()) => {
+            runner.finish(writer)?;
+            Ok(runner.summary)
+        }
+        Err(fault) => Err(runner.stop(writer, fault)),
+    }
+}

@@ -1,0 +1,8 @@
+/// What a run has come across.
+#[derive(Clone, Copy, Debug, PartialEq, Eq)]
+pub struct Summary {
+    /// The lines that were read, at most 1,000,000.
+    pub lines: u64,
+    /// The lines among them that have a fault.
+    pub faults: u64,
+}
