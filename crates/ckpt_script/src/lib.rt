@@ -21,4 +21,6 @@ pub use session::Session;
 pub use summary::Summary;
 
 #[cfg(test)]
+mod run_tests;
+#[cfg(test)]
 mod session_tests;
