@@ -1,5 +1,6 @@
 mod checkpoints;
 mod job;
+mod limits;
 
 use crate::Core;
 use ckpt_ids::{

@@ -1,0 +1,43 @@
+use super::job::Deed::{Ack, Savepoint, Tick};
+use super::job::Job;
+use super::job::Said::{AckCompleted, Refused, Triggered};
+use crate::{Core, OpenFault};
+use ckpt_ids::{Config, Refusal, Shape};
+use std::alloc::Global;
+use std::process::Abort;
+use std::test::Fail;
+
+#[test]
+fn numbers_are_used_up(rt: HostRuntime) -> Result<(), Fail> {
+    let config = Config::new(1000, 0, 1, 600_000, 0, 1, false)?;
+    let mut job = Job::open_from(rt.alloc(), config, 1, (1 << 62) - 1)?;
+    let row = [
+        (Tick(1000), Triggered(4611686018427387903)),
+        (
+            Ack(1000, 4611686018427387903, (0, 0), Some(1), None),
+            AckCompleted(0, 0),
+        ),
+        (Tick(2000), Refused(Refusal::IdsUsedUp)),
+        (Savepoint(2000), Refused(Refusal::IdsUsedUp)),
+    ];
+    assert_eq!(rt; job.first_other(&row)?, None);
+    Ok(())
+}
+
+/// Why the opening with this moment and this first number is refused.
+fn fault(alloc: Global, now: u64, first: u64) -> Result<Option<OpenFault>, Fail> {
+    let config = Config::new(1000, 0, 1, 600_000, 0, 1, false)?;
+    let shape = Shape::new(alloc, &[1])?;
+    Ok(Core::new(alloc, config, shape, now, first).err())
+}
+
+#[test]
+fn an_opening_has_limits(rt: HostRuntime) -> Result<(), Fail> {
+    assert_eq!(rt; fault(rt.alloc(), 0, 0)?, Some(OpenFault::BadFirst));
+    assert_eq!(rt; fault(rt.alloc(), 0, 1 << 62)?, Some(OpenFault::BadFirst));
+    assert_eq!(rt;
+        fault(rt.alloc(), 1 << 62, 0)?,
+        Some(OpenFault::MomentTooLarge)
+    );
+    Ok(())
+}
