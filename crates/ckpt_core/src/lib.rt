@@ -22,6 +22,3 @@ mod triggers;
 
 pub use coordinator::{Core, CoreFault, OpenFault};
 pub use mode::Mode;
-
-#[cfg(test)]
-mod tests;

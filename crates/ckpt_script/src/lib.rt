@@ -19,8 +19,3 @@ pub use fault::RunFault;
 pub use runner::run;
 pub use session::Session;
 pub use summary::Summary;
-
-#[cfg(test)]
-mod run_tests;
-#[cfg(test)]
-mod session_tests;

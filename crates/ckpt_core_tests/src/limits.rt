@@ -1,7 +1,7 @@
-use super::job::Deed::{Ack, Savepoint, Tick};
-use super::job::Job;
-use super::job::Said::{AckCompleted, Refused, Triggered};
-use crate::{Core, OpenFault};
+use crate::job::Deed::{Ack, Savepoint, Tick};
+use crate::job::Job;
+use crate::job::Said::{AckCompleted, Refused, Triggered};
+use ckpt_core::{Core, OpenFault};
 use ckpt_ids::{Config, Refusal, Shape};
 use std::alloc::Global;
 use std::process::Abort;

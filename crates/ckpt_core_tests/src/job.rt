@@ -1,4 +1,4 @@
-use crate::{Core, CoreFault};
+use ckpt_core::{Core, CoreFault};
 use ckpt_ids::{
     Call, CheckpointId, Choice, Config, FileId, Files, Handed, Kind, Metadata, Refusal, Reply,
     Shape, SubtaskId, Target, TickEnd,

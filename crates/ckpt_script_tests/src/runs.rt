@@ -1,4 +1,4 @@
-use crate::{RunFault, Summary, run};
+use ckpt_script::{RunFault, Summary, run};
 use std::alloc::{AllocError, Global};
 use std::io;
 use std::io::{Read, Write};
@@ -188,6 +188,18 @@ fn runs<R: Read>(
     is_so(answer, written.as_slice(), expected, output)
 }
 
+/// Whether a script of so many lines, of which so many have a fault, prints this.
+pub(crate) fn prints(
+    alloc: Global,
+    script: &[u8],
+    lines: u64,
+    faults: u64,
+    output: &[u8],
+) -> Result<bool, AllocError> {
+    let mut text = script;
+    runs(alloc, &mut text, whole(lines, faults), output)
+}
+
 /// Whether a run into a writer that takes so many bytes and then fails writes them.
 fn writes(alloc: Global, script: &[u8], room: usize, output: &[u8]) -> Result<bool, AllocError> {
     let mut reader = script;
@@ -244,15 +256,13 @@ fn ends_after(alloc: Global, bytes: usize) -> Result<bool, AllocError> {
 
 #[test]
 fn runs_a_script(rt: HostRuntime) -> Result<(), Fail> {
-    let mut text = checkpoint();
-    assert!(rt; runs(rt.alloc(), &mut text, whole(7, 0), checkpoint_output())?);
+    assert!(rt; prints(rt.alloc(), checkpoint(), 7, 0, checkpoint_output())?);
     Ok(())
 }
 
 #[test]
 fn runs_an_empty_script(rt: HostRuntime) -> Result<(), Fail> {
-    let mut text = b"".as_slice();
-    assert!(rt; runs(rt.alloc(), &mut text, whole(0, 0), b"".as_slice())?);
+    assert!(rt; prints(rt.alloc(), b"".as_slice(), 0, 0, b"".as_slice())?);
     Ok(())
 }
 
@@ -287,16 +297,14 @@ fn stops_at_a_write_that_fails(rt: HostRuntime) -> Result<(), Fail> {
 
 #[test]
 fn tells_the_fault_of_a_cut_word(rt: HostRuntime) -> Result<(), Fail> {
-    let mut text = cut();
-    assert!(rt; runs(rt.alloc(), &mut text, whole(8, 1), cut_output())?);
+    assert!(rt; prints(rt.alloc(), cut(), 8, 1, cut_output())?);
     Ok(())
 }
 
 #[test]
 fn runs_hostile_bytes(rt: HostRuntime) -> Result<(), Fail> {
     let script = hostile(rt.alloc())?;
-    let mut text = script.as_slice();
-    assert!(rt; runs(rt.alloc(), &mut text, whole(11, 6), hostile_output())?);
+    assert!(rt; prints(rt.alloc(), script.as_slice(), 11, 6, hostile_output())?);
     Ok(())
 }
 

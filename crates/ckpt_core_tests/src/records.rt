@@ -1,8 +1,4 @@
-mod checkpoints;
-mod job;
-mod limits;
-
-use crate::Core;
+use ckpt_core::Core;
 use ckpt_ids::{
     Call, CheckpointId, Choice, Config, FileId, Files, Reply, Shape, SubtaskId, Target, TickEnd,
 };

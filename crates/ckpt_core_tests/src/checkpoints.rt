@@ -1,6 +1,6 @@
-use super::job::Deed::{Ack, Count, Show, Take, Tick};
-use super::job::Said::{AckCompleted, Counted, Held, Refused, Taken, Triggered};
-use super::job::{Job, Said, Shown};
+use crate::job::Deed::{Ack, Count, Show, Take, Tick};
+use crate::job::Said::{AckCompleted, Counted, Held, Refused, Taken, Triggered};
+use crate::job::{Job, Said, Shown};
 use ckpt_ids::{Config, FileId, Kind, Refusal, SubtaskId, TickEnd};
 use std::process::Abort;
 use std::test::Fail;
