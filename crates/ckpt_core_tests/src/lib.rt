@@ -6,8 +6,12 @@
 #[cfg(test)]
 mod checkpoints;
 #[cfg(test)]
+mod embedding;
+#[cfg(test)]
 mod job;
 #[cfg(test)]
 mod limits;
 #[cfg(test)]
 mod records;
+#[cfg(test)]
+mod refused_memory;
