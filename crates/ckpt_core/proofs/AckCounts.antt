@@ -18,7 +18,8 @@ use Rattle.ckpt_ids.proofs.ShapeLemmas.{length-subtasks_from}
 use Rattle.ckpt_pending.proofs.SubtaskLemmas.{IsInOrder-subtasks, IsIn-subtasks, same_subtask-itself}
 use Rattle.ckpt_registry.specs.Uses.{IsEachOnce}
 use Rattle.ckpt_core.specs.Soundness.{AreDistinct, IsRecord}
-use Rattle.ckpt_core.proofs.CountLemmas.{count_by-append, count_by-map, count_by_yes, count_by_no}
+use Rattle.ckpt_ids.proofs.CountLemmas.{count_by-append, count_by-map}
+use Rattle.ckpt_core.proofs.CountLemmas.{count_by_yes, count_by_no}
 use Rattle.ckpt_core.proofs.Lookups.{count_none}
 use Rattle.ckpt_core.proofs.Released.{distinct-from_ascending}
 use Rattle.ckpt_core.proofs.UsesOrder.{holds}

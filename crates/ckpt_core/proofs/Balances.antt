@@ -5,7 +5,8 @@ use Rattle.ckpt_ids.specs.Ordered.{IsIn}
 use Rattle.ckpt_ids.specs.Records.{Record, uses, is_present, released}
 use Rattle.ckpt_core.specs.Soundness.{AreDistinct}
 use Rattle.ckpt_core.specs.Laws.{times, one_if}
-use Rattle.ckpt_core.proofs.CountLemmas.{count_by_yes, count_by_no, count_by-append, counted-from_IsIn, IsIn-from_counted}
+use Rattle.ckpt_ids.proofs.CountLemmas.{count_by-append}
+use Rattle.ckpt_core.proofs.CountLemmas.{count_by_yes, count_by_no, counted-from_IsIn, IsIn-from_counted}
 use Rattle.ckpt_core.proofs.UsesLemmas.{IsHeld, IsHeld-from_present, present-from_IsHeld, not_held, absent-from_not_held}
 use Rattle.ckpt_core.proofs.Released.{ascending-released, distinct-from_ascending, after-from_released, held-from_released, released-from_held}
 

@@ -16,7 +16,7 @@ use Rattle.ckpt_core.specs.Grouped.{with_pins, grouped}
 use Rattle.ckpt_core.specs.Parts.{is_noted}
 use Rattle.ckpt_core.specs.Soundness.{id_before}
 use Rattle.ckpt_core.specs.State.{is_checkpoint}
-use Rattle.ckpt_core.proofs.CountLemmas.{count_by-cons, count_by_yes, count_by_no, count_by_at_most_more}
+use Rattle.ckpt_core.proofs.CountLemmas.{count_by_yes, count_by_no, count_by_at_most_more}
 use Rattle.ckpt_core.proofs.DropMoves.{fails, noted-from_IsIn, IsIn-from_noted}
 use Rattle.ckpt_core.proofs.GroupedLemmas.{AreApart, apart_left, apart_right, apart_between}
 use Rattle.ckpt_core.proofs.GroupMoves.{filter_all}

@@ -16,7 +16,8 @@ use Rattle.ckpt_core.specs.State.{State, drop, kept, released_by, unpinned}
 use Rattle.ckpt_core.specs.Steps.{Stepped, cleared, completed_with, dropped_by, replaced, superseded}
 use Rattle.ckpt_core.proofs.AckMoves.{with_instead, id-with_instead}
 use Rattle.ckpt_core.proofs.CompleteLists.{others}
-use Rattle.ckpt_core.proofs.CountLemmas.{count_by-map, filter_itself}
+use Rattle.ckpt_ids.proofs.CountLemmas.{count_by-map}
+use Rattle.ckpt_core.proofs.CountLemmas.{filter_itself}
 use Rattle.ckpt_core.proofs.DropMoves.{stays, staying}
 use Rattle.ckpt_core.proofs.FinishMoves.{finish_groups, finish_uses, ended_records, still_used}
 use Rattle.ckpt_core.proofs.GroupedLemmas.{AreApart}

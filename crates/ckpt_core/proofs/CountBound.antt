@@ -20,7 +20,8 @@ use Rattle.ckpt_core.specs.declared.parts.Parts.{Parts}
 use Rattle.ckpt_core.specs.Parts.{state_of, AreTied}
 use Rattle.ckpt_core.specs.State.{State}
 use Rattle.ckpt_core.specs.Soundness.{IsSound, IsRecord}
-use Rattle.ckpt_core.proofs.CountLemmas.{count_by-cons, count_by-append, count_by_no, count_by_at_most_more}
+use Rattle.ckpt_ids.proofs.CountLemmas.{count_by-append}
+use Rattle.ckpt_core.proofs.CountLemmas.{count_by_no, count_by_at_most_more}
 use Rattle.ckpt_core.proofs.UsesOrder.{holds}
 use Rattle.ckpt_core.proofs.TriggerParts.{live_bound}
 

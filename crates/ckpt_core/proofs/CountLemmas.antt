@@ -3,13 +3,9 @@ use Rattle.std.proofs.Common.{◌≡◌, ℕ, suc, ◌+◌, ◌<◌, ◌≤◌, 
 use Rattle.std.specs.Prelude.{count_by, find, Option, Some, None}
 use Rattle.std.specs.List.{filter}
 use Rattle.std.proofs.lemmas.Bool.{cases_Bool}
-use Rattle.std.proofs.lemmas.List.Sums.{sum_by-append, sum_by-cons}
 use Rattle.ckpt_ids.specs.Ordered.{IsIn}
+use Rattle.ckpt_ids.proofs.CountLemmas.{count_by-cons}
 use Rattle.ckpt_ids.proofs.OrderedLemmas.{IsIn-map, IsIn-from_map, IsIn-filter, IsIn-from_filter}
-
--- one more element in front
-pub count_by-cons : {X : Type 0} (p : X → Bool) (x : X) (xs : List X) → count_by p (x ∷ xs) ≡ cond (p x) 1 0 + count_by p xs
-count_by-cons p x xs = sum_by-cons (λ y. cond (p y) 1 0) x xs
 
 -- an element that passes counts once
 pub count_by_yes : {X : Type 0} (p : X → Bool) (x : X) (xs : List X) → p x ≡ true → count_by p (x ∷ xs) ≡ suc (count_by p xs)
@@ -33,10 +29,6 @@ count_by_at_most_more p x xs =
     (λ (e : p x ≡ false). omega (arith, count_by_no p x xs e))
     (cases_Bool (p x))
 
--- two lists together
-pub count_by-append : {X : Type 0} (p : X → Bool) (xs ys : List X) → count_by p (xs ++ ys) ≡ count_by p xs + count_by p ys
-count_by-append p xs ys = sum_by-append (λ x. cond (p x) 1 0) xs ys
-
 -- a test that passes where another does counts no less
 pub count_by-le : {X : Type 0} (p q : X → Bool) (xs : List X) → ((x : X) → IsIn x xs → p x ≡ true → q x ≡ true) → count_by p xs ≤ count_by q xs
 count_by-le p q [] f = omega arith
@@ -45,13 +37,6 @@ count_by-le {X} p q (x ∷ xs) f =
     let yes : p x ≡ true → count_by p (x ∷ xs) ≤ count_by q (x ∷ xs) = λ (e : p x ≡ true). omega (arith, count_by_yes p x xs e, count_by_yes q x xs (f x (inl refl) e)) in
     let no : p x ≡ false → count_by p (x ∷ xs) ≤ count_by q (x ∷ xs) = λ (e : p x ≡ false). omega (arith, count_by_no p x xs e, count_by-cons q x xs) in
     ⊎_elim yes no (cases_Bool (p x))
-
--- of changed elements
-pub count_by-map : {X Y : Type 0} (p : Y → Bool) (f : X → Y) (xs : List X) → count_by p (map f xs) ≡ count_by (λ x. p (f x)) xs
-count_by-map p f [] = refl
-count_by-map {X} {Y} p f (x ∷ xs) =
-    let here : X → Bool = λ y. p (f y) in
-    omega (arith, count_by-cons p (f x) (map f xs), count_by-cons here x xs, count_by-map p f xs)
 
 -- of what a filter keeps and a change makes of it, no more pass than passed some test before
 pub count_by-changed : {X Y : Type 0} (t : Y → Bool) (s : X → Bool) (f : X → Y) (keep : X → Bool) (xs : List X) → ((x : X) → IsIn x xs → keep x ≡ true → t (f x) ≡ true → s x ≡ true) → count_by t (map f (filter keep xs)) ≤ count_by s xs

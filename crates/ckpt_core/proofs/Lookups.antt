@@ -14,22 +14,11 @@ use Rattle.ckpt_core.specs.Soundness.{id_before}
 use Rattle.ckpt_core.specs.State.{is_pending, is_checkpoint, is_done_checkpoint, last_checkpoint}
 use Rattle.ckpt_core.specs.Refusals.{pending_of}
 use Rattle.ckpt_core.specs.Grouped.{with_pins, grouped, records_of}
-use Rattle.ckpt_core.proofs.CountLemmas.{count_by-cons, count_by-append, count_by-map, IsIn-from_find, fails-from_find, find-none}
+use Rattle.ckpt_ids.proofs.CountLemmas.{count_by-cons, count_by-append, count_by-map, count_by-in_order}
+use Rattle.ckpt_core.proofs.CountLemmas.{IsIn-from_find, fails-from_find, find-none}
 use Rattle.ckpt_core.proofs.GroupedLemmas.{AreApart, in_order-from_apart, apart_between, apart_left, apart_right}
 
 -- counts
-
-count_by-put : (p : Record → Bool) (x : Record) (xs : List Record) → count_by p (put id_before x xs) ≡ count_by p (x ∷ xs)
-count_by-put p x [] = refl
-count_by-put p x (y ∷ xs) =
-    let P : Bool → Type 0 = λ b. count_by p (cond b (y ∷ put id_before x xs) (x ∷ y ∷ xs)) ≡ count_by p (x ∷ y ∷ xs) in
-    let further : count_by p (y ∷ put id_before x xs) ≡ count_by p (x ∷ y ∷ xs) =
-    omega (arith, count_by-cons p y (put id_before x xs), count_by-put p x xs, count_by-cons p x xs, count_by-cons p x (y ∷ xs), count_by-cons p y xs) in
-    ⊎_elim (λ (e : id_before y x ≡ true). subst P (sym e) further) (λ (e : id_before y x ≡ false). subst P (sym e) refl) (cases_Bool (id_before y x))
-
-pub count_by-in_order : (p : Record → Bool) (xs : List Record) → count_by p (in_order id_before xs) ≡ count_by p xs
-count_by-in_order p [] = refl
-count_by-in_order p (x ∷ xs) = count_by-put p x (in_order id_before xs) ∙ count_by-cons p x (in_order id_before xs) ∙ ap (λ n. cond (p x) 1 0 + n) (count_by-in_order p xs) ∙ sym (count_by-cons p x xs)
 
 length-put : (x : Record) (xs : List Record) → length (put id_before x xs) ≡ suc (length xs)
 length-put x [] = refl
@@ -54,7 +43,7 @@ count_same p q (x ∷ xs) agree = count_by-cons p x xs ∙ ap (λ b. cond b 1 0 
 
 pub count_by-records_of : (p : Record → Bool) (us : List Use) (pending checkpoints savepoints : List Record) → ((r : Record) → p (with_pins us r) ≡ p r) → count_by p (records_of us pending checkpoints savepoints) ≡ count_by p pending + (count_by p checkpoints + count_by p savepoints)
 count_by-records_of p us pending checkpoints savepoints same =
-    count_by-in_order p (grouped us pending checkpoints savepoints)
+    count_by-in_order p id_before (grouped us pending checkpoints savepoints)
     ∙ count_by-append p (map (with_pins us) pending) (checkpoints ++ savepoints)
     ∙ ap (λ n. n + count_by p (checkpoints ++ savepoints)) (count_by-map p (with_pins us) pending ∙ count_same (λ r. p (with_pins us r)) p pending (λ r h. same r))
     ∙ ap (λ n. count_by p pending + n) (count_by-append p checkpoints savepoints)

@@ -22,7 +22,8 @@ use Rattle.ckpt_core.specs.State.{is_checkpoint}
 use Rattle.ckpt_core.specs.Soundness.{id_before}
 use Rattle.ckpt_core.specs.Steps.{acknowledged}
 use Rattle.ckpt_core.specs.PendingRecords.{acked, retracted, records_in, by_number, AreKept}
-use Rattle.ckpt_core.proofs.CountLemmas.{count_by-cons, count_by-append, count_by-map, map_itself}
+use Rattle.ckpt_ids.proofs.CountLemmas.{count_by-cons, count_by-append, count_by-map}
+use Rattle.ckpt_core.proofs.CountLemmas.{map_itself}
 use Rattle.ckpt_core.proofs.GroupMoves.{filter_all, filter_same, filter-filter, map-map}
 
 -- the record of a number, as tests of a record and of a key

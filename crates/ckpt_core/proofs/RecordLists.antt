@@ -15,7 +15,8 @@ use Rattle.ckpt_core.specs.declared.mode.Mode.TheVariants.{Running}
 use Rattle.ckpt_core.specs.State.{State, Opening, is_checkpoint, is_pending, is_done_checkpoint}
 use Rattle.ckpt_core.specs.Refusals.{is_done_savepoint}
 use Rattle.ckpt_core.specs.Soundness.{IsSound, IsRecord, id_before, AreDistinct}
-use Rattle.ckpt_core.proofs.CountLemmas.{count_by_yes, count_by_no, count_by-le, count_by-changed, count_by-append, IsIn-from_changed}
+use Rattle.ckpt_ids.proofs.CountLemmas.{count_by-append}
+use Rattle.ckpt_core.proofs.CountLemmas.{count_by_yes, count_by_no, count_by-le, count_by-changed, IsIn-from_changed}
 use Rattle.ckpt_core.proofs.Released.{IsIn-from_test, test-from_IsIn}
 use Rattle.ckpt_pending.proofs.SubtaskLemmas.{count_by_same}
 

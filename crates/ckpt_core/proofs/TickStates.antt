@@ -27,7 +27,8 @@ use Rattle.ckpt_core.specs.Soundness.{IsSound, id_before}
 use Rattle.ckpt_core.specs.Starting.{Starts, held_at}
 use Rattle.ckpt_core.specs.Steps.{Stepped, triggered, start_or_hold, after_expiry, tick, failed_over, pending_checkpoints, dropped_by}
 use Rattle.ckpt_registry.proofs.ListLemmas.{count_by-filter}
-use Rattle.ckpt_core.proofs.CountLemmas.{map_itself, count_by-cons}
+use Rattle.ckpt_ids.proofs.CountLemmas.{count_by-cons}
+use Rattle.ckpt_core.proofs.CountLemmas.{map_itself}
 use Rattle.ckpt_core.proofs.UsesLemmas.{IsHeld, Holds, IsHeld-from_present, present-from_IsHeld, Holds-from_use}
 use Rattle.ckpt_core.proofs.Released.{ascending-released, before-from_released, after-from_released, IsIn-released, IsIn-from_test}
 use Rattle.ckpt_core.proofs.RecordLists.{IsSoundOutbox}

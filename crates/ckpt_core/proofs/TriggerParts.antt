@@ -24,7 +24,8 @@ use Rattle.ckpt_core.specs.Soundness.{IsSound, id_before}
 use Rattle.ckpt_core.specs.Steps.{triggered}
 use Rattle.ckpt_core.specs.Grouped.{with_pins, grouped, records_of}
 use Rattle.ckpt_core.specs.Parts.{state_of, records_in, present_in, AreTied}
-use Rattle.ckpt_core.proofs.CountLemmas.{IsIn-from_find, counted-from_IsIn, count_by-cons}
+use Rattle.ckpt_ids.proofs.CountLemmas.{count_by-cons}
+use Rattle.ckpt_core.proofs.CountLemmas.{IsIn-from_find, counted-from_IsIn}
 use Rattle.ckpt_core.proofs.HandOut.{present-from_use}
 use Rattle.ckpt_core.proofs.UsesLemmas.{present-from_IsHeld, IsHeld-from_present, Holds-from_use}
 use Rattle.ckpt_core.proofs.UsesOrder.{holds, from_holds, use_of_record}

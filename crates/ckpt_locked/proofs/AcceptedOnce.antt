@@ -2,34 +2,21 @@
 use Rattle.std.proofs.Common.{◌≡◌, ℕ, suc, ◌+◌, Bool, true, false, ◌||◌, cond, List, [], ◌∷◌, map, refl, sym, ap, subst, ◌∙◌, ⊎_elim, arith}
 use Rattle.std.specs.Prelude.{count_by}
 use Rattle.std.specs.List.{list_any}
-use Rattle.std.proofs.lemmas.Bool.{both_ways, cases_Bool, cond_both, or_left}
+use Rattle.std.proofs.lemmas.Bool.{both_ways, cases_Bool, or_left}
 use Rattle.ckpt_ids.specs.declared.ack.Acked.{Acked}
 use Rattle.ckpt_ids.specs.declared.subtask.SubtaskId.{SubtaskId}
 use Rattle.ckpt_ids.specs.Acknowledged.{AreInSubtaskOrder, acknowledges_before, is_before}
-use Rattle.ckpt_ids.specs.Ordered.{IsIn, ComesBefore, put, in_order}
+use Rattle.ckpt_ids.specs.Ordered.{IsIn, ComesBefore, in_order}
 use Rattle.ckpt_ids.specs.Shapes.{is_subtask, same_subtask}
 use Rattle.ckpt_ids.proofs.OrderLemmas.{same_subtask-Decides, subtasks_in_order}
 use Rattle.ckpt_ids.proofs.OrderedLemmas.{ComesBefore-at, IsIn-in_order}
 use Rattle.ckpt_core.specs.Laws.{Acknowledgements, one_if}
 use Rattle.ckpt_core.specs.Soundness.{IsSound}
-use Rattle.ckpt_core.proofs.CountLemmas.{count_by-cons, count_by_no, count_by_yes}
+use Rattle.ckpt_ids.proofs.CountLemmas.{count_by-in_order}
+use Rattle.ckpt_core.proofs.CountLemmas.{count_by_no, count_by_yes}
 use Rattle.ckpt_core.proofs.Lookups.{count_none}
 use Rattle.ckpt_locked.specs.Books.{History, calls_of, state_of_book}
 use Rattle.ckpt_locked.specs.Promises.{ExactlyOne, accepted_in, times_of}
-
--- an element that is put in its place counts
-count_by-put : {X : Type 0} (p : X → Bool) (before : X → X → Bool) (x : X) (xs : List X) → count_by p (put before x xs) ≡ cond (p x) 1 0 + count_by p xs
-count_by-put p before x [] = count_by-cons p x []
-count_by-put {X} p before x (y ∷ ys) =
-    let one : Bool → ℕ = λ b. cond b 1 0 in
-    let Counted : List X → Type 0 = λ zs. count_by p zs ≡ one (p x) + count_by p (y ∷ ys) in
-    let later : Counted (y ∷ put before x ys) = omega (arith, count_by-cons p y (put before x ys), count_by-cons p y ys, count_by-put p before x ys) in
-    cond_both (before y x) (y ∷ put before x ys) (x ∷ y ∷ ys) Counted (λ _. later) (λ _. count_by-cons p x (y ∷ ys))
-
-count_by-in_order : {X : Type 0} (p : X → Bool) (before : X → X → Bool) (xs : List X) → count_by p (in_order before xs) ≡ count_by p xs
-count_by-in_order p before [] = refl
-count_by-in_order p before (x ∷ xs) =
-    omega (arith, count_by-put p before x (in_order before xs), count_by-cons p x xs, count_by-in_order p before xs)
 
 -- after an acknowledgement of s comes none of s
 later_differs : (s : SubtaskId) (x a : Acked) (xs : List Acked) → ComesBefore acknowledges_before x xs → IsIn a xs → same_subtask s x.subtask ≡ true → same_subtask s a.subtask ≡ false

@@ -11,7 +11,7 @@ use Rattle.ckpt_ids.proofs.OrderedLemmas.{IsIn-append_cases, IsIn-from_map, IsIn
 use Rattle.ckpt_registry.specs.Counters.{times}
 use Rattle.ckpt_registry.specs.Earlier.{AreBefore, IsPinnable, IsUsable}
 use Rattle.ckpt_registry.specs.Uses.{HasNoUse, triples, is_owned, is_ended, without, after_end}
-use Rattle.ckpt_registry.proofs.ListLemmas.{count_by-append}
+use Rattle.ckpt_ids.proofs.CountLemmas.{count_by-append}
 use Rattle.ckpt_registry.proofs.RegistryLemmas.{IsIn-from_times, IsAscendingSet-from_once}
 
 list_all_at : (p : ℕ → Bool) (xs : List ℕ) → list_all p xs ≡ true → (x : ℕ) → IsIn x xs → p x ≡ true

@@ -2,8 +2,8 @@
 use Rattle.std.proofs.Common.{◌≡◌, ℕ, ◌+◌, ◌<◌, ◌≤◌, Bool, true, false, not, cond, ◌&&◌, List, [], ◌∷◌, ◌++◌, map, refl, sym, ap, subst, ◌∙◌, ◌⊎◌, inl, inr, ⊎_elim, arith, count_by}
 use Rattle.std.specs.List.{filter}
 use Rattle.std.proofs.lemmas.Bool.{cases_Bool, cases_lt, both_ways, cond-true, cond-false}
-use Rattle.std.proofs.lemmas.List.Sums.{sum_by-cons, sum_by-append}
 use Rattle.ckpt_ids.specs.Ordered.{IsIn, IsInOrder, put_once, in_order_once, IsStrictOrder}
+use Rattle.ckpt_ids.proofs.CountLemmas.{count_by-cons, count_by-append}
 use Rattle.ckpt_ids.proofs.OrderedLemmas.{IsIn-append_left, IsIn-append_right, IsIn-append_cases, IsIn-filter, IsIn-from_filter, IsInOrder-filter, IsInOrder-in_order_once, IsIn-in_order_once, IsIn-from_in_order_once, ComesBefore-at, same_from_members}
 
 -- a test as a number
@@ -17,12 +17,6 @@ pub one_if-false : (b : Bool) → b ≡ false → one_if b ≡ 0
 one_if-false b e = ap one_if e
 
 module _ {X : Type 0} where
-  pub count_by-cons : (p : X → Bool) (x : X) (xs : List X) → count_by p (x ∷ xs) ≡ one_if (p x) + count_by p xs
-  count_by-cons p x xs = sum_by-cons (λ y. one_if (p y)) x xs
-
-  pub count_by-append : (p : X → Bool) (xs ys : List X) → count_by p (xs ++ ys) ≡ count_by p xs + count_by p ys
-  count_by-append p xs ys = sum_by-append (λ y. one_if (p y)) xs ys
-
   -- the elements that pass both tests
   pub count_by-filter : (p q : X → Bool) (xs : List X) → count_by p (filter q xs) ≡ count_by (λ x. q x && p x) xs
   count_by-filter p q [] = refl
@@ -132,11 +126,6 @@ module _ {X : Type 0} {before : X → X → Bool} (o : IsStrictOrder before) whe
       let later : is_one z x ≡ false → IsIn z (x ∷ xs) = λ (e : is_one z x ≡ false).
       let none : one_if (is_one z x) ≡ 0 = one_if-false (is_one z x) e in inr (IsIn-from_count_by z xs (omega (arith, count_by-cons (is_one z) x xs))) in
       ⊎_elim here later (cases_Bool (is_one z x))
-
--- counting after a change of each element
-pub count_by-map : {X Y : Type 0} (p : Y → Bool) (f : X → Y) (xs : List X) → count_by p (map f xs) ≡ count_by (λ x. p (f x)) xs
-count_by-map p f [] = refl
-count_by-map p f (x ∷ xs) = omega (arith, count_by-cons p (f x) (map f xs), count_by-map p f xs, count_by-cons (λ y. p (f y)) x xs)
 
 module _ {X : Type 0} {before : X → X → Bool} (o : IsStrictOrder before) (xs ys zs : List X) (adds : (p : X → Bool) → count_by p ys ≡ count_by p xs + count_by p zs) where
   -- ys has the elements of xs and zs

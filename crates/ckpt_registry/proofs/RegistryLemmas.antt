@@ -24,7 +24,8 @@ use Rattle.ckpt_registry.specs.Holdings.{Holdings, uses_in}
 use Rattle.ckpt_registry.specs.Sound.{stored, in_use, StandsOnce, IsSound}
 use Rattle.ckpt_registry.specs.Uses.{IsEachOnce, HasNoUse, triples, is_owned, is_ended, without, without_record, after_end}
 use Rattle.ckpt_registry.proofs.CounterLemmas.{get-from_counter, counted_once-above, counted_once-zero, counted_once-le, above_from_counted_once, zero_from_counted_once}
-use Rattle.ckpt_registry.proofs.ListLemmas.{one_if, one_if-true, one_if-false, count_by-cons, count_by-append, count_by-map, AreApart, count_by-in_order_once, in_order_once-filter, count_by-added, in_order_once-added, IsIn-from_added, count_by-filtered, filter-same, filter-filter}
+use Rattle.ckpt_ids.proofs.CountLemmas.{count_by-cons, count_by-append, count_by-map}
+use Rattle.ckpt_registry.proofs.ListLemmas.{one_if, one_if-true, one_if-false, AreApart, count_by-in_order_once, in_order_once-filter, count_by-added, in_order_once-added, IsIn-from_added, count_by-filtered, filter-same, filter-filter}
 
 -- numbers and how often they stand
 

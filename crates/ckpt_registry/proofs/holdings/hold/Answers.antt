@@ -5,7 +5,7 @@ use Rattle.std.specs.Ordering.{nat_cmp}
 use Rattle.std.proofs.lemmas.Result.{on_ok_weaker, on_err_weaker}
 use Rattle.ckpt_registry.specs.Holdings.{Holdings, holder_of, uses_by, uses_in, with_holder}
 use Rattle.ckpt_registry.specs.Uses.{triples}
-use Rattle.ckpt_registry.proofs.ListLemmas.{count_by-append}
+use Rattle.ckpt_ids.proofs.CountLemmas.{count_by-append}
 use Rattle.ckpt_registry.proofs.HoldingLemmas.{is_number, count_by-set_value, uses_in-set_value_same, count_by-insert_entry, uses_by-with_holder}
 use Rattle.ckpt_registry.proofs.holdings.hold.Goals as goal
 

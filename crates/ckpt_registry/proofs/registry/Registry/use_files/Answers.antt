@@ -9,7 +9,7 @@ use Rattle.ckpt_registry.specs.Holdings.{uses_in}
 use Rattle.ckpt_registry.specs.Sound.{in_use}
 use Rattle.ckpt_registry.specs.Uses.{HasNoUse, triples}
 use Rattle.ckpt_registry.proofs.CounterLemmas.{counter-unchanged}
-use Rattle.ckpt_registry.proofs.ListLemmas.{count_by-append}
+use Rattle.ckpt_ids.proofs.CountLemmas.{count_by-append}
 use Rattle.ckpt_registry.proofs.RegistryLemmas.{counter-in_use, IsSound-acknowledged, in_use-added, stored-acknowledged}
 use Rattle.ckpt_registry.proofs.registry.Registry.use_files.Goals as goal
 
