@@ -1,25 +1,24 @@
 -- What an acknowledgement does that comes after its record has ended.
-use Rattle.std.proofs.Common.{◌≡◌, ℕ, ◌+◌, ◌≤◌, ◌<◌, ◌^◌, max, Bool, true, false, not, ◌||◌, eqb, ltb, List, [], ◌∷◌, ◌++◌, length, refl, sym, ap, subst, ◌∙◌, arith, Option, Some, None}
+use Rattle.std.proofs.Common.{◌≡◌, ℕ, ◌≤◌, ◌<◌, max, true, false, not, ◌||◌, List, ◌++◌, length, sym, ap, subst, ◌∙◌, arith, Option, None}
 use Rattle.std.specs.Prelude.{count_by, OnErr, Result, Ok, Err}
-use Rattle.std.specs.List.{filter, list_any}
+use Rattle.std.specs.List.{filter}
 use Rattle.std.proofs.lemmas.Bool.{not-true, or_parts, lt-ltb}
 use Rattle.std.proofs.lemmas.List.Sums.{length-filter}
 use Rattle.ckpt_ids.specs.declared.call.Call.TheVariants.{Ack}
 use Rattle.ckpt_ids.specs.declared.reply.Answer.TheVariants.{Done}
 use Rattle.ckpt_ids.specs.declared.reply.Reply.TheVariants as reply
 use Rattle.ckpt_ids.specs.declared.subtask.SubtaskId.{SubtaskId}
-use Rattle.ckpt_ids.specs.Records.{Record, uses, is_present}
+use Rattle.ckpt_ids.specs.Records.{Record, is_present}
 use Rattle.ckpt_ids.proofs.OrderedLemmas.{IsIn-from_filter}
 use Rattle.ckpt_outbox.specs.Queues as queues
 use Rattle.ckpt_rules.specs.Moments.{Moments}
 use Rattle.ckpt_core.specs.declared.parts.Parts.{Parts}
 use Rattle.ckpt_core.specs.Memory.{may_want_memory, answer_wants}
-use Rattle.ckpt_core.specs.Parts.{Answers, AreSound, AreTied, IsAccepted, is_known_in, present_in, records_in, state_of}
-use Rattle.ckpt_core.specs.Refusals.{refusal, moment_of, pending_of}
+use Rattle.ckpt_core.specs.Parts.{Answers, AreSound, AreTied, IsAccepted, is_known_in, present_in, state_of}
+use Rattle.ckpt_core.specs.Refusals.{refusal, pending_of}
 use Rattle.ckpt_core.specs.State.{State, is_known}
-use Rattle.ckpt_core.specs.Steps.{Stepped, ack, at_moment, effect, step, unless_refused}
+use Rattle.ckpt_core.specs.Steps.{Stepped, ack, effect, step, unless_refused}
 use Rattle.ckpt_core.proofs.Accepted.{IsAcceptedAck, accepted_ack}
-use Rattle.ckpt_core.proofs.CountLemmas.{map_same}
 use Rattle.ckpt_core.proofs.GroupMoves.{filter_same}
 use Rattle.ckpt_core.proofs.HandOut.{distinct_by_test}
 use Rattle.ckpt_core.proofs.Released.{distinct-filter, distinct_left, distinct-from_test, IsIn-from_test}

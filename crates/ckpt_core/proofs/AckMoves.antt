@@ -1,25 +1,22 @@
 -- What an acknowledgement and a completion do to the records in rising number, and to their uses.
-use Rattle.std.proofs.Common.{◌≡◌, ℕ, ◌+◌, ◌<◌, ◌≤◌, Bool, true, false, not, ◌&&◌, ◌||◌, cond, ltb, eqb, List, [], ◌∷◌, ◌++◌, map, refl, sym, ap, subst, ◌∙◌, ◌⊎◌, inl, inr, ⊎_elim, arith, append_assoc}
-use Rattle.std.specs.List.{filter, flat_map, list_any}
-use Rattle.std.proofs.lemmas.List.{append-nil, map-append}
-use Rattle.std.proofs.lemmas.List.Elements.{filter-append}
-use Rattle.std.proofs.lemmas.Bool.{cases_Bool, both_ways, lt-ltb, ltb-true, eqb-true, eqb-false, eq-eqb, ne_eqb, and_parts, and_from, and_left, and_right, not-true, not-false, not_from_false, not_from_true}
+use Rattle.std.proofs.Common.{◌≡◌, ℕ, Bool, true, false, cond, eqb, List, ◌++◌, map, refl, sym, ap, subst, ◌∙◌, ◌⊎◌, inl, inr, ⊎_elim}
+use Rattle.std.specs.List.{filter, flat_map}
+use Rattle.std.proofs.lemmas.List.{map-append}
+use Rattle.std.proofs.lemmas.Bool.{cases_Bool, both_ways, eqb-true, eqb-false, eq-eqb, ne_eqb, and_parts}
 use Rattle.ckpt_ids.specs.declared.ack.Acked.{Acked}
 use Rattle.ckpt_ids.specs.declared.subtask.SubtaskId.{SubtaskId}
 use Rattle.ckpt_ids.specs.Acknowledged.{put_ack, acknowledges_before}
-use Rattle.ckpt_ids.specs.Ascending.{IsAscendingSet, ascending}
-use Rattle.ckpt_ids.specs.Ordered.{IsIn, ComesBefore, IsInOrder, in_order, in_order_once, put}
+use Rattle.ckpt_ids.specs.Ordered.{IsIn, IsInOrder, in_order, in_order_once}
 use Rattle.ckpt_ids.specs.Records.{Record, Use, Holder, Subtask, Pin, use_before, uses, uses_of}
-use Rattle.ckpt_ids.proofs.OrderedLemmas.{IsIn-append_cases, IsIn-append_left, IsIn-append_right, IsIn-map, IsIn-from_map, IsIn-flat_map, IsIn-from_flat_map, IsIn-filter, IsIn-from_filter, IsInOrder-filter, IsInOrder-in_order_once, IsIn-in_order_once, IsIn-from_in_order_once, IsIn-in_order, IsIn-from_in_order, IsIn-put, IsIn-put_itself, IsIn-put_cases, same_from_members}
+use Rattle.ckpt_ids.proofs.OrderedLemmas.{IsIn-append_cases, IsIn-append_left, IsIn-append_right, IsIn-map, IsIn-from_map, IsIn-flat_map, IsIn-from_flat_map, IsIn-filter, IsIn-from_filter, IsInOrder-filter, IsInOrder-in_order_once, IsIn-in_order_once, IsIn-from_in_order_once, IsIn-put, IsIn-put_itself, IsIn-put_cases, same_from_members}
 use Rattle.ckpt_ids.proofs.OrderLemmas.{uses_in_order}
 use Rattle.ckpt_core.specs.Soundness.{id_before}
-use Rattle.ckpt_core.specs.State.{unpinned, kept}
 use Rattle.ckpt_core.specs.Steps.{acknowledged, replaced}
 use Rattle.ckpt_core.specs.Grouped.{is_pin, pins, pins_of, with_pins, grouped, records_of}
 use Rattle.ckpt_core.proofs.CountLemmas.{map_same, map_itself}
-use Rattle.ckpt_core.proofs.GroupedLemmas.{AreApart, IsNew, in_order-filter, in_order-map, in_order_same, apart-filter, apart-map, apart-append, apart_left, apart_right, apart_between}
-use Rattle.ckpt_core.proofs.GroupMoves.{filter_implied, filter_same, filter_all, filter-map, map-map, filter-filter, with_pins_kept, pins_kept}
-use Rattle.ckpt_core.proofs.UsesOrder.{holds, from_holds, use_of_record}
+use Rattle.ckpt_core.proofs.GroupedLemmas.{in_order-map}
+use Rattle.ckpt_core.proofs.GroupMoves.{map-map}
+use Rattle.ckpt_core.proofs.UsesOrder.{holds, from_holds}
 
 -- uses of a subtask more leave the pins
 

@@ -1,12 +1,10 @@
 -- What an accepted acknowledgement of a pending record makes of the parts.
-use Rattle.std.proofs.Common.{◌≡◌, ℕ, zero, suc, ◌+◌, ◌-◌, ◌≤◌, ◌<◌, ◌^◌, max, Bool, true, false, not, cond, ltb, eqb, List, [], ◌∷◌, ◌++◌, map, length, refl, sym, ap, subst, ◌∙◌, ◌⊎◌, inl, inr, ⊎_elim, arith, Option, Some, None}
+use Rattle.std.proofs.Common.{◌≡◌, ℕ, ◌+◌, ◌-◌, ◌≤◌, ◌<◌, max, Bool, true, false, cond, ltb, eqb, List, ◌++◌, map, length, refl, sym, ap, subst, ◌∙◌, ⊎_elim, arith, Some, None}
 use Rattle.std.specs.Prelude.{find}
 use Rattle.std.specs.Option.{option_map}
-use Rattle.std.specs.List.{filter}
 use Rattle.std.specs.Vec.{vec_capacity}
-use Rattle.std.proofs.lemmas.Bool.{cases_Bool, both_ways, eqb-true, eqb-false, ne_eqb, eq-eqb}
+use Rattle.std.proofs.lemmas.Bool.{cases_Bool, both_ways, eqb-true, ne_eqb, eq-eqb}
 use Rattle.std.proofs.lemmas.List.{length-map}
-use Rattle.ckpt_ids.specs.declared.ack.Acked.{Acked}
 use Rattle.ckpt_ids.specs.declared.call.Call.{Call}
 use Rattle.ckpt_ids.specs.declared.call.Call.TheVariants.{Ack}
 use Rattle.ckpt_ids.specs.declared.reply.Answer.TheVariants.{Done}
@@ -15,7 +13,7 @@ use Rattle.ckpt_ids.specs.declared.subtask.SubtaskId.{SubtaskId}
 use Rattle.ckpt_ids.specs.Ascending.{ascending}
 use Rattle.ckpt_ids.specs.Ordered.{IsIn, IsInOrder, in_order_once}
 use Rattle.ckpt_ids.specs.Records.{Record, Use, Subtask, is_present, missing, use_before, uses, uses_of}
-use Rattle.ckpt_ids.proofs.OrderedLemmas.{IsIn-append_cases, IsIn-append_left, IsIn-append_right, IsIn-map, IsIn-from_map, IsIn-in_order, IsIn-from_in_order, IsInOrder-map, IsIn-in_order_once, IsIn-from_in_order_once}
+use Rattle.ckpt_ids.proofs.OrderedLemmas.{IsIn-append_cases, IsIn-append_left, IsIn-map, IsIn-in_order, IsIn-from_in_order, IsInOrder-map, IsIn-in_order_once, IsIn-from_in_order_once}
 use Rattle.ckpt_ids.proofs.OrderLemmas.{uses_in_order}
 use Rattle.ckpt_pending.specs.Acknowledging.{IsPending}
 use Rattle.ckpt_pending.proofs.PendingLemmas.{missing-with_ack}
@@ -23,22 +21,22 @@ use Rattle.ckpt_registry.specs.Uses.{triples}
 use Rattle.ckpt_store.specs.Storing.{IsStored}
 use Rattle.ckpt_core.specs.declared.parts.Parts.{Parts}
 use Rattle.ckpt_core.specs.Completing.{IsMissing}
-use Rattle.ckpt_core.specs.Grouped.{is_pin, with_pins, grouped, records_of}
+use Rattle.ckpt_core.specs.Grouped.{with_pins, grouped, records_of}
 use Rattle.ckpt_core.specs.Memory.{may_want_memory, answer_wants}
 use Rattle.ckpt_core.specs.Parts.{Answers, AreSound, AreTied, IsAccepted, Stays, present_in, records_in, state_of}
 use Rattle.ckpt_core.specs.PendingRecords.{acked}
 use Rattle.ckpt_core.specs.Refusals.{pending_of, refusal}
-use Rattle.ckpt_core.specs.Soundness.{IsSound, IsRecord, id_before}
+use Rattle.ckpt_core.specs.Soundness.{IsSound, id_before}
 use Rattle.ckpt_core.specs.State.{State}
 use Rattle.ckpt_core.specs.Steps.{Stepped, ack, acknowledged, acknowledged_in, completed_with, replaced, step, with_records}
-use Rattle.ckpt_core.proofs.Accepted.{IsAcceptedAck, accepted_ack}
+use Rattle.ckpt_core.proofs.Accepted.{accepted_ack}
 use Rattle.ckpt_core.proofs.AckLate.{ack_step}
 use Rattle.ckpt_core.proofs.AckMoves.{ack_groups, ack_uses, no_pin-holds, with_instead, id-with_instead, replaced_members}
 use Rattle.ckpt_core.proofs.AckRecords.{IsAcknowledged}
 use Rattle.ckpt_core.proofs.AckTakes.{found_pending, found_record}
 use Rattle.ckpt_core.proofs.AckUses.{present_more}
 use Rattle.ckpt_core.proofs.CountLemmas.{IsIn-from_find, map_same}
-use Rattle.ckpt_core.proofs.DropMoves.{apart_in, groups_of}
+use Rattle.ckpt_core.proofs.DropMoves.{apart_in}
 use Rattle.ckpt_core.proofs.GroupedLemmas.{apart_between}
 use Rattle.ckpt_core.proofs.HandOut.{present-from_use}
 use Rattle.ckpt_core.proofs.Lookups.{has_number}
@@ -46,7 +44,7 @@ use Rattle.ckpt_core.proofs.PendingRecordLemmas.{find-from_IsIn}
 use Rattle.ckpt_core.proofs.Replacing.{same_record}
 use Rattle.ckpt_core.proofs.SoundAcks.{IsAcking, with_ack, with_ack_is}
 use Rattle.ckpt_core.proofs.SoundCalls.{acking}
-use Rattle.ckpt_core.proofs.UsesOrder.{holds, from_holds, all_uses_in_order, record_in_order, record_uses_in_order, uses-in_order}
+use Rattle.ckpt_core.proofs.UsesOrder.{from_holds, all_uses_in_order, record_in_order, record_uses_in_order, uses-in_order}
 
 -- the parts with other room
 

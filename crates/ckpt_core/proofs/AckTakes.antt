@@ -1,16 +1,15 @@
 -- What an accepted acknowledgement of a pending record may rely on.
-use Rattle.std.proofs.Common.{◌≡◌, ℕ, zero, suc, ◌+◌, ◌-◌, ◌*◌, ◌^◌, ◌<◌, ◌≤◌, Bool, true, false, not, ◌&&◌, cond, ltb, eqb, List, [], ◌∷◌, ◌++◌, map, length, refl, sym, ap, subst, ◌∙◌, ◌⊎◌, inl, inr, ⊎_elim, arith, Option, Some, None}
-use Rattle.std.specs.Prelude.{count_by, find}
+use Rattle.std.proofs.Common.{◌≡◌, ℕ, ◌+◌, ◌-◌, ◌*◌, ◌^◌, ◌<◌, ◌≤◌, Bool, true, false, cond, eqb, List, ◌++◌, length, refl, sym, ap, subst, ◌∙◌, ⊎_elim, arith, Option, Some, None}
+use Rattle.std.specs.Prelude.{find}
 use Rattle.std.specs.Option.{option_map, IsSome}
-use Rattle.std.specs.List.{list_any, flat_map}
-use Rattle.std.proofs.lemmas.Bool.{cases_Bool, both_ways, eqb-true, eq-eqb, or_parts}
+use Rattle.std.specs.List.{flat_map}
+use Rattle.std.proofs.lemmas.Bool.{cases_Bool, eqb-true, or_parts}
 use Rattle.ckpt_ids.specs.declared.ack.Acked.{Acked}
 use Rattle.ckpt_ids.specs.declared.call.Call.TheVariants.{Ack}
 use Rattle.ckpt_ids.specs.declared.subtask.SubtaskId.{SubtaskId}
 use Rattle.ckpt_ids.specs.Acknowledged.{put_ack, acknowledges_before}
-use Rattle.ckpt_ids.specs.Ascending.{ascending}
-use Rattle.ckpt_ids.specs.Ordered.{IsIn, IsInOrder}
-use Rattle.ckpt_ids.specs.Records.{Record, Use, Holder, Subtask, Pin, count, is_present, uses, uses_of, has_acknowledged, same_holder}
+use Rattle.ckpt_ids.specs.Ordered.{IsIn}
+use Rattle.ckpt_ids.specs.Records.{Record, Use, Subtask, Pin, count, is_present, uses, uses_of, has_acknowledged}
 use Rattle.ckpt_ids.specs.Shapes.{is_subtask, same_subtask}
 use Rattle.ckpt_ids.proofs.OrderedLemmas.{IsIn-append_cases, IsIn-from_flat_map, IsIn-put_itself, list_any-from_IsIn}
 use Rattle.ckpt_pending.proofs.SubtaskLemmas.{same_subtask-itself}
@@ -18,12 +17,12 @@ use Rattle.ckpt_pending.specs.Acknowledging.{IsPending}
 use Rattle.ckpt_registry.specs.Uses.{IsEachOnce, HasNoUse}
 use Rattle.ckpt_store.specs.Storing.{IsStored}
 use Rattle.ckpt_core.specs.declared.parts.Parts.{Parts}
-use Rattle.ckpt_core.specs.Grouped.{with_pins, is_pin}
+use Rattle.ckpt_core.specs.Grouped.{with_pins}
 use Rattle.ckpt_core.specs.Parts.{AreSound, IsAccepted, records_in, state_of}
 use Rattle.ckpt_core.specs.PendingRecords.{acked}
 use Rattle.ckpt_core.specs.Refusals.{pending_of}
-use Rattle.ckpt_core.specs.Soundness.{AreDistinct, IsSound, IsRecord, id_before}
-use Rattle.ckpt_core.specs.State.{is_known, in_outbox}
+use Rattle.ckpt_core.specs.Soundness.{IsSound}
+use Rattle.ckpt_core.specs.State.{in_outbox}
 use Rattle.ckpt_core.specs.Steps.{acknowledged}
 use Rattle.ckpt_core.proofs.Accepted.{IsAcceptedAck, accepted_ack}
 use Rattle.ckpt_core.proofs.AckCounts.{each_once, count_bound}

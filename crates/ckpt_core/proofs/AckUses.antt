@@ -1,23 +1,17 @@
 -- The uses of records of which one has an acknowledgement more stand in order, and how many files they name.
-use Rattle.std.proofs.Common.{◌≡◌, ℕ, zero, suc, ◌+◌, ◌<◌, ◌≤◌, Bool, true, false, not, ◌||◌, ◌&&◌, cond, ltb, eqb, List, [], ◌∷◌, ◌++◌, map, length, refl, sym, ap, subst, ◌∙◌, ◌⊎◌, inl, inr, ⊎_elim, arith}
-use Rattle.std.specs.List.{filter, flat_map}
-use Rattle.std.proofs.lemmas.Bool.{cases_Bool, both_ways, lt-ltb, ltb-true, eqb-true, eq-eqb, not-true, not_from_false, or_left, or_right, and_from, and_parts}
+use Rattle.std.proofs.Common.{◌≡◌, ℕ, suc, ◌+◌, ◌≤◌, Bool, true, false, not, ◌&&◌, cond, ltb, eqb, List, [], ◌∷◌, map, length, refl, sym, ap, subst, ◌∙◌, ⊎_elim, arith}
+use Rattle.std.specs.List.{filter}
+use Rattle.std.proofs.lemmas.Bool.{cases_Bool, ltb-true, eqb-true, not-true, and_from, and_parts}
 use Rattle.std.proofs.lemmas.List.Sums.{length-filter, count_by-le-length}
 use Rattle.std.proofs.lemmas.List.Filters.{length-filter_both}
-use Rattle.ckpt_ids.specs.declared.ack.Acked.{Acked}
-use Rattle.ckpt_ids.specs.declared.subtask.SubtaskId.{SubtaskId}
-use Rattle.ckpt_ids.specs.Acknowledged.{acknowledges_before, AreInSubtaskOrder}
-use Rattle.ckpt_ids.specs.Ascending.{IsAscendingSet, ascending_set}
-use Rattle.ckpt_ids.specs.Ordered.{IsIn, IsInOrder, in_order_once, put_once}
-use Rattle.ckpt_ids.specs.Records.{Record, Use, Holder, Subtask, Pin, count, is_present, use_before, holder_before, same_holder, uses, uses_of}
+use Rattle.ckpt_ids.specs.Ascending.{ascending_set}
+use Rattle.ckpt_ids.specs.Ordered.{IsIn, put_once}
+use Rattle.ckpt_ids.specs.Records.{Use, count, is_present}
 use Rattle.ckpt_ids.proofs.AscendingLemmas.{numbers_in_order}
-use Rattle.ckpt_ids.proofs.OrderedLemmas.{IsIn-append_cases, IsIn-append_left, IsIn-append_right, IsIn-map, IsIn-from_map, IsIn-from_flat_map, IsIn-filter, IsIn-from_filter, IsInOrder-append, IsInOrder-filter, IsInOrder-in_order_once, IsIn-in_order_once, IsIn-from_in_order_once, ComesBefore-at, same_from_members}
-use Rattle.ckpt_ids.proofs.OrderLemmas.{uses_in_order}
+use Rattle.ckpt_ids.proofs.OrderedLemmas.{IsIn-map, IsIn-from_map, IsIn-filter, IsIn-from_filter, IsInOrder-filter, IsInOrder-in_order_once, IsIn-in_order_once, IsIn-from_in_order_once, same_from_members}
 use Rattle.ckpt_core.specs.Parts.{present_in}
-use Rattle.ckpt_core.specs.Soundness.{id_before}
 use Rattle.ckpt_core.proofs.CountLemmas.{IsIn-from_counted}
 use Rattle.ckpt_core.proofs.HandOut.{present-from_use}
-use Rattle.ckpt_core.proofs.UsesOrder.{holds, from_holds, holds_in_order, earlier_record, use_of_record}
 
 -- how many files are in use after an acknowledgement
 

@@ -1,13 +1,13 @@
 -- What a completed checkpoint supersedes, as the step has it, is what was noted.
-use Rattle.std.proofs.Common.{◌≡◌, ℕ, zero, suc, ◌+◌, ◌-◌, ◌<◌, ◌≤◌, ◌^◌, max, Bool, true, false, not, ◌&&◌, ◌||◌, cond, ltb, leb, eqb, List, [], ◌∷◌, ◌++◌, map, length, refl, sym, ap, subst, ◌∙◌, ◌⊎◌, inl, inr, ⊎_elim, arith, Option, Some, None}
+use Rattle.std.proofs.Common.{◌≡◌, ℕ, ◌+◌, ◌≤◌, Bool, true, false, not, ◌&&◌, ◌||◌, ltb, leb, eqb, List, [], ◌∷◌, ◌++◌, map, length, refl, sym, ap, subst, ◌∙◌, inl, ⊎_elim, arith}
 use Rattle.std.specs.Prelude.{count_by}
-use Rattle.std.specs.List.{filter, list_any}
-use Rattle.std.proofs.lemmas.Bool.{cases_Bool, lt-ltb, and_from, and_left, and_right, not_from_true, not_from_false}
+use Rattle.std.specs.List.{filter}
+use Rattle.std.proofs.lemmas.Bool.{lt-ltb, and_from, and_left, and_right, not_from_false}
 use Rattle.std.proofs.lemmas.List.{length-append, length-map}
 use Rattle.std.proofs.lemmas.List.Sums.{length-filter}
 use Rattle.ckpt_ids.specs.declared.numbers.Kind.TheVariants as kind
 use Rattle.ckpt_ids.specs.declared.subtask.SubtaskId.{SubtaskId}
-use Rattle.ckpt_ids.specs.Ordered.{IsIn, IsInOrder}
+use Rattle.ckpt_ids.specs.Ordered.{IsIn}
 use Rattle.ckpt_ids.specs.Records.{Record}
 use Rattle.ckpt_ids.proofs.OrderedLemmas.{IsIn-append_cases, IsIn-append_left, IsIn-append_right, IsIn-map, IsIn-from_map, IsIn-from_filter, IsIn-in_order, IsIn-from_in_order, IsInOrder-append}
 use Rattle.ckpt_store.specs.Storing.{AreRising, IsAbove}
@@ -15,18 +15,18 @@ use Rattle.ckpt_core.specs.declared.parts.Parts.{Parts}
 use Rattle.ckpt_core.specs.Completing as completing
 use Rattle.ckpt_core.specs.Completing.{is_before, earlier, surplus}
 use Rattle.ckpt_core.specs.Grouped.{with_pins, grouped}
-use Rattle.ckpt_core.specs.Parts.{AreSound, is_noted, records_in, state_of}
-use Rattle.ckpt_core.specs.Soundness.{IsSound, id_before}
+use Rattle.ckpt_core.specs.Parts.{is_noted, records_in, state_of}
+use Rattle.ckpt_core.specs.Soundness.{id_before}
 use Rattle.ckpt_core.specs.State.{State, is_checkpoint, is_done_checkpoint, is_pending, is_subsumed, is_surplus}
 use Rattle.ckpt_core.specs.Steps.{dropped_by, replaced, superseded, with_records}
 use Rattle.ckpt_core.proofs.AckMoves.{replaced_members, still_in_replaced}
 use Rattle.ckpt_core.proofs.AckStates.{IsTaking, moved, taken_in, taken_records}
 use Rattle.ckpt_core.proofs.CompleteLists.{IsFinishing, is_past, later_in, noted_pending, noted_row, noted_savepoint, or_false, others, past_count, past_is_surplus}
-use Rattle.ckpt_core.proofs.CompleteMoves.{IsCompleting, count_completed}
+use Rattle.ckpt_core.proofs.CompleteMoves.{count_completed}
 use Rattle.ckpt_core.proofs.CompleteTaken.{acked_record, done_record, pinned_acked, pinned_done, taken_there, taken_apart, taken_groups, checkpoint_ending, ending_completes}
 use Rattle.ckpt_core.proofs.CountLemmas.{IsIn-from_find}
 use Rattle.ckpt_core.proofs.GroupLookups.{is_checkpoint-kind, is_savepoint-kind}
-use Rattle.ckpt_core.proofs.Lookups.{AreGroups, count_all, count_none, count_same, has_number}
+use Rattle.ckpt_core.proofs.Lookups.{AreGroups, count_none, count_same, has_number}
 
 -- the tests of the step on one record
 

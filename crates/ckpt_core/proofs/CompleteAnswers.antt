@@ -1,7 +1,5 @@
 -- A completion is answered as the step has it.
-use Rattle.std.proofs.Common.{◌≡◌, ℕ, zero, suc, ◌+◌, ◌-◌, ◌<◌, ◌≤◌, max, Bool, true, false, not, ◌&&◌, ◌||◌, cond, ltb, eqb, List, [], ◌∷◌, ◌++◌, map, length, refl, sym, ap, subst, ◌∙◌, ◌⊎◌, inl, inr, ⊎_elim, arith, Option, Some, None}
-use Rattle.std.specs.Prelude.{count_by}
-use Rattle.std.specs.List.{filter}
+use Rattle.std.proofs.Common.{◌≡◌, ℕ, ◌+◌, ◌-◌, ◌≤◌, Bool, true, false, not, ◌&&◌, ◌||◌, cond, List, [], ◌++◌, length, refl, sym, ap, subst, ◌∙◌, arith, Some, None}
 use Rattle.std.specs.Vec.{vec_capacity}
 use Rattle.std.proofs.lemmas.List.{length-map}
 use Rattle.std.proofs.lemmas.List.Sums.{length-filter, count_by-le-length}
@@ -20,14 +18,14 @@ use Rattle.ckpt_core.specs.declared.parts.Parts.{Parts}
 use Rattle.ckpt_core.specs.Completing as completing
 use Rattle.ckpt_core.specs.Grouped.{records_of}
 use Rattle.ckpt_core.specs.Parts.{Answers, AreTied, is_noted, present_in, records_in, state_of}
-use Rattle.ckpt_core.specs.State.{State, is_checkpoint, is_subsumed, is_surplus, kept, released_by}
-use Rattle.ckpt_core.specs.Steps.{Stepped, cleared, completed_with, dropped_by, replaced, step, superseded}
+use Rattle.ckpt_core.specs.State.{State, is_checkpoint, is_subsumed, is_surplus}
+use Rattle.ckpt_core.specs.Steps.{cleared, dropped_by, replaced, step, superseded}
 use Rattle.ckpt_core.proofs.AckMoves.{with_instead}
 use Rattle.ckpt_core.proofs.AckStates.{IsRoomier, IsTaking, moved, now_complete, one_less, roomier_state, taken_in, taken_step, taken_tied}
 use Rattle.ckpt_core.proofs.CompleteAgrees.{completing_in, finishing, gone_by, row_of, row_rises, superseded_is, superseded_count}
 use Rattle.ckpt_core.proofs.CompleteCalls.{IsLast, taken_out}
 use Rattle.ckpt_core.proofs.CompleteLists.{IsFinishing, is_past, noted_row, noted_savepoint, others, retained_is}
-use Rattle.ckpt_core.proofs.CompleteMoves.{IsCompleting, IsEnding, completed_is, kept_records, left_groups, left_records, left_uses, released_files}
+use Rattle.ckpt_core.proofs.CompleteMoves.{IsEnding, completed_is, kept_records, left_groups, left_records, left_uses, released_files}
 use Rattle.ckpt_core.proofs.CompleteParts.{checkpoint_completed}
 use Rattle.ckpt_core.proofs.CompleteTaken.{acked_record, done_record, pinned_acked, pinned_done, checkpoint_ending, ending_completes, savepoint_ending}
 use Rattle.ckpt_core.proofs.DropMoves.{present_after, stays, staying}

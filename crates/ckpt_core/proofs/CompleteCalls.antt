@@ -1,7 +1,6 @@
 -- What the completion of a record may rely on.
-use Rattle.std.proofs.Common.{◌≡◌, ℕ, zero, suc, ◌+◌, ◌-◌, ◌<◌, ◌≤◌, ◌^◌, max, Bool, true, false, not, ◌||◌, cond, ltb, eqb, List, [], ◌∷◌, ◌++◌, map, length, refl, sym, ap, subst, ◌∙◌, ◌⊎◌, inl, inr, ⊎_elim, arith, Option, Some, None}
+use Rattle.std.proofs.Common.{◌≡◌, ℕ, ◌+◌, ◌<◌, ◌≤◌, ◌^◌, max, Bool, true, false, not, eqb, List, [], ◌++◌, length, refl, sym, ap, subst, ◌∙◌, ⊎_elim, arith, Some}
 use Rattle.std.specs.Prelude.{find}
-use Rattle.std.specs.List.{filter, list_any}
 use Rattle.std.specs.Vec.{vec_capacity}
 use Rattle.std.proofs.lemmas.Bool.{eqb-true, eq-eqb, ltb-true, or_parts, not_from_true}
 use Rattle.std.proofs.lemmas.List.{length-map}
@@ -24,7 +23,7 @@ use Rattle.ckpt_core.specs.Parts.{AreSound, AreTied, IsAccepted, present_in, rec
 use Rattle.ckpt_core.specs.Soundness.{id_before}
 use Rattle.ckpt_core.specs.State.{in_outbox}
 use Rattle.ckpt_core.proofs.AckMoves.{with_instead}
-use Rattle.ckpt_core.proofs.AckStates.{IsRoomier, IsTaking, its_number, room_made, taking_from, one_less, taken_in, taken_present, taken_records, taken_tied, taking}
+use Rattle.ckpt_core.proofs.AckStates.{IsRoomier, IsTaking, its_number, room_made, taking_from, one_less, taken_in, taken_records, taken_tied, taking}
 use Rattle.ckpt_core.proofs.AckTakes.{found_acked}
 use Rattle.ckpt_core.proofs.CompleteAgrees.{its_above}
 use Rattle.ckpt_core.proofs.CompleteLists.{fewer, others}

@@ -1,15 +1,14 @@
 -- Which numbers the completion of a checkpoint notes: those of the pending checkpoints before it, and that of the first
 -- completed one where there are now too many.
-use Rattle.std.proofs.Common.{◌≡◌, ℕ, zero, suc, ◌+◌, ◌-◌, ◌<◌, ◌≤◌, Bool, true, false, not, ◌&&◌, ◌||◌, cond, ltb, leb, eqb, List, [], ◌∷◌, ◌++◌, map, length, drop, refl, sym, ap, subst, ◌∙◌, ◌⊎◌, inl, inr, ⊎_elim, arith, Option, Some, None}
+use Rattle.std.proofs.Common.{◌≡◌, ℕ, ◌+◌, ◌<◌, ◌≤◌, Bool, true, false, not, ◌||◌, cond, ltb, leb, eqb, List, [], ◌∷◌, ◌++◌, map, length, drop, refl, sym, ap, ◌∙◌, inl, inr, ⊎_elim, arith, Some, None}
 use Rattle.std.specs.Prelude.{count_by}
-use Rattle.std.specs.List.{filter, list_any}
-use Rattle.std.proofs.lemmas.Bool.{cases_Bool, both_ways, ltb-true, lt-ltb, le-ltb, ltb-false, lt-leb, le-leb, eqb-true, eqb-false, eq-eqb, ne_eqb, and_parts, and_from, and_left, and_right, or_left, or_right, or_from, or_cases, not_from_true, not_from_false}
-use Rattle.std.proofs.lemmas.List.{length-append}
+use Rattle.std.specs.List.{filter}
+use Rattle.std.proofs.lemmas.Bool.{cases_Bool, both_ways, ltb-true, lt-ltb, le-ltb, ltb-false, lt-leb, le-leb, eqb-true, eq-eqb, ne_eqb, and_parts, or_left, not_from_false}
 use Rattle.std.proofs.lemmas.List.Folds.{list_any-append}
 use Rattle.std.proofs.lemmas.List.Sums.{count_by-le-length}
-use Rattle.ckpt_ids.specs.Ordered.{IsIn, IsInOrder, ComesBefore}
+use Rattle.ckpt_ids.specs.Ordered.{IsIn, ComesBefore}
 use Rattle.ckpt_ids.specs.Records.{Record, Use}
-use Rattle.ckpt_ids.proofs.OrderedLemmas.{IsIn-append_cases, IsIn-append_left, IsIn-append_right, IsIn-map, IsIn-from_map, IsIn-filter, IsIn-from_filter, IsInOrder-append, ComesBefore-at, list_any-from_IsIn, IsIn-from_list_any}
+use Rattle.ckpt_ids.proofs.OrderedLemmas.{IsIn-append_cases, IsIn-append_left, IsIn-append_right, IsIn-map, IsIn-filter, IsIn-from_filter, ComesBefore-at}
 use Rattle.ckpt_store.specs.Storing.{Stored, AreRising, IsAbove, lowest, past_retained, retained_of}
 use Rattle.ckpt_core.specs.Completing.{number_in, surplus, earlier, superseded, is_before}
 use Rattle.ckpt_core.specs.Grouped.{with_pins, grouped}

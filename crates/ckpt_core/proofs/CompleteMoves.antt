@@ -1,11 +1,11 @@
 -- What a completion makes of the records, of their uses, and of how many there are.
-use Rattle.std.proofs.Common.{◌≡◌, ℕ, zero, suc, ◌+◌, ◌-◌, ◌<◌, ◌≤◌, Bool, true, false, not, ◌&&◌, ◌||◌, cond, ltb, leb, eqb, List, [], ◌∷◌, ◌++◌, map, length, refl, sym, ap, subst, ◌∙◌, ◌⊎◌, inl, inr, ⊎_elim, arith, Option, Some, None}
+use Rattle.std.proofs.Common.{◌≡◌, ℕ, ◌+◌, Bool, true, false, not, ◌&&◌, ◌||◌, cond, eqb, List, [], ◌∷◌, ◌++◌, map, length, refl, sym, ap, subst, ◌∙◌, ◌⊎◌, ⊎_elim, Some}
 use Rattle.std.specs.Prelude.{count_by}
-use Rattle.std.specs.List.{filter, list_any, flat_map}
-use Rattle.std.proofs.lemmas.Bool.{cases_Bool, both_ways}
+use Rattle.std.specs.List.{filter}
+use Rattle.std.proofs.lemmas.Bool.{cases_Bool}
 use Rattle.ckpt_ids.specs.declared.reply.Answer.TheVariants.{Done}
 use Rattle.ckpt_ids.specs.declared.reply.Reply.TheVariants as reply
-use Rattle.ckpt_ids.specs.Ordered.{IsIn, IsInOrder}
+use Rattle.ckpt_ids.specs.Ordered.{IsIn}
 use Rattle.ckpt_ids.specs.Records.{Record, Use, released, uses, uses_of}
 use Rattle.ckpt_ids.proofs.OrderedLemmas.{IsIn-append_left, IsIn-map, IsIn-from_in_order}
 use Rattle.ckpt_registry.specs.Uses.{after_end, is_ended, is_owned}
@@ -13,8 +13,8 @@ use Rattle.ckpt_core.specs.Grouped.{pins, with_pins, grouped, records_of}
 use Rattle.ckpt_core.specs.Parts.{is_noted}
 use Rattle.ckpt_core.specs.Soundness.{id_before}
 use Rattle.ckpt_core.specs.State.{State, drop, kept, released_by, unpinned}
-use Rattle.ckpt_core.specs.Steps.{Stepped, cleared, completed_with, dropped_by, replaced, superseded}
-use Rattle.ckpt_core.proofs.AckMoves.{with_instead, id-with_instead}
+use Rattle.ckpt_core.specs.Steps.{cleared, completed_with, dropped_by, replaced, superseded}
+use Rattle.ckpt_core.proofs.AckMoves.{with_instead}
 use Rattle.ckpt_core.proofs.CompleteLists.{others}
 use Rattle.ckpt_ids.proofs.CountLemmas.{count_by-map}
 use Rattle.ckpt_core.proofs.CountLemmas.{filter_itself}

@@ -1,43 +1,26 @@
 -- A pending record that was given its last acknowledgement completes.
-use Rattle.std.proofs.Common.{◌≡◌, ℕ, zero, suc, ◌+◌, ◌-◌, ◌<◌, ◌≤◌, ◌^◌, max, Bool, true, false, not, ◌&&◌, ◌||◌, cond, ltb, leb, eqb, List, [], ◌∷◌, ◌++◌, map, length, refl, sym, ap, subst, ◌∙◌, ◌⊎◌, inl, inr, ⊎_elim, arith, Option, Some, None}
-use Rattle.std.specs.Prelude.{count_by, find}
-use Rattle.std.specs.List.{filter, list_any}
-use Rattle.std.specs.Vec.{vec_capacity}
-use Rattle.std.proofs.lemmas.Bool.{cases_Bool, both_ways, and_from, and_left, and_right, or_parts, eqb-true, eq-eqb, not_from_true, not_from_false}
-use Rattle.std.proofs.lemmas.List.{length-append}
-use Rattle.std.proofs.lemmas.List.Sums.{length-filter, count_by-le-length}
-use Rattle.ckpt_ids.specs.declared.ack.Acked.{Acked}
-use Rattle.ckpt_ids.specs.declared.numbers.Kind.TheVariants as kind
+use Rattle.std.proofs.Common.{◌≡◌, ℕ, Bool, true, false, cond, List, [], ◌∷◌, ◌++◌, map, refl, sym, ap, subst, ◌∙◌, inl, inr, ⊎_elim}
+use Rattle.std.proofs.lemmas.Bool.{cases_Bool}
 use Rattle.ckpt_ids.specs.declared.subtask.SubtaskId.{SubtaskId}
 use Rattle.ckpt_ids.specs.Ascending.{ascending}
 use Rattle.ckpt_ids.specs.Ordered.{IsIn, IsInOrder, put}
-use Rattle.ckpt_ids.specs.Records.{Record, Use, Subtask, is_present, missing, uses}
-use Rattle.ckpt_ids.proofs.OrderedLemmas.{IsIn-append_cases, IsIn-append_left, IsIn-append_right, IsIn-map, IsIn-filter, IsIn-from_filter, IsIn-in_order, IsIn-from_in_order, IsIn-put, IsIn-put_itself, IsIn-put_cases, IsInOrder-append, IsIn-from_list_any, IsIn-from_in_order_once}
-use Rattle.ckpt_outbox.specs.Queues.{is_known}
-use Rattle.ckpt_pending.specs.Acknowledging.{IsPending}
-use Rattle.ckpt_registry.specs.Uses.{triples}
-use Rattle.ckpt_store.specs.Storing.{Stored, IsAbove, by_id, has_id, has_savepoint}
+use Rattle.ckpt_ids.specs.Records.{Record, uses}
+use Rattle.ckpt_ids.proofs.OrderedLemmas.{IsIn-append_cases, IsIn-append_left, IsIn-append_right, IsIn-map, IsIn-put, IsIn-put_itself, IsIn-put_cases}
+use Rattle.ckpt_store.specs.Storing.{by_id}
 use Rattle.ckpt_core.specs.declared.parts.Parts.{Parts}
-use Rattle.ckpt_core.specs.Completing as completing
-use Rattle.ckpt_core.specs.Completing.{IsMissing, is_before}
-use Rattle.ckpt_core.specs.Grouped.{with_pins, grouped, records_of}
-use Rattle.ckpt_core.specs.Parts.{AreSound, AreTied, is_noted, present_in, records_in, state_of}
-use Rattle.ckpt_core.specs.Soundness.{IsSound, id_before}
-use Rattle.ckpt_core.specs.State.{State, in_outbox, is_checkpoint, is_done_checkpoint, is_pending, is_subsumed, is_surplus}
-use Rattle.ckpt_core.specs.Steps.{acknowledged, replaced, superseded, with_records}
-use Rattle.ckpt_core.proofs.AckMoves.{replaced_members, still_in_replaced}
-use Rattle.ckpt_core.proofs.AckStates.{IsTaking, acked_replaced, its_number, moved, one_less, replaced_in_order, taken_in, taken_present, taken_records, taken_tied, taken_uses, taking}
+use Rattle.ckpt_core.specs.Grouped.{with_pins, grouped}
+use Rattle.ckpt_core.specs.Parts.{records_in, state_of}
+use Rattle.ckpt_core.specs.Soundness.{id_before}
+use Rattle.ckpt_core.specs.Steps.{acknowledged}
+use Rattle.ckpt_core.proofs.AckMoves.{replaced_members}
+use Rattle.ckpt_core.proofs.AckStates.{IsTaking, acked_replaced, replaced_in_order, taken_in, taken_records, taken_uses}
 use Rattle.ckpt_core.proofs.AckTakes.{found_acked}
-use Rattle.ckpt_core.proofs.CompleteLists.{IsFinishing, is_past, later_in, noted_pending, noted_row, noted_savepoint, or_false, others, past_count, past_is_surplus}
-use Rattle.ckpt_core.proofs.CompleteMoves.{IsCompleting, IsEnding, count_completed}
-use Rattle.ckpt_core.proofs.CountLemmas.{IsIn-from_find, IsIn-from_counted, counted-from_IsIn}
-use Rattle.ckpt_core.proofs.DropMoves.{fails, groups_of, none_known}
+use Rattle.ckpt_core.proofs.CompleteMoves.{IsCompleting, IsEnding}
+use Rattle.ckpt_core.proofs.CountLemmas.{IsIn-from_find}
+use Rattle.ckpt_core.proofs.DropMoves.{groups_of}
 use Rattle.ckpt_core.proofs.GroupedLemmas.{AreApart, IsNew, apart-append, apart-from_in_order, apart_between, apart_left, apart_right}
-use Rattle.ckpt_core.proofs.GroupLookups.{is_checkpoint-kind, is_savepoint-kind}
-use Rattle.ckpt_core.proofs.Lookups.{AreGroups, count_none, count_same, has_number, length-records_of}
-use Rattle.ckpt_core.proofs.SoundAcks.{IsAcking, with_ack}
-use Rattle.ckpt_core.proofs.TriggerParts.{live_records}
-use Rattle.ckpt_core.proofs.UsesOrder.{from_holds}
+use Rattle.ckpt_core.proofs.Lookups.{AreGroups, has_number}
+use Rattle.ckpt_core.proofs.SoundAcks.{with_ack}
 
 -- the record as a pending one, and as a done one
 abbrev pub acked_record : Record → SubtaskId → List ℕ → List ℕ → Record

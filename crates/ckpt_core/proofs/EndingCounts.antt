@@ -2,8 +2,6 @@
 use Rattle.std.proofs.Common.{◌≡◌, ℕ, ◌+◌, ◌≤◌, Bool, true, false, not, ◌&&◌, ◌||◌, cond, ltb, List, length, refl, sym, ap, ◌∙◌, ⊎_elim, arith}
 use Rattle.std.specs.Prelude.{count_by}
 use Rattle.std.proofs.lemmas.Bool.{cases_Bool, and_right, and_from, or_right, not_from_true, not_from_false}
-use Rattle.std.proofs.lemmas.List.Sums.{length-filter}
-use Rattle.std.proofs.lemmas.List.Filters.{length-filter_both}
 use Rattle.ckpt_ids.specs.Records.{Record}
 use Rattle.ckpt_store.specs.Storing.{IsStored}
 use Rattle.ckpt_core.specs.declared.parts.Parts.{Parts}

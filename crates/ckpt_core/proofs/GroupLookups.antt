@@ -1,23 +1,21 @@
 -- What is found in the records in rising number is found in the groups: done records, savepoints, the choice.
-use Rattle.std.proofs.Common.{◌≡◌, ℕ, zero, suc, ◌+◌, ◌-◌, ◌<◌, ◌≤◌, Bool, true, false, not, ◌&&◌, ◌||◌, cond, ltb, eqb, List, [], ◌∷◌, ◌++◌, map, length, refl, sym, ap, subst, ◌∙◌, ◌⊎◌, inl, inr, ⊎_elim, arith, Option, Some, None}
+use Rattle.std.proofs.Common.{◌≡◌, ℕ, suc, ◌+◌, ◌-◌, Bool, true, false, not, ◌&&◌, cond, eqb, List, [], ◌∷◌, ◌++◌, map, length, refl, sym, ap, subst, ◌∙◌, ⊎_elim, arith, Option, Some, None}
 use Rattle.std.specs.Prelude.{count_by, find, slice_get}
 use Rattle.std.specs.Option.{option_map}
 use Rattle.std.specs.List.{filter, list_any}
 use Rattle.std.proofs.lemmas.List.{append-nil}
 use Rattle.std.proofs.lemmas.List.Elements.{filter-append}
-use Rattle.std.proofs.lemmas.Bool.{cases_Bool, both_ways, eqb-true, eqb-false, eq-eqb, ne_eqb, and_parts, and_from, and_left, and_right, not-true, not-false, not_from_false, not_from_true}
-use Rattle.ckpt_ids.specs.declared.numbers.Kind.{Kind}
+use Rattle.std.proofs.lemmas.Bool.{cases_Bool, both_ways, eqb-true, and_parts, and_from, and_left, and_right, not_from_false, not_from_true}
 use Rattle.ckpt_ids.specs.declared.numbers.Kind.TheVariants as kind
-use Rattle.ckpt_ids.specs.declared.reply.Choice.{Choice}
-use Rattle.ckpt_ids.specs.Ordered.{IsIn, IsInOrder, in_order, ComesBefore}
+use Rattle.ckpt_ids.specs.Ordered.{IsIn, IsInOrder, in_order}
 use Rattle.ckpt_ids.specs.Records.{Record, Use}
-use Rattle.ckpt_ids.proofs.OrderedLemmas.{IsIn-append_cases, IsIn-append_left, IsIn-append_right, IsIn-map, IsIn-from_map, IsIn-in_order, IsIn-from_in_order, list_any-from_IsIn, IsIn-from_list_any}
+use Rattle.ckpt_ids.proofs.OrderedLemmas.{IsIn-append_cases, IsIn-append_right, IsIn-from_map, IsIn-in_order, IsIn-from_in_order, list_any-from_IsIn, IsIn-from_list_any}
 use Rattle.ckpt_core.specs.Soundness.{id_before}
-use Rattle.ckpt_core.specs.State.{State, is_pending, is_checkpoint, is_done_checkpoint, last_checkpoint}
+use Rattle.ckpt_core.specs.State.{is_pending, is_checkpoint, is_done_checkpoint, last_checkpoint}
 use Rattle.ckpt_core.specs.Grouped.{with_pins, grouped, records_of}
-use Rattle.ckpt_core.proofs.GroupedLemmas.{AreApart, in_order-from_apart, apart_between, apart_left, apart_right, same_records, in_order-filter}
+use Rattle.ckpt_core.proofs.GroupedLemmas.{AreApart, in_order-from_apart, apart_left, apart_right, same_records, in_order-filter}
 use Rattle.ckpt_core.proofs.GroupMoves.{filter_none, filter_all}
-use Rattle.ckpt_core.proofs.Lookups.{AreGroups, has_number, find-records_of, find-append_left, find-append_right, find-map, find_agree, count_by-records_of, count_none, count_all, count_same}
+use Rattle.ckpt_core.proofs.Lookups.{AreGroups, has_number, find-records_of, find-map, count_by-records_of, count_none, count_all, count_same}
 
 pub is_checkpoint-kind : (r : Record) → r.kind ≡ kind.Checkpoint → is_checkpoint r ≡ true
 is_checkpoint-kind r e = ap (λ k. is_checkpoint (record r { kind = k })) e

@@ -1,10 +1,10 @@
 -- Records put in rising number: what a change of the groups does to them.
-use Rattle.std.proofs.Common.{◌≡◌, ℕ, ◌+◌, ◌<◌, ◌≤◌, Bool, true, false, not, ◌&&◌, cond, ltb, eqb, List, [], ◌∷◌, ◌++◌, map, refl, sym, ap, subst, ◌∙◌, ◌⊎◌, inl, inr, ⊎_elim, arith}
+use Rattle.std.proofs.Common.{◌≡◌, ◌<◌, Bool, true, false, cond, ltb, List, [], ◌∷◌, ◌++◌, map, refl, sym, ap, subst, ◌∙◌, inl, inr, ⊎_elim, arith}
 use Rattle.std.specs.List.{filter}
-use Rattle.std.proofs.lemmas.Bool.{cases_Bool, both_ways, cond-true, cond-false, lt-ltb, ltb-true, ltb-false, le-ltb, eqb-true, eqb-false, eq-eqb, ne_eqb, cases_order}
-use Rattle.ckpt_ids.specs.Ordered.{IsIn, ComesBefore, IsInOrder, put, in_order, IsStrictOrder}
+use Rattle.std.proofs.lemmas.Bool.{cases_Bool, lt-ltb, ltb-true, ltb-false, le-ltb}
+use Rattle.ckpt_ids.specs.Ordered.{IsIn, ComesBefore, IsInOrder, put, in_order}
 use Rattle.ckpt_ids.specs.Records.{Record}
-use Rattle.ckpt_ids.proofs.OrderedLemmas.{IsIn-append_left, IsIn-append_right, IsIn-append_cases, IsIn-map, IsIn-from_map, IsIn-filter, IsIn-from_filter, ComesBefore-at, ComesBefore-from, IsInOrder-filter, IsInOrder-append, IsIn-put, IsIn-put_itself, IsIn-put_cases, IsIn-in_order, IsIn-from_in_order}
+use Rattle.ckpt_ids.proofs.OrderedLemmas.{IsIn-append_left, IsIn-append_right, IsIn-append_cases, IsIn-from_map, IsIn-filter, IsIn-from_filter, ComesBefore-at, ComesBefore-from, IsInOrder-filter, IsIn-put, IsIn-put_cases, IsIn-in_order, IsIn-from_in_order}
 use Rattle.ckpt_core.specs.Soundness.{id_before}
 
 -- no record has the number of x

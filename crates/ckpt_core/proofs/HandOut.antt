@@ -1,11 +1,9 @@
 -- Released files can be put into the outbox: room that was kept for the files in use is room for them, none stands twice, and none is known to it.
-use Rattle.std.proofs.Common.{◌≡◌, ℕ, ◌+◌, ◌≤◌, Bool, true, false, not, ltb, eqb, List, [], ◌∷◌, map, length, refl, sym, subst, inl, inr, arith}
-use Rattle.std.specs.Prelude.{count_by}
-use Rattle.std.specs.List.{list_any}
+use Rattle.std.proofs.Common.{◌≡◌, ℕ, ◌≤◌, Bool, true, false, not, eqb, List, [], ◌∷◌, map, length, refl, sym, subst, inl, inr, arith}
 use Rattle.std.proofs.lemmas.Bool.{lt-ltb, eq-eqb, cases_Bool}
 use Rattle.std.proofs.lemmas.List.Sums.{length-filter, count_by-le-length}
 use Rattle.ckpt_ids.specs.Ordered.{IsIn}
-use Rattle.ckpt_ids.specs.Ascending.{IsAscendingSet, ascending_set}
+use Rattle.ckpt_ids.specs.Ascending.{ascending_set}
 use Rattle.ckpt_ids.specs.Records.{Use, count, is_present, released}
 use Rattle.ckpt_outbox.specs.Queues as queues
 use Rattle.ckpt_outbox.specs.Queues.{Queues, is_in, is_known}

@@ -1,22 +1,20 @@
 -- What is found in the records in rising number is found in the groups.
-use Rattle.std.proofs.Common.{◌≡◌, ℕ, zero, suc, ◌+◌, ◌<◌, ◌≤◌, Bool, true, false, not, ◌&&◌, ◌||◌, cond, ltb, eqb, List, [], ◌∷◌, ◌++◌, map, length, refl, sym, ap, subst, ◌∙◌, ◌⊎◌, inl, inr, ⊎_elim, arith, Option, Some, None}
+use Rattle.std.proofs.Common.{◌≡◌, ℕ, suc, ◌+◌, Bool, true, false, ◌&&◌, cond, eqb, List, [], ◌∷◌, ◌++◌, map, length, refl, sym, ap, subst, ◌∙◌, inl, inr, ⊎_elim, arith, Some, None}
 use Rattle.std.specs.Prelude.{count_by, find}
 use Rattle.std.specs.Option.{option_map}
-use Rattle.std.specs.List.{filter, list_any}
-use Rattle.std.proofs.lemmas.Bool.{cases_Bool, both_ways, eqb-true, eqb-false, eq-eqb, ne_eqb, and_parts, and_from, and_left, and_right, not-true, not-false, not_from_false, not_from_true, ltb-true, lt-ltb}
+use Rattle.std.proofs.lemmas.Bool.{cases_Bool, both_ways, eqb-true, and_parts, and_left, not_from_false, not_from_true}
 use Rattle.std.proofs.lemmas.List.{length-append, length-map}
-use Rattle.ckpt_ids.specs.declared.numbers.Kind.{Kind}
 use Rattle.ckpt_ids.specs.declared.numbers.Kind.TheVariants as kind
-use Rattle.ckpt_ids.specs.Ordered.{IsIn, IsInOrder, put, in_order, ComesBefore}
+use Rattle.ckpt_ids.specs.Ordered.{IsIn, put, in_order}
 use Rattle.ckpt_ids.specs.Records.{Record, Use}
-use Rattle.ckpt_ids.proofs.OrderedLemmas.{IsIn-append_cases, IsIn-append_left, IsIn-append_right, IsIn-map, IsIn-from_map, IsIn-in_order, IsIn-from_in_order, list_any-from_IsIn, IsIn-from_list_any, ComesBefore-at}
+use Rattle.ckpt_ids.proofs.OrderedLemmas.{IsIn-append_cases, IsIn-in_order, IsIn-from_in_order}
 use Rattle.ckpt_core.specs.Soundness.{id_before}
-use Rattle.ckpt_core.specs.State.{is_pending, is_checkpoint, is_done_checkpoint, last_checkpoint}
+use Rattle.ckpt_core.specs.State.{is_pending}
 use Rattle.ckpt_core.specs.Refusals.{pending_of}
 use Rattle.ckpt_core.specs.Grouped.{with_pins, grouped, records_of}
 use Rattle.ckpt_ids.proofs.CountLemmas.{count_by-cons, count_by-append, count_by-map, count_by-in_order}
 use Rattle.ckpt_core.proofs.CountLemmas.{IsIn-from_find, fails-from_find, find-none}
-use Rattle.ckpt_core.proofs.GroupedLemmas.{AreApart, in_order-from_apart, apart_between, apart_left, apart_right}
+use Rattle.ckpt_core.proofs.GroupedLemmas.{AreApart}
 
 -- counts
 

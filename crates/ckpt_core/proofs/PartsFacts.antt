@@ -1,25 +1,23 @@
 -- What the parts tell of their groups.
-use Rattle.std.proofs.Common.{◌≡◌, ℕ, ◌+◌, ◌≤◌, Bool, true, false, not, ◌&&◌, eqb, List, [], ◌∷◌, ◌++◌, length, refl, sym, ap, subst, ◌∙◌, ◌⊎◌, inl, inr, ⊎_elim, arith, Option, Some, None}
-use Rattle.std.specs.Prelude.{count_by, find}
+use Rattle.std.proofs.Common.{◌≡◌, ℕ, true, false, eqb, List, [], ◌∷◌, ◌++◌, refl, sym, ap, subst, ◌∙◌, inl, inr, ⊎_elim, Option, Some, None}
+use Rattle.std.specs.Prelude.{find}
 use Rattle.std.specs.Option.{option_map, IfSome}
-use Rattle.std.specs.List.{list_any}
-use Rattle.std.proofs.lemmas.Bool.{cases_Bool, both_ways, eqb-true, eq-eqb}
-use Rattle.ckpt_ids.specs.declared.reply.Choice.{Choice}
+use Rattle.std.proofs.lemmas.Bool.{cases_Bool, eqb-true}
 use Rattle.ckpt_ids.specs.declared.reply.Choice.TheVariants as choice
-use Rattle.ckpt_ids.specs.Ordered.{IsIn, IsInOrder}
+use Rattle.ckpt_ids.specs.Ordered.{IsIn}
 use Rattle.ckpt_ids.specs.Records.{Record, Use}
 use Rattle.ckpt_ids.proofs.OrderedLemmas.{IsIn-append_left, IsIn-append_right, IsIn-map, IsIn-from_list_any}
-use Rattle.ckpt_pending.specs.Acknowledging.{IsPending, IsDone}
+use Rattle.ckpt_pending.specs.Acknowledging.{IsPending}
 use Rattle.ckpt_store.specs.Storing.{Stored, IsStored, has_id, greatest}
 use Rattle.ckpt_store.specs.Storing as storing
 use Rattle.ckpt_core.specs.declared.parts.Parts.{Parts}
-use Rattle.ckpt_core.specs.State.{State, choice_of, chosen, choice_from, record_of, last_checkpoint}
-use Rattle.ckpt_core.specs.Soundness.{IsSound, id_before}
-use Rattle.ckpt_core.specs.Grouped.{with_pins, grouped, records_of}
+use Rattle.ckpt_core.specs.State.{choice_of, chosen, choice_from, record_of, last_checkpoint}
+use Rattle.ckpt_core.specs.Soundness.{IsSound}
+use Rattle.ckpt_core.specs.Grouped.{with_pins}
 use Rattle.ckpt_core.specs.Parts.{state_of, records_in}
 use Rattle.ckpt_core.proofs.CountLemmas.{find-none}
 use Rattle.ckpt_core.proofs.DropMoves.{apart_in, groups_of}
-use Rattle.ckpt_core.proofs.GroupedLemmas.{AreApart, apart-from_in_order, apart_between}
+use Rattle.ckpt_core.proofs.GroupedLemmas.{apart_between}
 use Rattle.ckpt_core.proofs.Lookups.{AreGroups, has_number}
 use Rattle.ckpt_core.proofs.GroupLookups.{last_checkpoint-groups, last_id, last_id-greatest, record_of-groups, first_found}
 

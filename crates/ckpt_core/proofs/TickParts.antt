@@ -1,15 +1,13 @@
 -- What a tick does to the parts is what it does to the state.
-use Rattle.std.proofs.Common.{◌≡◌, ℕ, suc, ◌+◌, ◌-◌, ◌<◌, ◌≤◌, ◌^◌, Bool, true, false, not, ◌&&◌, cond, ltb, leb, eqb, List, [], ◌∷◌, ◌++◌, map, max, length, refl, sym, ap, subst, ◌∙◌, ◌⊎◌, inl, inr, ⊎_elim, arith, Option, Some, None, Result, Ok, Err, OnErr}
+use Rattle.std.proofs.Common.{◌≡◌, ℕ, ◌+◌, ◌<◌, ◌≤◌, Bool, true, false, not, ◌&&◌, leb, List, [], ◌++◌, map, max, length, refl, sym, ap, ◌∙◌, ◌⊎◌, inl, inr, ⊎_elim, arith, None, Result, Ok, Err, OnErr}
 use Rattle.std.specs.Prelude.{count_by}
-use Rattle.std.specs.List.{filter, list_any}
+use Rattle.std.specs.List.{filter}
 use Rattle.std.specs.declared.vec.Vec.{Vec}
 use Rattle.std.specs.declared.alloc.Global.{Global}
-use Rattle.std.specs.Vec.{vec_capacity}
-use Rattle.std.proofs.lemmas.Bool.{cases_Bool, both_ways, eqb-true, and_parts}
+use Rattle.std.proofs.lemmas.Bool.{cases_Bool, both_ways, and_parts}
 use Rattle.std.proofs.lemmas.List.Sums.{length-filter}
 use Rattle.std.proofs.lemmas.List.Filters.{length-filter_both}
 use Rattle.ckpt_ids.specs.declared.numbers.Kind.TheVariants as kind
-use Rattle.ckpt_ids.specs.declared.call.Call.{Call}
 use Rattle.ckpt_ids.specs.declared.call.Call.TheVariants as call
 use Rattle.ckpt_ids.specs.declared.reply.Reply.{Reply}
 use Rattle.ckpt_ids.specs.declared.reply.Reply.TheVariants as reply
@@ -17,12 +15,10 @@ use Rattle.ckpt_ids.specs.declared.reply.TickEnd.{TickEnd}
 use Rattle.ckpt_ids.specs.declared.reply.TickEnd.TheVariants as ends
 use Rattle.ckpt_ids.specs.declared.reply.Answer.{Answer}
 use Rattle.ckpt_ids.specs.declared.reply.Answer.TheVariants.{Done, Refused}
-use Rattle.ckpt_ids.specs.Ordered.{IsIn, IsInOrder}
-use Rattle.ckpt_ids.specs.Records.{Record, Use, uses, is_present}
+use Rattle.ckpt_ids.specs.Ordered.{IsIn}
+use Rattle.ckpt_ids.specs.Records.{Record, uses, is_present}
 use Rattle.ckpt_ids.proofs.OrderedLemmas.{IsIn-append_left, IsIn-append_right, IsIn-append_cases, IsIn-map, IsIn-from_map, IsIn-filter, IsIn-from_filter, IsIn-in_order, IsIn-from_in_order}
 use Rattle.ckpt_outbox.specs.Queues.{is_known}
-use Rattle.ckpt_pending.specs.Acknowledging.{IsPending}
-use Rattle.ckpt_store.specs.Storing.{IsStored}
 use Rattle.ckpt_rules.specs.declared.hold.Hold.{Hold}
 use Rattle.ckpt_rules.specs.declared.hold.Hold.TheVariants as hold
 use Rattle.ckpt_rules.specs.FailureCount.{FailureCount}
@@ -30,14 +26,13 @@ use Rattle.ckpt_rules.specs.Moments.{Moments}
 use Rattle.ckpt_rules.specs.Trigger as trigger
 use Rattle.ckpt_rules.specs.Trigger.{gap}
 use Rattle.ckpt_core.specs.declared.parts.Parts.{Parts}
-use Rattle.ckpt_core.specs.Grouped.{with_pins, grouped, records_of}
+use Rattle.ckpt_core.specs.Grouped.{with_pins, grouped}
 use Rattle.ckpt_core.specs.Memory.{answer_wants, may_want_memory}
-use Rattle.ckpt_core.specs.Parts.{Answers, AreSound, AreTied, IsAccepted, Stays, is_noted, records_in, state_of}
-use Rattle.ckpt_core.specs.Refusals.{refusal, moment_of}
+use Rattle.ckpt_core.specs.Parts.{Answers, AreSound, AreTied, IsAccepted, is_noted, records_in, state_of}
 use Rattle.ckpt_core.specs.Soundness.{IsSound, id_before}
 use Rattle.ckpt_core.specs.Starting.{Starts, held_at}
-use Rattle.ckpt_core.specs.State.{State, drop, is_checkpoint, is_pending, is_expired, in_outbox}
-use Rattle.ckpt_core.specs.Steps.{Stepped, at_moment, effect, start_or_hold, step, tick, triggered, failed_over, dropped_by}
+use Rattle.ckpt_core.specs.State.{State, drop, is_checkpoint, is_expired}
+use Rattle.ckpt_core.specs.Steps.{Stepped, effect, start_or_hold, tick, triggered, failed_over, dropped_by}
 use Rattle.ckpt_core.proofs.CountLemmas.{count_by-le}
 use Rattle.ckpt_core.proofs.EndingCounts.{few_pending}
 use Rattle.ckpt_core.proofs.TriggerParts.{limit_bound}
@@ -45,7 +40,7 @@ use Rattle.ckpt_core.specs.declared.mode.Mode.TheVariants.{Running}
 use Rattle.ckpt_core.proofs.GroupedLemmas.{AreApart, apart_left, apart_between}
 use Rattle.ckpt_core.proofs.Lookups.{AreGroups, count_by-records_of, count_none, count_same, one_of_number}
 use Rattle.ckpt_core.proofs.GroupLookups.{pending_checkpoints-groups}
-use Rattle.ckpt_core.proofs.DropMoves.{apart_in, done_of, fails, groups_of, numbers, noted-from_IsIn, IsIn-from_noted}
+use Rattle.ckpt_core.proofs.DropMoves.{apart_in, done_of, fails, numbers, noted-from_IsIn, IsIn-from_noted}
 use Rattle.ckpt_core.proofs.EndingMoves.{accepted_step}
 use Rattle.ckpt_core.proofs.SoundTriggers.{new_record}
 use Rattle.ckpt_core.proofs.TickStates.{is_late, started, starts_as, starts_done, starts_unused, stepped, tick_fails, tick_goes, tick_starts, ticked}

@@ -1,20 +1,16 @@
 -- What a tick does to a state: a checkpoint is started first, and what has expired is dropped after.
-use Rattle.std.proofs.Common.{◌≡◌, ℕ, suc, ◌+◌, ◌-◌, ◌<◌, ◌≤◌, Bool, true, false, not, ◌&&◌, cond, ltb, leb, eqb, List, [], ◌∷◌, ◌++◌, map, length, refl, sym, ap, subst, ◌∙◌, ◌⊎◌, inl, inr, ⊎_elim, arith, Option, Some, None}
+use Rattle.std.proofs.Common.{◌≡◌, ℕ, ◌+◌, ◌<◌, ◌≤◌, Bool, true, false, not, ◌&&◌, cond, ltb, leb, List, [], ◌∷◌, ◌++◌, map, refl, sym, ap, subst, ◌∙◌, ◌⊎◌, inl, inr, ⊎_elim, arith, None}
 use Rattle.std.specs.Prelude.{count_by}
-use Rattle.std.specs.List.{filter, list_any}
-use Rattle.std.proofs.lemmas.Bool.{cases_Bool, both_ways, and_parts, and_right, not-true, not_from_true, not_from_false, ltb-true, ltb-false, lt-ltb}
+use Rattle.std.specs.List.{filter}
+use Rattle.std.proofs.lemmas.Bool.{cases_Bool, both_ways, and_parts, and_right, not_from_false, ltb-true, lt-ltb}
 use Rattle.std.proofs.lemmas.List.{map-append}
 use Rattle.std.proofs.lemmas.List.Elements.{filter-append}
 use Rattle.ckpt_ids.specs.declared.numbers.Kind.TheVariants as kind
 use Rattle.ckpt_ids.specs.declared.reply.Reply.TheVariants.{Ticked}
-use Rattle.ckpt_ids.specs.declared.reply.Reply.{Reply}
 use Rattle.ckpt_ids.specs.declared.reply.TickEnd.{TickEnd}
 use Rattle.ckpt_ids.specs.declared.reply.TickEnd.TheVariants as ends
 use Rattle.ckpt_ids.specs.declared.reply.Answer.{Answer}
 use Rattle.ckpt_ids.specs.declared.reply.Answer.TheVariants.{Done}
-use Rattle.ckpt_ids.specs.declared.call.Call.{Call}
-use Rattle.ckpt_ids.specs.declared.reply.Refusal.{Refusal}
-use Rattle.ckpt_ids.specs.Ascending.{ascending_set}
 use Rattle.ckpt_ids.specs.Ordered.{IsIn, IsInOrder}
 use Rattle.ckpt_ids.specs.Records.{Record, Use, uses, uses_of, is_present, released}
 use Rattle.ckpt_ids.proofs.AscendingLemmas.{numbers_in_order}
@@ -22,7 +18,7 @@ use Rattle.ckpt_ids.proofs.OrderedLemmas.{IsIn-append_left, IsIn-append_right, I
 use Rattle.ckpt_rules.specs.declared.hold.Hold.{Hold}
 use Rattle.ckpt_rules.specs.declared.hold.Hold.TheVariants as hold
 use Rattle.ckpt_rules.specs.Trigger.{gap}
-use Rattle.ckpt_core.specs.State.{State, is_checkpoint, is_pending, is_expired, drop, kept, unpinned, pins_now, choice_of, in_outbox}
+use Rattle.ckpt_core.specs.State.{State, is_checkpoint, is_pending, is_expired, drop, kept, unpinned, pins_now, in_outbox}
 use Rattle.ckpt_core.specs.Soundness.{IsSound, id_before}
 use Rattle.ckpt_core.specs.Starting.{Starts, held_at}
 use Rattle.ckpt_core.specs.Steps.{Stepped, triggered, start_or_hold, after_expiry, tick, failed_over, pending_checkpoints, dropped_by}
@@ -33,7 +29,7 @@ use Rattle.ckpt_core.proofs.UsesLemmas.{IsHeld, Holds, IsHeld-from_present, pres
 use Rattle.ckpt_core.proofs.Released.{ascending-released, before-from_released, after-from_released, IsIn-released, IsIn-from_test}
 use Rattle.ckpt_core.proofs.RecordLists.{IsSoundOutbox}
 use Rattle.ckpt_core.proofs.SoundTriggers.{new_record, outbox_triggered, held-from_pins}
-use Rattle.ckpt_core.proofs.GroupMoves.{filter_all, filter_same}
+use Rattle.ckpt_core.proofs.GroupMoves.{filter_all}
 use Rattle.ckpt_core.proofs.Lookups.{count_same}
 use Rattle.ckpt_core.proofs.DropMoves.{drop_same, fails}
 use Rattle.ckpt_core.proofs.PinsLemmas.{pins_stay, pins_same}

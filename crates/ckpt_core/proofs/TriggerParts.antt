@@ -1,36 +1,34 @@
 -- What a trigger does to the parts is what it does to the state.
-use Rattle.std.proofs.Common.{◌≡◌, ℕ, suc, ◌+◌, ◌<◌, ◌≤◌, ◌^◌, Bool, true, false, not, ◌&&◌, cond, ltb, eqb, List, [], ◌∷◌, ◌++◌, map, length, refl, sym, ap, subst, ◌∙◌, ◌⊎◌, inl, inr, ⊎_elim, arith, Option, Some, None, unwrap_or, max}
-use Rattle.std.specs.Prelude.{count_by, find}
+use Rattle.std.proofs.Common.{◌≡◌, ℕ, ◌+◌, ◌<◌, ◌≤◌, Bool, true, false, not, ◌&&◌, cond, ltb, eqb, List, [], ◌∷◌, ◌++◌, map, length, refl, sym, ap, subst, ◌∙◌, ⊎_elim, arith, Option, Some, None, unwrap_or, max}
+use Rattle.std.specs.Prelude.{count_by}
 use Rattle.std.specs.List.{filter}
 use Rattle.std.specs.Vec.{vec_capacity}
-use Rattle.std.specs.Global.{Global, Vec}
+use Rattle.std.specs.Global.{Vec}
 use Rattle.ckpt_ids.specs.declared.numbers.CheckpointId.{CheckpointId}
-use Rattle.std.proofs.lemmas.List.{append-nil, map-append, length-append}
+use Rattle.std.proofs.lemmas.List.{append-nil, length-append}
 use Rattle.std.proofs.lemmas.List.Elements.{filter-append}
-use Rattle.std.proofs.lemmas.Bool.{cases_Bool, both_ways, eqb-true, ne_eqb, eq-eqb, lt-ltb, not_from_false, not_from_true}
+use Rattle.std.proofs.lemmas.Bool.{cases_Bool, ne_eqb, eq-eqb, not_from_false, not_from_true}
 use Rattle.ckpt_ids.specs.declared.numbers.Kind.{Kind}
 use Rattle.ckpt_ids.specs.declared.reply.Choice.{Choice}
 use Rattle.ckpt_ids.specs.declared.reply.Choice.TheVariants as choice
 use Rattle.ckpt_ids.specs.Ascending.{IsAscendingSet, ascending_set}
 use Rattle.ckpt_ids.specs.Ordered.{IsIn, IsInOrder, in_order_once}
-use Rattle.ckpt_ids.specs.Records.{Record, Use, Holder, Pin, use_before, uses, uses_of, is_present}
-use Rattle.ckpt_ids.proofs.OrderedLemmas.{IsIn-append_cases, IsIn-append_left, IsIn-append_right, IsIn-map, IsIn-from_map, IsIn-flat_map, IsIn-from_flat_map, IsIn-in_order, IsIn-in_order_once, IsIn-from_in_order_once, IsInOrder-in_order_once, same_from_members}
+use Rattle.ckpt_ids.specs.Records.{Record, Use, Pin, use_before, uses, uses_of, is_present}
+use Rattle.ckpt_ids.proofs.OrderedLemmas.{IsIn-append_cases, IsIn-append_left, IsIn-map, IsIn-from_map, IsIn-flat_map, IsIn-from_flat_map, IsIn-in_order, IsIn-in_order_once, IsIn-from_in_order_once, IsInOrder-in_order_once, same_from_members}
 use Rattle.ckpt_ids.proofs.AscendingLemmas.{numbers_in_order}
 use Rattle.ckpt_core.specs.declared.parts.Parts.{Parts}
 use Rattle.ckpt_ids.specs.Configuration.{Configuration, IsWithinLimits}
 use Rattle.ckpt_rules.specs.Trigger.{limit}
-use Rattle.ckpt_core.specs.State.{State, is_pending, is_checkpoint, is_done_checkpoint, pins_now, files_of, chosen, choice_of, record_of}
+use Rattle.ckpt_core.specs.State.{State, is_pending, is_checkpoint, is_done_checkpoint, pins_now, files_of, chosen, choice_of}
 use Rattle.ckpt_core.specs.Soundness.{IsSound, id_before}
 use Rattle.ckpt_core.specs.Steps.{triggered}
 use Rattle.ckpt_core.specs.Grouped.{with_pins, grouped, records_of}
 use Rattle.ckpt_core.specs.Parts.{state_of, records_in, present_in, AreTied}
 use Rattle.ckpt_ids.proofs.CountLemmas.{count_by-cons}
-use Rattle.ckpt_core.proofs.CountLemmas.{IsIn-from_find, counted-from_IsIn}
+use Rattle.ckpt_core.proofs.CountLemmas.{IsIn-from_find}
 use Rattle.ckpt_core.proofs.HandOut.{present-from_use}
-use Rattle.ckpt_core.proofs.UsesLemmas.{present-from_IsHeld, IsHeld-from_present, Holds-from_use}
 use Rattle.ckpt_core.proofs.UsesOrder.{holds, from_holds, use_of_record}
 use Rattle.ckpt_core.proofs.GroupMoves.{filter_all, filter_none, trigger_groups, trigger_uses, uses_of-triggered}
-use Rattle.ckpt_core.proofs.Lookups.{length-records_of}
 
 -- every use is of a record with an earlier number
 pub older_uses : (p : Parts) → AreTied p → IsSound (state_of p) → (u : Use) → IsIn u p.registry → u.id < p.next

@@ -1,16 +1,14 @@
 -- The uses of sound records stand in strict order, and what a change of the records does to them.
-use Rattle.std.proofs.Common.{◌≡◌, ℕ, ◌+◌, ◌<◌, ◌≤◌, Bool, true, false, not, ◌&&◌, ◌||◌, cond, ltb, eqb, List, [], ◌∷◌, ◌++◌, map, refl, sym, ap, subst, ◌∙◌, ◌⊎◌, inl, inr, ⊎_elim, arith, append_assoc}
-use Rattle.std.specs.List.{filter, flat_map, list_any}
+use Rattle.std.proofs.Common.{◌≡◌, ℕ, ◌<◌, Bool, true, false, ◌&&◌, ◌||◌, cond, ltb, eqb, List, [], ◌∷◌, ◌++◌, map, refl, sym, ap, subst, ◌∙◌, inl, inr, ⊎_elim, arith}
+use Rattle.std.specs.List.{filter, flat_map}
 use Rattle.std.proofs.lemmas.List.Elements.{filter-append}
-use Rattle.std.proofs.lemmas.List.Concat.{flat_map-append}
-use Rattle.std.proofs.lemmas.Bool.{cases_Bool, both_ways, lt-ltb, ltb-true, eq-eqb, or_left, or_right, and_from, not-true, not_from_false, not_from_true}
+use Rattle.std.proofs.lemmas.Bool.{cases_Bool, lt-ltb, ltb-true, eq-eqb, or_left, or_right, and_from}
 use Rattle.ckpt_ids.specs.declared.ack.Acked.{Acked}
-use Rattle.ckpt_ids.specs.Acknowledged.{is_before, acknowledges_before, AreInSubtaskOrder}
+use Rattle.ckpt_ids.specs.Acknowledged.{acknowledges_before, AreInSubtaskOrder}
 use Rattle.ckpt_ids.specs.Ascending.{IsAscendingSet}
-use Rattle.ckpt_ids.specs.Ordered.{IsIn, ComesBefore, IsInOrder, IsStrictOrder, in_order_once}
+use Rattle.ckpt_ids.specs.Ordered.{IsIn, IsInOrder, in_order_once}
 use Rattle.ckpt_ids.specs.Records.{Record, Use, Holder, Subtask, Pin, use_before, holder_before, same_holder, uses, uses_of}
-use Rattle.ckpt_ids.specs.Shapes.{same_subtask}
-use Rattle.ckpt_ids.proofs.OrderedLemmas.{IsIn-append_cases, IsIn-append_left, IsIn-append_right, IsIn-from_map, IsIn-from_flat_map, ComesBefore-at, ComesBefore-from, IsInOrder-append, IsInOrder-map, same_from_members, IsInOrder-in_order_once, IsIn-in_order_once, IsIn-from_in_order_once}
+use Rattle.ckpt_ids.proofs.OrderedLemmas.{IsIn-append_cases, IsIn-from_map, IsIn-from_flat_map, ComesBefore-at, IsInOrder-append, IsInOrder-map, same_from_members, IsInOrder-in_order_once, IsIn-in_order_once, IsIn-from_in_order_once}
 use Rattle.ckpt_ids.proofs.OrderLemmas.{uses_in_order, same_subtask-Decides}
 use Rattle.ckpt_core.specs.Soundness.{id_before, IsRecord}
 

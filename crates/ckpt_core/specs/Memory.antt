@@ -1,5 +1,5 @@
 -- Which calls may want memory. All others, and each refused call, are answered without.
-use Rattle.std.specs.Prelude.{ℕ, Bool, true, false, nat_lt, is_some}
+use Rattle.std.specs.Prelude.{Bool, true, false, nat_lt, is_some}
 use Rattle.ckpt_ids.specs.declared.call.Call.{Call}
 use Rattle.ckpt_ids.specs.declared.call.Call.TheVariants.{Tick, Savepoint, Ack, Restore, Take, Show}
 use Rattle.ckpt_ids.specs.declared.reply.Answer.{Answer}

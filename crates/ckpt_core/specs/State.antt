@@ -9,7 +9,7 @@ use Rattle.ckpt_ids.specs.declared.numbers.Kind.TheVariants as kind
 use Rattle.ckpt_ids.specs.declared.reply.Choice.{Choice}
 use Rattle.ckpt_ids.specs.declared.reply.Choice.TheVariants as choice
 use Rattle.ckpt_core.specs.declared.mode.Mode.{Mode}
-use Rattle.ckpt_core.specs.declared.mode.Mode.TheVariants.{Running, Failed, Cancelled}
+use Rattle.ckpt_core.specs.declared.mode.Mode.TheVariants.{Running}
 use Rattle.ckpt_ids.specs.Records.{Record, uses, is_present, released}
 use Rattle.ckpt_ids.specs.Ascending.{ascending_set}
 use Rattle.ckpt_rules.specs.Trigger.{gap}

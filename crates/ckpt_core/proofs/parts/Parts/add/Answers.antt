@@ -1,12 +1,10 @@
-use Rattle.std.proofs.Common.{◌≡◌, ℕ, ◌+◌, ◌<◌, ◌^◌, ◌≤◌, List, [], ◌∷◌, ◌++◌, max, true, false, refl, sym, ap, subst, ◌∙◌, arith}
+use Rattle.std.proofs.Common.{ℕ, ◌<◌, List, sym, ap, subst, arith}
 use Rattle.ckpt_ids.specs.Ascending.{IsAscendingSet}
 use Rattle.ckpt_ids.specs.Ordered.{IsIn}
-use Rattle.ckpt_ids.specs.Records.{Record, Use, is_present}
 use Rattle.ckpt_core.specs.declared.parts.Parts.{Parts}
 use Rattle.ckpt_core.specs.Parts.{state_of, AreTied}
-use Rattle.ckpt_core.specs.State.{pins_now}
 use Rattle.ckpt_core.proofs.CountBound.{registry_bound}
-use Rattle.ckpt_core.proofs.TriggerParts.{new_record, made_record, pins_ascend, pins_present, older_pending, older_uses, triggered_state, triggered_tied, undone_state}
+use Rattle.ckpt_core.proofs.TriggerParts.{made_record, pins_ascend, pins_present, older_pending, older_uses, triggered_state, triggered_tied, undone_state}
 use Rattle.ckpt_core.proofs.parts.Parts.add.Goals as goal
 
 pub add-requires : goal.add-requires

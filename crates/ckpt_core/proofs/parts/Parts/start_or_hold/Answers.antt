@@ -1,21 +1,6 @@
-use Rattle.std.proofs.Common.{rules, ◌≡◌, ℕ, ◌<◌, ◌^◌, ◌≤◌, ◌+◌, List, [], ◌++◌, length, vec_len, OnOk, unwrap_or, IfOk, OnErr, Some, None, true, false, ◌-◌, ◌*◌, ◌/◌, ◌%◌, Bool, nat_eq, nat_lt, ◌∷◌, slice_index_or, slice_set, bit_and, bit_or, Fits, w8, w32, w64, Bor, MutBor}
-use Rattle.std.specs.Option.{option_copied}
-use Rattle.std.specs.Vec.{vec_capacity}
-use Rattle.ckpt_ids.specs.declared.call.Call.TheVariants as call
-use Rattle.ckpt_ids.specs.declared.reply.Answer.TheVariants.{Done}
-use Rattle.ckpt_ids.specs.Ordered.{IsIn, IsInOrder}
-use Rattle.ckpt_ids.specs.Records.{Record, is_present}
-use Rattle.ckpt_outbox.specs.Queues.{is_known}
 use Rattle.ckpt_rules.specs.declared.hold.Hold.TheVariants as hold
-use Rattle.ckpt_core.specs.Memory.{answer_wants, may_want_memory}
-use Rattle.ckpt_core.specs.Parts.{Answers, AreSound, AreTied, IsAccepted, Stays, is_noted, records_in, state_of}
-use Rattle.ckpt_core.specs.Soundness.{IsSound, id_before}
-use Rattle.ckpt_core.specs.Starting.{Starts, held_at}
-use Rattle.ckpt_core.specs.State.{choice_of, chosen, drop, pins_now}
-use Rattle.ckpt_core.specs.Steps.{tick, triggered}
-use Rattle.std.proofs.Common.{sym, ap, subst, ◌∙◌, arith, inl, inr, ◌⊎◌}
-use Rattle.ckpt_core.specs.declared.parts.Parts.{Parts}
-use Rattle.std.proofs.Common.{Result, Ok, Err}
+use Rattle.ckpt_core.specs.Parts.{state_of}
+use Rattle.std.proofs.Common.{ap}
 use Rattle.ckpt_core.specs.Steps.{start_or_hold}
 use Rattle.ckpt_core.proofs.TickParts.{held_result, on_err_from, starts_now}
 use Rattle.ckpt_core.proofs.parts.Parts.start_or_hold.Goals as goal
