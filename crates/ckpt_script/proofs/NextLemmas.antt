@@ -1,5 +1,5 @@
 -- What the next line leaves of a run, where the text is known.
-use Rattle.std.proofs.Common.{◌≡◌, ◌≢◌, ℕ, ◌+◌, ◌<◌, ◌≤◌, Bool, true, false, cond, List, [], ◌∷◌, ◌++◌, length, take, Option, None, Some, refl, sym, ap, subst, ◌∙◌}
+use Rattle.std.proofs.Common.{◌≡◌, ◌≢◌, ℕ, ◌+◌, ◌<◌, ◌≤◌, Bool, false, cond, List, [], ◌++◌, take, Option, refl, sym, ap, subst, ◌∙◌}
 use Rattle.std.specs.Prelude.{IfSome, is_err}
 use Rattle.std.specs.Io.KnownBytes.{Keeps, prepend_known}
 use Rattle.ckpt_lines.specs.Reading.{reading}
@@ -7,7 +7,7 @@ use Rattle.ckpt_script.specs.declared.fault.RunFault.{RunFault}
 use Rattle.ckpt_script.specs.declared.fault.RunFault.TheVariants.{Read, Write, TooManyLines, Memory}
 use Rattle.ckpt_script.specs.declared.summary.Summary.{Summary}
 use Rattle.ckpt_script.specs.Known.{WhereKnown, Passes}
-use Rattle.ckpt_script.specs.Lines.{held, lines_of, whole_lines, TakesLine, TakesPart, HoldsLine, HoldsPart}
+use Rattle.ckpt_script.specs.Lines.{held, whole_lines, TakesPart, HoldsLine, HoldsPart}
 use Rattle.ckpt_script.specs.Outputs.{output, most_lines, IsCut}
 use Rattle.ckpt_script.specs.Sessions.{Scene, said}
 use Rattle.ckpt_script.specs.Telling.{HasRun, Shows, IsSoFar, Stopped}

@@ -1,10 +1,10 @@
 -- What lines print, by parts of the text.
-use Rattle.std.proofs.Common.{◌≡◌, ◌≢◌, ℕ, ◌+◌, ◌-◌, ◌<◌, ◌≤◌, Bool, true, false, List, [], ◌∷◌, ◌++◌, length, take, refl, sym, ap, subst, ◌∙◌, arith, append_assoc, append-nil, length-append}
+use Rattle.std.proofs.Common.{◌≡◌, ℕ, ◌+◌, ◌-◌, ◌≤◌, List, [], ◌∷◌, ◌++◌, length, take, refl, sym, ap, ◌∙◌, arith, append_assoc, append-nil}
 use Rattle.std.proofs.lemmas.List.{take_all}
 use Rattle.std.proofs.Math.Seq.{take-append-add}
 use Rattle.ckpt_lines.specs.Reading.{reading}
-use Rattle.ckpt_script.specs.Lines.{lines_of, whole_lines}
-use Rattle.ckpt_script.specs.Outputs.{outputs, output, scene_after, faults_in, most_lines}
+use Rattle.ckpt_script.specs.Lines.{lines_of}
+use Rattle.ckpt_script.specs.Outputs.{outputs, output, scene_after, most_lines}
 use Rattle.ckpt_script.specs.Sessions.{Scene, opening_scene, said}
 
 pub outputs-append : (number : ℕ) (scene : Scene) (lines more : List (List ℕ)) → outputs number scene (lines ++ more) ≡ outputs number scene lines ++ outputs (number + length lines) (scene_after number scene lines) more

@@ -1,5 +1,5 @@
 -- What is written when a run ends.
-use Rattle.std.proofs.Common.{◌≡◌, ℕ, Bool, true, false, List, [], ◌++◌, length, take, drop, Option, None, Some, refl, sym, ap, subst, ◌∙◌, append_assoc, append-nil}
+use Rattle.std.proofs.Common.{◌≡◌, ℕ, Bool, true, false, List, [], ◌++◌, take, drop, Option, None, Some, refl, sym, ap, subst, ◌∙◌, append_assoc, append-nil}
 use Rattle.std.specs.Prelude.{IfSome, Ok, Err}
 use Rattle.std.specs.Io.KnownBytes.{Appends, IsAtEnd, prepend_known}
 use Rattle.std.proofs.lemmas.List.{take-append-drop}
@@ -7,11 +7,11 @@ use Rattle.ckpt_script.specs.declared.fault.RunFault.{RunFault}
 use Rattle.ckpt_script.specs.declared.fault.RunFault.TheVariants.{Read, Write, TooManyLines, Memory}
 use Rattle.ckpt_script.specs.declared.summary.Summary.{Summary}
 use Rattle.ckpt_script.specs.Known.{WhereKnown}
-use Rattle.ckpt_script.specs.Lines.{lines_of, whole_lines}
-use Rattle.ckpt_script.specs.Outputs.{output, most_lines, IsCut, Ran}
+use Rattle.ckpt_script.specs.Lines.{whole_lines}
+use Rattle.ckpt_script.specs.Outputs.{output, IsCut, Ran}
 use Rattle.ckpt_script.specs.Sessions.{Scene, opening_scene}
-use Rattle.ckpt_script.specs.Telling.{HasRun, Shows, IsSoFar, Stopped, keeps_lines}
-use Rattle.ckpt_script.proofs.KnownLemmas.{WhereKnown-map, WhereKnown-if, WhereKnown-same, WhereKnown-unread}
+use Rattle.ckpt_script.specs.Telling.{Shows, IsSoFar, Stopped, keeps_lines}
+use Rattle.ckpt_script.proofs.KnownLemmas.{WhereKnown-map, WhereKnown-if}
 use Rattle.ckpt_script.proofs.PassesLemmas.{Appends-trans, Appends-as, Appends-none}
 use Rattle.ckpt_script.proofs.TellingLemmas.{run_none, all_run}
 

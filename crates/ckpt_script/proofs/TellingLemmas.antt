@@ -1,21 +1,17 @@
 -- How far a run has come, from line to line.
-use Rattle.std.proofs.Common.{◌≡◌, ◌≢◌, ℕ, suc, ◌+◌, ◌-◌, ◌<◌, ◌≤◌, Bool, true, false, cond, List, [], ◌∷◌, ◌++◌, length, take, Option, None, Some, refl, sym, ap, subst, ◌∙◌, ⊎_elim, arith, append_assoc, append-nil, length-append}
-use Rattle.std.specs.Prelude.{IfSome, is_err}
-use Rattle.std.specs.List.{count_by}
-use Rattle.std.specs.Io.KnownBytes.{Appends, IsAtEnd, prepend_known}
+use Rattle.std.proofs.Common.{◌≡◌, ◌≢◌, ℕ, suc, ◌+◌, ◌-◌, ◌<◌, ◌≤◌, Bool, true, false, cond, List, [], ◌∷◌, ◌++◌, length, take, Option, refl, sym, ap, ◌∙◌, ⊎_elim, arith, append_assoc, append-nil, length-append}
+use Rattle.std.specs.Prelude.{is_err}
 use Rattle.std.proofs.lemmas.List.Sums.{sum_by-append}
 use Rattle.ckpt_lines.specs.Reading.{reading}
-use Rattle.ckpt_script.specs.declared.fault.RunFault.{RunFault}
-use Rattle.ckpt_script.specs.declared.fault.RunFault.TheVariants.{Read, Write, TooManyLines, Memory}
 use Rattle.ckpt_script.specs.declared.summary.Summary.{Summary}
-use Rattle.ckpt_script.specs.Known.{WhereKnown, Passes}
-use Rattle.ckpt_script.specs.Lines.{newline, has_newline, lines_of, whole_lines, TakesLine, TakesPart}
+use Rattle.ckpt_script.specs.Known.{Passes}
+use Rattle.ckpt_script.specs.Lines.{newline, lines_of, whole_lines, TakesLine, TakesPart}
 use Rattle.ckpt_script.specs.Outputs.{outputs, output, scene_after, faults_in, most_lines, IsCut}
 use Rattle.ckpt_script.specs.Sessions.{Scene, opening_scene, said}
-use Rattle.ckpt_script.specs.Telling.{HasRun, Shows, IsSoFar, Stopped}
+use Rattle.ckpt_script.specs.Telling.{HasRun, Shows}
 use Rattle.ckpt_script.proofs.LineLemmas.{some_lines, lines_of-line, lines_of-last, lines_of-append, whole_lines-append, whole_lines-ends}
 use Rattle.ckpt_script.proofs.OutputLemmas.{outputs-more, scene_after-append, output-few, output-front}
-use Rattle.ckpt_script.proofs.PassesLemmas.{Appends-trans, Appends-none, Appends-as}
+use Rattle.ckpt_script.proofs.PassesLemmas.{Appends-trans}
 
 -- the line is the first of what was left
 first_line : (is_ended : Bool) (bytes rest line : List ℕ) → bytes ≢ [] → TakesLine is_ended bytes rest line → lines_of bytes ≡ line ∷ lines_of rest

@@ -1,5 +1,5 @@
 -- What a script prints: a function of its text alone.
-use Rattle.std.specs.Prelude.{◌≡◌, ℕ, ◌+◌, ◌<◌, ◌≤◌, List, [], ◌∷◌, ◌++◌, length, take, count_by, Result, Ok, Err, Option, Some, IfSome, is_err}
+use Rattle.std.specs.Prelude.{◌≡◌, ℕ, ◌+◌, ◌<◌, ◌≤◌, List, [], ◌∷◌, ◌++◌, length, take, count_by, Result, Ok, Err, Option, IfSome, is_err}
 use Rattle.std.specs.Io.KnownBytes.{Appends}
 use Rattle.ckpt_lines.specs.Reading.{reading}
 use Rattle.ckpt_script.specs.declared.fault.RunFault.{RunFault}

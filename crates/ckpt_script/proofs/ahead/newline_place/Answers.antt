@@ -1,7 +1,7 @@
-use Rattle.std.proofs.Common.{◌≡◌, ℕ, ◌<◌, List, length, Option, None, Some, arith, add-one}
+use Rattle.std.proofs.Common.{ℕ, List, length, Option, None, Some, arith, add-one}
 use Rattle.std.proofs.lemmas.List.{take_all}
 use Rattle.memchr.specs.Find.{IsFirstByte, is_byte}
-use Rattle.ckpt_script.specs.Lines.{FindsNewline, newline, has_newline}
+use Rattle.ckpt_script.specs.Lines.{FindsNewline, newline}
 use Rattle.ckpt_script.proofs.LineLemmas.{no_newline_before, split_at_newline}
 use Rattle.ckpt_script.proofs.ahead.newline_place.Goals as goal
 

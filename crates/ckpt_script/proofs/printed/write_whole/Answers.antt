@@ -1,4 +1,4 @@
-use Rattle.std.proofs.Common.{◌≡◌, ℕ, ◌+◌, ◌≤◌, length, take, drop, List, ◌++◌, arith, sym, ◌∙◌, ap, length-drop}
+use Rattle.std.proofs.Common.{arith, length-drop}
 use Rattle.ckpt_script.proofs.PassesLemmas.{Appends-trans, Appends-as}
 use Rattle.ckpt_script.proofs.LineLemmas.{take_rest}
 use Rattle.ckpt_script.proofs.printed.write_whole.Goals as goal

@@ -1,4 +1,4 @@
-use Rattle.std.proofs.Common.{length, ◌-◌, ◌≡◌, ℕ, List, take, ◌≤◌}
+use Rattle.std.proofs.Common.{length, ◌-◌, take, ◌≤◌}
 use Rattle.std.specs.Io.KnownBytes.{Appends}
 use Rattle.ckpt_script.proofs.printed.write_whole.Given as goal
 

@@ -1,7 +1,7 @@
-use Rattle.std.proofs.Common.{◌≡◌, List, ℕ, [], ap, refl, sym, subst, ◌∙◌}
-use Rattle.std.specs.Prelude.{Result, Ok, Err}
+use Rattle.std.proofs.Common.{ap, sym, subst}
+use Rattle.std.specs.Prelude.{Ok, Err}
 use Rattle.ckpt_script.specs.declared.fault.RunFault.{RunFault}
-use Rattle.ckpt_script.specs.declared.fault.RunFault.TheVariants.{Write, Memory}
+use Rattle.ckpt_script.specs.declared.fault.RunFault.TheVariants.{Memory}
 use Rattle.ckpt_script.specs.declared.summary.Summary.{Summary}
 use Rattle.ckpt_script.specs.Outputs.{Ran}
 use Rattle.ckpt_script.specs.Unread.{Unread}

@@ -1,7 +1,6 @@
-use Rattle.std.proofs.Common.{◌≡◌, ℕ, ◌≤◌, List, Bool, true, false, length, subst, sym, ◌∙◌}
+use Rattle.std.proofs.Common.{Bool, true, false, subst, sym, ◌∙◌}
 use Rattle.std.specs.Io.KnownBytes.{prepend_known}
-use Rattle.ckpt_script.specs.Known.{WhereKnown}
-use Rattle.ckpt_script.specs.Lines.{held, Moves, HoldsLine, HoldsPart}
+use Rattle.ckpt_script.specs.Lines.{Moves, HoldsLine, HoldsPart}
 use Rattle.ckpt_script.proofs.LineLemmas.{length-take_held}
 use Rattle.ckpt_script.proofs.KnownLemmas.{WhereKnown-keeps, WhereKnown-moves, WhereKnown-unread, part_goes_on, line_ends}
 use Rattle.ckpt_script.proofs.ahead.Ahead.read_line.Goals as goal

@@ -1,4 +1,4 @@
-use Rattle.std.proofs.Common.{◌≡◌, ℕ, ◌≤◌, List, [], true, false, length}
+use Rattle.std.proofs.Common.{◌≡◌, ◌≤◌, [], true, false, length}
 use Rattle.std.specs.Io.KnownBytes.{IsAtEnd, prepend_known}
 use Rattle.ckpt_script.specs.Known.{WhereKnown}
 use Rattle.ckpt_script.specs.Lines.{held, HoldsPart}

@@ -1,4 +1,4 @@
-use Rattle.std.proofs.Common.{◌≡◌, ℕ, List, [], ◌++◌, take, drop, append-nil, sym, ◌∙◌, refl, ap}
+use Rattle.std.proofs.Common.{ℕ, List, ◌++◌, take, drop, append-nil, ◌∙◌, ap}
 use Rattle.std.proofs.lemmas.List.{take-append-drop}
 use Rattle.ckpt_script.proofs.PassesLemmas.{passes_none, passes_part, passes_out, on_err, on_ok_map, on_err_map}
 use Rattle.ckpt_script.proofs.printed.Printed.print.Goals as goal

@@ -1,4 +1,4 @@
-use Rattle.std.proofs.Common.{◌≡◌, ℕ, List, length, take, refl, sym, arith}
+use Rattle.std.proofs.Common.{length, refl, sym, arith}
 use Rattle.std.proofs.lemmas.List.{take_all}
 use Rattle.ckpt_script.proofs.PassesLemmas.{Appends-as, Appends-kept}
 use Rattle.ckpt_script.proofs.runner.Runner.finish.Goals as goal

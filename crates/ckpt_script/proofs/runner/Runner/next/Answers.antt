@@ -1,8 +1,7 @@
-use Rattle.std.proofs.Common.{◌≡◌, ◌≢◌, ℕ, List, [], false, refl, sym, ap, subst, ◌∙◌, arith}
+use Rattle.std.proofs.Common.{refl, sym, ap, subst, arith}
 use Rattle.std.specs.Prelude.{Err}
 use Rattle.ckpt_script.specs.Unread.{Unread}
 use Rattle.std.specs.Io.KnownBytes.{prepend_known}
-use Rattle.ckpt_script.specs.declared.fault.RunFault.TheVariants.{Read}
 use Rattle.ckpt_script.specs.Telling.{IsSoFar, Stopped}
 use Rattle.ckpt_script.proofs.PassesLemmas.{if_err_is}
 use Rattle.ckpt_script.proofs.NextLemmas.{stopped_cut, stopped_taking, stopped_filling, stopped_full, cut_so_far, stopped_reading, cut_obeying, so_far_obeyed}

@@ -1,6 +1,3 @@
-use Rattle.std.specs.Io.KnownBytes.{Appends}
-use Rattle.ckpt_lines.specs.Reading.{reading}
-use Rattle.ckpt_script.specs.Sessions.{said}
 use Rattle.ckpt_script.proofs.PassesLemmas.{passes_none, on_err}
 use Rattle.ckpt_script.proofs.runner.Runner.obey.Goals as goal
 

@@ -1,4 +1,4 @@
-use Rattle.std.proofs.Common.{◌≡◌, sym, subst, ◌∙◌}
+use Rattle.std.proofs.Common.{sym, subst, ◌∙◌}
 use Rattle.std.specs.Prelude.{Err}
 use Rattle.ckpt_script.specs.Outputs.{Ran}
 use Rattle.ckpt_script.specs.declared.fault.RunFault.{RunFault}
