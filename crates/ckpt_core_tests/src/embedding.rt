@@ -1,26 +1,27 @@
 //! The lines that the README shows under "Embedding".
 use ckpt_core::Core;
-use ckpt_ids::{Call, CheckpointId, Config, Reply, Shape, TickEnd};
+use ckpt_ids::{Call, Config, Reply, Shape, TickEnd};
 use std::alloc::Global;
 use std::process::Abort;
 use std::test::Fail;
 
-/// Opens a job, and answers the checkpoint that its first tick triggers.
-fn first_checkpoint(alloc: Global) -> Result<Option<CheckpointId>, Fail> {
+/// Opens a job, and answers the number of the checkpoint that its first tick triggers.
+fn first_checkpoint(alloc: Global) -> Result<Option<u64>, Fail> {
     let config = Config::new(60_000, 0, 1, 600_000, 0, 1, false)?; // milliseconds
     let shape = Shape::new(alloc, &[2, 1])?; // the parallelism of each vertex
     let mut core = Core::new(alloc, config, shape, 0, 1)?; // opens at the moment 0
-    match core.apply(&Call::Tick { now: 60_000 })? {
+    let reply = core.apply(&Call::Tick { now: 60_000 })?;
+    match &reply {
         Reply::Ticked {
             end: TickEnd::Triggered(id),
             ..
-        } => Ok(Some(id)), // to be told to the sources
+        } => Ok(Some(id.0)), // to be told to the sources
         _ => Ok(None),
     }
 }
 
 #[test]
 fn a_job_is_opened_and_told_the_time(rt: HostRuntime) -> Result<(), Fail> {
-    assert_eq!(rt; first_checkpoint(rt.alloc())?, Some(CheckpointId(1)));
+    assert_eq!(rt; first_checkpoint(rt.alloc())?, Some(1));
     Ok(())
 }
