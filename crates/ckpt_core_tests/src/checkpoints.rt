@@ -1,14 +1,13 @@
 use crate::job::Deed::{Ack, Count, Show, Take, Tick};
 use crate::job::Said::{AckCompleted, Counted, Held, Refused, Taken, Triggered};
 use crate::job::{Job, Said, Shown};
-use ckpt_ids::{Config, FileId, Kind, Refusal, SubtaskId, TickEnd};
+use ckpt_ids::{FileId, Kind, Refusal, SubtaskId, TickEnd};
 use std::process::Abort;
 use std::test::Fail;
 
 #[test]
 fn a_checkpoint_is_triggered_when_it_is_due(rt: HostRuntime) -> Result<(), Fail> {
-    let config = Config::new(1000, 0, 1, 600_000, 0, 1, false)?;
-    let mut job = Job::open(rt.alloc(), config, 1)?;
+    let mut job = Job::open(rt.alloc(), 1)?;
     let done = Shown {
         id: 1,
         kind: Kind::Checkpoint,
@@ -37,8 +36,7 @@ fn a_checkpoint_is_triggered_when_it_is_due(rt: HostRuntime) -> Result<(), Fail>
 
 #[test]
 fn a_file_that_is_gone_or_waits_is_refused(rt: HostRuntime) -> Result<(), Fail> {
-    let config = Config::new(1000, 0, 1, 600_000, 0, 1, false)?;
-    let mut job = Job::open(rt.alloc(), config, 1)?;
+    let mut job = Job::open(rt.alloc(), 1)?;
     let row = [
         (Tick(1000), Triggered(1)),
         (Ack(1000, 1, (0, 0), Some(1), None), AckCompleted(0, 0)),

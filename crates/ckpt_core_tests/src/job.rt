@@ -79,18 +79,15 @@ pub(crate) struct Job {
 }
 
 impl Job {
-    /// A job of one vertex that opens at 0 with number 1.
-    pub(crate) fn open(alloc: Global, config: Config, parallelism: u64) -> Result<Job, Fail> {
-        Job::open_from(alloc, config, parallelism, 1)
+    /// A job of one vertex that opens at 0 with number 1: a checkpoint each second, of which one is
+    /// retained.
+    pub(crate) fn open(alloc: Global, parallelism: u64) -> Result<Job, Fail> {
+        Job::open_from(alloc, parallelism, 1)
     }
 
     /// The same, with this first number.
-    pub(crate) fn open_from(
-        alloc: Global,
-        config: Config,
-        parallelism: u64,
-        first: u64,
-    ) -> Result<Job, Fail> {
+    pub(crate) fn open_from(alloc: Global, parallelism: u64, first: u64) -> Result<Job, Fail> {
+        let config = Config::new(1000, 0, 1, 600_000, 0, 1, false)?;
         let shape = Shape::new(alloc, &[parallelism])?;
         let core = Core::new(alloc, config, shape, 0, first)?;
         Ok(Job { core, alloc })

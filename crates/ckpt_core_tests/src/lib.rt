@@ -1,6 +1,6 @@
 //! Tests of the coordinator: rows of calls of [`ckpt_core::Core`] with their answers.
 //!
-//! They stand apart from the crate that they test since a crate with tests is proved twice.
+//! `docs/DECISIONS.md` says why they stand apart from the crate that they test.
 #![tactic(auto)]
 
 #[cfg(test)]

@@ -9,8 +9,7 @@ use std::test::Fail;
 
 #[test]
 fn numbers_are_used_up(rt: HostRuntime) -> Result<(), Fail> {
-    let config = Config::new(1000, 0, 1, 600_000, 0, 1, false)?;
-    let mut job = Job::open_from(rt.alloc(), config, 1, (1 << 62) - 1)?;
+    let mut job = Job::open_from(rt.alloc(), 1, (1 << 62) - 1)?;
     let row = [
         (Tick(1000), Triggered(4611686018427387903)),
         (

@@ -6,7 +6,7 @@ use crate::job::Said::{
     Triggered,
 };
 use crate::job::{Job, Said, Shown};
-use ckpt_ids::{CheckpointId, Choice, Config, Kind};
+use ckpt_ids::{CheckpointId, Choice, Kind};
 use std::process::Abort;
 use std::test::Fail;
 
@@ -25,8 +25,7 @@ fn unacknowledged(id: u64, started: u64) -> Shown {
 
 #[test]
 fn refused_memory_in_records_that_pin_the_choice(rt: HostRuntime) -> Result<(), Fail> {
-    let config = Config::new(1000, 0, 1, 600_000, 0, 1, false)?;
-    let mut job = Job::open(rt.alloc(), config, 2)?;
+    let mut job = Job::open(rt.alloc(), 2)?;
     let row = [
         (Tick(1000), Triggered(1)),
         (Ack(1000, 1, (0, 0), Some(11), None), AckPending(1)),
@@ -45,8 +44,7 @@ fn refused_memory_in_records_that_pin_the_choice(rt: HostRuntime) -> Result<(), 
 
 #[test]
 fn refused_memory_in_a_restore_with_a_shape(rt: HostRuntime) -> Result<(), Fail> {
-    let config = Config::new(1000, 0, 1, 600_000, 0, 1, false)?;
-    let mut job = Job::open(rt.alloc(), config, 1)?;
+    let mut job = Job::open(rt.alloc(), 1)?;
     let choice = Choice::Checkpoint(CheckpointId(1));
     let row = [
         (Tick(1000), Triggered(1)),

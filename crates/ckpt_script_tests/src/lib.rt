@@ -1,6 +1,6 @@
 //! Tests of scripts: what [`ckpt_script::run`] writes over readers and writers of several kinds.
 //!
-//! They stand apart from the crate that they test since a crate with tests is proved twice.
+//! `docs/DECISIONS.md` says why they stand apart from the crate that they test.
 #![tactic(auto)]
 
 #[cfg(test)]
