@@ -19,6 +19,6 @@ in_bounds now first e = record {
   first_to = grind (arith, nat_tests);
 }
 
-pub kept_opened : (o : Opening) → CanOpen o → IsKept (opened o) []
+pub kept_opened : (o : Opening) (keep : ℕ) → CanOpen o → IsKept (opened o) [] keep
 unfolding state_of_book
-kept_opened o can_open = record { history = record { can_open = can_open; are_calls = tt }; is_replay = refl }
+kept_opened o keep can_open = record { history = record { can_open = can_open; are_calls = tt }; is_replay = refl }

@@ -35,9 +35,9 @@ calls_of-push : (entries : List Entry) (entry : Entry) → calls_of (entries ++ 
 calls_of-push entries entry = map-append (λ e. e.call) entries (entry ∷ [])
 
 -- the coordinator after a call, and the list with it, are a book
-kept_step : (core : State) (entries : List Entry) (entry : Entry) → IsKept core entries → IsCall entry.call → IsKept (step core entry.call).0 (entries ++ entry ∷ [])
+kept_step : (core : State) (entries : List Entry) (entry : Entry) (keep : ℕ) → IsKept core entries keep → IsCall entry.call → IsKept (step core entry.call).0 (entries ++ entry ∷ []) keep
 unfolding state_of_book
-kept_step core entries entry kept call =
+kept_step core entries entry keep kept call =
     let after : State = (step core entry.call).0 in
     let more : List Entry = entries ++ entry ∷ [] in
     let same_opening : core.opening ≡ after.opening = sym (step_keeps_opening core entry.call) in
@@ -54,24 +54,32 @@ kept_step core entries entry kept call =
           ∙ ap (λ o. replay (opened o) (calls_of more)) same_opening;
     }
 
-pub kept_entered : (core after : State) (entries : List Entry) (entry : Entry) (answer : Answer) → IsKept core entries → IsCall entry.call → step core entry.call ≡ (after, answer) → IsKept after (entries ++ entry ∷ [])
-kept_entered core after entries entry answer kept call e =
-    let Kept : State → Type 0 = λ m. IsKept m (entries ++ entry ∷ []) in
+pub kept_entered : (core after : State) (entries : List Entry) (entry : Entry) (keep : ℕ) (answer : Answer) → IsKept core entries keep → IsCall entry.call → step core entry.call ≡ (after, answer) → IsKept after (entries ++ entry ∷ []) keep
+kept_entered core after entries entry keep answer kept call e =
+    let Kept : State → Type 0 = λ m. IsKept m (entries ++ entry ∷ []) keep in
     let there : (step core entry.call).0 ≡ after = ap (λ s. s.0) e in
-    subst Kept there (kept_step core entries entry kept call)
+    subst Kept there (kept_step core entries entry keep kept call)
+
+-- how many of the last are in memory has no part in it
+pub kept_keeping : (core : State) (entries : List Entry) (keep most : ℕ) → IsKept core entries keep → IsKept core entries most
+unfolding state_of_book
+kept_keeping core entries keep most kept = record {
+  history = record { can_open = kept.history.can_open; are_calls = kept.history.are_calls };
+  is_replay = kept.is_replay;
+}
 
 -- what the two tell is the entry more
-pub history_entered : (core after : State) (entries more : List Entry) (seat : ℕ) (call : Call) (answer : Answer) → step core call ≡ (after, answer) → more ≡ entries ++ record { seat = seat; call = call } ∷ [] → history_of after more ≡ entered (history_of core entries) seat call
-history_entered core after entries more seat call answer e is_more =
+pub history_entered : (core after : State) (entries more : List Entry) (keep seat : ℕ) (call : Call) (answer : Answer) → step core call ≡ (after, answer) → more ≡ entries ++ record { seat = seat; call = call } ∷ [] → history_of after more keep ≡ entered (history_of core entries keep) seat call
+history_entered core after entries more keep seat call answer e is_more =
     let same_opening : after.opening ≡ core.opening = sym (ap (λ s. s.0.opening) e) ∙ step_keeps_opening core call in
-    let of_opening : Opening → History = λ o. record { opening = o; entries = more } in
-    let of_entries : List Entry → History = λ xs. record { opening = core.opening; entries = xs } in
+    let of_opening : Opening → History = λ o. record { opening = o; entries = more; keep = keep } in
+    let of_entries : List Entry → History = λ xs. record { opening = core.opening; entries = xs; keep = keep } in
     ap of_opening same_opening ∙ ap of_entries is_more
 
 -- what it answers is the answer to the list
-pub answer_is : (core after : State) (entries : List Entry) (call : Call) (answer : Answer) → IsKept core entries → step core call ≡ (after, answer) → answer ≡ answer_to (history_of core entries) call
+pub answer_is : (core after : State) (entries : List Entry) (keep : ℕ) (call : Call) (answer : Answer) → IsKept core entries keep → step core call ≡ (after, answer) → answer ≡ answer_to (history_of core entries keep) call
 unfolding answer_to
-answer_is core after entries call answer kept e =
+answer_is core after entries keep call answer kept e =
     let here : (step core call).1 ≡ answer = ap (λ s. s.1) e in
     sym here ∙ ap (λ m. (step m call).1) kept.is_replay
 

@@ -1,5 +1,5 @@
 -- A book: what a coordinator was opened with and all calls since, and the state that they lead to.
-use Rattle.std.specs.Prelude.{◌≡◌, ℕ, List, [], ◌∷◌, ◌++◌, map}
+use Rattle.std.specs.Prelude.{◌≡◌, ℕ, ◌+◌, if◌then◌else◌, nat_lt, List, [], ◌∷◌, ◌++◌, map, length, Option, None, slice_get}
 use Rattle.ckpt_ids.specs.declared.call.Call.{Call}
 use Rattle.ckpt_ids.specs.declared.reply.Answer.{Answer}
 use Rattle.ckpt_core.specs.State.{State, Opening, opened}
@@ -8,10 +8,15 @@ use Rattle.ckpt_core.specs.Histories.{replay}
 use Rattle.ckpt_core.specs.Laws.{CanOpen, AreCalls}
 use Rattle.ckpt_locked.specs.declared.book.Entry.{Entry}
 
--- what a book tells: the opening, and each call with who made it, refused calls too
+-- what a book tells: the opening, each call with who made it, refused calls too, and how many of the last are in memory
 pub record History : Type 0 where
   pub opening : Opening
   pub entries : List Entry
+  pub keep : ℕ
+
+-- the entry at this place, where it is among the last `keep`
+abbrev pub entry_at : History → ℕ → Option Entry
+entry_at h place = if nat_lt (place + h.keep) (length h.entries) then None else slice_get h.entries place
 
 abbrev pub calls_of : List Entry → List Call
 calls_of entries = map (λ e. e.call) entries
@@ -34,10 +39,10 @@ pub record IsHistory (h : History) : Type 0 where
   pub are_calls : AreCalls (calls_of h.entries)
 
 -- what the coordinator and the list beside it tell together
-abbrev pub history_of : State → List Entry → History
-history_of core entries = record { opening = core.opening; entries = entries }
+abbrev pub history_of : State → List Entry → ℕ → History
+history_of core entries keep = record { opening = core.opening; entries = entries; keep = keep }
 
 -- the coordinator is the replay of the list
-pub record IsKept (core : State) (entries : List Entry) : Type 0 where
-  pub history : IsHistory (history_of core entries)
-  pub is_replay : core ≡ state_of_book (history_of core entries)
+pub record IsKept (core : State) (entries : List Entry) (keep : ℕ) : Type 0 where
+  pub history : IsHistory (history_of core entries keep)
+  pub is_replay : core ≡ state_of_book (history_of core entries keep)

@@ -1,4 +1,4 @@
-ghost use Rattle.std.specs.Prelude.{◌≡◌, ◌↔◌, ℕ, [], length, slice_get, IsTrue, IfOk, IfErr, OnOk, OnErr};
+ghost use Rattle.std.specs.Prelude.{◌≡◌, ◌↔◌, ℕ, [], length, min, IsTrue, IfOk, IfErr, OnOk, OnErr};
 ghost use Rattle.std.specs.Option.{option_copied};
 ghost use Rattle.std.specs.Result.{result_err};
 ghost use Rattle.ckpt_ids.specs.declared.call.Call.TheVariants.{Count};
@@ -9,9 +9,11 @@ ghost use Rattle.ckpt_core.specs.Laws.{Accounted, Acknowledgements, Balance, Cho
 ghost use Rattle.ckpt_core.specs.Opening.{open_fault};
 ghost use Rattle.ckpt_core.specs.Soundness.{IsCall, IsSound};
 ghost use Rattle.ckpt_core.specs.Steps.{step};
+ghost use Rattle.ckpt_recent.specs.Lists.{all};
 
 use ckpt_core::{Core, CoreFault, OpenFault, laws};
 use ckpt_ids::{Answer, Call, Config, Shape};
+use ckpt_recent::Recent;
 use std::alloc::{AllocError, Global};
 use std::marker::Model;
 
@@ -26,11 +28,12 @@ pub struct Entry {
 /// A coordinator with the list of all its calls, for one thread.
 ///
 /// At each moment the coordinator is the replay of the list from its opening: [`Book::core`] says
-/// so, and what follows from it.
+/// so, and what follows from it. All entries are kept in memory, some 100 bytes each, unless
+/// [`Book::keep_last`] says how many; what is promised is of all of them either way.
 #[derive(Drop)]
 pub struct Book {
     core: Core,
-    entries: Vec<Entry>,
+    entries: Recent<Entry>,
 }
 
 impl Model for Book {
@@ -38,9 +41,9 @@ impl Model for Book {
 
     ghost Value = { History };
 
-    ghost view = { λ b. history_of b.core b.entries.items };
+    ghost view = { λ b. history_of b.core b.entries.items b.entries.keep };
 
-    ghost invariant = { λ b. IsKept b.core b.entries.items };
+    ghost invariant = { λ b. IsKept b.core b.entries.items b.entries.keep };
 }
 
 /// Does nothing: its contract tells that the shape of a restore is the shape of a job.
@@ -73,10 +76,11 @@ fn answer(core: &mut Core, call: &Call) -> Result<Answer, AllocError>
 }
 
 impl Book {
-    ghost use Rattle.ckpt_locked.specs.Books.{IsHistory, answer_to, calls_of, entered, state_of_book};
+    ghost use Rattle.ckpt_locked.specs.Books.{IsHistory, answer_to, calls_of, entered, entry_at, state_of_book};
     ghost use Rattle.ckpt_locked.specs.Promises.{AreDoneFull, AreHandedForGood, ExactlyOne, PinsHold, SavepointsStay};
 
-    /// Opens a coordinator as [`Core::new`] does, with an empty list. Takes no memory.
+    /// Opens a coordinator as [`Core::new`] does, with an empty list, which keeps all entries. Takes no
+    /// memory.
     ///
     /// `now` is in milliseconds. Answers [`OpenFault::MomentTooLarge`] exactly where it is above
     /// 2^62 - 1, and else [`OpenFault::BadFirst`] exactly where `first` is outside 1 to 2^62 - 1.
@@ -88,12 +92,12 @@ impl Book {
         first: u64,
     ) -> Result<Book, OpenFault>
         ensures fault { result_err result ≡ open_fault now first }
-        ensures value { IfOk result (λ book. book ≡ record { opening = record { config = config; shape = shape; start = now; first = first }; entries = [] }) }
+        ensures value { IfOk result (λ book. book ≡ record { opening = record { config = config; shape = shape; start = now; first = first }; entries = []; keep = all }) }
     {
         // Tells that both are within their limits.
         let _ = (config.interval(), shape.size());
         let core = Core::new(alloc, config, shape, now, first)?;
-        let entries = Vec::new(alloc);
+        let entries = Recent::new(alloc);
         Ok(Book { core, entries })
     }
 
@@ -112,7 +116,7 @@ impl Book {
         ensures returned { IfErr result (λ back. back ≡ call) }
         ensures unchanged { OnErr result (self.new ≡ self.old) }
     {
-        if self.entries.reserve(1).is_err() {
+        if self.entries.make_room().is_err() {
             return Err(call);
         }
         let Ok(answer) = answer(&mut self.core, &call) else {
@@ -126,7 +130,7 @@ impl Book {
     pub fn len(&self) -> u64
         ensures { result ≡ length self.now.entries }
     {
-        self.entries.len() as u64
+        self.entries.len()
     }
 
     /// Whether no call was entered.
@@ -136,11 +140,27 @@ impl Book {
         self.entries.is_empty()
     }
 
-    /// The entry at this place, counted from 0, or `None` past the last.
-    pub fn entry(&self, place: u64) -> Option<&Entry>
-        ensures { option_copied result ≡ slice_get self.now.entries place }
+    /// Keeps from now on at most the last `most` entries in memory, 0 to 2^64 - 1. The others can't be
+    /// read any more; they count all the same, and the coordinator is still the replay of all. A
+    /// greater number later brings none back. Takes no memory.
+    pub fn keep_last(&mut self, most: u64)
+        ensures kept { self.new ≡ record self.old { keep = min self.old.keep most } }
     {
-        self.entries.get(place as usize)
+        self.entries.keep_last(most);
+    }
+
+    /// How many entries are in memory: all, or as many as [`Book::keep_last`] left.
+    pub fn held(&self) -> u64
+        ensures { result ≡ min (length self.now.entries) self.now.keep }
+    {
+        self.entries.held()
+    }
+
+    /// The entry at this place, counted from 0, or `None` past the last and where it was forgotten.
+    pub fn entry(&self, place: u64) -> Option<&Entry>
+        ensures { option_copied result ≡ entry_at self.now place }
+    {
+        self.entries.get(place)
     }
 
     /// The coordinator: the replay of the list from its opening. The other clauses are what follows

@@ -7,6 +7,7 @@ use Rattle.ckpt_ids.specs.declared.call.Call.{Call}
 use Rattle.ckpt_ids.specs.declared.call.Call.TheVariants as call
 use Rattle.ckpt_core.specs.State.{Opening}
 use Rattle.ckpt_locked.specs.Books.{History, entered, answer_to}
+use Rattle.ckpt_recent.specs.Lists.{all}
 use Rattle.ckpt_lines.specs.declared.line.Line.{Line}
 use Rattle.ckpt_lines.specs.declared.line.Line.TheVariants as line
 use Rattle.ckpt_lines.specs.declared.fault.LineFault.{LineFault}
@@ -53,7 +54,7 @@ shaped scene shape = if is_shape shape then (record scene { shape = Some shape }
 abbrev pub opened : Scene → Opening → Said
 opened scene opening =
     if nat_le (2 ^ 62) opening.start then refused scene MomentTooLarge
-    else (record scene { book = Some (record { opening = opening; entries = [] }) }, [])
+    else (record scene { book = Some (record { opening = opening; entries = []; keep = all }) }, [])
 
 -- the book opens with the configuration and the shape; its first record has number 1
 unfoldable pub started : Scene → ℕ → Option Configuration → Option (List ℕ) → Said

@@ -1,0 +1,62 @@
+ghost use Rattle.std.specs.Prelude.{◌≡◌, [], ◌∷◌, ◌++◌};
+
+use std::marker::Model;
+use std::snapshot::Snapshot;
+
+// All items so far. A value of it lives for a moment, for a snapshot of it.
+struct Link<T> {
+    before: Option<Snapshot<Link<T>>>,
+    last: T,
+}
+
+impl<T> Model for Link<T> {
+    ghost use Rattle.std.specs.Prelude.{List, [], ◌∷◌, ◌++◌, length};
+    ghost use Rattle.std.specs.Option.{option_map_or};
+    ghost use Rattle.std.proofs.Common.{arith, length-append};
+
+    ghost Value = { List T };
+
+    ghost view = { λ l. option_map_or (λ s. s.value) l.before [] ++ l.last ∷ [] };
+
+    ghost size = { length };
+
+    ghost size_decreases = { λ l h. Prim.grind (arith, length-append) };
+}
+
+/// A list that only clauses read: all items that were put in, of which it keeps none.
+#[derive(Drop)]
+pub struct Past<T> {
+    links: Option<Snapshot<Link<T>>>,
+}
+
+impl<T> Model for Past<T> {
+    ghost use Rattle.std.specs.Prelude.{List, []};
+    ghost use Rattle.std.specs.Option.{option_map_or};
+
+    ghost Value = { List T };
+
+    ghost view = { λ p. option_map_or (λ s. s.value) p.links [] };
+}
+
+impl<T> Past<T> {
+    /// Nothing is past.
+    pub fn new() -> Past<T>
+        ensures { result ≡ [] }
+    {
+        Past { links: None }
+    }
+
+    /// Puts the item at the end, and gives it back. Takes no memory.
+    pub fn push(&mut self, item: T) -> T
+        ensures pushed { self.new ≡ self.old ++ item ∷ [] }
+        ensures back { result ≡ item }
+    {
+        let link = Link {
+            before: self.links.take(),
+            last: item,
+        };
+        self.links = Some(Snapshot::of(&link));
+        let Link { before: _, last } = link;
+        last
+    }
+}

@@ -1,0 +1,137 @@
+ghost use Rattle.std.specs.Prelude.{◌≡◌, ◌↔◌, ◌+◌, ◌-◌, ◌^◌, ◌<◌, [], ◌∷◌, ◌++◌, length, IsTrue, OnOk, min};
+ghost use Rattle.std.specs.Option.{option_copied};
+
+use crate::past::Past;
+use std::alloc::{AllocError, Global};
+use std::cmp;
+use std::collections::VecDeque;
+use std::marker::Model;
+
+/// The room for items that an empty list makes at first.
+const FIRST_ROOM: usize = 4;
+
+/// A list that counts all its items and keeps the last `keep` of them.
+///
+/// Contracts see all items. Those before the last `keep` take no memory and can't be read.
+#[derive(Drop)]
+pub struct Recent<T> {
+    past: Past<T>,
+    forgotten: u64,
+    kept: VecDeque<T>,
+    keep: u64,
+}
+
+impl<T> Model for Recent<T> {
+    ghost use Rattle.std.specs.Prelude.{◌-◌, ◌++◌};
+    ghost use Rattle.std.specs.VecDeque.{deque_capacity, deque_len};
+    ghost use Rattle.ckpt_recent.specs.Lists.{Listed, IsListed};
+
+    ghost Value = { Listed T };
+
+    ghost view = { λ r. record { items = r.past ++ r.kept.items; keep = r.keep; room = deque_capacity r.kept - deque_len r.kept } };
+
+    ghost invariant = { λ r. IsListed r.past r.kept.items r.forgotten r.keep };
+}
+
+impl<T: Drop> Recent<T> {
+    ghost use Rattle.ckpt_recent.specs.Lists.{all, kept_at};
+
+    /// An empty list, which keeps all items. Takes no memory.
+    pub fn new(alloc: Global) -> Recent<T>
+        ensures items { result.items ≡ [] }
+        ensures keep { result.keep ≡ all }
+    {
+        Recent {
+            past: Past::new(),
+            forgotten: 0,
+            kept: VecDeque::new(alloc),
+            keep: u64::MAX,
+        }
+    }
+
+    /// Makes room for one item. Where it grows, it at least doubles.
+    ///
+    /// Fails only for want of memory, and at 2^64 - 1 items.
+    pub fn make_room(&mut self) -> Result<(), AllocError>
+        ensures items { self.new.items ≡ self.old.items }
+        ensures keep { self.new.keep ≡ self.old.keep }
+        ensures room { OnOk result (0 < self.new.room) }
+        ensures few { OnOk result (length self.new.items + 1 < 2 ^ 64) }
+    {
+        if self.len() == u64::MAX {
+            return Err(AllocError);
+        }
+        let held = self.kept.len();
+        if held < self.kept.capacity() {
+            return Ok(());
+        }
+        self.kept.reserve(cmp::max(held, FIRST_ROOM))
+    }
+
+    /// Puts an item at the end, into room that was made. Takes no memory.
+    pub fn push_reserved(&mut self, item: T)
+        requires room { 0 < self.old.room }
+        requires few { length self.old.items + 1 < 2 ^ 64 }
+        ensures items { self.new.items ≡ self.old.items ++ item ∷ [] }
+        ensures keep { self.new.keep ≡ self.old.keep }
+    {
+        let Ok(()) = self.kept.push_back(item) else {
+            unreachable!()
+        };
+        if self.kept.len() as u64 > self.keep {
+            let Some(first) = self.kept.pop_front() else {
+                unreachable!()
+            };
+            let _ = self.past.push(first);
+            self.forgotten += 1;
+        }
+    }
+
+    /// Keeps from now on at most the last `most` items. What was kept once and is more stays
+    /// forgotten, also where `most` is greater later. Takes no memory.
+    pub fn keep_last(&mut self, most: u64)
+        ensures items { self.new.items ≡ self.old.items }
+        ensures keep { self.new.keep ≡ min self.old.keep most }
+    {
+        if most >= self.keep {
+            return;
+        }
+        while self.kept.len() as u64 > most {
+            let Some(first) = self.kept.pop_front() else {
+                unreachable!()
+            };
+            let _ = self.past.push(first);
+            self.forgotten += 1;
+        }
+        self.keep = most;
+    }
+
+    /// How many items there are, forgotten ones too.
+    pub fn len(&self) -> u64
+        ensures { result ≡ length self.now.items }
+    {
+        self.forgotten + self.kept.len() as u64
+    }
+
+    /// Whether no item was put in.
+    pub fn is_empty(&self) -> bool
+        ensures { IsTrue result ↔ (self.now.items ≡ []) }
+    {
+        self.len() == 0
+    }
+
+    /// How many items are in memory.
+    pub fn held(&self) -> u64
+        ensures { result ≡ min (length self.now.items) self.now.keep }
+    {
+        self.kept.len() as u64
+    }
+
+    /// The item at this place, counted from 0, or `None` past the last and before the last `keep`.
+    pub fn get(&self, place: u64) -> Option<&T>
+        ensures { option_copied result ≡ kept_at self.now.keep self.now.items place }
+    {
+        let at = place.checked_sub(self.forgotten)?;
+        self.kept.get(at as usize)
+    }
+}
