@@ -8,6 +8,3 @@
 pub mod book;
 
 pub use book::{Book, Entry};
-
-#[cfg(test)]
-mod tests;

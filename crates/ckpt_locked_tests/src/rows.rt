@@ -1,10 +1,10 @@
 //! Rows of calls with their answers, each call made again where it finds no memory: what it left
 //! then is what it found.
-use crate::Book;
 use ckpt_ids::{
     Answer, Call, CheckpointId, Choice, Config, FileId, Files, Handed, Refusal, Reply, Shape,
     SubtaskId, Target, TickEnd,
 };
+use ckpt_locked::Book;
 use std::alloc::{AllocError, Global};
 use std::process::Abort;
 use std::test::Fail;

@@ -1,10 +1,8 @@
-mod rows;
-
-use crate::Book;
 use ckpt_core::OpenFault;
 use ckpt_ids::{
     Answer, Call, CheckpointId, Config, FileId, Files, Refusal, Reply, Shape, SubtaskId, TickEnd,
 };
+use ckpt_locked::Book;
 use std::alloc::{AllocError, Global};
 use std::process::Abort;
 use std::test::Fail;

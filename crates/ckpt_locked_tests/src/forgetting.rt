@@ -1,0 +1,119 @@
+//! A book that keeps its last entries alone.
+use ckpt_ids::{Answer, Call, CheckpointId, Config, FileId, Files, Reply, Shape, SubtaskId, TickEnd};
+use ckpt_locked::Book;
+use std::alloc::{AllocError, Global};
+use std::process::Abort;
+use std::test::Fail;
+
+/// A job of one subtask with a checkpoint each second.
+fn opened(alloc: Global) -> Result<Book, Fail> {
+    let config = Config::new(1000, 0, 1, 600_000, 0, 1, false)?;
+    let shape = Shape::new(alloc, &[1])?;
+    Ok(Book::new(alloc, config, shape, 0, 1)?)
+}
+
+/// The acknowledgement of checkpoint 1, with the new file 11.
+fn ack(alloc: Global) -> Result<Call, AllocError> {
+    let mut fresh = Vec::new(alloc);
+    fresh.push(FileId(11))?;
+    Ok(Call::Ack {
+        now: 1000,
+        id: CheckpointId(1),
+        subtask: SubtaskId {
+            vertex: 0,
+            index: 0,
+        },
+        fresh: Files::of(fresh),
+        reused: Files::of(Vec::new(alloc)),
+    })
+}
+
+/// Makes a call until it finds memory. Answers how often it found none, and then nothing was
+/// entered.
+fn insist(book: &mut Book, seat: u32, call: Call) -> Option<(Answer, u32)> {
+    let mut call = call;
+    for refused in 0..4u32 {
+        let entries = book.len();
+        match book.apply(seat, call) {
+            Ok(answer) => return Some((answer, refused)),
+            Err(back) => call = back,
+        }
+        if book.len() != entries {
+            return None;
+        }
+    }
+    None
+}
+
+fn count(book: &mut Book, seat: u32, times: u32) -> bool {
+    let file = FileId(11);
+    for _ in 0..times {
+        let Some((answer, _)) = insist(book, seat, Call::Count { file }) else {
+            return false;
+        };
+        if answer != Answer::Done(Reply::Counted(file, 1)) {
+            return false;
+        }
+    }
+    true
+}
+
+/// Triggers checkpoint 1 by seat 7, and completes it by seat 8.
+fn complete(alloc: Global, book: &mut Book) -> Result<bool, Fail> {
+    let triggered = Answer::Done(Reply::Ticked {
+        expired: 0,
+        end: TickEnd::Triggered(CheckpointId(1)),
+    });
+    let completed = Answer::Done(Reply::AckCompleted {
+        dropped: 0,
+        released: 0,
+    });
+    let first = insist(book, 7, Call::Tick { now: 1000 });
+    let last = insist(book, 8, ack(alloc)?);
+    Ok(matches!(first, Some((answer, _)) if answer == triggered)
+        && matches!(last, Some((answer, _)) if answer == completed))
+}
+
+fn seat_at(book: &Book, place: u64) -> Option<u32> {
+    book.entry(place).map(|entry| entry.seat)
+}
+
+#[test]
+fn keeps_all_unless_told(rt: HostRuntime) -> Result<(), Fail> {
+    let mut book = opened(rt.alloc())?;
+    assert!(rt; complete(rt.alloc(), &mut book)?);
+    assert!(rt; count(&mut book, 1, 100));
+    assert_eq!(rt; (book.len(), book.held()), (102, 102));
+    assert_eq!(rt; (seat_at(&book, 0), seat_at(&book, 1)), (Some(7), Some(8)));
+    assert_eq!(rt; (seat_at(&book, 101), seat_at(&book, 102)), (Some(1), None));
+    Ok(())
+}
+
+#[test]
+fn keeps_the_last_entries(rt: HostRuntime) -> Result<(), Fail> {
+    let mut book = opened(rt.alloc())?;
+    book.keep_last(2);
+    assert!(rt; complete(rt.alloc(), &mut book)?);
+    assert_eq!(rt; (book.len(), book.held()), (2, 2));
+    assert!(rt; count(&mut book, 3, 3));
+    assert_eq!(rt; (book.len(), book.held()), (5, 2));
+    assert_eq!(rt; (seat_at(&book, 2), seat_at(&book, 3)), (None, Some(3)));
+    assert_eq!(rt; (seat_at(&book, 4), seat_at(&book, 5)), (Some(3), None));
+    Ok(())
+}
+
+#[test]
+fn forgets_what_it_has(rt: HostRuntime) -> Result<(), Fail> {
+    let mut book = opened(rt.alloc())?;
+    assert!(rt; complete(rt.alloc(), &mut book)?);
+    assert!(rt; count(&mut book, 3, 3));
+    book.keep_last(1);
+    book.keep_last(4);
+    assert_eq!(rt; (book.len(), book.held()), (5, 1));
+    assert_eq!(rt; (seat_at(&book, 3), seat_at(&book, 4)), (None, Some(3)));
+    book.keep_last(0);
+    assert!(rt; count(&mut book, 3, 2));
+    assert_eq!(rt; (book.len(), book.held()), (7, 0));
+    assert_eq!(rt; seat_at(&book, 6), None);
+    Ok(())
+}
