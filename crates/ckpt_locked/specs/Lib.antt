@@ -1,2 +1,5 @@
 pub mod Books
 pub mod Promises
+pub mod Seats
+pub mod Turns
+pub mod Locks

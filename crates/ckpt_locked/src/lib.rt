@@ -1,10 +1,15 @@
-//! The checkpoint coordinator with a list of all its calls.
+//! The checkpoint coordinator with a list of all its calls, for one thread or for many.
 //!
 //! [`Book`] is the coordinator and the list beside it, for one thread. `specs/Books.antt` says what
 //! a book tells, and `specs/Promises.antt` what is promised of every book, beside the laws of
-//! `ckpt_core`.
+//! `ckpt_core`. [`Locked`] is a book that up to 64 threads share, each with a [`Pass`].
+//! `specs/Locks.antt` says what a pass knows.
 #![tactic(auto)]
 
 pub mod book;
+mod lock;
+mod steps;
+mod view;
 
 pub use book::{Book, Entry};
+pub use lock::{LockFault, Locked, MissingPass, Pass};

@@ -1,0 +1,10 @@
+use Rattle.std.proofs.Common.{◌≡◌, ◌++◌, ap, arith, List, ◌∷◌, [], ◌∙◌, Option, Some}
+use Rattle.ckpt_locked.specs.Books.{History}
+use Rattle.ckpt_locked.proofs.Keeps.{starts_as}
+use Rattle.ckpt_locked.proofs.lock.Locked.new.Goals as goal
+
+pub new-requires : goal.new-requires
+new-requires g c =
+    let empty : c.reserve-else-is_err.new.self.items ≡ [] = c.reserve-else-is_err.ensures.items ∙ c.new-slots.ensures.items in
+    let one : c.push_reserved.new.self.items ≡ Some c.args.book ∷ [] = c.push_reserved.ensures.items ∙ ap (λ (l : List (Option History)). l ++ Some c.args.book ∷ []) empty in
+    starts_as c.of.result.value c.args.book c.args.seats _ _ c.of.ensures one (omega arith)

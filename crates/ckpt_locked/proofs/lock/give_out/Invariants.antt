@@ -1,0 +1,9 @@
+use Rattle.std.proofs.Common.{◌≡◌, vec_capacity}
+use Rattle.ckpt_locked.specs.Locks.{newcomers}
+use Rattle.ckpt_locked.proofs.lock.give_out.Given as goal
+
+abbrev pub invariant-loop-number : goal.invariant-loop-number
+invariant-loop-number g l =
+    (l.first.table_id ≡ l.initial.first.table_id) × (l.first.me ≡ l.initial.first.me)
+    × (l.passes.items ≡ newcomers (record { table_id = l.initial.first.table_id; base = l.initial.first.me.0.mine.base }) l.number)
+    × (vec_capacity l.passes ≡ vec_capacity l.initial.passes)

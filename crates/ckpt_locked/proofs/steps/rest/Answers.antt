@@ -1,0 +1,9 @@
+use Rattle.std.proofs.Common.{rules}
+use Rattle.ckpt_locked.specs.Turns.{base_of}
+use Rattle.ckpt_locked.proofs.Keeps.{stirs}
+use Rattle.ckpt_locked.proofs.steps.rest.Goals as goal
+
+pub swap-requires : goal.swap-requires
+swap-requires g c =
+    let table = c.requires.table in
+    (search rules, search rules, stirs (base_of c.args.shared.now.key) _ _ c.args.seat.now.me _ (λ _. 1) c.requires.perch.0)

@@ -1,0 +1,98 @@
+-- What contracts see of a lock and its passes.
+use Rattle.std.specs.Prelude.{◌≡◌, ℕ, zero, suc, ◌^◌, ◌<◌, List, [], ◌∷◌, ◌++◌, length, drop, None, All}
+use Rattle.atomic_table.specs.Seated.{TableId}
+use Rattle.ckpt_ids.specs.declared.call.Call.{Call}
+use Rattle.ckpt_ids.specs.declared.reply.Answer.{Answer}
+use Rattle.ckpt_locked.specs.declared.book.Entry.{Entry}
+use Rattle.ckpt_locked.specs.declared.view.Base.{Base}
+use Rattle.ckpt_locked.specs.declared.view.Claim.{Claim}
+use Rattle.ckpt_locked.specs.Books.{History, answer_to}
+use Rattle.ckpt_locked.specs.Seats.{entry, calls_by, StartsWith, SeatsBelow}
+use Rattle.ckpt_locked.specs.Turns.{Sat, kept, idle, serving}
+
+-- which lock it is, the book that it was made with, and its number of seats
+pub record Lock : Type 0 where
+  pub table_id : TableId
+  pub base : Base
+
+-- a pass: its lock, its seat, the entries since the lock was made that it has seen, and its own calls
+pub record Hand : Type 0 where
+  pub lock : Lock
+  pub seat : ℕ
+  pub later : List Entry
+  pub own : List Call
+
+-- the list of the book that the lock was made with
+abbrev pub prior : Hand → List Entry
+prior h = h.lock.base.book.entries
+
+-- the list of the book as the pass has seen it
+abbrev pub seen : Hand → List Entry
+seen h = prior h ++ h.later
+
+abbrev pub hand : TableId → Claim → Hand
+hand id c = record { lock = record { table_id = id; base = c.base }; seat = c.number; later = c.later; own = c.own }
+
+-- a seat between two calls
+abbrev pub IsIdle : Sat → ℕ → ℕ → Type 0
+IsIdle m number calls =
+    (m ≡ (idle m.0.mine, [])) × (m.0.mine.number ≡ number) × (length m.0.mine.own ≡ calls)
+    × (calls_by number m.0.mine.later ≡ m.0.mine.own)
+
+-- the table has four words and sixty-four perches, and one slot
+abbrev pub IsTurns : TableId → Type 0
+IsTurns id = (id.words ≡ 68) × (id.slots ≡ 1)
+
+-- the seat has its turn with this ticket, and the book is out of its slot
+abbrev pub IsOut : Sat → ℕ → Type 0
+IsOut m t = (t < 2 ^ 62) × (m ≡ (serving m.0.mine t m.0.found, (0, None) ∷ []))
+
+-- the book came to the seat, which had this claim
+abbrev pub CameTo : Claim → History → ℕ → Sat → Type 0
+CameTo c book t m =
+    IsOut m t × (m.0.mine ≡ c) × (book ≡ kept c.base m.0.found)
+    × StartsWith m.0.found c.later × (calls_by c.number m.0.found ≡ c.own) × SeatsBelow c.base.seats m.0.found
+
+-- a new pass
+abbrev pub newcomer : Lock → ℕ → Hand
+newcomer lock k = record { lock = lock; seat = k; later = []; own = [] }
+
+abbrev pub newcomers : Lock → ℕ → List Hand
+newcomers lock zero = []
+newcomers lock (suc n) = newcomers lock n ++ newcomer lock n ∷ []
+
+abbrev pub lock_of : History → ℕ → TableId → Lock
+lock_of book seats id = record { table_id = id; base = record { book = book; seats = seats } }
+
+-- the book of the lock with this list
+abbrev pub book_with : Lock → List Entry → History
+book_with lock entries = record lock.base.book { entries = entries }
+
+-- A call was made. What was seen before begins what is seen after, which ends with the call, and of the entries since the
+-- lock was made those with this seat are the pass's own calls.
+pub record Made (old : Hand) (call : Call) (new : Hand) (answer : Answer) : Type 0 where
+  pub same : (new.lock ≡ old.lock) × (new.seat ≡ old.seat)
+  -- what others entered since the pass was used last
+  pub between : List Entry
+  pub seen_is : seen new ≡ (seen old ++ between) ++ entry old.seat call ∷ []
+  pub answer_is : answer ≡ answer_to (book_with old.lock (seen old ++ between)) call
+  pub own_is : new.own ≡ old.own ++ call ∷ []
+  pub all_own : calls_by new.seat new.later ≡ new.own
+
+-- the entries since the lock was made
+abbrev pub later_in : Lock → History → List Entry
+later_in lock book = drop (length lock.base.book.entries) book.entries
+
+-- the entries begin with those that the pass has seen, and the calls of its seat there are its own
+abbrev pub SeenIn : List Entry → Hand → Type 0
+SeenIn log h = StartsWith log h.later × (calls_by h.seat log ≡ h.own)
+
+-- the book begins with all that the pass has seen, and its later calls with the pass's seat are the pass's own
+abbrev pub Agrees : Lock → History → Hand → Type 0
+Agrees lock book h = StartsWith book.entries (seen h) × (calls_by h.seat (later_in lock book) ≡ h.own)
+
+-- The book that a lock gives back. It has the opening that the lock was made with, and its list begins with that book's.
+pub record GivenBack (lock : Lock) (book : History) (hands : List Hand) : Type 0 where
+  pub book_is : book ≡ kept lock.base (later_in lock book)
+  pub seats : SeatsBelow lock.base.seats (later_in lock book)
+  pub agree : All (Agrees lock book) hands

@@ -1,0 +1,141 @@
+//! What a seat of the lock's table knows, the rule of the table, and its steps. No value of a view is
+//! made: views are for clauses alone.
+use crate::book::{Book, Entry};
+use atomic_table::{Join, Play, Split, TableRule};
+use ckpt_ids::Call;
+use std::collections::LinkedList;
+use std::snapshot::Snapshot;
+
+/// What is fixed when a lock is made: the book as it is then, and the number of seats.
+pub struct Base {
+    pub book: Book,
+    pub seats: u32,
+}
+
+/// A seat's number, the entries since the lock was made that it has seen, and the calls that it has
+/// made.
+pub struct Claim {
+    pub base: Base,
+    pub number: u32,
+    pub later: LinkedList<Entry>,
+    pub own: LinkedList<Call>,
+}
+
+/// What a seat of the table knows.
+pub struct View {
+    // It is not used up.
+    pub live: bool,
+    // It has a number, which is `mine.number`.
+    pub numbered: bool,
+    pub mine: Claim,
+    // It has a ticket.
+    pub queued: bool,
+    pub ticket: u64,
+    // Its turn is known, and then all entries since the lock was made.
+    pub turn: bool,
+    pub found: LinkedList<Entry>,
+    // It has taken in another pass, to compare.
+    pub claims: bool,
+    pub other: Claim,
+}
+
+/// What the table is told when it is made.
+#[derive(Drop)]
+pub struct Key {
+    pub book: Snapshot<Book>,
+    pub seats: u32,
+}
+
+/// The rule of the table.
+pub struct Turns;
+
+impl TableRule<Option<Book>, View, Key> for Turns {
+    ghost use Rattle.ckpt_locked.specs.Turns.{base_of, fresh, Orderly};
+
+    ghost holds = { λ key. Orderly (base_of key) };
+
+    ghost first = { λ key. fresh (base_of key) };
+}
+
+/// A new seat knows what the first one does.
+pub struct Same;
+
+impl Split<View> for Same {
+    ghost left = { λ v. v };
+
+    ghost right = { λ v. v };
+}
+
+/// A seat that has its turn takes in an idle one.
+pub struct Take;
+
+impl Join<View> for Take {
+    ghost use Rattle.ckpt_locked.specs.Turns.{showing, spent};
+
+    ghost both = { λ v w. showing v.mine v.ticket v.found w.mine };
+
+    ghost spent = { spent };
+}
+
+/// A seat tries to take a number.
+pub struct Number;
+
+impl Play<Option<Book>, View> for Number {
+    ghost use Rattle.ckpt_locked.specs.Turns.{numbered};
+
+    ghost then = { numbered };
+}
+
+/// A seat draws a ticket.
+pub struct Draw;
+
+impl Play<Option<Book>, View> for Draw {
+    ghost use Rattle.ckpt_locked.specs.Turns.{drawn};
+
+    ghost then = { drawn };
+}
+
+/// A seat looks whether its turn has come, and takes the slot where it has.
+pub struct Await;
+
+impl Play<Option<Book>, View> for Await {
+    ghost use Rattle.ckpt_locked.specs.Turns.{awaited};
+
+    ghost then = { awaited };
+}
+
+/// A seat counts the entry that it has made.
+pub struct Commit;
+
+impl Play<Option<Book>, View> for Commit {
+    ghost use Rattle.ckpt_locked.specs.Turns.{committed};
+
+    ghost then = { committed };
+}
+
+/// A seat gives the slot back and passes the turn on.
+pub struct Next;
+
+impl Play<Option<Book>, View> for Next {
+    ghost use Rattle.ckpt_locked.specs.Turns.{passed};
+
+    ghost then = { passed };
+}
+
+/// A seat changes a perch.
+pub struct Stir;
+
+impl Play<Option<Book>, View> for Stir {
+    ghost use Rattle.ckpt_locked.specs.Turns.{stirred};
+
+    ghost then = { stirred };
+}
+
+/// A seat learns of the one that it took in.
+pub struct Compare;
+
+impl Play<Option<Book>, View> for Compare {
+    ghost use Rattle.ckpt_locked.specs.Turns.{compared};
+
+    ghost then = { compared };
+}
