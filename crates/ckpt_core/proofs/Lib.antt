@@ -29,6 +29,7 @@ pub mod GroupMoves
 pub mod GroupedLemmas
 pub mod HandOut
 pub mod HeldLemmas
+pub mod Interleavings
 pub mod LawAcknowledgements
 pub mod LawBalance
 pub mod LawChoice
@@ -38,10 +39,12 @@ pub mod LawPinned
 pub mod LawSavepoints
 pub mod Lookups
 pub mod Moves
+pub mod NewFiles
 pub mod PartsFacts
 pub mod PendingRecordLemmas
 pub mod PinsLemmas
 pub mod ReadMoves
+pub mod Rearranged
 pub mod RecordLists
 pub mod RefusalLookups
 pub mod RefusalRepeats

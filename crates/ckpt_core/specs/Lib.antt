@@ -1,6 +1,7 @@
 pub mod Completing
 pub mod Grouped
 pub mod Histories
+pub mod Interleavings
 pub mod Laws
 pub mod Memory
 pub mod Opening

@@ -2,15 +2,25 @@
 
 ghost use Rattle.std.specs.Prelude.{ℕ, List, ◌++◌};
 ghost use Rattle.ckpt_ids.specs.declared.call.Call.{Call};
+ghost use Rattle.ckpt_ids.specs.Records.{Record};
 ghost use Rattle.ckpt_core.specs.State.{State, Opening, opened};
 ghost use Rattle.ckpt_core.specs.Histories.{replay};
 ghost use Rattle.ckpt_core.specs.Soundness.{IsSound, IsCall};
 ghost use Rattle.ckpt_core.specs.Laws.{Exchange, Part, CanOpen, AreCalls, Balance, Handed, Accounted, UsedNoMore, Outbox, Acknowledgements, Numbers, Savepoints, ChoiceIsLive, Pinned};
+ghost use Rattle.ckpt_core.specs.Interleavings.{NewFile, AnyOrder};
 
 /// Two acknowledgements of different subtasks of one record, one right after the other, go in
 /// either order, with the same answers in turn and the same state after.
 pub fn swap()
     ensures { (m : State) (now id : ℕ) (p q : Part) → IsSound m → Exchange m now id p q }
+{}
+
+/// Acknowledgements of different missing subtasks of one record, each with one new file of its
+/// own, made by several seats: in whatever order the seats take their turns, they leave the same
+/// state, as many are accepted and as many refused, and the one that completes the record, if any,
+/// is answered the same.
+pub fn any_order()
+    ensures { (m : State) (now id : ℕ) (r : Record) (news : List NewFile) (given made : List (ℕ × Call)) → IsSound m → AnyOrder m now id r news given made }
 {}
 
 /// Each time that a file is registered it is handed out once, or is present still.

@@ -1,0 +1,5 @@
+use Rattle.ckpt_core.proofs.Interleavings.{any_order}
+use Rattle.ckpt_core.proofs.laws.any_order.Goals as goal
+
+pub returns : goal.returns
+returns c = any_order
