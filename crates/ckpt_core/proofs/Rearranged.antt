@@ -79,7 +79,7 @@ of_seat-cons {X} seat x xs =
 of_seat-its : {X : Type 0} (seat : ℕ) (x : ℕ × X) (xs : List (ℕ × X)) → eqb x.0 seat ≡ true → of_seat seat (x ∷ xs) ≡ x.1 ∷ of_seat seat xs
 of_seat-its seat x xs e = of_seat-cons seat x xs ∙ cond-true (eqb x.0 seat) (x.1 ∷ of_seat seat xs) (of_seat seat xs) e
 
-of_seat-other : {X : Type 0} (seat : ℕ) (x : ℕ × X) (xs : List (ℕ × X)) → eqb x.0 seat ≡ false → of_seat seat (x ∷ xs) ≡ of_seat seat xs
+pub of_seat-other : {X : Type 0} (seat : ℕ) (x : ℕ × X) (xs : List (ℕ × X)) → eqb x.0 seat ≡ false → of_seat seat (x ∷ xs) ≡ of_seat seat xs
 of_seat-other seat x xs e = of_seat-cons seat x xs ∙ cond-false (eqb x.0 seat) (x.1 ∷ of_seat seat xs) (of_seat seat xs) e
 
 -- where a value stands that is a seat's first: without it that seat has the rest, and every other has what it had
