@@ -1,6 +1,6 @@
 -- The missing subtasks of a pending record, each with the next file from a first one on, are what the law of any order speaks of.
-use Rattle.std.proofs.Common.{◌≡◌, ℕ, ◌+◌, ◌<◌, ◌≤◌, Bool, true, false, not, ◌&&◌, cond, eqb, List, [], ◌∷◌, map, refl, sym, ap, subst, ◌∙◌, ◌⊎◌, inl, inr, ⊎_elim, arith}
-use Rattle.std.specs.Prelude.{find, Option, Some, None}
+use Rattle.std.proofs.Common.{◌≡◌, ℕ, ◌+◌, ◌≤◌, Bool, true, false, not, ◌&&◌, eqb, List, [], ◌∷◌, map, refl, sym, ap, subst, ◌∙◌, inl, inr, ⊎_elim, arith}
+use Rattle.std.specs.Prelude.{find, Some}
 use Rattle.std.specs.List.{filter, enumerate_from}
 use Rattle.std.proofs.lemmas.Bool.{cases_Bool, both_ways, not-true, not_from_false, and_parts, and_from, cond-true, cond-false}
 use Rattle.ckpt_ids.specs.declared.subtask.SubtaskId.{SubtaskId}
@@ -9,7 +9,7 @@ use Rattle.ckpt_ids.specs.Acknowledged.{is_before}
 use Rattle.ckpt_ids.specs.Records.{Record, has_acknowledged}
 use Rattle.ckpt_ids.specs.Shapes.{subtasks}
 use Rattle.ckpt_ids.proofs.OrderLemmas.{subtasks_in_order}
-use Rattle.ckpt_ids.proofs.OrderedLemmas.{IsIn-from_map, IsIn-from_filter, IsInOrder-filter, ComesBefore-at}
+use Rattle.ckpt_ids.proofs.OrderedLemmas.{IsIn-from_filter, IsInOrder-filter, ComesBefore-at}
 use Rattle.ckpt_pending.proofs.SubtaskLemmas.{IsInOrder-subtasks, is_subtask-from_IsIn}
 use Rattle.ckpt_core.specs.State.{State, is_pending, record_of}
 use Rattle.ckpt_core.specs.Refusals.{pending_of}
