@@ -32,6 +32,7 @@ pub struct Entry {
 /// [`Book::keep_last`] says how many; what is promised is of all of them either way.
 #[derive(Drop)]
 pub struct Book {
+    alloc: Global,
     core: Core,
     entries: Recent<Entry>,
 }
@@ -98,7 +99,11 @@ impl Book {
         let _ = (config.interval(), shape.size());
         let core = Core::new(alloc, config, shape, now, first)?;
         let entries = Recent::new(alloc);
-        Ok(Book { core, entries })
+        Ok(Book {
+            alloc,
+            core,
+            entries,
+        })
     }
 
     /// Makes a call, enters it, and answers what it gave. A refused call is entered too.
@@ -124,6 +129,11 @@ impl Book {
         };
         self.entries.push_reserved(Entry { seat, call });
         Ok(answer)
+    }
+
+    /// Where the book takes memory.
+    pub(crate) fn alloc(&self) -> Global {
+        self.alloc
     }
 
     /// How many calls were entered.
