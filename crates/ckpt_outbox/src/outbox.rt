@@ -39,6 +39,21 @@ impl Model for Outbox {
     ghost invariant = { λ o. IsSound o.waiting.items (deque_capacity o.waiting) o.taken.files.entries o.taken.next o.index o.spare };
 }
 
+/// Makes room for so many more files. A growth at least doubles the room: the queue's own may grow
+/// to what is asked, and would copy the queue for each file that is taken and not reported.
+fn grow(queue: &mut VecDeque<FileId>, additional: usize) -> Result<(), AllocError>
+    ensures items { queue.new.items ≡ queue.old.items }
+    ensures ok { OnOk result (length queue.new.items + additional ≤ deque_capacity queue.new) }
+    ensures capacity { deque_capacity queue.old ≤ deque_capacity queue.new }
+{
+    let free = queue.capacity() - queue.len();
+    if additional <= free {
+        return Ok(());
+    }
+    let doubling = free.saturating_add(queue.capacity());
+    queue.reserve(additional.max(doubling))
+}
+
 /// The first `count` files of the queue.
 fn front(queue: &VecDeque<FileId>, count: usize, alloc: Global) -> Result<Vec<FileId>, AllocError>
     requires { count ≤ length queue.now.items }
@@ -85,8 +100,8 @@ impl Outbox {
         if n <= self.spare {
             return Ok(());
         }
-        self.waiting
-            .reserve(self.taken.files.len().saturating_add(n as usize))?;
+        let room = self.taken.files.len().saturating_add(n as usize);
+        grow(&mut self.waiting, room)?;
         self.index.reserve(n as usize)?;
         self.spare = n;
         Ok(())
