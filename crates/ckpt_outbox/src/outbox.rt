@@ -4,6 +4,7 @@ ghost use Rattle.ckpt_outbox.specs.Queues.{Queues, is_in, is_known, is_taken, wi
 
 use crate::places::{Index, Place, note, note_new, ticket};
 use crate::tickets::{Tickets, give};
+use ckpt_hash::Secret;
 use ckpt_ids::{FileId, Handed};
 use std::alloc::{AllocError, Global};
 use std::collections::{BTreeMap, HashMap, VecDeque};
@@ -74,8 +75,17 @@ fn drop_front(queue: &mut VecDeque<FileId>, count: usize)
 }
 
 impl Outbox {
-    /// An empty outbox. Takes no memory.
+    /// An empty outbox, for files whose numbers nobody chooses: anybody can know how they are
+    /// hashed. Takes no memory.
     pub fn new(alloc: Global) -> Outbox
+        ensures { result ≡ record { waiting = []; taken = []; spare = 0 } }
+    {
+        Outbox::keyed(alloc, Secret::fixed())
+    }
+
+    /// An empty outbox, which hashes the files' numbers under a secret: whoever chooses them can't
+    /// make look-ups slow. Takes no memory.
+    pub fn keyed(alloc: Global, secret: Secret) -> Outbox
         ensures { result ≡ record { waiting = []; taken = []; spare = 0 } }
     {
         Outbox {
@@ -85,7 +95,7 @@ impl Outbox {
                 files: BTreeMap::new(alloc),
                 next: 0,
             },
-            index: HashMap::new(alloc),
+            index: HashMap::with_hasher(alloc, secret),
             spare: 0,
         }
     }

@@ -5,11 +5,12 @@ ghost use Rattle.ckpt_ids.specs.Ordered.{IsIn};
 ghost use Rattle.ckpt_registry.specs.Counters.{counter, counted_once, times, AreInRange};
 ghost use Rattle.ckpt_registry.specs.Uses.{IsEachOnce};
 
+use ckpt_hash::Secret;
 use ckpt_ids::FileId;
 use indexmap::IndexMap;
 
 /// How often each file is used; a file that is not used has no counter.
-pub(crate) type Counts = IndexMap<FileId, u32>;
+pub(crate) type Counts = IndexMap<FileId, u32, Secret>;
 
 /// Counts files that no record uses yet, in room that was reserved.
 pub(crate) fn count_fresh(counts: &mut Counts, files: &[FileId])
