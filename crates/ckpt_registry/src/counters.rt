@@ -54,10 +54,11 @@ pub(crate) fn lower(counts: &mut Counts, released: &mut Vec<FileId>, file: FileI
     ensures capacity { vec_capacity released.new ≡ vec_capacity released.old }
     ensures range { AreInRange counts.new }
 {
-    let count = counts.get(&file).copied().unwrap_or(0);
-    if count > 1 {
-        let _ = counts.insert(file, count - 1);
-        return;
+    if let Some(count) = counts.get_mut(&file) {
+        if *count > 1 {
+            *count -= 1;
+            return;
+        }
     }
     counts.swap_remove(&file);
     released.push_reserved(file);
