@@ -6,11 +6,14 @@
 use std::collections::hash_map::Entry;
 use std::collections::{BTreeMap, HashMap, VecDeque};
 use std::hash::{BuildHasher, Hasher};
-use std::io::{self, BufRead, BufReader, BufWriter, Write};
+use std::io::{self, BufRead, BufReader, Write};
 
 const MOMENTS_END: u64 = 1 << 62;
 const MOST_FILES: usize = 4096;
 const MOST_SAVEPOINTS: usize = 1000;
+
+/// How much is read or written at once, in bytes.
+const BUFFER: usize = 1 << 16;
 
 /// Hashes a number by a folded multiplication.
 #[derive(Clone, Copy, Default)]
@@ -104,7 +107,64 @@ struct Coordinator {
     released: Vec<u64>,
 }
 
-type Said = io::Result<()>;
+/// What is printed and not written yet.
+struct Out {
+    bytes: Vec<u8>,
+}
+
+/// What `say!` can print.
+trait Put {
+    fn put(self, out: &mut Vec<u8>);
+}
+
+impl Put for &str {
+    fn put(self, out: &mut Vec<u8>) {
+        out.extend_from_slice(self.as_bytes());
+    }
+}
+
+impl Put for u64 {
+    fn put(mut self, out: &mut Vec<u8>) {
+        let mut digits = [0; 20];
+        let mut at = digits.len();
+        loop {
+            at -= 1;
+            digits[at] = b'0' + (self % 10) as u8;
+            self /= 10;
+            if self == 0 {
+                break;
+            }
+        }
+        out.extend_from_slice(&digits[at..]);
+    }
+}
+
+impl Put for u32 {
+    fn put(self, out: &mut Vec<u8>) {
+        u64::from(self).put(out);
+    }
+}
+
+impl Put for usize {
+    fn put(self, out: &mut Vec<u8>) {
+        (self as u64).put(out);
+    }
+}
+
+macro_rules! say {
+    ($out:expr, $($part:expr),*) => {{
+        $($part.put(&mut $out.bytes);)*
+        $out.bytes.push(b'\n');
+    }};
+}
+
+impl Out {
+    fn write(&mut self) -> io::Result<()> {
+        io::stdout().write_all(&self.bytes)?;
+        self.bytes.clear();
+        Ok(())
+    }
+}
 
 impl Coordinator {
     fn new(config: Config, shape: Vec<u32>, start: u64) -> Coordinator {
@@ -206,63 +266,73 @@ impl Coordinator {
         self.failed = true;
     }
 
-    fn tick(&mut self, now: u64, out: &mut impl Write) -> Said {
+    fn tick(&mut self, now: u64, out: &mut Out) {
         if now >= MOMENTS_END {
-            return writeln!(out, "refused MomentTooLarge");
+            return say!(out, "refused MomentTooLarge");
         }
         if self.failed {
-            return writeln!(out, "refused NotRunning");
+            return say!(out, "refused NotRunning");
         }
         self.latest = self.latest.max(now);
         let (latest, timeout) = (self.latest, self.config.timeout);
         let is_late = |record: &Record| record.started + timeout <= latest;
-        let late = self.pending.values().filter(|record| is_late(record) && record.kind == Kind::Checkpoint).count();
-        let expired = if self.pending.values().any(is_late) { self.drop_pending(|_, record| is_late(record)) } else { 0 };
-        self.failures += late as u64;
+        let (mut late, mut pending, mut expired) = (0, 0, 0);
+        for record in self.pending.values() {
+            let is_checkpoint = record.kind == Kind::Checkpoint;
+            if is_late(record) {
+                expired += 1;
+                late += u64::from(is_checkpoint);
+            } else {
+                pending += u64::from(is_checkpoint);
+            }
+        }
+        if expired > 0 {
+            self.drop_pending(|_, record| is_late(record));
+        }
+        self.failures += late;
         if late > 0 && self.failures > self.config.tolerable {
             self.fail_over();
             self.hand_out();
-            return writeln!(out, "tick expired {expired} failed");
+            return say!(out, "tick expired ", expired as u64, " failed");
         }
         self.hand_out();
         let at_once = if self.config.pause > 0 { 1 } else { self.config.at_once };
-        let pending = self.pending.values().filter(|record| record.kind == Kind::Checkpoint).count() as u64;
         if latest < self.due {
-            return writeln!(out, "tick expired {expired} held interval");
+            return say!(out, "tick expired ", expired as u64, " held interval");
         }
         if pending >= at_once {
-            return writeln!(out, "tick expired {expired} held at-once");
+            return say!(out, "tick expired ", expired as u64, " held at-once");
         }
         if self.completed.is_some_and(|completed| latest < completed + self.config.pause) {
-            return writeln!(out, "tick expired {expired} held pause");
+            return say!(out, "tick expired ", expired as u64, " held pause");
         }
         let id = self.trigger(Kind::Checkpoint);
         self.due = latest + self.config.interval.max(self.config.pause);
-        writeln!(out, "tick expired {expired} triggered {id}")
+        say!(out, "tick expired ", expired as u64, " triggered ", id)
     }
 
-    fn savepoint(&mut self, now: u64, out: &mut impl Write) -> Said {
+    fn savepoint(&mut self, now: u64, out: &mut Out) {
         if now >= MOMENTS_END {
-            return writeln!(out, "refused MomentTooLarge");
+            return say!(out, "refused MomentTooLarge");
         }
         if self.failed {
-            return writeln!(out, "refused NotRunning");
+            return say!(out, "refused NotRunning");
         }
         let pending = self.pending.values().filter(|record| record.kind == Kind::Savepoint).count();
         if self.savepoints.len() + pending >= MOST_SAVEPOINTS {
-            return writeln!(out, "refused TooManySavepoints");
+            return say!(out, "refused TooManySavepoints");
         }
         self.latest = self.latest.max(now);
         let id = self.trigger(Kind::Savepoint);
-        writeln!(out, "savepoint triggered {id}")
+        say!(out, "savepoint triggered ", id)
     }
 
-    fn ack(&mut self, now: u64, id: u64, subtask: Subtask, fresh: &[u64], reused: &[u64], out: &mut impl Write) -> Said {
+    fn ack(&mut self, now: u64, id: u64, subtask: Subtask, fresh: &[u64], reused: &[u64], out: &mut Out) {
         if now >= MOMENTS_END {
-            return writeln!(out, "refused MomentTooLarge");
+            return say!(out, "refused MomentTooLarge");
         }
         if fresh.len() + reused.len() > MOST_FILES {
-            return writeln!(out, "refused TooManyFiles");
+            return say!(out, "refused TooManyFiles");
         }
         // Both lists come sorted.
         let mut files: Vec<u64> = Vec::with_capacity(fresh.len() + reused.len());
@@ -270,27 +340,27 @@ impl Coordinator {
         files.extend_from_slice(reused);
         files.sort_unstable();
         if files.windows(2).any(|pair| pair[0] == pair[1]) {
-            return writeln!(out, "refused RepeatedFile");
+            return say!(out, "refused RepeatedFile");
         }
         if id == 0 || id >= self.next {
-            return writeln!(out, "refused UnknownCheckpoint");
+            return say!(out, "refused UnknownCheckpoint");
         }
         let place = self.place(subtask);
         let Some(record) = self.pending.get_mut(&id) else {
             return self.ack_late(now, fresh, out);
         };
         let Some(place) = place else {
-            return writeln!(out, "refused UnknownSubtask");
+            return say!(out, "refused UnknownSubtask");
         };
         if record.acks[place].is_some() {
-            return writeln!(out, "refused AlreadyAcknowledged");
+            return say!(out, "refused AlreadyAcknowledged");
         }
         let places = &mut self.places;
         if let Some(file) = fresh.iter().find(|file| places.contains_key(file)) {
-            return writeln!(out, "refused NameTaken {file}");
+            return say!(out, "refused NameTaken ", *file);
         }
         if let Some(file) = reused.iter().find(|file| !matches!(places.get(file), Some(Place::Used(_)))) {
-            return writeln!(out, "refused FileGone {file}");
+            return say!(out, "refused FileGone ", *file);
         }
         self.latest = self.latest.max(now);
         for file in fresh {
@@ -304,14 +374,14 @@ impl Coordinator {
         record.acks[place] = Some(files.into());
         record.missing -= 1;
         if record.missing > 0 {
-            return writeln!(out, "ack pending {}", record.missing);
+            return say!(out, "ack pending ", record.missing);
         }
         self.complete(id, out)
     }
 
-    fn ack_late(&mut self, now: u64, fresh: &[u64], out: &mut impl Write) -> Said {
+    fn ack_late(&mut self, now: u64, fresh: &[u64], out: &mut Out) {
         self.latest = self.latest.max(now);
-        let mut handed = 0;
+        let mut handed = 0u64;
         for file in fresh {
             if let Entry::Vacant(entry) = self.places.entry(*file) {
                 entry.insert(Place::Waiting);
@@ -319,12 +389,12 @@ impl Coordinator {
                 handed += 1;
             }
         }
-        writeln!(out, "ack late {handed}")
+        say!(out, "ack late ", handed)
     }
 
-    fn complete(&mut self, id: u64, out: &mut impl Write) -> Said {
+    fn complete(&mut self, id: u64, out: &mut Out) {
         let Some(mut record) = self.pending.remove(&id) else {
-            return Ok(());
+            return;
         };
         let mut dropped = 0;
         let pins = std::mem::take(&mut record.pins);
@@ -344,22 +414,22 @@ impl Coordinator {
         }
         self.unpin(pins);
         let released = self.hand_out();
-        writeln!(out, "ack completed {dropped} {released}")
+        say!(out, "ack completed ", dropped, " ", released)
     }
 
-    fn decline(&mut self, now: u64, id: u64, subtask: Subtask, out: &mut impl Write) -> Said {
+    fn decline(&mut self, now: u64, id: u64, subtask: Subtask, out: &mut Out) {
         if now >= MOMENTS_END {
-            return writeln!(out, "refused MomentTooLarge");
+            return say!(out, "refused MomentTooLarge");
         }
         if id == 0 || id >= self.next {
-            return writeln!(out, "refused UnknownCheckpoint");
+            return say!(out, "refused UnknownCheckpoint");
         }
         if self.pending.contains_key(&id) && self.place(subtask).is_none() {
-            return writeln!(out, "refused UnknownSubtask");
+            return say!(out, "refused UnknownSubtask");
         }
         self.latest = self.latest.max(now);
         let Some(record) = self.pending.remove(&id) else {
-            return writeln!(out, "decline late");
+            return say!(out, "decline late");
         };
         let is_failure = record.kind == Kind::Checkpoint;
         self.drop_record(record);
@@ -367,64 +437,65 @@ impl Coordinator {
         if is_failure && self.failures > self.config.tolerable {
             self.fail_over();
             let released = self.hand_out();
-            return writeln!(out, "decline failed {released}");
+            return say!(out, "decline failed ", released);
         }
         let released = self.hand_out();
-        writeln!(out, "decline aborted {released}")
+        say!(out, "decline aborted ", released)
     }
 
-    fn dispose(&mut self, id: u64, out: &mut impl Write) -> Said {
+    fn dispose(&mut self, id: u64, out: &mut Out) {
         let Some(record) = self.savepoints.remove(&id) else {
-            return writeln!(out, "refused NoSuchSavepoint");
+            return say!(out, "refused NoSuchSavepoint");
         };
         self.drop_record(record);
         let released = self.hand_out();
-        writeln!(out, "disposed {released}")
+        say!(out, "disposed ", released)
     }
 
-    fn take(&mut self, most: u64, out: &mut impl Write) -> Said {
+    fn take(&mut self, most: u64, out: &mut Out) {
         let count = most.min(self.waiting.len() as u64) as usize;
         if count == 0 {
-            return writeln!(out, "take none");
+            return say!(out, "take none");
         }
-        write!(out, "take")?;
+        "take".put(&mut out.bytes);
         for file in self.waiting.drain(..count) {
             self.places.insert(file, Place::Taken);
-            write!(out, " {file}")?;
+            " ".put(&mut out.bytes);
+            file.put(&mut out.bytes);
         }
-        writeln!(out)
+        out.bytes.push(b'\n');
     }
 
-    fn deleted(&mut self, file: u64, out: &mut impl Write) -> Said {
+    fn deleted(&mut self, file: u64, out: &mut Out) {
         match self.places.entry(file) {
             Entry::Occupied(entry) if *entry.get() == Place::Taken => {
                 entry.remove();
-                writeln!(out, "deleted {file}")
+                say!(out, "deleted ", file)
             }
-            _ => writeln!(out, "refused NotTaken"),
+            _ => say!(out, "refused NotTaken"),
         }
     }
 
-    fn undeleted(&mut self, file: u64, out: &mut impl Write) -> Said {
+    fn undeleted(&mut self, file: u64, out: &mut Out) {
         match self.places.get_mut(&file) {
             Some(place) if *place == Place::Taken => {
                 *place = Place::Waiting;
                 self.waiting.push_back(file);
-                writeln!(out, "undeleted {file}")
+                say!(out, "undeleted ", file)
             }
-            _ => writeln!(out, "refused NotTaken"),
+            _ => say!(out, "refused NotTaken"),
         }
     }
 
-    fn count(&self, file: u64, out: &mut impl Write) -> Said {
+    fn count(&self, file: u64, out: &mut Out) {
         let count = match self.places.get(&file) {
             Some(Place::Used(count)) => *count,
             _ => 0,
         };
-        writeln!(out, "count {file} {count}")
+        say!(out, "count ", file, " ", count)
     }
 
-    fn apply(&mut self, call: &Call, out: &mut impl Write) -> Said {
+    fn apply(&mut self, call: &Call, out: &mut Out) {
         match call {
             Call::Tick(now) => self.tick(*now, out),
             Call::Savepoint(now) => self.savepoint(*now, out),
@@ -439,53 +510,102 @@ impl Coordinator {
     }
 }
 
-fn number(word: &[u8]) -> Option<u64> {
-    if word.is_empty() {
-        return None;
+/// What is left of a line.
+struct Words<'a> {
+    rest: &'a [u8],
+}
+
+impl Words<'_> {
+    fn skip_spaces(&mut self) {
+        while let [b' ', rest @ ..] = self.rest {
+            self.rest = rest;
+        }
     }
-    word.iter().try_fold(0u64, |value, byte| match byte {
-        b'0'..=b'9' => value.checked_mul(10)?.checked_add(u64::from(byte - b'0')),
-        _ => None,
-    })
-}
 
-fn subtask(word: &[u8]) -> Option<Subtask> {
-    let dot = word.iter().position(|byte| *byte == b'.')?;
-    let half = |word| u16::try_from(number(word)?).ok();
-    Some((half(&word[..dot])?, half(&word[dot + 1..])?))
-}
+    /// The digits that come next.
+    fn digits(&mut self) -> Option<u64> {
+        let mut value = 0u64;
+        let before = self.rest.len();
+        while let [digit @ b'0'..=b'9', rest @ ..] = self.rest {
+            value = value.checked_mul(10)?.checked_add(u64::from(digit - b'0'))?;
+            self.rest = rest;
+        }
+        (self.rest.len() < before).then_some(value)
+    }
 
-fn read_call(line: &[u8]) -> Option<Call> {
-    let mut words = line.split(|byte| *byte == b' ').filter(|word| !word.is_empty());
-    let keyword = words.next()?;
-    let mut next = || number(words.next()?);
-    let call = match keyword {
-        b"tick" => Call::Tick(next()?),
-        b"savepoint" => Call::Savepoint(next()?),
-        b"dispose" => Call::Dispose(next()?),
-        b"take" => Call::Take(next()?),
-        b"deleted" => Call::Deleted(next()?),
-        b"undeleted" => Call::Undeleted(next()?),
-        b"count" => Call::Count(next()?),
-        b"decline" => Call::Decline { now: next()?, id: next()?, subtask: subtask(words.next()?)? },
-        b"ack" => {
-            let (now, id) = (next()?, next()?);
-            let subtask = subtask(words.next()?)?;
-            let (mut fresh, mut reused) = (Vec::new(), Vec::new());
-            for word in words.by_ref() {
-                match word.split_first()? {
-                    (b'+', file) => fresh.push(number(file)?),
-                    (b'=', file) => reused.push(number(file)?),
-                    _ => return None,
-                }
+    fn is_at_end_of_word(&self) -> bool {
+        matches!(self.rest, [] | [b' ', ..])
+    }
+
+    fn number(&mut self) -> Option<u64> {
+        self.skip_spaces();
+        let value = self.digits()?;
+        self.is_at_end_of_word().then_some(value)
+    }
+
+    fn subtask(&mut self) -> Option<Subtask> {
+        self.skip_spaces();
+        let vertex = u16::try_from(self.digits()?).ok()?;
+        self.rest = self.rest.strip_prefix(b".")?;
+        let index = u16::try_from(self.digits()?).ok()?;
+        self.is_at_end_of_word().then_some((vertex, index))
+    }
+
+    /// The files up to the end of the line, each list in order.
+    fn files(&mut self, fresh: &mut Vec<u64>, reused: &mut Vec<u64>) -> Option<()> {
+        fresh.clear();
+        reused.clear();
+        loop {
+            self.skip_spaces();
+            let [sign, rest @ ..] = self.rest else {
+                break;
+            };
+            let list = match sign {
+                b'+' => &mut *fresh,
+                b'=' => &mut *reused,
+                _ => return None,
+            };
+            self.rest = rest;
+            list.push(self.digits()?);
+            if !self.is_at_end_of_word() {
+                return None;
             }
-            fresh.sort_unstable();
-            reused.sort_unstable();
-            Call::Ack { now, id, subtask, fresh: fresh.into(), reused: reused.into() }
+        }
+        fresh.sort_unstable();
+        reused.sort_unstable();
+        Some(())
+    }
+}
+
+/// The lists that lines are read into.
+#[derive(Default)]
+struct Scratch {
+    fresh: Vec<u64>,
+    reused: Vec<u64>,
+}
+
+fn read_call(line: &[u8], scratch: &mut Scratch) -> Option<Call> {
+    let end = line.iter().position(|byte| *byte == b' ')?;
+    let mut words = Words { rest: &line[end..] };
+    let call = match &line[..end] {
+        b"tick" => Call::Tick(words.number()?),
+        b"savepoint" => Call::Savepoint(words.number()?),
+        b"dispose" => Call::Dispose(words.number()?),
+        b"take" => Call::Take(words.number()?),
+        b"deleted" => Call::Deleted(words.number()?),
+        b"undeleted" => Call::Undeleted(words.number()?),
+        b"count" => Call::Count(words.number()?),
+        b"decline" => Call::Decline { now: words.number()?, id: words.number()?, subtask: words.subtask()? },
+        b"ack" => {
+            let (now, id, subtask) = (words.number()?, words.number()?, words.subtask()?);
+            words.files(&mut scratch.fresh, &mut scratch.reused)?;
+            let (fresh, reused) = (scratch.fresh.as_slice().into(), scratch.reused.as_slice().into());
+            Call::Ack { now, id, subtask, fresh, reused }
         }
         _ => return None,
     };
-    words.next().is_none().then_some(call)
+    words.skip_spaces();
+    words.rest.is_empty().then_some(call)
 }
 
 /// Reads the three lines that a bench script opens with.
@@ -503,16 +623,20 @@ fn open(input: &mut impl BufRead) -> Option<Coordinator> {
 }
 
 fn main() -> io::Result<()> {
-    let mut input = BufReader::with_capacity(1 << 16, io::stdin().lock());
-    let mut out = BufWriter::with_capacity(1 << 16, io::stdout().lock());
+    let mut input = BufReader::with_capacity(BUFFER, io::stdin().lock());
+    let mut out = Out { bytes: Vec::with_capacity(2 * BUFFER) };
     let mut coordinator = open(&mut input).expect("config, job and start");
     let mut entries: Vec<(u32, Call)> = Vec::new();
+    let mut scratch = Scratch::default();
     let mut line = Vec::new();
     while input.read_until(b'\n', &mut line)? > 0 {
-        let call = read_call(line.trim_ascii_end()).expect("a line that this program knows");
-        coordinator.apply(&call, &mut out)?;
+        let call = read_call(line.trim_ascii_end(), &mut scratch).expect("a line that this program knows");
+        coordinator.apply(&call, &mut out);
         entries.push((64, call));
         line.clear();
+        if out.bytes.len() >= BUFFER {
+            out.write()?;
+        }
     }
-    out.flush()
+    out.write()
 }
