@@ -20,5 +20,6 @@ mod reads;
 mod refusals;
 mod triggers;
 
+pub use ckpt_hash::Secret;
 pub use coordinator::{Core, CoreFault, OpenFault};
 pub use mode::Mode;
