@@ -23,3 +23,4 @@ mod triggers;
 pub use ckpt_hash::Secret;
 pub use coordinator::{Core, CoreFault, OpenFault};
 pub use mode::Mode;
+pub use refusals::test_files;
