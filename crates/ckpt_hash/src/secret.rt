@@ -6,6 +6,7 @@ use std::hash::BuildHasher;
 
 /// What the words are joined with, so that two zeros are a lawful secret too.
 const SEED: u64 = 0x243f_6a88_85a3_08d3;
+
 const MULTIPLIER: u64 = 0x9e37_79b9_7f4a_7c15;
 
 /// The two words that a map hashes by.

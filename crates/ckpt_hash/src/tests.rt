@@ -45,6 +45,11 @@ fn another_word_spreads_numbers_that_meet(rt: HostRuntime) -> Result<(), Fail> {
     assert_eq!(rt; sharing(&known, &meeting, meeting[0]), meeting.len());
     assert!(rt; are_spread(&Secret::of(0x9be3_55c1_07d2_4af8, 0), &meeting));
     assert!(rt; are_spread(&Secret::of(0, 0x61f7_0a3e_d8b4_925c), &meeting));
-    assert!(rt; are_spread(&Secret::of(0x9be3_55c1_07d2_4af8, 0x61f7_0a3e_d8b4_925c), &meeting));
+    assert!(rt;
+        are_spread(
+            &Secret::of(0x9be3_55c1_07d2_4af8, 0x61f7_0a3e_d8b4_925c),
+            &meeting
+        )
+    );
     Ok(())
 }
