@@ -1,0 +1,44 @@
+-- What a team makes of a list of calls.
+use Rattle.std.specs.Prelude.{◌≡◌, ℕ, ◌%◌, ◌<◌, ◌==◌, Bool, true, false, not, List, [], ◌∷◌, ◌++◌, map, filter, length, count_by, Option, Some, None}
+use Rattle.std.specs.List.{enumerate_from}
+use Rattle.std.specs.Option.{option_or}
+use Rattle.ckpt_ids.specs.declared.call.Call.{Call}
+use Rattle.ckpt_ids.specs.declared.reply.Reply.TheVariants.{AckCompleted}
+use Rattle.ckpt_ids.specs.declared.reply.Answer.{Answer}
+use Rattle.ckpt_ids.specs.declared.reply.Answer.TheVariants.{Done, Refused}
+use Rattle.ckpt_locked.specs.declared.book.Entry.{Entry}
+use Rattle.ckpt_locked.specs.Books.{History}
+use Rattle.ckpt_locked.specs.Seats.{SeatsBelow, answers_by, calls_by}
+use Rattle.ckpt_workers.specs.declared.team.Made.{Made}
+
+-- the members at the places that go to this seat: place i goes to seat i modulo the number of threads
+abbrev pub dealt_to : {A : Type 0} → ℕ → ℕ → List A → List A
+dealt_to threads seat xs = map (λ p. p.1) (filter (λ p. p.0 % threads == seat) (enumerate_from 0 xs))
+
+abbrev pub is_accepted : Answer → Bool
+is_accepted (Done reply) = true
+is_accepted (Refused why) = false
+
+-- how many records the acknowledgement dropped and how many files it released, where it completed the record
+abbrev pub completed_by : Answer → Option (ℕ × ℕ)
+completed_by (Done (AckCompleted dropped released)) = Some (dropped, released)
+completed_by answer = None
+
+abbrev pub first_completed : List Answer → Option (ℕ × ℕ)
+first_completed [] = None
+first_completed (a ∷ rest) = option_or (completed_by a) (first_completed rest)
+
+-- The calls of the list are entered, each with its seat, and the answers are counted. The seats' calls may stand in any order among
+-- each other.
+pub record IsTeamwork (old : History) (calls : List Call) (threads : ℕ) (made : Made) : Type 0 where
+  pub new : List Entry
+  pub book_is : made.book ≡ record old { entries = old.entries ++ new }
+  pub seats : SeatsBelow threads new
+  pub calls_are : (seat : ℕ) → seat < threads → calls_by seat new ≡ dealt_to threads seat calls
+  -- in the order of the list
+  pub answers : List Answer
+  pub one_each : length answers ≡ length calls
+  pub answers_are : (seat : ℕ) → seat < threads → answers_by seat old new ≡ dealt_to threads seat answers
+  pub accepted_is : made.accepted ≡ count_by is_accepted answers
+  pub refused_is : made.refused ≡ count_by (λ a. not (is_accepted a)) answers
+  pub completed_is : made.completed ≡ first_completed answers

@@ -1,0 +1,77 @@
+ghost use Rattle.std.specs.Prelude.{◌≡◌, ◌+◌, ◌^◌, ◌<◌, ◌≤◌, if◌then◌else◌, IfOk, OnOk};
+ghost use Rattle.std.specs.Option.{option_or};
+ghost use Rattle.ckpt_locked.specs.Books.{answer_to, entered};
+ghost use Rattle.ckpt_workers.specs.Teams.{IsTeamwork, completed_by, is_accepted};
+
+use ckpt_ids::{Answer, Call, Reply};
+use ckpt_locked::Book;
+use std::alloc::AllocError;
+
+/// What a team made of a list of calls.
+#[derive(Drop)]
+pub struct Made {
+    /// The book, longer by the calls.
+    pub book: Book,
+    /// How many calls were accepted.
+    pub accepted: u64,
+    /// How many calls were refused.
+    pub refused: u64,
+    /// How many records the first completing acknowledgement of the list dropped, and how many
+    /// files it released.
+    pub completed: Option<(u32, u64)>,
+}
+
+/// Makes the calls of a list, shared out to seats.
+pub trait Team {
+    /// Enters each call of the list in the book: the call at place i with seat i modulo the number
+    /// of threads, each seat's calls in the order of the list.
+    ///
+    /// There are 1 to 64 threads. Fails only for want of memory, and then the book is given up.
+    fn make(&mut self, book: Book, calls: Vec<Call>, threads: u32) -> Result<Made, AllocError>
+        requires threads { (0 < threads) × (threads ≤ 64) }
+        ensures made { IfOk result (λ made. IsTeamwork book calls.items threads made) };
+}
+
+/// Makes the calls one after the other, in the order of the list.
+#[derive(Clone, Copy, Debug)]
+pub struct InOrder;
+
+impl Made {
+    /// Before the first call.
+    pub(crate) fn none(book: Book) -> Made
+        ensures { result ≡ record { book = book; accepted = 0; refused = 0; completed = None } }
+    {
+        Made {
+            book,
+            accepted: 0,
+            refused: 0,
+            completed: None,
+        }
+    }
+
+    /// Counts one more answer.
+    pub(crate) fn count(&mut self, answer: &Answer)
+        requires accepted { self.old.accepted + 1 < 2 ^ 64 }
+        requires refused { self.old.refused + 1 < 2 ^ 64 }
+        ensures book { self.new.book ≡ self.old.book }
+        ensures accepted { self.new.accepted ≡ self.old.accepted + (if is_accepted answer.now then 1 else 0) }
+        ensures refused { self.new.refused ≡ self.old.refused + (if is_accepted answer.now then 0 else 1) }
+        ensures completed { self.new.completed ≡ option_or self.old.completed (completed_by answer.now) }
+    {
+        match answer {
+            Answer::Done(_) => self.accepted += 1,
+            Answer::Refused(_) => self.refused += 1,
+        }
+        self.completed = self.completed.or(completed_by(answer));
+    }
+}
+
+/// What the answer says of a completion.
+fn completed_by(answer: &Answer) -> Option<(u32, u64)>
+    ensures { result ≡ completed_by answer.now }
+{
+    match answer {
+        Answer::Done(Reply::AckCompleted { dropped, released }) => Some((*dropped, *released)),
+        _ => None,
+    }
+}
