@@ -22,3 +22,4 @@ mod triggers;
 
 pub use coordinator::{Core, CoreFault, OpenFault};
 pub use mode::Mode;
+pub use refusals::test_files;

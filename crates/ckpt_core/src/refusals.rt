@@ -48,7 +48,11 @@ fn test_subtask(pending: &Pending, subtask: SubtaskId) -> Result<(), Refusal>
 }
 
 /// Tests the number of an acknowledgement's files, and that each is named once.
-fn test_files(fresh: &Files, reused: &Files) -> Result<(), Refusal>
+///
+/// Answers [`Refusal::TooManyFiles`] exactly where there are more than 4096, and else
+/// [`Refusal::RepeatedFile`] exactly where a file stands twice. A call that acknowledges with such
+/// files is refused so by every coordinator.
+pub fn test_files(fresh: &Files, reused: &Files) -> Result<(), Refusal>
     ensures { result_err result ≡ first_some (refuse_if (nat_lt 4096 (length fresh.now + length reused.now)) TooManyFiles ∷ refuse_if (has_repeats (fresh.now ++ reused.now)) RepeatedFile ∷ []) }
 {
     let count = fresh.len().saturating_add(reused.len());

@@ -1,13 +1,13 @@
 -- What a team makes of a list of calls.
-use Rattle.std.specs.Prelude.{◌≡◌, ℕ, ◌%◌, ◌<◌, ◌==◌, Bool, true, false, not, List, [], ◌∷◌, ◌++◌, map, filter, length, count_by, Option, Some, None}
+use Rattle.std.specs.Prelude.{◌≡◌, ℕ, ◌+◌, ◌%◌, ◌<◌, ◌==◌, if◌then◌else◌, Bool, true, false, not, List, [], ◌∷◌, ◌++◌, map, filter, length, count_by, Option, Some, None}
 use Rattle.std.specs.List.{enumerate_from}
 use Rattle.std.specs.Option.{option_or}
 use Rattle.ckpt_ids.specs.declared.call.Call.{Call}
-use Rattle.ckpt_ids.specs.declared.reply.Reply.TheVariants.{AckCompleted}
 use Rattle.ckpt_ids.specs.declared.reply.Answer.{Answer}
 use Rattle.ckpt_ids.specs.declared.reply.Answer.TheVariants.{Done, Refused}
+use Rattle.ckpt_core.specs.Interleavings.{completed_by, first_completed}
 use Rattle.ckpt_locked.specs.declared.book.Entry.{Entry}
-use Rattle.ckpt_locked.specs.Books.{History}
+use Rattle.ckpt_locked.specs.Books.{History, answer_to, entered}
 use Rattle.ckpt_locked.specs.Seats.{SeatsBelow, answers_by, calls_by}
 use Rattle.ckpt_workers.specs.declared.team.Made.{Made}
 
@@ -19,14 +19,12 @@ abbrev pub is_accepted : Answer → Bool
 is_accepted (Done reply) = true
 is_accepted (Refused why) = false
 
--- how many records the acknowledgement dropped and how many files it released, where it completed the record
-abbrev pub completed_by : Answer → Option (ℕ × ℕ)
-completed_by (Done (AckCompleted dropped released)) = Some (dropped, released)
-completed_by answer = None
-
-abbrev pub first_completed : List Answer → Option (ℕ × ℕ)
-first_completed [] = None
-first_completed (a ∷ rest) = option_or (completed_by a) (first_completed rest)
+-- one more call is entered, and its answer counted
+pub record IsOneMore (old : Made) (seat : ℕ) (call : Call) (new : Made) : Type 0 where
+  pub book : new.book ≡ entered old.book seat call
+  pub accepted : new.accepted ≡ old.accepted + (if is_accepted (answer_to old.book call) then 1 else 0)
+  pub refused : new.refused ≡ old.refused + (if is_accepted (answer_to old.book call) then 0 else 1)
+  pub completed : new.completed ≡ option_or old.completed (completed_by (answer_to old.book call))
 
 -- The calls of the list are entered, each with its seat, and the answers are counted. The seats' calls may stand in any order among
 -- each other.

@@ -1,6 +1,21 @@
 //! Threads that call a coordinator: workers over a lock, and teams that share out a list of calls.
 #![tactic(auto)]
 
+mod ask;
+pub mod discard;
+pub mod gate;
+pub mod moments;
+pub mod order;
+pub mod storage;
+pub mod task;
 pub mod team;
+pub mod timer;
 
+pub use discard::{Round, discard_round, resume_round};
+pub use gate::Gate;
+pub use moments::Moments;
+pub use order::{BadOrder, Order};
+pub use storage::{Storage, StorageFault};
+pub use task::{Tally, task_worker};
 pub use team::{InOrder, Made, Team};
+pub use timer::{TimerTally, timer_worker};

@@ -1,7 +1,8 @@
 ghost use Rattle.std.specs.Prelude.{◌≡◌, ◌+◌, ◌^◌, ◌<◌, ◌≤◌, if◌then◌else◌, IfOk, OnOk};
 ghost use Rattle.std.specs.Option.{option_or};
 ghost use Rattle.ckpt_locked.specs.Books.{answer_to, entered};
-ghost use Rattle.ckpt_workers.specs.Teams.{IsTeamwork, completed_by, is_accepted};
+ghost use Rattle.ckpt_workers.specs.Teams.{IsOneMore, IsTeamwork, is_accepted};
+ghost use Rattle.ckpt_core.specs.Interleavings.{completed_by};
 
 use ckpt_ids::{Answer, Call, Reply};
 use ckpt_locked::Book;
@@ -49,6 +50,21 @@ impl Made {
         }
     }
 
+    /// Enters one more call, and counts its answer. Fails only for want of memory.
+    pub(crate) fn enter(&mut self, seat: u32, call: Call) -> Result<(), AllocError>
+        requires accepted { self.old.accepted + 1 < 2 ^ 64 }
+        requires refused { self.old.refused + 1 < 2 ^ 64 }
+        ensures { OnOk result (IsOneMore self.old seat call self.new) }
+    {
+        match self.book.apply(seat, call) {
+            Ok(answer) => {
+                self.count(&answer);
+                Ok(())
+            }
+            Err(_) => Err(AllocError),
+        }
+    }
+
     /// Counts one more answer.
     pub(crate) fn count(&mut self, answer: &Answer)
         requires accepted { self.old.accepted + 1 < 2 ^ 64 }
@@ -73,5 +89,18 @@ fn completed_by(answer: &Answer) -> Option<(u32, u64)>
     match answer {
         Answer::Done(Reply::AckCompleted { dropped, released }) => Some((*dropped, *released)),
         _ => None,
+    }
+}
+
+impl Team for InOrder {
+    fn make(&mut self, book: Book, calls: Vec<Call>, threads: u32) -> Result<Made, AllocError> {
+        let count = calls.len();
+        let mut made = Made::none(book);
+        let mut place = 0;
+        for call in calls {
+            made.enter((place % threads as usize) as u32, call)?;
+            place += 1;
+        }
+        Ok(made)
     }
 }

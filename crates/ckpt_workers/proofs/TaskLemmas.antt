@@ -1,0 +1,49 @@
+-- A task, order by order.
+use Rattle.std.proofs.Common.{◌≡◌, ℕ, ◌+◌, Bool, true, false, cond, List, [], ◌∷◌, ◌++◌, refl, sym, ap, ◌∙◌, subst, All}
+use Rattle.std.specs.Prelude.{map, Option, Some, None}
+use Rattle.std.proofs.lemmas.List.{map-append}
+use Rattle.std.proofs.lemmas.List.Elements.{All-nil, All-push}
+use Rattle.ckpt_ids.specs.declared.call.Call.{Call}
+use Rattle.ckpt_ids.specs.declared.reply.Answer.{Answer}
+use Rattle.ckpt_locked.specs.Locks.{Hand}
+use Rattle.ckpt_workers.specs.declared.task.Tally.{Tally}
+use Rattle.ckpt_workers.specs.Orders.{IsOrder}
+use Rattle.ckpt_workers.specs.Shifts.{Exchange, IsAsked, IsShift, calls_in, capped}
+use Rattle.ckpt_workers.specs.Tasks.{IsTasked, answers, is_late, is_other, is_taken_in}
+use Rattle.ckpt_workers.proofs.ShiftLemmas.{IsShift-none, IsShift-push}
+use Rattle.ckpt_workers.proofs.TallyLemmas.{capped-push}
+
+pub IsTasked-none : (hand : Hand) → IsTasked hand hand (record { accepted = 0; late = 0; refused = 0; unanswered = 0 })
+IsTasked-none hand = record {
+  told = [];
+  shift = IsShift-none hand;
+  orders = All-nil IsOrder;
+  accepted = refl;
+  late = refl;
+  refused = refl;
+}
+
+pub IsTasked-push : (old hand new : Hand) (was is : Tally) (call : Call) (answer : Option Answer)
+    → IsTasked old hand was → IsOrder call → IsAsked hand call new answer
+    → is.accepted ≡ cond (answers is_taken_in answer) (capped (was.accepted + 1)) was.accepted
+    → is.late ≡ cond (answers is_late answer) (capped (was.late + 1)) was.late
+    → is.refused ≡ cond (answers is_other answer) (capped (was.refused + 1)) was.refused
+    → IsTasked old new is
+IsTasked-push old hand new was is call None h order asked accepted late refused = record {
+  told = h.told;
+  shift = subst (λ (n : Hand). IsShift old h.told n) (sym asked) h.shift;
+  orders = h.orders;
+  accepted = accepted ∙ h.accepted;
+  late = late ∙ h.late;
+  refused = refused ∙ h.refused;
+}
+IsTasked-push old hand new was is call (Some answer) h order asked accepted late refused =
+    let t : Exchange = record { call = call; answer = answer } in
+    record {
+      told = h.told ++ t ∷ [];
+      shift = IsShift-push old h.told hand call answer new h.shift asked;
+      orders = subst (All IsOrder) (sym (map-append (λ (x : Exchange). x.call) h.told (t ∷ []))) (All-push IsOrder (calls_in h.told) call h.orders order);
+      accepted = capped-push (λ (x : Exchange). is_taken_in x.answer) h.told t (is_taken_in answer) was.accepted is.accepted refl h.accepted accepted;
+      late = capped-push (λ (x : Exchange). is_late x.answer) h.told t (is_late answer) was.late is.late refl h.late late;
+      refused = capped-push (λ (x : Exchange). is_other x.answer) h.told t (is_other answer) was.refused is.refused refl h.refused refused;
+    }

@@ -1,0 +1,113 @@
+-- The work of a team, call by call.
+use Rattle.std.proofs.Common.{◌≡◌, ℕ, ◌+◌, ◌%◌, ◌<◌, ◌≤◌, Bool, true, false, cond, eqb, List, [], ◌∷◌, ◌++◌, length, refl, sym, ap, ◌∙◌, arith, length-append, append-nil}
+use Rattle.std.specs.Prelude.{not, count_by, Option, Some, None}
+use Rattle.std.specs.Option.{option_or}
+use Rattle.std.proofs.lemmas.List.Sums.{count_by-le-length, sum_by-cons}
+use Rattle.ckpt_ids.proofs.CountLemmas.{count_by-append}
+use Rattle.ckpt_ids.specs.declared.call.Call.{Call}
+use Rattle.ckpt_ids.specs.declared.reply.Answer.{Answer}
+use Rattle.ckpt_locked.specs.declared.book.Entry.{Entry}
+use Rattle.ckpt_locked.specs.Books.{History, answer_to, entered}
+use Rattle.ckpt_locked.specs.Seats.{SeatsBelow, answers_by, calls_by}
+use Rattle.ckpt_workers.specs.declared.team.Made.{Made}
+use Rattle.ckpt_workers.specs.Teams.{IsOneMore, IsTeamwork, dealt_to, is_accepted}
+use Rattle.ckpt_core.specs.Interleavings.{completed_by, first_completed}
+use Rattle.ckpt_workers.proofs.Dealing.{dealt_to-push, in_turn}
+use Rattle.ckpt_workers.proofs.SeatLemmas.{after, after-nil, after-append, answers_by-append, calls_by-append, SeatsBelow-push}
+
+-- what is counted of these answers
+pub record IsTally (made : Made) (answers : List Answer) : Type 0 where
+  pub accepted : made.accepted ≡ count_by is_accepted answers
+  pub refused : made.refused ≡ count_by (λ a. not (is_accepted a)) answers
+  pub completed : made.completed ≡ first_completed answers
+
+-- new is old with one more answer
+pub record IsCounted (old new : Made) (answer : Answer) : Type 0 where
+  pub accepted : new.accepted ≡ old.accepted + cond (is_accepted answer) 1 0
+  pub refused : new.refused ≡ old.refused + cond (is_accepted answer) 0 1
+  pub completed : new.completed ≡ option_or old.completed (completed_by answer)
+
+one_accepted : (a : Answer) → count_by is_accepted (a ∷ []) ≡ cond (is_accepted a) 1 0
+one_accepted a = omega (arith, sum_by-cons (λ x. cond (is_accepted x) 1 0) a [])
+
+one_refused : (a : Answer) → count_by (λ x. not (is_accepted x)) (a ∷ []) ≡ cond (is_accepted a) 0 1
+one_refused a = by_test (is_accepted a) (sum_by-cons (λ x. cond (not (is_accepted x)) 1 0) a [])
+  where
+    by_test : (b : Bool) → count_by (λ x. not (is_accepted x)) (a ∷ []) ≡ cond (not b) 1 0 + 0 → count_by (λ x. not (is_accepted x)) (a ∷ []) ≡ cond b 0 1
+    by_test true e = omega (arith, e)
+    by_test false e = omega (arith, e)
+
+option_or-none : {X : Type 0} (a : Option X) → option_or a None ≡ a
+option_or-none None = refl
+option_or-none (Some x) = refl
+
+option_or-associates : {X : Type 0} (a b c : Option X) → option_or (option_or a b) c ≡ option_or a (option_or b c)
+option_or-associates None b c = refl
+option_or-associates (Some x) b c = refl
+
+first_completed-push : (answers : List Answer) (a : Answer) → first_completed (answers ++ a ∷ []) ≡ option_or (first_completed answers) (completed_by a)
+first_completed-push [] a = option_or-none (completed_by a)
+first_completed-push (x ∷ xs) a =
+    ap (option_or (completed_by x)) (first_completed-push xs a) ∙ sym (option_or-associates (completed_by x) (first_completed xs) (completed_by a))
+
+-- one more answer at the end
+pub IsTally-push : (old new : Made) (answers : List Answer) (a : Answer) → IsTally old answers → IsCounted old new a → IsTally new (answers ++ a ∷ [])
+IsTally-push old new answers a tally counted = record {
+  accepted = let was : old.accepted ≡ count_by is_accepted answers = tally.accepted in let is : new.accepted ≡ old.accepted + cond (is_accepted a) 1 0 = counted.accepted in omega (arith, count_by-append is_accepted answers (a ∷ []), one_accepted a);
+  refused = let was : old.refused ≡ count_by (λ x. not (is_accepted x)) answers = tally.refused in let is : new.refused ≡ old.refused + cond (is_accepted a) 0 1 = counted.refused in omega (arith, count_by-append (λ x. not (is_accepted x)) answers (a ∷ []), one_refused a);
+  completed = counted.completed ∙ ap (λ o. option_or o (completed_by a)) tally.completed ∙ sym (first_completed-push answers a);
+}
+
+-- no call yet
+pub IsTeamwork-none : (old : History) (threads : ℕ) (made : Made) → made.book ≡ old → IsTally made [] → IsTeamwork old [] threads made
+IsTeamwork-none old threads made book tally = record {
+  new = [];
+  book_is = book ∙ sym (after-nil old);
+  seats = tt;
+  calls_are = λ seat below. refl;
+  answers = [];
+  one_each = refl;
+  answers_are = λ seat below. refl;
+  accepted_is = tally.accepted;
+  refused_is = tally.refused;
+  completed_is = tally.completed;
+}
+
+-- one more call, entered with the seat of its place
+pub IsTeamwork-push : (old : History) (calls : List Call) (threads : ℕ) (before made : Made) (call : Call) (seat : ℕ)
+    → 0 < threads → seat ≡ length calls % threads → IsTeamwork old calls threads before → IsOneMore before seat call made
+    → IsTeamwork old (calls ++ call ∷ []) threads made
+IsTeamwork-push old calls threads before made call seat some at h more =
+    let answer : Answer = answer_to before.book call in
+    let e : Entry = record { seat = length calls % threads; call = call } in
+    let here : before.book ≡ after old h.new = h.book_is in
+    let counted : IsCounted before made answer = record { accepted = more.accepted; refused = more.refused; completed = more.completed } in
+    let tally : IsTally before h.answers = record { accepted = h.accepted_is; refused = h.refused_is; completed = h.completed_is } in
+    let pushed : IsTally made (h.answers ++ answer ∷ []) = IsTally-push before made h.answers answer tally counted in
+    let same : length h.answers ≡ length calls = h.one_each in
+    let below : length calls % threads < threads = omega arith in
+    let told_here : answer_to (after old h.new) call ≡ answer = ap (λ (g : History). answer_to g call) (sym here) in
+    record {
+      new = h.new ++ e ∷ [];
+      book_is = more.book ∙ ap (λ k. entered before.book k call) at ∙ ap (λ (g : History). entered g (length calls % threads) call) here ∙ after-append old h.new (e ∷ []);
+      seats = SeatsBelow-push threads h.new e h.seats below;
+      calls_are = λ k small. calls_by-append k h.new (e ∷ []) ∙ ap (λ l. l ++ calls_by k (e ∷ [])) (h.calls_are k small) ∙ sym (dealt_to-push threads k calls call);
+      answers = h.answers ++ answer ∷ [];
+      one_each = omega (arith, length-append h.answers (answer ∷ []), length-append calls (call ∷ []));
+      answers_are = λ k small.
+          answers_by-append k old h.new (e ∷ [])
+          ∙ ap (λ l. l ++ answers_by k (after old h.new) (e ∷ [])) (h.answers_are k small)
+          ∙ ap (λ a. dealt_to threads k h.answers ++ cond (eqb (length calls % threads) k) (a ∷ []) []) told_here
+          ∙ ap (λ n. dealt_to threads k h.answers ++ in_turn threads k n answer) (sym same)
+          ∙ sym (dealt_to-push threads k h.answers answer);
+      accepted_is = pushed.accepted;
+      refused_is = pushed.refused;
+      completed_is = pushed.completed;
+    }
+
+-- no count is above the number of calls
+pub counts_below : (old : History) (calls : List Call) (threads : ℕ) (made : Made) → IsTeamwork old calls threads made → (made.accepted ≤ length calls) × (made.refused ≤ length calls)
+counts_below old calls threads made h = (
+  omega (arith, h.accepted_is, h.one_each, count_by-le-length is_accepted h.answers),
+  omega (arith, h.refused_is, h.one_each, count_by-le-length (λ a. not (is_accepted a)) h.answers),
+)

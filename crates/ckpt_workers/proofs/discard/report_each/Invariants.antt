@@ -1,0 +1,11 @@
+use Rattle.std.proofs.Common.{◌≡◌, ◌+◌, true, false, length, drop}
+use Rattle.ckpt_workers.specs.Rounds.{IsReported}
+use Rattle.ckpt_workers.proofs.discard.report_each.Given as goal
+
+abbrev pub invariant-loop-place : goal.invariant-loop-place
+invariant-loop-place g l = record {
+  reported : IsReported l.files l.fn.gone (record { deleted = g.S.Storage.deleted l.fn.storage; failures = g.S.Storage.failures l.fn.storage }) (record { deleted = g.S.Storage.deleted l.storage; failures = g.S.Storage.failures l.storage }) l.fn.pass l.pass (record { taken = length l.files; deleted = l.counts.deleted; failed = l.counts.failed; left = drop l.place l.files; gone = l.gone; memory = false });
+  counted : l.counts.deleted + l.counts.failed ≡ l.place;
+  first : l.gone ≡ true → l.place ≡ 0;
+  same : l.gone ≡ true → l.fn.gone ≡ true;
+}

@@ -1,0 +1,10 @@
+use Rattle.std.proofs.Common.{◌≡◌, length}
+use Rattle.ckpt_workers.specs.Teams.{IsTeamwork}
+use Rattle.ckpt_workers.proofs.team.InOrderTeam.make.Given as goal
+
+abbrev pub invariant-loop-call : goal.invariant-loop-call
+invariant-loop-call l =
+    (goal.iterator-loop-call).can_next l.call-iterator
+    × (goal.iterator-loop-call).is_finite l.call-iterator
+    × (l.place ≡ length l.yielded)
+    × IsTeamwork l.fn.book l.yielded l.threads l.made

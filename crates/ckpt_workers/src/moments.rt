@@ -1,0 +1,16 @@
+ghost use Rattle.std.specs.Prelude.{◌≡◌, ◌<◌, ◌++◌, ℕ, List, [], ◌∷◌, IfNone, IfSome};
+
+/// The moments at which a timer ticks, in milliseconds.
+pub trait Moments {
+    /// What it gave so far, in order.
+    ghost given: { Self → List ℕ };
+
+    /// How many moments are left at most.
+    ghost left: { Self → ℕ };
+
+    /// The next moment, or `None` where none is left. It may take its time.
+    fn next(&mut self) -> Option<u64>
+        ensures given { IfSome result (λ now. given self.new ≡ given self.old ++ now ∷ []) }
+        ensures fewer { IfSome result (λ now. left self.new < left self.old) }
+        ensures last { IfNone result ((given self.new ≡ given self.old) × (left self.new ≡ 0)) };
+}

@@ -1,0 +1,91 @@
+ghost use Rattle.std.specs.Prelude.{◌≡◌, IfOk, IsOk, ◌↔◌};
+ghost use Rattle.ckpt_ids.specs.declared.call.Call.TheVariants.{Ack};
+ghost use Rattle.ckpt_workers.specs.Orders.{IsOrder};
+
+use ckpt_core::test_files;
+use ckpt_ids::{Call, CheckpointId, Files, SubtaskId};
+use std::marker::Model;
+use thiserror::Error;
+
+/// All moments are below, in milliseconds.
+const MOMENTS_END: u64 = 1 << 62;
+
+/// An acknowledgement that would be refused whatever the coordinator's state is.
+#[derive(Clone, Copy, Debug, PartialEq, Eq, Error)]
+#[error("an acknowledgement that no coordinator takes")]
+pub struct BadOrder;
+
+/// What a task is to acknowledge: the files of its part of a checkpoint or savepoint.
+///
+/// Contracts see an order as its call. By the type, the call is not refused for its moment, for the
+/// number of its files, or for a file that is named twice; that holds of an order out of a channel
+/// too.
+#[derive(Debug, Drop)]
+pub struct Order {
+    now: u64,
+    id: CheckpointId,
+    subtask: SubtaskId,
+    fresh: Files,
+    reused: Files,
+}
+
+impl Model for Order {
+    ghost use Rattle.ckpt_ids.specs.declared.call.Call.{Call};
+    ghost use Rattle.ckpt_ids.specs.declared.call.Call.TheVariants.{Ack};
+    ghost use Rattle.ckpt_workers.specs.Orders.{IsOrder};
+
+    ghost Value = { Call };
+
+    ghost view = { λ o. Ack o.now o.id o.subtask o.fresh o.reused };
+
+    ghost invariant = { λ o. IsOrder (Ack o.now o.id o.subtask o.fresh o.reused) };
+}
+
+impl Order {
+    /// `now` is in milliseconds. Takes no memory.
+    ///
+    /// Answers [`BadOrder`] exactly where the moment is above 2^62 - 1, where there are more than
+    /// 4096 files, or where a file is named twice; what was given is then given up.
+    pub fn new(
+        now: u64,
+        id: CheckpointId,
+        subtask: SubtaskId,
+        fresh: Files,
+        reused: Files,
+    ) -> Result<Order, BadOrder>
+        ensures order { IfOk result (λ order. order ≡ Ack now id subtask fresh reused) }
+        ensures good { IsOk result ↔ IsOrder (Ack now id subtask fresh reused) }
+    {
+        if now >= MOMENTS_END || test_files(&fresh, &reused).is_err() {
+            return Err(BadOrder);
+        }
+        Ok(Order {
+            now,
+            id,
+            subtask,
+            fresh,
+            reused,
+        })
+    }
+
+    /// The call that the order asks for.
+    pub(crate) fn into_call(self) -> Call
+        ensures call { result ≡ self }
+        ensures order { IsOrder result }
+    {
+        let Order {
+            now,
+            id,
+            subtask,
+            fresh,
+            reused,
+        } = self;
+        Call::Ack {
+            now,
+            id,
+            subtask,
+            fresh,
+            reused,
+        }
+    }
+}

@@ -1,0 +1,70 @@
+ghost use Rattle.std.specs.Prelude.{◌≡◌, ◌+◌, not, if◌then◌else◌, is_some};
+ghost use Rattle.ckpt_workers.specs.Shifts.{capped};
+ghost use Rattle.ckpt_workers.specs.Timers.{IsTimed, is_refused};
+
+use crate::ask::ask;
+use crate::gate::Gate;
+use crate::moments::Moments;
+use ckpt_ids::{Answer, Call};
+use ckpt_locked::Pass;
+use std::sync::Wait;
+
+/// How the ticks of a timer went. Each count stays at 2^64 - 1 once there.
+#[derive(Clone, Copy, Debug, PartialEq, Eq)]
+pub struct TimerTally {
+    /// Ticks that were answered, refused ones too.
+    pub ticks: u64,
+    pub refused: u64,
+    /// Ticks that found no memory.
+    pub unanswered: u64,
+}
+
+impl TimerTally {
+    fn none() -> TimerTally
+        ensures { result ≡ record { ticks = 0; refused = 0; unanswered = 0 } }
+    {
+        TimerTally {
+            ticks: 0,
+            refused: 0,
+            unanswered: 0,
+        }
+    }
+
+    /// Counts one tick more.
+    fn count(&mut self, answer: Option<Answer>)
+        ensures ticks { self.new.ticks ≡ (if is_some answer then capped (self.old.ticks + 1) else self.old.ticks) }
+        ensures refused { self.new.refused ≡ (if is_refused answer then capped (self.old.refused + 1) else self.old.refused) }
+        ensures unanswered { self.new.unanswered ≡ (if not (is_some answer) then capped (self.old.unanswered + 1) else self.old.unanswered) }
+    {
+        match answer {
+            Some(Answer::Done(_)) => self.ticks = self.ticks.saturating_add(1),
+            Some(Answer::Refused(_)) => {
+                self.ticks = self.ticks.saturating_add(1);
+                self.refused = self.refused.saturating_add(1);
+            }
+            None => self.unanswered = self.unanswered.saturating_add(1),
+        }
+    }
+}
+
+/// Makes a `Tick` of each moment that `moments` gives, in order, until it gives none.
+///
+/// A tick that finds no memory is counted, and the next moment is waited for.
+pub fn timer_worker<R: Wait, G: Gate, M: Moments>(
+    rt: &R,
+    gate: &G,
+    mut pass: Pass,
+    moments: &mut M,
+) -> (Pass, TimerTally)
+    requires pass { pass.lock ≡ G.lock gate.now }
+    ensures timed { IsTimed (M.given moments.old) (M.given moments.new) pass result.0 result.1 }
+    ensures all { M.left moments.new ≡ 0 }
+{
+    let mut tally = TimerTally::none();
+    while let Some(now) = moments.next() {
+        let (next, answer) = ask(rt, gate, pass, Call::Tick { now });
+        pass = next;
+        tally.count(answer);
+    }
+    (pass, tally)
+}
