@@ -9,7 +9,7 @@ use Rattle.ckpt_script.specs.declared.summary.Summary.{Summary}
 use Rattle.ckpt_script.specs.Known.{WhereKnown, Passes}
 use Rattle.ckpt_script.specs.Lines.{held, whole_lines, TakesPart, HoldsLine, HoldsPart}
 use Rattle.ckpt_script.specs.Outputs.{output, most_lines, IsCut}
-use Rattle.ckpt_script.specs.Sessions.{Scene, said}
+use Rattle.ckpt_session.specs.Sessions.{Scene, said}
 use Rattle.ckpt_script.specs.Telling.{HasRun, Shows, IsSoFar, Stopped}
 use Rattle.ckpt_script.proofs.KnownLemmas.{WhereKnown-keeps, WhereKnown-unread, WhereKnown-compose, WhereKnown-if, WhereKnown-map, WhereKnown-some}
 use Rattle.ckpt_script.proofs.TellingLemmas.{run_on, cut_here, shown_front, run_part, run_full, Shows-passes, Shows-cut, Shows-as}

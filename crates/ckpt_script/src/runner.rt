@@ -3,15 +3,15 @@ ghost use Rattle.std.specs.Io.KnownBytes.{Appends, IsAtEnd, prepend_known};
 ghost use Rattle.ckpt_lines.specs.Reading.{reading};
 ghost use Rattle.ckpt_script.specs.Known.{Passes};
 ghost use Rattle.ckpt_script.specs.Outputs.{Ran, most_lines};
-ghost use Rattle.ckpt_script.specs.Sessions.{opening_scene, said};
+ghost use Rattle.ckpt_session.specs.Sessions.{opening_scene, said};
 ghost use Rattle.ckpt_script.specs.Telling.{IsSoFar, Stopped, keeps_lines};
 
 use crate::ahead::Ahead;
 use crate::fault::RunFault;
 use crate::printed::Printed;
-use crate::session::Session;
 use crate::summary::Summary;
 use ckpt_lines::{LineFault, laws, parse_line};
+use ckpt_session::Session;
 use std::alloc::{AllocError, Global};
 use std::io::{Read, Write};
 

@@ -1,6 +1,6 @@
 use Rattle.std.proofs.Common.{◌+◌, ◌-◌, ◌/◌, arith}
-use Rattle.ckpt_script.proofs.AckSearch.{IsBetween-raise, IsBetween-lower, found_where_they_meet}
-use Rattle.ckpt_script.proofs.all.has_acknowledged.Goals as goal
+use Rattle.ckpt_session.proofs.AckSearch.{IsBetween-raise, IsBetween-lower, found_where_they_meet}
+use Rattle.ckpt_session.proofs.all.has_acknowledged.Goals as goal
 
 pub loop-low-preserved-then-precedes : goal.loop-low-preserved-then-precedes
 loop-low-preserved-then-precedes c =

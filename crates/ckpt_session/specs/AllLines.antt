@@ -11,11 +11,11 @@ use Rattle.ckpt_ids.specs.declared.reply.Answer.{Answer}
 use Rattle.ckpt_ids.specs.declared.reply.Answer.TheVariants.{Done, Refused}
 use Rattle.ckpt_ids.specs.Shapes.{same_subtask, subtasks}
 use Rattle.ckpt_locked.specs.Books.{History, entered, answer_to}
-use Rattle.ckpt_script.specs.declared.said.ScriptRefusal.TheVariants.{BadThreads, NotPending, FilesUsedUp}
-use Rattle.ckpt_script.specs.declared.all.AllLine.{AllLine}
-use Rattle.ckpt_script.specs.declared.all.Completion.{Completion}
-use Rattle.ckpt_script.specs.declared.all.Outcome.{Outcome}
-use Rattle.ckpt_script.specs.ScriptTexts.{refusal_bytes}
+use Rattle.ckpt_session.specs.declared.said.ScriptRefusal.TheVariants.{BadThreads, NotPending, FilesUsedUp}
+use Rattle.ckpt_session.specs.declared.all.AllLine.{AllLine}
+use Rattle.ckpt_session.specs.declared.all.Completion.{Completion}
+use Rattle.ckpt_session.specs.declared.all.Outcome.{Outcome}
+use Rattle.ckpt_session.specs.ScriptTexts.{refusal_bytes}
 
 abbrev pub has_acknowledged : Metadata → SubtaskId → Bool
 has_acknowledged m s = list_any (λ a. same_subtask s a.subtask) m.acks

@@ -5,9 +5,9 @@ use Rattle.std.proofs.lemmas.Option.{slice_get-get_or, slice_get_within, get_or_
 use Rattle.ckpt_ids.specs.declared.subtask.SubtaskId.{SubtaskId}
 use Rattle.ckpt_ids.specs.declared.ack.Metadata.{Metadata}
 use Rattle.ckpt_ids.specs.Shapes.{subtasks}
-use Rattle.ckpt_script.specs.AllLines.{has_acknowledged}
-use Rattle.ckpt_script.proofs.all.missing_subtasks.Goals as goal
-use Rattle.ckpt_script.proofs.all.missing_subtasks.Goals.{in-Some+then-not-has_acknowledged+in_ok-push, in-Some+else-not-has_acknowledged, in_default}
+use Rattle.ckpt_session.specs.AllLines.{has_acknowledged}
+use Rattle.ckpt_session.proofs.all.missing_subtasks.Goals as goal
+use Rattle.ckpt_session.proofs.all.missing_subtasks.Goals.{in-Some+then-not-has_acknowledged+in_ok-push, in-Some+else-not-has_acknowledged, in_default}
 
 filter_at : {X : Type 0} (p : X → Bool) (xs : List X) (i : ℕ) (x : X) (b : Bool) → slice_get xs i ≡ Some x → p x ≡ b → filter p (take (i + 1) xs) ≡ filter p (take i xs) ++ cond b (x ∷ []) []
 filter_at p xs i x b e t =

@@ -1,5 +1,5 @@
 ghost use Rattle.std.specs.Prelude.{◌≡◌, IfOk, string_bytes};
-ghost use Rattle.ckpt_script.specs.ScriptTexts.{refusal_name, refusal_bytes, fault_name, fault_bytes};
+ghost use Rattle.ckpt_session.specs.ScriptTexts.{refusal_name, refusal_bytes, fault_name, fault_bytes};
 
 use ckpt_lines::LineFault;
 use std::alloc::{AllocError, Global};

@@ -2,8 +2,8 @@
 use Rattle.std.specs.Prelude.{ℕ, List, ◌++◌, codes, decimal}
 use Rattle.ckpt_lines.specs.declared.fault.LineFault.{LineFault}
 use Rattle.ckpt_lines.specs.declared.fault.LineFault.TheVariants as fault
-use Rattle.ckpt_script.specs.declared.said.ScriptRefusal.{ScriptRefusal}
-use Rattle.ckpt_script.specs.declared.said.ScriptRefusal.TheVariants as refusal
+use Rattle.ckpt_session.specs.declared.said.ScriptRefusal.{ScriptRefusal}
+use Rattle.ckpt_session.specs.declared.said.ScriptRefusal.TheVariants as refusal
 
 unfoldable pub refusal_name : ScriptRefusal → List ℕ
 refusal_name refusal.Started = codes "Started"

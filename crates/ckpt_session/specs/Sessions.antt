@@ -11,11 +11,11 @@ use Rattle.ckpt_lines.specs.declared.line.Line.{Line}
 use Rattle.ckpt_lines.specs.declared.line.Line.TheVariants as line
 use Rattle.ckpt_lines.specs.declared.fault.LineFault.{LineFault}
 use Rattle.ckpt_texts.specs.Texts.{answer_bytes}
-use Rattle.ckpt_script.specs.declared.said.ScriptRefusal.{ScriptRefusal}
-use Rattle.ckpt_script.specs.declared.said.ScriptRefusal.TheVariants.{Started, NotStarted, NotReady, BadConfig, BadShape, MomentTooLarge}
-use Rattle.ckpt_script.specs.declared.all.AllLine.{AllLine}
-use Rattle.ckpt_script.specs.ScriptTexts.{refusal_bytes, fault_bytes}
-use Rattle.ckpt_script.specs.AllLines.{Obeyed, all_obeyed}
+use Rattle.ckpt_session.specs.declared.said.ScriptRefusal.{ScriptRefusal}
+use Rattle.ckpt_session.specs.declared.said.ScriptRefusal.TheVariants.{Started, NotStarted, NotReady, BadConfig, BadShape, MomentTooLarge}
+use Rattle.ckpt_session.specs.declared.all.AllLine.{AllLine}
+use Rattle.ckpt_session.specs.ScriptTexts.{refusal_bytes, fault_bytes}
+use Rattle.ckpt_session.specs.AllLines.{Obeyed, all_obeyed}
 
 -- what a script has told so far
 pub record Scene : Type 0 where

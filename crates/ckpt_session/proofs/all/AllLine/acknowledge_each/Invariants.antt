@@ -1,6 +1,6 @@
 use Rattle.std.proofs.Common.{◌≡◌}
-use Rattle.ckpt_script.proofs.Outcomes.{IsReached}
-use Rattle.ckpt_script.proofs.all.AllLine.acknowledge_each.Given as goal
+use Rattle.ckpt_session.proofs.Outcomes.{IsReached}
+use Rattle.ckpt_session.proofs.all.AllLine.acknowledge_each.Given as goal
 
 abbrev pub invariant-loop-subtask : goal.invariant-loop-subtask
 invariant-loop-subtask l =

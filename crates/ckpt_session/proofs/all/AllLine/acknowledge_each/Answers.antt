@@ -1,7 +1,7 @@
 use Rattle.std.proofs.Common.{◌≡◌, get_or, refl, sym, ap, arith}
 use Rattle.ckpt_ids.specs.declared.subtask.SubtaskId.{SubtaskId}
-use Rattle.ckpt_script.proofs.Outcomes.{IsAdded, IsReached-start, IsReached-next, IsReached-end}
-use Rattle.ckpt_script.proofs.all.AllLine.acknowledge_each.Goals as goal
+use Rattle.ckpt_session.proofs.Outcomes.{IsAdded, IsReached-start, IsReached-next, IsReached-end}
+use Rattle.ckpt_session.proofs.all.AllLine.acknowledge_each.Goals as goal
 
 pub loop-subtask-init : goal.loop-subtask-init
 loop-subtask-init c =

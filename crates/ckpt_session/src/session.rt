@@ -1,5 +1,5 @@
 ghost use Rattle.std.specs.Prelude.{◌≡◌, ◌↔◌, [], false, Err, IfOk, string_bytes};
-ghost use Rattle.ckpt_script.specs.Sessions.{opening_scene, before_start, configured, shaped, started, called, restored, new_shape, is_new_shape, all_called, obeyed, said};
+ghost use Rattle.ckpt_session.specs.Sessions.{opening_scene, before_start, configured, shaped, started, called, restored, new_shape, is_new_shape, all_called, obeyed, said};
 
 use crate::all::AllLine;
 use crate::said::{ScriptRefusal, fault_text, refusal_text};
@@ -29,7 +29,7 @@ pub struct Session {
 }
 
 impl Model for Session {
-    ghost use Rattle.ckpt_script.specs.Sessions.{Scene};
+    ghost use Rattle.ckpt_session.specs.Sessions.{Scene};
 
     ghost Value = { Scene };
 

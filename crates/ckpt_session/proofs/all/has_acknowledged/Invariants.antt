@@ -1,6 +1,6 @@
 use Rattle.std.proofs.Common.{◌-◌}
-use Rattle.ckpt_script.proofs.AckSearch.{IsBetween}
-use Rattle.ckpt_script.proofs.all.has_acknowledged.Given as goal
+use Rattle.ckpt_session.proofs.AckSearch.{IsBetween}
+use Rattle.ckpt_session.proofs.all.has_acknowledged.Given as goal
 
 abbrev pub invariant-loop-low : goal.invariant-loop-low
 invariant-loop-low l = IsBetween l.acks l.subtask l.low l.high

@@ -7,10 +7,10 @@ use Rattle.std.proofs.lemmas.List.{drop_more, at_drop_all}
 use Rattle.ckpt_ids.specs.declared.subtask.SubtaskId.{SubtaskId}
 use Rattle.ckpt_ids.specs.declared.reply.Answer.{Answer}
 use Rattle.ckpt_locked.specs.Books.{History, entered, answer_to}
-use Rattle.ckpt_script.specs.declared.all.AllLine.{AllLine}
-use Rattle.ckpt_script.specs.declared.all.Completion.{Completion}
-use Rattle.ckpt_script.specs.declared.all.Outcome.{Outcome}
-use Rattle.ckpt_script.specs.AllLines.{SeatedCall, ack_at, acks_from, entered_all, answers_to, is_accepted, completed_by, first_completion, outcome_of}
+use Rattle.ckpt_session.specs.declared.all.AllLine.{AllLine}
+use Rattle.ckpt_session.specs.declared.all.Completion.{Completion}
+use Rattle.ckpt_session.specs.declared.all.Outcome.{Outcome}
+use Rattle.ckpt_session.specs.AllLines.{SeatedCall, ack_at, acks_from, entered_all, answers_to, is_accepted, completed_by, first_completion, outcome_of}
 
 -- an outcome, and then these answers
 unfoldable pub onto : Outcome → List Answer → Outcome

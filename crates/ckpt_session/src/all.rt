@@ -5,7 +5,7 @@ ghost use Rattle.ckpt_ids.specs.declared.call.Call.TheVariants.{Show};
 ghost use Rattle.ckpt_ids.specs.Shapes.{same_subtask};
 ghost use Rattle.ckpt_ids.specs.Acknowledged.{is_before};
 ghost use Rattle.ckpt_locked.specs.Books.{entered, answer_to};
-ghost use Rattle.ckpt_script.specs.AllLines.{missing_subtasks, shown_pending, shown_missing, ack_at, acks_from, entered_all, answers_to, is_accepted, completed_by, outcome_of, counts_bytes, completed_bytes, pending_bytes, told, all_of, all_obeyed};
+ghost use Rattle.ckpt_session.specs.AllLines.{missing_subtasks, shown_pending, shown_missing, ack_at, acks_from, entered_all, answers_to, is_accepted, completed_by, outcome_of, counts_bytes, completed_bytes, pending_bytes, told, all_of, all_obeyed};
 
 use crate::said::{ScriptRefusal, refusal_text};
 use crate::session::LINE_SEAT;
