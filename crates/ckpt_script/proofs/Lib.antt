@@ -1,3 +1,4 @@
+pub mod CauseLemmas
 pub mod KnownLemmas
 pub mod LineLemmas
 pub mod NextLemmas

@@ -1,3 +1,4 @@
+pub mod Devices
 pub mod Known
 pub mod Lines
 pub mod Outputs
