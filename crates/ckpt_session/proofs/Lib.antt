@@ -1,0 +1,2 @@
+pub mod AckSearch
+pub mod Outcomes
