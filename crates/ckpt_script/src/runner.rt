@@ -16,6 +16,7 @@ use crate::streams::{CountedReader, CountedWriter};
 use crate::summary::Summary;
 use ckpt_lines::{LineFault, laws, parse_line};
 use ckpt_session::Session;
+use ckpt_workers::Team;
 use std::alloc::{AllocError, Global};
 use std::io::{Read, Write};
 
@@ -35,7 +36,7 @@ struct Runner {
 
 impl Runner {
     /// Obeys the line that is held, and prints what it says.
-    fn obey<K: Sink>(&mut self, sink: &mut K) -> Result<(), RunFault>
+    fn obey<K: Sink, T: Team>(&mut self, sink: &mut K, team: &mut T) -> Result<(), RunFault>
         requires lines { self.old.summary.lines < most_lines }
         requires faults { self.old.summary.faults ≤ self.old.summary.lines }
         requires going_on { K.failures sink.old ≡ 0 }
@@ -56,7 +57,7 @@ impl Runner {
             return Err(RunFault::Memory);
         }
         let is_faulty = line.is_err();
-        let text = self.session.say(number, line)?;
+        let text = self.session.say(number, line, team)?;
         self.printed.print(sink, text.as_bytes())?;
         self.summary.lines = number;
         self.summary.faults += u64::from(is_faulty);
@@ -64,7 +65,12 @@ impl Runner {
     }
 
     /// Reads the next line and obeys it. Answers whether there was one.
-    fn next<S: Source, K: Sink>(&mut self, source: &mut S, sink: &mut K) -> Result<bool, RunFault>
+    fn next<S: Source, K: Sink, T: Team>(
+        &mut self,
+        source: &mut S,
+        sink: &mut K,
+        team: &mut T,
+    ) -> Result<bool, RunFault>
         requires ended { self.old.ahead.is_ended ≡ true → IsAtEnd (S.remaining source.old) }
         requires counted { IsCounted (S.asked source.old) self.old.ahead }
         requires going_on { K.failures sink.old ≡ 0 }
@@ -97,7 +103,7 @@ impl Runner {
         }
         self.ahead
             .read_line(source, &mut self.line, &mut self.printed, sink)?;
-        self.obey(sink)?;
+        self.obey(sink, team)?;
         Ok(true)
     }
 
@@ -122,7 +128,12 @@ impl Runner {
     }
 
     /// Reads and obeys all lines.
-    fn obey_all<S: Source, K: Sink>(&mut self, source: &mut S, sink: &mut K) -> Result<(), RunFault>
+    fn obey_all<S: Source, K: Sink, T: Team>(
+        &mut self,
+        source: &mut S,
+        sink: &mut K,
+        team: &mut T,
+    ) -> Result<(), RunFault>
         requires ended { self.old.ahead.is_ended ≡ true → IsAtEnd (S.remaining source.old) }
         requires counted { IsCounted (S.asked source.old) self.old.ahead }
         requires going_on { K.failures sink.old ≡ 0 }
@@ -144,7 +155,7 @@ impl Runner {
         ensures same_sink { K.device sink.new ≡ K.device sink.old }
     {
         loop {
-            if !self.next(source, sink)? {
+            if !self.next(source, sink, team)? {
                 return Ok(());
             }
         }
@@ -184,10 +195,11 @@ fn keeps_lines(fault: RunFault) -> bool
 /// It is [`run`] over devices that count what they were asked. Each fault has its cause:
 /// [`RunFault::Read`] that the source failed or was asked 2^32 times, [`RunFault::Write`] that the
 /// sink failed. A device that failed is not asked again, and the source not after its end.
-pub fn run_between<S: Source, K: Sink>(
+pub fn run_between<S: Source, K: Sink, T: Team>(
     alloc: Global,
     source: &mut S,
     sink: &mut K,
+    team: &mut T,
 ) -> Result<Summary, RunFault>
     requires source { S.asked source.old ≡ never_asked }
     requires sink { K.failures sink.old ≡ 0 }
@@ -200,7 +212,7 @@ pub fn run_between<S: Source, K: Sink>(
     ensures same_sink { K.device sink.new ≡ K.device sink.old }
 {
     let mut runner = Runner::new(alloc)?;
-    match runner.obey_all(source, sink) {
+    match runner.obey_all(source, sink, team) {
         Ok(()) => {
             runner.printed.flush(sink)?;
             Ok(runner.summary)
@@ -220,11 +232,14 @@ pub fn run_between<S: Source, K: Sink>(
 /// before it have been run; [`RunFault::Write`] where the writer failed and [`RunFault::Memory`]
 /// where memory ran out, and what was written is the front of the output.
 ///
+/// The team makes the calls of an `all` line. What is written is the same for every team.
+///
 /// `docs/SCRIPT.md` of the repository says what a script is, and what its lines print.
-pub fn run<R: Read, W: Write>(
+pub fn run<R: Read, W: Write, T: Team>(
     alloc: Global,
     reader: &mut R,
     writer: &mut W,
+    team: &mut T,
 ) -> Result<Summary, RunFault>
     ensures ran { Ran (R.remaining reader.old) (R.remaining reader.new) (W.contents writer.old) (W.contents writer.new) result }
     ensures summary { IfOk result (λ summary. (summary.faults ≤ summary.lines) × (summary.lines ≤ most_lines)) }
@@ -239,7 +254,7 @@ pub fn run<R: Read, W: Write>(
         writer,
         failures: 0,
     };
-    let result = run_between(alloc, &mut source, &mut sink);
+    let result = run_between(alloc, &mut source, &mut sink, team);
     // No effect at run time. The proof reads what the streams hold from these uses.
     let _ = &*source.reader;
     let _ = &*sink.writer;

@@ -1,2 +1,5 @@
+pub mod AckLists
 pub mod AckSearch
-pub mod Outcomes
+pub mod BookLemmas
+pub mod ShownLemmas
+pub mod Teamwork

@@ -1,20 +1,24 @@
--- The `all` line: each missing subtask of a pending record acknowledges, with one fresh file.
-use Rattle.std.specs.Prelude.{ℕ, ◌+◌, ◌%◌, ◌^◌, Bool, true, false, not, ◌||◌, nat_lt, if◌then◌else◌, List, [], ◌∷◌, ◌++◌, map, filter, length, count_by, Option, Some, None, unwrap_or, codes, decimal}
-use Rattle.std.specs.Option.{option_map, option_or}
+-- The `all` line: each missing subtask of a pending record acknowledges, with one new file.
+use Rattle.std.specs.Prelude.{◌≡◌, ℕ, ◌+◌, ◌^◌, Bool, not, ◌||◌, nat_lt, if◌then◌else◌, List, ◌++◌, map, filter, length, count_by, Option, Some, None, codes, decimal}
+use Rattle.std.specs.Option.{option_map, option_map_or}
 use Rattle.std.specs.List.{enumerate_from, list_any}
 use Rattle.ckpt_ids.specs.declared.subtask.SubtaskId.{SubtaskId}
 use Rattle.ckpt_ids.specs.declared.ack.Metadata.{Metadata}
 use Rattle.ckpt_ids.specs.declared.call.Call.{Call}
-use Rattle.ckpt_ids.specs.declared.call.Call.TheVariants.{Ack, Show}
-use Rattle.ckpt_ids.specs.declared.reply.Reply.TheVariants.{AckCompleted, Shown}
+use Rattle.ckpt_ids.specs.declared.reply.Reply.TheVariants.{Shown}
 use Rattle.ckpt_ids.specs.declared.reply.Answer.{Answer}
-use Rattle.ckpt_ids.specs.declared.reply.Answer.TheVariants.{Done, Refused}
+use Rattle.ckpt_ids.specs.declared.reply.Answer.TheVariants.{Done}
+use Rattle.ckpt_ids.specs.Records.{metadata_of}
 use Rattle.ckpt_ids.specs.Shapes.{same_subtask, subtasks}
-use Rattle.ckpt_locked.specs.Books.{History, entered, answer_to}
+use Rattle.ckpt_core.specs.State.{State}
+use Rattle.ckpt_core.specs.Refusals.{pending_of}
+use Rattle.ckpt_core.specs.Histories.{replay, answers}
+use Rattle.ckpt_core.specs.Interleavings.{NewFile, ack_with, first_completed}
+use Rattle.ckpt_locked.specs.Books.{state_of_book}
+use Rattle.ckpt_workers.specs.declared.team.Made.{Made}
+use Rattle.ckpt_workers.specs.Teams.{is_accepted}
 use Rattle.ckpt_session.specs.declared.said.ScriptRefusal.TheVariants.{BadThreads, NotPending, FilesUsedUp}
 use Rattle.ckpt_session.specs.declared.all.AllLine.{AllLine}
-use Rattle.ckpt_session.specs.declared.all.Completion.{Completion}
-use Rattle.ckpt_session.specs.declared.all.Outcome.{Outcome}
 use Rattle.ckpt_session.specs.ScriptTexts.{refusal_bytes}
 
 abbrev pub has_acknowledged : Metadata → SubtaskId → Bool
@@ -29,88 +33,65 @@ unfoldable pub shown_pending : Answer → Option Metadata
 shown_pending (Done (Shown m)) = if m.done then None else Some m
 shown_pending answer = None
 
--- how many subtasks are missing, where the answer shows a pending record
-abbrev pub shown_missing : Answer → ℕ
-shown_missing answer = unwrap_or (option_map (λ m. length (missing_subtasks m)) (shown_pending answer)) 0
+-- the metadata of the record with this number, where it is pending
+abbrev pub pending_metadata : State → ℕ → Option Metadata
+pending_metadata m id = option_map metadata_of (pending_of m.records id)
 
--- a call, and who makes it
-pub record SeatedCall : Type 0 where
-  pub seat : ℕ
-  pub call : Call
+-- how many subtasks of the record with this number are missing
+abbrev pub missing_now : State → ℕ → ℕ
+missing_now m id = option_map_or (λ metadata. length (missing_subtasks metadata)) (pending_metadata m id) 0
 
--- the call of this place acknowledges for this subtask; its thread is its seat
-unfoldable pub ack_at : AllLine → ℕ → SubtaskId → SeatedCall
-ack_at line i subtask = record { seat = i % line.threads; call = Ack line.moment line.id subtask ((line.first + i) ∷ []) [] }
+-- each of these subtasks with a new file, numbered from the first on
+abbrev pub new_files : AllLine → List SubtaskId → List NewFile
+new_files line missing = map (λ p. record { subtask = p.1; file = line.first + p.0 }) (enumerate_from 0 missing)
 
--- the calls for these subtasks, from this place on
-abbrev pub acks_from : AllLine → ℕ → List SubtaskId → List SeatedCall
-acks_from line i missing = map (λ p. ack_at line p.0 p.1) (enumerate_from i missing)
+-- the calls for these subtasks
+unfoldable pub acks_for : AllLine → List SubtaskId → List Call
+acks_for line missing = map (ack_with line.moment line.id) (new_files line missing)
 
--- the book after these calls, one after the other
-unfoldable pub entered_all : History → List SeatedCall → History
-entered_all book [] = book
-entered_all book (e ∷ es) = entered_all (entered book e.seat e.call) es
-
--- what they are answered
-unfoldable pub answers_to : History → List SeatedCall → List Answer
-answers_to book [] = []
-answers_to book (e ∷ es) = answer_to book e.call ∷ answers_to (entered book e.seat e.call) es
-
-abbrev pub is_accepted : Answer → Bool
-is_accepted (Done reply) = true
-is_accepted (Refused why) = false
-
--- what the acknowledgement dropped and released, where it completed the record
-abbrev pub completed_by : Answer → Option Completion
-completed_by (Done (AckCompleted dropped released)) = Some (record { dropped = dropped; released = released })
-completed_by answer = None
-
-abbrev pub first_completion : List Answer → Option Completion
-first_completion [] = None
-first_completion (a ∷ rest) = option_or (completed_by a) (first_completion rest)
-
--- how many were accepted and refused, and the completion
-unfoldable pub outcome_of : List Answer → Outcome
-outcome_of answers = record {
-  accepted = count_by is_accepted answers;
-  refused = count_by (λ a. not (is_accepted a)) answers;
-  completed = first_completion answers;
-}
+-- what a line leaves of the coordinator, and what it prints
+abbrev pub Obeyed : Type 0
+Obeyed = State × List ℕ
 
 abbrev pub spaced : ℕ → List ℕ
 spaced n = codes " " ++ decimal n
 
-abbrev pub counts_bytes : Outcome → List ℕ
-counts_bytes o = codes "all" ++ spaced o.accepted ++ spaced o.refused
+abbrev pub counts_bytes : ℕ → ℕ → List ℕ
+counts_bytes accepted refused = codes "all" ++ spaced accepted ++ spaced refused
 
-unfoldable pub completed_bytes : Outcome → Completion → List ℕ
-completed_bytes o c = counts_bytes o ++ codes " completed" ++ spaced c.dropped ++ spaced c.released ++ codes "\n"
+unfoldable pub completed_bytes : ℕ → ℕ → ℕ → ℕ → List ℕ
+completed_bytes accepted refused dropped released = counts_bytes accepted refused ++ codes " completed" ++ spaced dropped ++ spaced released ++ codes "\n"
 
-unfoldable pub pending_bytes : Outcome → ℕ → List ℕ
-pending_bytes o missing = counts_bytes o ++ codes " pending" ++ spaced missing ++ codes "\n"
+unfoldable pub pending_bytes : ℕ → ℕ → ℕ → List ℕ
+pending_bytes accepted refused missing = counts_bytes accepted refused ++ codes " pending" ++ spaced missing ++ codes "\n"
 
--- what a line leaves of the book, and what it prints
-abbrev pub Obeyed : Type 0
-Obeyed = History × List ℕ
+-- what is printed of so many accepted and refused calls, and of the completion
+unfoldable pub told : State → AllLine → ℕ → ℕ → Option (ℕ × ℕ) → List ℕ
+told m line accepted refused (Some (dropped, released)) = completed_bytes accepted refused dropped released
+told m line accepted refused None = pending_bytes accepted refused (missing_now m line.id)
 
--- one more look at the record, where no acknowledgement has completed it
-unfoldable pub told : History → AllLine → Outcome → Option Completion → Obeyed
-told book line o (Some c) = (book, completed_bytes o c)
-told book line o None = (entered book 64 (Show line.id), pending_bytes o (shown_missing (answer_to book (Show line.id))))
+abbrev pub acknowledged : State → AllLine → List Call → Obeyed
+acknowledged m line calls =
+    let after : State = replay m calls in
+    let given : List Answer = answers m calls in
+    (after, told after line (count_by is_accepted given) (count_by (λ a. not (is_accepted a)) given) (first_completed given))
 
-abbrev pub acknowledged : History → AllLine → List SeatedCall → Obeyed
-acknowledged book line acks =
-    let outcome : Outcome = outcome_of (answers_to book acks) in
-    told (entered_all book acks) line outcome outcome.completed
+-- the numbers of the files go up to 2^64 - 1
+unfoldable pub all_of : State → AllLine → Option Metadata → Obeyed
+all_of m line None = (m, refusal_bytes NotPending)
+all_of m line (Some metadata) =
+    if nat_lt (2 ^ 64) (line.first + length (missing_subtasks metadata)) then (m, refusal_bytes FilesUsedUp)
+    else acknowledged m line (acks_for line (missing_subtasks metadata))
 
--- the files of the calls are numbered from the first on, up to 2^64 - 1
-unfoldable pub all_of : History → AllLine → Option Metadata → Obeyed
-all_of book line None = (book, refusal_bytes NotPending)
-all_of book line (Some m) =
-    if nat_lt (2 ^ 64) (line.first + length (missing_subtasks m)) then (book, refusal_bytes FilesUsedUp)
-    else acknowledged book line (acks_from line 0 (missing_subtasks m))
+-- the calls are made one after the other, in subtask order
+unfoldable pub all_obeyed : State → AllLine → Obeyed
+all_obeyed m line =
+    if nat_lt line.threads 1 || nat_lt 64 line.threads then (m, refusal_bytes BadThreads)
+    else all_of m line (pending_metadata m line.id)
 
-unfoldable pub all_obeyed : History → AllLine → Obeyed
-all_obeyed book line =
-    if nat_lt line.threads 1 || nat_lt 64 line.threads then (book, refusal_bytes BadThreads)
-    else all_of (entered book 64 (Show line.id)) line (shown_pending (answer_to book (Show line.id)))
+-- the team's book and its counts are those of the calls made one after the other
+pub record IsAsInOrder (m : State) (calls : List Call) (made : Made) : Type 0 where
+  pub state : state_of_book made.book ≡ replay m calls
+  pub accepted : made.accepted ≡ count_by is_accepted (answers m calls)
+  pub refused : made.refused ≡ count_by (λ a. not (is_accepted a)) (answers m calls)
+  pub completed : made.completed ≡ first_completed (answers m calls)

@@ -5,9 +5,8 @@ use Rattle.ckpt_ids.specs.Shapes.{is_shape}
 use Rattle.ckpt_ids.specs.declared.call.Target.{Target}
 use Rattle.ckpt_ids.specs.declared.call.Call.{Call}
 use Rattle.ckpt_ids.specs.declared.call.Call.TheVariants as call
-use Rattle.ckpt_core.specs.State.{Opening}
-use Rattle.ckpt_locked.specs.Books.{History, entered, answer_to}
-use Rattle.ckpt_recent.specs.Lists.{all}
+use Rattle.ckpt_core.specs.State.{State, Opening, opened}
+use Rattle.ckpt_core.specs.Steps.{step}
 use Rattle.ckpt_lines.specs.declared.line.Line.{Line}
 use Rattle.ckpt_lines.specs.declared.line.Line.TheVariants as line
 use Rattle.ckpt_lines.specs.declared.fault.LineFault.{LineFault}
@@ -24,11 +23,11 @@ pub record Scene : Type 0 where
   pub config : Option Configuration
   -- of the last accepted `job`
   pub shape : Option (List ℕ)
-  -- once a `start` was accepted
-  pub book : Option History
+  -- the coordinator's state, once a `start` was accepted
+  pub core : Option State
 
 abbrev pub opening_scene : Scene
-opening_scene = record { config = None; shape = None; book = None }
+opening_scene = record { config = None; shape = None; core = None }
 
 -- what a line leaves, and what it prints
 abbrev pub Said : Type 0
@@ -38,7 +37,7 @@ abbrev pub refused : Scene → ScriptRefusal → Said
 refused scene why = (scene, refusal_bytes why)
 
 abbrev pub before_start : Scene → Said → Said
-before_start scene said = if is_some scene.book then refused scene Started else said
+before_start scene said = if is_some scene.core then refused scene Started else said
 
 -- the configuration, where its values are within their limits
 abbrev pub limited : Configuration → Option Configuration
@@ -51,24 +50,22 @@ configured scene None = refused scene BadConfig
 unfoldable pub shaped : Scene → List ℕ → Said
 shaped scene shape = if is_shape shape then (record scene { shape = Some shape }, []) else refused scene BadShape
 
-abbrev pub opened : Scene → Opening → Said
-opened scene opening =
-    if nat_le (2 ^ 62) opening.start then refused scene MomentTooLarge
-    else (record scene { book = Some (record { opening = opening; entries = []; keep = all }) }, [])
+abbrev pub opened_with : Scene → Opening → Said
+opened_with scene opening =
+    if nat_le (2 ^ 62) opening.start then refused scene MomentTooLarge else (record scene { core = Some (opened opening) }, [])
 
--- the book opens with the configuration and the shape; its first record has number 1
+-- the coordinator opens with the configuration and the shape; its first record has number 1
 unfoldable pub started : Scene → ℕ → Option Configuration → Option (List ℕ) → Said
-started scene now (Some config) (Some shape) = opened scene (record { config = config; shape = shape; start = now; first = 1 })
+started scene now (Some config) (Some shape) = opened_with scene (record { config = config; shape = shape; start = now; first = 1 })
 started scene now config shape = refused scene NotReady
 
--- what goes on in the book
-abbrev pub in_book : Scene → Obeyed → Said
-in_book scene obeyed = (record scene { book = Some obeyed.0 }, obeyed.1)
+abbrev pub in_core : Scene → Obeyed → Said
+in_core scene obeyed = (record scene { core = Some obeyed.0 }, obeyed.1)
 
--- the calls of lines are entered with seat 64
-unfoldable pub called : Scene → Option History → Call → Said
+-- a call is one step of the coordinator, whose answer is printed
+unfoldable pub called : Scene → Option State → Call → Said
 called scene None c = refused scene NotStarted
-called scene (Some book) c = in_book scene (entered book 64 c, answer_bytes (answer_to book c))
+called scene (Some m) c = in_core scene ((step m c).0, answer_bytes (step m c).1)
 
 -- where a `restore` has parallelisms, they are the new shape
 abbrev pub is_new_shape : List ℕ → Bool
@@ -81,12 +78,12 @@ new_shape (p ∷ ps) = Some (p ∷ ps)
 
 unfoldable pub restored : Scene → ℕ → Target → List ℕ → Said
 restored scene now target ps =
-    if is_some scene.book && not (is_new_shape ps) then refused scene BadShape
-    else called scene scene.book (call.Restore now target (new_shape ps))
+    if is_some scene.core && not (is_new_shape ps) then refused scene BadShape
+    else called scene scene.core (call.Restore now target (new_shape ps))
 
-unfoldable pub all_called : Scene → Option History → AllLine → Said
+unfoldable pub all_called : Scene → Option State → AllLine → Said
 all_called scene None all = refused scene NotStarted
-all_called scene (Some book) all = in_book scene (all_obeyed book all)
+all_called scene (Some m) all = in_core scene (all_obeyed m all)
 
 unfoldable pub obeyed : Scene → Line → Said
 obeyed scene line.Skip = (scene, [])
@@ -94,20 +91,20 @@ obeyed scene (line.Config interval pause at_once timeout tolerable retained keep
     before_start scene (configured scene (limited (record { interval = interval; pause = pause; at_once = at_once; timeout = timeout; tolerable = tolerable; retained = retained; keep_on_cancel = keep_on_cancel })))
 obeyed scene (line.Job parallelisms) = before_start scene (shaped scene parallelisms)
 obeyed scene (line.Start now) = before_start scene (started scene now scene.config scene.shape)
-obeyed scene (line.Tick now) = called scene scene.book (call.Tick now)
-obeyed scene (line.Savepoint now) = called scene scene.book (call.Savepoint now)
-obeyed scene (line.Ack now id subtask fresh reused) = called scene scene.book (call.Ack now id subtask fresh reused)
-obeyed scene (line.Decline now id subtask) = called scene scene.book (call.Decline now id subtask)
-obeyed scene (line.Dispose id) = called scene scene.book (call.Dispose id)
+obeyed scene (line.Tick now) = called scene scene.core (call.Tick now)
+obeyed scene (line.Savepoint now) = called scene scene.core (call.Savepoint now)
+obeyed scene (line.Ack now id subtask fresh reused) = called scene scene.core (call.Ack now id subtask fresh reused)
+obeyed scene (line.Decline now id subtask) = called scene scene.core (call.Decline now id subtask)
+obeyed scene (line.Dispose id) = called scene scene.core (call.Dispose id)
 obeyed scene (line.Restore now target parallelisms) = restored scene now target parallelisms
-obeyed scene (line.Cancel now) = called scene scene.book (call.Cancel now)
-obeyed scene (line.Take most) = called scene scene.book (call.Take most)
-obeyed scene (line.Deleted file) = called scene scene.book (call.Deleted file)
-obeyed scene (line.Undeleted file) = called scene scene.book (call.Undeleted file)
-obeyed scene (line.Show id) = called scene scene.book (call.Show id)
-obeyed scene (line.Count file) = called scene scene.book (call.Count file)
+obeyed scene (line.Cancel now) = called scene scene.core (call.Cancel now)
+obeyed scene (line.Take most) = called scene scene.core (call.Take most)
+obeyed scene (line.Deleted file) = called scene scene.core (call.Deleted file)
+obeyed scene (line.Undeleted file) = called scene scene.core (call.Undeleted file)
+obeyed scene (line.Show id) = called scene scene.core (call.Show id)
+obeyed scene (line.Count file) = called scene scene.core (call.Count file)
 obeyed scene (line.All now id threads first) =
-    all_called scene scene.book (record { moment = now; id = id; threads = threads; first = first })
+    all_called scene scene.core (record { moment = now; id = id; threads = threads; first = first })
 
 -- a line with a fault changes nothing
 unfoldable pub said : ℕ → Scene → Result Line LineFault → Said

@@ -1,24 +1,25 @@
-ghost use Rattle.std.specs.Prelude.{◌≡◌, ◌≤◌, ◌<◌, ◌+◌, ◌^◌, [], false, if◌then◌else◌, length, slice_get, IfOk, OnOk, string_bytes};
+ghost use Rattle.std.specs.Prelude.{◌≡◌, ◌≤◌, ◌<◌, ◌^◌, ◌+◌, false, Some, length, slice_get, IfOk, OnOk, string_bytes};
 ghost use Rattle.std.specs.List.{list_any};
-ghost use Rattle.std.specs.Option.{option_or, option_map_or};
-ghost use Rattle.ckpt_ids.specs.declared.call.Call.TheVariants.{Show};
+ghost use Rattle.std.specs.Option.{option_map_or};
 ghost use Rattle.ckpt_ids.specs.Shapes.{same_subtask};
 ghost use Rattle.ckpt_ids.specs.Acknowledged.{is_before};
-ghost use Rattle.ckpt_locked.specs.Books.{entered, answer_to};
-ghost use Rattle.ckpt_session.specs.AllLines.{missing_subtasks, shown_pending, shown_missing, ack_at, acks_from, entered_all, answers_to, is_accepted, completed_by, outcome_of, counts_bytes, completed_bytes, pending_bytes, told, all_of, all_obeyed};
+ghost use Rattle.ckpt_core.specs.Interleavings.{ack_with};
+ghost use Rattle.ckpt_locked.specs.Books.{state_of_book};
+ghost use Rattle.ckpt_session.specs.AllLines.{missing_subtasks, missing_now, pending_metadata, acks_for, counts_bytes, completed_bytes, pending_bytes, told, all_of, all_obeyed};
 
+use crate::calls::pending_metadata;
 use crate::said::{ScriptRefusal, refusal_text};
-use crate::session::LINE_SEAT;
-use ckpt_ids::{Acks, Answer, Call, CheckpointId, FileId, Files, Metadata, Reply, SubtaskId};
+use ckpt_ids::{Acks, Call, CheckpointId, FileId, Files, Metadata, SubtaskId};
 use ckpt_locked::Book;
+use ckpt_workers::{Made, Team};
 use std::alloc::{AllocError, Global};
 
 /// How many threads an `all` line may have.
 const MOST_THREADS: u64 = 64;
 
 /// An `all` line: each missing subtask of the pending record `id` acknowledges at `moment`, in
-/// milliseconds, with one fresh file each, numbered from `first` on. The calls are spread over
-/// `threads` seats.
+/// milliseconds, with one new file each, numbered from `first` on. The calls are shared out to
+/// `threads` threads.
 #[derive(Clone, Copy, Debug, PartialEq, Eq)]
 pub(crate) struct AllLine {
     pub(crate) moment: u64,
@@ -27,194 +28,107 @@ pub(crate) struct AllLine {
     pub(crate) first: u64,
 }
 
-/// How many records the completing acknowledgement dropped, and how many files it released.
-#[derive(Clone, Copy, Debug, PartialEq, Eq)]
-pub(crate) struct Completion {
-    pub(crate) dropped: u32,
-    pub(crate) released: u64,
-}
-
-/// How the acknowledgements of an `all` line went: how many were accepted and refused, and the
-/// first completion.
-#[derive(Clone, Copy, Debug, PartialEq, Eq)]
-pub(crate) struct Outcome {
-    pub(crate) accepted: u64,
-    pub(crate) refused: u64,
-    pub(crate) completed: Option<Completion>,
-}
-
 impl AllLine {
-    /// Obeys the line over a book, and answers what it prints.
+    /// Obeys the line over a book, and gives it back with what the line prints.
     ///
-    /// Fails only for want of memory, and then nothing is promised of the book.
-    #[tactic(auto, unfolding(crate::specs::AllLines::all_obeyed))]
-    pub(crate) fn obey(&self, alloc: Global, book: &mut Book) -> Result<String, AllocError>
-        ensures { IfOk result (λ text. (book.new, string_bytes text) ≡ all_obeyed book.old self.now) }
+    /// Fails only for want of memory, and then the book is given up.
+    #[tactic(auto, unfolding(crate::specs::AllLines::all_obeyed, crate::specs::AllLines::all_of))]
+    pub(crate) fn obey<T: Team>(
+        &self,
+        alloc: Global,
+        mut book: Book,
+        team: &mut T,
+    ) -> Result<(Book, String), AllocError>
+        ensures { IfOk result (λ said. (state_of_book said.0, string_bytes said.1) ≡ all_obeyed (state_of_book book) self.now) }
     {
         if self.threads < 1 || MOST_THREADS < self.threads {
-            return refusal_text(alloc, ScriptRefusal::BadThreads);
+            return Ok((book, refusal_text(alloc, ScriptRefusal::BadThreads)?));
         }
-        let shown = pending(show(book, self.id)?);
-        self.acknowledge(alloc, book, shown)
+        match pending_metadata(&mut book, self.id)? {
+            Some(metadata) => self.acknowledge(alloc, book, &metadata, team),
+            None => Ok((book, refusal_text(alloc, ScriptRefusal::NotPending)?)),
+        }
     }
 
-    /// Acknowledges where a pending record is shown and no file is above 2^64 - 1.
+    /// Has the missing subtasks of the record acknowledge, unless a file would be above 2^64 - 1.
     #[tactic(auto, unfolding(crate::specs::AllLines::all_of))]
-    fn acknowledge(
+    fn acknowledge<T: Team>(
         &self,
         alloc: Global,
-        book: &mut Book,
-        shown: Option<Metadata>,
-    ) -> Result<String, AllocError>
-        requires threads_from { 1 ≤ self.now.threads }
-        requires threads_to { self.now.threads ≤ 64 }
-        ensures { IfOk result (λ text. (book.new, string_bytes text) ≡ all_of book.old self.now shown) }
+        book: Book,
+        metadata: &Metadata,
+        team: &mut T,
+    ) -> Result<(Book, String), AllocError>
+        requires threads { (1 ≤ self.now.threads) × (self.now.threads ≤ 64) }
+        requires pending { pending_metadata (state_of_book book) self.now.id ≡ Some metadata.now }
+        ensures { IfOk result (λ said. (state_of_book said.0, string_bytes said.1) ≡ all_of (state_of_book book) self.now (Some metadata.now)) }
     {
-        let Some(metadata) = shown else {
-            return refusal_text(alloc, ScriptRefusal::NotPending);
-        };
-        let missing = missing_subtasks(alloc, &metadata)?;
+        let missing = missing_subtasks(alloc, metadata)?;
         let last = (missing.len() as u64).saturating_sub(1);
         if u64::MAX - self.first < last {
-            return refusal_text(alloc, ScriptRefusal::FilesUsedUp);
+            return Ok((book, refusal_text(alloc, ScriptRefusal::FilesUsedUp)?));
         }
-        let outcome = self.acknowledge_each(alloc, book, &missing)?;
-        self.tell(alloc, book, outcome)
+        // Tells that the state is sound: then the calls come to the same in whatever order.
+        let _ = book.core();
+        let calls = self.calls(alloc, &missing)?;
+        let mut made = team.make(book, calls, self.threads as u32)?;
+        let text = self.tell(alloc, &mut made)?;
+        Ok((made.book, text))
     }
 
-    /// Makes the calls of these subtasks, one after the other.
-    fn acknowledge_each(
-        &self,
-        alloc: Global,
-        book: &mut Book,
-        missing: &[SubtaskId],
-    ) -> Result<Outcome, AllocError>
-        requires threads_from { 1 ≤ self.now.threads }
-        requires threads_to { self.now.threads ≤ 64 }
+    /// The calls, in the order of the subtasks.
+    fn calls(&self, alloc: Global, missing: &[SubtaskId]) -> Result<Vec<Call>, AllocError>
         requires files { self.now.first + length missing.now ≤ 2 ^ 64 }
-        ensures book { OnOk result (book.new ≡ entered_all book.old (acks_from self.now 0 missing.now)) }
-        ensures outcome { IfOk result (λ outcome. outcome ≡ outcome_of (answers_to book.old (acks_from self.now 0 missing.now))) }
+        ensures { IfOk result (λ calls. calls.items ≡ acks_for self.now missing.now) }
     {
-        let mut outcome = Outcome::none();
+        let mut calls = Vec::new(alloc);
         let mut place = 0;
         for subtask in missing {
-            let answer = self.ack(alloc, book, place, *subtask)?;
-            outcome.add(&answer);
+            calls.push(self.ack(alloc, place, *subtask)?)?;
             place += 1;
         }
-        Ok(outcome)
+        Ok(calls)
     }
 
-    /// Makes the call of this place, by the thread whose turn it is.
-    #[tactic(auto, unfolding(crate::specs::AllLines::ack_at))]
-    fn ack(
-        &self,
-        alloc: Global,
-        book: &mut Book,
-        place: u64,
-        subtask: SubtaskId,
-    ) -> Result<Answer, AllocError>
-        requires threads_from { 1 ≤ self.now.threads }
-        requires threads_to { self.now.threads ≤ 64 }
+    /// The call of this place.
+    fn ack(&self, alloc: Global, place: u64, subtask: SubtaskId) -> Result<Call, AllocError>
         requires file { self.now.first + place < 2 ^ 64 }
-        ensures book { OnOk result (book.new ≡ entered book.old (ack_at self.now place subtask).seat (ack_at self.now place subtask).call) }
-        ensures answer { IfOk result (λ answer. answer ≡ answer_to book.old (ack_at self.now place subtask).call) }
+        ensures { IfOk result (λ call. call ≡ ack_with self.now.moment self.now.id (record { subtask = subtask; file = self.now.first + place })) }
     {
         let mut fresh = Vec::with_capacity(alloc, 1)?;
         fresh.push(FileId(self.first + place))?;
-        let call = Call::Ack {
+        Ok(Call::Ack {
             now: self.moment,
             id: self.id,
             subtask,
             fresh: Files::of(fresh),
             reused: Files::of(Vec::new(alloc)),
-        };
-        let seat = (place % self.threads) as u32;
-        book.apply(seat, call).map_err(|_| AllocError)
+        })
     }
 
     /// The text, for which a record that is still pending is asked for once more.
     #[tactic(auto, unfolding(crate::specs::AllLines::told))]
-    fn tell(&self, alloc: Global, book: &mut Book, outcome: Outcome) -> Result<String, AllocError>
-        ensures { IfOk result (λ text. (book.new, string_bytes text) ≡ told book.old self.now outcome outcome.completed) }
+    fn tell(&self, alloc: Global, made: &mut Made) -> Result<String, AllocError>
+        ensures state { OnOk result (state_of_book made.new.book ≡ state_of_book made.old.book) }
+        ensures text { IfOk result (λ text. string_bytes text ≡ told (state_of_book made.old.book) self.now made.old.accepted made.old.refused made.old.completed) }
     {
-        match outcome.completed {
-            Some(completion) => completed_text(alloc, outcome, completion),
+        let (accepted, refused) = (made.accepted, made.refused);
+        match made.completed {
+            Some((dropped, released)) => completed_text(alloc, accepted, refused, dropped, released),
             None => {
-                let missing = shown_missing(alloc, show(book, self.id)?)?;
-                pending_text(alloc, outcome, missing)
+                let missing = missing_now(alloc, &mut made.book, self.id)?;
+                pending_text(alloc, accepted, refused, missing)
             }
         }
     }
 }
 
-impl Outcome {
-    /// Before the first acknowledgement.
-    #[tactic(auto, unfolding(crate::specs::AllLines::outcome_of))]
-    fn none() -> Outcome
-        ensures { result ≡ outcome_of [] }
-    {
-        Outcome {
-            accepted: 0,
-            refused: 0,
-            completed: None,
-        }
-    }
-
-    /// Counts one more answer.
-    fn add(&mut self, answer: &Answer)
-        requires accepted { self.old.accepted + 1 < 2 ^ 64 }
-        requires refused { self.old.refused + 1 < 2 ^ 64 }
-        ensures accepted { self.new.accepted ≡ self.old.accepted + (if is_accepted answer.now then 1 else 0) }
-        ensures refused { self.new.refused ≡ self.old.refused + (if is_accepted answer.now then 0 else 1) }
-        ensures completed { self.new.completed ≡ option_or self.old.completed (completed_by answer.now) }
-    {
-        match answer {
-            Answer::Done(_) => self.accepted += 1,
-            Answer::Refused(_) => self.refused += 1,
-        }
-        self.completed = self.completed.or(completed_by(answer));
-    }
-}
-
-/// What the answer says of a completion.
-fn completed_by(answer: &Answer) -> Option<Completion>
-    ensures { result ≡ completed_by answer.now }
+/// How many subtasks of the record are missing, where it is pending.
+fn missing_now(alloc: Global, book: &mut Book, id: CheckpointId) -> Result<u64, AllocError>
+    ensures state { OnOk result (state_of_book book.new ≡ state_of_book book.old) }
+    ensures value { IfOk result (λ missing. missing ≡ missing_now (state_of_book book.old) id) }
 {
-    match answer {
-        Answer::Done(Reply::AckCompleted { dropped, released }) => Some(Completion {
-            dropped: *dropped,
-            released: *released,
-        }),
-        _ => None,
-    }
-}
-
-/// Asks for a record with the seat of the lines.
-fn show(book: &mut Book, id: CheckpointId) -> Result<Answer, AllocError>
-    ensures book { OnOk result (book.new ≡ entered book.old 64 (Show id)) }
-    ensures answer { IfOk result (λ answer. answer ≡ answer_to book.old (Show id)) }
-{
-    book.apply(LINE_SEAT, Call::Show { id })
-        .map_err(|_| AllocError)
-}
-
-/// The metadata, where the answer shows a pending record.
-#[tactic(auto, unfolding(crate::specs::AllLines::shown_pending))]
-fn pending(answer: Answer) -> Option<Metadata>
-    ensures { result ≡ shown_pending answer }
-{
-    match answer {
-        Answer::Done(Reply::Shown(metadata)) if !metadata.done => Some(metadata),
-        _ => None,
-    }
-}
-
-/// How many subtasks are missing, where the answer shows a pending record.
-fn shown_missing(alloc: Global, answer: Answer) -> Result<u64, AllocError>
-    ensures { IfOk result (λ missing. missing ≡ shown_missing answer) }
-{
-    match pending(answer) {
+    match pending_metadata(book, id)? {
         Some(metadata) => Ok(missing_subtasks(alloc, &metadata)?.len() as u64),
         None => Ok(0),
     }
@@ -283,35 +197,36 @@ fn is_before(earlier: SubtaskId, later: SubtaskId) -> bool
 #[tactic(auto, unfolding(crate::specs::AllLines::completed_bytes))]
 fn completed_text(
     alloc: Global,
-    outcome: Outcome,
-    completion: Completion,
+    accepted: u64,
+    refused: u64,
+    dropped: u32,
+    released: u64,
 ) -> Result<String, AllocError>
-    ensures { IfOk result (λ text. string_bytes text ≡ completed_bytes outcome completion) }
+    ensures { IfOk result (λ text. string_bytes text ≡ completed_bytes accepted refused dropped released) }
 {
-    let Completion { dropped, released } = completion;
-    let mut text = counts_text(alloc, outcome)?;
+    let mut text = counts_text(alloc, accepted, refused)?;
     write!(text, " completed {dropped} {released}")?;
     text.push_str("\n")?;
     Ok(text)
 }
 
 #[tactic(auto, unfolding(crate::specs::AllLines::pending_bytes))]
-fn pending_text(alloc: Global, outcome: Outcome, missing: u64) -> Result<String, AllocError>
-    ensures { IfOk result (λ text. string_bytes text ≡ pending_bytes outcome missing) }
+fn pending_text(
+    alloc: Global,
+    accepted: u64,
+    refused: u64,
+    missing: u64,
+) -> Result<String, AllocError>
+    ensures { IfOk result (λ text. string_bytes text ≡ pending_bytes accepted refused missing) }
 {
-    let mut text = counts_text(alloc, outcome)?;
+    let mut text = counts_text(alloc, accepted, refused)?;
     write!(text, " pending {missing}\n")?;
     Ok(text)
 }
 
 /// What both texts begin with.
-fn counts_text(alloc: Global, outcome: Outcome) -> Result<String, AllocError>
-    ensures { IfOk result (λ text. string_bytes text ≡ counts_bytes outcome) }
+fn counts_text(alloc: Global, accepted: u64, refused: u64) -> Result<String, AllocError>
+    ensures { IfOk result (λ text. string_bytes text ≡ counts_bytes accepted refused) }
 {
-    let Outcome {
-        accepted,
-        refused,
-        ..
-    } = outcome;
     format!(in alloc; "all {accepted} {refused}")
 }

@@ -5,6 +5,7 @@
 #![tactic(auto)]
 
 mod all;
+mod calls;
 mod said;
 mod session;
 

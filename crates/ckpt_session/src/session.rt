@@ -2,19 +2,15 @@ ghost use Rattle.std.specs.Prelude.{◌≡◌, ◌↔◌, [], false, Err, IfOk, 
 ghost use Rattle.ckpt_session.specs.Sessions.{opening_scene, before_start, configured, shaped, started, called, restored, new_shape, is_new_shape, all_called, obeyed, said};
 
 use crate::all::AllLine;
+use crate::calls::{call, open};
 use crate::said::{ScriptRefusal, fault_text, refusal_text};
 use ckpt_ids::{Call, Config, Shape, ShapeFault, Target};
 use ckpt_lines::{Line, LineFault, Numbers};
 use ckpt_locked::Book;
 use ckpt_texts::answer_text;
+use ckpt_workers::Team;
 use std::alloc::{AllocError, Global};
 use std::marker::Model;
-
-/// The seat of the calls that lines make.
-pub(crate) const LINE_SEAT: u32 = 64;
-
-/// The number of the first record of a job.
-const FIRST: u64 = 1;
 
 /// A script that is being run: what its lines have told so far, and the book of its calls once it
 /// has started.
@@ -29,11 +25,13 @@ pub struct Session {
 }
 
 impl Model for Session {
+    ghost use Rattle.std.specs.Option.{option_map};
+    ghost use Rattle.ckpt_locked.specs.Books.{state_of_book};
     ghost use Rattle.ckpt_session.specs.Sessions.{Scene};
 
     ghost Value = { Scene };
 
-    ghost view = { λ s. record { config = s.config; shape = s.shape; book = s.book } };
+    ghost view = { λ s. record { config = s.config; shape = s.shape; core = option_map state_of_book s.book } };
 }
 
 impl Session {
@@ -54,18 +52,23 @@ impl Session {
     ///
     /// Fails only for want of memory, and then nothing is promised of the session.
     #[tactic(auto, unfolding(crate::specs::Sessions::said))]
-    pub fn say(&mut self, number: u64, line: Result<Line, LineFault>) -> Result<String, AllocError>
+    pub fn say<T: Team>(
+        &mut self,
+        number: u64,
+        line: Result<Line, LineFault>,
+        team: &mut T,
+    ) -> Result<String, AllocError>
         ensures said { IfOk result (λ text. (self.new, string_bytes text) ≡ said number self.old line) }
     {
         match line {
-            Ok(line) => self.obey(line),
+            Ok(line) => self.obey(line, team),
             Err(why) => fault_text(self.alloc, number, why),
         }
     }
 
     /// Obeys a line that could be read.
     #[tactic(auto, unfolding(crate::specs::Sessions::obeyed))]
-    fn obey(&mut self, line: Line) -> Result<String, AllocError>
+    fn obey<T: Team>(&mut self, line: Line, team: &mut T) -> Result<String, AllocError>
         ensures { IfOk result (λ text. (self.new, string_bytes text) ≡ obeyed self.old line) }
     {
         match line {
@@ -125,12 +128,15 @@ impl Session {
                 id,
                 threads,
                 first,
-            } => self.call_all(&AllLine {
-                moment: now,
-                id,
-                threads,
-                first,
-            }),
+            } => {
+                let all = AllLine {
+                    moment: now,
+                    id,
+                    threads,
+                    first,
+                };
+                self.call_all(&all, team)
+            }
         }
     }
 
@@ -185,7 +191,7 @@ impl Session {
         let (Some(config), Some(shape)) = (self.config, &self.shape) else {
             return refusal_text(self.alloc, ScriptRefusal::NotReady);
         };
-        match Book::new(self.alloc, config, shape.copy()?, now, FIRST) {
+        match open(self.alloc, config, shape.copy()?, now) {
             Ok(book) => {
                 self.book = Some(book);
                 Ok(self.silence())
@@ -196,15 +202,12 @@ impl Session {
 
     /// Makes a call with the seat of the lines.
     #[tactic(auto, unfolding(crate::specs::Sessions::called))]
-    fn call(&mut self, call: Call) -> Result<String, AllocError>
-        ensures { IfOk result (λ text. (self.new, string_bytes text) ≡ called self.old self.old.book call) }
+    fn call(&mut self, made: Call) -> Result<String, AllocError>
+        ensures { IfOk result (λ text. (self.new, string_bytes text) ≡ called self.old self.old.core made) }
     {
-        let Some(book) = &mut self.book else {
-            return refusal_text(self.alloc, ScriptRefusal::NotStarted);
-        };
-        match book.apply(LINE_SEAT, call) {
-            Ok(answer) => answer_text(self.alloc, &answer),
-            Err(_) => Err(AllocError),
+        match &mut self.book {
+            None => refusal_text(self.alloc, ScriptRefusal::NotStarted),
+            Some(book) => answer_text(self.alloc, &call(book, made)?),
         }
     }
 
@@ -230,13 +233,15 @@ impl Session {
 
     /// Makes the calls of an `all` line.
     #[tactic(auto, unfolding(crate::specs::Sessions::all_called))]
-    fn call_all(&mut self, line: &AllLine) -> Result<String, AllocError>
-        ensures { IfOk result (λ text. (self.new, string_bytes text) ≡ all_called self.old self.old.book line.now) }
+    fn call_all<T: Team>(&mut self, line: &AllLine, team: &mut T) -> Result<String, AllocError>
+        ensures { IfOk result (λ text. (self.new, string_bytes text) ≡ all_called self.old self.old.core line.now) }
     {
-        match &mut self.book {
-            None => refusal_text(self.alloc, ScriptRefusal::NotStarted),
-            Some(book) => line.obey(self.alloc, book),
-        }
+        let Some(book) = self.book.take() else {
+            return refusal_text(self.alloc, ScriptRefusal::NotStarted);
+        };
+        let (book, text) = line.obey(self.alloc, book, team)?;
+        self.book = Some(book);
+        Ok(text)
     }
 }
 
