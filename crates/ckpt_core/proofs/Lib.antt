@@ -17,6 +17,7 @@ pub mod CompleteTaken
 pub mod CoreCalls
 pub mod CountBound
 pub mod CountLemmas
+pub mod DealtCalls
 pub mod DropDone
 pub mod DropMoves
 pub mod EndingCounts
@@ -38,6 +39,7 @@ pub mod LawNumbers
 pub mod LawPinned
 pub mod LawSavepoints
 pub mod Lookups
+pub mod MissingFiles
 pub mod Moves
 pub mod NewFiles
 pub mod PartsFacts

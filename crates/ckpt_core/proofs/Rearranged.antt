@@ -70,7 +70,7 @@ Rearranged-from_map {X} {Y} f (x ∷ xs) ys r =
 
 -- of one seat
 
-of_seat-cons : {X : Type 0} (seat : ℕ) (x : ℕ × X) (xs : List (ℕ × X)) → of_seat seat (x ∷ xs) ≡ cond (eqb x.0 seat) (x.1 ∷ of_seat seat xs) (of_seat seat xs)
+pub of_seat-cons : {X : Type 0} (seat : ℕ) (x : ℕ × X) (xs : List (ℕ × X)) → of_seat seat (x ∷ xs) ≡ cond (eqb x.0 seat) (x.1 ∷ of_seat seat xs) (of_seat seat xs)
 of_seat-cons {X} seat x xs =
     let kept : List (ℕ × X) = filter (λ y. eqb y.0 seat) xs in
     let both : (b : Bool) → map (λ (y : ℕ × X). y.1) (cond b (x ∷ kept) kept) ≡ cond b (x.1 ∷ map (λ (y : ℕ × X). y.1) kept) (map (λ (y : ℕ × X). y.1) kept) = λ b. elim b as (λ b. map (λ (y : ℕ × X). y.1) (cond b (x ∷ kept) kept) ≡ cond b (x.1 ∷ map (λ (y : ℕ × X). y.1) kept) (map (λ (y : ℕ × X). y.1) kept)) [ true ↦ refl | false ↦ refl ] in
@@ -79,7 +79,7 @@ of_seat-cons {X} seat x xs =
 of_seat-its : {X : Type 0} (seat : ℕ) (x : ℕ × X) (xs : List (ℕ × X)) → eqb x.0 seat ≡ true → of_seat seat (x ∷ xs) ≡ x.1 ∷ of_seat seat xs
 of_seat-its seat x xs e = of_seat-cons seat x xs ∙ cond-true (eqb x.0 seat) (x.1 ∷ of_seat seat xs) (of_seat seat xs) e
 
-of_seat-other : {X : Type 0} (seat : ℕ) (x : ℕ × X) (xs : List (ℕ × X)) → eqb x.0 seat ≡ false → of_seat seat (x ∷ xs) ≡ of_seat seat xs
+pub of_seat-other : {X : Type 0} (seat : ℕ) (x : ℕ × X) (xs : List (ℕ × X)) → eqb x.0 seat ≡ false → of_seat seat (x ∷ xs) ≡ of_seat seat xs
 of_seat-other seat x xs e = of_seat-cons seat x xs ∙ cond-false (eqb x.0 seat) (x.1 ∷ of_seat seat xs) (of_seat seat xs) e
 
 -- where a value stands that is a seat's first: without it that seat has the rest, and every other has what it had

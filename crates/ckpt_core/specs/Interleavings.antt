@@ -54,17 +54,17 @@ first_completed (a ∷ rest) = option_or (completed_by a) (first_completed rest)
 abbrev pub is_completing : Answer → Bool
 is_completing a = is_some (completed_by a)
 
--- what two lists of calls have in common that lead from one state to one state
+-- from this state both lists of calls come to the same
 pub record SameOutcome (m : State) (given made : List Call) : Type 0 where
   pub state : replay m given ≡ replay m made
   -- as many are accepted, as many refused, and so on for whatever is asked of an answer
   pub as_often : (asked : Answer → Bool) → count_by asked (answers m given) ≡ count_by asked (answers m made)
   pub completed : first_completed (answers m given) ≡ first_completed (answers m made)
-  -- at most one completes the record
+  -- at most one of them completes the record
   pub once : count_by is_completing (answers m given) ≤ 1
 
--- Acknowledgements at one moment, of different missing subtasks of one pending record, each with one new file, all of them
--- different: the order does not matter, as long as each seat keeps its own.
+-- Acknowledgements at one moment, of different missing subtasks of one pending record, each with one new file, no two files the
+-- same: in whatever order the seats take their turns, as long as each makes its own calls in the order given.
 -- Source: Carbone et al. 2015: the order in which the tasks acknowledge does not matter.
 abbrev pub AnyOrder : State → ℕ → ℕ → Record → List NewFile → List (ℕ × Call) → List (ℕ × Call) → Type 0
 AnyOrder m now id r news given made =
