@@ -1,54 +1,98 @@
 #!/usr/bin/env python3
-"""script.py [--ticks] [LINES]: prints a script of LINES lines, by default 1000000, as many as one may have.
+"""script.py [KIND] [LINES]: prints a script of a kind, by default 1000000 lines, as many as one may have.
 
-After the opening come rounds. In each a checkpoint is triggered, four subtasks acknowledge it, each
-with one new file and with its seven newest files of earlier rounds, one file is counted, and what the
-checkpoint released is taken and reported as deleted. No line is refused. With --ticks only ticks come
-after the opening, a millisecond apart. The same arguments give the same script.
+The same arguments give the same script, and no line is refused. The kinds:
+
+  rounds       4 subtasks with 1 new and 7 old files each; what is released is taken and deleted (the default)
+  ticks        ticks alone, a millisecond apart
+  taken        1 subtask with 1 new file; what is released is taken, and never reported
+  subtasks     64 subtasks with 3 new and up to 8 old files each; what is released is taken, and never reported
+  many         4096 subtasks, the same
+  waiting      64 subtasks, the same, but nothing is taken
+  discarder    64 new files a round, taken by eights; one of eight can't be deleted at first
+  savepoints   900 savepoints live; in each round one is taken and one disposed of
+  triggers     a checkpoint of 512 subtasks with 2 files each; then savepoints, each declined at once
+  wide         the same with 1000 files each
 """
 
 import itertools
 import sys
 
 INTERVAL = 1000
-TIMEOUT = 1 << 40
-SUBTASKS = 4
+NEVER = 1 << 40  # the greatest timeout
 RETAINED = 2
-FILES = 8  # of each acknowledgement, the new one among them
 
 
-def opening():
-    yield f"config {INTERVAL} 0 1 {TIMEOUT} 0 {RETAINED} delete"
-    yield f"job {SUBTASKS}"
+def opening(subtasks):
+    yield f"config {INTERVAL} 0 1 {NEVER} 0 {RETAINED} delete"
+    yield f"job {subtasks}"
     yield "start 0"
 
 
-def file(number, subtask):
-    """The file that the subtask wrote for the checkpoint with this number."""
-    return number * SUBTASKS + subtask
+class Files:
+    """The files that each subtask writes: some new ones in each round, and of the older the newest."""
+
+    def __init__(self, subtasks, new, old):
+        self.subtasks, self.new, self.old = subtasks, new, old
+
+    def one(self, subtask, place):
+        """The file that is the subtask's at this place, counted from 0 over all rounds."""
+        return 1 + place * self.subtasks + subtask
+
+    def ack(self, number, round_, subtask):
+        first = (round_ - 1) * self.new
+        reused = range(max(0, first - self.old), first)
+        words = "".join(f" ={self.one(subtask, place)}" for place in reused)
+        words += "".join(f" +{self.one(subtask, place)}" for place in range(first, first + self.new))
+        return f"ack {round_ * INTERVAL + subtask % INTERVAL} {number} 0.{subtask}{words}"
+
+    def released(self, round_):
+        """The files that only the checkpoint used that is dropped in this round, in rising order."""
+
+        def kept_from(dropped):  # the least place that a checkpoint of a round uses
+            return max(0, (dropped - 1) * self.new - self.old)
+
+        dropped = round_ - RETAINED
+        if dropped < 1:
+            return []
+        places = range(kept_from(dropped), kept_from(dropped + 1))
+        return sorted(self.one(subtask, place) for place in places for subtask in range(self.subtasks))
 
 
-def ack(number, subtask):
-    reused = range(max(1, number - FILES + 1), number)
-    words = "".join(f" ={file(earlier, subtask)}" for earlier in reused)
-    return f"ack {number * INTERVAL + subtask} {number} 0.{subtask} +{file(number, subtask)}{words}"
-
-
-def released(number):
-    """The files that only the checkpoint dropped in this round used."""
-    last_used = number - RETAINED - FILES + 1
-    return [file(last_used, subtask) for subtask in range(SUBTASKS)] if last_used > 0 else []
-
-
-def rounds():
+def rounds(files, after):
+    """Rounds in which a checkpoint is triggered and acknowledged; `after` gives the further lines."""
     for number in itertools.count(1):
         yield f"tick {number * INTERVAL}"
-        for subtask in range(SUBTASKS):
-            yield ack(number, subtask)
-        yield f"count {file(number, 0)}"
-        yield f"take {SUBTASKS}"
-        for freed in released(number):
-            yield f"deleted {freed}"
+        for subtask in range(files.subtasks):
+            yield files.ack(number, number, subtask)
+        yield from after(number, files.released(number))
+
+
+def deleted(number, released):
+    yield f"count {released[0] if released else number}"
+    yield f"take {max(1, len(released))}"
+    for file in released:
+        yield f"deleted {file}"
+
+
+def taken(_, released):
+    yield f"take {max(8, len(released))}"
+
+
+def nothing(_, __):
+    return iter(())
+
+
+def discarded(_, released):
+    """The last file of each take is reported as not deleted, and taken once more at the end."""
+    for at in range(0, len(released), 8):
+        yield "take 8"
+        *gone, kept = released[at : at + 8]
+        yield from (f"deleted {file}" for file in gone)
+        yield f"undeleted {kept}"
+    if released:
+        yield f"take {len(released)}"
+        yield from (f"deleted {file}" for file in released[7::8])
 
 
 def ticks():
@@ -56,14 +100,47 @@ def ticks():
         yield f"tick {moment}"
 
 
+def savepoints(live):
+    for number in itertools.count(1):
+        yield f"savepoint {number}"
+        yield f"ack {number} {number} 0.0 +{number}"
+        if number > live:
+            yield f"dispose {number - live}"
+            yield "take 1"
+            yield f"deleted {number - live}"
+
+
+def triggers(subtasks, files):
+    yield f"tick {INTERVAL}"
+    for subtask in range(subtasks):
+        words = "".join(f" +{subtask * files + file}" for file in range(files))
+        yield f"ack {INTERVAL} 1 0.{subtask}{words}"
+    for number in itertools.count(2):
+        yield f"savepoint {INTERVAL + number}"
+        yield f"decline {INTERVAL + number} {number} 0.0"
+
+
+KINDS = {
+    "rounds": lambda: (opening(4), rounds(Files(4, 1, 7), deleted)),
+    "ticks": lambda: (opening(4), ticks()),
+    "taken": lambda: (opening(1), rounds(Files(1, 1, 0), taken)),
+    "subtasks": lambda: (opening(64), rounds(Files(64, 3, 8), taken)),
+    "many": lambda: (opening(4096), rounds(Files(4096, 3, 8), taken)),
+    "waiting": lambda: (opening(64), rounds(Files(64, 3, 8), nothing)),
+    "discarder": lambda: (opening(1), rounds(Files(1, 64, 0), discarded)),
+    "savepoints": lambda: (opening(1), savepoints(900)),
+    "triggers": lambda: (opening(512), triggers(512, 2)),
+    "wide": lambda: (opening(512), triggers(512, 1000)),
+}
+
+
 def main():
     words = sys.argv[1:]
-    only_ticks = "--ticks" in words
-    counts = [word for word in words if word != "--ticks"]
-    if len(counts) > 1 or not all(word.isdecimal() for word in counts):
+    kind = words.pop(0) if words and words[0] in KINDS else "rounds"
+    if len(words) > 1 or not all(word.isdecimal() for word in words):
         sys.exit(__doc__)
-    lines = itertools.chain(opening(), ticks() if only_ticks else rounds())
-    most = int(counts[0]) if counts else 1_000_000
+    most = int(words[0]) if words else 1_000_000
+    lines = itertools.chain.from_iterable(KINDS[kind]())
     sys.stdout.writelines(f"{line}\n" for line in itertools.islice(lines, most))
 
 

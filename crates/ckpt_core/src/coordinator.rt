@@ -12,6 +12,7 @@ ghost use Rattle.ckpt_core.specs.Steps.{step};
 
 use crate::parts::Parts;
 use crate::refusals::{MOMENTS_END, NUMBERS_END};
+use ckpt_hash::Secret;
 use ckpt_ids::{Call, Config, Refusal, Reply, Shape};
 use std::alloc::{AllocError, Global};
 use std::marker::Model;
@@ -80,6 +81,9 @@ impl Core {
     ///
     /// Answers [`OpenFault::MomentTooLarge`] exactly where `now` is above 2^62 - 1, and else
     /// [`OpenFault::BadFirst`] exactly where `first` is outside 1 to 2^62 - 1. Takes no memory.
+    ///
+    /// Anybody can know how it hashes the files' numbers, and choose numbers that make its calls
+    /// slow. Where they come from somebody who may want that, take [`Core::keyed`].
     pub fn new(
         alloc: Global,
         config: Config,
@@ -90,13 +94,29 @@ impl Core {
         ensures fault { result_err result ≡ open_fault now first }
         ensures value { IfOk result (λ core. core ≡ opened (record { config = config; shape = shape; start = now; first = first })) }
     {
+        Core::keyed(alloc, config, shape, now, first, Secret::fixed())
+    }
+
+    /// As [`Core::new`], and hashes the files' numbers under a secret, so that no choice of numbers
+    /// makes its calls slow. The secret changes no answer.
+    pub fn keyed(
+        alloc: Global,
+        config: Config,
+        shape: Shape,
+        now: u64,
+        first: u64,
+        secret: Secret,
+    ) -> Result<Core, OpenFault>
+        ensures fault { result_err result ≡ open_fault now first }
+        ensures value { IfOk result (λ core. core ≡ opened (record { config = config; shape = shape; start = now; first = first })) }
+    {
         if now >= MOMENTS_END {
             return Err(OpenFault::MomentTooLarge);
         }
         if first == 0 || first >= NUMBERS_END {
             return Err(OpenFault::BadFirst);
         }
-        let parts = Parts::new(alloc, config, shape, now, first);
+        let parts = Parts::new(alloc, config, shape, now, first, secret);
         Ok(Core { parts })
     }
 

@@ -20,6 +20,7 @@ mod reads;
 mod refusals;
 mod triggers;
 
+pub use ckpt_hash::Secret;
 pub use coordinator::{Core, CoreFault, OpenFault};
 pub use mode::Mode;
 pub use refusals::test_files;

@@ -5,6 +5,7 @@ ghost use Rattle.ckpt_core.specs.State.{opened};
 use crate::mode::Mode;
 use crate::parts::{Opened, Parts};
 use crate::pending_records::PendingRecords;
+use ckpt_hash::Secret;
 use ckpt_ids::{Config, Shape};
 use ckpt_outbox::Outbox;
 use ckpt_registry::Registry;
@@ -14,8 +15,16 @@ use std::alloc::Global;
 
 impl Parts {
     /// The parts of a coordinator that is opened now, at `start` in milliseconds, and whose first
-    /// record has the number `first`. Takes no memory.
-    pub(crate) fn new(alloc: Global, config: Config, shape: Shape, start: u64, first: u64) -> Parts
+    /// record has the number `first`. The files' numbers are hashed under the secret. Takes no
+    /// memory.
+    pub(crate) fn new(
+        alloc: Global,
+        config: Config,
+        shape: Shape,
+        start: u64,
+        first: u64,
+        secret: Secret,
+    ) -> Parts
         requires start { start < 2 ^ 62 }
         requires from { 1 ≤ first }
         requires to { first < 2 ^ 62 }
@@ -39,8 +48,8 @@ impl Parts {
             mode: Mode::Running,
             next: first,
             pending: PendingRecords::new(alloc),
-            registry: Registry::new(alloc),
-            outbox: Outbox::new(alloc),
+            registry: Registry::keyed(alloc, secret),
+            outbox: Outbox::keyed(alloc, secret),
             ended: Vec::new(alloc),
         }
     }

@@ -11,7 +11,7 @@ ghost use Rattle.ckpt_core.specs.Soundness.{IsCall, IsSound};
 ghost use Rattle.ckpt_core.specs.Steps.{step};
 ghost use Rattle.ckpt_recent.specs.Lists.{all};
 
-use ckpt_core::{Core, CoreFault, OpenFault, laws};
+use ckpt_core::{Core, CoreFault, OpenFault, Secret, laws};
 use ckpt_ids::{Answer, Call, Config, Shape};
 use ckpt_recent::Recent;
 use std::alloc::{AllocError, Global};
@@ -32,6 +32,7 @@ pub struct Entry {
 /// [`Book::keep_last`] says how many; what is promised is of all of them either way.
 #[derive(Drop)]
 pub struct Book {
+    alloc: Global,
     core: Core,
     entries: Recent<Entry>,
 }
@@ -84,6 +85,8 @@ impl Book {
     ///
     /// `now` is in milliseconds. Answers [`OpenFault::MomentTooLarge`] exactly where it is above
     /// 2^62 - 1, and else [`OpenFault::BadFirst`] exactly where `first` is outside 1 to 2^62 - 1.
+    ///
+    /// Where somebody else chooses the files' numbers, take [`Book::keyed`].
     pub fn new(
         alloc: Global,
         config: Config,
@@ -94,11 +97,31 @@ impl Book {
         ensures fault { result_err result ≡ open_fault now first }
         ensures value { IfOk result (λ book. book ≡ record { opening = record { config = config; shape = shape; start = now; first = first }; entries = []; keep = all }) }
     {
+        Book::keyed(alloc, config, shape, now, first, Secret::fixed())
+    }
+
+    /// As [`Book::new`], over the coordinator that [`Core::keyed`] opens: no choice of file numbers
+    /// makes its calls slow. The secret changes no answer.
+    pub fn keyed(
+        alloc: Global,
+        config: Config,
+        shape: Shape,
+        now: u64,
+        first: u64,
+        secret: Secret,
+    ) -> Result<Book, OpenFault>
+        ensures fault { result_err result ≡ open_fault now first }
+        ensures value { IfOk result (λ book. book ≡ record { opening = record { config = config; shape = shape; start = now; first = first }; entries = []; keep = all }) }
+    {
         // Tells that both are within their limits.
         let _ = (config.interval(), shape.size());
-        let core = Core::new(alloc, config, shape, now, first)?;
+        let core = Core::keyed(alloc, config, shape, now, first, secret)?;
         let entries = Recent::new(alloc);
-        Ok(Book { core, entries })
+        Ok(Book {
+            alloc,
+            core,
+            entries,
+        })
     }
 
     /// Makes a call, enters it, and answers what it gave. A refused call is entered too.
@@ -124,6 +147,11 @@ impl Book {
         };
         self.entries.push_reserved(Entry { seat, call });
         Ok(answer)
+    }
+
+    /// Where the book takes memory.
+    pub(crate) fn alloc(&self) -> Global {
+        self.alloc
     }
 
     /// How many calls were entered.

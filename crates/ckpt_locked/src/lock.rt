@@ -95,13 +95,13 @@ impl Pass {
 }
 
 impl Locked {
-    /// A lock over the book, with a pass for each of 1 to 64 seats, in order.
+    /// A lock over the book, with a pass for each of 1 to 64 seats, in order. Takes memory where the
+    /// book does.
     ///
     /// Gives the book back with [`LockFault::BadSeats`] exactly where there are 0 seats or more than
     /// 64, and else with [`LockFault::Memory`] for want of memory alone.
     pub fn new<R: Wait>(
         rt: &R,
-        alloc: Global,
         book: Book,
         seats: u32,
     ) -> Result<(Locked, Vec<Pass>), (Book, LockFault)>
@@ -114,6 +114,7 @@ impl Locked {
         if seats == 0 || seats > MOST_SEATS {
             return Err((book, LockFault::BadSeats));
         }
+        let alloc = book.alloc();
         let mut passes = Vec::new(alloc);
         let mut slots = Vec::new(alloc);
         if passes.reserve(seats as usize).is_err() || slots.reserve(1).is_err() {

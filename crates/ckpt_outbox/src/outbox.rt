@@ -4,6 +4,7 @@ ghost use Rattle.ckpt_outbox.specs.Queues.{Queues, is_in, is_known, is_taken, wi
 
 use crate::places::{Index, Place, note, note_new, ticket};
 use crate::tickets::{Tickets, give};
+use ckpt_hash::Secret;
 use ckpt_ids::{FileId, Handed};
 use std::alloc::{AllocError, Global};
 use std::collections::{BTreeMap, HashMap, VecDeque};
@@ -39,6 +40,21 @@ impl Model for Outbox {
     ghost invariant = { λ o. IsSound o.waiting.items (deque_capacity o.waiting) o.taken.files.entries o.taken.next o.index o.spare };
 }
 
+/// Makes room for so many more files. A growth at least doubles the room: the queue's own may grow
+/// to what is asked, and would copy the queue for each file that is taken and not reported.
+fn grow(queue: &mut VecDeque<FileId>, additional: usize) -> Result<(), AllocError>
+    ensures items { queue.new.items ≡ queue.old.items }
+    ensures ok { OnOk result (length queue.new.items + additional ≤ deque_capacity queue.new) }
+    ensures capacity { deque_capacity queue.old ≤ deque_capacity queue.new }
+{
+    let free = queue.capacity() - queue.len();
+    if additional <= free {
+        return Ok(());
+    }
+    let doubling = free.saturating_add(queue.capacity());
+    queue.reserve(additional.max(doubling))
+}
+
 /// The first `count` files of the queue.
 fn front(queue: &VecDeque<FileId>, count: usize, alloc: Global) -> Result<Vec<FileId>, AllocError>
     requires { count ≤ length queue.now.items }
@@ -59,8 +75,17 @@ fn drop_front(queue: &mut VecDeque<FileId>, count: usize)
 }
 
 impl Outbox {
-    /// An empty outbox. Takes no memory.
+    /// An empty outbox, for files whose numbers nobody chooses: anybody can know how they are
+    /// hashed. Takes no memory.
     pub fn new(alloc: Global) -> Outbox
+        ensures { result ≡ record { waiting = []; taken = []; spare = 0 } }
+    {
+        Outbox::keyed(alloc, Secret::fixed())
+    }
+
+    /// An empty outbox, which hashes the files' numbers under a secret: whoever chooses them can't
+    /// make look-ups slow. Takes no memory.
+    pub fn keyed(alloc: Global, secret: Secret) -> Outbox
         ensures { result ≡ record { waiting = []; taken = []; spare = 0 } }
     {
         Outbox {
@@ -70,7 +95,7 @@ impl Outbox {
                 files: BTreeMap::new(alloc),
                 next: 0,
             },
-            index: HashMap::new(alloc),
+            index: HashMap::with_hasher(alloc, secret),
             spare: 0,
         }
     }
@@ -85,8 +110,8 @@ impl Outbox {
         if n <= self.spare {
             return Ok(());
         }
-        self.waiting
-            .reserve(self.taken.files.len().saturating_add(n as usize))?;
+        let room = self.taken.files.len().saturating_add(n as usize);
+        grow(&mut self.waiting, room)?;
         self.index.reserve(n as usize)?;
         self.spare = n;
         Ok(())

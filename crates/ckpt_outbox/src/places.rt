@@ -5,6 +5,7 @@ ghost use Rattle.std.specs.HashMap.{spare};
 ghost use Rattle.ckpt_outbox.specs.Queues.{AreDistinct, is_in};
 ghost use Rattle.ckpt_outbox.specs.Places.{taken_place, ticketed, ticket_of};
 
+use ckpt_hash::Secret;
 use ckpt_ids::FileId;
 use std::collections::HashMap;
 
@@ -16,7 +17,7 @@ pub(crate) enum Place {
     Taken(u64),
 }
 
-pub(crate) type Index = HashMap<FileId, Place>;
+pub(crate) type Index = HashMap<FileId, Place, Secret>;
 
 /// The ticket of a file that is taken.
 pub(crate) fn ticket(index: &Index, file: FileId) -> Option<u64>

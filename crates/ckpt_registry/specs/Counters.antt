@@ -1,11 +1,10 @@
 -- What the counters say of a file.
 use Rattle.std.specs.Prelude.{◌≡◌, ℕ, ◌^◌, ◌<◌, ◌==◌, nat_eq, List, count_by, unwrap_or, Some, if◌then◌else◌, nat_lt}
-use Rattle.std.specs.declared.hash.FoldHasher.{FoldHasher}
-use Rattle.std.specs.declared.hash.BuildHasherDefault.{BuildHasherDefault}
 use Rattle.indexmap.specs.IndexMap.{IndexMap, get}
+use Rattle.ckpt_hash.specs.declared.secret.Secret.{Secret}
 
 abbrev pub Counts : Type 0
-Counts = IndexMap ℕ ℕ (BuildHasherDefault FoldHasher)
+Counts = IndexMap ℕ ℕ Secret
 
 -- how often a file is counted
 abbrev pub counter : Counts → ℕ → ℕ

@@ -5,11 +5,12 @@ ghost use Rattle.ckpt_ids.specs.Ordered.{IsIn};
 ghost use Rattle.ckpt_registry.specs.Counters.{counter, counted_once, times, AreInRange};
 ghost use Rattle.ckpt_registry.specs.Uses.{IsEachOnce};
 
+use ckpt_hash::Secret;
 use ckpt_ids::FileId;
 use indexmap::IndexMap;
 
 /// How often each file is used; a file that is not used has no counter.
-pub(crate) type Counts = IndexMap<FileId, u32>;
+pub(crate) type Counts = IndexMap<FileId, u32, Secret>;
 
 /// Counts files that no record uses yet, in room that was reserved.
 pub(crate) fn count_fresh(counts: &mut Counts, files: &[FileId])
@@ -53,10 +54,11 @@ pub(crate) fn lower(counts: &mut Counts, released: &mut Vec<FileId>, file: FileI
     ensures capacity { vec_capacity released.new ≡ vec_capacity released.old }
     ensures range { AreInRange counts.new }
 {
-    let count = counts.get(&file).copied().unwrap_or(0);
-    if count > 1 {
-        let _ = counts.insert(file, count - 1);
-        return;
+    if let Some(count) = counts.get_mut(&file) {
+        if *count > 1 {
+            *count -= 1;
+            return;
+        }
     }
     counts.swap_remove(&file);
     released.push_reserved(file);

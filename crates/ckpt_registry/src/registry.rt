@@ -7,6 +7,7 @@ ghost use Rattle.ckpt_registry.specs.Uses.{IsEachOnce, HasNoUse, after_end, trip
 
 use crate::counters::{Counts, count_fresh, count_reused};
 use crate::holdings::{Holder, Holdings, hold, release, release_each};
+use ckpt_hash::Secret;
 use ckpt_ids::{CheckpointId, FileId, Files, SubtaskId};
 use indexmap::IndexMap;
 use std::alloc::{AllocError, Global};
@@ -43,12 +44,21 @@ impl Model for Registry {
 impl Registry {
     ghost use Rattle.ckpt_registry.specs.Ends.{EndsAs};
 
-    /// A registry without uses. Takes no memory.
+    /// A registry without uses, for files whose numbers nobody chooses: anybody can know how they
+    /// are hashed. Takes no memory.
     pub fn new(alloc: Global) -> Registry
         ensures { result ≡ [] }
     {
+        Registry::keyed(alloc, Secret::fixed())
+    }
+
+    /// A registry without uses, which hashes the files' numbers under a secret: whoever chooses
+    /// them can't make look-ups slow. Takes no memory.
+    pub fn keyed(alloc: Global, secret: Secret) -> Registry
+        ensures { result ≡ [] }
+    {
         Registry {
-            counts: IndexMap::new(alloc),
+            counts: IndexMap::with_hasher(alloc, secret),
             acknowledged: BTreeMap::new(alloc),
             pinned: BTreeMap::new(alloc),
             released: Vec::new(alloc),

@@ -1,12 +1,13 @@
 use super::*;
 use crate::places::{Place, note_new, ticket};
+use ckpt_hash::Secret;
 use std::collections::HashMap;
 use std::test::Fail;
 
 /// Begins just below the limit, which no run of calls would reach in a test.
 #[test]
 fn numbers_anew(rt: HostRuntime) -> Result<(), Fail> {
-    let mut index = HashMap::new(rt.alloc());
+    let mut index = HashMap::with_hasher(rt.alloc(), Secret::fixed());
     index.reserve(2)?;
     note_new(&mut index, FileId(7), Place::Waiting);
     note_new(&mut index, FileId(8), Place::Waiting);

@@ -12,7 +12,7 @@ returns-clause-state c =
     let base : Stored → _ = λ s. s.base in
     let checkpoints : Stored → _ = λ s. s.checkpoints in
     let savepoints : Stored → _ = λ s. s.savepoints in
-    rw (c.new.ensures, c.new-2.ensures, ap base c.new-3.ensures, ap checkpoints c.new-3.ensures, ap savepoints c.new-3.ensures, c.new-4.ensures, c.new-6.ensures) refl
+    rw (c.new.ensures, c.new-2.ensures, ap base c.new-3.ensures, ap checkpoints c.new-3.ensures, ap savepoints c.new-3.ensures, c.new-4.ensures, c.keyed-2.ensures) refl
 
 pub returns-clause-sound : goal.returns-clause-sound
 returns-clause-sound c =
@@ -22,12 +22,12 @@ returns-clause-sound c =
     let retained : Stored → _ = λ s. s.retained in
     record {
       tied = record {
-        uses_are = rw (ap checkpoints c.new-3.ensures, ap savepoints c.new-3.ensures, c.new-4.ensures, c.new-5.ensures) refl;
+        uses_are = rw (ap checkpoints c.new-3.ensures, ap savepoints c.new-3.ensures, c.new-4.ensures, c.keyed.ensures) refl;
         retained = ap retained c.new-3.ensures ∙ c.retained.ensures.value;
         tolerable = rw (c.new-2.ensures) c.tolerable.ensures.value;
-        spare = rw (c.new-5.ensures) (omega arith);
+        spare = rw (c.keyed.ensures) (omega arith);
         room = rw (ap checkpoints c.new-3.ensures, ap savepoints c.new-3.ensures, c.new-4.ensures) (omega arith);
       };
       sound = subst IsSound (sym (returns-clause-state c)) (opened_is_sound _ c.tolerable.ensures.limits c.size.ensures.limits c.requires.start c.requires.from c.requires.to);
-      none_ended = c.new-7.ensures.items;
+      none_ended = c.new-5.ensures.items;
     }

@@ -4,7 +4,7 @@ use Rattle.ckpt_core.specs.State.{State, Opening, opened}
 use Rattle.ckpt_locked.specs.declared.book.Entry.{Entry}
 use Rattle.ckpt_locked.specs.Books.{IsKept}
 use Rattle.ckpt_locked.proofs.Openings.{InBounds, in_bounds, kept_opened}
-use Rattle.ckpt_locked.proofs.book.Book.new.Goals as goal
+use Rattle.ckpt_locked.proofs.book.Book.keyed.Goals as goal
 
 pub invariant_of-result : goal.invariant_of-result
 invariant_of-result c =

@@ -1,0 +1,47 @@
+ghost use Rattle.std.specs.Prelude.{◌≡◌};
+ghost use Rattle.ckpt_hash.specs.Hashing.{begun, secret_of};
+
+use crate::hasher::NumberHasher;
+use std::hash::BuildHasher;
+
+/// What the words are joined with, so that two zeros are a lawful secret too.
+const SEED: u64 = 0x243f_6a88_85a3_08d3;
+const MULTIPLIER: u64 = 0x9e37_79b9_7f4a_7c15;
+
+/// The two words that a map hashes by.
+#[derive(Clone, Copy)]
+pub struct Secret {
+    seed: u64,
+    multiplier: u64,
+}
+
+impl Secret {
+    /// The secret of two words, which are to come from a source of random numbers.
+    pub fn of(first: u64, second: u64) -> Secret
+        ensures { result ≡ secret_of first second }
+    {
+        Secret {
+            seed: first ^ SEED,
+            multiplier: second ^ MULTIPLIER,
+        }
+    }
+
+    /// The same words in each run, for keys that nobody chooses: anybody can know them.
+    pub fn fixed() -> Secret
+        ensures { result ≡ secret_of 0 0 }
+    {
+        Secret::of(0, 0)
+    }
+}
+
+impl BuildHasher for Secret {
+    type Hasher = NumberHasher;
+
+    ghost use Rattle.ckpt_hash.specs.Hashing.{begun};
+
+    ghost build_hasher = { λ secret. begun secret };
+
+    fn build_hasher(&self) -> NumberHasher {
+        NumberHasher::new(self.seed, self.multiplier)
+    }
+}
