@@ -114,7 +114,9 @@ impl AllLine {
     {
         let (accepted, refused) = (made.accepted, made.refused);
         match made.completed {
-            Some((dropped, released)) => completed_text(alloc, accepted, refused, dropped, released),
+            Some((dropped, released)) => completed_text(
+                alloc, accepted, refused, dropped, released,
+            ),
             None => {
                 let missing = missing_now(alloc, &mut made.book, self.id)?;
                 pending_text(alloc, accepted, refused, missing)

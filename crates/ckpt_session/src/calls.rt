@@ -18,12 +18,7 @@ const LINE_SEAT: u32 = 64;
 const FIRST: u64 = 1;
 
 /// Opens the book of a job. Takes no memory.
-pub(crate) fn open(
-    alloc: Global,
-    config: Config,
-    shape: Shape,
-    now: u64,
-) -> Result<Book, OpenFault>
+pub(crate) fn open(alloc: Global, config: Config, shape: Shape, now: u64) -> Result<Book, OpenFault>
     ensures fault { result_err result ≡ open_fault now 1 }
     ensures state { IfOk result (λ book. state_of_book book ≡ opened (record { config = config; shape = shape; start = now; first = 1 })) }
 {

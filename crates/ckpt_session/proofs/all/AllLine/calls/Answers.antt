@@ -15,8 +15,7 @@ loop-subtask-preserved c =
     let missing = c.args.missing.now in
     let i = c.loop-subtask.subtask-index in
     let at : c.loop-subtask.place ≡ i = c.loop-subtask.invariant.0 in
-    let ack : ℕ → Call = λ place. ack_with line.moment line.id (record { subtask = get_or missing i zero; file = line.first + place }) in
-    (
+    let ack : ℕ → Call = λ place. ack_with line.moment line.id (record { subtask = get_or missing i zero; file = line.first + place }) in (
       omega arith,
       c.in_ok-push.ensures.items
           ∙ ap (λ (call : Call). c.loop-subtask.calls.items ++ call ∷ []) (c.in_ok-ack.ensures ∙ ap ack at)
