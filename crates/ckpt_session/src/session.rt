@@ -1,4 +1,4 @@
-ghost use Rattle.std.specs.Prelude.{◌≡◌, ◌↔◌, [], false, Err, IfOk, string_bytes};
+ghost use Rattle.std.specs.Prelude.{◌≡◌, ◌↔◌, [], false, None, Err, IfOk, OnErr, string_bytes};
 ghost use Rattle.ckpt_session.specs.Sessions.{opening_scene, before_start, configured, shaped, started, called, restored, new_shape, is_new_shape, all_called, obeyed, said};
 
 use crate::all::AllLine;
@@ -50,7 +50,8 @@ impl Session {
     /// Obeys the line with this number, and answers what it prints: one text with its newline, or
     /// nothing. A line with a fault changes nothing, nor does one that the script refuses.
     ///
-    /// Fails only for want of memory, and then nothing is promised of the session.
+    /// Fails only for want of memory, and then the coordinator is given up: the session is as it was
+    /// before its `start`, with the configuration and the shape.
     #[tactic(auto, unfolding(crate::specs::Sessions::said))]
     pub fn say<T: Team>(
         &mut self,
@@ -59,17 +60,23 @@ impl Session {
         team: &mut T,
     ) -> Result<String, AllocError>
         ensures said { IfOk result (λ text. (self.new, string_bytes text) ≡ said number self.old line) }
+        ensures given_up { OnErr result (self.new ≡ record self.old { core = None }) }
     {
-        match line {
+        let answered = match line {
             Ok(line) => self.obey(line, team),
             Err(why) => fault_text(self.alloc, number, why),
+        };
+        if answered.is_err() {
+            self.book = None;
         }
+        answered
     }
 
     /// Obeys a line that could be read.
     #[tactic(auto, unfolding(crate::specs::Sessions::obeyed))]
     fn obey<T: Team>(&mut self, line: Line, team: &mut T) -> Result<String, AllocError>
-        ensures { IfOk result (λ text. (self.new, string_bytes text) ≡ obeyed self.old line) }
+        ensures said { IfOk result (λ text. (self.new, string_bytes text) ≡ obeyed self.old line) }
+        ensures told { OnErr result ((self.new.config ≡ self.old.config) × (self.new.shape ≡ self.old.shape)) }
     {
         match line {
             Line::Skip => Ok(self.silence()),
@@ -150,7 +157,8 @@ impl Session {
     /// Takes a configuration, unless it was outside its limits.
     #[tactic(auto, unfolding(crate::specs::Sessions::configured))]
     fn configure(&mut self, config: Option<Config>) -> Result<String, AllocError>
-        ensures { IfOk result (λ text. (self.new, string_bytes text) ≡ before_start self.old (configured self.old config)) }
+        ensures said { IfOk result (λ text. (self.new, string_bytes text) ≡ before_start self.old (configured self.old config)) }
+        ensures told { OnErr result ((self.new.config ≡ self.old.config) × (self.new.shape ≡ self.old.shape)) }
     {
         if self.book.is_some() {
             return refusal_text(self.alloc, ScriptRefusal::Started);
@@ -165,7 +173,8 @@ impl Session {
     /// Takes a shape.
     #[tactic(auto, unfolding(crate::specs::Sessions::shaped))]
     fn reshape(&mut self, parallelisms: &Numbers) -> Result<String, AllocError>
-        ensures { IfOk result (λ text. (self.new, string_bytes text) ≡ before_start self.old (shaped self.old parallelisms.now)) }
+        ensures said { IfOk result (λ text. (self.new, string_bytes text) ≡ before_start self.old (shaped self.old parallelisms.now)) }
+        ensures told { OnErr result ((self.new.config ≡ self.old.config) × (self.new.shape ≡ self.old.shape)) }
     {
         if self.book.is_some() {
             return refusal_text(self.alloc, ScriptRefusal::Started);
@@ -183,7 +192,8 @@ impl Session {
     /// Opens the book.
     #[tactic(auto, unfolding(crate::specs::Sessions::started))]
     fn start(&mut self, now: u64) -> Result<String, AllocError>
-        ensures { IfOk result (λ text. (self.new, string_bytes text) ≡ before_start self.old (started self.old now self.old.config self.old.shape)) }
+        ensures said { IfOk result (λ text. (self.new, string_bytes text) ≡ before_start self.old (started self.old now self.old.config self.old.shape)) }
+        ensures told { OnErr result ((self.new.config ≡ self.old.config) × (self.new.shape ≡ self.old.shape)) }
     {
         if self.book.is_some() {
             return refusal_text(self.alloc, ScriptRefusal::Started);
@@ -203,7 +213,8 @@ impl Session {
     /// Makes a call with the seat of the lines.
     #[tactic(auto, unfolding(crate::specs::Sessions::called))]
     fn call(&mut self, made: Call) -> Result<String, AllocError>
-        ensures { IfOk result (λ text. (self.new, string_bytes text) ≡ called self.old self.old.core made) }
+        ensures said { IfOk result (λ text. (self.new, string_bytes text) ≡ called self.old self.old.core made) }
+        ensures told { OnErr result ((self.new.config ≡ self.old.config) × (self.new.shape ≡ self.old.shape)) }
     {
         match &mut self.book {
             None => refusal_text(self.alloc, ScriptRefusal::NotStarted),
@@ -219,7 +230,8 @@ impl Session {
         target: Target,
         parallelisms: &Numbers,
     ) -> Result<String, AllocError>
-        ensures { IfOk result (λ text. (self.new, string_bytes text) ≡ restored self.old now target parallelisms.now) }
+        ensures said { IfOk result (λ text. (self.new, string_bytes text) ≡ restored self.old now target parallelisms.now) }
+        ensures told { OnErr result ((self.new.config ≡ self.old.config) × (self.new.shape ≡ self.old.shape)) }
     {
         if self.book.is_none() {
             return refusal_text(self.alloc, ScriptRefusal::NotStarted);
@@ -234,7 +246,8 @@ impl Session {
     /// Makes the calls of an `all` line.
     #[tactic(auto, unfolding(crate::specs::Sessions::all_called))]
     fn call_all<T: Team>(&mut self, line: &AllLine, team: &mut T) -> Result<String, AllocError>
-        ensures { IfOk result (λ text. (self.new, string_bytes text) ≡ all_called self.old self.old.core line.now) }
+        ensures said { IfOk result (λ text. (self.new, string_bytes text) ≡ all_called self.old self.old.core line.now) }
+        ensures told { OnErr result ((self.new.config ≡ self.old.config) × (self.new.shape ≡ self.old.shape)) }
     {
         let Some(book) = self.book.take() else {
             return refusal_text(self.alloc, ScriptRefusal::NotStarted);
