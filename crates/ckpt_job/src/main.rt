@@ -6,6 +6,7 @@
 #![tactic(auto)]
 
 use ckpt_script::run;
+use ckpt_workers::InOrder;
 use std::process::ExitCode;
 
 /// The run ended before the end of the script.
@@ -14,7 +15,7 @@ const CUT: u8 = 2;
 fn main(rt: HostRuntime) -> ExitCode {
     let mut reader = rt.stdin();
     let mut writer = rt.stdout();
-    match run(rt.alloc(), &mut reader, &mut writer) {
+    match run(rt.alloc(), &mut reader, &mut writer, &mut InOrder) {
         Ok(summary) => ExitCode::from(u8::from(summary.faults > 0)),
         Err(fault) => {
             // Where standard error fails too, the status alone tells.

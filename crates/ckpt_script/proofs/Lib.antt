@@ -1,8 +1,7 @@
-pub mod AckSearch
+pub mod CauseLemmas
 pub mod KnownLemmas
 pub mod LineLemmas
 pub mod NextLemmas
-pub mod Outcomes
 pub mod OutputLemmas
 pub mod PassesLemmas
 pub mod StopLemmas

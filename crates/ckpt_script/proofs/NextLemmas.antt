@@ -1,5 +1,5 @@
 -- What the next line leaves of a run, where the text is known.
-use Rattle.std.proofs.Common.{◌≡◌, ◌≢◌, ℕ, ◌+◌, ◌<◌, ◌≤◌, Bool, false, cond, List, [], ◌++◌, take, Option, refl, sym, ap, subst, ◌∙◌}
+use Rattle.std.proofs.Common.{◌≡◌, ◌≢◌, ℕ, ◌+◌, ◌<◌, ◌≤◌, Bool, false, cond, List, [], ◌++◌, take, Option, refl, sym, ap, subst, ◌∙◌, append-nil}
 use Rattle.std.specs.Prelude.{IfSome, is_err}
 use Rattle.std.specs.Io.KnownBytes.{Keeps, prepend_known}
 use Rattle.ckpt_lines.specs.Reading.{reading}
@@ -9,7 +9,7 @@ use Rattle.ckpt_script.specs.declared.summary.Summary.{Summary}
 use Rattle.ckpt_script.specs.Known.{WhereKnown, Passes}
 use Rattle.ckpt_script.specs.Lines.{held, whole_lines, TakesPart, HoldsLine, HoldsPart}
 use Rattle.ckpt_script.specs.Outputs.{output, most_lines, IsCut}
-use Rattle.ckpt_script.specs.Sessions.{Scene, said}
+use Rattle.ckpt_session.specs.Sessions.{Scene, said}
 use Rattle.ckpt_script.specs.Telling.{HasRun, Shows, IsSoFar, Stopped}
 use Rattle.ckpt_script.proofs.KnownLemmas.{WhereKnown-keeps, WhereKnown-unread, WhereKnown-compose, WhereKnown-if, WhereKnown-map, WhereKnown-some}
 use Rattle.ckpt_script.proofs.TellingLemmas.{run_on, cut_here, shown_front, run_part, run_full, Shows-passes, Shows-cut, Shows-as}
@@ -21,12 +21,40 @@ stopped_cut text rest before now waiting TooManyLines not_read not_many cut = ab
 stopped_cut text rest before now waiting Write not_read not_many cut = cut
 stopped_cut text rest before now waiting Memory not_read not_many cut = cut
 
--- a fault of the reader, or want of memory
-pub stopped_taking : (text rest before now : Option (List ℕ)) (waiting : List ℕ) (why : RunFault) → why ≢ Write → why ≢ TooManyLines → (why ≡ Read → Stopped text rest before now waiting Read) → IfSome text (λ t. IsCut before now (output t)) → Stopped text rest before now waiting why
-stopped_taking text rest before now waiting Read not_write not_many read cut = read refl
-stopped_taking text rest before now waiting TooManyLines not_write not_many read cut = absurd (not_many refl)
-stopped_taking text rest before now waiting Write not_write not_many read cut = absurd (not_write refl)
-stopped_taking text rest before now waiting Memory not_write not_many read cut = cut
+-- a fault of the source or the sink, or want of memory
+pub stopped_taking : (text rest before now : Option (List ℕ)) (waiting : List ℕ) (why : RunFault) → why ≢ TooManyLines → (why ≡ Read → Stopped text rest before now waiting Read) → IfSome text (λ t. IsCut before now (output t)) → Stopped text rest before now waiting why
+stopped_taking text rest before now waiting Read not_many read cut = read refl
+stopped_taking text rest before now waiting TooManyLines not_many read cut = absurd (not_many refl)
+stopped_taking text rest before now waiting Write not_many read cut = cut
+stopped_taking text rest before now waiting Memory not_many read cut = cut
+
+-- what waited was written, or a part of it
+pub so_far_shown : (text left before now after : Option (List ℕ)) (was_ended : Bool) (summary : Summary) (scene : Scene) (waiting waiting' : List ℕ)
+    → IsSoFar text left before now was_ended summary scene waiting → Passes now after waiting [] waiting' → IsSoFar text left before after was_ended summary scene waiting'
+so_far_shown text left before now after was_ended summary scene waiting waiting' so_far passes =
+    WhereKnown-map text left _ _
+    (λ t rest run. (run.0, run.1, Shows-as before after waiting' (run.0 ++ []) run.0 (Shows-passes before now after waiting run.0 [] waiting' run.2 passes) (append-nil run.0)))
+    so_far
+
+-- more was read ahead
+pub so_far_filled : (text left filled before now : Option (List ℕ)) (was_ended is_ended : Bool) (summary : Summary) (scene : Scene) (waiting : List ℕ)
+    → IsSoFar text left before now was_ended summary scene waiting → Keeps left filled → (is_ended ≡ false → was_ended ≡ false) → IsSoFar text filled before now is_ended summary scene waiting
+so_far_filled text left filled before now was_ended is_ended summary scene waiting so_far kept stays =
+    WhereKnown-map text filled _ _ (λ t rest run. (run.0, as_ended t rest run.0 run.1, run.2))
+    (WhereKnown-keeps text left filled (λ t rest. (shown : List ℕ) × HasRun t rest was_ended summary scene shown × Shows before now waiting shown) so_far kept)
+  where
+    as_ended : (t rest shown : List ℕ) → HasRun t rest was_ended summary scene shown → HasRun t rest is_ended summary scene shown
+    as_ended t rest shown run = record {
+      front = run.front;
+      split = run.split;
+      in_turn = run.in_turn;
+      lines = run.lines;
+      few = run.few;
+      faults = run.faults;
+      scene_is = run.scene_is;
+      shown_is = run.shown_is;
+      whole = λ e. run.whole (stays e);
+    }
 
 module _ (text left before now : Option (List ℕ)) (was_ended : Bool) (summary : Summary) (scene : Scene) (waiting : List ℕ)
     (so_far : IsSoFar text left before now was_ended summary scene waiting) (bytes : List ℕ) (known : Option (List ℕ)) (kept : Keeps left (prepend_known bytes known)) where

@@ -5,7 +5,7 @@ use Rattle.std.proofs.Math.Seq.{take-append-add}
 use Rattle.ckpt_lines.specs.Reading.{reading}
 use Rattle.ckpt_script.specs.Lines.{lines_of}
 use Rattle.ckpt_script.specs.Outputs.{outputs, output, scene_after, most_lines}
-use Rattle.ckpt_script.specs.Sessions.{Scene, opening_scene, said}
+use Rattle.ckpt_session.specs.Sessions.{Scene, opening_scene, said}
 
 pub outputs-append : (number : ℕ) (scene : Scene) (lines more : List (List ℕ)) → outputs number scene (lines ++ more) ≡ outputs number scene lines ++ outputs (number + length lines) (scene_after number scene lines) more
 outputs-append number scene [] more = let e : number + 0 ≡ number = omega arith in rw e refl

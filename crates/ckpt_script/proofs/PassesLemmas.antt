@@ -53,6 +53,14 @@ passes_part before after waiting text count p = record {
 pub passes_none : (before : Option (List ℕ)) (waiting text : List ℕ) → Passes before before waiting text (waiting ++ text)
 passes_none before waiting text = record { written = []; appended = Appends-none before; in_turn = refl }
 
+-- nothing more was shown
+pub passes_on : (before between after : Option (List ℕ)) (waiting middle left : List ℕ) → Passes before between waiting [] middle → Passes between after middle [] left → Passes before after waiting [] left
+passes_on before between after waiting middle left p q = record {
+  written = p.written ++ q.written;
+  appended = Appends-trans before between after p.written q.written p.appended q.appended;
+  in_turn = append_assoc p.written q.written left ∙ ap (λ (zs : List ℕ). p.written ++ zs) (q.in_turn ∙ append-nil middle) ∙ p.in_turn;
+}
+
 -- on either side of a result
 
 pub on_err : {T E : Type 0} (r : Result T E) {P : Type 0} → P → OnErr r P

@@ -9,7 +9,7 @@ use Rattle.ckpt_script.specs.declared.summary.Summary.{Summary}
 use Rattle.ckpt_script.specs.Known.{WhereKnown}
 use Rattle.ckpt_script.specs.Lines.{whole_lines}
 use Rattle.ckpt_script.specs.Outputs.{output, IsCut, Ran}
-use Rattle.ckpt_script.specs.Sessions.{Scene, opening_scene}
+use Rattle.ckpt_session.specs.Sessions.{Scene, opening_scene}
 use Rattle.ckpt_script.specs.Telling.{Shows, IsSoFar, Stopped, keeps_lines}
 use Rattle.ckpt_script.proofs.KnownLemmas.{WhereKnown-map, WhereKnown-if}
 use Rattle.ckpt_script.proofs.PassesLemmas.{Appends-trans, Appends-as, Appends-none}

@@ -7,7 +7,7 @@ use Rattle.ckpt_script.specs.declared.summary.Summary.{Summary}
 use Rattle.ckpt_script.specs.Known.{Passes}
 use Rattle.ckpt_script.specs.Lines.{newline, lines_of, whole_lines, TakesLine, TakesPart}
 use Rattle.ckpt_script.specs.Outputs.{outputs, output, scene_after, faults_in, most_lines, IsCut}
-use Rattle.ckpt_script.specs.Sessions.{Scene, opening_scene, said}
+use Rattle.ckpt_session.specs.Sessions.{Scene, opening_scene, said}
 use Rattle.ckpt_script.specs.Telling.{HasRun, Shows}
 use Rattle.ckpt_script.proofs.LineLemmas.{some_lines, lines_of-line, lines_of-last, lines_of-append, whole_lines-append, whole_lines-ends}
 use Rattle.ckpt_script.proofs.OutputLemmas.{outputs-more, scene_after-append, output-few, output-front}

@@ -1,8 +1,6 @@
-pub mod AllLines
+pub mod Devices
 pub mod Known
 pub mod Lines
 pub mod Outputs
-pub mod ScriptTexts
-pub mod Sessions
 pub mod Telling
 pub mod Unread

@@ -7,7 +7,7 @@ use Rattle.ckpt_script.specs.declared.fault.RunFault.TheVariants.{Read, Write, T
 use Rattle.ckpt_script.specs.declared.summary.Summary.{Summary}
 use Rattle.ckpt_script.specs.Known.{WhereKnown}
 use Rattle.ckpt_script.specs.Lines.{lines_of, whole_lines}
-use Rattle.ckpt_script.specs.Sessions.{Scene, opening_scene, said}
+use Rattle.ckpt_session.specs.Sessions.{Scene, opening_scene, said}
 
 -- what lines print one after the other, from this number and this scene on
 abbrev pub outputs : ℕ → Scene → List (List ℕ) → List ℕ

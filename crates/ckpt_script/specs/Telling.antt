@@ -7,7 +7,7 @@ use Rattle.ckpt_script.specs.declared.summary.Summary.{Summary}
 use Rattle.ckpt_script.specs.Known.{WhereKnown}
 use Rattle.ckpt_script.specs.Lines.{lines_of, whole_lines}
 use Rattle.ckpt_script.specs.Outputs.{outputs, output, scene_after, faults_in, most_lines, IsCut}
-use Rattle.ckpt_script.specs.Sessions.{Scene, opening_scene}
+use Rattle.ckpt_session.specs.Sessions.{Scene, opening_scene}
 
 -- The lines of a front of the text have been run, and `rest` is left.
 pub record HasRun (text rest : List ℕ) (is_ended : Bool) (summary : Summary) (scene : Scene) (shown : List ℕ) : Type 0 where

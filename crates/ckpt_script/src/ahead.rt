@@ -1,12 +1,15 @@
-ghost use Rattle.std.specs.Prelude.{◌≡◌, ◌<◌, ◌^◌, ◌≢◌, ◌≤◌, ◌∷◌, ◌++◌, true, false, [], Err, IsTrue, ◌↔◌, IfOk, OnOk, OnErr, IfErr, length, take};
+ghost use Rattle.std.specs.Prelude.{◌≡◌, ◌+◌, ◌^◌, ◌≢◌, ◌≤◌, ◌∷◌, ◌++◌, ℕ, List, true, false, [], IsTrue, ◌↔◌, IfOk, OnOk, OnErr, IfErr, length, take};
 ghost use Rattle.std.specs.Io.KnownBytes.{Keeps, IsAtEnd, prepend_known};
-ghost use Rattle.ckpt_script.specs.Known.{WhereKnown};
+ghost use Rattle.ckpt_script.specs.Devices.{IsCounted, IsCaused};
+ghost use Rattle.ckpt_script.specs.Known.{WhereKnown, Passes};
 ghost use Rattle.ckpt_script.specs.Lines.{held, FindsNewline, Moves, HoldsLine, HoldsPart};
 
 use crate::fault::RunFault;
+use crate::printed::Printed;
+use crate::sink::Sink;
+use crate::source::Source;
 use memchr::memchr;
 use std::alloc::{AllocError, Global};
-use std::io::Read;
 use std::marker::Model;
 
 /// How many bytes are asked for at once.
@@ -65,29 +68,65 @@ impl Ahead {
         self.start >= self.end
     }
 
-    /// Reads once, unless something is left or the end of the script has come.
+    /// Asks the source for more, unless something is left or the end of the script has come. What
+    /// was printed is written and flushed first, so whoever waits for an answer has it.
     ///
-    /// A read that failed is not tried again, and the end is not asked for again.
-    pub(crate) fn fill<R: Read>(&mut self, reader: &mut R) -> Result<(), RunFault>
-        requires ended { self.old.is_ended ≡ true → IsAtEnd (R.remaining reader.old) }
-        ensures kept { Keeps (prepend_known self.old.bytes (R.remaining reader.old)) (prepend_known self.new.bytes (R.remaining reader.new)) }
-        ensures ended { self.new.is_ended ≡ true → IsAtEnd (R.remaining reader.new) }
+    /// A source that failed is not asked again, nor one that has said that nothing is left.
+    pub(crate) fn fill<S: Source, K: Sink>(
+        &mut self,
+        source: &mut S,
+        printed: &mut Printed,
+        sink: &mut K,
+    ) -> Result<(), RunFault>
+        requires ended { self.old.is_ended ≡ true → IsAtEnd (S.remaining source.old) }
+        requires counted { IsCounted (S.asked source.old) self.old }
+        requires going_on { K.failures sink.old ≡ 0 }
+        ensures kept { Keeps (prepend_known self.old.bytes (S.remaining source.old)) (prepend_known self.new.bytes (S.remaining source.new)) }
+        ensures ended { self.new.is_ended ≡ true → IsAtEnd (S.remaining source.new) }
         ensures filled { OnOk result (self.new.bytes ≡ [] → self.new.is_ended ≡ true) }
-        ensures fault { IfErr result (λ why. why ≡ RunFault.Read) }
-        ensures unread { OnErr result ((self.new.bytes ≡ []) × (self.old.is_ended ≡ false)) }
         ensures stays { self.new.is_ended ≡ false → self.old.is_ended ≡ false }
-        ensures fewer { OnOk result (self.old.bytes ≡ [] → self.old.is_ended ≡ false → self.new.reads_left < self.old.reads_left) }
+        ensures fewer { OnOk result (self.old.bytes ≡ [] → self.old.is_ended ≡ false → self.new.reads_left + 1 ≡ self.old.reads_left) }
+        ensures at_once { OnOk result (self.old.bytes ≡ [] → self.old.is_ended ≡ false → printed.new ≡ []) }
+        ensures counted { OnOk result (IsCounted (S.asked source.new) self.new) }
+        ensures going_on { OnOk result (K.failures sink.new ≡ 0) }
+        ensures shown { OnOk result (Passes (K.contents sink.old) (K.contents sink.new) printed.old [] printed.new) }
+        ensures fault { IfErr result (λ why. (why ≢ RunFault.TooManyLines) × (why ≢ RunFault.Memory)) }
+        ensures unread { IfErr result (λ why. why ≡ RunFault.Read → (self.new.bytes ≡ []) × (self.old.is_ended ≡ false)) }
+        ensures shown_read { IfErr result (λ why. why ≡ RunFault.Read → Passes (K.contents sink.old) (K.contents sink.new) printed.old [] printed.new) }
+        ensures cut { OnErr result ((left : List ℕ) × Passes (K.contents sink.old) (K.contents sink.new) printed.old [] left) }
+        ensures cause { IfErr result (IsCaused (S.asked source.new) (K.failures sink.new)) }
+        ensures same_source { S.device source.new ≡ S.device source.old }
+        ensures same_sink { K.device sink.new ≡ K.device sink.old }
     {
         if self.start < self.end || self.is_ended {
             return Ok(());
         }
+        printed.flush(sink)?;
+        self.ask(source)
+    }
+
+    /// Asks the source once.
+    fn ask<S: Source>(&mut self, source: &mut S) -> Result<(), RunFault>
+        requires unread { self.old.bytes ≡ [] }
+        requires going_on { self.old.is_ended ≡ false }
+        requires counted { IsCounted (S.asked source.old) self.old }
+        ensures kept { Keeps (prepend_known [] (S.remaining source.old)) (prepend_known self.new.bytes (S.remaining source.new)) }
+        ensures ended { self.new.is_ended ≡ true → IsAtEnd (S.remaining source.new) }
+        ensures filled { OnOk result (self.new.bytes ≡ [] → self.new.is_ended ≡ true) }
+        ensures fewer { OnOk result (self.new.reads_left + 1 ≡ self.old.reads_left) }
+        ensures counted { OnOk result (IsCounted (S.asked source.new) self.new) }
+        ensures fault { IfErr result (λ why. why ≡ RunFault.Read) }
+        ensures unread { OnErr result (self.new.bytes ≡ []) }
+        ensures cause { IfErr result (IsCaused (S.asked source.new) 0) }
+        ensures same_source { S.device source.new ≡ S.device source.old }
+    {
         if self.reads_left == 0 {
             return Err(RunFault::Read);
         }
         self.reads_left -= 1;
         self.start = 0;
         self.end = 0;
-        match reader.read(self.buffer.as_mut_slice()) {
+        match source.read(self.buffer.as_mut_slice()) {
             Ok(count) => {
                 self.end = count;
                 self.is_ended = count == 0;
@@ -99,25 +138,37 @@ impl Ahead {
 
     /// Reads a line, up to its newline or to the end of the script. Of a line that is too long the
     /// front is held, and the rest is dropped.
-    pub(crate) fn read_line<R: Read>(
+    pub(crate) fn read_line<S: Source, K: Sink>(
         &mut self,
-        reader: &mut R,
+        source: &mut S,
         line: &mut Vec<u8>,
+        printed: &mut Printed,
+        sink: &mut K,
     ) -> Result<(), RunFault>
-        requires ended { self.old.is_ended ≡ true → IsAtEnd (R.remaining reader.old) }
-        ensures ended { self.new.is_ended ≡ true → IsAtEnd (R.remaining reader.new) }
-        ensures line { OnOk result (WhereKnown (prepend_known self.old.bytes (R.remaining reader.old)) (prepend_known self.new.bytes (R.remaining reader.new)) (λ bytes rest. HoldsLine self.new.is_ended bytes rest line.new.items)) }
-        ensures part { result ≡ Err RunFault.Read → WhereKnown (prepend_known self.old.bytes (R.remaining reader.old)) (R.remaining reader.new) (λ bytes rest. HoldsPart bytes rest line.new.items) }
-        ensures going_on { result ≡ Err RunFault.Read → self.old.is_ended ≡ false }
-        ensures fault { IfErr result (λ why. why ≢ RunFault.Write × why ≢ RunFault.TooManyLines) }
+        requires ended { self.old.is_ended ≡ true → IsAtEnd (S.remaining source.old) }
+        requires counted { IsCounted (S.asked source.old) self.old }
+        requires going_on { K.failures sink.old ≡ 0 }
+        ensures ended { self.new.is_ended ≡ true → IsAtEnd (S.remaining source.new) }
+        ensures line { OnOk result (WhereKnown (prepend_known self.old.bytes (S.remaining source.old)) (prepend_known self.new.bytes (S.remaining source.new)) (λ bytes rest. HoldsLine self.new.is_ended bytes rest line.new.items)) }
+        ensures part { IfErr result (λ why. why ≡ RunFault.Read → WhereKnown (prepend_known self.old.bytes (S.remaining source.old)) (S.remaining source.new) (λ bytes rest. HoldsPart bytes rest line.new.items)) }
+        ensures stays { IfErr result (λ why. why ≡ RunFault.Read → self.old.is_ended ≡ false) }
+        ensures fault { IfErr result (λ why. why ≢ RunFault.TooManyLines) }
+        ensures counted { OnOk result (IsCounted (S.asked source.new) self.new) }
+        ensures going_on { OnOk result (K.failures sink.new ≡ 0) }
+        ensures shown { OnOk result (Passes (K.contents sink.old) (K.contents sink.new) printed.old [] printed.new) }
+        ensures shown_read { IfErr result (λ why. why ≡ RunFault.Read → Passes (K.contents sink.old) (K.contents sink.new) printed.old [] printed.new) }
+        ensures cut { OnErr result ((left : List ℕ) × Passes (K.contents sink.old) (K.contents sink.new) printed.old [] left) }
+        ensures cause { IfErr result (IsCaused (S.asked source.new) (K.failures sink.new)) }
+        ensures same_source { S.device source.new ≡ S.device source.old }
+        ensures same_sink { K.device sink.new ≡ K.device sink.old }
     {
         line.clear();
-        self.fill(reader)?;
+        self.fill(source, printed, sink)?;
         while !self.is_empty() {
             if self.move_to(line)? {
                 return Ok(());
             }
-            self.fill(reader)?;
+            self.fill(source, printed, sink)?;
         }
         Ok(())
     }

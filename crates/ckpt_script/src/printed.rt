@@ -1,10 +1,11 @@
 ghost use Rattle.std.specs.Prelude.{◌≡◌, ◌≢◌, ℕ, List, [], take, IfOk, OnOk, OnErr, IfErr};
 ghost use Rattle.std.specs.Io.KnownBytes.{Appends};
+ghost use Rattle.ckpt_script.specs.Devices.{SinkCauses};
 ghost use Rattle.ckpt_script.specs.Known.{Passes};
 
 use crate::fault::RunFault;
+use crate::sink::Sink;
 use std::alloc::{AllocError, Global};
-use std::io::Write;
 use std::marker::Model;
 
 /// How many bytes wait at most.
@@ -14,14 +15,17 @@ const CHUNK: usize = 8192;
 #[derive(Drop)]
 pub(crate) struct Printed {
     waiting: Vec<u8>,
+    is_flushed: bool,
 }
 
 impl Model for Printed {
-    ghost use Rattle.std.specs.Prelude.{ℕ, List};
+    ghost use Rattle.std.specs.Prelude.{◌≤◌, ℕ, List, vec_len};
 
     ghost Value = { List ℕ };
 
     ghost view = { λ p. p.waiting.items };
+
+    ghost invariant = { λ p. vec_len p.waiting ≤ 8192 };
 }
 
 impl Printed {
@@ -31,44 +35,84 @@ impl Printed {
     {
         Ok(Printed {
             waiting: Vec::with_capacity(alloc, CHUNK)?,
+            is_flushed: true,
         })
     }
 
     /// Prints a text: it is written now or waits.
-    pub(crate) fn print<W: Write>(&mut self, writer: &mut W, text: &[u8]) -> Result<(), RunFault>
-        ensures ok { OnOk result (Passes (W.contents writer.old) (W.contents writer.new) self.old text.now self.new) }
-        ensures err { OnErr result ((left : List ℕ) × Passes (W.contents writer.old) (W.contents writer.new) self.old text.now left) }
+    pub(crate) fn print<K: Sink>(&mut self, sink: &mut K, text: &[u8]) -> Result<(), RunFault>
+        requires going_on { K.failures sink.old ≡ 0 }
+        ensures ok { OnOk result (Passes (K.contents sink.old) (K.contents sink.new) self.old text.now self.new) }
+        ensures err { OnErr result ((left : List ℕ) × Passes (K.contents sink.old) (K.contents sink.new) self.old text.now left) }
         ensures fault { IfErr result (λ why. (why ≢ RunFault.Read) × (why ≢ RunFault.TooManyLines)) }
+        ensures going_on { OnOk result (K.failures sink.new ≡ 0) }
+        ensures cause { IfErr result (SinkCauses (K.failures sink.new)) }
+        ensures same_sink { K.device sink.new ≡ K.device sink.old }
     {
         if self.waiting.len() + text.len() <= CHUNK {
             self.waiting.extend_from_slice(text)?;
             return Ok(());
         }
-        self.write_out(writer)?;
-        write_whole(writer, text)
+        self.write_out(sink)?;
+        self.is_flushed = false;
+        write_whole(sink, text)
+    }
+
+    /// Writes what waits, and flushes what was written since the last flush.
+    pub(crate) fn flush<K: Sink>(&mut self, sink: &mut K) -> Result<(), RunFault>
+        requires going_on { K.failures sink.old ≡ 0 }
+        ensures ok { OnOk result ((self.new ≡ []) × Appends (K.contents sink.old) (K.contents sink.new) self.old) }
+        ensures err { IfErr result (λ why. (why ≡ RunFault.Write) × ((count : ℕ) × Appends (K.contents sink.old) (K.contents sink.new) (take count self.old))) }
+        ensures going_on { OnOk result (K.failures sink.new ≡ 0) }
+        ensures failed { OnErr result (K.failures sink.new ≡ 1) }
+        ensures same_sink { K.device sink.new ≡ K.device sink.old }
+    {
+        self.write_out(sink)?;
+        if self.is_flushed {
+            return Ok(());
+        }
+        match sink.flush() {
+            Ok(()) => {
+                self.is_flushed = true;
+                Ok(())
+            }
+            Err(_) => Err(RunFault::Write),
+        }
     }
 
     /// Writes what waits.
-    pub(crate) fn write_out<W: Write>(&mut self, writer: &mut W) -> Result<(), RunFault>
-        ensures ok { OnOk result ((self.new ≡ []) × Appends (W.contents writer.old) (W.contents writer.new) self.old) }
-        ensures err { IfErr result (λ why. (why ≡ RunFault.Write) × ((count : ℕ) × Appends (W.contents writer.old) (W.contents writer.new) (take count self.old))) }
+    fn write_out<K: Sink>(&mut self, sink: &mut K) -> Result<(), RunFault>
+        requires going_on { K.failures sink.old ≡ 0 }
+        ensures ok { OnOk result ((self.new ≡ []) × Appends (K.contents sink.old) (K.contents sink.new) self.old) }
+        ensures err { IfErr result (λ why. (why ≡ RunFault.Write) × ((count : ℕ) × Appends (K.contents sink.old) (K.contents sink.new) (take count self.old))) }
+        ensures going_on { OnOk result (K.failures sink.new ≡ 0) }
+        ensures failed { OnErr result (K.failures sink.new ≡ 1) }
+        ensures same_sink { K.device sink.new ≡ K.device sink.old }
     {
-        write_whole(writer, self.waiting.as_slice())?;
+        if self.waiting.is_empty() {
+            return Ok(());
+        }
+        write_whole(sink, self.waiting.as_slice())?;
         self.waiting.clear();
+        self.is_flushed = false;
         Ok(())
     }
 }
 
-/// Writes all bytes. A write that failed is not tried again, and one that takes nothing has failed.
-fn write_whole<W: Write>(writer: &mut W, bytes: &[u8]) -> Result<(), RunFault>
-    ensures ok { OnOk result (Appends (W.contents writer.old) (W.contents writer.new) bytes.now) }
-    ensures err { IfErr result (λ why. (why ≡ RunFault.Write) × ((count : ℕ) × Appends (W.contents writer.old) (W.contents writer.new) (take count bytes.now))) }
+/// Writes all bytes. A write that failed is not tried again.
+fn write_whole<K: Sink>(sink: &mut K, bytes: &[u8]) -> Result<(), RunFault>
+    requires going_on { K.failures sink.old ≡ 0 }
+    ensures ok { OnOk result (Appends (K.contents sink.old) (K.contents sink.new) bytes.now) }
+    ensures err { IfErr result (λ why. (why ≡ RunFault.Write) × ((count : ℕ) × Appends (K.contents sink.old) (K.contents sink.new) (take count bytes.now))) }
+    ensures going_on { OnOk result (K.failures sink.new ≡ 0) }
+    ensures failed { OnErr result (K.failures sink.new ≡ 1) }
+    ensures same_sink { K.device sink.new ≡ K.device sink.old }
 {
     let mut done = 0;
     while done < bytes.len() {
-        match writer.write(&bytes[done..]) {
-            Ok(count) if count > 0 => done += count,
-            _ => return Err(RunFault::Write),
+        match sink.write(&bytes[done..]) {
+            Ok(count) => done += count,
+            Err(_) => return Err(RunFault::Write),
         }
     }
     Ok(())

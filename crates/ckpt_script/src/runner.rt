@@ -1,17 +1,22 @@
 ghost use Rattle.std.specs.Prelude.{◌≡◌, ◌≢◌, ◌≤◌, ◌<◌, ◌+◌, ◌^◌, ℕ, take, List, [], Err, Option, true, false, OnOk, OnErr, IfOk, IfErr, is_err, if◌then◌else◌};
 ghost use Rattle.std.specs.Io.KnownBytes.{Appends, IsAtEnd, prepend_known};
 ghost use Rattle.ckpt_lines.specs.Reading.{reading};
+ghost use Rattle.ckpt_script.specs.Devices.{Asked, IsCounted, IsCaused, SinkCauses, IsReadThrough, never_asked};
 ghost use Rattle.ckpt_script.specs.Known.{Passes};
 ghost use Rattle.ckpt_script.specs.Outputs.{Ran, most_lines};
-ghost use Rattle.ckpt_script.specs.Sessions.{opening_scene, said};
+ghost use Rattle.ckpt_session.specs.Sessions.{opening_scene, said};
 ghost use Rattle.ckpt_script.specs.Telling.{IsSoFar, Stopped, keeps_lines};
 
 use crate::ahead::Ahead;
 use crate::fault::RunFault;
 use crate::printed::Printed;
-use crate::session::Session;
+use crate::sink::Sink;
+use crate::source::Source;
+use crate::streams::{CountedReader, CountedWriter};
 use crate::summary::Summary;
 use ckpt_lines::{LineFault, laws, parse_line};
+use ckpt_session::Session;
+use ckpt_workers::Team;
 use std::alloc::{AllocError, Global};
 use std::io::{Read, Write};
 
@@ -31,16 +36,20 @@ struct Runner {
 
 impl Runner {
     /// Obeys the line that is held, and prints what it says.
-    fn obey<W: Write>(&mut self, writer: &mut W) -> Result<(), RunFault>
+    fn obey<K: Sink, T: Team>(&mut self, sink: &mut K, team: &mut T) -> Result<(), RunFault>
         requires lines { self.old.summary.lines < most_lines }
         requires faults { self.old.summary.faults ≤ self.old.summary.lines }
+        requires going_on { K.failures sink.old ≡ 0 }
         ensures kept { self.new.ahead ≡ self.old.ahead }
         ensures lines { OnOk result (self.new.summary.lines ≡ self.old.summary.lines + 1) }
         ensures faults { OnOk result (self.new.summary.faults ≡ self.old.summary.faults + (if is_err (reading self.old.line.items) then 1 else 0)) }
         ensures scene { OnOk result (self.new.session ≡ (said (self.old.summary.lines + 1) self.old.session (reading self.old.line.items)).0) }
-        ensures shown { OnOk result (Passes (W.contents writer.old) (W.contents writer.new) self.old.printed (said (self.old.summary.lines + 1) self.old.session (reading self.old.line.items)).1 self.new.printed) }
-        ensures cut { OnErr result ((left : List ℕ) × Passes (W.contents writer.old) (W.contents writer.new) self.old.printed (said (self.old.summary.lines + 1) self.old.session (reading self.old.line.items)).1 left) }
+        ensures shown { OnOk result (Passes (K.contents sink.old) (K.contents sink.new) self.old.printed (said (self.old.summary.lines + 1) self.old.session (reading self.old.line.items)).1 self.new.printed) }
+        ensures cut { OnErr result ((left : List ℕ) × Passes (K.contents sink.old) (K.contents sink.new) self.old.printed (said (self.old.summary.lines + 1) self.old.session (reading self.old.line.items)).1 left) }
         ensures fault { IfErr result (λ why. (why ≢ RunFault.Read) × (why ≢ RunFault.TooManyLines)) }
+        ensures going_on { OnOk result (K.failures sink.new ≡ 0) }
+        ensures cause { IfErr result (SinkCauses (K.failures sink.new)) }
+        ensures same_sink { K.device sink.new ≡ K.device sink.old }
     {
         let number = self.summary.lines + 1;
         let line = parse_line(self.alloc, self.line.as_slice());
@@ -48,40 +57,53 @@ impl Runner {
             return Err(RunFault::Memory);
         }
         let is_faulty = line.is_err();
-        let text = self.session.say(number, line)?;
-        self.printed.print(writer, text.as_bytes())?;
+        let text = self.session.say(number, line, team)?;
+        self.printed.print(sink, text.as_bytes())?;
         self.summary.lines = number;
         self.summary.faults += u64::from(is_faulty);
         Ok(())
     }
 
     /// Reads the next line and obeys it. Answers whether there was one.
-    fn next<R: Read, W: Write>(&mut self, reader: &mut R, writer: &mut W) -> Result<bool, RunFault>
-        requires ended { self.old.ahead.is_ended ≡ true → IsAtEnd (R.remaining reader.old) }
+    fn next<S: Source, K: Sink, T: Team>(
+        &mut self,
+        source: &mut S,
+        sink: &mut K,
+        team: &mut T,
+    ) -> Result<bool, RunFault>
+        requires ended { self.old.ahead.is_ended ≡ true → IsAtEnd (S.remaining source.old) }
+        requires counted { IsCounted (S.asked source.old) self.old.ahead }
+        requires going_on { K.failures sink.old ≡ 0 }
         requires lines { self.old.summary.lines ≤ most_lines }
         requires faults { self.old.summary.faults ≤ self.old.summary.lines }
-        ensures ended { self.new.ahead.is_ended ≡ true → IsAtEnd (R.remaining reader.new) }
+        ensures ended { self.new.ahead.is_ended ≡ true → IsAtEnd (S.remaining source.new) }
         ensures lines { OnOk result (self.new.summary.lines ≤ most_lines) }
         ensures faults { OnOk result (self.new.summary.faults ≤ self.new.summary.lines) }
         ensures more { IfOk result (λ more. more ≡ true → self.new.summary.lines ≡ self.old.summary.lines + 1) }
         ensures end { IfOk result (λ more. more ≡ false → (self.new.ahead.bytes ≡ []) × (self.new.ahead.is_ended ≡ true)) }
         ensures so_far { OnOk result ((text before : Option (List ℕ)) →
-            IsSoFar text (prepend_known self.old.ahead.bytes (R.remaining reader.old)) before (W.contents writer.old) self.old.ahead.is_ended self.old.summary self.old.session self.old.printed
-            → IsSoFar text (prepend_known self.new.ahead.bytes (R.remaining reader.new)) before (W.contents writer.new) self.new.ahead.is_ended self.new.summary self.new.session self.new.printed) }
+            IsSoFar text (prepend_known self.old.ahead.bytes (S.remaining source.old)) before (K.contents sink.old) self.old.ahead.is_ended self.old.summary self.old.session self.old.printed
+            → IsSoFar text (prepend_known self.new.ahead.bytes (S.remaining source.new)) before (K.contents sink.new) self.new.ahead.is_ended self.new.summary self.new.session self.new.printed) }
         ensures stopped { IfErr result (λ why. (text before : Option (List ℕ)) →
-            IsSoFar text (prepend_known self.old.ahead.bytes (R.remaining reader.old)) before (W.contents writer.old) self.old.ahead.is_ended self.old.summary self.old.session self.old.printed
-            → Stopped text (R.remaining reader.new) before (W.contents writer.new) self.new.printed why) }
+            IsSoFar text (prepend_known self.old.ahead.bytes (S.remaining source.old)) before (K.contents sink.old) self.old.ahead.is_ended self.old.summary self.old.session self.old.printed
+            → Stopped text (S.remaining source.new) before (K.contents sink.new) self.new.printed why) }
+        ensures counted { OnOk result (IsCounted (S.asked source.new) self.new.ahead) }
+        ensures going_on { OnOk result (K.failures sink.new ≡ 0) }
+        ensures cause { IfErr result (IsCaused (S.asked source.new) (K.failures sink.new)) }
+        ensures same_source { S.device source.new ≡ S.device source.old }
+        ensures same_sink { K.device sink.new ≡ K.device sink.old }
     {
         laws::front();
-        self.ahead.fill(reader)?;
+        self.ahead.fill(source, &mut self.printed, sink)?;
         if self.ahead.is_empty() {
             return Ok(false);
         }
         if self.summary.lines == MOST_LINES {
             return Err(RunFault::TooManyLines);
         }
-        self.ahead.read_line(reader, &mut self.line)?;
-        self.obey(writer)?;
+        self.ahead
+            .read_line(source, &mut self.line, &mut self.printed, sink)?;
+        self.obey(sink, team)?;
         Ok(true)
     }
 
@@ -106,53 +128,51 @@ impl Runner {
     }
 
     /// Reads and obeys all lines.
-    fn obey_all<R: Read, W: Write>(
+    fn obey_all<S: Source, K: Sink, T: Team>(
         &mut self,
-        reader: &mut R,
-        writer: &mut W,
+        source: &mut S,
+        sink: &mut K,
+        team: &mut T,
     ) -> Result<(), RunFault>
-        requires ended { self.old.ahead.is_ended ≡ true → IsAtEnd (R.remaining reader.old) }
+        requires ended { self.old.ahead.is_ended ≡ true → IsAtEnd (S.remaining source.old) }
+        requires counted { IsCounted (S.asked source.old) self.old.ahead }
+        requires going_on { K.failures sink.old ≡ 0 }
         requires lines { self.old.summary.lines ≤ most_lines }
         requires faults { self.old.summary.faults ≤ self.old.summary.lines }
         ensures lines { OnOk result (self.new.summary.lines ≤ most_lines) }
         ensures faults { OnOk result (self.new.summary.faults ≤ self.new.summary.lines) }
-        ensures end { OnOk result ((self.new.ahead.bytes ≡ []) × IsAtEnd (R.remaining reader.new)) }
+        ensures end { OnOk result ((self.new.ahead.bytes ≡ []) × IsAtEnd (S.remaining source.new)) }
         ensures so_far { OnOk result ((text before : Option (List ℕ)) →
-            IsSoFar text (prepend_known self.old.ahead.bytes (R.remaining reader.old)) before (W.contents writer.old) self.old.ahead.is_ended self.old.summary self.old.session self.old.printed
-            → IsSoFar text (prepend_known self.new.ahead.bytes (R.remaining reader.new)) before (W.contents writer.new) self.new.ahead.is_ended self.new.summary self.new.session self.new.printed) }
+            IsSoFar text (prepend_known self.old.ahead.bytes (S.remaining source.old)) before (K.contents sink.old) self.old.ahead.is_ended self.old.summary self.old.session self.old.printed
+            → IsSoFar text (prepend_known self.new.ahead.bytes (S.remaining source.new)) before (K.contents sink.new) self.new.ahead.is_ended self.new.summary self.new.session self.new.printed) }
         ensures stopped { IfErr result (λ why. (text before : Option (List ℕ)) →
-            IsSoFar text (prepend_known self.old.ahead.bytes (R.remaining reader.old)) before (W.contents writer.old) self.old.ahead.is_ended self.old.summary self.old.session self.old.printed
-            → Stopped text (R.remaining reader.new) before (W.contents writer.new) self.new.printed why) }
+            IsSoFar text (prepend_known self.old.ahead.bytes (S.remaining source.old)) before (K.contents sink.old) self.old.ahead.is_ended self.old.summary self.old.session self.old.printed
+            → Stopped text (S.remaining source.new) before (K.contents sink.new) self.new.printed why) }
+        ensures read { OnOk result (IsReadThrough (S.asked source.new)) }
+        ensures going_on { OnOk result (K.failures sink.new ≡ 0) }
+        ensures cause { IfErr result (IsCaused (S.asked source.new) (K.failures sink.new)) }
+        ensures same_source { S.device source.new ≡ S.device source.old }
+        ensures same_sink { K.device sink.new ≡ K.device sink.old }
     {
         loop {
-            if !self.next(reader, writer)? {
+            if !self.next(source, sink, team)? {
                 return Ok(());
             }
         }
     }
 
-    /// Writes what waits.
-    fn finish<W: Write>(&mut self, writer: &mut W) -> Result<(), RunFault>
-        ensures ok { OnOk result (Appends (W.contents writer.old) (W.contents writer.new) self.old.printed) }
-        ensures err { IfErr result (λ why. (why ≡ RunFault.Write) × ((count : ℕ) × Appends (W.contents writer.old) (W.contents writer.new) (take count self.old.printed))) }
-        ensures summary { self.new.summary ≡ self.old.summary }
-    {
-        self.printed.write_out(writer)?;
-        match writer.flush() {
-            Ok(()) => Ok(()),
-            Err(_) => Err(RunFault::Write),
-        }
-    }
-
     /// Ends the run by a fault. Where the lines before it are whole, what they print is written
     /// first.
-    fn stop<W: Write>(&mut self, writer: &mut W, fault: RunFault) -> RunFault
-        ensures { (text rest before : Option (List ℕ)) → Stopped text rest before (W.contents writer.old) self.old.printed fault → Ran text rest before (W.contents writer.new) (Err result) }
+    fn stop<K: Sink>(&mut self, sink: &mut K, fault: RunFault) -> RunFault
+        requires cause { SinkCauses (K.failures sink.old) fault }
+        ensures cause { (asked : Asked) → IsCaused asked (K.failures sink.old) fault → IsCaused asked (K.failures sink.new) result }
+        ensures ran { (text rest before : Option (List ℕ)) → Stopped text rest before (K.contents sink.old) self.old.printed fault → Ran text rest before (K.contents sink.new) (Err result) }
+        ensures same_sink { K.device sink.new ≡ K.device sink.old }
     {
         if !keeps_lines(fault) {
             return fault;
         }
-        match self.finish(writer) {
+        match self.printed.flush(sink) {
             Ok(()) => fault,
             Err(failed) => failed,
         }
@@ -169,31 +189,74 @@ fn keeps_lines(fault: RunFault) -> bool
     }
 }
 
+/// Runs a script from a source to a sink: reads its lines, makes their calls, and writes what they
+/// print.
+///
+/// It is [`run`] over devices that count what they were asked. Each fault has its cause:
+/// [`RunFault::Read`] that the source failed or was asked 2^32 times, [`RunFault::Write`] that the
+/// sink failed. A device that failed is not asked again, and the source not after its end.
+pub fn run_between<S: Source, K: Sink, T: Team>(
+    alloc: Global,
+    source: &mut S,
+    sink: &mut K,
+    team: &mut T,
+) -> Result<Summary, RunFault>
+    requires source { S.asked source.old ≡ never_asked }
+    requires sink { K.failures sink.old ≡ 0 }
+    ensures ran { Ran (S.remaining source.old) (S.remaining source.new) (K.contents sink.old) (K.contents sink.new) result }
+    ensures summary { IfOk result (λ summary. (summary.faults ≤ summary.lines) × (summary.lines ≤ most_lines)) }
+    ensures read { OnOk result (IsReadThrough (S.asked source.new)) }
+    ensures written { OnOk result (K.failures sink.new ≡ 0) }
+    ensures cause { IfErr result (IsCaused (S.asked source.new) (K.failures sink.new)) }
+    ensures same_source { S.device source.new ≡ S.device source.old }
+    ensures same_sink { K.device sink.new ≡ K.device sink.old }
+{
+    let mut runner = Runner::new(alloc)?;
+    match runner.obey_all(source, sink, team) {
+        Ok(()) => {
+            runner.printed.flush(sink)?;
+            Ok(runner.summary)
+        }
+        Err(fault) => Err(runner.stop(sink, fault)),
+    }
+}
+
 /// Runs a script: reads its lines, makes their calls, and writes what they print.
 ///
 /// A script has at most 1,000,000 lines of at most 131,072 bytes. A read that gives no bytes is its
 /// end. No read or write that failed is tried again, and a write that takes nothing has failed.
+/// Before the reader is asked for more, what was printed is written and flushed.
 ///
 /// Answers [`RunFault::Read`] where the reader failed or was asked 2^32 times, and each line that
 /// was read whole has been run; [`RunFault::TooManyLines`] where a further line began, and the lines
 /// before it have been run; [`RunFault::Write`] where the writer failed and [`RunFault::Memory`]
 /// where memory ran out, and what was written is the front of the output.
 ///
+/// The team makes the calls of an `all` line. What is written is the same for every team.
+///
 /// `docs/SCRIPT.md` of the repository says what a script is, and what its lines print.
-pub fn run<R: Read, W: Write>(
+pub fn run<R: Read, W: Write, T: Team>(
     alloc: Global,
     reader: &mut R,
     writer: &mut W,
+    team: &mut T,
 ) -> Result<Summary, RunFault>
     ensures ran { Ran (R.remaining reader.old) (R.remaining reader.new) (W.contents writer.old) (W.contents writer.new) result }
     ensures summary { IfOk result (λ summary. (summary.faults ≤ summary.lines) × (summary.lines ≤ most_lines)) }
 {
-    let mut runner = Runner::new(alloc)?;
-    match runner.obey_all(reader, writer) {
-        Ok(()) => {
-            runner.finish(writer)?;
-            Ok(runner.summary)
-        }
-        Err(fault) => Err(runner.stop(writer, fault)),
-    }
+    let mut source = CountedReader {
+        reader,
+        times: 0,
+        failures: 0,
+        ends: 0,
+    };
+    let mut sink = CountedWriter {
+        writer,
+        failures: 0,
+    };
+    let result = run_between(alloc, &mut source, &mut sink, team);
+    // No effect at run time. The proof reads what the streams hold from these uses.
+    let _ = &*source.reader;
+    let _ = &*sink.writer;
+    result
 }

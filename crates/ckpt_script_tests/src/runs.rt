@@ -1,4 +1,5 @@
 use ckpt_script::{RunFault, Summary, run};
+use ckpt_workers::InOrder;
 use std::alloc::{AllocError, Global};
 use std::io;
 use std::io::{Read, Write};
@@ -184,7 +185,7 @@ fn runs<R: Read>(
     output: &[u8],
 ) -> Result<bool, AllocError> {
     let mut written = Vec::with_capacity(alloc, output.len())?;
-    let answer = run(alloc, reader, &mut written);
+    let answer = run(alloc, reader, &mut written, &mut InOrder);
     is_so(answer, written.as_slice(), expected, output)
 }
 
@@ -205,7 +206,7 @@ fn writes(alloc: Global, script: &[u8], room: usize, output: &[u8]) -> Result<bo
     let mut reader = script;
     let taken = Vec::with_capacity(alloc, room)?;
     let mut writer = Narrow { taken, room };
-    let answer = run(alloc, &mut reader, &mut writer);
+    let answer = run(alloc, &mut reader, &mut writer, &mut InOrder);
     is_so(
         answer,
         writer.taken.as_slice(),
@@ -242,7 +243,7 @@ fn ends_after(alloc: Global, bytes: usize) -> Result<bool, AllocError> {
     let is_cut = !piece.is_empty() && !piece.ends_with(b"\n".as_slice());
     let printed = lines.saturating_sub(3);
     let mut written = Vec::with_capacity(alloc, 1000)?;
-    match run(alloc, &mut piece, &mut written) {
+    match run(alloc, &mut piece, &mut written, &mut InOrder) {
         Ok(summary) => Ok(
             summary.lines == (lines as u64).saturating_add(u64::from(is_cut))
                 && summary.faults <= u64::from(is_cut)
@@ -341,7 +342,7 @@ fn tells_a_flush_that_fails(rt: HostRuntime) -> Result<(), Fail> {
     let mut reader = checkpoint();
     let output = checkpoint_output();
     let mut writer = Unflushed(Vec::with_capacity(rt.alloc(), output.len())?);
-    let answer = run(rt.alloc(), &mut reader, &mut writer);
+    let answer = run(rt.alloc(), &mut reader, &mut writer, &mut InOrder);
     let fault = Err(RunFault::Write);
     assert!(rt; is_so(answer, writer.0.as_slice(), fault, output)?);
     Ok(())
@@ -350,7 +351,7 @@ fn tells_a_flush_that_fails(rt: HostRuntime) -> Result<(), Fail> {
 #[test]
 fn tells_a_write_that_takes_nothing(rt: HostRuntime) -> Result<(), Fail> {
     let mut reader = checkpoint();
-    let answer = run(rt.alloc(), &mut reader, &mut Full);
+    let answer = run(rt.alloc(), &mut reader, &mut Full, &mut InOrder);
     let none = b"".as_slice();
     assert!(rt; is_so(answer, none, Err(RunFault::Write), none)?);
     Ok(())

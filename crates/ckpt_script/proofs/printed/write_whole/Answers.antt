@@ -1,4 +1,4 @@
-use Rattle.std.proofs.Common.{arith, length-drop}
+use Rattle.std.proofs.Common.{arith, length-drop, ◌∙◌}
 use Rattle.ckpt_script.proofs.PassesLemmas.{Appends-trans, Appends-as}
 use Rattle.ckpt_script.proofs.LineLemmas.{take_rest}
 use Rattle.ckpt_script.proofs.printed.write_whole.Goals as goal
@@ -6,6 +6,8 @@ use Rattle.ckpt_script.proofs.printed.write_whole.Goals as goal
 -- src/printed.rt:69:5
 pub loop-done-preserved : goal.loop-done-preserved
 loop-done-preserved g c = record {
+  going_on = c.in-Ok.ensures.going_on ∙ c.loop-done.invariant.going_on;
+  same_sink = c.write.ensures.same ∙ c.loop-done.invariant.same_sink;
   within = omega (arith, length-drop c.loop-done.done c.args.bytes.now, c.in-Ok.ensures.bound);
   appended = Appends-as _ _ _ _ (take_rest c.loop-done.done c.in-Ok.count c.args.bytes.now) (Appends-trans _ _ _ _ _ c.loop-done.invariant.appended c.in-Ok.ensures.bytes);
 }

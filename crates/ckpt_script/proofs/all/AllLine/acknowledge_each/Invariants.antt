@@ -1,7 +1,0 @@
-use Rattle.std.proofs.Common.{◌≡◌}
-use Rattle.ckpt_script.proofs.Outcomes.{IsReached}
-use Rattle.ckpt_script.proofs.all.AllLine.acknowledge_each.Given as goal
-
-abbrev pub invariant-loop-subtask : goal.invariant-loop-subtask
-invariant-loop-subtask l =
-    (l.place ≡ l.subtask-index) × IsReached l.self l.missing l.fn.book l.place l.book l.outcome

@@ -1,0 +1,65 @@
+-- What a source and a sink were asked, how they answered, and which faults follow from it.
+use Rattle.std.specs.Prelude.{◌≡◌, ℕ, ◌+◌, ◌<◌, ◌≤◌, ◌⊎◌, ◌==◌, ⊤, if◌then◌else◌, Result, Ok, Err}
+use Rattle.ckpt_script.specs.Unread.{Unread}
+use Rattle.ckpt_script.specs.declared.fault.RunFault.{RunFault}
+use Rattle.ckpt_script.specs.declared.fault.RunFault.TheVariants.{Read, Write, TooManyLines, Memory}
+
+-- a source is asked so often at most
+abbrev pub most_reads : ℕ
+most_reads = 4294967296
+
+-- What a source was asked.
+pub record Asked : Type 0 where
+  -- how often
+  pub times : ℕ
+  -- how often it failed
+  pub failures : ℕ
+  -- how often it said that nothing is left
+  pub ends : ℕ
+
+-- it serves a run from here on
+abbrev pub never_asked : Asked
+never_asked = record { times = 0; failures = 0; ends = 0 }
+
+-- it was asked once more
+abbrev pub asked_again : {E : Type 0} → Asked → Result ℕ E → Asked
+asked_again asked (Ok count) = record { times = asked.times + 1; failures = asked.failures; ends = asked.ends + (if count == 0 then 1 else 0) }
+asked_again asked (Err why) = record { times = asked.times + 1; failures = asked.failures + 1; ends = asked.ends }
+
+-- A source that may be asked: not too often yet, and neither after a failure nor after its end.
+pub record MayBeAsked (asked : Asked) : Type 0 where
+  pub few : asked.times < most_reads
+  pub none_failed : asked.failures ≡ 0
+  pub going_on : asked.ends ≡ 0
+
+-- What was counted of a source that has not failed.
+pub record IsCounted (asked : Asked) (ahead : Unread) : Type 0 where
+  pub times : asked.times + ahead.reads_left ≡ most_reads
+  pub none_failed : asked.failures ≡ 0
+  pub ends : asked.ends ≡ (if ahead.is_ended then 1 else 0)
+
+-- a run ends by `Read` where its source failed, or was asked too often
+abbrev pub SourceCauses : Asked → RunFault → Type 0
+SourceCauses asked Read = (asked.failures ≡ 1) ⊎ ((asked.failures ≡ 0) × (asked.times ≡ most_reads))
+SourceCauses asked Write = ⊤
+SourceCauses asked TooManyLines = asked.failures ≡ 0
+SourceCauses asked Memory = asked.failures ≡ 0
+
+-- and by `Write` where its sink failed
+abbrev pub SinkCauses : ℕ → RunFault → Type 0
+SinkCauses failures Read = failures ≡ 0
+SinkCauses failures Write = failures ≡ 1
+SinkCauses failures TooManyLines = failures ≡ 0
+SinkCauses failures Memory = failures ≡ 0
+
+-- A fault has its cause, and the source was not asked too often.
+pub record IsCaused (asked : Asked) (failures : ℕ) (why : RunFault) : Type 0 where
+  pub few : asked.times ≤ most_reads
+  pub source : SourceCauses asked why
+  pub sink : SinkCauses failures why
+
+-- What was asked of a source whose script was read to its end.
+pub record IsReadThrough (asked : Asked) : Type 0 where
+  pub few : asked.times ≤ most_reads
+  pub none_failed : asked.failures ≡ 0
+  pub once : asked.ends ≡ 1

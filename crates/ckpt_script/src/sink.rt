@@ -1,0 +1,34 @@
+ghost use Rattle.std.specs.Prelude.{◌≡◌, ◌<◌, ◌≤◌, ◌+◌, ℕ, List, Option, length, IfOk, OnOk, OnErr};
+ghost use Rattle.std.specs.Io.KnownBytes.{WriteAppends, Keeps};
+
+use crate::source::DeviceFailed;
+
+/// Where the output of a script goes. It serves one run.
+pub trait Sink {
+    // The bytes that it holds, where they are known.
+    ghost contents: { Self → Option (List ℕ) };
+    // How often it failed.
+    ghost failures: { Self → ℕ };
+    // Which device it is, where it holds a reference to one: no write changes that.
+    ghost device: { Self → ℕ } = { λ _. 0 };
+
+    /// Takes some of the bytes, at least one.
+    ///
+    /// It is not asked again once it has failed.
+    fn write(&mut self, bytes: &[u8]) -> Result<usize, DeviceFailed>
+        requires going_on { failures self.old ≡ 0 }
+        requires some { 0 < length bytes.now }
+        ensures bound { IfOk result (λ count. (0 < count) × (count ≤ length bytes.now)) }
+        ensures bytes { WriteAppends (contents self.old) (contents self.new) result bytes.now }
+        ensures going_on { OnOk result (failures self.new ≡ failures self.old) }
+        ensures failed { OnErr result (failures self.new ≡ failures self.old + 1) }
+        ensures same { device self.new ≡ device self.old };
+
+    /// Hands on what it took.
+    fn flush(&mut self) -> Result<(), DeviceFailed>
+        requires going_on { failures self.old ≡ 0 }
+        ensures bytes { Keeps (contents self.old) (contents self.new) }
+        ensures going_on { OnOk result (failures self.new ≡ failures self.old) }
+        ensures failed { OnErr result (failures self.new ≡ failures self.old + 1) }
+        ensures same { device self.new ≡ device self.old };
+}

@@ -1,0 +1,32 @@
+ghost use Rattle.std.specs.Prelude.{◌≡◌, ◌<◌, ℕ, List, Option, length};
+ghost use Rattle.std.specs.Io.{ReadsAtMost};
+ghost use Rattle.std.specs.Io.KnownBytes.{ReadConsumes};
+ghost use Rattle.ckpt_script.specs.Devices.{Asked, MayBeAsked, asked_again};
+
+use std::fmt::Debug;
+
+/// A source or a sink failed.
+#[derive(Clone, Copy, Debug, PartialEq, Eq)]
+pub struct DeviceFailed;
+
+/// Where a script comes from. It serves one run.
+pub trait Source {
+    // The bytes that it has left, where they are known.
+    ghost remaining: { Self → Option (List ℕ) };
+    // How often it was asked, how often it failed, and how often it said that nothing is left.
+    ghost asked: { Self → Asked };
+    // Which device it is, where it holds a reference to one: no read changes that.
+    ghost device: { Self → ℕ } = { λ _. 0 };
+
+    /// Reads once. No bytes are the end of the script.
+    ///
+    /// It is asked at most 2^32 times, and not again once it has failed or said that nothing is
+    /// left.
+    fn read(&mut self, buffer: &mut [u8]) -> Result<usize, DeviceFailed>
+        requires turn { MayBeAsked (asked self.old) }
+        requires room { 0 < length buffer.old }
+        ensures bound { ReadsAtMost result buffer.new }
+        ensures bytes { ReadConsumes (remaining self.old) (remaining self.new) result buffer.new }
+        ensures asked { asked self.new ≡ asked_again (asked self.old) result }
+        ensures same { device self.new ≡ device self.old };
+}

@@ -1,0 +1,59 @@
+-- What a Show tells of a pending record.
+use Rattle.std.proofs.Common.{◌≡◌, ℕ, Bool, true, false, ◌&&◌, cond, eqb, refl, sym, ap, ◌∙◌, ⊎_elim}
+use Rattle.std.specs.Prelude.{Option, Some, None}
+use Rattle.std.specs.Option.{option_map}
+use Rattle.std.proofs.lemmas.Bool.{cases_Bool, and_parts, eqb-true, both_ways, not-true}
+use Rattle.ckpt_ids.specs.declared.call.Call.TheVariants.{Show}
+use Rattle.ckpt_ids.specs.Ordered.{IsIn}
+use Rattle.ckpt_ids.specs.Records.{Record, metadata_of}
+use Rattle.ckpt_core.specs.State.{State, is_pending, record_of}
+use Rattle.ckpt_core.specs.Refusals.{refusal, pending_of}
+use Rattle.ckpt_core.specs.Soundness.{IsSound}
+use Rattle.ckpt_core.specs.Steps.{Stepped, step, effect, show}
+use Rattle.ckpt_core.proofs.CountLemmas.{IsIn-from_find}
+use Rattle.ckpt_core.proofs.LawChoice.{found}
+use Rattle.ckpt_core.proofs.MissingFiles.{pending_record}
+use Rattle.ckpt_session.specs.AllLines.{pending_metadata, shown_pending}
+
+-- a Show changes nothing
+step-show : (m : State) (id : ℕ) (o : Option Record) → record_of m id ≡ o → step m (Show id) ≡ (m, show o)
+unfolding step refusal effect
+step-show m id None e = rw e refl
+step-show m id (Some r) e = rw e (ap (λ (o : Option Record). (m, show o)) e)
+
+-- in a sound state a pending record is the one of its number
+pub its_record : (m : State) (id : ℕ) (r : Record) → IsSound m → pending_of m.records id ≡ Some r → (record_of m id ≡ Some r) × (r.done ≡ false)
+its_record m id r sound e =
+    let narrow : Record → Bool = λ x. is_pending x && eqb x.id id in
+    let there : IsIn r m.records × (narrow r ≡ true) = IsIn-from_find narrow r m.records e in
+    let parts : (is_pending r ≡ true) × (eqb r.id id ≡ true) = and_parts (is_pending r) (eqb r.id id) there.1 in
+    (ap (record_of m) (sym (eqb-true r.id id parts.1)) ∙ found m r sound.in_order there.0, not-true r.done parts.0)
+
+none_pending : (m : State) (id : ℕ) → IsSound m → ((r : Record) → record_of m id ≡ Some r → r.done ≡ true) → pending_of m.records id ≡ None
+none_pending m id sound done = by_pending (pending_of m.records id) refl
+  where
+    by_pending : (o : Option Record) → pending_of m.records id ≡ o → pending_of m.records id ≡ None
+    by_pending None e = e
+    by_pending (Some r) e = let its = its_record m id r sound e in absurd (both_ways r.done its.1 (done r its.0))
+
+pub shown_state : (m : State) (id : ℕ) → (step m (Show id)).0 ≡ m
+shown_state m id = ap (λ (s : Stepped). s.0) (step-show m id (record_of m id) refl)
+
+-- it shows the pending record, where there is one
+pub shown_is : (m : State) (id : ℕ) → IsSound m → shown_pending (step m (Show id)).1 ≡ pending_metadata m id
+unfolding shown_pending
+shown_is m id sound = by_record (record_of m id) refl
+  where
+    answered : (o : Option Record) → record_of m id ≡ o → shown_pending (step m (Show id)).1 ≡ shown_pending (show o)
+    answered o e = ap (λ (s : Stepped). shown_pending s.1) (step-show m id o e)
+
+    by_record : (o : Option Record) → record_of m id ≡ o → shown_pending (step m (Show id)).1 ≡ pending_metadata m id
+    by_record None e =
+        answered None e ∙ sym (ap (option_map metadata_of) (none_pending m id sound (λ r f. let no : ◌≡◌ {A = Option Record} None (Some r) = sym e ∙ f in absurd cc)))
+    by_record (Some r) e =
+        let done : r.done ≡ true → shown_pending (step m (Show id)).1 ≡ pending_metadata m id = λ (d : r.done ≡ true).
+        let none : pending_of m.records id ≡ None = none_pending m id sound (λ s f. let same : ◌≡◌ {A = Option Record} (Some r) (Some s) = sym e ∙ f in let it : r ≡ s = cc in ap (λ (x : Record). x.done) (sym it) ∙ d) in
+        answered (Some r) e ∙ ap (λ (b : Bool). cond b None (Some (metadata_of r))) d ∙ sym (ap (option_map metadata_of) none) in
+        let pending : r.done ≡ false → shown_pending (step m (Show id)).1 ≡ pending_metadata m id = λ (d : r.done ≡ false).
+        answered (Some r) e ∙ ap (λ (b : Bool). cond b None (Some (metadata_of r))) d ∙ sym (ap (option_map metadata_of) (pending_record m id r e d)) in
+        ⊎_elim done pending (cases_Bool r.done)

@@ -1,0 +1,97 @@
+-- The `all` line: each missing subtask of a pending record acknowledges, with one new file.
+use Rattle.std.specs.Prelude.{◌≡◌, ℕ, ◌+◌, ◌^◌, Bool, not, ◌||◌, nat_lt, if◌then◌else◌, List, ◌++◌, map, filter, length, count_by, Option, Some, None, codes, decimal}
+use Rattle.std.specs.Option.{option_map, option_map_or}
+use Rattle.std.specs.List.{enumerate_from, list_any}
+use Rattle.ckpt_ids.specs.declared.subtask.SubtaskId.{SubtaskId}
+use Rattle.ckpt_ids.specs.declared.ack.Metadata.{Metadata}
+use Rattle.ckpt_ids.specs.declared.call.Call.{Call}
+use Rattle.ckpt_ids.specs.declared.reply.Reply.TheVariants.{Shown}
+use Rattle.ckpt_ids.specs.declared.reply.Answer.{Answer}
+use Rattle.ckpt_ids.specs.declared.reply.Answer.TheVariants.{Done}
+use Rattle.ckpt_ids.specs.Records.{metadata_of}
+use Rattle.ckpt_ids.specs.Shapes.{same_subtask, subtasks}
+use Rattle.ckpt_core.specs.State.{State}
+use Rattle.ckpt_core.specs.Refusals.{pending_of}
+use Rattle.ckpt_core.specs.Histories.{replay, answers}
+use Rattle.ckpt_core.specs.Interleavings.{NewFile, ack_with, first_completed}
+use Rattle.ckpt_locked.specs.Books.{state_of_book}
+use Rattle.ckpt_workers.specs.declared.team.Made.{Made}
+use Rattle.ckpt_workers.specs.Teams.{is_accepted}
+use Rattle.ckpt_session.specs.declared.said.ScriptRefusal.TheVariants.{BadThreads, NotPending, FilesUsedUp}
+use Rattle.ckpt_session.specs.declared.all.AllLine.{AllLine}
+use Rattle.ckpt_session.specs.ScriptTexts.{refusal_bytes}
+
+abbrev pub has_acknowledged : Metadata → SubtaskId → Bool
+has_acknowledged m s = list_any (λ a. same_subtask s a.subtask) m.acks
+
+-- the subtasks that have not acknowledged, in subtask order
+unfoldable pub missing_subtasks : Metadata → List SubtaskId
+missing_subtasks m = filter (λ s. not (has_acknowledged m s)) (subtasks m.shape)
+
+-- the metadata, where the answer shows a pending record
+unfoldable pub shown_pending : Answer → Option Metadata
+shown_pending (Done (Shown m)) = if m.done then None else Some m
+shown_pending answer = None
+
+-- the metadata of the record with this number, where it is pending
+abbrev pub pending_metadata : State → ℕ → Option Metadata
+pending_metadata m id = option_map metadata_of (pending_of m.records id)
+
+-- how many subtasks of the record with this number are missing
+abbrev pub missing_now : State → ℕ → ℕ
+missing_now m id = option_map_or (λ metadata. length (missing_subtasks metadata)) (pending_metadata m id) 0
+
+-- each of these subtasks with a new file, numbered from the first on
+abbrev pub new_files : AllLine → List SubtaskId → List NewFile
+new_files line missing = map (λ p. record { subtask = p.1; file = line.first + p.0 }) (enumerate_from 0 missing)
+
+-- the calls for these subtasks
+unfoldable pub acks_for : AllLine → List SubtaskId → List Call
+acks_for line missing = map (ack_with line.moment line.id) (new_files line missing)
+
+-- what a line leaves of the coordinator, and what it prints
+abbrev pub Obeyed : Type 0
+Obeyed = State × List ℕ
+
+abbrev pub spaced : ℕ → List ℕ
+spaced n = codes " " ++ decimal n
+
+abbrev pub counts_bytes : ℕ → ℕ → List ℕ
+counts_bytes accepted refused = codes "all" ++ spaced accepted ++ spaced refused
+
+unfoldable pub completed_bytes : ℕ → ℕ → ℕ → ℕ → List ℕ
+completed_bytes accepted refused dropped released = counts_bytes accepted refused ++ codes " completed" ++ spaced dropped ++ spaced released ++ codes "\n"
+
+unfoldable pub pending_bytes : ℕ → ℕ → ℕ → List ℕ
+pending_bytes accepted refused missing = counts_bytes accepted refused ++ codes " pending" ++ spaced missing ++ codes "\n"
+
+-- what is printed of so many accepted and refused calls, and of the completion
+unfoldable pub told : State → AllLine → ℕ → ℕ → Option (ℕ × ℕ) → List ℕ
+told m line accepted refused (Some (dropped, released)) = completed_bytes accepted refused dropped released
+told m line accepted refused None = pending_bytes accepted refused (missing_now m line.id)
+
+abbrev pub acknowledged : State → AllLine → List Call → Obeyed
+acknowledged m line calls =
+    let after : State = replay m calls in
+    let given : List Answer = answers m calls in
+    (after, told after line (count_by is_accepted given) (count_by (λ a. not (is_accepted a)) given) (first_completed given))
+
+-- the numbers of the files go up to 2^64 - 1
+unfoldable pub all_of : State → AllLine → Option Metadata → Obeyed
+all_of m line None = (m, refusal_bytes NotPending)
+all_of m line (Some metadata) =
+    if nat_lt (2 ^ 64) (line.first + length (missing_subtasks metadata)) then (m, refusal_bytes FilesUsedUp)
+    else acknowledged m line (acks_for line (missing_subtasks metadata))
+
+-- the calls are made one after the other, in subtask order
+unfoldable pub all_obeyed : State → AllLine → Obeyed
+all_obeyed m line =
+    if nat_lt line.threads 1 || nat_lt 64 line.threads then (m, refusal_bytes BadThreads)
+    else all_of m line (pending_metadata m line.id)
+
+-- the team's book and its counts are those of the calls made one after the other
+pub record IsAsInOrder (m : State) (calls : List Call) (made : Made) : Type 0 where
+  pub state : state_of_book made.book ≡ replay m calls
+  pub accepted : made.accepted ≡ count_by is_accepted (answers m calls)
+  pub refused : made.refused ≡ count_by (λ a. not (is_accepted a)) (answers m calls)
+  pub completed : made.completed ≡ first_completed (answers m calls)

@@ -1,0 +1,234 @@
+ghost use Rattle.std.specs.Prelude.{◌≡◌, ◌≤◌, ◌<◌, ◌^◌, ◌+◌, false, Some, length, slice_get, IfOk, OnOk, string_bytes};
+ghost use Rattle.std.specs.List.{list_any};
+ghost use Rattle.std.specs.Option.{option_map_or};
+ghost use Rattle.ckpt_ids.specs.Shapes.{same_subtask};
+ghost use Rattle.ckpt_ids.specs.Acknowledged.{is_before};
+ghost use Rattle.ckpt_core.specs.Interleavings.{ack_with};
+ghost use Rattle.ckpt_locked.specs.Books.{state_of_book};
+ghost use Rattle.ckpt_session.specs.AllLines.{missing_subtasks, missing_now, pending_metadata, acks_for, counts_bytes, completed_bytes, pending_bytes, told, all_of, all_obeyed};
+
+use crate::calls::pending_metadata;
+use crate::said::{ScriptRefusal, refusal_text};
+use ckpt_ids::{Acks, Call, CheckpointId, FileId, Files, Metadata, SubtaskId};
+use ckpt_locked::Book;
+use ckpt_workers::{Made, Team};
+use std::alloc::{AllocError, Global};
+
+/// How many threads an `all` line may have.
+const MOST_THREADS: u64 = 64;
+
+/// An `all` line: each missing subtask of the pending record `id` acknowledges at `moment`, in
+/// milliseconds, with one new file each, numbered from `first` on. The calls are shared out to
+/// `threads` threads.
+#[derive(Clone, Copy, Debug, PartialEq, Eq)]
+pub(crate) struct AllLine {
+    pub(crate) moment: u64,
+    pub(crate) id: CheckpointId,
+    pub(crate) threads: u64,
+    pub(crate) first: u64,
+}
+
+impl AllLine {
+    /// Obeys the line over a book, and gives it back with what the line prints.
+    ///
+    /// Fails only for want of memory, and then the book is given up.
+    #[tactic(auto, unfolding(crate::specs::AllLines::all_obeyed, crate::specs::AllLines::all_of))]
+    pub(crate) fn obey<T: Team>(
+        &self,
+        alloc: Global,
+        mut book: Book,
+        team: &mut T,
+    ) -> Result<(Book, String), AllocError>
+        ensures { IfOk result (λ said. (state_of_book said.0, string_bytes said.1) ≡ all_obeyed (state_of_book book) self.now) }
+    {
+        if self.threads < 1 || MOST_THREADS < self.threads {
+            return Ok((book, refusal_text(alloc, ScriptRefusal::BadThreads)?));
+        }
+        match pending_metadata(&mut book, self.id)? {
+            Some(metadata) => self.acknowledge(alloc, book, &metadata, team),
+            None => Ok((book, refusal_text(alloc, ScriptRefusal::NotPending)?)),
+        }
+    }
+
+    /// Has the missing subtasks of the record acknowledge, unless a file would be above 2^64 - 1.
+    #[tactic(auto, unfolding(crate::specs::AllLines::all_of))]
+    fn acknowledge<T: Team>(
+        &self,
+        alloc: Global,
+        book: Book,
+        metadata: &Metadata,
+        team: &mut T,
+    ) -> Result<(Book, String), AllocError>
+        requires threads { (1 ≤ self.now.threads) × (self.now.threads ≤ 64) }
+        requires pending { pending_metadata (state_of_book book) self.now.id ≡ Some metadata.now }
+        ensures { IfOk result (λ said. (state_of_book said.0, string_bytes said.1) ≡ all_of (state_of_book book) self.now (Some metadata.now)) }
+    {
+        let missing = missing_subtasks(alloc, metadata)?;
+        let last = (missing.len() as u64).saturating_sub(1);
+        if u64::MAX - self.first < last {
+            return Ok((book, refusal_text(alloc, ScriptRefusal::FilesUsedUp)?));
+        }
+        // Tells that the state is sound: then the calls come to the same in whatever order.
+        let _ = book.core();
+        let calls = self.calls(alloc, &missing)?;
+        let mut made = team.make(book, calls, self.threads as u32)?;
+        let text = self.tell(alloc, &mut made)?;
+        Ok((made.book, text))
+    }
+
+    /// The calls, in the order of the subtasks.
+    fn calls(&self, alloc: Global, missing: &[SubtaskId]) -> Result<Vec<Call>, AllocError>
+        requires files { self.now.first + length missing.now ≤ 2 ^ 64 }
+        ensures { IfOk result (λ calls. calls.items ≡ acks_for self.now missing.now) }
+    {
+        let mut calls = Vec::new(alloc);
+        let mut place = 0;
+        for subtask in missing {
+            calls.push(self.ack(alloc, place, *subtask)?)?;
+            place += 1;
+        }
+        Ok(calls)
+    }
+
+    /// The call of this place.
+    fn ack(&self, alloc: Global, place: u64, subtask: SubtaskId) -> Result<Call, AllocError>
+        requires file { self.now.first + place < 2 ^ 64 }
+        ensures { IfOk result (λ call. call ≡ ack_with self.now.moment self.now.id (record { subtask = subtask; file = self.now.first + place })) }
+    {
+        let mut fresh = Vec::with_capacity(alloc, 1)?;
+        fresh.push(FileId(self.first + place))?;
+        Ok(Call::Ack {
+            now: self.moment,
+            id: self.id,
+            subtask,
+            fresh: Files::of(fresh),
+            reused: Files::of(Vec::new(alloc)),
+        })
+    }
+
+    /// The text, for which a record that is still pending is asked for once more.
+    #[tactic(auto, unfolding(crate::specs::AllLines::told))]
+    fn tell(&self, alloc: Global, made: &mut Made) -> Result<String, AllocError>
+        ensures state { OnOk result (state_of_book made.new.book ≡ state_of_book made.old.book) }
+        ensures text { IfOk result (λ text. string_bytes text ≡ told (state_of_book made.old.book) self.now made.old.accepted made.old.refused made.old.completed) }
+    {
+        let (accepted, refused) = (made.accepted, made.refused);
+        match made.completed {
+            Some((dropped, released)) => completed_text(
+                alloc, accepted, refused, dropped, released,
+            ),
+            None => {
+                let missing = missing_now(alloc, &mut made.book, self.id)?;
+                pending_text(alloc, accepted, refused, missing)
+            }
+        }
+    }
+}
+
+/// How many subtasks of the record are missing, where it is pending.
+fn missing_now(alloc: Global, book: &mut Book, id: CheckpointId) -> Result<u64, AllocError>
+    ensures state { OnOk result (state_of_book book.new ≡ state_of_book book.old) }
+    ensures value { IfOk result (λ missing. missing ≡ missing_now (state_of_book book.old) id) }
+{
+    match pending_metadata(book, id)? {
+        Some(metadata) => Ok(missing_subtasks(alloc, &metadata)?.len() as u64),
+        None => Ok(0),
+    }
+}
+
+/// The subtasks that have not acknowledged, in subtask order.
+#[tactic(auto, unfolding(crate::specs::AllLines::missing_subtasks))]
+fn missing_subtasks(alloc: Global, metadata: &Metadata) -> Result<Vec<SubtaskId>, AllocError>
+    ensures { IfOk result (λ missing. missing.items ≡ missing_subtasks metadata.now) }
+{
+    let mut missing = Vec::new(alloc);
+    for place in 0..metadata.shape.size() {
+        if let Some(subtask) = metadata.shape.nth(place) {
+            if !has_acknowledged(&metadata.acks, subtask) {
+                missing.push(subtask)?;
+            }
+        }
+    }
+    Ok(missing)
+}
+
+/// Whether the subtask has acknowledged. Searches by halves.
+fn has_acknowledged(acks: &Acks, subtask: SubtaskId) -> bool
+    ensures { result ≡ list_any (λ a. same_subtask subtask a.subtask) acks.now }
+{
+    let mut low = 0;
+    let mut high = acks.len();
+    while low < high {
+        let middle = low + (high - low) / 2;
+        if precedes(acks, middle, subtask) {
+            low = middle + 1;
+        } else {
+            high = middle;
+        }
+    }
+    is_of(acks, low, subtask)
+}
+
+/// Whether the acknowledgement at this place is of an earlier subtask.
+fn precedes(acks: &Acks, place: usize, subtask: SubtaskId) -> bool
+    ensures { result ≡ option_map_or (λ a. is_before a.subtask subtask) (slice_get acks.now place) false }
+{
+    match acks.get(place) {
+        Some(acked) => is_before(acked.subtask, subtask),
+        None => false,
+    }
+}
+
+/// Whether the acknowledgement at this place is of the subtask.
+fn is_of(acks: &Acks, place: usize, subtask: SubtaskId) -> bool
+    ensures { result ≡ option_map_or (λ a. same_subtask subtask a.subtask) (slice_get acks.now place) false }
+{
+    match acks.get(place) {
+        Some(acked) => subtask == acked.subtask,
+        None => false,
+    }
+}
+
+/// By vertex, then by index.
+fn is_before(earlier: SubtaskId, later: SubtaskId) -> bool
+    ensures { result ≡ is_before earlier later }
+{
+    earlier.vertex < later.vertex || earlier.vertex == later.vertex && earlier.index < later.index
+}
+
+#[tactic(auto, unfolding(crate::specs::AllLines::completed_bytes))]
+fn completed_text(
+    alloc: Global,
+    accepted: u64,
+    refused: u64,
+    dropped: u32,
+    released: u64,
+) -> Result<String, AllocError>
+    ensures { IfOk result (λ text. string_bytes text ≡ completed_bytes accepted refused dropped released) }
+{
+    let mut text = counts_text(alloc, accepted, refused)?;
+    write!(text, " completed {dropped} {released}")?;
+    text.push_str("\n")?;
+    Ok(text)
+}
+
+#[tactic(auto, unfolding(crate::specs::AllLines::pending_bytes))]
+fn pending_text(
+    alloc: Global,
+    accepted: u64,
+    refused: u64,
+    missing: u64,
+) -> Result<String, AllocError>
+    ensures { IfOk result (λ text. string_bytes text ≡ pending_bytes accepted refused missing) }
+{
+    let mut text = counts_text(alloc, accepted, refused)?;
+    write!(text, " pending {missing}\n")?;
+    Ok(text)
+}
+
+/// What both texts begin with.
+fn counts_text(alloc: Global, accepted: u64, refused: u64) -> Result<String, AllocError>
+    ensures { IfOk result (λ text. string_bytes text ≡ counts_bytes accepted refused) }
+{
+    format!(in alloc; "all {accepted} {refused}")
+}

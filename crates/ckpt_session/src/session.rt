@@ -1,0 +1,270 @@
+ghost use Rattle.std.specs.Prelude.{◌≡◌, ◌↔◌, [], false, None, Err, IfOk, OnErr, string_bytes};
+ghost use Rattle.ckpt_session.specs.Sessions.{opening_scene, before_start, configured, shaped, started, called, restored, new_shape, is_new_shape, all_called, obeyed, said};
+
+use crate::all::AllLine;
+use crate::calls::{call, open};
+use crate::said::{ScriptRefusal, fault_text, refusal_text};
+use ckpt_ids::{Call, Config, Shape, ShapeFault, Target};
+use ckpt_lines::{Line, LineFault, Numbers};
+use ckpt_locked::Book;
+use ckpt_texts::answer_text;
+use ckpt_workers::Team;
+use std::alloc::{AllocError, Global};
+use std::marker::Model;
+
+/// A script that is being run: what its lines have told so far, and the book of its calls once it
+/// has started.
+///
+/// What each line does and prints is defined in `specs/Sessions.antt`.
+#[derive(Drop)]
+pub struct Session {
+    config: Option<Config>,
+    shape: Option<Shape>,
+    book: Option<Book>,
+    alloc: Global,
+}
+
+impl Model for Session {
+    ghost use Rattle.std.specs.Option.{option_map};
+    ghost use Rattle.ckpt_locked.specs.Books.{state_of_book};
+    ghost use Rattle.ckpt_session.specs.Sessions.{Scene};
+
+    ghost Value = { Scene };
+
+    ghost view = { λ s. record { config = s.config; shape = s.shape; core = option_map state_of_book s.book } };
+}
+
+impl Session {
+    /// The session before the first line. Takes no memory.
+    pub fn new(alloc: Global) -> Session
+        ensures { result ≡ opening_scene }
+    {
+        Session {
+            config: None,
+            shape: None,
+            book: None,
+            alloc,
+        }
+    }
+
+    /// Obeys the line with this number, and answers what it prints: one text with its newline, or
+    /// nothing. A line with a fault changes nothing, nor does one that the script refuses.
+    ///
+    /// Fails only for want of memory, and then the coordinator is given up: the session is as it was
+    /// before its `start`, with the configuration and the shape.
+    #[tactic(auto, unfolding(crate::specs::Sessions::said))]
+    pub fn say<T: Team>(
+        &mut self,
+        number: u64,
+        line: Result<Line, LineFault>,
+        team: &mut T,
+    ) -> Result<String, AllocError>
+        ensures said { IfOk result (λ text. (self.new, string_bytes text) ≡ said number self.old line) }
+        ensures given_up { OnErr result (self.new ≡ record self.old { core = None }) }
+    {
+        let answered = match line {
+            Ok(line) => self.obey(line, team),
+            Err(why) => fault_text(self.alloc, number, why),
+        };
+        if answered.is_err() {
+            self.book = None;
+        }
+        answered
+    }
+
+    /// Obeys a line that could be read.
+    #[tactic(auto, unfolding(crate::specs::Sessions::obeyed))]
+    fn obey<T: Team>(&mut self, line: Line, team: &mut T) -> Result<String, AllocError>
+        ensures said { IfOk result (λ text. (self.new, string_bytes text) ≡ obeyed self.old line) }
+        ensures told { OnErr result ((self.new.config ≡ self.old.config) × (self.new.shape ≡ self.old.shape)) }
+    {
+        match line {
+            Line::Skip => Ok(self.silence()),
+            Line::Config {
+                interval,
+                pause,
+                at_once,
+                timeout,
+                tolerable,
+                retained,
+                keep_on_cancel,
+            } => {
+                let config = Config::new(
+                    interval,
+                    pause,
+                    at_once,
+                    timeout,
+                    tolerable,
+                    retained,
+                    keep_on_cancel,
+                );
+                self.configure(config.ok())
+            }
+            Line::Job { parallelisms } => self.reshape(&parallelisms),
+            Line::Start { now } => self.start(now),
+            Line::Tick { now } => self.call(Call::Tick { now }),
+            Line::Savepoint { now } => self.call(Call::Savepoint { now }),
+            Line::Ack {
+                now,
+                id,
+                subtask,
+                fresh,
+                reused,
+            } => self.call(Call::Ack {
+                now,
+                id,
+                subtask,
+                fresh,
+                reused,
+            }),
+            Line::Decline { now, id, subtask } => self.call(Call::Decline { now, id, subtask }),
+            Line::Dispose { id } => self.call(Call::Dispose { id }),
+            Line::Restore {
+                now,
+                target,
+                parallelisms,
+            } => self.restore(now, target, &parallelisms),
+            Line::Cancel { now } => self.call(Call::Cancel { now }),
+            Line::Take { most } => self.call(Call::Take { most }),
+            Line::Deleted { file } => self.call(Call::Deleted { file }),
+            Line::Undeleted { file } => self.call(Call::Undeleted { file }),
+            Line::Show { id } => self.call(Call::Show { id }),
+            Line::Count { file } => self.call(Call::Count { file }),
+            Line::All {
+                now,
+                id,
+                threads,
+                first,
+            } => {
+                let all = AllLine {
+                    moment: now,
+                    id,
+                    threads,
+                    first,
+                };
+                self.call_all(&all, team)
+            }
+        }
+    }
+
+    /// The text of a line that prints nothing. Takes no memory.
+    fn silence(&self) -> String
+        ensures { string_bytes result ≡ [] }
+    {
+        String::new(self.alloc)
+    }
+
+    /// Takes a configuration, unless it was outside its limits.
+    #[tactic(auto, unfolding(crate::specs::Sessions::configured))]
+    fn configure(&mut self, config: Option<Config>) -> Result<String, AllocError>
+        ensures said { IfOk result (λ text. (self.new, string_bytes text) ≡ before_start self.old (configured self.old config)) }
+        ensures told { OnErr result ((self.new.config ≡ self.old.config) × (self.new.shape ≡ self.old.shape)) }
+    {
+        if self.book.is_some() {
+            return refusal_text(self.alloc, ScriptRefusal::Started);
+        }
+        if config.is_none() {
+            return refusal_text(self.alloc, ScriptRefusal::BadConfig);
+        }
+        self.config = config;
+        Ok(self.silence())
+    }
+
+    /// Takes a shape.
+    #[tactic(auto, unfolding(crate::specs::Sessions::shaped))]
+    fn reshape(&mut self, parallelisms: &Numbers) -> Result<String, AllocError>
+        ensures said { IfOk result (λ text. (self.new, string_bytes text) ≡ before_start self.old (shaped self.old parallelisms.now)) }
+        ensures told { OnErr result ((self.new.config ≡ self.old.config) × (self.new.shape ≡ self.old.shape)) }
+    {
+        if self.book.is_some() {
+            return refusal_text(self.alloc, ScriptRefusal::Started);
+        }
+        match Shape::new(self.alloc, parallelisms.as_slice()) {
+            Ok(shape) => {
+                self.shape = Some(shape);
+                Ok(self.silence())
+            }
+            Err(ShapeFault::BadShape) => refusal_text(self.alloc, ScriptRefusal::BadShape),
+            Err(ShapeFault::Memory) => Err(AllocError),
+        }
+    }
+
+    /// Opens the book.
+    #[tactic(auto, unfolding(crate::specs::Sessions::started))]
+    fn start(&mut self, now: u64) -> Result<String, AllocError>
+        ensures said { IfOk result (λ text. (self.new, string_bytes text) ≡ before_start self.old (started self.old now self.old.config self.old.shape)) }
+        ensures told { OnErr result ((self.new.config ≡ self.old.config) × (self.new.shape ≡ self.old.shape)) }
+    {
+        if self.book.is_some() {
+            return refusal_text(self.alloc, ScriptRefusal::Started);
+        }
+        let (Some(config), Some(shape)) = (self.config, &self.shape) else {
+            return refusal_text(self.alloc, ScriptRefusal::NotReady);
+        };
+        match open(self.alloc, config, shape.copy()?, now) {
+            Ok(book) => {
+                self.book = Some(book);
+                Ok(self.silence())
+            }
+            Err(_) => refusal_text(self.alloc, ScriptRefusal::MomentTooLarge),
+        }
+    }
+
+    /// Makes a call with the seat of the lines.
+    #[tactic(auto, unfolding(crate::specs::Sessions::called))]
+    fn call(&mut self, made: Call) -> Result<String, AllocError>
+        ensures said { IfOk result (λ text. (self.new, string_bytes text) ≡ called self.old self.old.core made) }
+        ensures told { OnErr result ((self.new.config ≡ self.old.config) × (self.new.shape ≡ self.old.shape)) }
+    {
+        match &mut self.book {
+            None => refusal_text(self.alloc, ScriptRefusal::NotStarted),
+            Some(book) => answer_text(self.alloc, &call(book, made)?),
+        }
+    }
+
+    /// Restores the job, in a new shape where there are parallelisms.
+    #[tactic(auto, unfolding(crate::specs::Sessions::restored, crate::specs::Sessions::called))]
+    fn restore(
+        &mut self,
+        now: u64,
+        target: Target,
+        parallelisms: &Numbers,
+    ) -> Result<String, AllocError>
+        ensures said { IfOk result (λ text. (self.new, string_bytes text) ≡ restored self.old now target parallelisms.now) }
+        ensures told { OnErr result ((self.new.config ≡ self.old.config) × (self.new.shape ≡ self.old.shape)) }
+    {
+        if self.book.is_none() {
+            return refusal_text(self.alloc, ScriptRefusal::NotStarted);
+        }
+        match new_shape(self.alloc, parallelisms) {
+            Ok(shape) => self.call(Call::Restore { now, target, shape }),
+            Err(ShapeFault::BadShape) => refusal_text(self.alloc, ScriptRefusal::BadShape),
+            Err(ShapeFault::Memory) => Err(AllocError),
+        }
+    }
+
+    /// Makes the calls of an `all` line.
+    #[tactic(auto, unfolding(crate::specs::Sessions::all_called))]
+    fn call_all<T: Team>(&mut self, line: &AllLine, team: &mut T) -> Result<String, AllocError>
+        ensures said { IfOk result (λ text. (self.new, string_bytes text) ≡ all_called self.old self.old.core line.now) }
+        ensures told { OnErr result ((self.new.config ≡ self.old.config) × (self.new.shape ≡ self.old.shape)) }
+    {
+        let Some(book) = self.book.take() else {
+            return refusal_text(self.alloc, ScriptRefusal::NotStarted);
+        };
+        let (book, text) = line.obey(self.alloc, book, team)?;
+        self.book = Some(book);
+        Ok(text)
+    }
+}
+
+/// The shape of these parallelisms, or `None` where there is none.
+fn new_shape(alloc: Global, parallelisms: &Numbers) -> Result<Option<Shape>, ShapeFault>
+    ensures refused { (result ≡ Err ShapeFault.BadShape) ↔ (is_new_shape parallelisms.now ≡ false) }
+    ensures value { IfOk result (λ shape. shape ≡ new_shape parallelisms.now) }
+{
+    if parallelisms.is_empty() {
+        return Ok(None);
+    }
+    Ok(Some(Shape::new(alloc, parallelisms.as_slice())?))
+}

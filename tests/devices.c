@@ -1,0 +1,128 @@
+/* Stands between a program and the C library, to make memory and streams fail as the environment says. It is loaded
+   with LD_PRELOAD, by the tests beside it.
+
+   REFUSE_AT=N      the Nth allocation is refused; with REFUSE_REST=1 all after it too
+   READ_MOST=N      a read of standard input gives N bytes at most
+   READ_FAILS=N     the Nth read of standard input fails, with the error READ_ERROR (a number); the next would succeed
+   WRITE_MOST=N     a write to standard output takes N bytes at most
+   WRITE_FAILS=N    the Nth write to standard output fails, with the error WRITE_ERROR; where that is 0 it takes nothing
+   COUNTS=FILE      at the end, the file gets how many allocations were asked for, how many reads and writes there
+                    were, and how many of them came after the one that failed or that told the end of the input */
+#define _GNU_SOURCE
+#include <dlfcn.h>
+#include <errno.h>
+#include <fcntl.h>
+#include <stdio.h>
+#include <stdlib.h>
+#include <string.h>
+#include <unistd.h>
+
+static long allocations, reads, writes, reads_late, writes_late;
+static int read_over, write_over, is_ready;
+static long refuse_at, refuse_rest, read_most, read_fails, read_error, write_most, write_fails, write_error;
+
+extern void *__libc_malloc(size_t);
+extern void *__libc_calloc(size_t, size_t);
+extern void *__libc_realloc(void *, size_t);
+extern void *__libc_memalign(size_t, size_t);
+
+static long number(const char *name) {
+    const char *text = getenv(name);
+    return text ? atol(text) : 0;
+}
+
+__attribute__((constructor)) static void begin(void) {
+    refuse_at = number("REFUSE_AT");
+    refuse_rest = number("REFUSE_REST");
+    read_most = number("READ_MOST");
+    read_fails = number("READ_FAILS");
+    read_error = number("READ_ERROR");
+    write_most = number("WRITE_MOST");
+    write_fails = number("WRITE_FAILS");
+    write_error = number("WRITE_ERROR");
+    is_ready = 1;
+}
+
+__attribute__((destructor)) static void end(void) {
+    const char *file = getenv("COUNTS");
+    char text[200];
+    is_ready = 0;
+    if (file) {
+        int at = open(file, O_WRONLY | O_CREAT | O_TRUNC, 0600);
+        int size = snprintf(text, sizeof text, "%ld %ld %ld %ld %ld\n", allocations, reads, writes, reads_late, writes_late);
+        ssize_t (*to)(int, const void *, size_t) = dlsym(RTLD_NEXT, "write");
+        if (at >= 0 && to(at, text, (size_t)size) != size) {
+            abort();
+        }
+    }
+}
+
+static int is_refused(void) {
+    if (!is_ready) {
+        return 0;
+    }
+    allocations += 1;
+    if (refuse_at > 0 && (allocations == refuse_at || (refuse_rest && allocations > refuse_at))) {
+        errno = ENOMEM;
+        return 1;
+    }
+    return 0;
+}
+
+void *malloc(size_t size) { return is_refused() ? NULL : __libc_malloc(size); }
+void *calloc(size_t count, size_t size) { return is_refused() ? NULL : __libc_calloc(count, size); }
+void *realloc(void *old, size_t size) { return is_refused() ? NULL : __libc_realloc(old, size); }
+void *memalign(size_t by, size_t size) { return is_refused() ? NULL : __libc_memalign(by, size); }
+void *aligned_alloc(size_t by, size_t size) { return is_refused() ? NULL : __libc_memalign(by, size); }
+
+int posix_memalign(void **made, size_t by, size_t size) {
+    if (is_refused()) {
+        return ENOMEM;
+    }
+    *made = __libc_memalign(by, size);
+    return *made ? 0 : ENOMEM;
+}
+
+ssize_t read(int from, void *bytes, size_t size) {
+    static ssize_t (*next)(int, void *, size_t);
+    if (!next) {
+        next = dlsym(RTLD_NEXT, "read");
+    }
+    if (from != 0) {
+        return next(from, bytes, size);
+    }
+    reads += 1;
+    reads_late += read_over;
+    if (reads == read_fails) {
+        read_over = 1;
+        errno = (int)read_error;
+        return -1;
+    }
+    if (read_most > 0 && size > (size_t)read_most) {
+        size = (size_t)read_most;
+    }
+    ssize_t count = next(from, bytes, size);
+    read_over |= count <= 0;
+    return count;
+}
+
+ssize_t write(int to, const void *bytes, size_t size) {
+    static ssize_t (*next)(int, const void *, size_t);
+    if (!next) {
+        next = dlsym(RTLD_NEXT, "write");
+    }
+    if (to != 1) {
+        return next(to, bytes, size);
+    }
+    writes += 1;
+    writes_late += write_over;
+    if (writes == write_fails) {
+        write_over = 1;
+        errno = (int)write_error;
+        return write_error ? -1 : 0;
+    }
+    if (write_most > 0 && size > (size_t)write_most) {
+        size = (size_t)write_most;
+    }
+    return next(to, bytes, size);
+}

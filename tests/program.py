@@ -1,0 +1,80 @@
+"""What the tests of the built program share: how it is run, over devices that fail, and what they count."""
+import os
+import subprocess
+import sys
+import tempfile
+
+TOP = os.path.dirname(os.path.dirname(os.path.abspath(__file__)))
+MOST_SECONDS = 120
+
+
+def program():
+    """The program: the one argument, or the one that the gate or `rt run` has built."""
+    path = sys.argv[1] if len(sys.argv) > 1 else f"{TOP}/crates/ckpt_job/out/ckpt_job"
+    if not os.access(path, os.X_OK):
+        sys.exit(f"{sys.argv[0]}: {path} is no program: run `rt run` in crates/ckpt_job, or name another")
+    return os.path.abspath(path)
+
+
+def devices(folder):
+    """Builds devices.c, and returns the shared object, or nothing where there is no C compiler."""
+    made = f"{folder}/devices.so"
+    words = ["cc", "-O2", "-shared", "-fPIC", "-o", made, f"{TOP}/tests/devices.c", "-ldl"]
+    try:
+        return made if subprocess.run(words).returncode == 0 else None
+    except FileNotFoundError:
+        return None
+
+
+def examples():
+    """The examples and the rows beside them: a name, the script and its whole output."""
+    found = []
+    for folder, script, output in [("examples", ".script", ".stdout"), ("examples/rows", ".in", ".out")]:
+        for name in sorted(os.listdir(f"{TOP}/{folder}")):
+            if name.endswith(script):
+                start = f"{TOP}/{folder}/{name[: -len(script)]}"
+                found.append((os.path.basename(start), bytes_of(start + script), bytes_of(start + output)))
+    return found
+
+
+def bytes_of(path):
+    with open(path, "rb") as file:
+        return file.read()
+
+
+class Counts:
+    """What the program asked of its devices: allocations, reads and writes, and those after the one that failed or ended."""
+
+    def __init__(self, text):
+        self.allocations, self.reads, self.writes, self.reads_late, self.writes_late = map(int, text.split())
+
+
+class Tests:
+    def __init__(self, name):
+        self.name, self.passed, self.failed = name, 0, 0
+        self.program = program()
+        self.folder = tempfile.TemporaryDirectory()
+        self.devices = devices(self.folder.name)
+
+    def run(self, script, **given):
+        """Runs a script, with what devices.c is to do, and returns the run and the counts."""
+        counts = f"{self.folder.name}/counts"
+        if os.path.exists(counts):
+            os.remove(counts)
+        around = {"LD_PRELOAD": self.devices, "COUNTS": counts, **{key.upper(): str(it) for key, it in given.items()}}
+        run = subprocess.run([self.program], input=script, capture_output=True, env=around, timeout=MOST_SECONDS)
+        return run, Counts(bytes_of(counts).decode()) if os.path.exists(counts) else None
+
+    def check(self, what, holds, run=None):
+        self.passed += bool(holds)
+        self.failed += not holds
+        if not holds and self.failed <= 20:
+            print(f"{self.name}: {what}", *([run.returncode, run.stderr[:80], run.stdout[-80:]] if run else []))
+
+    def end(self):
+        print(f"{self.passed} {self.name} passed, {self.failed} failed")
+        sys.exit(self.failed > 0)
+
+
+def is_end(run, status, error, output):
+    return run.returncode == status and run.stderr == error and run.stdout == output
