@@ -69,7 +69,7 @@ class Tests:
         self.passed += bool(holds)
         self.failed += not holds
         if not holds and self.failed <= 20:
-            print(f"{self.name}: {what}", *([run.returncode, run.stderr[:80], run.stdout[-80:]] if run else []))
+            print(f"{self.name}: {what}", *([run.returncode, run.stderr[:80], (run.stdout or b"")[-80:]] if run else []))
 
     def end(self):
         print(f"{self.passed} {self.name} passed, {self.failed} failed")
