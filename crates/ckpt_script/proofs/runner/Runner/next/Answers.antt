@@ -1,7 +1,7 @@
-use Rattle.std.proofs.Common.{refl, sym, ap, subst, arith}
+use Rattle.std.proofs.Common.{refl, sym, subst, arith}
 use Rattle.std.specs.Io.KnownBytes.{prepend_known}
 use Rattle.ckpt_script.specs.Unread.{Unread}
-use Rattle.ckpt_script.specs.Telling.{IsSoFar, Stopped}
+use Rattle.ckpt_script.specs.Telling.{IsSoFar}
 use Rattle.ckpt_script.proofs.CauseLemmas.{source_causes}
 use Rattle.ckpt_script.proofs.PassesLemmas.{if_err_is}
 use Rattle.ckpt_script.proofs.NextLemmas.{so_far_shown, so_far_filled, stopped_cut, stopped_taking, stopped_filling, stopped_full, cut_so_far, stopped_reading, cut_obeying, so_far_obeyed}
