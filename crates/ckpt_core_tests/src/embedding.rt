@@ -1,4 +1,4 @@
-//! The lines that the README shows under "Embedding".
+//! The lines that docs/EMBEDDING.md shows for Rattle.
 use ckpt_core::Core;
 use ckpt_ids::{Call, Config, Reply, Shape, TickEnd};
 use std::alloc::Global;

@@ -1,0 +1,81 @@
+-- What a coordinator that changed nothing is told to have answered.
+use Rattle.std.proofs.Common.{◌≡◌, ◌≢◌, refl, sym, ap, ◌∙◌, subst, arith}
+use Rattle.std.specs.Prelude.{◌≤◌, ℕ, Option, Some, None, Ok, Err, Result, OnErr, ◌↔◌, List, length}
+use Rattle.std.proofs.lemmas.List.{length-take}
+use Rattle.ckpt_ids.specs.declared.call.Call.{Call}
+use Rattle.ckpt_ids.specs.declared.reply.Reply.{Reply}
+use Rattle.ckpt_ids.specs.declared.reply.Refusal.{Refusal as Why}
+use Rattle.ckpt_ids.specs.declared.reply.Answer as ids
+use Rattle.ckpt_ids.specs.declared.reply.Answer.TheVariants.{Done, Refused as Refused-answer}
+use Rattle.ckpt_ids.specs.declared.call.Call.TheVariants as call
+use Rattle.ckpt_core.specs.declared.coordinator.CoreFault.{CoreFault}
+use Rattle.ckpt_core.specs.declared.coordinator.CoreFault.TheVariants.{Refused, Memory}
+use Rattle.ckpt_core.specs.Refusals.{refusal}
+use Rattle.ckpt_core.specs.State.{State}
+use Rattle.ckpt_core.specs.Steps.{step, effect, take_files, Stepped, unless_refused}
+use Rattle.ckpt_embed.specs.Buffers.{files_in, files_of_reply, StandsInFront}
+use Rattle.ckpt_embed.specs.Told.{fault_told, refusal_told, told, is_closed, no_memory}
+use Rattle.ckpt_embed.specs.declared.answer.Answer.{Answer}
+
+pub refused_step : (m : State) (call : Call) (why : Why) → refusal m call ≡ Some why → step m call ≡ (m, Refused-answer why)
+unfolding step
+refused_step m call why is = ap (unless_refused m call) is
+
+pub fault_answered : (m m' : State) (call : Call) (r : Result Reply CoreFault) (f : CoreFault) → r ≡ Err f
+    → ((why : Why) → (r ≡ Err (Refused why)) ↔ (refusal m call ≡ Some why))
+    → OnErr r (m' ≡ m) → (fault_told f).code ≢ no_memory
+    → (m' ≡ (step m call).0) × (fault_told f ≡ told (step m call).1)
+fault_answered m m' call r (Refused why) is refused stays other =
+    let stepped = sym (refused_step m call why ((refused why).0 is)) in
+    (subst (λ (r' : Result Reply CoreFault). OnErr r' (m' ≡ m)) is stays ∙ ap (λ (s : Stepped). s.0) stepped, ap (λ (s : Stepped). told s.1) stepped)
+fault_answered m m' call r Memory is refused stays other = absurd (other refl)
+
+-- no file comes with what is refused
+pub fault_in_front : (m : State) (call : Call) (r : Result Reply CoreFault) (f : CoreFault) (old : List ℕ) → r ≡ Err f
+    → ((why : Why) → (r ≡ Err (Refused why)) ↔ (refusal m call ≡ Some why))
+    → (fault_told f).code ≢ no_memory → StandsInFront (files_in (step m call).1) old old
+fault_in_front m call r (Refused why) old is refused other =
+    let stepped : Refused-answer why ≡ (step m call).1 = ap (λ (s : Stepped). s.1) (sym (refused_step m call why ((refused why).0 is))) in
+    subst (λ (a : ids.Answer). StandsInFront (files_in a) old old) stepped (refl, refl)
+fault_in_front m call r Memory old is refused other = absurd (other refl)
+
+abbrev fault_in : Result Reply CoreFault → Answer
+fault_in (Ok reply) = is_closed
+fault_in (Err f) = fault_told f
+
+-- the refusal that the step makes is the one that is told
+pub fault_is : (m : State) (call : Call) (r : Result Reply CoreFault) (f : CoreFault) (why : Why) → r ≡ Err f
+    → ((why : Why) → (r ≡ Err (Refused why)) ↔ (refusal m call ≡ Some why))
+    → refusal m call ≡ Some why → fault_told f ≡ refusal_told why
+fault_is m call r f why is refused so =
+    subst (λ (r' : Result Reply CoreFault). fault_in r' ≡ refusal_told why) is (subst (λ (r' : Result Reply CoreFault). fault_in r' ≡ refusal_told why) (sym ((refused why).1 so)) refl)
+
+abbrev is_done : ids.Answer → Type 0
+is_done (Done reply) = Unit {0}
+is_done (Refused-answer why) = ⊥
+
+-- what is refused is not done
+pub not_refused : (m m' : State) (call : Call) (reply : Reply) (why : Why) → step m call ≡ (m', Done reply) → refusal m call ≡ Some why → ⊥
+not_refused m m' call reply why done so =
+    subst is_done (ap (λ (s : Stepped). s.1) (sym done ∙ refused_step m call why so)) tt
+
+taken_at_most : (m : State) (n : ℕ) (w : Option Why) → length (files_in (unless_refused m (call.Take n) w).1) ≤ n
+unfolding effect take_files
+taken_at_most m n (Some why) = omega arith
+taken_at_most m n None = subst (λ (k : ℕ). k ≤ n) (sym (length-take n m.waiting)) (omega arith)
+
+-- a take brings no more files than it asks for
+pub take_fits : (m m' : State) (n : ℕ) (reply : Reply) → step m (call.Take n) ≡ (m', Done reply) → length (files_of_reply reply) ≤ n
+unfolding step
+take_fits m m' n reply done =
+    subst (λ (s : Stepped). length (files_in s.1) ≤ n) done (taken_at_most m n (refusal m (call.Take n)))
+
+shows_leave : (m : State) (id : ℕ) (w : Option Why) → (unless_refused m (call.Show id) w).0 ≡ m
+unfolding effect
+shows_leave m id (Some why) = refl
+shows_leave m id None = refl
+
+-- a show leaves the state
+pub show_leaves : (m m' : State) (id : ℕ) (reply : Reply) → step m (call.Show id) ≡ (m', Done reply) → m' ≡ m
+unfolding step
+show_leaves m m' id reply done = sym (ap (λ (s : Stepped). s.0) done) ∙ shows_leave m id (refusal m (call.Show id))

@@ -1,0 +1,27 @@
+-- A handle says the same to every thread: what it owns is the coordinator's box, and a coordinator may cross.
+use mir.Raw.{raw}
+use base.Fraction.{full_share}
+use base.Shift.{Keyless}
+use denote.Memory.{lone}
+use denote.RawPtr.{Ptr, block_ptr, null_ptr}
+use denote.Param.Send.{IsSend, part_keyless}
+use Rattle.std.specs.declared.option.Option.{Option}
+use Rattle.std.specs.declared.option.Option.TheVariants.{None, Some}
+use Rattle.std.specs.contracts.impls.GlobalAllocator.TheImpl.{ghosts}
+use Rattle.std.proofs.Crossing.{frees}
+use Rattle.std_alloc.specs.Box.Ownership.{box_owns}
+use Rattle.ckpt_core.proofs.coordinator.Core.TheSendSync as core
+use Rattle.ckpt_embed.specs.Kept.{heap, kept}
+use Rattle.ckpt_embed.specs.contracts.handle.Handle.{the_row}
+use Rattle.ckpt_embed.proofs.Words.{R}
+
+boxed_keyless : (p : Ptr) (x : R.Denot) → Keyless (box_owns (ghosts.dealloc_token heap) R p x)
+boxed_keyless null_ptr x = (tt, frees.frees heap (raw (lone R.mir)) null_ptr)
+boxed_keyless (block_ptr b o) x = (part_keyless R core.the_send full_share x b o, frees.frees heap (raw (lone R.mir)) (block_ptr b o))
+
+kept_keyless : (p : Ptr) (k : Option R.Denot) → Keyless (kept R p k)
+kept_keyless p None = λ _. tt
+kept_keyless p (Some x) = boxed_keyless p x
+
+pub send : IsSend the_row
+send = record { owned = λ h vs. ((λ fields. (tt, (tt, tt))), kept_keyless h.at h.value); leaving = λ k d w. tt }

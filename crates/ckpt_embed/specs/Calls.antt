@@ -1,0 +1,44 @@
+-- What a call through a handle leaves and answers.
+use Rattle.std.specs.Prelude.{◌≡◌, ◌≢◌, ℕ, true, false, ◌==◌, if◌then◌else◌, List, [], ◌∷◌, Option, Some, None}
+use Rattle.ckpt_ids.specs.declared.call.Call.{Call}
+use Rattle.ckpt_ids.specs.declared.call.Target.{Target}
+use Rattle.ckpt_ids.specs.declared.call.Target.TheVariants.{Latest, Savepoint}
+use Rattle.ckpt_ids.specs.Shapes.{is_shape}
+use Rattle.ckpt_core.specs.Memory.{may_want_memory}
+use Rattle.ckpt_core.specs.State.{State}
+use Rattle.ckpt_core.specs.Steps.{step}
+use Rattle.ckpt_embed.specs.declared.answer.Answer.{Answer}
+use Rattle.ckpt_embed.specs.Told.{told, is_closed, bad_argument, no_memory}
+
+-- a closed handle stays closed, and says so
+abbrev pub StaysClosed : Option State → Option State → Answer → Type 0
+StaysClosed old new answer = old ≡ None → (answer ≡ is_closed) × (new ≡ None)
+
+-- the coordinator makes the step and tells its answer
+abbrev pub IsAnswered : Option State → Option State → Call → Answer → Type 0
+IsAnswered old new call answer =
+    (m : State) → old ≡ Some m → answer.code ≢ no_memory → (new ≡ Some (step m call).0) × (answer ≡ told (step m call).1)
+
+-- want of memory is told of no other calls
+abbrev pub WantsMemory : Option State → Call → Answer → Type 0
+WantsMemory old call answer = (m : State) → old ≡ Some m → answer.code ≡ no_memory → may_want_memory m call ≡ true
+
+-- want of memory changes nothing
+abbrev pub StaysAsItWas : Option State → Option State → Answer → Type 0
+StaysAsItWas old new answer = answer.code ≡ no_memory → new ≡ old
+
+-- an open handle says which argument is bad, and nothing has changed
+abbrev pub IsRefusedAs : Option State → Option State → ℕ → Answer → Type 0
+IsRefusedAs old new what answer = (m : State) → old ≡ Some m → (answer ≡ bad_argument what) × (new ≡ old)
+
+-- 0 stands for the latest
+abbrev pub target_of : ℕ → Target
+target_of savepoint = if savepoint == 0 then Latest else Savepoint savepoint
+
+-- an empty list stands for the shape that the job has
+abbrev pub shape_of : List ℕ → Option (List ℕ)
+shape_of [] = None
+shape_of (n ∷ ns) = Some (n ∷ ns)
+
+abbrev pub IsBadShape : List ℕ → Type 0
+IsBadShape list = (list ≢ []) × (is_shape list ≡ false)

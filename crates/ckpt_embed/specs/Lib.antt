@@ -1,0 +1,6 @@
+pub mod Buffers
+pub mod Calls
+pub mod Kept
+pub mod Names
+pub mod Opening
+pub mod Told

@@ -1,0 +1,20 @@
+//! The coordinator behind a handle, for programs in other languages.
+//!
+//! A [`Handle`] is what a C program holds: one pointer, null where it is closed. [`open`] gives it a
+//! coordinator, the calls go through it, and [`close`] lets the coordinator go. Each call answers an
+//! [`Answer`] by value, and no memory leaves the handle.
+#![tactic(auto)]
+
+pub mod answer;
+pub mod buffers;
+pub mod calls;
+pub mod handle;
+pub mod names;
+pub mod opening;
+
+pub use answer::Answer;
+pub use buffers::{show, take};
+pub use calls::{ack, call, restore};
+pub use handle::Handle;
+pub use names::refusal_text;
+pub use opening::{Settings, close, open};

@@ -1,0 +1,113 @@
+ghost use Rattle.std.specs.Prelude.{◌≡◌, ℕ, ◌≢◌, None, Some, IfOk, IfErr};
+ghost use Rattle.ckpt_core.specs.State.{State, opened};
+ghost use Rattle.ckpt_embed.specs.Opening.{configuration_of, bad_opening, IsWhyNot};
+ghost use Rattle.ckpt_embed.specs.Told.{already_open, bad_argument, done, no_memory};
+
+use crate::answer::Answer;
+use crate::calls::BAD_SHAPE;
+use crate::handle::Handle;
+use ckpt_core::{Core, OpenFault};
+use ckpt_hash::Secret;
+use ckpt_ids::{Config, Shape, ShapeFault};
+use std::alloc::Global;
+
+const ALREADY_OPEN: u32 = 1;
+
+const BAD_CONFIG: u32 = 2;
+
+const BAD_MOMENT: u32 = 4;
+
+const BAD_FIRST: u32 = 5;
+
+/// How a job takes checkpoints. `docs/RULES.md` of the repository has the limits of each value.
+#[repr(C)]
+#[derive(Clone, Copy, Debug, PartialEq, Eq)]
+pub struct Settings {
+    /// 10 to 2^40 milliseconds between two triggers.
+    pub interval: u64,
+    /// 0 to 2^40 milliseconds between a completion and the next trigger.
+    pub pause: u64,
+    /// 1 to 64 checkpoints that may be pending.
+    pub at_once: u64,
+    /// 1 to 2^40 milliseconds after which a pending record expires.
+    pub timeout: u64,
+    /// 0 to 1000 failed checkpoints in a row.
+    pub tolerable: u64,
+    /// 1 to 1000 completed checkpoints that are kept.
+    pub retained: u64,
+    /// Whether completed checkpoints are kept when the job is cancelled.
+    pub keep_on_cancel: bool,
+}
+
+/// Gives a closed handle a coordinator, from the moment `now` on, whose first record has the
+/// number `first`.
+///
+/// The secret keys the maps of files, so that no choice of numbers makes calls slow; it changes no
+/// answer. A handle that is open stays as it is, and says so.
+pub fn open(
+    alloc: Global,
+    handle: &mut Handle,
+    settings: &Settings,
+    shape: &[u64],
+    now: u64,
+    first: u64,
+    secret: Secret,
+) -> Answer
+    ensures open { (m : State) → handle.old.value ≡ Some m → (result ≡ bad_argument already_open) × (handle.new.value ≡ Some m) }
+    ensures refused { (what : ℕ) → handle.old.value ≡ None → result.code ≢ no_memory → bad_opening (configuration_of settings.now) shape.now now first ≡ Some what → (result ≡ bad_argument what) × (handle.new.value ≡ None) }
+    ensures opened { handle.old.value ≡ None → result.code ≢ no_memory → bad_opening (configuration_of settings.now) shape.now now first ≡ None → (result ≡ done 0 0 0) × (handle.new.value ≡ Some (opened (record { config = configuration_of settings.now; shape = shape.now; start = now; first = first }))) }
+    ensures unchanged { result.code ≡ no_memory → handle.new.value ≡ handle.old.value }
+{
+    if let Some(core) = handle.take(alloc) {
+        handle.put(alloc, core);
+        return Answer::bad_argument(ALREADY_OPEN);
+    }
+    match core_of(alloc, settings, shape, now, first, secret) {
+        Ok(core) => {
+            handle.put(alloc, core);
+            Answer::done(0, 0, 0)
+        }
+        Err(why) => why,
+    }
+}
+
+/// Lets the coordinator go, and frees all memory that it has. A closed handle stays closed.
+pub fn close(alloc: Global, handle: &mut Handle)
+    ensures { handle.new.value ≡ None }
+{
+    drop(handle.take(alloc));
+}
+
+fn core_of(
+    alloc: Global,
+    settings: &Settings,
+    shape: &[u64],
+    now: u64,
+    first: u64,
+    secret: Secret,
+) -> Result<Box<Core>, Answer>
+    ensures value { IfOk result (λ core. (bad_opening (configuration_of settings.now) shape.now now first ≡ None) × (core.value ≡ opened (record { config = configuration_of settings.now; shape = shape.now; start = now; first = first }))) }
+    ensures fault { IfErr result (IsWhyNot (configuration_of settings.now) shape.now now first) }
+{
+    let Ok(config) = Config::new(
+        settings.interval,
+        settings.pause,
+        settings.at_once,
+        settings.timeout,
+        settings.tolerable,
+        settings.retained,
+        settings.keep_on_cancel,
+    ) else {
+        return Err(Answer::bad_argument(BAD_CONFIG));
+    };
+    let shape = match Shape::new(alloc, shape) {
+        Ok(shape) => shape,
+        Err(ShapeFault::BadShape) => return Err(Answer::bad_argument(BAD_SHAPE)),
+        Err(ShapeFault::Memory) => return Err(Answer::out_of_memory()),
+    };
+    match Core::keyed(alloc, config, shape, now, first, secret) {
+        Ok(core) => Box::new(alloc, core).map_err(|_| Answer::out_of_memory()),
+        Err(OpenFault::MomentTooLarge) => Err(Answer::bad_argument(BAD_MOMENT)),
+        Err(OpenFault::BadFirst) => Err(Answer::bad_argument(BAD_FIRST)),
+    }
+}

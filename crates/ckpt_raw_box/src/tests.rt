@@ -1,0 +1,11 @@
+use crate::RawBox;
+use std::test::Fail;
+
+/// A box comes back with its value, and is freed as ever.
+#[test]
+fn there_and_back(rt: HostRuntime) -> Result<(), Fail> {
+    let boxed = Box::new(rt.alloc(), 7u64)?;
+    let back = RawBox::of(boxed).into_box();
+    assert!(rt; *back == 7);
+    Ok(())
+}

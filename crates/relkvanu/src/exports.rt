@@ -1,0 +1,229 @@
+ghost use Rattle.std.specs.Prelude.{◌≡◌, ◌≢◌, ◌<◌, ◌≤◌, ℕ, None, Some, length};
+ghost use Rattle.ckpt_ids.specs.declared.call.Call.TheVariants as call;
+ghost use Rattle.ckpt_ids.specs.declared.reply.Refusal.{Refusal};
+ghost use Rattle.ckpt_ids.specs.Ascending.{ascending};
+ghost use Rattle.ckpt_core.specs.Refusals.{refusal};
+ghost use Rattle.ckpt_core.specs.State.{State, opened};
+ghost use Rattle.ckpt_core.specs.Steps.{step};
+ghost use Rattle.ckpt_embed.specs.Buffers.{StandsInFront, files_in, json_in, show_told};
+ghost use Rattle.ckpt_embed.specs.Calls.{StaysClosed, IsAnswered, WantsMemory, StaysAsItWas, IsRefusedAs, IsBadShape, shape_of, target_of};
+ghost use Rattle.ckpt_embed.specs.Names.{refusal_name};
+ghost use Rattle.ckpt_embed.specs.Opening.{configuration_of, bad_opening};
+ghost use Rattle.ckpt_embed.specs.Told.{already_open, bad_argument, bad_shape, done, no_memory, refusal_told, too_short};
+
+use ckpt_embed::{Answer, Handle, Settings};
+use ckpt_hash::Secret;
+use ckpt_ids::{Call, CheckpointId, FileId, SubtaskId};
+use std::alloc::Global;
+
+/// Gives a closed handle a coordinator. The two words are the secret of its maps.
+#[unsafe(no_mangle)]
+pub extern "C" fn relkvanu_open(
+    alloc: Global,
+    handle: &mut Handle,
+    settings: &Settings,
+    shape: &[u64],
+    now: u64,
+    first: u64,
+    first_word: u64,
+    second_word: u64,
+) -> Answer
+    ensures open { (m : State) → handle.old.value ≡ Some m → (result ≡ bad_argument already_open) × (handle.new.value ≡ Some m) }
+    ensures refused { (what : ℕ) → handle.old.value ≡ None → result.code ≢ no_memory → bad_opening (configuration_of settings.now) shape.now now first ≡ Some what → (result ≡ bad_argument what) × (handle.new.value ≡ None) }
+    ensures opened { handle.old.value ≡ None → result.code ≢ no_memory → bad_opening (configuration_of settings.now) shape.now now first ≡ None → (result ≡ done 0 0 0) × (handle.new.value ≡ Some (opened (record { config = configuration_of settings.now; shape = shape.now; start = now; first = first }))) }
+    ensures unchanged { result.code ≡ no_memory → handle.new.value ≡ handle.old.value }
+{
+    let secret = Secret::of(first_word, second_word);
+    ckpt_embed::open(alloc, handle, settings, shape, now, first, secret)
+}
+
+/// Lets the coordinator go.
+#[unsafe(no_mangle)]
+pub extern "C" fn relkvanu_close(alloc: Global, handle: &mut Handle)
+    ensures { handle.new.value ≡ None }
+{
+    ckpt_embed::close(alloc, handle)
+}
+
+/// Time has passed.
+#[unsafe(no_mangle)]
+pub extern "C" fn relkvanu_tick(alloc: Global, handle: &mut Handle, now: u64) -> Answer
+    ensures closed { StaysClosed handle.old.value handle.new.value result }
+    ensures answered { IsAnswered handle.old.value handle.new.value (call.Tick now) result }
+    ensures memory { WantsMemory handle.old.value (call.Tick now) result }
+    ensures unchanged { StaysAsItWas handle.old.value handle.new.value result }
+{
+    ckpt_embed::call(alloc, handle, &Call::Tick { now })
+}
+
+/// Triggers a savepoint.
+#[unsafe(no_mangle)]
+pub extern "C" fn relkvanu_savepoint(alloc: Global, handle: &mut Handle, now: u64) -> Answer
+    ensures closed { StaysClosed handle.old.value handle.new.value result }
+    ensures answered { IsAnswered handle.old.value handle.new.value (call.Savepoint now) result }
+    ensures memory { WantsMemory handle.old.value (call.Savepoint now) result }
+    ensures unchanged { StaysAsItWas handle.old.value handle.new.value result }
+{
+    ckpt_embed::call(alloc, handle, &Call::Savepoint { now })
+}
+
+/// A subtask has taken its part of a record.
+#[unsafe(no_mangle)]
+pub extern "C" fn relkvanu_ack(
+    alloc: Global,
+    handle: &mut Handle,
+    now: u64,
+    id: u64,
+    vertex: u16,
+    index: u16,
+    fresh: &[u64],
+    reused: &[u64],
+) -> Answer
+    ensures closed { StaysClosed handle.old.value handle.new.value result }
+    ensures answered { IsAnswered handle.old.value handle.new.value (call.Ack now id (record { vertex = vertex; index = index }) (ascending fresh.now) (ascending reused.now)) result }
+    ensures unchanged { StaysAsItWas handle.old.value handle.new.value result }
+{
+    let subtask = SubtaskId { vertex, index };
+    ckpt_embed::ack(alloc, handle, now, id, subtask, fresh, reused)
+}
+
+/// A subtask could not take its part of a record.
+#[unsafe(no_mangle)]
+pub extern "C" fn relkvanu_decline(
+    alloc: Global,
+    handle: &mut Handle,
+    now: u64,
+    id: u64,
+    vertex: u16,
+    index: u16,
+) -> Answer
+    ensures closed { StaysClosed handle.old.value handle.new.value result }
+    ensures answered { IsAnswered handle.old.value handle.new.value (call.Decline now id (record { vertex = vertex; index = index })) result }
+    ensures memory { WantsMemory handle.old.value (call.Decline now id (record { vertex = vertex; index = index })) result }
+    ensures unchanged { StaysAsItWas handle.old.value handle.new.value result }
+{
+    let call = Call::Decline {
+        now,
+        id: CheckpointId(id),
+        subtask: SubtaskId { vertex, index },
+    };
+    ckpt_embed::call(alloc, handle, &call)
+}
+
+/// A user lets a completed savepoint go.
+#[unsafe(no_mangle)]
+pub extern "C" fn relkvanu_dispose(alloc: Global, handle: &mut Handle, id: u64) -> Answer
+    ensures closed { StaysClosed handle.old.value handle.new.value result }
+    ensures answered { IsAnswered handle.old.value handle.new.value (call.Dispose id) result }
+    ensures memory { WantsMemory handle.old.value (call.Dispose id) result }
+    ensures unchanged { StaysAsItWas handle.old.value handle.new.value result }
+{
+    ckpt_embed::call(
+        alloc,
+        handle,
+        &Call::Dispose {
+            id: CheckpointId(id),
+        },
+    )
+}
+
+/// The job begins again: from savepoint 0 for the latest, in an empty shape for the one it has.
+#[unsafe(no_mangle)]
+pub extern "C" fn relkvanu_restore(
+    alloc: Global,
+    handle: &mut Handle,
+    now: u64,
+    savepoint: u64,
+    shape: &[u64],
+) -> Answer
+    ensures closed { StaysClosed handle.old.value handle.new.value result }
+    ensures bad_shape { IsBadShape shape.now → IsRefusedAs handle.old.value handle.new.value bad_shape result }
+    ensures answered { (IsBadShape shape.now → ⊥) → IsAnswered handle.old.value handle.new.value (call.Restore now (target_of savepoint) (shape_of shape.now)) result }
+    ensures unchanged { StaysAsItWas handle.old.value handle.new.value result }
+{
+    ckpt_embed::restore(alloc, handle, now, savepoint, shape)
+}
+
+/// The job ends for good.
+#[unsafe(no_mangle)]
+pub extern "C" fn relkvanu_cancel(alloc: Global, handle: &mut Handle, now: u64) -> Answer
+    ensures closed { StaysClosed handle.old.value handle.new.value result }
+    ensures answered { IsAnswered handle.old.value handle.new.value (call.Cancel now) result }
+    ensures memory { WantsMemory handle.old.value (call.Cancel now) result }
+    ensures unchanged { StaysAsItWas handle.old.value handle.new.value result }
+{
+    ckpt_embed::call(alloc, handle, &Call::Cancel { now })
+}
+
+/// Fetches files that wait for deletion, as many as the buffer has places.
+#[unsafe(no_mangle)]
+pub extern "C" fn relkvanu_take(alloc: Global, handle: &mut Handle, files: &mut [u64]) -> Answer
+    ensures closed { StaysClosed handle.old.value handle.new.value result }
+    ensures answered { IsAnswered handle.old.value handle.new.value (call.Take (length files.old)) result }
+    ensures front { (m : State) → handle.old.value ≡ Some m → result.code ≢ no_memory → StandsInFront (files_in (step m (call.Take (length files.old))).1) files.old files.new }
+    ensures kept { result.code ≡ no_memory → files.new ≡ files.old }
+    ensures unchanged { StaysAsItWas handle.old.value handle.new.value result }
+{
+    ckpt_embed::take(alloc, handle, files)
+}
+
+/// A fetched file is deleted.
+#[unsafe(no_mangle)]
+pub extern "C" fn relkvanu_deleted(alloc: Global, handle: &mut Handle, file: u64) -> Answer
+    ensures closed { StaysClosed handle.old.value handle.new.value result }
+    ensures answered { IsAnswered handle.old.value handle.new.value (call.Deleted file) result }
+    ensures memory { WantsMemory handle.old.value (call.Deleted file) result }
+    ensures unchanged { StaysAsItWas handle.old.value handle.new.value result }
+{
+    ckpt_embed::call(alloc, handle, &Call::Deleted { file: FileId(file) })
+}
+
+/// A fetched file could not be deleted.
+#[unsafe(no_mangle)]
+pub extern "C" fn relkvanu_undeleted(alloc: Global, handle: &mut Handle, file: u64) -> Answer
+    ensures closed { StaysClosed handle.old.value handle.new.value result }
+    ensures answered { IsAnswered handle.old.value handle.new.value (call.Undeleted file) result }
+    ensures memory { WantsMemory handle.old.value (call.Undeleted file) result }
+    ensures unchanged { StaysAsItWas handle.old.value handle.new.value result }
+{
+    ckpt_embed::call(alloc, handle, &Call::Undeleted { file: FileId(file) })
+}
+
+/// Writes the metadata of a live record as JSON.
+#[unsafe(no_mangle)]
+pub extern "C" fn relkvanu_show(
+    alloc: Global,
+    handle: &mut Handle,
+    id: u64,
+    json: &mut [u8],
+) -> Answer
+    ensures closed { StaysClosed handle.old.value handle.new.value result }
+    ensures answered { (m : State) → handle.old.value ≡ Some m → result.code ≡ 0 → (result ≡ show_told (step m (call.Show id)).1) × StandsInFront (json_in (step m (call.Show id)).1) json.old json.new }
+    ensures refused { (m : State) (why : Refusal) → handle.old.value ≡ Some m → refusal m (call.Show id) ≡ Some why → result ≡ refusal_told why }
+    ensures too_short { (m : State) → handle.old.value ≡ Some m → result.code ≡ 5 → (result ≡ too_short (length (json_in (step m (call.Show id)).1))) × (length json.old < result.a) }
+    ensures kept { result.code ≢ 0 → json.new ≡ json.old }
+    ensures unchanged { handle.new.value ≡ handle.old.value }
+{
+    ckpt_embed::show(alloc, handle, id, json)
+}
+
+/// How often a file is used.
+#[unsafe(no_mangle)]
+pub extern "C" fn relkvanu_count(alloc: Global, handle: &mut Handle, file: u64) -> Answer
+    ensures closed { StaysClosed handle.old.value handle.new.value result }
+    ensures answered { IsAnswered handle.old.value handle.new.value (call.Count file) result }
+    ensures memory { WantsMemory handle.old.value (call.Count file) result }
+    ensures unchanged { StaysAsItWas handle.old.value handle.new.value result }
+{
+    ckpt_embed::call(alloc, handle, &Call::Count { file: FileId(file) })
+}
+
+/// Writes the name of the refusal with this number, where the buffer is long enough.
+#[unsafe(no_mangle)]
+pub extern "C" fn relkvanu_refusal_text(what: u32, text: &mut [u8]) -> usize
+    ensures length { result ≡ length (refusal_name what) }
+    ensures written { result ≤ length text.old → StandsInFront (refusal_name what) text.old text.new }
+    ensures kept { length text.old < result → text.new ≡ text.old }
+{
+    ckpt_embed::refusal_text(what, text)
+}
