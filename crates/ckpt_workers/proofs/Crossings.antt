@@ -1,7 +1,8 @@
 -- What may go to another thread.
-use denote.Param.Send.{IsSend, sendable}
+use denote.Param.Send.{IsSend, sendable, view_send, recorded_send, struct_send, owning_send, fixed_send}
 use Rattle.std.proofs.Crossing.{crosses}
 use Rattle.std.proofs.MapsCrossing as maps
+use Rattle.atomic_table.proofs.shared.Seat.TheSendSync as seat
 use Rattle.ckpt_ids.specs.contracts.call.Call as Call
 use Rattle.ckpt_ids.specs.contracts.reply.Answer as Answer
 use Rattle.ckpt_ids.specs.contracts.shape.Shape as Shape
@@ -53,13 +54,19 @@ parts_send : IsSend Parts.the_row
 parts_send = search (records_send, outbox_send, registry_send, store_send, shape_send, sendable, crosses) depth 80 fits 20000
 
 core_send : IsSend Core.the_row
-core_send = search (parts_send, sendable, crosses) depth 80 fits 20000
+core_send = view_send _ _ _ _ _ (search (parts_send, sendable, crosses) depth 40 fits 20000)
+
+core_send_b : IsSend Core.the_row
+core_send_b = view_send _ _ _ _ _ (recorded_send _ _ (struct_send _ (parts_send, tt)))
+
+core_send_c : IsSend Core.the_row
+core_send_c = view_send _ _ _ _ _ (owning_send _ (parts_send, tt) (λ d. tt) (λ k x w. tt))
 
 pub book_send : IsSend Book.the_row
 book_send = search (core_send, entry_send, sendable, crosses) depth 80 fits 20000
 
 pub pass_send : IsSend Pass.the_row
-pass_send = search (book_send, sendable, crosses) depth 80 fits 20000
+pass_send = search (book_send, seat.send, sendable, crosses) depth 80 fits 20000
 
 pub share_send : IsSend Share.the_row
 share_send = search (pass_send, call_send, sendable, crosses) depth 80 fits 20000
