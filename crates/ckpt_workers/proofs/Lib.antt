@@ -1,8 +1,10 @@
+pub mod Crossings
 pub mod Dealing
+pub mod RoundLemmas
 pub mod SeatLemmas
+pub mod ShareLemmas
 pub mod ShiftLemmas
 pub mod TallyLemmas
+pub mod TaskLemmas
 pub mod TeamLemmas
 pub mod TimerLemmas
-pub mod TaskLemmas
-pub mod RoundLemmas

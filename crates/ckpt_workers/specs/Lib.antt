@@ -1,6 +1,7 @@
 pub mod Orders
 pub mod Rounds
 pub mod Shifts
+pub mod Spreads
 pub mod Tasks
 pub mod Teams
 pub mod Timers

@@ -1,0 +1,102 @@
+ghost use Rattle.std.specs.Prelude.{◌≡◌, ◌<◌, ℕ, Ok, All, IfOk, map, slice_index_or, vec_len};
+ghost use Rattle.ckpt_workers.specs.Spreads.{IsWorked};
+
+use crate::gate::Gate;
+use ckpt_ids::{Answer, Call};
+use ckpt_locked::Pass;
+use std::alloc::{AllocError, Global};
+use std::sync::Wait;
+use std::thread;
+use std::thread::Threads;
+
+/// The calls that one thread is to make, and the pass that it makes them with.
+#[derive(Drop)]
+pub struct Share {
+    pub pass: Pass,
+    pub calls: Vec<Call>,
+}
+
+/// The pass of a share after its calls, and what they were answered, in order.
+#[derive(Drop)]
+pub struct Report {
+    pub pass: Pass,
+    pub answers: Vec<Answer>,
+}
+
+/// Makes the calls of each share in a thread of its own, in order. Report i is that of share i.
+///
+/// Shares for which no thread can be started are done in turn, so gates at which calls wait for one
+/// another may wait forever there. Fails only for want of memory, also that of a call, and then the
+/// passes are given up.
+pub fn spread<R: Threads + Wait + Sync, G: Gate + Sync>(
+    rt: &R,
+    alloc: Global,
+    gate: &G,
+    shares: Vec<Share>,
+) -> Result<Vec<Report>, AllocError>
+    requires passes { All (λ s. s.pass.lock ≡ G.lock gate.now) shares.items }
+    ensures count { IfOk result (λ reports. vec_len reports ≡ vec_len shares) }
+    ensures each { IfOk result (λ reports. (i : ℕ) (s : _) (r : _) → i < vec_len shares → IsWorked (slice_index_or shares.items i s) (slice_index_or reports.items i r)) }
+{
+    let outcomes = work_on_all(rt, alloc, gate, shares)?;
+    all_of(alloc, outcomes)
+}
+
+/// What came of each share, which is worked on in a thread of its own.
+fn work_on_all<R: Threads + Wait + Sync, G: Gate + Sync>(
+    rt: &R,
+    alloc: Global,
+    gate: &G,
+    shares: Vec<Share>,
+) -> Result<Vec<Result<Report, AllocError>>, AllocError>
+    requires passes { All (λ s. s.pass.lock ≡ G.lock gate.now) shares.items }
+    ensures count { IfOk result (λ outcomes. vec_len outcomes ≡ vec_len shares) }
+    ensures each { IfOk result (λ outcomes. (i : ℕ) (s : _) (o : _) → i < vec_len shares → IfOk (slice_index_or outcomes.items i o) (λ r. IsWorked (slice_index_or shares.items i s) r)) }
+{
+    thread::map_vec(
+        rt,
+        shares,
+        &|share: Share| -> Result<Report, AllocError>
+            requires { share.pass.lock ≡ G.lock gate.now }
+            ensures { IfOk result (λ r. IsWorked share r) }
+        { work(rt, alloc, gate, share) },
+    )
+}
+
+/// Makes the calls of one share, in order.
+fn work<R: Wait, G: Gate>(
+    rt: &R,
+    alloc: Global,
+    gate: &G,
+    share: Share,
+) -> Result<Report, AllocError>
+    requires { share.pass.lock ≡ G.lock gate.now }
+    ensures { IfOk result (λ r. IsWorked share r) }
+{
+    let Share { mut pass, calls } = share;
+    let mut answers = Vec::with_capacity(alloc, calls.len())?;
+    for call in calls {
+        match gate.call(rt, pass, call) {
+            Ok((next, answer)) => {
+                pass = next;
+                answers.push(answer)?;
+            }
+            Err(_) => return Err(AllocError),
+        }
+    }
+    Ok(Report { pass, answers })
+}
+
+/// The reports, where there is one for each share.
+fn all_of(
+    alloc: Global,
+    outcomes: Vec<Result<Report, AllocError>>,
+) -> Result<Vec<Report>, AllocError>
+    ensures { IfOk result (λ reports. map (λ r. Ok r) reports.items ≡ outcomes.items) }
+{
+    let mut reports = Vec::with_capacity(alloc, outcomes.len())?;
+    for outcome in outcomes {
+        reports.push(outcome?)?;
+    }
+    Ok(reports)
+}

@@ -1,0 +1,19 @@
+//! Tests of workers and teams: rows of what they did over a lock.
+//!
+//! `docs/DECISIONS.md` says why they stand apart from the crate that they test.
+#![tactic(auto)]
+
+#[cfg(test)]
+mod desk;
+#[cfg(test)]
+mod embedding;
+#[cfg(test)]
+mod gates;
+#[cfg(test)]
+mod rounds;
+#[cfg(test)]
+mod spreads;
+#[cfg(test)]
+mod teams;
+#[cfg(test)]
+mod workers;
