@@ -1,4 +1,5 @@
 pub mod AcceptedOnce
+pub mod Crossings
 pub mod Keeps
 pub mod LockCalls
 pub mod Moves

@@ -1,5 +1,7 @@
 //! A book that keeps its last entries alone.
-use ckpt_ids::{Answer, Call, CheckpointId, Config, FileId, Files, Reply, Shape, SubtaskId, TickEnd};
+use ckpt_ids::{
+    Answer, Call, CheckpointId, Config, FileId, Files, Reply, Shape, SubtaskId, TickEnd,
+};
 use ckpt_locked::Book;
 use std::alloc::{AllocError, Global};
 use std::process::Abort;
@@ -28,14 +30,13 @@ fn ack(alloc: Global) -> Result<Call, AllocError> {
     })
 }
 
-/// Makes a call until it finds memory. Answers how often it found none, and then nothing was
-/// entered.
-fn insist(book: &mut Book, seat: u32, call: Call) -> Option<(Answer, u32)> {
+/// Makes a call until it finds memory. Where it finds none, nothing was entered.
+fn insist(book: &mut Book, seat: u32, call: Call) -> Option<Answer> {
     let mut call = call;
-    for refused in 0..4u32 {
+    for _ in 0..4u32 {
         let entries = book.len();
         match book.apply(seat, call) {
-            Ok(answer) => return Some((answer, refused)),
+            Ok(answer) => return Some(answer),
             Err(back) => call = back,
         }
         if book.len() != entries {
@@ -45,13 +46,19 @@ fn insist(book: &mut Book, seat: u32, call: Call) -> Option<(Answer, u32)> {
     None
 }
 
+/// Whether the call is answered so.
+fn says(book: &mut Book, seat: u32, call: Call, expected: &Answer) -> bool {
+    match insist(book, seat, call) {
+        Some(answer) => answer == *expected,
+        None => false,
+    }
+}
+
 fn count(book: &mut Book, seat: u32, times: u32) -> bool {
     let file = FileId(11);
+    let once = Answer::Done(Reply::Counted(file, 1));
     for _ in 0..times {
-        let Some((answer, _)) = insist(book, seat, Call::Count { file }) else {
-            return false;
-        };
-        if answer != Answer::Done(Reply::Counted(file, 1)) {
+        if !says(book, seat, Call::Count { file }, &once) {
             return false;
         }
     }
@@ -68,10 +75,11 @@ fn complete(alloc: Global, book: &mut Book) -> Result<bool, Fail> {
         dropped: 0,
         released: 0,
     });
-    let first = insist(book, 7, Call::Tick { now: 1000 });
-    let last = insist(book, 8, ack(alloc)?);
-    Ok(matches!(first, Some((answer, _)) if answer == triggered)
-        && matches!(last, Some((answer, _)) if answer == completed))
+    let last = ack(alloc)?;
+    if !says(book, 7, Call::Tick { now: 1000 }, &triggered) {
+        return Ok(false);
+    }
+    Ok(says(book, 8, last, &completed))
 }
 
 fn seat_at(book: &Book, place: u64) -> Option<u32> {

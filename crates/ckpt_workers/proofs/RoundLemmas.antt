@@ -1,6 +1,6 @@
 -- A round, file by file.
 use Rattle.std.proofs.Common.{◌≡◌, ℕ, ◌+◌, ◌<◌, ◌≤◌, Bool, true, false, cond, List, [], ◌∷◌, ◌++◌, length, refl, sym, ap, ◌∙◌, arith, drop, append_assoc, append-nil}
-use Rattle.std.specs.Prelude.{map, filter, not, take, count_by, slice_get, Some}
+use Rattle.std.specs.Prelude.{map, filter, not, count_by, slice_get, Some}
 use Rattle.std.proofs.lemmas.Option.{get_or_from_slice_get, slice_get_within}
 use Rattle.std.proofs.lemmas.List.{drop_more}
 use Rattle.std.proofs.lemmas.List.{map-append}
@@ -10,8 +10,8 @@ use Rattle.ckpt_ids.proofs.CountLemmas.{count_by-append}
 use Rattle.ckpt_ids.specs.declared.reply.Answer.{Answer}
 use Rattle.ckpt_locked.specs.Locks.{Hand, Made}
 use Rattle.ckpt_workers.specs.declared.discard.Round.{Round}
-use Rattle.ckpt_workers.specs.Shifts.{Exchange, IsShift, calls_in}
-use Rattle.ckpt_workers.specs.Rounds.{Fate, IsReported, IsTried, Stored, deleted_in, gone_in, report_of, reports_of}
+use Rattle.ckpt_workers.specs.Shifts.{Exchange}
+use Rattle.ckpt_workers.specs.Rounds.{Fate, IsReported, IsTried, Stored, deleted_in, gone_in, report_of}
 use Rattle.ckpt_workers.proofs.ShiftLemmas.{IsShift-none, IsShift-push}
 
 -- where the files stand before the first is tried

@@ -1,5 +1,5 @@
 -- The work of a team, call by call.
-use Rattle.std.proofs.Common.{◌≡◌, ℕ, ◌+◌, ◌%◌, ◌<◌, ◌≤◌, Bool, true, false, cond, eqb, List, [], ◌∷◌, ◌++◌, length, refl, sym, ap, ◌∙◌, arith, length-append, append-nil}
+use Rattle.std.proofs.Common.{◌≡◌, ℕ, ◌+◌, ◌%◌, ◌<◌, ◌≤◌, Bool, true, false, cond, eqb, List, [], ◌∷◌, ◌++◌, length, refl, sym, ap, ◌∙◌, arith, length-append}
 use Rattle.std.specs.Prelude.{not, count_by, Option, Some, None}
 use Rattle.std.specs.Option.{option_or}
 use Rattle.std.proofs.lemmas.List.Sums.{count_by-le-length, sum_by-cons}
@@ -8,7 +8,7 @@ use Rattle.ckpt_ids.specs.declared.call.Call.{Call}
 use Rattle.ckpt_ids.specs.declared.reply.Answer.{Answer}
 use Rattle.ckpt_locked.specs.declared.book.Entry.{Entry}
 use Rattle.ckpt_locked.specs.Books.{History, answer_to, entered}
-use Rattle.ckpt_locked.specs.Seats.{SeatsBelow, answers_by, calls_by}
+use Rattle.ckpt_locked.specs.Seats.{answers_by, calls_by}
 use Rattle.ckpt_workers.specs.declared.team.Made.{Made}
 use Rattle.ckpt_workers.specs.Teams.{IsOneMore, IsTeamwork, dealt_to, is_accepted}
 use Rattle.ckpt_core.specs.Interleavings.{completed_by, first_completed}

@@ -1,5 +1,5 @@
 -- What a timer worker does.
-use Rattle.std.specs.Prelude.{◌≡◌, ℕ, Bool, true, false, not, List, [], ◌∷◌, ◌++◌, map, count_by, Option, Some, None, is_some}
+use Rattle.std.specs.Prelude.{◌≡◌, ℕ, Bool, false, not, List, [], ◌∷◌, ◌++◌, map, count_by, Option, Some, None, is_some}
 use Rattle.std.specs.List.{flat_map}
 use Rattle.ckpt_ids.specs.declared.call.Call.TheVariants.{Tick}
 use Rattle.ckpt_ids.specs.declared.reply.Answer.{Answer}

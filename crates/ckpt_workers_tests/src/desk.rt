@@ -42,8 +42,7 @@ pub(crate) fn three<R: Wait>(rt: &R, book: Book) -> Result<(Locked, Pass, Pass, 
     let Ok((lock, mut passes)) = Locked::new(rt, book, 3) else {
         return Err(Fail::new("no lock"));
     };
-    let (Some(third), Some(second), Some(first)) = (passes.pop(), passes.pop(), passes.pop())
-    else {
+    let (Some(third), Some(second), Some(first)) = (passes.pop(), passes.pop(), passes.pop()) else {
         return Err(Fail::new("no passes"));
     };
     Ok((lock, first, second, third))
@@ -128,13 +127,7 @@ pub(crate) fn order(
     fresh.push(FileId(file))?;
     let subtask = SubtaskId { vertex: 0, index };
     let none = Files::of(Vec::new(alloc));
-    Ok(Order::new(
-        now,
-        CheckpointId(id),
-        subtask,
-        Files::of(fresh),
-        none,
-    ))
+    Ok(Order::new(now, CheckpointId(id), subtask, Files::of(fresh), none))
 }
 
 /// A closed channel with these orders: moment, number, index of the subtask and new file of each.

@@ -33,10 +33,12 @@ fn with_three_files<R: Wait>(rt: &R, alloc: Global) -> Result<(Locked, Pass), Fa
     ensures { IfOk result (λ made. made.1.lock ≡ made.0) }
 {
     let mut book = open(alloc, 600_000, 0, 1)?;
-    book.apply(0, Call::Tick { now: 1000 }).map_err(|_| Fail::new("no memory"))?;
+    book.apply(0, Call::Tick { now: 1000 })
+        .map_err(|_| Fail::new("no memory"))?;
     book.apply(0, ack(alloc, 1000, 1, &[1, 2, 3])?)
         .map_err(|_| Fail::new("no memory"))?;
-    book.apply(0, Call::Tick { now: 2000 }).map_err(|_| Fail::new("no memory"))?;
+    book.apply(0, Call::Tick { now: 2000 })
+        .map_err(|_| Fail::new("no memory"))?;
     book.apply(0, ack(alloc, 2000, 2, &[4])?)
         .map_err(|_| Fail::new("no memory"))?;
     let (lock, pass, _) = two(rt, book)?;
@@ -69,7 +71,10 @@ fn a_round_without_memory_goes_on(rt: HostRuntime) -> Result<(), Fail> {
     let (pass, round) = discard_round(&rt, alloc, &gate, pass, &mut disk, 8);
     assert_eq!(rt; (round.taken, round.deleted, round.failed), (3, 1, 0));
     assert!(rt; round.gone && round.memory);
-    assert_eq!(rt; (round.left.get(0), round.left.get(1)), (Some(FileId(2)), Some(FileId(3))));
+    assert_eq!(rt;
+        (round.left.get(0), round.left.get(1)),
+        (Some(FileId(2)), Some(FileId(3)))
+    );
     assert_eq!(rt; round.left.len(), 2);
     let (pass, round) = resume_round(&rt, &gate, pass, &mut disk, round.left, round.gone);
     assert_eq!(rt; (round.taken, round.deleted, round.failed), (2, 2, 0));

@@ -12,7 +12,8 @@ use std::test::Fail;
 /// A job of three subtasks whose first checkpoint is pending.
 fn pending(alloc: Global) -> Result<Book, Fail> {
     let mut book = open(alloc, 600_000, 0, 3)?;
-    book.apply(64, Call::Tick { now: 1000 }).map_err(|_| Fail::new("no memory"))?;
+    book.apply(64, Call::Tick { now: 1000 })
+        .map_err(|_| Fail::new("no memory"))?;
     Ok(book)
 }
 
@@ -33,12 +34,7 @@ fn acks(alloc: Global) -> Result<Vec<Call>, Fail> {
     Ok(calls)
 }
 
-fn completes(
-    rt: &impl Abort,
-    alloc: Global,
-    team: &mut impl Team,
-    threads: u32,
-) -> Result<(), Fail>
+fn completes(rt: &impl Abort, alloc: Global, team: &mut impl Team, threads: u32) -> Result<(), Fail>
     requires { (0 < threads) × (threads ≤ 64) }
 {
     let made = team.make(pending(alloc)?, acks(alloc)?, threads)?;
