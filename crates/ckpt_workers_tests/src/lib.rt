@@ -6,13 +6,9 @@
 #[cfg(test)]
 mod desk;
 #[cfg(test)]
-mod embedding;
-#[cfg(test)]
 mod gates;
 #[cfg(test)]
 mod rounds;
-#[cfg(test)]
-mod spreads;
 #[cfg(test)]
 mod teams;
 #[cfg(test)]
