@@ -17,9 +17,16 @@
 #include <string.h>
 #include <unistd.h>
 
-static long allocations, reads, writes, reads_late, writes_late;
-static int read_over, write_over, is_ready;
-static long refuse_at, refuse_rest, read_most, read_fails, read_error, write_most, write_fails, write_error;
+struct stream {
+    int number;               /* its descriptor */
+    long most, fails, error;  /* as the environment says */
+    long calls, late;
+    int is_over;
+};
+
+static struct stream input = {.number = STDIN_FILENO}, output = {.number = STDOUT_FILENO};
+static long allocations, refuse_at, refuse_rest;
+static int is_ready;
 
 extern void *__libc_malloc(size_t);
 extern void *__libc_calloc(size_t, size_t);
@@ -34,12 +41,12 @@ static long number(const char *name) {
 __attribute__((constructor)) static void begin(void) {
     refuse_at = number("REFUSE_AT");
     refuse_rest = number("REFUSE_REST");
-    read_most = number("READ_MOST");
-    read_fails = number("READ_FAILS");
-    read_error = number("READ_ERROR");
-    write_most = number("WRITE_MOST");
-    write_fails = number("WRITE_FAILS");
-    write_error = number("WRITE_ERROR");
+    input.most = number("READ_MOST");
+    input.fails = number("READ_FAILS");
+    input.error = number("READ_ERROR");
+    output.most = number("WRITE_MOST");
+    output.fails = number("WRITE_FAILS");
+    output.error = number("WRITE_ERROR");
     is_ready = 1;
 }
 
@@ -49,7 +56,7 @@ __attribute__((destructor)) static void end(void) {
     is_ready = 0;
     if (file) {
         int at = open(file, O_WRONLY | O_CREAT | O_TRUNC, 0600);
-        int size = snprintf(text, sizeof text, "%ld %ld %ld %ld %ld\n", allocations, reads, writes, reads_late, writes_late);
+        int size = snprintf(text, sizeof text, "%ld %ld %ld %ld %ld\n", allocations, input.calls, output.calls, input.late, output.late);
         ssize_t (*to)(int, const void *, size_t) = dlsym(RTLD_NEXT, "write");
         if (at >= 0 && to(at, text, (size_t)size) != size) {
             abort();
@@ -83,26 +90,35 @@ int posix_memalign(void **made, size_t by, size_t size) {
     return *made ? 0 : ENOMEM;
 }
 
+/* Counts a call, and tells whether it is the one that fails. */
+static int is_failing(struct stream *stream) {
+    stream->calls += 1;
+    stream->late += stream->is_over;
+    if (stream->calls != stream->fails) {
+        return 0;
+    }
+    stream->is_over = 1;
+    errno = (int)stream->error;
+    return 1;
+}
+
+static size_t piece(const struct stream *stream, size_t size) {
+    return stream->most > 0 && size > (size_t)stream->most ? (size_t)stream->most : size;
+}
+
 ssize_t read(int from, void *bytes, size_t size) {
     static ssize_t (*next)(int, void *, size_t);
     if (!next) {
         next = dlsym(RTLD_NEXT, "read");
     }
-    if (from != 0) {
+    if (from != input.number) {
         return next(from, bytes, size);
     }
-    reads += 1;
-    reads_late += read_over;
-    if (reads == read_fails) {
-        read_over = 1;
-        errno = (int)read_error;
+    if (is_failing(&input)) {
         return -1;
     }
-    if (read_most > 0 && size > (size_t)read_most) {
-        size = (size_t)read_most;
-    }
-    ssize_t count = next(from, bytes, size);
-    read_over |= count <= 0;
+    ssize_t count = next(from, bytes, piece(&input, size));
+    input.is_over |= count <= 0;
     return count;
 }
 
@@ -111,18 +127,11 @@ ssize_t write(int to, const void *bytes, size_t size) {
     if (!next) {
         next = dlsym(RTLD_NEXT, "write");
     }
-    if (to != 1) {
+    if (to != output.number) {
         return next(to, bytes, size);
     }
-    writes += 1;
-    writes_late += write_over;
-    if (writes == write_fails) {
-        write_over = 1;
-        errno = (int)write_error;
-        return write_error ? -1 : 0;
+    if (is_failing(&output)) {
+        return output.error ? -1 : 0;
     }
-    if (write_most > 0 && size > (size_t)write_most) {
-        size = (size_t)write_most;
-    }
-    return next(to, bytes, size);
+    return next(to, bytes, piece(&output, size));
 }
