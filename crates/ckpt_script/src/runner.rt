@@ -16,7 +16,7 @@ use crate::source::Source;
 use crate::streams::{CountedReader, CountedWriter};
 use crate::summary::Summary;
 use ckpt_lines::{LineFault, laws, parse_line};
-use ckpt_session::Session;
+use ckpt_session::{Secret, Session};
 use ckpt_workers::Team;
 use std::alloc::{AllocError, Global};
 use std::io::{Read, Write};
@@ -104,8 +104,8 @@ impl Runner {
         Ok(true)
     }
 
-    /// Nothing has been read yet.
-    fn new(alloc: Global) -> Result<Runner, AllocError>
+    /// Nothing has been read yet. The secret keys the maps.
+    fn new(alloc: Global, secret: Secret) -> Result<Runner, AllocError>
         ensures ahead { IfOk result (λ run. run.ahead ≡ record { bytes = []; is_ended = false; reads_left = 2 ^ 32 }) }
         ensures scene { IfOk result (λ run. run.session ≡ opening_scene) }
         ensures printed { IfOk result (λ run. run.printed ≡ []) }
@@ -115,7 +115,7 @@ impl Runner {
             alloc,
             ahead: Ahead::new(alloc)?,
             line: Vec::new(alloc),
-            session: Session::new(alloc),
+            session: Session::keyed(alloc, secret),
             printed: Printed::new(alloc)?,
             summary: Summary {
                 lines: 0,
@@ -204,7 +204,29 @@ pub fn run_between<S: Source, K: Sink, T: Team>(
     ensures same_source { S.device source.new ≡ S.device source.old }
     ensures same_sink { K.device sink.new ≡ K.device sink.old }
 {
-    let mut runner = Runner::new(alloc)?;
+    run_between_keyed(alloc, Secret::fixed(), source, sink, team)
+}
+
+/// As [`run_between`], and the secret keys the maps of files: no choice of file numbers makes a line
+/// slow. It changes nothing that is written or answered.
+pub fn run_between_keyed<S: Source, K: Sink, T: Team>(
+    alloc: Global,
+    secret: Secret,
+    source: &mut S,
+    sink: &mut K,
+    team: &mut T,
+) -> Result<Summary, RunFault>
+    requires source { S.asked source.old ≡ never_asked }
+    requires sink { K.failures sink.old ≡ 0 }
+    ensures ran { Ran (S.remaining source.old) (S.remaining source.new) (K.contents sink.old) (K.contents sink.new) result }
+    ensures summary { IfOk result (λ summary. (summary.faults ≤ summary.lines) × (summary.lines ≤ most_lines)) }
+    ensures read { OnOk result (IsReadThrough (S.asked source.new)) }
+    ensures written { OnOk result (K.failures sink.new ≡ 0) }
+    ensures cause { IfErr result (IsCaused (S.asked source.new) (K.failures sink.new)) }
+    ensures same_source { S.device source.new ≡ S.device source.old }
+    ensures same_sink { K.device sink.new ≡ K.device sink.old }
+{
+    let mut runner = Runner::new(alloc, secret)?;
     match runner.obey_all(source, sink, team) {
         Ok(()) => {
             runner.printed.flush(sink)?;
@@ -227,9 +249,25 @@ pub fn run_between<S: Source, K: Sink, T: Team>(
 ///
 /// The team makes the calls of an `all` line. What is written is the same for every team.
 ///
-/// `docs/SCRIPT.md` of the repository says what a script is, and what its lines print.
+/// `docs/SCRIPT.md` of the repository says what a script is, and what its lines print. Where somebody
+/// else writes the script, take [`run_keyed`].
 pub fn run<R: Read, W: Write, T: Team>(
     alloc: Global,
+    reader: &mut R,
+    writer: &mut W,
+    team: &mut T,
+) -> Result<Summary, RunFault>
+    ensures ran { Ran (R.remaining reader.old) (R.remaining reader.new) (W.contents writer.old) (W.contents writer.new) result }
+    ensures summary { IfOk result (λ summary. (summary.faults ≤ summary.lines) × (summary.lines ≤ most_lines)) }
+{
+    run_keyed(alloc, Secret::fixed(), reader, writer, team)
+}
+
+/// As [`run`], and the secret keys the maps of files: no choice of file numbers makes a line slow. It
+/// changes nothing that is written or answered.
+pub fn run_keyed<R: Read, W: Write, T: Team>(
+    alloc: Global,
+    secret: Secret,
     reader: &mut R,
     writer: &mut W,
     team: &mut T,
@@ -247,7 +285,7 @@ pub fn run<R: Read, W: Write, T: Team>(
         writer,
         failures: 0,
     };
-    let result = run_between(alloc, &mut source, &mut sink, team);
+    let result = run_between_keyed(alloc, secret, &mut source, &mut sink, team);
     // No effect at run time. The proof reads what the streams hold from these uses.
     let _ = &*source.reader;
     let _ = &*sink.writer;
