@@ -1,4 +1,4 @@
-/* Stands between a program and the C library, to make memory and streams fail as the environment says. It is loaded
+/* Stands between a program and the C library, to make memory, streams and random numbers fail as the environment says. It is loaded
    with LD_PRELOAD, by the tests beside it.
 
    REFUSE_AT=N      the Nth allocation is refused; with REFUSE_REST=1 all after it too
@@ -6,6 +6,7 @@
    READ_FAILS=N     the Nth read of standard input fails, with the error READ_ERROR (a number); the next would succeed
    WRITE_MOST=N     a write to standard output takes N bytes at most
    WRITE_FAILS=N    the Nth write to standard output fails, with the error WRITE_ERROR; where that is 0 it takes nothing
+   RANDOM_ZEROS=1   the system's random bytes are all 0; with RANDOM_FAILS=1 it gives none
    COUNTS=FILE      at the end, the file gets how many allocations were asked for, how many reads and writes there
                     were, and how many of them came after the one that failed or that told the end of the input */
 #define _GNU_SOURCE
@@ -25,7 +26,7 @@ struct stream {
 };
 
 static struct stream input = {.number = STDIN_FILENO}, output = {.number = STDOUT_FILENO};
-static long allocations, refuse_at, refuse_rest;
+static long allocations, refuse_at, refuse_rest, random_zeros, random_fails;
 static int is_ready;
 
 extern void *__libc_malloc(size_t);
@@ -41,6 +42,8 @@ static long number(const char *name) {
 __attribute__((constructor)) static void begin(void) {
     refuse_at = number("REFUSE_AT");
     refuse_rest = number("REFUSE_REST");
+    random_zeros = number("RANDOM_ZEROS");
+    random_fails = number("RANDOM_FAILS");
     input.most = number("READ_MOST");
     input.fails = number("READ_FAILS");
     input.error = number("READ_ERROR");
@@ -134,4 +137,20 @@ ssize_t write(int to, const void *bytes, size_t size) {
         return output.error ? -1 : 0;
     }
     return next(to, bytes, piece(&output, size));
+}
+
+int getentropy(void *bytes, size_t size) {
+    static int (*next)(void *, size_t);
+    if (!next) {
+        next = dlsym(RTLD_NEXT, "getentropy");
+    }
+    if (random_fails) {
+        errno = EIO;
+        return -1;
+    }
+    if (random_zeros) {
+        memset(bytes, 0, size);
+        return 0;
+    }
+    return next(bytes, size);
 }

@@ -16,10 +16,9 @@ def program():
     return os.path.abspath(path)
 
 
-def devices(folder):
-    """Builds devices.c, and returns the shared object, or nothing where there is no C compiler."""
-    made = f"{folder}/devices.so"
-    words = ["cc", "-O2", "-shared", "-fPIC", "-o", made, f"{TOP}/tests/devices.c", "-ldl"]
+def built(source, made, *words):
+    """Builds a C file of this folder, and returns what is made, or nothing where there is no C compiler."""
+    words = ["cc", "-O2", "-o", made, f"{TOP}/tests/{source}", *words]
     try:
         return made if subprocess.run(words).returncode == 0 else None
     except FileNotFoundError:
@@ -54,7 +53,7 @@ class Tests:
         self.name, self.passed, self.failed = name, 0, 0
         self.program = program()
         self.folder = tempfile.TemporaryDirectory()
-        self.devices = devices(self.folder.name)
+        self.devices = built("devices.c", f"{self.folder.name}/devices.so", "-shared", "-fPIC", "-ldl")
 
     def run(self, script, **given):
         """Runs a script, with what devices.c is to do, and returns the run and the counts."""

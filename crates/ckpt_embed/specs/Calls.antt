@@ -1,8 +1,11 @@
 -- What a call through a handle leaves and answers.
 use Rattle.std.specs.Prelude.{◌≡◌, ◌≢◌, ℕ, true, false, ◌==◌, if◌then◌else◌, List, [], ◌∷◌, Option, Some, None}
+use Rattle.ckpt_ids.specs.declared.subtask.SubtaskId.{SubtaskId}
 use Rattle.ckpt_ids.specs.declared.call.Call.{Call}
+use Rattle.ckpt_ids.specs.declared.call.Call.TheVariants as call
 use Rattle.ckpt_ids.specs.declared.call.Target.{Target}
 use Rattle.ckpt_ids.specs.declared.call.Target.TheVariants.{Latest, Savepoint}
+use Rattle.ckpt_ids.specs.Ascending.{ascending}
 use Rattle.ckpt_ids.specs.Shapes.{is_shape}
 use Rattle.ckpt_core.specs.Memory.{may_want_memory}
 use Rattle.ckpt_core.specs.State.{State}
@@ -18,6 +21,10 @@ StaysClosed old new answer = old ≡ None → (answer ≡ is_closed) × (new ≡
 abbrev pub IsAnswered : Option State → Option State → Call → Answer → Type 0
 IsAnswered old new call answer =
     (m : State) → old ≡ Some m → answer.code ≢ no_memory → (new ≡ Some (step m call).0) × (answer ≡ told (step m call).1)
+
+-- a step that a core has made, and tells
+abbrev pub IsStepTold : State → State → Call → Answer → Type 0
+IsStepTold old new call answer = answer.code ≢ no_memory → (new ≡ (step old call).0) × (answer ≡ told (step old call).1)
 
 -- want of memory is told of no other calls
 abbrev pub WantsMemory : Option State → Call → Answer → Type 0
@@ -42,3 +49,11 @@ shape_of (n ∷ ns) = Some (n ∷ ns)
 
 abbrev pub IsBadShape : List ℕ → Type 0
 IsBadShape list = (list ≢ []) × (is_shape list ≡ false)
+
+-- what a restore asks for
+abbrev pub restore_of : ℕ → ℕ → List ℕ → Call
+restore_of now savepoint shape = call.Restore now (target_of savepoint) (shape_of shape)
+
+-- what an acknowledgement asks for, in whatever order its files stand
+abbrev pub ack_of : ℕ → ℕ → SubtaskId → List ℕ → List ℕ → Call
+ack_of now id subtask fresh reused = call.Ack now id subtask (ascending fresh) (ascending reused)

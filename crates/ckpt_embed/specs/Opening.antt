@@ -5,9 +5,10 @@ use Rattle.ckpt_ids.specs.Shapes.{is_shape}
 use Rattle.ckpt_core.specs.declared.coordinator.OpenFault.{OpenFault}
 use Rattle.ckpt_core.specs.declared.coordinator.OpenFault.TheVariants.{MomentTooLarge, BadFirst}
 use Rattle.ckpt_core.specs.Opening.{open_fault}
+use Rattle.ckpt_core.specs.State.{State, Opening, opened}
 use Rattle.ckpt_embed.specs.declared.answer.Answer.{Answer}
 use Rattle.ckpt_embed.specs.declared.opening.Settings.{Settings}
-use Rattle.ckpt_embed.specs.Told.{bad_config, bad_shape, bad_moment, bad_first, bad_argument, no_memory}
+use Rattle.ckpt_embed.specs.Told.{bad_config, bad_shape, bad_moment, bad_first, bad_argument, already_open, done, no_memory}
 
 abbrev pub configuration_of : Settings → Configuration
 configuration_of s = record { interval = s.interval; pause = s.pause; at_once = s.at_once; timeout = s.timeout; tolerable = s.tolerable; retained = s.retained; keep_on_cancel = s.keep_on_cancel }
@@ -17,14 +18,35 @@ fault_number None = None
 fault_number (Some MomentTooLarge) = Some bad_moment
 fault_number (Some BadFirst) = Some bad_first
 
+-- the opening that the arguments ask for
+abbrev pub opening_of : Settings → List ℕ → ℕ → ℕ → Opening
+opening_of s shape now first = record { config = configuration_of s; shape = shape; start = now; first = first }
+
 -- the first argument that is outside its limits
-abbrev pub bad_opening : Configuration → List ℕ → ℕ → ℕ → Option ℕ
-bad_opening config shape now first =
-    if not (is_within_limits config) then Some bad_config
-    else if not (is_shape shape) then Some bad_shape
-    else fault_number (open_fault now first)
+abbrev pub bad_opening : Opening → Option ℕ
+bad_opening o =
+    if not (is_within_limits o.config) then Some bad_config
+    else if not (is_shape o.shape) then Some bad_shape
+    else fault_number (open_fault o.start o.first)
 
 -- the argument that is bad, unless memory ran out
-abbrev pub IsWhyNot : Configuration → List ℕ → ℕ → ℕ → Answer → Type 0
-IsWhyNot config shape now first answer =
-    answer.code ≢ no_memory → (bad_opening config shape now first ≡ Some answer.what) × (answer ≡ bad_argument answer.what)
+abbrev pub IsWhyNot : Opening → Answer → Type 0
+IsWhyNot o answer = answer.code ≢ no_memory → (bad_opening o ≡ Some answer.what) × (answer ≡ bad_argument answer.what)
+
+-- the coordinator of this opening, of which no argument is bad
+abbrev pub IsOpening : Opening → State → Type 0
+IsOpening o m = (bad_opening o ≡ None) × (m ≡ opened o)
+
+-- a handle that is open stays as it is, and says so
+abbrev pub StaysOpen : Option State → Option State → Answer → Type 0
+StaysOpen old new answer = (m : State) → old ≡ Some m → (answer ≡ bad_argument already_open) × (new ≡ Some m)
+
+-- a closed handle says which argument is bad, and stays closed
+abbrev pub IsNotOpened : Option State → Option State → Opening → Answer → Type 0
+IsNotOpened old new o answer =
+    (what : ℕ) → old ≡ None → answer.code ≢ no_memory → bad_opening o ≡ Some what → (answer ≡ bad_argument what) × (new ≡ None)
+
+-- a closed handle is opened where no argument is bad
+abbrev pub IsOpened : Option State → Option State → Opening → Answer → Type 0
+IsOpened old new o answer =
+    old ≡ None → answer.code ≢ no_memory → bad_opening o ≡ None → (answer ≡ done 0 0 0) × (new ≡ Some (opened o))

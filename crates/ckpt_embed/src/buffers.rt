@@ -1,13 +1,11 @@
-ghost use Rattle.std.specs.Prelude.{◌≡◌, ◌≢◌, ◌≤◌, ◌<◌, length, take, drop, string_bytes, Some};
+ghost use Rattle.std.specs.Prelude.{◌≡◌, ◌≢◌, ◌≤◌, length, Some};
 ghost use Rattle.ckpt_ids.specs.declared.call.Call.TheVariants as call;
-ghost use Rattle.ckpt_ids.specs.declared.reply.Refusal.{Refusal};
-ghost use Rattle.ckpt_core.specs.Refusals.{refusal};
 ghost use Rattle.ckpt_core.specs.State.{State};
 ghost use Rattle.ckpt_core.specs.Steps.{step};
 ghost use Rattle.ckpt_texts.specs.MetadataTexts.{metadata_bytes};
-ghost use Rattle.ckpt_embed.specs.Buffers.{StandsInFront, files_in, files_of_reply, json_in, json_of_reply, show_told, show_reply_told};
-ghost use Rattle.ckpt_embed.specs.Calls.{StaysClosed, IsAnswered, StaysAsItWas};
-ghost use Rattle.ckpt_embed.specs.Told.{done, no_memory, refusal_told, reply_told, told, too_short};
+ghost use Rattle.ckpt_embed.specs.Buffers.{BringsFiles, BringsJson, IsShowRefused, IsWritten, NeedsPlaces, StandsInFront, files_of_reply, json_in, json_of_reply, show_reply_told};
+ghost use Rattle.ckpt_embed.specs.Calls.{StaysClosed, IsAnswered, IsStepTold, StaysAsItWas};
+ghost use Rattle.ckpt_embed.specs.Told.{done, no_memory, reply_told};
 
 use crate::answer::Answer;
 use crate::calls::of_fault;
@@ -22,7 +20,7 @@ use std::alloc::Global;
 pub fn take(alloc: Global, handle: &mut Handle, files: &mut [u64]) -> Answer
     ensures closed { StaysClosed handle.old.value handle.new.value result }
     ensures answered { IsAnswered handle.old.value handle.new.value (call.Take (length files.old)) result }
-    ensures front { (m : State) → handle.old.value ≡ Some m → result.code ≢ no_memory → StandsInFront (files_in (step m (call.Take (length files.old))).1) files.old files.new }
+    ensures front { (m : State) → handle.old.value ≡ Some m → BringsFiles m files.old files.new result }
     ensures kept { result.code ≡ no_memory → files.new ≡ files.old }
     ensures unchanged { StaysAsItWas handle.old.value handle.new.value result }
 {
@@ -39,9 +37,9 @@ pub fn take(alloc: Global, handle: &mut Handle, files: &mut [u64]) -> Answer
 /// Where the buffer is too short, it says how many bytes the metadata has: ask again.
 pub fn show(alloc: Global, handle: &mut Handle, id: u64, json: &mut [u8]) -> Answer
     ensures closed { StaysClosed handle.old.value handle.new.value result }
-    ensures answered { (m : State) → handle.old.value ≡ Some m → result.code ≡ 0 → (result ≡ show_told (step m (call.Show id)).1) × StandsInFront (json_in (step m (call.Show id)).1) json.old json.new }
-    ensures refused { (m : State) (why : Refusal) → handle.old.value ≡ Some m → refusal m (call.Show id) ≡ Some why → result ≡ refusal_told why }
-    ensures too_short { (m : State) → handle.old.value ≡ Some m → result.code ≡ 5 → (result ≡ too_short (length (json_in (step m (call.Show id)).1))) × (length json.old < result.a) }
+    ensures answered { (m : State) → handle.old.value ≡ Some m → BringsJson m id json.old json.new result }
+    ensures refused { (m : State) → handle.old.value ≡ Some m → IsShowRefused m id result }
+    ensures too_short { (m : State) → handle.old.value ≡ Some m → NeedsPlaces (json_in (step m (call.Show id)).1) json.old result }
     ensures kept { result.code ≢ 0 → json.new ≡ json.old }
     ensures unchanged { handle.new.value ≡ handle.old.value }
 {
@@ -54,8 +52,8 @@ pub fn show(alloc: Global, handle: &mut Handle, id: u64, json: &mut [u8]) -> Ans
 }
 
 fn take_from(core: &mut Core, files: &mut [u64]) -> Answer
-    ensures answered { result.code ≢ no_memory → (core.new ≡ (step core.old (call.Take (length files.old))).0) × (result ≡ told (step core.old (call.Take (length files.old))).1) }
-    ensures front { result.code ≢ no_memory → StandsInFront (files_in (step core.old (call.Take (length files.old))).1) files.old files.new }
+    ensures answered { IsStepTold core.old core.new (call.Take (length files.old)) result }
+    ensures front { BringsFiles core.old files.old files.new result }
     ensures kept { result.code ≡ no_memory → files.new ≡ files.old }
     ensures unchanged { result.code ≡ no_memory → core.new ≡ core.old }
 {
@@ -88,9 +86,9 @@ fn write_files(taken: &Handed, files: &mut [u64])
 }
 
 fn show_from(alloc: Global, core: &mut Core, id: u64, json: &mut [u8]) -> Answer
-    ensures answered { result.code ≡ 0 → (result ≡ show_told (step core.old (call.Show id)).1) × StandsInFront (json_in (step core.old (call.Show id)).1) json.old json.new }
-    ensures refused { (why : Refusal) → refusal core.old (call.Show id) ≡ Some why → result ≡ refusal_told why }
-    ensures too_short { result.code ≡ 5 → (result ≡ too_short (length (json_in (step core.old (call.Show id)).1))) × (length json.old < result.a) }
+    ensures answered { BringsJson core.old id json.old json.new result }
+    ensures refused { IsShowRefused core.old id result }
+    ensures too_short { NeedsPlaces (json_in (step core.old (call.Show id)).1) json.old result }
     ensures kept { result.code ≢ 0 → json.new ≡ json.old }
     ensures unchanged { core.new ≡ core.old }
 {
@@ -104,8 +102,8 @@ fn show_from(alloc: Global, core: &mut Core, id: u64, json: &mut [u8]) -> Answer
 
 /// Tells a reply, and writes its metadata to the front of the buffer, where it is long enough.
 fn with_json(alloc: Global, reply: &Reply, json: &mut [u8]) -> Answer
-    ensures written { result.code ≡ 0 → (result ≡ show_reply_told reply.now) × StandsInFront (json_of_reply reply.now) json.old json.new }
-    ensures too_short { result.code ≡ 5 → (result ≡ too_short (length (json_of_reply reply.now))) × (length json.old < result.a) }
+    ensures written { IsWritten (json_of_reply reply.now) (show_reply_told reply.now) json.old json.new result }
+    ensures too_short { NeedsPlaces (json_of_reply reply.now) json.old result }
     ensures kept { result.code ≢ 0 → json.new ≡ json.old }
 {
     match reply {
@@ -115,8 +113,8 @@ fn with_json(alloc: Global, reply: &Reply, json: &mut [u8]) -> Answer
 }
 
 fn write_json(alloc: Global, metadata: &Metadata, json: &mut [u8]) -> Answer
-    ensures written { result.code ≡ 0 → (result ≡ done 21 (length (metadata_bytes metadata.now)) 0) × StandsInFront (metadata_bytes metadata.now) json.old json.new }
-    ensures too_short { result.code ≡ 5 → (result ≡ too_short (length (metadata_bytes metadata.now))) × (length json.old < result.a) }
+    ensures written { IsWritten (metadata_bytes metadata.now) (done 21 (length (metadata_bytes metadata.now)) 0) json.old json.new result }
+    ensures too_short { NeedsPlaces (metadata_bytes metadata.now) json.old result }
     ensures kept { result.code ≢ 0 → json.new ≡ json.old }
 {
     let Ok(text) = metadata_text(alloc, metadata) else {

@@ -1,10 +1,8 @@
 ghost use Rattle.std.specs.Prelude.{◌≡◌, ◌≢◌, true, None, Some, Err, IfOk, ◌↔◌};
-ghost use Rattle.ckpt_ids.specs.declared.call.Call.TheVariants as call;
 ghost use Rattle.ckpt_ids.specs.Ascending.{ascending};
 ghost use Rattle.ckpt_core.specs.Memory.{may_want_memory};
-ghost use Rattle.ckpt_core.specs.Steps.{step};
-ghost use Rattle.ckpt_embed.specs.Calls.{StaysClosed, IsAnswered, WantsMemory, StaysAsItWas, IsRefusedAs, IsBadShape, shape_of, target_of};
-ghost use Rattle.ckpt_embed.specs.Told.{bad_shape, fault_told, no_memory, told};
+ghost use Rattle.ckpt_embed.specs.Calls.{StaysClosed, IsAnswered, WantsMemory, StaysAsItWas, IsRefusedAs, IsBadShape, IsStepTold, ack_of, restore_of, target_of};
+ghost use Rattle.ckpt_embed.specs.Told.{bad_shape, fault_told, no_memory};
 
 use crate::answer::Answer;
 use crate::handle::Handle;
@@ -46,7 +44,7 @@ pub fn ack(
     reused: &[u64],
 ) -> Answer
     ensures closed { StaysClosed handle.old.value handle.new.value result }
-    ensures answered { IsAnswered handle.old.value handle.new.value (call.Ack now id subtask (ascending fresh.now) (ascending reused.now)) result }
+    ensures answered { IsAnswered handle.old.value handle.new.value (ack_of now id subtask fresh.now reused.now) result }
     ensures unchanged { StaysAsItWas handle.old.value handle.new.value result }
 {
     let Some(mut core) = handle.take(alloc) else {
@@ -73,7 +71,7 @@ pub fn restore(
 ) -> Answer
     ensures closed { StaysClosed handle.old.value handle.new.value result }
     ensures bad_shape { IsBadShape shape.now → IsRefusedAs handle.old.value handle.new.value bad_shape result }
-    ensures answered { (IsBadShape shape.now → ⊥) → IsAnswered handle.old.value handle.new.value (call.Restore now (target_of savepoint) (shape_of shape.now)) result }
+    ensures answered { (IsBadShape shape.now → ⊥) → IsAnswered handle.old.value handle.new.value (restore_of now savepoint shape.now) result }
     ensures unchanged { StaysAsItWas handle.old.value handle.new.value result }
 {
     let Some(mut core) = handle.take(alloc) else {
@@ -90,7 +88,7 @@ pub fn restore(
 
 /// Makes a call and tells its answer.
 fn answer(core: &mut Core, call: &Call) -> Answer
-    ensures answered { result.code ≢ no_memory → (core.new ≡ (step core.old call.now).0) × (result ≡ told (step core.old call.now).1) }
+    ensures answered { IsStepTold core.old core.new call.now result }
     ensures memory { result.code ≡ no_memory → may_want_memory core.old call.now ≡ true }
     ensures unchanged { result.code ≡ no_memory → core.new ≡ core.old }
 {
@@ -118,7 +116,7 @@ fn ack_of(
     fresh: &[u64],
     reused: &[u64],
 ) -> Result<Call, AllocError>
-    ensures { IfOk result (λ made. made ≡ call.Ack now id subtask (ascending fresh.now) (ascending reused.now)) }
+    ensures { IfOk result (λ made. made ≡ ack_of now id subtask fresh.now reused.now) }
 {
     Ok(Call::Ack {
         now,
@@ -131,7 +129,7 @@ fn ack_of(
 
 fn restore_of(alloc: Global, now: u64, savepoint: u64, shape: &[u64]) -> Result<Call, ShapeFault>
     ensures bad { (result ≡ Err ShapeFault.BadShape) ↔ IsBadShape shape.now }
-    ensures value { IfOk result (λ made. made ≡ call.Restore now (target_of savepoint) (shape_of shape.now)) }
+    ensures value { IfOk result (λ made. made ≡ restore_of now savepoint shape.now) }
 {
     let target = target_of(savepoint);
     let shape = if shape.is_empty() {

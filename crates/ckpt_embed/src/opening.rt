@@ -1,7 +1,6 @@
-ghost use Rattle.std.specs.Prelude.{◌≡◌, ℕ, ◌≢◌, None, Some, IfOk, IfErr};
-ghost use Rattle.ckpt_core.specs.State.{State, opened};
-ghost use Rattle.ckpt_embed.specs.Opening.{configuration_of, bad_opening, IsWhyNot};
-ghost use Rattle.ckpt_embed.specs.Told.{already_open, bad_argument, done, no_memory};
+ghost use Rattle.std.specs.Prelude.{◌≡◌, None, IfOk, IfErr};
+ghost use Rattle.ckpt_embed.specs.Calls.{StaysAsItWas};
+ghost use Rattle.ckpt_embed.specs.Opening.{opening_of, IsNotOpened, IsOpened, IsOpening, IsWhyNot, StaysOpen};
 
 use crate::answer::Answer;
 use crate::calls::BAD_SHAPE;
@@ -53,10 +52,10 @@ pub fn open(
     first: u64,
     secret: Secret,
 ) -> Answer
-    ensures open { (m : State) → handle.old.value ≡ Some m → (result ≡ bad_argument already_open) × (handle.new.value ≡ Some m) }
-    ensures refused { (what : ℕ) → handle.old.value ≡ None → result.code ≢ no_memory → bad_opening (configuration_of settings.now) shape.now now first ≡ Some what → (result ≡ bad_argument what) × (handle.new.value ≡ None) }
-    ensures opened { handle.old.value ≡ None → result.code ≢ no_memory → bad_opening (configuration_of settings.now) shape.now now first ≡ None → (result ≡ done 0 0 0) × (handle.new.value ≡ Some (opened (record { config = configuration_of settings.now; shape = shape.now; start = now; first = first }))) }
-    ensures unchanged { result.code ≡ no_memory → handle.new.value ≡ handle.old.value }
+    ensures open { StaysOpen handle.old.value handle.new.value result }
+    ensures refused { IsNotOpened handle.old.value handle.new.value (opening_of settings.now shape.now now first) result }
+    ensures opened { IsOpened handle.old.value handle.new.value (opening_of settings.now shape.now now first) result }
+    ensures unchanged { StaysAsItWas handle.old.value handle.new.value result }
 {
     if let Some(core) = handle.take(alloc) {
         handle.put(alloc, core);
@@ -86,8 +85,8 @@ fn core_of(
     first: u64,
     secret: Secret,
 ) -> Result<Box<Core>, Answer>
-    ensures value { IfOk result (λ core. (bad_opening (configuration_of settings.now) shape.now now first ≡ None) × (core.value ≡ opened (record { config = configuration_of settings.now; shape = shape.now; start = now; first = first }))) }
-    ensures fault { IfErr result (IsWhyNot (configuration_of settings.now) shape.now now first) }
+    ensures value { IfOk result (λ core. IsOpening (opening_of settings.now shape.now now first) core.value) }
+    ensures fault { IfErr result (IsWhyNot (opening_of settings.now shape.now now first)) }
 {
     let Ok(config) = Config::new(
         settings.interval,

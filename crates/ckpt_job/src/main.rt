@@ -5,9 +5,11 @@
 //! of the script, and then standard error says why.
 #![tactic(auto)]
 
-use ckpt_script::run;
+use ckpt_script::{RunFault, Secret, run_keyed};
 use ckpt_workers::InOrder;
+use std::io;
 use std::process::ExitCode;
+use std::random::RandomSource;
 
 /// The run ended before the end of the script.
 const CUT: u8 = 2;
@@ -15,7 +17,17 @@ const CUT: u8 = 2;
 fn main(rt: HostRuntime) -> ExitCode {
     let mut reader = rt.stdin();
     let mut writer = rt.stdout();
-    match run(rt.alloc(), &mut reader, &mut writer, &mut InOrder) {
+    let result = match secret(&rt) {
+        Ok(secret) => run_keyed(
+            rt.alloc(),
+            secret,
+            &mut reader,
+            &mut writer,
+            &mut InOrder,
+        ),
+        Err(_) => Err(RunFault::Read),
+    };
+    match result {
         Ok(summary) => ExitCode::from(u8::from(summary.faults > 0)),
         Err(fault) => {
             // Where standard error fails too, the status alone tells.
@@ -23,4 +35,16 @@ fn main(rt: HostRuntime) -> ExitCode {
             ExitCode::from(CUT)
         }
     }
+}
+
+/// A secret that whoever writes the script can't know, so no choice of file numbers makes a line
+/// slow. Fails where the system gives no random numbers.
+fn secret(rt: &impl RandomSource) -> io::Result<Secret> {
+    Ok(Secret::of(word(rt)?, word(rt)?))
+}
+
+fn word(rt: &impl RandomSource) -> io::Result<u64> {
+    let mut bytes = [0; 8];
+    rt.fill_bytes(&mut bytes)?;
+    Ok(u64::from_le_bytes(bytes))
 }

@@ -2,5 +2,7 @@ pub mod Devices
 pub mod Known
 pub mod Lines
 pub mod Outputs
+pub mod Reads
+pub mod Runs
 pub mod Telling
 pub mod Unread

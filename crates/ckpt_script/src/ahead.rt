@@ -1,8 +1,9 @@
 ghost use Rattle.std.specs.Prelude.{◌≡◌, ◌+◌, ◌^◌, ◌≢◌, ◌≤◌, ◌∷◌, ◌++◌, ℕ, List, true, false, [], IsTrue, ◌↔◌, IfOk, OnOk, OnErr, IfErr, length, take};
 ghost use Rattle.std.specs.Io.KnownBytes.{Keeps, IsAtEnd, prepend_known};
 ghost use Rattle.ckpt_script.specs.Devices.{IsCounted, IsCaused};
-ghost use Rattle.ckpt_script.specs.Known.{WhereKnown, Passes};
-ghost use Rattle.ckpt_script.specs.Lines.{held, FindsNewline, Moves, HoldsLine, HoldsPart};
+ghost use Rattle.ckpt_script.specs.Known.{Passes};
+ghost use Rattle.ckpt_script.specs.Lines.{held, FindsNewline, Moves};
+ghost use Rattle.ckpt_script.specs.Reads.{ReadsLine, ReadsPart};
 
 use crate::fault::RunFault;
 use crate::printed::Printed;
@@ -149,8 +150,8 @@ impl Ahead {
         requires counted { IsCounted (S.asked source.old) self.old }
         requires going_on { K.failures sink.old ≡ 0 }
         ensures ended { self.new.is_ended ≡ true → IsAtEnd (S.remaining source.new) }
-        ensures line { OnOk result (WhereKnown (prepend_known self.old.bytes (S.remaining source.old)) (prepend_known self.new.bytes (S.remaining source.new)) (λ bytes rest. HoldsLine self.new.is_ended bytes rest line.new.items)) }
-        ensures part { IfErr result (λ why. why ≡ RunFault.Read → WhereKnown (prepend_known self.old.bytes (S.remaining source.old)) (S.remaining source.new) (λ bytes rest. HoldsPart bytes rest line.new.items)) }
+        ensures line { OnOk result (ReadsLine self.old (S.remaining source.old) self.new (S.remaining source.new) line.new.items) }
+        ensures part { IfErr result (λ why. why ≡ RunFault.Read → ReadsPart self.old (S.remaining source.old) (S.remaining source.new) line.new.items) }
         ensures stays { IfErr result (λ why. why ≡ RunFault.Read → self.old.is_ended ≡ false) }
         ensures fault { IfErr result (λ why. why ≢ RunFault.TooManyLines) }
         ensures counted { OnOk result (IsCounted (S.asked source.new) self.new) }

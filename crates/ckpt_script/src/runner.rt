@@ -1,11 +1,12 @@
 ghost use Rattle.std.specs.Prelude.{◌≡◌, ◌≢◌, ◌≤◌, ◌<◌, ◌+◌, ◌^◌, ℕ, take, List, [], Err, Option, true, false, OnOk, OnErr, IfOk, IfErr, is_err, if◌then◌else◌};
-ghost use Rattle.std.specs.Io.KnownBytes.{Appends, IsAtEnd, prepend_known};
+ghost use Rattle.std.specs.Io.KnownBytes.{IsAtEnd};
 ghost use Rattle.ckpt_lines.specs.Reading.{reading};
 ghost use Rattle.ckpt_script.specs.Devices.{Asked, IsCounted, IsCaused, SinkCauses, IsReadThrough, never_asked};
 ghost use Rattle.ckpt_script.specs.Known.{Passes};
 ghost use Rattle.ckpt_script.specs.Outputs.{Ran, most_lines};
-ghost use Rattle.ckpt_session.specs.Sessions.{opening_scene, said};
-ghost use Rattle.ckpt_script.specs.Telling.{IsSoFar, Stopped, keeps_lines};
+ghost use Rattle.ckpt_script.specs.Runs.{said_next, GoesOn, StopsBy, EndsBy};
+ghost use Rattle.ckpt_script.specs.Telling.{keeps_lines};
+ghost use Rattle.ckpt_session.specs.Sessions.{opening_scene};
 
 use crate::ahead::Ahead;
 use crate::fault::RunFault;
@@ -15,7 +16,7 @@ use crate::source::Source;
 use crate::streams::{CountedReader, CountedWriter};
 use crate::summary::Summary;
 use ckpt_lines::{LineFault, laws, parse_line};
-use ckpt_session::Session;
+use ckpt_session::{Secret, Session};
 use ckpt_workers::Team;
 use std::alloc::{AllocError, Global};
 use std::io::{Read, Write};
@@ -43,9 +44,9 @@ impl Runner {
         ensures kept { self.new.ahead ≡ self.old.ahead }
         ensures lines { OnOk result (self.new.summary.lines ≡ self.old.summary.lines + 1) }
         ensures faults { OnOk result (self.new.summary.faults ≡ self.old.summary.faults + (if is_err (reading self.old.line.items) then 1 else 0)) }
-        ensures scene { OnOk result (self.new.session ≡ (said (self.old.summary.lines + 1) self.old.session (reading self.old.line.items)).0) }
-        ensures shown { OnOk result (Passes (K.contents sink.old) (K.contents sink.new) self.old.printed (said (self.old.summary.lines + 1) self.old.session (reading self.old.line.items)).1 self.new.printed) }
-        ensures cut { OnErr result ((left : List ℕ) × Passes (K.contents sink.old) (K.contents sink.new) self.old.printed (said (self.old.summary.lines + 1) self.old.session (reading self.old.line.items)).1 left) }
+        ensures scene { OnOk result (self.new.session ≡ (said_next self.old).0) }
+        ensures shown { OnOk result (Passes (K.contents sink.old) (K.contents sink.new) self.old.printed (said_next self.old).1 self.new.printed) }
+        ensures cut { OnErr result ((left : List ℕ) × Passes (K.contents sink.old) (K.contents sink.new) self.old.printed (said_next self.old).1 left) }
         ensures fault { IfErr result (λ why. (why ≢ RunFault.Read) × (why ≢ RunFault.TooManyLines)) }
         ensures going_on { OnOk result (K.failures sink.new ≡ 0) }
         ensures cause { IfErr result (SinkCauses (K.failures sink.new)) }
@@ -81,12 +82,8 @@ impl Runner {
         ensures faults { OnOk result (self.new.summary.faults ≤ self.new.summary.lines) }
         ensures more { IfOk result (λ more. more ≡ true → self.new.summary.lines ≡ self.old.summary.lines + 1) }
         ensures end { IfOk result (λ more. more ≡ false → (self.new.ahead.bytes ≡ []) × (self.new.ahead.is_ended ≡ true)) }
-        ensures so_far { OnOk result ((text before : Option (List ℕ)) →
-            IsSoFar text (prepend_known self.old.ahead.bytes (S.remaining source.old)) before (K.contents sink.old) self.old.ahead.is_ended self.old.summary self.old.session self.old.printed
-            → IsSoFar text (prepend_known self.new.ahead.bytes (S.remaining source.new)) before (K.contents sink.new) self.new.ahead.is_ended self.new.summary self.new.session self.new.printed) }
-        ensures stopped { IfErr result (λ why. (text before : Option (List ℕ)) →
-            IsSoFar text (prepend_known self.old.ahead.bytes (S.remaining source.old)) before (K.contents sink.old) self.old.ahead.is_ended self.old.summary self.old.session self.old.printed
-            → Stopped text (S.remaining source.new) before (K.contents sink.new) self.new.printed why) }
+        ensures so_far { OnOk result (GoesOn self.old (S.remaining source.old) (K.contents sink.old) self.new (S.remaining source.new) (K.contents sink.new)) }
+        ensures stopped { IfErr result (StopsBy self.old (S.remaining source.old) (K.contents sink.old) self.new (S.remaining source.new) (K.contents sink.new)) }
         ensures counted { OnOk result (IsCounted (S.asked source.new) self.new.ahead) }
         ensures going_on { OnOk result (K.failures sink.new ≡ 0) }
         ensures cause { IfErr result (IsCaused (S.asked source.new) (K.failures sink.new)) }
@@ -107,8 +104,8 @@ impl Runner {
         Ok(true)
     }
 
-    /// Nothing has been read yet.
-    fn new(alloc: Global) -> Result<Runner, AllocError>
+    /// Nothing has been read yet. The secret keys the maps.
+    fn new(alloc: Global, secret: Secret) -> Result<Runner, AllocError>
         ensures ahead { IfOk result (λ run. run.ahead ≡ record { bytes = []; is_ended = false; reads_left = 2 ^ 32 }) }
         ensures scene { IfOk result (λ run. run.session ≡ opening_scene) }
         ensures printed { IfOk result (λ run. run.printed ≡ []) }
@@ -118,7 +115,7 @@ impl Runner {
             alloc,
             ahead: Ahead::new(alloc)?,
             line: Vec::new(alloc),
-            session: Session::new(alloc),
+            session: Session::keyed(alloc, secret),
             printed: Printed::new(alloc)?,
             summary: Summary {
                 lines: 0,
@@ -142,12 +139,8 @@ impl Runner {
         ensures lines { OnOk result (self.new.summary.lines ≤ most_lines) }
         ensures faults { OnOk result (self.new.summary.faults ≤ self.new.summary.lines) }
         ensures end { OnOk result ((self.new.ahead.bytes ≡ []) × IsAtEnd (S.remaining source.new)) }
-        ensures so_far { OnOk result ((text before : Option (List ℕ)) →
-            IsSoFar text (prepend_known self.old.ahead.bytes (S.remaining source.old)) before (K.contents sink.old) self.old.ahead.is_ended self.old.summary self.old.session self.old.printed
-            → IsSoFar text (prepend_known self.new.ahead.bytes (S.remaining source.new)) before (K.contents sink.new) self.new.ahead.is_ended self.new.summary self.new.session self.new.printed) }
-        ensures stopped { IfErr result (λ why. (text before : Option (List ℕ)) →
-            IsSoFar text (prepend_known self.old.ahead.bytes (S.remaining source.old)) before (K.contents sink.old) self.old.ahead.is_ended self.old.summary self.old.session self.old.printed
-            → Stopped text (S.remaining source.new) before (K.contents sink.new) self.new.printed why) }
+        ensures so_far { OnOk result (GoesOn self.old (S.remaining source.old) (K.contents sink.old) self.new (S.remaining source.new) (K.contents sink.new)) }
+        ensures stopped { IfErr result (StopsBy self.old (S.remaining source.old) (K.contents sink.old) self.new (S.remaining source.new) (K.contents sink.new)) }
         ensures read { OnOk result (IsReadThrough (S.asked source.new)) }
         ensures going_on { OnOk result (K.failures sink.new ≡ 0) }
         ensures cause { IfErr result (IsCaused (S.asked source.new) (K.failures sink.new)) }
@@ -166,7 +159,7 @@ impl Runner {
     fn stop<K: Sink>(&mut self, sink: &mut K, fault: RunFault) -> RunFault
         requires cause { SinkCauses (K.failures sink.old) fault }
         ensures cause { (asked : Asked) → IsCaused asked (K.failures sink.old) fault → IsCaused asked (K.failures sink.new) result }
-        ensures ran { (text rest before : Option (List ℕ)) → Stopped text rest before (K.contents sink.old) self.old.printed fault → Ran text rest before (K.contents sink.new) (Err result) }
+        ensures ran { EndsBy (K.contents sink.old) self.old.printed fault (K.contents sink.new) result }
         ensures same_sink { K.device sink.new ≡ K.device sink.old }
     {
         if !keeps_lines(fault) {
@@ -211,7 +204,29 @@ pub fn run_between<S: Source, K: Sink, T: Team>(
     ensures same_source { S.device source.new ≡ S.device source.old }
     ensures same_sink { K.device sink.new ≡ K.device sink.old }
 {
-    let mut runner = Runner::new(alloc)?;
+    run_between_keyed(alloc, Secret::fixed(), source, sink, team)
+}
+
+/// As [`run_between`], and the secret keys the maps of files: no choice of file numbers makes a line
+/// slow. It changes nothing that is written or answered.
+pub fn run_between_keyed<S: Source, K: Sink, T: Team>(
+    alloc: Global,
+    secret: Secret,
+    source: &mut S,
+    sink: &mut K,
+    team: &mut T,
+) -> Result<Summary, RunFault>
+    requires source { S.asked source.old ≡ never_asked }
+    requires sink { K.failures sink.old ≡ 0 }
+    ensures ran { Ran (S.remaining source.old) (S.remaining source.new) (K.contents sink.old) (K.contents sink.new) result }
+    ensures summary { IfOk result (λ summary. (summary.faults ≤ summary.lines) × (summary.lines ≤ most_lines)) }
+    ensures read { OnOk result (IsReadThrough (S.asked source.new)) }
+    ensures written { OnOk result (K.failures sink.new ≡ 0) }
+    ensures cause { IfErr result (IsCaused (S.asked source.new) (K.failures sink.new)) }
+    ensures same_source { S.device source.new ≡ S.device source.old }
+    ensures same_sink { K.device sink.new ≡ K.device sink.old }
+{
+    let mut runner = Runner::new(alloc, secret)?;
     match runner.obey_all(source, sink, team) {
         Ok(()) => {
             runner.printed.flush(sink)?;
@@ -234,9 +249,25 @@ pub fn run_between<S: Source, K: Sink, T: Team>(
 ///
 /// The team makes the calls of an `all` line. What is written is the same for every team.
 ///
-/// `docs/SCRIPT.md` of the repository says what a script is, and what its lines print.
+/// `docs/SCRIPT.md` of the repository says what a script is, and what its lines print. Where somebody
+/// else writes the script, take [`run_keyed`].
 pub fn run<R: Read, W: Write, T: Team>(
     alloc: Global,
+    reader: &mut R,
+    writer: &mut W,
+    team: &mut T,
+) -> Result<Summary, RunFault>
+    ensures ran { Ran (R.remaining reader.old) (R.remaining reader.new) (W.contents writer.old) (W.contents writer.new) result }
+    ensures summary { IfOk result (λ summary. (summary.faults ≤ summary.lines) × (summary.lines ≤ most_lines)) }
+{
+    run_keyed(alloc, Secret::fixed(), reader, writer, team)
+}
+
+/// As [`run`], and the secret keys the maps of files: no choice of file numbers makes a line slow. It
+/// changes nothing that is written or answered.
+pub fn run_keyed<R: Read, W: Write, T: Team>(
+    alloc: Global,
+    secret: Secret,
     reader: &mut R,
     writer: &mut W,
     team: &mut T,
@@ -254,7 +285,7 @@ pub fn run<R: Read, W: Write, T: Team>(
         writer,
         failures: 0,
     };
-    let result = run_between(alloc, &mut source, &mut sink, team);
+    let result = run_between_keyed(alloc, secret, &mut source, &mut sink, team);
     // No effect at run time. The proof reads what the streams hold from these uses.
     let _ = &*source.reader;
     let _ = &*sink.writer;

@@ -25,7 +25,8 @@ use Rattle.ckpt_workers.specs.Teams.{IsTeamwork, is_accepted}
 use Rattle.ckpt_session.specs.declared.all.AllLine.{AllLine}
 use Rattle.ckpt_session.specs.declared.said.ScriptRefusal.TheVariants.{FilesUsedUp}
 use Rattle.ckpt_session.specs.ScriptTexts.{refusal_bytes}
-use Rattle.ckpt_session.specs.AllLines.{Obeyed, missing_subtasks, pending_metadata, acks_for, acknowledged, told, all_of, IsAsInOrder}
+use Rattle.ckpt_texts.specs.MetadataTexts.{missing_subtasks}
+use Rattle.ckpt_session.specs.AllLines.{Obeyed, pending_metadata, acks_for, acknowledged, told, all_of, IsAsInOrder}
 use Rattle.ckpt_session.proofs.BookLemmas.{state_of_book-more, state_of_book-entered}
 use Rattle.ckpt_session.proofs.ShownLemmas.{its_record}
 

@@ -1,7 +1,7 @@
 -- The `all` line: each missing subtask of a pending record acknowledges, with one new file.
-use Rattle.std.specs.Prelude.{◌≡◌, ℕ, ◌+◌, ◌^◌, Bool, not, ◌||◌, nat_lt, if◌then◌else◌, List, ◌++◌, map, filter, length, count_by, Option, Some, None, codes, decimal}
+use Rattle.std.specs.Prelude.{◌≡◌, ℕ, ◌+◌, ◌^◌, Bool, not, ◌||◌, nat_lt, if◌then◌else◌, List, ◌++◌, map, length, count_by, Option, Some, None, codes}
 use Rattle.std.specs.Option.{option_map, option_map_or}
-use Rattle.std.specs.List.{enumerate_from, list_any}
+use Rattle.std.specs.List.{enumerate_from}
 use Rattle.ckpt_ids.specs.declared.subtask.SubtaskId.{SubtaskId}
 use Rattle.ckpt_ids.specs.declared.ack.Metadata.{Metadata}
 use Rattle.ckpt_ids.specs.declared.call.Call.{Call}
@@ -9,24 +9,18 @@ use Rattle.ckpt_ids.specs.declared.reply.Reply.TheVariants.{Shown}
 use Rattle.ckpt_ids.specs.declared.reply.Answer.{Answer}
 use Rattle.ckpt_ids.specs.declared.reply.Answer.TheVariants.{Done}
 use Rattle.ckpt_ids.specs.Records.{metadata_of}
-use Rattle.ckpt_ids.specs.Shapes.{same_subtask, subtasks}
 use Rattle.ckpt_core.specs.State.{State}
 use Rattle.ckpt_core.specs.Refusals.{pending_of}
 use Rattle.ckpt_core.specs.Histories.{replay, answers}
 use Rattle.ckpt_core.specs.Interleavings.{NewFile, ack_with, first_completed}
 use Rattle.ckpt_locked.specs.Books.{state_of_book}
+use Rattle.ckpt_texts.specs.MetadataTexts.{missing, missing_subtasks}
+use Rattle.ckpt_texts.specs.Texts.{spaced}
 use Rattle.ckpt_workers.specs.declared.team.Made.{Made}
 use Rattle.ckpt_workers.specs.Teams.{is_accepted}
 use Rattle.ckpt_session.specs.declared.said.ScriptRefusal.TheVariants.{BadThreads, NotPending, FilesUsedUp}
 use Rattle.ckpt_session.specs.declared.all.AllLine.{AllLine}
 use Rattle.ckpt_session.specs.ScriptTexts.{refusal_bytes}
-
-abbrev pub has_acknowledged : Metadata → SubtaskId → Bool
-has_acknowledged m s = list_any (λ a. same_subtask s a.subtask) m.acks
-
--- the subtasks that have not acknowledged, in subtask order
-unfoldable pub missing_subtasks : Metadata → List SubtaskId
-missing_subtasks m = filter (λ s. not (has_acknowledged m s)) (subtasks m.shape)
 
 -- the metadata, where the answer shows a pending record
 unfoldable pub shown_pending : Answer → Option Metadata
@@ -39,7 +33,7 @@ pending_metadata m id = option_map metadata_of (pending_of m.records id)
 
 -- how many subtasks of the record with this number are missing
 abbrev pub missing_now : State → ℕ → ℕ
-missing_now m id = option_map_or (λ metadata. length (missing_subtasks metadata)) (pending_metadata m id) 0
+missing_now m id = option_map_or missing (pending_metadata m id) 0
 
 -- each of these subtasks with a new file, numbered from the first on
 abbrev pub new_files : AllLine → List SubtaskId → List NewFile
@@ -52,9 +46,6 @@ acks_for line missing = map (ack_with line.moment line.id) (new_files line missi
 -- what a line leaves of the coordinator, and what it prints
 abbrev pub Obeyed : Type 0
 Obeyed = State × List ℕ
-
-abbrev pub spaced : ℕ → List ℕ
-spaced n = codes " " ++ decimal n
 
 abbrev pub counts_bytes : ℕ → ℕ → List ℕ
 counts_bytes accepted refused = codes "all" ++ spaced accepted ++ spaced refused

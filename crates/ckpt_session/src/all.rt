@@ -5,7 +5,8 @@ ghost use Rattle.ckpt_ids.specs.Shapes.{same_subtask};
 ghost use Rattle.ckpt_ids.specs.Acknowledged.{is_before};
 ghost use Rattle.ckpt_core.specs.Interleavings.{ack_with};
 ghost use Rattle.ckpt_locked.specs.Books.{state_of_book};
-ghost use Rattle.ckpt_session.specs.AllLines.{missing_subtasks, missing_now, pending_metadata, acks_for, counts_bytes, completed_bytes, pending_bytes, told, all_of, all_obeyed};
+ghost use Rattle.ckpt_texts.specs.MetadataTexts.{missing_subtasks};
+ghost use Rattle.ckpt_session.specs.AllLines.{missing_now, pending_metadata, acks_for, counts_bytes, completed_bytes, pending_bytes, told, all_of, all_obeyed};
 
 use crate::calls::pending_metadata;
 use crate::said::{ScriptRefusal, refusal_text};
@@ -137,7 +138,7 @@ fn missing_now(alloc: Global, book: &mut Book, id: CheckpointId) -> Result<u64, 
 }
 
 /// The subtasks that have not acknowledged, in subtask order.
-#[tactic(auto, unfolding(crate::specs::AllLines::missing_subtasks))]
+#[tactic(auto, unfolding(ckpt_texts::specs::MetadataTexts::missing_subtasks))]
 fn missing_subtasks(alloc: Global, metadata: &Metadata) -> Result<Vec<SubtaskId>, AllocError>
     ensures { IfOk result (λ missing. missing.items ≡ missing_subtasks metadata.now) }
 {

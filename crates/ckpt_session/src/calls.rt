@@ -6,7 +6,7 @@ ghost use Rattle.ckpt_core.specs.Steps.{step};
 ghost use Rattle.ckpt_locked.specs.Books.{entered, state_of_book};
 ghost use Rattle.ckpt_session.specs.AllLines.{pending_metadata, shown_pending};
 
-use ckpt_core::OpenFault;
+use ckpt_core::{OpenFault, Secret};
 use ckpt_ids::{Answer, Call, CheckpointId, Config, Metadata, Reply, Shape};
 use ckpt_locked::Book;
 use std::alloc::{AllocError, Global};
@@ -17,12 +17,18 @@ const LINE_SEAT: u32 = 64;
 /// The number of the first record of a job.
 const FIRST: u64 = 1;
 
-/// Opens the book of a job. Takes no memory.
-pub(crate) fn open(alloc: Global, config: Config, shape: Shape, now: u64) -> Result<Book, OpenFault>
+/// Opens the book of a job, whose maps go by the secret. Takes no memory.
+pub(crate) fn open(
+    alloc: Global,
+    config: Config,
+    shape: Shape,
+    now: u64,
+    secret: Secret,
+) -> Result<Book, OpenFault>
     ensures fault { result_err result ≡ open_fault now 1 }
     ensures state { IfOk result (λ book. state_of_book book ≡ opened (record { config = config; shape = shape; start = now; first = 1 })) }
 {
-    Book::new(alloc, config, shape, now, FIRST)
+    Book::keyed(alloc, config, shape, now, FIRST, secret)
 }
 
 /// Makes a call with the seat of the lines.

@@ -9,4 +9,5 @@ mod calls;
 mod said;
 mod session;
 
+pub use ckpt_core::Secret;
 pub use session::Session;

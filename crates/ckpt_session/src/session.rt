@@ -4,6 +4,7 @@ ghost use Rattle.ckpt_session.specs.Sessions.{opening_scene, before_start, confi
 use crate::all::AllLine;
 use crate::calls::{call, open};
 use crate::said::{ScriptRefusal, fault_text, refusal_text};
+use ckpt_core::Secret;
 use ckpt_ids::{Call, Config, Shape, ShapeFault, Target};
 use ckpt_lines::{Line, LineFault, Numbers};
 use ckpt_locked::Book;
@@ -22,6 +23,7 @@ pub struct Session {
     shape: Option<Shape>,
     book: Option<Book>,
     alloc: Global,
+    secret: Secret,
 }
 
 impl Model for Session {
@@ -36,7 +38,10 @@ impl Model for Session {
 
 impl Session {
     /// The session before the first line. Takes no memory.
-    pub fn new(alloc: Global) -> Session
+    ///
+    /// The secret keys the maps of its book, so that no choice of file numbers makes a line slow. It
+    /// changes nothing that a line does or prints.
+    pub fn keyed(alloc: Global, secret: Secret) -> Session
         ensures { result ≡ opening_scene }
     {
         Session {
@@ -44,6 +49,7 @@ impl Session {
             shape: None,
             book: None,
             alloc,
+            secret,
         }
     }
 
@@ -201,7 +207,7 @@ impl Session {
         let (Some(config), Some(shape)) = (self.config, &self.shape) else {
             return refusal_text(self.alloc, ScriptRefusal::NotReady);
         };
-        match open(self.alloc, config, shape.copy()?, now) {
+        match open(self.alloc, config, shape.copy()?, now, self.secret) {
             Ok(book) => {
                 self.book = Some(book);
                 Ok(self.silence())

@@ -1,3 +1,4 @@
 pub mod ListLemmas
+pub mod MissingLemmas
 pub mod NoFloats
 pub mod ValueLists

@@ -1,11 +1,12 @@
 -- The metadata of a record as JSON.
-use Rattle.std.specs.Prelude.{ℕ, ◌-◌, Bool, true, false, List, [], ◌∷◌, ◌++◌, map, length, codes, decimal}
+use Rattle.std.specs.Prelude.{ℕ, Bool, true, false, not, List, [], ◌∷◌, ◌++◌, map, filter, length, codes, decimal}
+use Rattle.std.specs.List.{list_any}
 use Rattle.ckpt_ids.specs.declared.subtask.SubtaskId.{SubtaskId}
 use Rattle.ckpt_ids.specs.declared.numbers.Kind.{Kind}
 use Rattle.ckpt_ids.specs.declared.numbers.Kind.TheVariants.{Checkpoint, Savepoint}
 use Rattle.ckpt_ids.specs.declared.ack.Acked.{Acked}
 use Rattle.ckpt_ids.specs.declared.ack.Metadata.{Metadata}
-use Rattle.ckpt_ids.specs.Shapes.{subtasks}
+use Rattle.ckpt_ids.specs.Shapes.{same_subtask, subtasks}
 use Rattle.serde_json.specs.Data.{Data, number, unsigned, string, array, object, Members, member, no_members}
 use Rattle.serde_json.specs.View.{items_of}
 use Rattle.serde_json.specs.Written.{compact_text}
@@ -28,10 +29,15 @@ abbrev pub state_name : Bool → List ℕ
 state_name true = codes "done"
 state_name false = codes "pending"
 
--- How many subtasks have not acknowledged. The acknowledgements of a record are of different
--- subtasks of its shape, so this is the number of those that none is of.
+abbrev pub has_acknowledged : Metadata → SubtaskId → Bool
+has_acknowledged m s = list_any (λ a. same_subtask s a.subtask) m.acks
+
+-- the subtasks of the shape that have not acknowledged, in subtask order
+unfoldable pub missing_subtasks : Metadata → List SubtaskId
+missing_subtasks m = filter (λ s. not (has_acknowledged m s)) (subtasks m.shape)
+
 abbrev pub missing : Metadata → ℕ
-missing m = length (subtasks m.shape) - length m.acks
+missing m = length (missing_subtasks m)
 
 -- the members of an object, in the order of their keys
 abbrev pub members : List (List ℕ × Data) → Members

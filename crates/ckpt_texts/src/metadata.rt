@@ -1,4 +1,7 @@
-ghost use Rattle.std.specs.Prelude.{◌≡◌, IfOk, map, string_bytes};
+ghost use Rattle.std.specs.Prelude.{◌≡◌, false, count_by, IfOk, map, slice_get, string_bytes};
+ghost use Rattle.std.specs.Option.{option_map_or};
+ghost use Rattle.ckpt_ids.specs.Acknowledged.{AreInSubtaskOrder};
+ghost use Rattle.ckpt_ids.specs.Shapes.{is_subtask};
 ghost use Rattle.serde_json.specs.View.{view};
 ghost use Rattle.ckpt_texts.specs.MetadataTexts.{natural, list, kind_name, state_name, missing, subtask_bytes, ack_data, metadata_data, metadata_bytes};
 
@@ -88,10 +91,36 @@ fn subtask_text(alloc: Global, subtask: SubtaskId) -> Result<String, AllocError>
     Ok(text)
 }
 
+/// How many subtasks of the shape have not acknowledged.
 fn missing(metadata: &Metadata) -> u64
     ensures { result ≡ missing metadata.now }
 {
-    u64::from(metadata.shape.size()).saturating_sub(metadata.acks.len() as u64)
+    u64::from(metadata.shape.size()) - acknowledged(&metadata.acks, &metadata.shape)
+}
+
+/// How many acknowledgements are of subtasks of the shape.
+fn acknowledged(acks: &Acks, shape: &Shape) -> u64
+    ensures value { result ≡ count_by (λ a. is_subtask shape.now a.subtask) acks.now }
+    ensures order { AreInSubtaskOrder acks.now }
+{
+    let most = acks.len();
+    let mut count = 0;
+    for place in 0..most {
+        if is_of(acks, place, shape) {
+            count += 1;
+        }
+    }
+    count
+}
+
+/// Whether the acknowledgement at this place is of a subtask of the shape.
+fn is_of(acks: &Acks, place: usize, shape: &Shape) -> bool
+    ensures { result ≡ option_map_or (λ a. is_subtask shape.now a.subtask) (slice_get acks.now place) false }
+{
+    match acks.get(place) {
+        Some(acked) => shape.contains(acked.subtask),
+        None => false,
+    }
 }
 
 fn kind_name(kind: Kind) -> &'static str

@@ -1,15 +1,12 @@
-ghost use Rattle.std.specs.Prelude.{◌≡◌, ◌≢◌, ◌<◌, ◌≤◌, ℕ, None, Some, length};
+ghost use Rattle.std.specs.Prelude.{◌≡◌, ◌≢◌, ◌<◌, ◌≤◌, None, Some, length};
 ghost use Rattle.ckpt_ids.specs.declared.call.Call.TheVariants as call;
-ghost use Rattle.ckpt_ids.specs.declared.reply.Refusal.{Refusal};
-ghost use Rattle.ckpt_ids.specs.Ascending.{ascending};
-ghost use Rattle.ckpt_core.specs.Refusals.{refusal};
-ghost use Rattle.ckpt_core.specs.State.{State, opened};
+ghost use Rattle.ckpt_core.specs.State.{State};
 ghost use Rattle.ckpt_core.specs.Steps.{step};
-ghost use Rattle.ckpt_embed.specs.Buffers.{StandsInFront, files_in, json_in, show_told};
-ghost use Rattle.ckpt_embed.specs.Calls.{StaysClosed, IsAnswered, WantsMemory, StaysAsItWas, IsRefusedAs, IsBadShape, shape_of, target_of};
+ghost use Rattle.ckpt_embed.specs.Buffers.{BringsFiles, BringsJson, IsShowRefused, NeedsPlaces, StandsInFront, json_in};
+ghost use Rattle.ckpt_embed.specs.Calls.{StaysClosed, IsAnswered, WantsMemory, StaysAsItWas, IsRefusedAs, IsBadShape, ack_of, restore_of};
 ghost use Rattle.ckpt_embed.specs.Names.{refusal_name};
-ghost use Rattle.ckpt_embed.specs.Opening.{configuration_of, bad_opening};
-ghost use Rattle.ckpt_embed.specs.Told.{already_open, bad_argument, bad_shape, done, no_memory, refusal_told, too_short};
+ghost use Rattle.ckpt_embed.specs.Opening.{opening_of, IsNotOpened, IsOpened, StaysOpen};
+ghost use Rattle.ckpt_embed.specs.Told.{bad_shape, no_memory};
 
 use ckpt_embed::{Answer, Handle, Settings};
 use ckpt_hash::Secret;
@@ -28,10 +25,10 @@ pub extern "C" fn relkvanu_open(
     first_word: u64,
     second_word: u64,
 ) -> Answer
-    ensures open { (m : State) → handle.old.value ≡ Some m → (result ≡ bad_argument already_open) × (handle.new.value ≡ Some m) }
-    ensures refused { (what : ℕ) → handle.old.value ≡ None → result.code ≢ no_memory → bad_opening (configuration_of settings.now) shape.now now first ≡ Some what → (result ≡ bad_argument what) × (handle.new.value ≡ None) }
-    ensures opened { handle.old.value ≡ None → result.code ≢ no_memory → bad_opening (configuration_of settings.now) shape.now now first ≡ None → (result ≡ done 0 0 0) × (handle.new.value ≡ Some (opened (record { config = configuration_of settings.now; shape = shape.now; start = now; first = first }))) }
-    ensures unchanged { result.code ≡ no_memory → handle.new.value ≡ handle.old.value }
+    ensures open { StaysOpen handle.old.value handle.new.value result }
+    ensures refused { IsNotOpened handle.old.value handle.new.value (opening_of settings.now shape.now now first) result }
+    ensures opened { IsOpened handle.old.value handle.new.value (opening_of settings.now shape.now now first) result }
+    ensures unchanged { StaysAsItWas handle.old.value handle.new.value result }
 {
     let secret = Secret::of(first_word, second_word);
     ckpt_embed::open(alloc, handle, settings, shape, now, first, secret)
@@ -80,7 +77,7 @@ pub extern "C" fn relkvanu_ack(
     reused: &[u64],
 ) -> Answer
     ensures closed { StaysClosed handle.old.value handle.new.value result }
-    ensures answered { IsAnswered handle.old.value handle.new.value (call.Ack now id (record { vertex = vertex; index = index }) (ascending fresh.now) (ascending reused.now)) result }
+    ensures answered { IsAnswered handle.old.value handle.new.value (ack_of now id (record { vertex = vertex; index = index }) fresh.now reused.now) result }
     ensures unchanged { StaysAsItWas handle.old.value handle.new.value result }
 {
     let subtask = SubtaskId { vertex, index };
@@ -138,7 +135,7 @@ pub extern "C" fn relkvanu_restore(
 ) -> Answer
     ensures closed { StaysClosed handle.old.value handle.new.value result }
     ensures bad_shape { IsBadShape shape.now → IsRefusedAs handle.old.value handle.new.value bad_shape result }
-    ensures answered { (IsBadShape shape.now → ⊥) → IsAnswered handle.old.value handle.new.value (call.Restore now (target_of savepoint) (shape_of shape.now)) result }
+    ensures answered { (IsBadShape shape.now → ⊥) → IsAnswered handle.old.value handle.new.value (restore_of now savepoint shape.now) result }
     ensures unchanged { StaysAsItWas handle.old.value handle.new.value result }
 {
     ckpt_embed::restore(alloc, handle, now, savepoint, shape)
@@ -160,7 +157,7 @@ pub extern "C" fn relkvanu_cancel(alloc: Global, handle: &mut Handle, now: u64) 
 pub extern "C" fn relkvanu_take(alloc: Global, handle: &mut Handle, files: &mut [u64]) -> Answer
     ensures closed { StaysClosed handle.old.value handle.new.value result }
     ensures answered { IsAnswered handle.old.value handle.new.value (call.Take (length files.old)) result }
-    ensures front { (m : State) → handle.old.value ≡ Some m → result.code ≢ no_memory → StandsInFront (files_in (step m (call.Take (length files.old))).1) files.old files.new }
+    ensures front { (m : State) → handle.old.value ≡ Some m → BringsFiles m files.old files.new result }
     ensures kept { result.code ≡ no_memory → files.new ≡ files.old }
     ensures unchanged { StaysAsItWas handle.old.value handle.new.value result }
 {
@@ -198,9 +195,9 @@ pub extern "C" fn relkvanu_show(
     json: &mut [u8],
 ) -> Answer
     ensures closed { StaysClosed handle.old.value handle.new.value result }
-    ensures answered { (m : State) → handle.old.value ≡ Some m → result.code ≡ 0 → (result ≡ show_told (step m (call.Show id)).1) × StandsInFront (json_in (step m (call.Show id)).1) json.old json.new }
-    ensures refused { (m : State) (why : Refusal) → handle.old.value ≡ Some m → refusal m (call.Show id) ≡ Some why → result ≡ refusal_told why }
-    ensures too_short { (m : State) → handle.old.value ≡ Some m → result.code ≡ 5 → (result ≡ too_short (length (json_in (step m (call.Show id)).1))) × (length json.old < result.a) }
+    ensures answered { (m : State) → handle.old.value ≡ Some m → BringsJson m id json.old json.new result }
+    ensures refused { (m : State) → handle.old.value ≡ Some m → IsShowRefused m id result }
+    ensures too_short { (m : State) → handle.old.value ≡ Some m → NeedsPlaces (json_in (step m (call.Show id)).1) json.old result }
     ensures kept { result.code ≢ 0 → json.new ≡ json.old }
     ensures unchanged { handle.new.value ≡ handle.old.value }
 {

@@ -1,8 +1,8 @@
-use Rattle.std.proofs.Common.{◌≡◌, ℕ, ◌-◌, ◌≤◌, List, Option, true}
-use Rattle.std.specs.Io.KnownBytes.{IsAtEnd, prepend_known}
+use Rattle.std.proofs.Common.{◌≡◌, ◌-◌, ◌≤◌, true}
+use Rattle.std.specs.Io.KnownBytes.{IsAtEnd}
 use Rattle.ckpt_script.specs.Devices.{IsCounted}
 use Rattle.ckpt_script.specs.Outputs.{most_lines}
-use Rattle.ckpt_script.specs.Telling.{IsSoFar}
+use Rattle.ckpt_script.specs.Runs.{GoesOn}
 use Rattle.ckpt_script.proofs.runner.Runner.obey_all.Given as goal
 
 abbrev pub invariant-loop : goal.invariant-loop
@@ -14,9 +14,7 @@ invariant-loop g l = record {
   same_sink : g.K.Sink.device l.sink ≡ g.K.Sink.device l.fn.sink;
   lines : l.self.summary.lines ≤ most_lines;
   faults : l.self.summary.faults ≤ l.self.summary.lines;
-  so_far : (text before : Option (List ℕ)) →
-      IsSoFar text (prepend_known l.fn.self.ahead.bytes (g.S.Source.remaining l.fn.source)) before (g.K.Sink.contents l.fn.sink) l.fn.self.ahead.is_ended l.fn.self.summary l.fn.self.session l.fn.self.printed
-      → IsSoFar text (prepend_known l.self.ahead.bytes (g.S.Source.remaining l.source)) before (g.K.Sink.contents l.sink) l.self.ahead.is_ended l.self.summary l.self.session l.self.printed;
+  so_far : GoesOn l.fn.self (g.S.Source.remaining l.fn.source) (g.K.Sink.contents l.fn.sink) l.self (g.S.Source.remaining l.source) (g.K.Sink.contents l.sink);
 }
 
 abbrev pub decreases-loop : goal.decreases-loop

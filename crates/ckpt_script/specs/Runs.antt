@@ -1,0 +1,33 @@
+-- What a runner keeps between two lines, and how its run ends. `left` is what the source has left, and `shown` what the sink holds.
+use Rattle.std.specs.Prelude.{ℕ, ◌+◌, List, Option, Err}
+use Rattle.ckpt_lines.specs.Reading.{reading}
+use Rattle.ckpt_session.specs.Sessions.{Said, said}
+use Rattle.ckpt_script.specs.declared.fault.RunFault.{RunFault}
+use Rattle.ckpt_script.specs.declared.runner.Runner.{Runner}
+use Rattle.ckpt_script.specs.Outputs.{Ran}
+use Rattle.ckpt_script.specs.Reads.{all_left}
+use Rattle.ckpt_script.specs.Telling.{IsSoFar, Stopped}
+
+-- what the line that is held does and prints, as the next one
+abbrev pub said_next : Runner → Said
+said_next run = said (run.summary.lines + 1) run.session (reading run.line.items)
+
+-- of a text, so much has been run and shown
+abbrev pub IsAt : Runner → Option (List ℕ) → Option (List ℕ) → Option (List ℕ) → Option (List ℕ) → Type 0
+IsAt run left shown text before =
+    IsSoFar text (all_left run.ahead left) before shown run.ahead.is_ended run.summary run.session run.printed
+
+-- whatever the text, the run goes on from one moment to the next
+abbrev pub GoesOn : Runner → Option (List ℕ) → Option (List ℕ) → Runner → Option (List ℕ) → Option (List ℕ) → Type 0
+GoesOn old left_old shown_old new left_new shown_new =
+    (text before : Option (List ℕ)) → IsAt old left_old shown_old text before → IsAt new left_new shown_new text before
+
+-- whatever the text, the run stops by this fault
+abbrev pub StopsBy : Runner → Option (List ℕ) → Option (List ℕ) → Runner → Option (List ℕ) → Option (List ℕ) → RunFault → Type 0
+StopsBy old left_old shown_old new left_new shown_new why =
+    (text before : Option (List ℕ)) → IsAt old left_old shown_old text before → Stopped text left_new before shown_new new.printed why
+
+-- whatever the text, a run that stops by the first fault, with so much waiting, ends by the second
+abbrev pub EndsBy : Option (List ℕ) → List ℕ → RunFault → Option (List ℕ) → RunFault → Type 0
+EndsBy shown_old waiting why shown_new last =
+    (text rest before : Option (List ℕ)) → Stopped text rest before shown_old waiting why → Ran text rest before shown_new (Err last)
