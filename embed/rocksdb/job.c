@@ -99,7 +99,7 @@ static void redistribute(struct job *job, struct store *old, unsigned old_len) {
 static void adopt(struct job *job, const struct store *old, const struct files *held) {
     for (unsigned index = 0; index < job->parallelism; index++) {
         job->tasks[index].store = old[index];
-        job->tasks[index].held = held[index];
+        task_hold(&job->tasks[index], &held[index]);
     }
 }
 

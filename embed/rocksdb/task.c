@@ -23,14 +23,10 @@ static bool is_table(const char *name) {
     return strstr(name, ".sst") != NULL;
 }
 
-static void hold(struct task *task, const struct upload *upload) {
-    const struct files *both[] = {&upload->fresh, &upload->reused};
-    task->held.len = 0;
-    for (int of = 0; of < 2; of++) {
-        for (size_t place = 0; place < both[of]->len; place++) {
-            if (is_table(both[of]->items[place].name)) {
-                add(&task->held, both[of]->items[place].name, both[of]->items[place].number);
-            }
+void task_hold(struct task *task, const struct files *files) {
+    for (size_t place = 0; place < files->len; place++) {
+        if (is_table(files->items[place].name)) {
+            add(&task->held, files->items[place].name, files->items[place].number);
         }
     }
 }
@@ -123,7 +119,9 @@ static bool uploads(struct task *task, uint64_t id, const char *folder) {
         return false;
     }
     if (answer.what != RELKVANU_ACK_LATE) {
-        hold(task, &upload);
+        task->held.len = 0;
+        task_hold(task, &upload.fresh);
+        task_hold(task, &upload.reused);
     }
     if (chance_below(&task->chance, 10) == 0) {
         repeat(task, &upload);

@@ -44,6 +44,9 @@ struct task {
 
 void task_start(struct task *task);
 
+/* Names those of the files again that never change: the tables. */
+void task_hold(struct task *task, const struct files *files);
+
 /* Acknowledges, and says what it was answered. */
 relkvanu_answer task_ack(struct task *task, const struct upload *upload);
 
