@@ -1,0 +1,63 @@
+"""A cluster on the loopback: a scheduler, and worker processes that can be killed."""
+import os
+import pathlib
+import subprocess
+import sys
+import tempfile
+from typing import List
+
+from distributed import Client, LocalCluster
+
+HERE = pathlib.Path(__file__).resolve().parent
+WAIT = 120  # seconds for what takes one on a fast machine
+
+
+class Worker:
+    """A worker process, and its address."""
+
+    def __init__(self, client: Client, scheduler: str, folder: str) -> None:
+        before = set(client.scheduler_info()["workers"])
+        command = ["-m", "distributed.cli.dask_worker", scheduler, "--no-nanny", "--no-dashboard", "--nthreads", "1"]
+        command += ["--host", "127.0.0.1", "--memory-limit", "0", "--local-directory", folder, "--death-timeout", str(WAIT)]
+        environment = {**os.environ, "PYTHONPATH": str(HERE)}
+        self.process = subprocess.Popen(
+            [sys.executable, *command], env=environment, stdout=subprocess.DEVNULL, stderr=subprocess.DEVNULL
+        )
+        client.wait_for_workers(len(before) + 1, timeout=WAIT)
+        (self.address,) = set(client.scheduler_info()["workers"]) - before
+
+    def is_alive(self) -> bool:
+        return self.process.poll() is None
+
+    def kill(self) -> None:
+        """SIGKILL; the process writes nothing after it."""
+        self.process.kill()
+        self.process.wait()
+
+
+class Cluster:
+    def __init__(self, workers: int) -> None:
+        self.folder = tempfile.TemporaryDirectory()
+        self.scheduler = LocalCluster(
+            n_workers=0, host="127.0.0.1", dashboard_address=None, local_directory=self.folder.name, silence_logs=50
+        )
+        self.client = Client(self.scheduler)
+        self.workers: List[Worker] = []
+        for _ in range(workers):
+            self.start_worker()
+
+    def start_worker(self) -> None:
+        self.workers.append(Worker(self.client, self.scheduler.scheduler_address, self.folder.name))
+
+    def kill_worker(self, worker: Worker) -> None:
+        """Kills it, and waits until the scheduler has seen its end."""
+        worker.kill()
+        self.workers.remove(worker)
+        self.client.wait_for_workers(len(self.workers), timeout=WAIT)
+
+    def close(self) -> None:
+        for worker in self.workers:
+            worker.kill()
+        self.client.close()
+        self.scheduler.close()
+        self.folder.cleanup()

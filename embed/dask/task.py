@@ -1,0 +1,57 @@
+"""A task: an actor on a worker process, which counts partitions and takes its part of checkpoints."""
+import pathlib
+import time
+from typing import Dict, List, Sequence, Tuple
+
+from stream import State, read
+
+
+class Task:
+    """Counts the partitions that it is given. Its calls come one after the other."""
+
+    def __init__(self, storage: str, seed: int, partitions: Sequence[int], files: Sequence[int]) -> None:
+        """Begins with the states of its partitions among the files of a record, and opens each of them."""
+        self.storage = pathlib.Path(storage)
+        self.seed = seed
+        self.states = {partition: State() for partition in partitions}
+        self.held: Dict[int, int] = {}  # the file that has the state of a partition
+        for file in files:
+            partition, state = read(self.storage / str(file))
+            if partition in self.states:
+                self.states[partition] = state
+                self.held[partition] = file
+
+    def offsets(self) -> Dict[int, int]:
+        return {partition: state.offset for partition, state in self.states.items()}
+
+    def counts(self) -> Dict[int, Dict[int, int]]:
+        return {partition: dict(state.counts) for partition, state in self.states.items()}
+
+    def advance(self, ends: Dict[int, int]) -> None:
+        """Counts the records of the partitions before these offsets."""
+        for partition, end in ends.items():
+            self.states[partition].advance(self.seed, partition, end)
+            self.held.pop(partition, None)
+
+    def snapshot(self, numbers: Sequence[int], pause: float) -> Tuple[List[int], List[int]]:
+        """Writes the states that no acknowledged checkpoint has under new numbers, with a pause after each, and
+        answers the numbers written and those that are named again."""
+        fresh, reused = [], sorted(self.held.values())
+        for partition, state in self.states.items():
+            if partition not in self.held:
+                number = numbers[len(fresh)]
+                state.write(self.storage / str(number), partition)
+                fresh.append(number)
+                time.sleep(pause)
+        self.written = dict(zip((p for p in self.states if p not in self.held), fresh))
+        return fresh, reused
+
+    def acknowledged(self) -> None:
+        """The last snapshot was accepted: its files may be named again."""
+        self.held.update(self.written)
+
+    def refused(self) -> None:
+        """The last snapshot was refused: its files are deleted, and nothing is named again."""
+        for number in self.written.values():
+            (self.storage / str(number)).unlink()
+        self.held.clear()

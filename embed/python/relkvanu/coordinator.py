@@ -1,0 +1,236 @@
+"""The coordinator of one job, with a method for each call."""
+import ctypes
+import os
+import pathlib
+import secrets
+import threading
+from dataclasses import dataclass
+from typing import Any, Optional, Sequence
+
+from relkvanu.replies import MADE, Reply, Shown, Taken
+
+U16, U64, SIZE = ctypes.c_uint16, ctypes.c_uint64, ctypes.c_size_t
+DONE, REFUSED, NO_MEMORY, CLOSED, BAD_ARGUMENT, TOO_SHORT = range(6)
+ARGUMENTS = {1: "AlreadyOpen", 2: "BadConfig", 3: "BadShape", 4: "BadMoment", 5: "BadFirst"}
+NAME_TAKEN, FILE_GONE = 8, 9
+
+
+class Refused(Exception):
+    """The coordinator refused the call, and nothing has changed: `name` says why, as "NotRunning". `file` is the
+    file that is to blame, where it is one."""
+
+    def __init__(self, name: str, file: Optional[int]) -> None:
+        super().__init__(name if file is None else f"{name} {file}")
+        self.name = name
+        self.file = file
+
+
+class BadArgument(ValueError):
+    """A value is outside its limits, and nothing has changed: `name` says which, as "BadShape"."""
+
+    def __init__(self, name: str) -> None:
+        super().__init__(name)
+        self.name = name
+
+
+class OutOfMemory(MemoryError):
+    """The call found no memory, and nothing has changed: it can be made again."""
+
+
+class Closed(Exception):
+    """The coordinator was closed."""
+
+
+@dataclass(frozen=True)
+class Settings:
+    """The configuration; durations in milliseconds. docs/RULES.md has the limits."""
+
+    interval: int
+    pause: int = 0
+    at_once: int = 1
+    timeout: int = 600_000
+    tolerable: int = 0
+    retained: int = 1
+    keep_on_cancel: bool = False
+
+
+class _Settings(ctypes.Structure):
+    _fields_ = [(name, U64) for name in ("interval", "pause", "at_once", "timeout", "tolerable", "retained")]
+    _fields_ += [("keep_on_cancel", ctypes.c_bool)]
+
+
+class _Answer(ctypes.Structure):
+    _fields_ = [("code", ctypes.c_uint32), ("what", ctypes.c_uint32), ("a", U64), ("b", U64)]
+
+
+_HANDLE = ctypes.POINTER(ctypes.c_void_p)
+_WORDS = ctypes.POINTER(U64)
+_BYTES = ctypes.POINTER(ctypes.c_uint8)
+_SIGNATURES = {
+    "open": [_HANDLE, ctypes.POINTER(_Settings), _WORDS, SIZE, U64, U64, U64, U64],
+    "tick": [_HANDLE, U64],
+    "savepoint": [_HANDLE, U64],
+    "ack": [_HANDLE, U64, U64, U16, U16, _WORDS, SIZE, _WORDS, SIZE],
+    "decline": [_HANDLE, U64, U64, U16, U16],
+    "dispose": [_HANDLE, U64],
+    "restore": [_HANDLE, U64, U64, _WORDS, SIZE],
+    "cancel": [_HANDLE, U64],
+    "take": [_HANDLE, _WORDS, SIZE],
+    "deleted": [_HANDLE, U64],
+    "undeleted": [_HANDLE, U64],
+    "show": [_HANDLE, U64, _BYTES, SIZE],
+    "count": [_HANDLE, U64],
+}
+
+
+def _loaded() -> ctypes.CDLL:
+    top = pathlib.Path(__file__).resolve().parents[3]
+    folder = os.environ.get("RELKVANU_LIB", str(top / "crates/relkvanu/out"))
+    library = ctypes.CDLL(os.path.join(folder, "librelkvanu.so"))
+    for name, signature in _SIGNATURES.items():
+        function = getattr(library, f"relkvanu_{name}")
+        function.argtypes, function.restype = signature, _Answer
+    library.relkvanu_close.argtypes, library.relkvanu_close.restype = [_HANDLE], None
+    library.relkvanu_refusal_text.argtypes = [ctypes.c_uint32, _BYTES, SIZE]
+    library.relkvanu_refusal_text.restype = SIZE
+    return library
+
+
+_library: Optional[ctypes.CDLL] = None
+_loading = threading.Lock()
+
+
+def _shared() -> ctypes.CDLL:
+    global _library
+    with _loading:
+        if _library is None:
+            _library = _loaded()
+    return _library
+
+
+def _within(value: int, bits: int) -> int:
+    """The number, which ctypes would cut off where it is out of range."""
+    if not 0 <= value < 1 << bits:
+        raise OverflowError(f"{value} has more than {bits} bits, or is negative")
+    return value
+
+
+def _u64(value: int) -> int:
+    return _within(value, 64)
+
+
+def _words(values: Sequence[int]) -> Any:
+    """An array with at least one place, as no pointer may be null."""
+    return (U64 * max(len(values), 1))(*map(_u64, values))
+
+
+def _name(refusal: int) -> str:
+    text = (ctypes.c_uint8 * 32)()
+    length = _shared().relkvanu_refusal_text(refusal, text, len(text))
+    return bytes(text[:length]).decode()
+
+
+def _done(answer: _Answer) -> _Answer:
+    if answer.code == DONE:
+        return answer
+    if answer.code == REFUSED:
+        raise Refused(_name(answer.what), answer.a if answer.what in (NAME_TAKEN, FILE_GONE) else None)
+    if answer.code == NO_MEMORY:
+        raise OutOfMemory
+    if answer.code == CLOSED:
+        raise Closed
+    raise BadArgument(ARGUMENTS[answer.what])
+
+
+class Coordinator:
+    """The checkpoint coordinator of one job. Threads may share it: a lock of its own lets in one call at a time.
+
+    Each call raises Refused where the rules refuse it, OutOfMemory where memory ran out, Closed after close(), and
+    OverflowError where a number does not fit. Then nothing has changed.
+    """
+
+    def __init__(self, settings: Settings, shape: Sequence[int], now: int, first: int = 1) -> None:
+        """Opens it at the moment `now`, with the number `first` for its first record. Raises BadArgument."""
+        self._lock = threading.Lock()
+        self._handle = ctypes.c_void_p(None)
+        values = _Settings(*map(_u64, (
+            settings.interval, settings.pause, settings.at_once, settings.timeout, settings.tolerable, settings.retained,
+        )), settings.keep_on_cancel)
+        keys = secrets.randbits(64), secrets.randbits(64)
+        _done(self._call("open", ctypes.byref(values), _words(shape), len(shape), _u64(now), _u64(first), *keys))
+
+    def _call(self, name: str, *arguments: Any) -> _Answer:
+        function = getattr(_shared(), f"relkvanu_{name}")
+        with self._lock:
+            return function(ctypes.byref(self._handle), *arguments)
+
+    def _replied(self, name: str, *arguments: Any) -> Reply:
+        answer = _done(self._call(name, *arguments))
+        return MADE[answer.what](answer.a, answer.b)
+
+    def close(self) -> None:
+        """Lets the coordinator go. A closed one stays closed."""
+        with self._lock:
+            _shared().relkvanu_close(ctypes.byref(self._handle))
+
+    def __enter__(self) -> "Coordinator":
+        return self
+
+    def __exit__(self, *_: object) -> None:
+        self.close()
+
+    def __del__(self) -> None:
+        if getattr(self, "_handle", None):
+            self.close()
+
+    def tick(self, now: int) -> Reply:
+        return self._replied("tick", _u64(now))
+
+    def savepoint(self, now: int) -> Reply:
+        return self._replied("savepoint", _u64(now))
+
+    def ack(self, now: int, id: int, vertex: int, index: int, fresh: Sequence[int], reused: Sequence[int] = ()) -> Reply:
+        """Where it is refused, the files still belong to the task that wrote them."""
+        subtask = _within(vertex, 16), _within(index, 16)
+        return self._replied("ack", _u64(now), _u64(id), *subtask, _words(fresh), len(fresh), _words(reused), len(reused))
+
+    def decline(self, now: int, id: int, vertex: int, index: int) -> Reply:
+        return self._replied("decline", _u64(now), _u64(id), _within(vertex, 16), _within(index, 16))
+
+    def dispose(self, id: int) -> Reply:
+        return self._replied("dispose", _u64(id))
+
+    def restore(self, now: int, savepoint: Optional[int] = None, shape: Optional[Sequence[int]] = None) -> Reply:
+        """From a savepoint, or the latest; in a new shape where one is given. An empty one is a BadArgument."""
+        if savepoint == 0:
+            raise ValueError("no savepoint has the number 0")
+        if shape is not None and len(shape) == 0:
+            raise BadArgument("BadShape")
+        return self._replied("restore", _u64(now), _u64(savepoint or 0), _words(shape or ()), len(shape or ()))
+
+    def cancel(self, now: int) -> Reply:
+        return self._replied("cancel", _u64(now))
+
+    def take(self, most: int) -> Taken:
+        """Fetches at most so many files that wait for deletion."""
+        files = (U64 * max(_u64(most), 1))()
+        answer = _done(self._call("take", files, most))
+        return Taken(tuple(files[: answer.a]))
+
+    def deleted(self, file: int) -> Reply:
+        return self._replied("deleted", _u64(file))
+
+    def undeleted(self, file: int) -> Reply:
+        return self._replied("undeleted", _u64(file))
+
+    def show(self, id: int) -> Shown:
+        length = 1024
+        answer = _Answer(code=TOO_SHORT, a=length)
+        while answer.code == TOO_SHORT:
+            length = answer.a
+            text = (ctypes.c_uint8 * length)()
+            answer = self._call("show", _u64(id), text, length)
+        return Shown(bytes(text[: _done(answer).a]).decode())
+
+    def count(self, file: int) -> Reply:
+        return self._replied("count", _u64(file))

@@ -1,0 +1,84 @@
+"""What the package adds to the calls: openings, numbers that do not fit, closing, threads."""
+import threading
+import unittest
+
+from relkvanu import AckPending, BadArgument, Closed, Coordinator, Refused, Settings, Shown, Triggered
+
+SETTINGS = Settings(interval=1000)
+
+
+class Openings(unittest.TestCase):
+    def refused(self, name, *arguments):
+        with self.assertRaises(BadArgument) as raised:
+            Coordinator(*arguments)
+        self.assertEqual(raised.exception.name, name)
+
+    def test_what_a_coordinator_is_not_opened_with(self):
+        self.refused("BadConfig", Settings(interval=9), [1], 0)
+        self.refused("BadShape", SETTINGS, [], 0)
+        self.refused("BadShape", SETTINGS, [4097], 0)
+        self.refused("BadMoment", SETTINGS, [1], 1 << 62)
+        self.refused("BadFirst", SETTINGS, [1], 0, 0)
+        Coordinator(SETTINGS, [1], (1 << 62) - 1, (1 << 62) - 1).close()
+
+
+class Calls(unittest.TestCase):
+    def test_a_number_that_does_not_fit_is_not_cut_off(self):
+        with Coordinator(SETTINGS, [2], 0) as job:
+            self.assertEqual(job.tick(1000), Triggered(expired=0, id=1))
+            for call in (
+                lambda: job.tick(1 << 64),
+                lambda: job.ack(1000, 1, 1 << 16, 0, []),
+                lambda: job.ack(1000, 1, 0, -1, []),
+                lambda: job.ack(1000, 1, 0, 0, [1 << 64]),
+                lambda: job.restore(1000, 1 << 64),
+                lambda: Coordinator(Settings(interval=1 << 64), [1], 0),
+            ):
+                self.assertRaises(OverflowError, call)
+            self.assertEqual(job.ack(1000, 1, 0, 0, [(1 << 64) - 1]), AckPending(missing=1))
+
+    def test_a_refusal_names_itself_and_the_file(self):
+        with Coordinator(SETTINGS, [2], 0) as job:
+            job.tick(1000)
+            with self.assertRaises(Refused) as raised:
+                job.ack(1000, 1, 0, 0, [], [8, 7])
+            self.assertEqual((raised.exception.name, raised.exception.file), ("FileGone", 7))
+            with self.assertRaises(Refused) as raised:
+                job.deleted(7)
+            self.assertEqual((raised.exception.name, raised.exception.file), ("NotTaken", None))
+
+    def test_a_savepoint_0_is_not_the_latest(self):
+        with Coordinator(SETTINGS, [1], 0) as job:
+            self.assertRaises(ValueError, job.restore, 0, 0)
+            self.assertRaises(BadArgument, job.restore, 0, None, [])
+
+    def test_metadata_that_is_longer_than_the_first_buffer(self):
+        with Coordinator(SETTINGS, [1], 0) as job:
+            job.tick(1000)
+            files = tuple(range(1 << 60, (1 << 60) + 1000))
+            job.ack(1000, 1, 0, 0, files)
+            shown = job.show(1)
+            self.assertIsInstance(shown, Shown)
+            self.assertEqual(shown.files, {0: files})
+
+    def test_a_closed_one_stays_closed(self):
+        job = Coordinator(SETTINGS, [1], 0)
+        with job:
+            pass
+        job.close()
+        self.assertRaises(Closed, job.tick, 1000)
+
+    def test_threads_share_it(self):
+        with Coordinator(SETTINGS, [64], 0) as job:
+            job.tick(1000)
+            share = lambda first: [job.ack(1000, 1, 0, index, [index]) for index in range(first, first + 8)]
+            threads = [threading.Thread(target=share, args=(first,)) for first in range(0, 64, 8)]
+            for thread in threads:
+                thread.start()
+            for thread in threads:
+                thread.join()
+            self.assertEqual(job.show(1).metadata["state"], "done")
+
+
+if __name__ == "__main__":
+    unittest.main()

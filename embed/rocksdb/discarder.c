@@ -1,0 +1,60 @@
+#define _GNU_SOURCE
+#include "discarder.h"
+#include "storage.h"
+
+enum { AT_ONCE = 16 };
+
+static void report(struct coordinator *c, const char *word, uint64_t file) {
+    relkvanu_answer answer = coordinator_call(c, "%s %" PRIu64, word, file);
+    CHECK(answer.code == RELKVANU_DONE, "%s %" PRIu64 " is refused", word, file);
+}
+
+static void discard(struct coordinator *c, const char *storage, uint64_t file) {
+    storage_delete(storage, file);
+    coordinator_step(c);
+    report(c, "deleted", file);
+}
+
+static void *discards(void *with) {
+    struct discarder *discarder = with;
+    struct coordinator *c = discarder->coordinator;
+    uint64_t files[AT_ONCE];
+    while (!atomic_load(&discarder->is_over)) {
+        size_t len = coordinator_take(c, files, AT_ONCE);
+        for (size_t place = 0; place < len; place++) {
+            if (chance_below(&discarder->chance, 8) == 0) {
+                report(c, "undeleted", files[place]);
+            } else {
+                discard(c, discarder->storage, files[place]);
+            }
+        }
+        sleep_ms(len < AT_ONCE ? 20 : 0);
+    }
+    return NULL;
+}
+
+void discarder_start(struct discarder *discarder) {
+    atomic_store(&discarder->is_over, false);
+    CHECK(pthread_create(&discarder->thread, NULL, discards, discarder) == 0, "no thread");
+}
+
+void discarder_stop(struct discarder *discarder) {
+    atomic_store(&discarder->is_over, true);
+    pthread_join(discarder->thread, NULL);
+}
+
+void discarder_report(struct coordinator *c, const char *storage) {
+    while (c->taken_len != 0) {
+        uint64_t file = c->taken[c->taken_len - 1];
+        report(c, storage_has(storage, file) ? "undeleted" : "deleted", file);
+    }
+}
+
+void discarder_drain(struct coordinator *c, const char *storage) {
+    uint64_t files[AT_ONCE];
+    for (size_t len = coordinator_take(c, files, AT_ONCE); len != 0; len = coordinator_take(c, files, AT_ONCE)) {
+        for (size_t place = 0; place < len; place++) {
+            discard(c, storage, files[place]);
+        }
+    }
+}

@@ -1,0 +1,28 @@
+/* The discarder: a thread that fetches files, deletes them and reports each. By the seed a part of its deletions
+ * fails, and is reported so. */
+#ifndef ENGINE_DISCARDER_H
+#define ENGINE_DISCARDER_H
+
+#include "coordinator.h"
+
+#include <stdatomic.h>
+
+struct discarder {
+    pthread_t thread;
+    struct coordinator *coordinator;
+    const char *storage;
+    struct chance chance;
+    atomic_bool is_over;
+};
+
+void discarder_start(struct discarder *discarder);
+
+void discarder_stop(struct discarder *discarder);
+
+/* Reports what an earlier process fetched and did not report: a file that is gone was deleted. */
+void discarder_report(struct coordinator *c, const char *storage);
+
+/* Deletes all that waits. */
+void discarder_drain(struct coordinator *c, const char *storage);
+
+#endif

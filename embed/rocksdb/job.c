@@ -1,0 +1,277 @@
+#define _GNU_SOURCE
+#include "job.h"
+#include "stream.h"
+
+#include <string.h>
+#include <sys/stat.h>
+
+enum { TICKS_MS = 20, FAILURES_MS = 1000, GUARD_MS = 300000 };
+
+/* Why the tasks stop. */
+enum end { FAILED, ROLLS_BACK, RESCALES, OVER };
+
+static void delete_unknown(void *with, const char *name) {
+    struct job *job = with;
+    uint64_t file = strtoull(name, NULL, 10);
+    if (coordinator_count(&job->coordinator, file) == 0) {
+        storage_delete(job->storage, file);
+    }
+}
+
+void job_open(struct job *job, const char *folder) {
+    path_of(job->storage, "%.400s/storage", folder);
+    path_of(job->local, "%.400s/local", folder);
+    path_of(job->log, "%.400s/log", folder);
+    mkdir(job->storage, 0700);
+    coordinator_open(&job->coordinator, job->log, job->seed, job->coordinator.steps);
+    discarder_report(&job->coordinator, job->storage);
+    discarder_drain(&job->coordinator, job->storage);
+    /* what is left and not used was written by tasks that died before they named it */
+    each_name(job->storage, delete_unknown, job);
+    job->discarder = (struct discarder){.coordinator = &job->coordinator, .storage = job->storage, .chance = {mixed(job->seed + 1)}};
+    discarder_start(&job->discarder);
+    job->started = now();
+    job->next_failure = job->started + FAILURES_MS;
+}
+
+/* The source: puts each partition's records into the queue of its task. */
+static void *feed(void *with) {
+    struct job *job = with;
+    struct message message = {0};
+    while (!atomic_load(&job->source_stops)) {
+        for (unsigned partition = 0; partition < PARTITIONS; partition++) {
+            message.partition = partition;
+            for (int place = 0; place < BATCH; place++) {
+                message.keys[place] = stream_key(job->seed, partition, job->offsets[partition]++);
+            }
+            message.offset = job->offsets[partition];
+            queue_put(&job->tasks[partition % job->parallelism].queue, &message);
+        }
+        sleep_ms(1);
+    }
+    return NULL;
+}
+
+void job_open_record(struct job *job, const struct metadata *metadata, struct store *stores, struct files *held, const char *of) {
+    char folder[PATH];
+    for (size_t place = 0; place < metadata->len; place++) {
+        const struct part *part = &metadata->parts[place];
+        struct files *files = &held[part->index];
+        path_of(folder, "%.400s/%s-%u", job->local, of, part->index);
+        empty_folder(folder);
+        files->len = part->len;
+        for (size_t file = 0; file < part->len; file++) {
+            files->items[file].number = part->files[file];
+            storage_get(job->storage, part->files[file], folder, files->items[file].name);
+        }
+        store_open(&stores[part->index], folder);
+    }
+}
+
+static void prepare(struct job *job, unsigned index) {
+    struct task *task = &job->tasks[index];
+    task->coordinator = &job->coordinator;
+    task->storage = job->storage;
+    task->index = index;
+    task->is_failed = &job->is_failed;
+    task->held.len = 0;
+    task->chance.state = mixed(job->seed ^ mixed(job->coordinator.calls + index));
+    path_of(task->folder, "%.400s/task-%u", job->local, index);
+    empty_folder(task->folder);
+}
+
+/* The tasks' databases from those of a record with another parallelism, or none. */
+static void redistribute(struct job *job, struct store *old, unsigned old_len) {
+    struct store *stores[TASKS];
+    char folder[PATH];
+    for (unsigned index = 0; index < job->parallelism; index++) {
+        path_of(folder, "%.400s/new-%u", job->local, index);
+        stores[index] = &job->tasks[index].store;
+        store_open(stores[index], folder);
+    }
+    for (unsigned index = 0; index < old_len; index++) {
+        store_copy(&old[index], stores, job->parallelism);
+        store_close(&old[index]);
+    }
+}
+
+/* The tasks' databases from those of a record with the same parallelism: its files may be named again. */
+static void adopt(struct job *job, const struct store *old, const struct files *held) {
+    for (unsigned index = 0; index < job->parallelism; index++) {
+        job->tasks[index].store = old[index];
+        task_hold(&job->tasks[index], &held[index]);
+    }
+}
+
+/* Gives the tasks the state of the record that the job was restored from; 0: none. */
+static void load(struct job *job, uint64_t id) {
+    static struct metadata metadata;
+    static struct files held[TASKS];
+    struct store stores[TASKS];
+    metadata.len = metadata.parallelism = 0;
+    if (id != 0) {
+        char *json = coordinator_show(&job->coordinator, id);
+        CHECK(json != NULL, "record %" PRIu64 " is not live", id);
+        metadata_read(&metadata, json);
+        CHECK(metadata.len == metadata.parallelism, "record %" PRIu64 " is not done", id);
+        free(json);
+    }
+    job_open_record(job, &metadata, stores, held, "database");
+    if (metadata.parallelism == job->parallelism) {
+        adopt(job, stores, held);
+    } else {
+        redistribute(job, stores, metadata.parallelism);
+    }
+    for (unsigned partition = 0; partition < PARTITIONS; partition++) {
+        job->offsets[partition] = store_offset(&job->tasks[partition % job->parallelism].store, partition);
+    }
+}
+
+/* What a task was uploading when it was stopped: it deletes the files, or its message comes late. */
+static void settle(struct job *job, struct task *task) {
+    if (task->left.id == 0) {
+        return;
+    } else if (chance_below(&job->chance, 2) == 0) {
+        task_delete_fresh(task, &task->left);
+    } else {
+        relkvanu_answer answer = task_ack(task, &task->left);
+        CHECK(answer.code == RELKVANU_DONE && answer.what == RELKVANU_ACK_LATE, "a late message is answered %" PRIu32, answer.what);
+    }
+    task->left.id = 0;
+}
+
+/* Restores the job as its end wants, and starts the source and the tasks. */
+static void start(struct job *job, enum end end) {
+    struct coordinator *c = &job->coordinator;
+    relkvanu_answer answer;
+    if (end == ROLLS_BACK) {
+        answer = coordinator_call(c, "restore %" PRIu64 " %" PRIu64, now(), c->savepoint);
+    } else if (end == RESCALES) {
+        answer = coordinator_call(c, "restore %" PRIu64 " latest %d", now(), OTHER_TASKS);
+    } else {
+        answer = coordinator_call(c, "restore %" PRIu64 " latest", now());
+    }
+    CHECK(answer.code == RELKVANU_DONE, "a restore is refused: %" PRIu32, answer.what);
+    for (unsigned index = 0; index < TASKS; index++) {
+        settle(job, &job->tasks[index]);
+    }
+    job->parallelism = (unsigned)c->script.shape.items[0];
+    empty_folder(job->local);
+    for (unsigned index = 0; index < job->parallelism; index++) {
+        prepare(job, index);
+    }
+    load(job, answer.b);
+    atomic_store(&job->is_failed, false);
+    atomic_store(&job->source_stops, false);
+    job->victim = TASKS;
+    for (unsigned index = 0; index < job->parallelism; index++) {
+        task_start(&job->tasks[index]);
+    }
+    CHECK(pthread_create(&job->source, NULL, feed, job) == 0, "no thread");
+}
+
+/* Stops the source, and the tasks: at once, or at the end of their queues. */
+static void stop(struct job *job, bool at_once) {
+    atomic_store(&job->source_stops, true);
+    for (unsigned index = 0; at_once && index < job->parallelism; index++) {
+        atomic_store(&job->tasks[index].is_stopped, true);
+        queue_close(&job->tasks[index].queue);
+    }
+    pthread_join(job->source, NULL);
+    for (unsigned index = 0; index < job->parallelism; index++) {
+        queue_end(&job->tasks[index].queue);
+        pthread_join(job->tasks[index].thread, NULL);
+    }
+}
+
+static void send_barriers(struct job *job, uint64_t id) {
+    struct message message = {.barrier = id};
+    for (unsigned index = 0; index < job->parallelism; index++) {
+        queue_put(&job->tasks[index].queue, &message);
+    }
+}
+
+/* Whether so many hundredths of the time have passed. */
+static bool has_passed(const struct job *job, uint64_t hundredths) {
+    return now() - job->started >= job->seconds * 10 * hundredths;
+}
+
+static bool is_over(const struct job *job) {
+    return has_passed(job, 100) && !job->is_endless;
+}
+
+/* Each second the seed chooses a task, which stops where it is, or in the middle of its next checkpoint. The job is
+ * mostly left alone until it has completed a checkpoint. */
+static void choose_victim(struct job *job) {
+    if (job->victim != TASKS || is_over(job) || now() < job->next_failure) {
+        return;
+    } else if (coordinator_progress(&job->coordinator).completed == 0 && chance_below(&job->chance, 200) != 0) {
+        return;
+    }
+    job->victim = (unsigned)chance_below(&job->chance, job->parallelism);
+    job->next_failure = now() + FAILURES_MS;
+    job->failures++;
+    if (chance_below(&job->chance, 3) == 0) {
+        atomic_store(&job->tasks[job->victim].is_stopped, true);
+    } else {
+        atomic_store(&job->tasks[job->victim].stops_after, 1 + (unsigned)chance_below(&job->chance, 2));
+    }
+}
+
+static bool has_failed(struct job *job) {
+    return atomic_load(&job->is_failed) || (job->victim != TASKS && atomic_load(&job->tasks[job->victim].is_stopped));
+}
+
+/* A tick, and a savepoint where it is time for it. */
+static void drive(struct job *job) {
+    struct coordinator *c = &job->coordinator;
+    relkvanu_answer answer = coordinator_call(c, "tick %" PRIu64, now());
+    if (answer.code == RELKVANU_REFUSED) { /* a decline has failed the job since */
+        CHECK(answer.what == RELKVANU_NOT_RUNNING, "a tick is refused: %" PRIu32, answer.what);
+        atomic_store(&job->is_failed, true);
+    } else if (answer.what == RELKVANU_TICK_TRIGGERED) {
+        send_barriers(job, answer.b);
+    } else if (answer.what == RELKVANU_TICK_FAILED) {
+        atomic_store(&job->is_failed, true);
+    }
+    struct progress progress = coordinator_progress(c);
+    if (has_passed(job, 25) && progress.savepoint == 0 && progress.savepoint_pending == 0) {
+        answer = coordinator_call(c, "savepoint %" PRIu64, now());
+        if (answer.code == RELKVANU_DONE) {
+            send_barriers(job, answer.a);
+        }
+    }
+}
+
+/* Drives the job until its tasks have to stop. */
+static enum end drive_on(struct job *job) {
+    bool is_rescaled = job->parallelism == OTHER_TASKS;
+    for (;;) {
+        drive(job);
+        choose_victim(job);
+        struct progress progress = coordinator_progress(&job->coordinator);
+        if (has_failed(job)) {
+            return FAILED;
+        } else if (has_passed(job, 50) && progress.savepoint != 0 && !progress.is_rolled_back) {
+            return ROLLS_BACK;
+        } else if (has_passed(job, 75) && progress.is_rolled_back && !is_rescaled) {
+            return RESCALES;
+        } else if (is_over(job) && is_rescaled && progress.completed != 0 && job->victim == TASKS) {
+            return OVER;
+        }
+        CHECK(now() - job->started < job->seconds * 1000 + GUARD_MS, "the job comes to no end");
+        sleep_ms(TICKS_MS);
+    }
+}
+
+void job_run(struct job *job) {
+    enum end end = FAILED;
+    while (end != OVER) {
+        start(job, end);
+        end = drive_on(job);
+        stop(job, end != OVER);
+        for (unsigned index = 0; end != OVER && index < job->parallelism; index++) {
+            store_close(&job->tasks[index].store);
+        }
+    }
+}

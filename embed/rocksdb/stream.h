@@ -1,0 +1,12 @@
+/* The stream: each partition is a list of keys without an end, which the seed alone says. */
+#ifndef ENGINE_STREAM_H
+#define ENGINE_STREAM_H
+
+#include "common.h"
+
+uint16_t stream_key(uint64_t seed, unsigned partition, uint64_t offset);
+
+/* How often each key stands in the partition before the offset. */
+void stream_counts(uint64_t seed, unsigned partition, uint64_t offset, uint64_t counts[KEYS]);
+
+#endif

@@ -1,0 +1,171 @@
+#define _GNU_SOURCE
+#include "task.h"
+
+#include <string.h>
+
+static const struct held *found(const struct files *files, const char *name) {
+    for (size_t place = 0; place < files->len; place++) {
+        if (strcmp(files->items[place].name, name) == 0) {
+            return &files->items[place];
+        }
+    }
+    return NULL;
+}
+
+static void add(struct files *files, const char *name, uint64_t number) {
+    CHECK(files->len < MOST_FILES && strlen(name) < NAME, "a checkpoint has too many files, or a name is too long");
+    strcpy(files->items[files->len].name, name);
+    files->items[files->len++].number = number;
+}
+
+/* A table never changes once it is written; all other files of a database do. */
+static bool is_table(const char *name) {
+    return strstr(name, ".sst") != NULL;
+}
+
+void task_hold(struct task *task, const struct files *files) {
+    for (size_t place = 0; place < files->len; place++) {
+        if (is_table(files->items[place].name)) {
+            add(&task->held, files->items[place].name, files->items[place].number);
+        }
+    }
+}
+
+static size_t written(char *line, size_t at, char sign, const struct files *files) {
+    for (size_t place = 0; place < files->len; place++) {
+        at += (size_t)sprintf(line + at, " %c%" PRIu64, sign, files->items[place].number);
+    }
+    return at;
+}
+
+relkvanu_answer task_ack(struct task *task, const struct upload *upload) {
+    static _Thread_local char files[2 * MOST_FILES * 24];
+    files[0] = '\0';
+    written(files, written(files, 0, '+', &upload->fresh), '=', &upload->reused);
+    coordinator_step(task->coordinator);
+    return coordinator_call(task->coordinator, "ack %" PRIu64 " %" PRIu64 " 0.%u%s", now(), upload->id, task->index, files);
+}
+
+void task_delete_fresh(struct task *task, const struct upload *upload) {
+    for (size_t place = 0; place < upload->fresh.len; place++) {
+        storage_delete(task->storage, upload->fresh.items[place].number);
+    }
+}
+
+struct uploading {
+    struct task *task;
+    const char *folder;
+    struct upload *upload;
+};
+
+/* Puts a file of the checkpoint into the storage folder, or names it again. */
+static void upload_file(void *with, const char *name) {
+    struct uploading *uploading = with;
+    struct task *task = uploading->task;
+    struct upload *upload = uploading->upload;
+    const struct held *held = found(&task->held, name);
+    unsigned stops_after = atomic_load(&task->stops_after);
+    if (stops_after != 0 && stops_after == upload->fresh.len) {
+        atomic_store(&task->is_stopped, true);
+    }
+    if (atomic_load(&task->is_stopped)) {
+        return;
+    } else if (held != NULL) {
+        add(&upload->reused, name, held->number);
+    } else {
+        uint64_t number = coordinator_new_file(task->coordinator);
+        storage_put(task->storage, number, uploading->folder, name);
+        add(&upload->fresh, name, number);
+        coordinator_step(task->coordinator);
+    }
+}
+
+static void decline(struct task *task, uint64_t id) {
+    relkvanu_answer answer = coordinator_call(task->coordinator, "decline %" PRIu64 " %" PRIu64 " 0.%u", now(), id, task->index);
+    CHECK(answer.code == RELKVANU_DONE, "a decline is refused: %" PRIu32, answer.what);
+    if (answer.what == RELKVANU_DECLINE_FAILED) {
+        atomic_store(task->is_failed, true);
+    }
+}
+
+/* The same message once more: its files are the coordinator's already. */
+static void repeat(struct task *task, const struct upload *upload) {
+    relkvanu_answer answer = task_ack(task, upload);
+    CHECK(answer.code == RELKVANU_REFUSED ? answer.what == RELKVANU_ALREADY_ACKNOWLEDGED : answer.what == RELKVANU_ACK_LATE,
+          "a repeat is answered %" PRIu32, answer.what);
+    pthread_mutex_lock(&task->coordinator->lock);
+    task->coordinator->handed_again += answer.code == RELKVANU_DONE ? answer.a : 0;
+    pthread_mutex_unlock(&task->coordinator->lock);
+}
+
+/* Uploads the checkpoint in the folder and acknowledges. Says whether that was accepted, or the task was stopped:
+ * it is refused where a file that was to be used again is gone, as it is with those of a checkpoint that
+ * another task declined. */
+static bool uploads(struct task *task, uint64_t id, const char *folder) {
+    static _Thread_local struct upload upload;
+    struct uploading uploading = {task, folder, &upload};
+    upload.id = id;
+    upload.fresh.len = upload.reused.len = 0;
+    each_name(folder, upload_file, &uploading);
+    if (atomic_load(&task->is_stopped)) {
+        task->left = upload;
+        return true;
+    }
+    relkvanu_answer answer = task_ack(task, &upload);
+    if (answer.code == RELKVANU_REFUSED) {
+        CHECK(answer.what == RELKVANU_FILE_GONE, "an acknowledgement is refused: %" PRIu32, answer.what);
+        task_delete_fresh(task, &upload);
+        task->held.len = 0;
+        return false;
+    }
+    if (answer.what != RELKVANU_ACK_LATE) {
+        task->held.len = 0;
+        task_hold(task, &upload.fresh);
+        task_hold(task, &upload.reused);
+    }
+    if (chance_below(&task->chance, 10) == 0) {
+        repeat(task, &upload);
+    }
+    return true;
+}
+
+/* The task's part of a record: by the seed it takes its time, or can't. */
+static void take_part(struct task *task, uint64_t id) {
+    char folder[PATH];
+    if (chance_below(&task->chance, 8) == 0) {
+        sleep_ms(chance_below(&task->chance, 200));
+    }
+    if (chance_below(&task->chance, 24) == 0) {
+        decline(task, id);
+        return;
+    }
+    path_of(folder, "%.400s/checkpoint", task->folder);
+    store_snapshot(&task->store, folder);
+    if (!uploads(task, id, folder)) {
+        CHECK(uploads(task, id, folder), "an acknowledgement without reused files is refused");
+    }
+    empty_folder(folder);
+    CHECK(remove(folder) == 0, "%s can't be removed", folder);
+}
+
+static void *work(void *with) {
+    struct task *task = with;
+    struct message message;
+    while (!atomic_load(&task->is_stopped) && queue_get(&task->queue, &message)) {
+        if (message.barrier != 0) {
+            take_part(task, message.barrier);
+        } else {
+            store_count(&task->store, message.partition, message.offset, message.keys, BATCH);
+        }
+    }
+    queue_close(&task->queue);
+    return NULL;
+}
+
+void task_start(struct task *task) {
+    queue_open(&task->queue);
+    task->left.id = 0;
+    atomic_store(&task->is_stopped, false);
+    atomic_store(&task->stops_after, 0);
+    CHECK(pthread_create(&task->thread, NULL, work, task) == 0, "no thread");
+}

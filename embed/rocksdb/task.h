@@ -1,0 +1,56 @@
+/* A task: a thread that counts the records of its queue, and takes its part of a checkpoint at each barrier. */
+#ifndef ENGINE_TASK_H
+#define ENGINE_TASK_H
+
+#include "coordinator.h"
+#include "queue.h"
+#include "storage.h"
+#include "store.h"
+
+#include <stdatomic.h>
+
+/* A file of a database, and the number that it has in the storage folder. */
+struct held {
+    char name[NAME];
+    uint64_t number;
+};
+
+struct files {
+    struct held items[MOST_FILES];
+    size_t len;
+};
+
+/* What a task puts into an acknowledgement. */
+struct upload {
+    uint64_t id;
+    struct files fresh, reused;
+};
+
+struct task {
+    pthread_t thread;
+    struct coordinator *coordinator;
+    const char *storage;
+    char folder[PATH];
+    unsigned index;
+    struct store store;
+    struct queue queue;
+    struct files held;          /* of the database's files, those of its last accepted acknowledgement */
+    struct upload left;         /* what it was uploading when it was stopped; id 0: nothing */
+    struct chance chance;
+    atomic_bool is_stopped;
+    atomic_uint stops_after;    /* in the next checkpoint, after so many files; 0: not there */
+    atomic_bool *is_failed;     /* the job's: it has to be restored */
+};
+
+void task_start(struct task *task);
+
+/* Names those of the files again that never change: the tables. */
+void task_hold(struct task *task, const struct files *files);
+
+/* Acknowledges, and says what it was answered. */
+relkvanu_answer task_ack(struct task *task, const struct upload *upload);
+
+/* Deletes the files that were written for an acknowledgement which was not accepted. */
+void task_delete_fresh(struct task *task, const struct upload *upload);
+
+#endif
