@@ -1,6 +1,7 @@
 pub mod Acknowledged
 pub mod Ascending
 pub mod Configuration
+pub mod Counting
 pub mod Ordered
 pub mod Records
 pub mod Shapes
