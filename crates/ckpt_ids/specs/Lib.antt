@@ -4,4 +4,5 @@ pub mod Configuration
 pub mod Counting
 pub mod Ordered
 pub mod Records
+pub mod RefusalTexts
 pub mod Shapes
