@@ -1,12 +1,13 @@
 ghost use Rattle.std.specs.Prelude.{◌≡◌, ℕ, ◌+◌, ◌≤◌, ◌==◌, ◌++◌, Bool, count_by, vec_len, OnOk, OnErr, List, length};
 ghost use Rattle.std.specs.Vec.{vec_capacity};
 ghost use Rattle.indexmap.specs.IndexMap.{index_map_len};
-ghost use Rattle.ckpt_registry.specs.Counters.{counter, counted_once, times, AreInRange};
+ghost use Rattle.ckpt_registry.specs.Counters.{counter, counted_once, AreInRange};
 ghost use Rattle.std.specs.BTreeMap.{IsOrdered};
 ghost use Rattle.std.specs.Ordering.{nat_cmp};
 ghost use Rattle.ckpt_ids.specs.Records.{Use, count};
 ghost use Rattle.ckpt_registry.specs.Holdings.{holder_of, times_held, uses_in, with_holder};
 ghost use Rattle.ckpt_registry.specs.Uses.{triples, without, without_record};
+ghost use Rattle.ckpt_ids.specs.Counting.{times};
 
 use crate::counters::{Counts, lower};
 use ckpt_ids::{CheckpointId, FileId, SubtaskId};
