@@ -213,6 +213,13 @@ impl Outbox {
     {
         self.waiting.len() as u64
     }
+
+    /// How many files are taken.
+    pub fn taken(&self) -> u64
+        ensures { result ≡ length self.now.taken }
+    {
+        self.taken.files.len() as u64
+    }
 }
 
 #[cfg(test)]
