@@ -20,7 +20,7 @@ use Rattle.ckpt_core.specs.Soundness.{id_before}
 use Rattle.ckpt_core.specs.State.{State, is_checkpoint, is_done_checkpoint, is_pending, is_subsumed, is_surplus}
 use Rattle.ckpt_core.specs.Steps.{dropped_by, replaced, superseded, with_records}
 use Rattle.ckpt_core.proofs.AckMoves.{replaced_members, still_in_replaced}
-use Rattle.ckpt_core.proofs.AckStates.{IsTaking, moved, taken_in, taken_records}
+use Rattle.ckpt_core.proofs.AckStates.{IsTaking, moved, taken_records}
 use Rattle.ckpt_core.proofs.CompleteLists.{IsFinishing, is_past, later_in, noted_pending, noted_row, noted_savepoint, or_false, others, past_count, past_is_surplus}
 use Rattle.ckpt_core.proofs.CompleteMoves.{count_completed}
 use Rattle.ckpt_core.proofs.CompleteTaken.{acked_record, done_record, pinned_acked, pinned_done, taken_there, taken_apart, taken_groups, checkpoint_ending, ending_completes}
@@ -28,6 +28,7 @@ use Rattle.ckpt_core.proofs.CountLemmas.{IsIn-from_find}
 use Rattle.ckpt_core.proofs.GroupLookups.{is_checkpoint-kind, is_savepoint-kind}
 use Rattle.ckpt_core.proofs.Lookups.{AreGroups, count_same, has_number}
 use Rattle.ckpt_ids.proofs.CountLemmas.{count_by-none}
+use Rattle.ckpt_core.specs.Moving.{taken_in}
 
 -- the tests of the step on one record
 

@@ -21,16 +21,16 @@ use Rattle.ckpt_core.specs.Parts.{Answers, AreTied, is_noted, present_in, record
 use Rattle.ckpt_core.specs.State.{State, is_checkpoint, is_subsumed, is_surplus}
 use Rattle.ckpt_core.specs.Steps.{cleared, dropped_by, replaced, step, superseded}
 use Rattle.ckpt_core.proofs.AckMoves.{with_instead}
-use Rattle.ckpt_core.proofs.AckStates.{IsRoomier, IsTaking, moved, now_complete, one_less, roomier_state, taken_in, taken_step, taken_tied}
+use Rattle.ckpt_core.proofs.AckStates.{IsRoomier, IsTaking, moved, now_complete, one_less, roomier_state, taken_step, taken_tied}
 use Rattle.ckpt_core.proofs.CompleteAgrees.{completing_in, finishing, gone_by, row_of, row_rises, superseded_is, superseded_count}
 use Rattle.ckpt_core.proofs.CompleteCalls.{IsLast, taken_out}
 use Rattle.ckpt_core.proofs.CompleteLists.{IsFinishing, is_past, noted_row, noted_savepoint, others, retained_is}
 use Rattle.ckpt_core.proofs.CompleteMoves.{IsEnding, completed_is, kept_records, left_groups, left_records, left_uses, released_files}
-use Rattle.ckpt_core.proofs.CompleteParts.{checkpoint_completed}
 use Rattle.ckpt_core.proofs.CompleteTaken.{acked_record, done_record, pinned_acked, pinned_done, checkpoint_ending, ending_completes, savepoint_ending}
 use Rattle.ckpt_core.proofs.DropMoves.{present_after, stays, staying}
 use Rattle.ckpt_core.proofs.GroupLookups.{is_checkpoint-kind, is_savepoint-kind}
 use Rattle.ckpt_ids.proofs.CountLemmas.{count_by-none}
+use Rattle.ckpt_core.specs.Moving.{checkpoint_completed, savepoint_completed, taken_in}
 
 -- the step, where these numbers go
 last_step : {p : Parts} {now id : ℕ} {s : SubtaskId} {fresh reused : List ℕ} {r : Record} {more_checkpoints more_savepoints : List Record} → IsTaking p now id s fresh reused r → missing r ≡ 1 →
@@ -152,17 +152,6 @@ checkpoint_answers {p} {q} {then} {now} {id} {s} {fresh} {reused} {r} {done} new
     subst P (sym whole) (subst Q (sym answered_so) (checkpoint_is new roomier l.taking l.last l.room its none room))
 
 -- a savepoint
-
-abbrev pub savepoint_completed : Parts → Record → Parts → Parts
-savepoint_completed p done then = record p {
-  registry = after_end done.id [] p.registry;
-  store = record p.store { savepoints = put by_id done p.store.savepoints; spare = then.store.spare };
-  outbox = record p.outbox {
-    waiting = p.outbox.waiting ++ released p.registry (after_end done.id [] p.registry);
-    spare = p.outbox.spare - length (released p.registry (after_end done.id [] p.registry));
-  };
-  ended = then.ended;
-}
 
 savepoint_records : {p : Parts} {now id : ℕ} {s : SubtaskId} {fresh reused : List ℕ} {r : Record} (then : Parts) → IsTaking p now id s fresh reused r →
     records_in (savepoint_completed (taken_out p now id s fresh reused r) (done_record r s fresh reused) then)

@@ -201,3 +201,7 @@ Pinned o before call calls =
     → ((g : ℕ) → IsIn g reused → IsIn g (files_of (chosen (choice_of m) m)))
     → refusal (replay (step m call).0 calls) (Ack now id subtask fresh reused) ≡ Some (FileGone f)
     → ⊥
+
+-- whatever call triggers the record
+abbrev pub PinsStay : Type 0
+PinsStay = (o : Opening) (before : List Call) (call : Call) (calls : List Call) → CanOpen o → AreCalls before → IsCall call → AreCalls calls → Pinned o before call calls
