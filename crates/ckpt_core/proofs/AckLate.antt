@@ -9,7 +9,7 @@ use Rattle.ckpt_ids.specs.declared.reply.Answer.TheVariants.{Done}
 use Rattle.ckpt_ids.specs.declared.reply.Reply.TheVariants as reply
 use Rattle.ckpt_ids.specs.declared.subtask.SubtaskId.{SubtaskId}
 use Rattle.ckpt_ids.specs.Records.{Record, is_present}
-use Rattle.ckpt_ids.proofs.OrderedLemmas.{IsIn-from_filter}
+use Rattle.ckpt_ids.proofs.OrderedLemmas.{IsIn-from_filter, filter-same, AreDistinct-left, AreDistinct-filter}
 use Rattle.ckpt_outbox.specs.Queues as queues
 use Rattle.ckpt_rules.specs.Moments.{Moments}
 use Rattle.ckpt_core.specs.declared.parts.Parts.{Parts}
@@ -19,9 +19,8 @@ use Rattle.ckpt_core.specs.Refusals.{refusal, pending_of}
 use Rattle.ckpt_core.specs.State.{State, is_known}
 use Rattle.ckpt_core.specs.Steps.{Stepped, ack, effect, step, unless_refused}
 use Rattle.ckpt_core.proofs.Accepted.{IsAcceptedAck, accepted_ack}
-use Rattle.ckpt_core.proofs.GroupMoves.{filter_same}
-use Rattle.ckpt_core.proofs.HandOut.{distinct_by_test}
-use Rattle.ckpt_core.proofs.Released.{distinct-filter, distinct_left, distinct-from_test, IsIn-from_test}
+use Rattle.ckpt_core.proofs.Released.{distinct-from_test, IsIn-from_test}
+use Rattle.ckpt_ids.specs.Ordered.{AreDistinct}
 
 -- what an accepted acknowledgement does
 pub ack_step : (m : State) (now id : ℕ) (subtask : SubtaskId) (fresh reused : List ℕ) (o : Option Record) → refusal m (Ack now id subtask fresh reused) ≡ None → pending_of m.records id ≡ o →
@@ -41,7 +40,7 @@ known_same p f tied = ap (λ us. is_present us f || queues.is_known p.outbox f) 
 
 unknown_same : (p : Parts) (now : ℕ) (fresh : List ℕ) → AreTied p → filter (λ f. not (is_known (record (state_of p) { latest = max now p.clock.latest }) f)) fresh ≡ unknown_in p fresh
 unfolding state_of
-unknown_same p now fresh tied = filter_same (λ f. not (is_known (state_of p) f)) (λ f. not (is_known_in p f)) fresh (λ f h. ap not (sym (known_same p f tied)))
+unknown_same p now fresh tied = filter-same (λ f. not (is_known (state_of p) f)) (λ f. not (is_known_in p f)) fresh (λ f h. ap not (sym (known_same p f tied)))
 
 late_step : (p : Parts) (now id : ℕ) (subtask : SubtaskId) (fresh reused : List ℕ) → AreTied p → IsAccepted p (Ack now id subtask fresh reused) → pending_of (state_of p).records id ≡ None →
     step (state_of p) (Ack now id subtask fresh reused) ≡ (record (state_of p) { latest = max now p.clock.latest; waiting = p.outbox.waiting ++ unknown_in p fresh }, Done (reply.AckLate (length (unknown_in p fresh))))
@@ -60,11 +59,11 @@ pub unknown_counted : (p : Parts) (fresh : List ℕ) → 0 < count_by (λ f. not
 unknown_counted p fresh h = omega (arith, length-filter (λ f. not (is_known_in p f)) fresh)
 
 -- they can be put
-pub unknown_distinct : (p : Parts) (now id : ℕ) (subtask : SubtaskId) (fresh reused files : List ℕ) → IsAccepted p (Ack now id subtask fresh reused) → files ≡ unknown_in p fresh → queues.AreDistinct files
+pub unknown_distinct : (p : Parts) (now id : ℕ) (subtask : SubtaskId) (fresh reused files : List ℕ) → IsAccepted p (Ack now id subtask fresh reused) → files ≡ unknown_in p fresh → AreDistinct files
 unknown_distinct p now id subtask fresh reused files accepted is =
     let a : IsAcceptedAck (state_of p) now id subtask fresh reused = accepted_ack (state_of p) now id subtask fresh reused accepted in
-    let P : List ℕ → Type 0 = λ fs. queues.AreDistinct fs in
-    subst P (sym is) (distinct_by_test (unknown_in p fresh) (distinct-filter (λ f. not (is_known_in p f)) fresh (distinct_left fresh reused (distinct-from_test (fresh ++ reused) a.once))))
+    let P : List ℕ → Type 0 = λ fs. AreDistinct fs in
+    subst P (sym is) (AreDistinct-filter (λ f. not (is_known_in p f)) fresh (AreDistinct-left fresh reused (distinct-from_test (fresh ++ reused) a.once)))
 
 pub unknown_new : (p : Parts) (fresh files : List ℕ) → files ≡ unknown_in p fresh → (f : ℕ) → queues.is_in f files ≡ true → queues.is_known p.outbox f ≡ false
 unknown_new p fresh files is f h =

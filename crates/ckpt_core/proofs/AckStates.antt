@@ -45,6 +45,7 @@ use Rattle.ckpt_core.proofs.Replacing.{same_record}
 use Rattle.ckpt_core.proofs.SoundAcks.{IsAcking, with_ack, with_ack_is}
 use Rattle.ckpt_core.proofs.SoundCalls.{acking}
 use Rattle.ckpt_core.proofs.UsesOrder.{from_holds, all_uses_in_order, record_in_order, record_uses_in_order, uses-in_order}
+use Rattle.ckpt_core.specs.Moving.{taken_in}
 
 -- the parts with other room
 
@@ -82,14 +83,6 @@ roomier_sound {p} {q} r sound =
 
 pub roomier_stays : {p q : Parts} → IsRoomier p q → AreSound p → Stays p q
 roomier_stays {p} {q} r sound = let s : AreSound q = roomier_sound r sound in record { state_is = roomier_state r; tied = s.tied; none_ended = s.none_ended }
-
--- the acknowledgement is taken
-abbrev pub taken_in : Parts → ℕ → ℕ → SubtaskId → List ℕ → List ℕ → Parts
-taken_in p now id s fresh reused = record p {
-  clock = record p.clock { latest = max now p.clock.latest };
-  pending = acked id s (ascending (fresh ++ reused)) p.pending;
-  registry = in_order_once use_before (p.registry ++ triples id (Subtask s) (fresh ++ reused));
-}
 
 -- what is known of it
 pub record IsTaking (p : Parts) (now id : ℕ) (s : SubtaskId) (fresh reused : List ℕ) (r : Record) : Type 0 where

@@ -25,7 +25,6 @@ use Rattle.ckpt_core.specs.Soundness.{IsSound}
 use Rattle.ckpt_core.specs.State.{in_outbox}
 use Rattle.ckpt_core.specs.Steps.{acknowledged}
 use Rattle.ckpt_core.proofs.Accepted.{IsAcceptedAck, accepted_ack}
-use Rattle.ckpt_core.proofs.AckCounts.{each_once, count_bound}
 use Rattle.ckpt_core.proofs.AckRecords.{new_subtask}
 use Rattle.ckpt_core.proofs.CountLemmas.{IsIn-from_find}
 use Rattle.ckpt_core.proofs.DropMoves.{apart_in, groups_of}
@@ -35,6 +34,9 @@ use Rattle.ckpt_core.proofs.SoundAcks.{IsAcking}
 use Rattle.ckpt_core.proofs.SoundCalls.{acking}
 use Rattle.ckpt_core.proofs.TriggerParts.{live_records}
 use Rattle.ckpt_core.proofs.UsesOrder.{holds, from_holds, use_of_record}
+use Rattle.ckpt_core.proofs.ExchangeLemmas.{has_its_own}
+use Rattle.ckpt_core.proofs.CountBound.{count-records}
+use Rattle.ckpt_core.proofs.Balances.{times_at_most_once}
 
 -- the record of this number, with its pins
 pub found_pending : (p : Parts) (id : ℕ) → IsSound (state_of p) → ((r : Record) → IsIn r p.pending → IsPending r) → IsStored p.store → pending_of (state_of p).records id ≡ option_map (with_pins p.registry) (find (has_number id) p.pending)
@@ -75,7 +77,7 @@ pub record CanTake (p : Parts) (now id : ℕ) (subtask : SubtaskId) (fresh reuse
 count_limit : (p : Parts) (f : ℕ) → AreSound p → count p.registry f < 2 ^ 32 - 1
 unfolding state_of
 count_limit p f sound =
-    let bound : count (uses (records_in p)) f ≤ 4097 * length (records_in p) = count_bound (records_in p) f sound.sound.each in
+    let bound : count (uses (records_in p)) f ≤ 4097 * length (records_in p) = count-records f (records_in p) sound.sound.each in
     let few : length (records_in p) ≤ 2064 = live_records p sound.sound in
     let same : count p.registry f ≡ count (uses (records_in p)) f = ap (λ us. count us f) sound.tied.uses_are in
     omega arith
@@ -107,7 +109,7 @@ can_take p now id subtask fresh reused r sound accepted pending stored e =
           (a.of_subtask (with_pins p.registry s) g, a.first (with_pins p.registry s) g);
       fresh_absent = λ f h. present f ∙ (or_parts (is_present (uses (records_in p)) f) (in_outbox (state_of p) f) (k.unknown f h)).0;
       reused_present = λ f h. present f ∙ k.present f h;
-      each_once = each_once (fresh ++ reused) k.once;
+      each_once = λ f. times_at_most_once f (fresh ++ reused) k.once;
       below = λ f h. count_limit p f sound;
       unused = no_use p q id subtask sound k.there its k.first;
     }
@@ -126,11 +128,6 @@ found_acked id s files r rs e =
     ∙ ap (option_map ack) (find_agree (λ q. has_number id (ack q)) (has_number id) rs (λ q h. ap (λ i. eqb i id) (ack_id id s files q)) ∙ e)
     ∙ ap (λ b. Some (cond b (acknowledged r s files) r)) (IsIn-from_find (has_number id) r rs e).1
 
-has_its_ack : (r : Record) (s : SubtaskId) (files : List ℕ) → has_acknowledged (acknowledged r s files) s ≡ true
-has_its_ack r s files =
-    let a : Acked = record { subtask = s; files = files } in
-    list_any-from_IsIn (λ (b : Acked). same_subtask s b.subtask) a (put_ack a r.acks) (IsIn-put_itself acknowledges_before a r.acks) (same_subtask-itself s)
-
 pub record IsFoundAcked (id : ℕ) (s : SubtaskId) (rs : List Record) : Type 0 where
   pub there : IsSome (find (has_number id) rs)
   pub acknowledged : (r : Record) → find (has_number id) rs ≡ Some r → has_acknowledged r s ≡ true
@@ -141,7 +138,7 @@ is_found_acked id s files r rs new e is =
     let P : Option Record → Type 0 = λ o. IsSome o in
     record {
       there = subst P (sym found) refl;
-      acknowledged = λ q h. let same : acknowledged r s files ≡ q = let both : Some (acknowledged r s files) ≡ Some q = sym found ∙ h in cc in ap (λ x. has_acknowledged x s) (sym same) ∙ has_its_ack r s files;
+      acknowledged = λ q h. let same : acknowledged r s files ≡ q = let both : Some (acknowledged r s files) ≡ Some q = sym found ∙ h in cc in ap (λ x. has_acknowledged x s) (sym same) ∙ has_its_own r s files;
     }
 
 pub some_from : {X : Type 0} (o : Option X) → IsSome o → (x : X) × (o ≡ Some x)

@@ -10,8 +10,8 @@ use Rattle.ckpt_ids.specs.Records.{Use, count, is_present}
 use Rattle.ckpt_ids.proofs.AscendingLemmas.{numbers_in_order}
 use Rattle.ckpt_ids.proofs.OrderedLemmas.{IsIn-map, IsIn-from_map, IsIn-filter, IsIn-from_filter, IsInOrder-filter, IsInOrder-in_order_once, IsIn-in_order_once, IsIn-from_in_order_once, same_from_members}
 use Rattle.ckpt_core.specs.Parts.{present_in}
-use Rattle.ckpt_core.proofs.CountLemmas.{IsIn-from_counted}
 use Rattle.ckpt_core.proofs.HandOut.{present-from_use}
+use Rattle.ckpt_ids.proofs.CountLemmas.{IsIn-from_counted}
 
 -- how many files are in use after an acknowledgement
 

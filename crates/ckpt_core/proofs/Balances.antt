@@ -1,14 +1,15 @@
 -- What a change of the records registers, hands out and leaves present, file by file.
 use Rattle.std.proofs.Common.{◌≡◌, ℕ, zero, suc, ◌+◌, ◌<◌, ◌≤◌, true, false, eqb, List, [], ◌∷◌, ◌++◌, length, drop, refl, sym, ap, subst, ◌∙◌, ◌⊎◌, inl, inr, ⊎_elim, arith}
 use Rattle.std.proofs.lemmas.Bool.{cases_Bool, both_ways, eqb-true, eq-eqb, ne_eqb}
-use Rattle.ckpt_ids.specs.Ordered.{IsIn}
+use Rattle.ckpt_ids.specs.Ordered.{IsIn, AreDistinct}
 use Rattle.ckpt_ids.specs.Records.{Record, uses, is_present, released}
-use Rattle.ckpt_core.specs.Soundness.{AreDistinct}
-use Rattle.ckpt_core.specs.Laws.{times, one_if}
-use Rattle.ckpt_ids.proofs.CountLemmas.{count_by-append}
-use Rattle.ckpt_core.proofs.CountLemmas.{count_by_yes, count_by_no, counted-from_IsIn, IsIn-from_counted}
+use Rattle.ckpt_core.specs.Laws.{one_if}
+use Rattle.ckpt_ids.proofs.CountLemmas.{count_by-append, count_by_yes, count_by_no, counted-from_IsIn, IsIn-from_counted, times-from_IsIn, IsIn-from_times, times-append}
 use Rattle.ckpt_core.proofs.UsesLemmas.{IsHeld, IsHeld-from_present, present-from_IsHeld, not_held, absent-from_not_held}
-use Rattle.ckpt_core.proofs.Released.{ascending-released, distinct-from_ascending, after-from_released, held-from_released, released-from_held}
+use Rattle.ckpt_core.proofs.Released.{ascending-released, after-from_released, held-from_released, released-from_held}
+use Rattle.ckpt_ids.specs.Counting.{times}
+use Rattle.ckpt_ids.proofs.OrderedLemmas.{AreDistinct-from_order}
+use Rattle.ckpt_ids.proofs.AscendingLemmas.{numbers_in_order}
 
 -- how often a number is in a list
 
@@ -38,21 +39,6 @@ times_at_most_once f (x ∷ xs) d =
     (λ (e : eqb x f ≡ true). let rest : times f xs ≡ 0 = times_none f xs (λ h. d.0 (subst P (sym (eqb-true x f e)) h)) in omega (arith, count_by_yes (λ g. eqb g f) x xs e))
     (λ (e : eqb x f ≡ false). let rest : times f xs ≤ 1 = times_at_most_once f xs d.1 in omega (arith, count_by_no (λ g. eqb g f) x xs e))
     (cases_Bool (eqb x f))
-
--- one that is in a list is there at least once
-pub times_some : (f : ℕ) (xs : List ℕ) → IsIn f xs → 0 < times f xs
-times_some f xs h = counted-from_IsIn (λ g. eqb g f) f xs h (eq-eqb f f refl)
-
--- and the other way round
-pub IsIn-from_times : (f : ℕ) (xs : List ℕ) → 0 < times f xs → IsIn f xs
-IsIn-from_times f xs h =
-    let q = IsIn-from_counted (λ g. eqb g f) xs h in
-    let P : ℕ → Type 0 = λ g. IsIn g xs in
-    subst P (eqb-true q.0 f q.2) q.1
-
--- how often it is in two lists together
-pub times-append : (f : ℕ) (xs ys : List ℕ) → times f (xs ++ ys) ≡ times f xs + times f ys
-times-append f xs ys = count_by-append (λ g. eqb g f) xs ys
 
 -- Before, each file that is registered or present: it is handed out or present after, as often.
 pub record IsEven (before after : List Record) (in_ out : List ℕ) : Type 0 where
@@ -100,7 +86,7 @@ even_dropped before after was = record { even = balanced }
         ⊎_elim
         (λ (g : is_present (uses before) f ≡ true).
         let a : one_if (is_present (uses before) f) ≡ 1 = ap one_if g in
-        let once : times f out ≡ 1 = times_once f out (distinct-from_ascending out (ascending-released (uses before) (uses after))) (released-from_held f before (uses after) g e) in
+        let once : times f out ≡ 1 = times_once f out (AreDistinct-from_order numbers_in_order out (ascending-released (uses before) (uses after))) (released-from_held f before (uses after) g e) in
         omega arith)
         (λ (g : is_present (uses before) f ≡ false).
         let a : one_if (is_present (uses before) f) ≡ 0 = ap one_if g in

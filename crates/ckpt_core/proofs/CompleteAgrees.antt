@@ -20,13 +20,15 @@ use Rattle.ckpt_core.specs.Soundness.{id_before}
 use Rattle.ckpt_core.specs.State.{State, is_checkpoint, is_done_checkpoint, is_pending, is_subsumed, is_surplus}
 use Rattle.ckpt_core.specs.Steps.{dropped_by, replaced, superseded, with_records}
 use Rattle.ckpt_core.proofs.AckMoves.{replaced_members, still_in_replaced}
-use Rattle.ckpt_core.proofs.AckStates.{IsTaking, moved, taken_in, taken_records}
+use Rattle.ckpt_core.proofs.AckStates.{IsTaking, moved, taken_records}
 use Rattle.ckpt_core.proofs.CompleteLists.{IsFinishing, is_past, later_in, noted_pending, noted_row, noted_savepoint, or_false, others, past_count, past_is_surplus}
 use Rattle.ckpt_core.proofs.CompleteMoves.{count_completed}
 use Rattle.ckpt_core.proofs.CompleteTaken.{acked_record, done_record, pinned_acked, pinned_done, taken_there, taken_apart, taken_groups, checkpoint_ending, ending_completes}
 use Rattle.ckpt_core.proofs.CountLemmas.{IsIn-from_find}
 use Rattle.ckpt_core.proofs.GroupLookups.{is_checkpoint-kind, is_savepoint-kind}
-use Rattle.ckpt_core.proofs.Lookups.{AreGroups, count_none, count_same, has_number}
+use Rattle.ckpt_core.proofs.Lookups.{AreGroups, count_same, has_number}
+use Rattle.ckpt_ids.proofs.CountLemmas.{count_by-none}
+use Rattle.ckpt_core.specs.Moving.{taken_in}
 
 -- the tests of the step on one record
 
@@ -132,9 +134,9 @@ later_same {p} {now} {id} {s} {fresh} {reused} {r} t checkpoint x =
     let later : Record → Bool = λ y. is_done_checkpoint y && ltb x.id y.id in
     let all : count_by later (replaced (records_in p) (pinned_done p r s fresh reused)) ≡ count_by later (others r.id after.pending) + (count_by later row + count_by later p.store.savepoints) =
     count_completed (ending_completes t (checkpoint_ending t)) later (λ y fs. refl) in
-    let none_pending : count_by later (others r.id after.pending) ≡ 0 = count_none later (others r.id after.pending) (λ y h.
+    let none_pending : count_by later (others r.id after.pending) ≡ 0 = count_by-none later (others r.id after.pending) (λ y h.
     ap (λ b. (b && is_checkpoint y) && ltb x.id y.id) (g.not_done y (IsIn-from_filter (λ q. not (eqb q.id r.id)) y after.pending h).0)) in
-    let no_savepoint : count_by later p.store.savepoints ≡ 0 = count_none later p.store.savepoints (λ y h.
+    let no_savepoint : count_by later p.store.savepoints ≡ 0 = count_by-none later p.store.savepoints (λ y h.
     let k = g.savepoints_done y h in ap (λ b. b && ltb x.id y.id) (and_right y.done (is_checkpoint y) (is_savepoint-kind y k.1))) in
     let of_row : count_by later row ≡ later_in row x = count_same later (λ y. ltb x.id y.id) row (λ y h.
     let k = row_is_done t checkpoint y h in ap (λ b. b && ltb x.id y.id) (and_from y.done (is_checkpoint y) k.0 k.1)) in
@@ -199,5 +201,5 @@ superseded_count {p} {now} {id} {s} {fresh} {reused} {r} t checkpoint =
     count_completed (ending_completes t (checkpoint_ending t)) (is_noted gone) (λ y fs. refl) in
     let of_pending : count_by (is_noted gone) left ≡ count_by (is_before d.id) left = count_same (is_noted gone) (is_before d.id) left (λ y h. noted_pending f y (IsIn-from_filter (λ q. not (eqb q.id r.id)) y after.pending h).0) in
     let of_row : count_by (is_noted gone) row ≡ length (surplus p.store d) = count_same (is_noted gone) (is_past p.store.retained row) row (noted_row f) ∙ past_count p.store.retained row (row_rises t checkpoint) in
-    let of_savepoints : count_by (is_noted gone) p.store.savepoints ≡ 0 = count_none (is_noted gone) p.store.savepoints (noted_savepoint f) in
+    let of_savepoints : count_by (is_noted gone) p.store.savepoints ≡ 0 = count_by-none (is_noted gone) p.store.savepoints (noted_savepoint f) in
     omega (arith, length-append (earlier d.id left) (surplus p.store d), length-map (filter (is_before d.id) left) (λ (q : Record). q.id), length-filter (is_before d.id) left)

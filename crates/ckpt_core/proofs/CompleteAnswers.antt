@@ -11,7 +11,7 @@ use Rattle.ckpt_ids.specs.declared.reply.Reply.TheVariants as reply
 use Rattle.ckpt_ids.specs.declared.subtask.SubtaskId.{SubtaskId}
 use Rattle.ckpt_ids.specs.Ordered.{IsIn, put}
 use Rattle.ckpt_ids.specs.Records.{Record, Use, missing, released, uses}
-use Rattle.ckpt_ids.proofs.OrderedLemmas.{IsIn-from_filter}
+use Rattle.ckpt_ids.proofs.OrderedLemmas.{IsIn-from_filter, filter-all, filter-same}
 use Rattle.ckpt_registry.specs.Uses.{after_end, is_ended}
 use Rattle.ckpt_store.specs.Storing.{by_id, retained_of}
 use Rattle.ckpt_core.specs.declared.parts.Parts.{Parts}
@@ -21,17 +21,16 @@ use Rattle.ckpt_core.specs.Parts.{Answers, AreTied, is_noted, present_in, record
 use Rattle.ckpt_core.specs.State.{State, is_checkpoint, is_subsumed, is_surplus}
 use Rattle.ckpt_core.specs.Steps.{cleared, dropped_by, replaced, step, superseded}
 use Rattle.ckpt_core.proofs.AckMoves.{with_instead}
-use Rattle.ckpt_core.proofs.AckStates.{IsRoomier, IsTaking, moved, now_complete, one_less, roomier_state, taken_in, taken_step, taken_tied}
+use Rattle.ckpt_core.proofs.AckStates.{IsRoomier, IsTaking, moved, now_complete, one_less, roomier_state, taken_step, taken_tied}
 use Rattle.ckpt_core.proofs.CompleteAgrees.{completing_in, finishing, gone_by, row_of, row_rises, superseded_is, superseded_count}
 use Rattle.ckpt_core.proofs.CompleteCalls.{IsLast, taken_out}
 use Rattle.ckpt_core.proofs.CompleteLists.{IsFinishing, is_past, noted_row, noted_savepoint, others, retained_is}
 use Rattle.ckpt_core.proofs.CompleteMoves.{IsEnding, completed_is, kept_records, left_groups, left_records, left_uses, released_files}
-use Rattle.ckpt_core.proofs.CompleteParts.{checkpoint_completed}
 use Rattle.ckpt_core.proofs.CompleteTaken.{acked_record, done_record, pinned_acked, pinned_done, checkpoint_ending, ending_completes, savepoint_ending}
 use Rattle.ckpt_core.proofs.DropMoves.{present_after, stays, staying}
 use Rattle.ckpt_core.proofs.GroupLookups.{is_checkpoint-kind, is_savepoint-kind}
-use Rattle.ckpt_core.proofs.GroupMoves.{filter_all, filter_same}
-use Rattle.ckpt_core.proofs.Lookups.{count_none}
+use Rattle.ckpt_ids.proofs.CountLemmas.{count_by-none}
+use Rattle.ckpt_core.specs.Moving.{checkpoint_completed, savepoint_completed, taken_in}
 
 -- the step, where these numbers go
 last_step : {p : Parts} {now id : ℕ} {s : SubtaskId} {fresh reused : List ℕ} {r : Record} {more_checkpoints more_savepoints : List Record} → IsTaking p now id s fresh reused r → missing r ≡ 1 →
@@ -102,8 +101,8 @@ checkpoint_records {p} {now} {id} {s} {fresh} {reused} {r} then t checkpoint =
     let left : List Use = after_end d.id gone after.registry in
     let pending : List Record = staying gone (others d.id after.pending) in
     let kept_row : staying gone row ≡ retained_of p.store.retained row =
-    filter_same (λ x. stays gone x.id) (λ x. not (is_past p.store.retained row x)) row (λ x h. ap not (noted_row f x h)) ∙ retained_is p.store.retained row (row_rises t checkpoint) in
-    let kept_savepoints : staying gone p.store.savepoints ≡ p.store.savepoints = filter_all (λ x. stays gone x.id) p.store.savepoints (λ x h. ap not (noted_savepoint f x h)) in
+    filter-same (λ x. stays gone x.id) (λ x. not (is_past p.store.retained row x)) row (λ x h. ap not (noted_row f x h)) ∙ retained_is p.store.retained row (row_rises t checkpoint) in
+    let kept_savepoints : staying gone p.store.savepoints ≡ p.store.savepoints = filter-all (λ x. stays gone x.id) p.store.savepoints (λ x h. ap not (noted_savepoint f x h)) in
     ap (λ cs. records_of left pending cs p.store.savepoints) (sym kept_row) ∙ ap (λ ss. records_of left pending (staying gone row) ss) (sym kept_savepoints)
 
 checkpoint_is : {p q : Parts} {now id : ℕ} {s : SubtaskId} {fresh reused : List ℕ} {r : Record} (then : Parts) → IsRoomier p q → IsTaking q now id s fresh reused r → missing r ≡ 1 → present_in q.registry + length fresh ≤ q.outbox.spare → r.kind ≡ kind.Checkpoint →
@@ -154,17 +153,6 @@ checkpoint_answers {p} {q} {then} {now} {id} {s} {fresh} {reused} {r} {done} new
 
 -- a savepoint
 
-abbrev pub savepoint_completed : Parts → Record → Parts → Parts
-savepoint_completed p done then = record p {
-  registry = after_end done.id [] p.registry;
-  store = record p.store { savepoints = put by_id done p.store.savepoints; spare = then.store.spare };
-  outbox = record p.outbox {
-    waiting = p.outbox.waiting ++ released p.registry (after_end done.id [] p.registry);
-    spare = p.outbox.spare - length (released p.registry (after_end done.id [] p.registry));
-  };
-  ended = then.ended;
-}
-
 savepoint_records : {p : Parts} {now id : ℕ} {s : SubtaskId} {fresh reused : List ℕ} {r : Record} (then : Parts) → IsTaking p now id s fresh reused r →
     records_in (savepoint_completed (taken_out p now id s fresh reused r) (done_record r s fresh reused) then)
     ≡ left_groups (taken_in p now id s fresh reused).registry (taken_in p now id s fresh reused).pending p.store.checkpoints (put by_id (done_record r s fresh reused) p.store.savepoints) (done_record r s fresh reused) []
@@ -174,7 +162,7 @@ savepoint_records {p} {now} {id} {s} {fresh} {reused} {r} then t =
     let left : List Use = after_end d.id [] after.registry in
     let pending : List Record = others d.id after.pending in
     let saved : List Record = put by_id d p.store.savepoints in
-    let whole : (xs : List Record) → xs ≡ staying [] xs = λ xs. sym (filter_all (λ x. stays [] x.id) xs (λ x h. refl)) in
+    let whole : (xs : List Record) → xs ≡ staying [] xs = λ xs. sym (filter-all (λ x. stays [] x.id) xs (λ x h. refl)) in
     ap (λ ps. records_of left ps p.store.checkpoints saved) (whole pending)
     ∙ ap (λ cs. records_of left (staying [] pending) cs saved) (whole p.store.checkpoints)
     ∙ ap (λ ss. records_of left (staying [] pending) (staying [] p.store.checkpoints) ss) (whole saved)
@@ -200,7 +188,7 @@ savepoint_is {p} {q} {now} {id} {s} {fresh} {reused} {r} then roomier t last roo
     record {
       step_is =
           ap (λ n. step n (Ack now id s fresh reused)) (sym (roomier_state roomier))
-          ∙ last_step t last e [] files (records_in new) (λ x h. none_superseded m c x its) (count_none (superseded m c) m.records (λ x h. none_superseded m c x its)) records refl
+          ∙ last_step t last e [] files (records_in new) (λ x h. none_superseded m c x its) (count_by-none (superseded m c) m.records (λ x h. none_superseded m c x its)) records refl
           ∙ ap (λ n. (n, Done (reply.AckCompleted 0 (length files)))) (cleared_savepoint (record (moved q now) { records = records_in new; waiting = q.outbox.waiting ++ files }) c its);
       tied = record {
         uses_are = left_uses e [] ∙ ap uses (sym records);

@@ -23,18 +23,19 @@ use Rattle.ckpt_core.specs.Parts.{AreSound, AreTied, IsAccepted, present_in, rec
 use Rattle.ckpt_core.specs.Soundness.{id_before}
 use Rattle.ckpt_core.specs.State.{in_outbox}
 use Rattle.ckpt_core.proofs.AckMoves.{with_instead}
-use Rattle.ckpt_core.proofs.AckStates.{IsRoomier, IsTaking, its_number, room_made, taking_from, one_less, taken_in, taken_records, taken_tied, taking}
+use Rattle.ckpt_core.proofs.AckStates.{IsRoomier, IsTaking, its_number, room_made, taking_from, one_less, taken_records, taken_tied, taking}
 use Rattle.ckpt_core.proofs.AckTakes.{found_acked}
 use Rattle.ckpt_core.proofs.CompleteAgrees.{its_above}
 use Rattle.ckpt_core.proofs.CompleteLists.{fewer, others}
 use Rattle.ckpt_core.proofs.CompleteTaken.{acked_record, done_record, pinned_acked, taken_there, not_done_number}
-use Rattle.ckpt_core.proofs.CountLemmas.{IsIn-from_counted}
 use Rattle.ckpt_core.proofs.DropMoves.{fails, none_known}
 use Rattle.ckpt_core.proofs.HandOut.{present-from_use}
 use Rattle.ckpt_core.proofs.Lookups.{has_number, length-records_of}
 use Rattle.ckpt_core.proofs.SoundAcks.{IsAcking}
 use Rattle.ckpt_core.proofs.TriggerParts.{live_records}
 use Rattle.ckpt_core.proofs.UsesOrder.{from_holds}
+use Rattle.ckpt_ids.proofs.CountLemmas.{IsIn-from_counted}
+use Rattle.ckpt_core.specs.Moving.{taken_in}
 
 -- the parts without the pending record
 abbrev pub taken_out : Parts → ℕ → ℕ → SubtaskId → List ℕ → List ℕ → Record → Parts

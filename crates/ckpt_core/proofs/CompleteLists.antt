@@ -8,18 +8,18 @@ use Rattle.std.proofs.lemmas.List.Folds.{list_any-append}
 use Rattle.std.proofs.lemmas.List.Sums.{count_by-le-length}
 use Rattle.ckpt_ids.specs.Ordered.{IsIn, ComesBefore}
 use Rattle.ckpt_ids.specs.Records.{Record, Use}
-use Rattle.ckpt_ids.proofs.OrderedLemmas.{IsIn-append_cases, IsIn-append_left, IsIn-append_right, IsIn-map, IsIn-filter, IsIn-from_filter, ComesBefore-at}
+use Rattle.ckpt_ids.proofs.OrderedLemmas.{IsIn-append_cases, IsIn-append_left, IsIn-append_right, IsIn-map, IsIn-filter, IsIn-from_filter, ComesBefore-at, filter-all}
 use Rattle.ckpt_store.specs.Storing.{Stored, AreRising, IsAbove, lowest, past_retained, retained_of}
 use Rattle.ckpt_core.specs.Completing.{number_in, surplus, earlier, superseded, is_before}
 use Rattle.ckpt_core.specs.Grouped.{with_pins, grouped}
 use Rattle.ckpt_core.specs.Parts.{is_noted}
 use Rattle.ckpt_core.specs.Soundness.{id_before}
 use Rattle.ckpt_core.specs.State.{is_checkpoint}
-use Rattle.ckpt_core.proofs.CountLemmas.{count_by_yes, count_by_no, count_by_at_most_more}
+use Rattle.ckpt_core.proofs.CountLemmas.{count_by_at_most_more}
 use Rattle.ckpt_core.proofs.DropMoves.{fails, noted-from_IsIn, IsIn-from_noted}
 use Rattle.ckpt_core.proofs.GroupedLemmas.{AreApart, apart_left, apart_right, apart_between}
-use Rattle.ckpt_core.proofs.GroupMoves.{filter_all}
-use Rattle.ckpt_core.proofs.Lookups.{count_none, count_all, one_of_number}
+use Rattle.ckpt_core.proofs.Lookups.{count_all, one_of_number}
+use Rattle.ckpt_ids.proofs.CountLemmas.{count_by_yes, count_by_no, count_by-none}
 
 -- a row of records in rising number
 
@@ -52,12 +52,12 @@ retained_is n (y ∷ row) order =
     let Goal : Type 0 = filter keep (y ∷ row) ≡ retained_of n (y ∷ row) in
     let more : long ≡ true → Goal = λ (e : long ≡ true).
     let first : keep y ≡ false = ap not (past_where n y row y e ∙ or_left (eqb y.id y.id) false (eq-eqb y.id y.id refl)) in
-    let others : filter keep row ≡ row = filter_all keep row (λ x h.
+    let others : filter keep row ≡ row = filter-all keep row (λ x h.
     let ne : eqb x.id y.id ≡ false = ne_eqb x.id y.id (λ k. let lt : y.id < x.id = rises y x row order.0 h in absurd (omega arith)) in
     ap not (past_where n y row x e ∙ ap (λ b. b || false) ne)) in
     ap (λ b. cond b (y ∷ filter keep row) (filter keep row)) first ∙ others ∙ sym (ap (λ b. cond b row (y ∷ row)) e) in
     let few : long ≡ false → Goal = λ (e : long ≡ false).
-    filter_all keep (y ∷ row) (λ x h. ap not (none_past n (y ∷ row) x e)) ∙ sym (ap (λ b. cond b row (y ∷ row)) e) in
+    filter-all keep (y ∷ row) (λ x h. ap not (none_past n (y ∷ row) x e)) ∙ sym (ap (λ b. cond b row (y ∷ row)) e) in
     ⊎_elim more few (cases_Bool long)
 
 pub fewer : {X : Type 0} (p : X → Bool) (x : X) (xs : List X) → IsIn x xs → p x ≡ false → count_by p xs < length xs
@@ -114,14 +114,14 @@ past_count n (y ∷ row) order =
     let Goal : Type 0 = count_by past (y ∷ row) ≡ length (number_in (past_retained n (y ∷ row))) in
     let more : long ≡ true → Goal = λ (e : long ≡ true).
     let first : past y ≡ true = past_where n y row y e ∙ or_left (eqb y.id y.id) false (eq-eqb y.id y.id refl) in
-    let rest : count_by past row ≡ 0 = count_none past row (λ x h.
+    let rest : count_by past row ≡ 0 = count_by-none past row (λ x h.
     let ne : eqb x.id y.id ≡ false = ne_eqb x.id y.id (λ k. let lt : y.id < x.id = rises y x row order.0 h in absurd (omega arith)) in
     past_where n y row x e ∙ ap (λ b. b || false) ne) in
     let one : length (number_in (past_retained n (y ∷ row))) ≡ 1 = ap (λ b. length (number_in (cond b (Some y.id) None))) e in
     omega (arith, count_by_yes past y row first) in
     let few : long ≡ false → Goal = λ (e : long ≡ false).
     let none : length (number_in (past_retained n (y ∷ row))) ≡ 0 = ap (λ b. length (number_in (cond b (Some y.id) None))) e in
-    count_none past (y ∷ row) (λ x h. none_past n (y ∷ row) x e) ∙ sym none in
+    count_by-none past (y ∷ row) (λ x h. none_past n (y ∷ row) x e) ∙ sym none in
     ⊎_elim more few (cases_Bool long)
 
 -- the numbers that are noted

@@ -7,7 +7,7 @@ use Rattle.ckpt_ids.specs.declared.reply.Answer.TheVariants.{Done}
 use Rattle.ckpt_ids.specs.declared.reply.Reply.TheVariants as reply
 use Rattle.ckpt_ids.specs.Ordered.{IsIn}
 use Rattle.ckpt_ids.specs.Records.{Record, Use, released, uses, uses_of}
-use Rattle.ckpt_ids.proofs.OrderedLemmas.{IsIn-append_left, IsIn-map, IsIn-from_in_order}
+use Rattle.ckpt_ids.proofs.OrderedLemmas.{IsIn-append_left, IsIn-map, IsIn-from_in_order, filter-all, filter-same}
 use Rattle.ckpt_registry.specs.Uses.{after_end, is_ended, is_owned}
 use Rattle.ckpt_core.specs.Grouped.{pins, with_pins, grouped, records_of}
 use Rattle.ckpt_core.specs.Parts.{is_noted}
@@ -17,11 +17,9 @@ use Rattle.ckpt_core.specs.Steps.{cleared, completed_with, dropped_by, replaced,
 use Rattle.ckpt_core.proofs.AckMoves.{with_instead}
 use Rattle.ckpt_core.proofs.CompleteLists.{others}
 use Rattle.ckpt_ids.proofs.CountLemmas.{count_by-map}
-use Rattle.ckpt_core.proofs.CountLemmas.{filter_itself}
 use Rattle.ckpt_core.proofs.DropMoves.{stays, staying}
 use Rattle.ckpt_core.proofs.FinishMoves.{finish_groups, finish_uses, ended_records, still_used}
 use Rattle.ckpt_core.proofs.GroupedLemmas.{AreApart}
-use Rattle.ckpt_core.proofs.GroupMoves.{filter_same}
 use Rattle.ckpt_core.proofs.Lookups.{count_same, count_by-records_of, one_of_number}
 
 -- the record d is the pending record with its number, done and without pins; it is among the done ones after
@@ -42,7 +40,7 @@ not_or false b = refl
 
 -- the uses that stay
 after_end_is : (id : ℕ) (gone : List ℕ) (us : List Use) → after_end id gone us ≡ filter (still_used (stays gone) id) us
-after_end_is id gone us = filter_same (λ u. not (is_ended id gone u)) (still_used (stays gone) id) us (λ u h. not_or (is_owned gone u) (pins id u))
+after_end_is id gone us = filter-same (λ u. not (is_ended id gone u)) (still_used (stays gone) id) us (λ u h. not_or (is_owned gone u) (pins id u))
 
 -- the records that stay
 abbrev pub left_groups : List Use → List Record → List Record → List Record → Record → List ℕ → List Record
@@ -76,7 +74,7 @@ left_uses {us} {pending} {checkpoints} {savepoints} {more_checkpoints} {more_sav
 kept_is : (rs : List Record) (a rd : Record) (dropped : Record → Bool) (gone : List ℕ) → a.id ≡ rd.id → ((s : Record) → IsIn s (replaced rs rd) → dropped s ≡ is_noted gone s) →
     kept dropped (Some rd.id) (replaced rs rd) ≡ staying gone (replaced (replaced rs a) (record rd { pins = [] }))
 kept_is rs a rd dropped gone same agree =
-    ap (map (unpinned (Some rd.id))) (filter_same (λ s. not (dropped s)) (λ s. stays gone s.id) (replaced rs rd) (λ s h. ap not (agree s h)))
+    ap (map (unpinned (Some rd.id))) (filter-same (λ s. not (dropped s)) (λ s. stays gone s.id) (replaced rs rd) (λ s h. ap not (agree s h)))
     ∙ ended_records (stays gone) rs a rd same
 
 pub record IsCompleting (us : List Use) (pending checkpoints savepoints more_checkpoints more_savepoints rs : List Record) (r d a rd : Record) : Type 0 where
@@ -123,8 +121,8 @@ count_completed {us} {pending} {checkpoints} {savepoints} {more_checkpoints} {mo
     let as_before : (x : Record) → IsIn x all → p x ≡ p (end x) = λ x h.
     let P : Bool → Type 0 = λ b. p x ≡ p (cond b (record x { pins = [] }) x) in
     ⊎_elim (λ (t : eqb x.id rd.id ≡ true). subst P (sym t) (sym (blind x []))) (λ (t : eqb x.id rd.id ≡ false). subst P (sym t) refl) (cases_Bool (eqb x.id rd.id)) in
-    let same_kept : kept none (Some rd.id) all ≡ map end all = ap (map end) (filter_itself (λ s. not (none s)) all (λ s h. refl)) in
-    let whole : (xs : List Record) → staying [] xs ≡ xs = λ xs. filter_itself (λ s. stays [] s.id) xs (λ s h. refl) in
+    let same_kept : kept none (Some rd.id) all ≡ map end all = ap (map end) (filter-all (λ s. not (none s)) all (λ s h. refl)) in
+    let whole : (xs : List Record) → staying [] xs ≡ xs = λ xs. filter-all (λ s. stays [] s.id) xs (λ s h. refl) in
     count_same p (λ x. p (end x)) all as_before
     ∙ sym (count_by-map p end all)
     ∙ ap (count_by p) (sym same_kept ∙ kept_records c none [] (λ s h. refl))

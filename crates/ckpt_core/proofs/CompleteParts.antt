@@ -11,34 +11,7 @@ use Rattle.ckpt_store.specs.Storing.{Stored, retained_of, past_retained}
 use Rattle.ckpt_core.specs.declared.parts.Parts.{Parts}
 use Rattle.ckpt_core.specs.Completing.{number_in, surplus, superseded, earlier, is_before}
 use Rattle.ckpt_core.specs.Parts.{is_noted}
-
--- the checkpoint is kept; `then` has the place of the numbers
-abbrev pub with_checkpoint : Parts → Record → Parts → Parts
-with_checkpoint p done then = record p { store = record p.store { checkpoints = retained_of p.store.retained (p.store.checkpoints ++ done ∷ []); base = None; spare = then.store.spare }; ended = then.ended }
-
--- the others are dropped
-abbrev pub handed_after : Parts → Record → List ℕ → List Record → Parts → Parts
-handed_after p done gone pending then = record p {
-  pending = pending;
-  registry = after_end done.id gone p.registry;
-  outbox = record p.outbox {
-    waiting = p.outbox.waiting ++ released p.registry (after_end done.id gone p.registry);
-    spare = p.outbox.spare - length (released p.registry (after_end done.id gone p.registry));
-  };
-  ended = then.ended;
-}
-
--- the failures are counted anew, and the pause begins
-abbrev pub paused : Parts → Parts
-paused p = record p { failures = record p.failures { number = 0 }; clock = record p.clock { completed = Some p.clock.latest } }
-
--- the pending records that are not gone
-abbrev pub left_pending : List ℕ → List Record → List Record
-left_pending gone pending = filter (λ r. not (is_noted gone r)) pending
-
--- all of it
-abbrev pub checkpoint_completed : Parts → Record → List ℕ → Parts → Parts
-checkpoint_completed p done gone then = paused (handed_after (with_checkpoint p done then) done gone (left_pending gone p.pending) then)
+use Rattle.ckpt_core.specs.Moving.{with_checkpoint, handed_after, paused, left_pending, checkpoint_completed}
 
 pub checkpoint_parts : (p k h : Parts) (done : Record) (gone : List ℕ) (pending : List Record) (failures : FailureCount) (clock : Moments) →
     k ≡ with_checkpoint p done k → k.ended.items ≡ gone → pending ≡ left_pending k.ended.items p.pending →

@@ -13,7 +13,7 @@ use Rattle.ckpt_core.specs.Parts.{records_in, state_of}
 use Rattle.ckpt_core.specs.Soundness.{id_before}
 use Rattle.ckpt_core.specs.Steps.{acknowledged}
 use Rattle.ckpt_core.proofs.AckMoves.{replaced_members}
-use Rattle.ckpt_core.proofs.AckStates.{IsTaking, acked_replaced, replaced_in_order, taken_in, taken_records, taken_uses}
+use Rattle.ckpt_core.proofs.AckStates.{IsTaking, acked_replaced, replaced_in_order, taken_records, taken_uses}
 use Rattle.ckpt_core.proofs.AckTakes.{found_acked}
 use Rattle.ckpt_core.proofs.CompleteMoves.{IsCompleting, IsEnding}
 use Rattle.ckpt_core.proofs.CountLemmas.{IsIn-from_find}
@@ -21,6 +21,7 @@ use Rattle.ckpt_core.proofs.DropMoves.{groups_of}
 use Rattle.ckpt_core.proofs.GroupedLemmas.{AreApart, IsNew, apart-append, apart-from_in_order, apart_between, apart_left, apart_right}
 use Rattle.ckpt_core.proofs.Lookups.{AreGroups, has_number}
 use Rattle.ckpt_core.proofs.SoundAcks.{with_ack}
+use Rattle.ckpt_core.specs.Moving.{taken_in}
 
 -- the record as a pending one, and as a done one
 abbrev pub acked_record : Record → SubtaskId → List ℕ → List ℕ → Record

@@ -15,6 +15,8 @@ use Rattle.ckpt_core.specs.Soundness.{IsCall, IsSound}
 use Rattle.ckpt_core.specs.State.{State, record_of}
 use Rattle.ckpt_core.specs.Steps.{Stepped, at_moment, effect, restore, show, step, take_files, unless_refused}
 use Rattle.ckpt_core.proofs.SoundCalls.{step_keeps}
+use Rattle.ckpt_core.proofs.StepCases.{step_accepted}
+use Rattle.ckpt_core.proofs.RefusalRows.{first_row-none}
 
 -- after a call
 
@@ -41,16 +43,11 @@ sound_after old new call (Err error) c s a h = sound_unchanged old new s h
 
 -- memory
 
--- an accepted call has its effect
-accepted_step : (m : State) (call : Call) → refusal m call ≡ None → step m call ≡ effect (at_moment m (moment_of call)) call
-unfolding step
-accepted_step m call e = ap (unless_refused m call) e
-
 -- so its answer tells whether it may want memory
 wants_as_effect : (m : State) (call : Call) → refusal m call ≡ None → may_want_memory m call ≡ answer_wants call (effect (at_moment m (moment_of call)) call).1
 wants_as_effect m call e =
     let wanted : Stepped → Bool = λ stepped. answer_wants call stepped.1 in
-    ap wanted (accepted_step m call e)
+    ap wanted (step_accepted m call e)
 
 pub savepoint_wants : (m : State) (now : ℕ) → refusal m (Savepoint now) ≡ None → may_want_memory m (Savepoint now) ≡ true
 unfolding effect
@@ -64,10 +61,6 @@ pub take_wants : (m : State) (most : ℕ) → refusal m (Take most) ≡ None →
 unfolding effect take_files
 take_wants m most e = wants_as_effect m (Take most) e
 
-first_none : (o : Option Refusal) (rows : List (Option Refusal)) → first_some (o ∷ rows) ≡ None → o ≡ None
-first_none None rows h = refl
-first_none (Some why) rows h = absurd (cc)
-
 shown : (id : ℕ) (o : Option Record) → no_record o ≡ None → answer_wants (Show id) (show o) ≡ true
 shown id None h = absurd (cc)
 shown id (Some r) h = refl
@@ -75,7 +68,7 @@ shown id (Some r) h = refl
 -- the record is there
 accepted_show : (m : State) (id : ℕ) → refusal m (Show id) ≡ None → no_record (record_of m id) ≡ None
 unfolding refusal
-accepted_show m id h = first_none (no_record (record_of m id)) _ h
+accepted_show m id h = first_row-none (no_record (record_of m id)) _ h
 
 pub show_wants : (m : State) (id : ℕ) → refusal m (Show id) ≡ None → may_want_memory m (Show id) ≡ true
 unfolding effect

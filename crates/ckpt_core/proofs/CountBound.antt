@@ -11,7 +11,7 @@ use Rattle.ckpt_ids.specs.Ascending.{IsAscendingSet}
 use Rattle.ckpt_ids.specs.Ordered.{IsIn, ComesBefore, IsInOrder, IsStrictOrder}
 use Rattle.ckpt_ids.specs.Records.{Record, Use, Holder, Subtask, Pin, uses, uses_of, count}
 use Rattle.ckpt_ids.specs.Shapes.{subtasks}
-use Rattle.ckpt_ids.proofs.OrderedLemmas.{ComesBefore-at, IsIn-from_map, IsInOrder-map}
+use Rattle.ckpt_ids.proofs.OrderedLemmas.{ComesBefore-at, IsIn-from_map, IsInOrder-map, in_tail}
 use Rattle.ckpt_ids.proofs.OrderLemmas.{subtasks_in_order}
 use Rattle.ckpt_ids.proofs.ShapeLemmas.{length-subtasks_from}
 use Rattle.ckpt_pending.proofs.SubtaskLemmas.{IsInOrder-subtasks, IsIn-subtasks}
@@ -19,8 +19,8 @@ use Rattle.ckpt_core.specs.declared.parts.Parts.{Parts}
 use Rattle.ckpt_core.specs.Parts.{state_of, AreTied}
 use Rattle.ckpt_core.specs.State.{State}
 use Rattle.ckpt_core.specs.Soundness.{IsSound, IsRecord}
-use Rattle.ckpt_ids.proofs.CountLemmas.{count_by-append}
-use Rattle.ckpt_core.proofs.CountLemmas.{count_by_no, count_by_at_most_more}
+use Rattle.ckpt_ids.proofs.CountLemmas.{count_by-append, count_by_no}
+use Rattle.ckpt_core.proofs.CountLemmas.{count_by_at_most_more}
 use Rattle.ckpt_core.proofs.UsesOrder.{holds}
 use Rattle.ckpt_core.proofs.TriggerParts.{live_bound}
 
@@ -32,10 +32,6 @@ later_members {X} {before} o y x z xs ys b there a h (inl e) =
     absurd (both_ways (before y y) (o.irreflexive y) (o.transitive y x y yx (ap (before x) (sym e) ∙ xz)))
 later_members o y x z xs ys b there a h (inr k) = k
 
-not_head : {X : Type 0} {before : X → X → Bool} (o : IsStrictOrder before) (x z : X) (xs ys : List X) → ComesBefore before x xs → IsIn z xs → IsIn z (x ∷ ys) → IsIn z ys
-not_head {X} {before} o x z xs ys a h (inl e) = absurd (both_ways (before x x) (o.irreflexive x) (ap (before x) (sym e) ∙ ComesBefore-at before x z xs a h))
-not_head o x z xs ys a h (inr k) = k
-
 pub length-within : {X : Type 0} {before : X → X → Bool} (o : IsStrictOrder before) (xs ys : List X) → IsInOrder before xs → IsInOrder before ys → ((z : X) → IsIn z xs → IsIn z ys) → length xs ≤ length ys
 length-within o [] ys a b within = omega arith
 length-within o (x ∷ xs) [] a b within = absurd (within x (inl refl))
@@ -44,7 +40,7 @@ length-within {X} {before} o (x ∷ xs) (y ∷ ys) a b within =
     let same : x ≡ y → Goal = λ (e : x ≡ y).
     let P : X → Type 0 = λ w. (z : X) → IsIn z xs → IsIn z (w ∷ ys) in
     let from : P x = subst P (sym e) (λ z h. within z (inr h)) in
-    let rest : length xs ≤ length ys = length-within o xs ys a.1 b.1 (λ z h. not_head o x z xs ys a.0 h (from z h)) in
+    let rest : length xs ≤ length ys = length-within o xs ys a.1 b.1 (λ z h. in_tail o x z xs ys a.0 h (from z h)) in
     omega arith in
     let later : IsIn x ys → Goal = λ (k : IsIn x ys).
     let all : (z : X) → IsIn z (x ∷ xs) → IsIn z ys = λ z h. ⊎_elim (λ (e : z ≡ x). let P : X → Type 0 = λ w. IsIn w ys in subst P (sym e) k) (λ (j : IsIn z xs). later_members o y x z xs ys b.0 k a.0 j (within z (inr j))) h in

@@ -4,22 +4,8 @@ use Rattle.std.specs.Prelude.{count_by, find, Option, Some, None}
 use Rattle.std.specs.List.{filter}
 use Rattle.std.proofs.lemmas.Bool.{cases_Bool}
 use Rattle.ckpt_ids.specs.Ordered.{IsIn}
-use Rattle.ckpt_ids.proofs.CountLemmas.{count_by-cons}
+use Rattle.ckpt_ids.proofs.CountLemmas.{count_by-cons, count_by_yes, count_by_no}
 use Rattle.ckpt_ids.proofs.OrderedLemmas.{IsIn-map, IsIn-from_map, IsIn-filter, IsIn-from_filter}
-
--- an element that passes counts once
-pub count_by_yes : {X : Type 0} (p : X → Bool) (x : X) (xs : List X) → p x ≡ true → count_by p (x ∷ xs) ≡ suc (count_by p xs)
-count_by_yes p x xs e =
-    let one : Bool → ℕ = λ b. cond b 1 0 in
-    let here : one (p x) ≡ 1 = ap one e in
-    omega (arith, count_by-cons p x xs)
-
--- one that fails does not count
-pub count_by_no : {X : Type 0} (p : X → Bool) (x : X) (xs : List X) → p x ≡ false → count_by p (x ∷ xs) ≡ count_by p xs
-count_by_no p x xs e =
-    let one : Bool → ℕ = λ b. cond b 1 0 in
-    let here : one (p x) ≡ 0 = ap one e in
-    omega (arith, count_by-cons p x xs)
 
 -- one more element adds at most one
 pub count_by_at_most_more : {X : Type 0} (p : X → Bool) (x : X) (xs : List X) → count_by p (x ∷ xs) ≤ suc (count_by p xs)
@@ -50,21 +36,6 @@ count_by-changed {X} {Y} t s f keep (x ∷ xs) h =
     subst Goal (sym e) (⊎_elim passes fails (cases_Bool (t (f x)))) in
     let gone : keep x ≡ false → Goal (keep x) = λ (e : keep x ≡ false). let g : Goal false = omega (arith, count_by-cons s x xs) in subst Goal (sym e) g in
     ⊎_elim kept gone (cases_Bool (keep x))
-
--- where an element passes, the count is above 0
-pub counted-from_IsIn : {X : Type 0} (p : X → Bool) (x : X) (xs : List X) → IsIn x xs → p x ≡ true → 0 < count_by p xs
-counted-from_IsIn p x [] h e = absurd h
-counted-from_IsIn p x (y ∷ xs) (inl same) e = omega (arith, count_by_yes p y xs (ap p (sym same) ∙ e))
-counted-from_IsIn p x (y ∷ xs) (inr h) e = let rest : 0 < count_by p xs = counted-from_IsIn p x xs h e in omega (arith, count_by-cons p y xs)
-
--- and the other way round
-pub IsIn-from_counted : {X : Type 0} (p : X → Bool) (xs : List X) → 0 < count_by p xs → (x : X) × IsIn x xs × (p x ≡ true)
-IsIn-from_counted p [] h = absurd (omega arith)
-IsIn-from_counted {X} p (x ∷ xs) h =
-    let Found : Type 0 = (y : X) × IsIn y (x ∷ xs) × (p y ≡ true) in
-    let here : p x ≡ true → Found = λ (e : p x ≡ true). (x, inl refl, e) in
-    let later : p x ≡ false → Found = λ (e : p x ≡ false). let rest : 0 < count_by p xs = omega (arith, count_by_no p x xs e) in let q = IsIn-from_counted p xs rest in (q.0, inr q.1, q.2) in
-    ⊎_elim here later (cases_Bool (p x))
 
 -- where an element comes from, that a filter kept and a change made
 pub IsIn-from_changed : {X Y : Type 0} (f : X → Y) (keep : X → Bool) (y : Y) (xs : List X) → IsIn y (map f (filter keep xs)) → (x : X) × IsIn x xs × (keep x ≡ true) × (y ≡ f x)
@@ -111,8 +82,3 @@ map_same {X} {Y} f g (x ∷ xs) e = ap (λ y. y ∷ map f xs) (e x (inl refl)) �
 pub map_itself : {X : Type 0} (f : X → X) (xs : List X) → ((x : X) → IsIn x xs → f x ≡ x) → map f xs ≡ xs
 map_itself f [] e = refl
 map_itself {X} f (x ∷ xs) e = ap (λ y. y ∷ map f xs) (e x (inl refl)) ∙ ap (λ ys. x ∷ ys) (map_itself f xs (λ y h. e y (inr h)))
-
--- a filter that keeps each element
-pub filter_itself : {X : Type 0} (keep : X → Bool) (xs : List X) → ((x : X) → IsIn x xs → keep x ≡ true) → filter keep xs ≡ xs
-filter_itself keep [] e = refl
-filter_itself {X} keep (x ∷ xs) e = ap (λ b. cond b (x ∷ filter keep xs) (filter keep xs)) (e x (inl refl)) ∙ ap (λ ys. x ∷ ys) (filter_itself keep xs (λ y h. e y (inr h)))

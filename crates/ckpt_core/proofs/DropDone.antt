@@ -9,7 +9,7 @@ use Rattle.std.proofs.lemmas.Bool.{cases_Bool, eqb-true, ne_eqb, or_left, or_rig
 use Rattle.std.proofs.lemmas.List.{map-append}
 use Rattle.ckpt_ids.specs.Ordered.{IsIn}
 use Rattle.ckpt_ids.specs.Records.{Record, released}
-use Rattle.ckpt_ids.proofs.OrderedLemmas.{IsIn-append_left, IsIn-append_right, IsIn-append_cases, IsIn-map, IsIn-from_map, IsIn-from_in_order, IsIn-from_list_any}
+use Rattle.ckpt_ids.proofs.OrderedLemmas.{IsIn-append_left, IsIn-append_right, IsIn-append_cases, IsIn-map, IsIn-from_map, IsIn-from_in_order, IsIn-from_list_any, filter-all, filter-same}
 use Rattle.ckpt_registry.specs.Uses.{without}
 use Rattle.ckpt_store.specs.Storing.{has_savepoint, has_id}
 use Rattle.ckpt_core.specs.declared.parts.Parts.{Parts}
@@ -20,7 +20,7 @@ use Rattle.ckpt_core.specs.State.{is_pending, is_checkpoint, is_done_checkpoint}
 use Rattle.ckpt_core.proofs.CountLemmas.{IsIn-from_find}
 use Rattle.ckpt_core.proofs.GroupedLemmas.{AreApart, apart_between, apart_right}
 use Rattle.ckpt_core.proofs.GroupLookups.{is_checkpoint-kind, is_savepoint-kind}
-use Rattle.ckpt_core.proofs.GroupMoves.{filter_none, filter_same, filter_all}
+use Rattle.ckpt_core.proofs.GroupMoves.{filter_none}
 use Rattle.ckpt_core.proofs.Lookups.{AreGroups}
 use Rattle.ckpt_core.proofs.DropMoves.{left, staying, stays, numbers, apart_in, fails, noted-from_IsIn, IsIn-from_noted, drops_from, drops_same}
 
@@ -96,7 +96,7 @@ others_dropped p a q noted n tied sound groups noted_is a_is items q_is none cap
     ∙ sym (none_stays ids p.pending (λ r h. is_other r (IsIn-append_left r p.pending p.store.checkpoints h))) in
     let second : [] ≡ staying ids p.store.checkpoints = sym (none_stays ids p.store.checkpoints (λ r h. is_other r (IsIn-append_right r p.pending p.store.checkpoints h))) in
     let third : p.store.savepoints ≡ staying ids p.store.savepoints =
-    sym (filter_all (λ r. stays ids r.id) p.store.savepoints (λ r h. ap not (ap (λ xs. is_noted xs r) ids_are ∙ savepoint_not_noted p sound r h))) in
+    sym (filter-all (λ r. stays ids r.id) p.store.savepoints (λ r h. ap not (ap (λ xs. is_noted xs r) ids_are ∙ savepoint_not_noted p sound r h))) in
     let same : handed (emptied p noted spare a.ended) q.ended ≡ left p ids spare q.ended =
     ap (λ rs. record (handed (emptied p noted spare a.ended) q.ended) { pending = rs }) first
     ∙ ap (λ rs. record (left p ids spare q.ended) { store = record p.store { checkpoints = rs; spare = spare } }) second
@@ -130,10 +130,10 @@ savepoint_dropped p a q id spare n tied sound there a_is items q_is none capacit
     one_noted id r ∙ ne_eqb r.id id (λ e. apart_between of_pending of_done apart (with_pins p.registry r) s.0 (IsIn-map (with_pins p.registry) r p.pending h) (IsIn-append_right s.0 p.store.checkpoints p.store.savepoints s.1) (e ∙ sym its)) in
     let checkpoint_stays : (r : Record) → IsIn r p.store.checkpoints → is_noted ids r ≡ false = λ r h.
     one_noted id r ∙ ne_eqb r.id id (λ e. apart_between p.store.checkpoints p.store.savepoints (apart_right of_pending of_done apart) r s.0 h s.1 (e ∙ sym its)) in
-    let first : p.pending ≡ staying ids p.pending = sym (filter_all (λ r. stays ids r.id) p.pending (λ r h. ap not (pending_stays r h))) in
-    let second : p.store.checkpoints ≡ staying ids p.store.checkpoints = sym (filter_all (λ r. stays ids r.id) p.store.checkpoints (λ r h. ap not (checkpoint_stays r h))) in
+    let first : p.pending ≡ staying ids p.pending = sym (filter-all (λ r. stays ids r.id) p.pending (λ r h. ap not (pending_stays r h))) in
+    let second : p.store.checkpoints ≡ staying ids p.store.checkpoints = sym (filter-all (λ r. stays ids r.id) p.store.checkpoints (λ r h. ap not (checkpoint_stays r h))) in
     let third : filter (λ r. not (eqb r.id id)) p.store.savepoints ≡ staying ids p.store.savepoints =
-    filter_same (λ r. not (eqb r.id id)) (λ r. stays ids r.id) p.store.savepoints (λ r h. ap not (sym (one_noted id r))) in
+    filter-same (λ r. not (eqb r.id id)) (λ r. stays ids r.id) p.store.savepoints (λ r h. ap not (sym (one_noted id r))) in
     let b : Parts = disposed p id spare a.ended in
     let same : handed b q.ended ≡ left p a.ended.items spare q.ended =
     ap (λ rs. record (handed b q.ended) { pending = rs }) (first ∙ ap (λ xs. staying xs p.pending) (sym items))

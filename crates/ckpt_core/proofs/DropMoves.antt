@@ -10,7 +10,7 @@ use Rattle.ckpt_ids.specs.Ascending.{ascending_set}
 use Rattle.ckpt_ids.specs.Ordered.{IsIn}
 use Rattle.ckpt_ids.specs.Records.{Record, Use, uses, count, is_present, released}
 use Rattle.ckpt_ids.proofs.AscendingLemmas.{numbers_in_order}
-use Rattle.ckpt_ids.proofs.OrderedLemmas.{IsIn-append_left, IsIn-append_right, IsIn-append_cases, IsIn-map, IsIn-from_map, IsIn-filter, IsIn-from_filter, IsInOrder-filter, IsInOrder-in_order_once, IsIn-in_order_once, IsIn-from_in_order_once, IsIn-from_in_order, same_from_members, list_any-from_IsIn, IsIn-from_list_any}
+use Rattle.ckpt_ids.proofs.OrderedLemmas.{IsIn-append_left, IsIn-append_right, IsIn-append_cases, IsIn-map, IsIn-from_map, IsIn-filter, IsIn-from_filter, IsInOrder-filter, IsInOrder-in_order_once, IsIn-in_order_once, IsIn-from_in_order_once, IsIn-from_in_order, same_from_members, list_any-from_IsIn, IsIn-from_list_any, filter-all, filter-same}
 use Rattle.ckpt_outbox.specs.Queues.{is_known}
 use Rattle.ckpt_pending.specs.Acknowledging.{IsPending}
 use Rattle.ckpt_registry.specs.Uses.{without}
@@ -20,11 +20,12 @@ use Rattle.ckpt_core.specs.Grouped.{with_pins, grouped}
 use Rattle.ckpt_core.specs.Parts.{AreTied, AreSound, Drops, is_noted, present_in, records_in, state_of}
 use Rattle.ckpt_core.specs.Soundness.{IsSound, id_before}
 use Rattle.ckpt_core.specs.State.{State, drop, kept, released_by, unpinned, is_pending}
-use Rattle.ckpt_core.proofs.CountLemmas.{counted-from_IsIn, IsIn-from_counted, map_itself}
+use Rattle.ckpt_core.proofs.CountLemmas.{map_itself}
 use Rattle.ckpt_core.proofs.GroupedLemmas.{AreApart, apart-from_in_order, apart_between}
-use Rattle.ckpt_core.proofs.GroupMoves.{drop_groups, filter_same, filter_all}
-use Rattle.ckpt_core.proofs.Lookups.{AreGroups, length-records_of}
+use Rattle.ckpt_core.proofs.GroupMoves.{drop_groups}
+use Rattle.ckpt_core.proofs.Lookups.{AreGroups, length-records_of, done_in}
 use Rattle.ckpt_core.proofs.UsesOrder.{uses-filter}
+use Rattle.ckpt_ids.proofs.CountLemmas.{counted-from_IsIn, IsIn-from_counted}
 
 -- what is present after and what is released were both present before
 
@@ -133,12 +134,12 @@ left_drops p ids spare ended tied apart none room =
 pub drop_same : (m : State) (a b : Record → Bool) → ((r : Record) → IsIn r m.records → a r ≡ b r) → drop m a None ≡ drop m b None
 unfolding drop
 drop_same m a b agree =
-    let same : kept a None m.records ≡ kept b None m.records = ap (map (unpinned None)) (filter_same (λ r. not (a r)) (λ r. not (b r)) m.records (λ r h. ap not (agree r h))) in
+    let same : kept a None m.records ≡ kept b None m.records = ap (map (unpinned None)) (filter-same (λ r. not (a r)) (λ r. not (b r)) m.records (λ r h. ap not (agree r h))) in
     ap (λ rs. record m { records = rs; waiting = m.waiting ++ released (uses m.records) (uses rs) }) same
 
 released_same : (m : State) (a b : Record → Bool) → ((r : Record) → IsIn r m.records → a r ≡ b r) → released_by m a None ≡ released_by m b None
 released_same m a b agree =
-    ap (λ rs. released (uses m.records) (uses rs)) (ap (map (unpinned None)) (filter_same (λ r. not (a r)) (λ r. not (b r)) m.records (λ r h. ap not (agree r h))))
+    ap (λ rs. released (uses m.records) (uses rs)) (ap (map (unpinned None)) (filter-same (λ r. not (a r)) (λ r. not (b r)) m.records (λ r h. ap not (agree r h))))
 
 pub drops_same : (old new : Parts) (a b : Record → Bool) (n : ℕ) → ((r : Record) → IsIn r (records_in old) → a r ≡ b r) → Drops old new a n → Drops old new b n
 unfolding state_of
@@ -173,8 +174,8 @@ drops_from p q ids spare n tied apart is none capacity count =
 pub staying_done : (p : Parts) (ids : List ℕ) → ((r : Record) → IsIn r (p.store.checkpoints ++ p.store.savepoints) → is_noted ids r ≡ false) →
     record p.store { checkpoints = staying ids p.store.checkpoints; savepoints = staying ids p.store.savepoints } ≡ p.store
 staying_done p ids none =
-    let a : staying ids p.store.checkpoints ≡ p.store.checkpoints = filter_all (λ r. stays ids r.id) p.store.checkpoints (λ r h. ap not (none r (IsIn-append_left r p.store.checkpoints p.store.savepoints h))) in
-    let b : staying ids p.store.savepoints ≡ p.store.savepoints = filter_all (λ r. stays ids r.id) p.store.savepoints (λ r h. ap not (none r (IsIn-append_right r p.store.checkpoints p.store.savepoints h))) in
+    let a : staying ids p.store.checkpoints ≡ p.store.checkpoints = filter-all (λ r. stays ids r.id) p.store.checkpoints (λ r h. ap not (none r (IsIn-append_left r p.store.checkpoints p.store.savepoints h))) in
+    let b : staying ids p.store.savepoints ≡ p.store.savepoints = filter-all (λ r. stays ids r.id) p.store.savepoints (λ r h. ap not (none r (IsIn-append_right r p.store.checkpoints p.store.savepoints h))) in
     ap (λ rs. record p.store { checkpoints = rs; savepoints = staying ids p.store.savepoints }) a
     ∙ ap (λ rs. record p.store { savepoints = rs }) b
 
@@ -209,10 +210,6 @@ done_not_noted p sound r h =
     let q = IsIn-from_noted r p.pending k in
     apart_between (map (with_pins p.registry) p.pending) (p.store.checkpoints ++ p.store.savepoints) (apart_in p sound) (with_pins p.registry q.0) r (IsIn-map (with_pins p.registry) q.0 p.pending q.1) h (sym q.2))
 
-pub done_of : {pending checkpoints savepoints : List Record} → AreGroups pending checkpoints savepoints → (r : Record) → IsIn r (checkpoints ++ savepoints) → r.done ≡ true
-done_of {pending} {checkpoints} {savepoints} groups r h =
-    ⊎_elim (λ (k : IsIn r checkpoints). (groups.checkpoints_done r k).0) (λ (k : IsIn r savepoints). (groups.savepoints_done r k).0) (IsIn-append_cases r checkpoints savepoints h)
-
 -- the numbers of the pending records are noted: these are the records that are pending
 pub noted_are_pending : (p : Parts) → IsSound (state_of p) → AreGroups p.pending p.store.checkpoints p.store.savepoints → (r : Record) → IsIn r (records_in p) → is_noted (numbers p.pending) r ≡ is_pending r
 noted_are_pending p sound groups r h =
@@ -222,7 +219,7 @@ noted_are_pending p sound groups r h =
     (λ (k : IsIn r of_pending).
     let s = IsIn-from_map (with_pins p.registry) r p.pending k in
     noted-from_IsIn r s.0 p.pending s.1 (ap (λ w. w.id) s.2) ∙ sym (ap is_pending s.2 ∙ not_from_false s.0.done (groups.not_done s.0 s.1)))
-    (λ (k : IsIn r of_done). done_not_noted p sound r k ∙ sym (not_from_true r.done (done_of groups r k)))
+    (λ (k : IsIn r of_done). done_not_noted p sound r k ∙ sym (not_from_true r.done (done_in groups r k)))
     (IsIn-append_cases r of_pending of_done (IsIn-from_in_order id_before r (grouped p.registry p.pending p.store.checkpoints p.store.savepoints) h))
 
 -- numbers that are noted in the room for them change nothing that the state tells

@@ -39,10 +39,7 @@ use Rattle.ckpt_core.proofs.GroupedLemmas.{apart-from_in_order}
 use Rattle.ckpt_core.proofs.GroupLookups.{last_id-greatest, last_checkpoint-groups}
 use Rattle.ckpt_core.proofs.Lookups.{AreGroups, has_number, pending_of-groups}
 use Rattle.ckpt_core.proofs.RecordLists.{in_order-changed}
-
-pub accepted_step : (m : State) (call : Call) → refusal m call ≡ None → step m call ≡ effect (at_moment m (moment_of call)) call
-unfolding step
-accepted_step m call h = ap (unless_refused m call) h
+use Rattle.ckpt_core.proofs.StepCases.{step_accepted}
 
 -- a state and a number, by what they are equal to
 pub answered : (say : ℕ → Reply) (s t : State) (k n : ℕ) → t ≡ s → n ≡ k → (let x : Stepped = (s, Done (say k)) in x) ≡ (t, Done (say n))
@@ -53,7 +50,7 @@ answered say s t k n e f = ap (λ x. (let y : Stepped = (x, Done (say k)) in y))
 pub disposed_answers : (p q : Parts) (id n : ℕ) → IsAccepted p (call.Dispose id) → Drops p q (λ r. eqb r.id id) n → Answers p q (call.Dispose id) (reply.Disposed n)
 unfolding effect dispose dropping
 disposed_answers p q id n accepted d = record {
-  step_is = accepted_step (state_of p) (call.Dispose id) accepted
+  step_is = step_accepted (state_of p) (call.Dispose id) accepted
       ∙ answered reply.Disposed (drop (state_of p) (λ r. eqb r.id id) None) (state_of q) (length (released_by (state_of p) (λ r. eqb r.id id) None)) n d.state_is d.count_is;
   tied = d.tied;
   none_ended = d.none_ended;
@@ -65,7 +62,7 @@ pub late_answers : (p : Parts) (now id : ℕ) (subtask : SubtaskId) → AreSound
     Answers p (record p { clock = record p.clock { latest = max now p.clock.latest } }) (call.Decline now id subtask) reply.DeclineLate
 unfolding state_of effect decline
 late_answers p now id subtask sound accepted none = record {
-  step_is = accepted_step (state_of p) (call.Decline now id subtask) accepted ∙ ap (decline (record (state_of p) { latest = max now p.clock.latest })) none;
+  step_is = step_accepted (state_of p) (call.Decline now id subtask) accepted ∙ ap (decline (record (state_of p) { latest = max now p.clock.latest })) none;
   tied = record { uses_are = sound.tied.uses_are; retained = sound.tied.retained; tolerable = sound.tied.tolerable; spare = sound.tied.spare; room = sound.tied.room };
   none_ended = sound.none_ended;
 }
@@ -147,7 +144,7 @@ failed_answers p q now id subtask r failures n before accepted there checkpoint 
     let over : m.opening.config.tolerable < m.failures + 1 = omega (arith, before.tolerable, many, ap (λ f. f.number) count, ap (λ f. f.tolerable) count) in
     let F : State → State = λ s. record s { latest = max now s.latest; failures = failures.number } in
     record {
-      step_is = accepted_step (state_of p) (call.Decline now id subtask) accepted
+      step_is = step_accepted (state_of p) (call.Decline now id subtask) accepted
           ∙ ap (decline m) there ∙ decline_is m r ∙ ap (declined_by m r) checkpoint ∙ failed_checkpoint m r over
           ∙ answered reply.DeclineFailed (failed_over (record m { failures = m.failures + 1 })) (state_of (declined q now failures)) (length (released_by m is_pending None)) n
           (ap F is ∙ ap (λ k. failed_over (record m { failures = k })) (ap (λ f. f.number) count)) released;
@@ -166,7 +163,7 @@ aborted_answers p q now id subtask r failures n before accepted there its tolera
     let counted : State = record (state_of p) { latest = max now p.clock.latest; failures = failures.number } in
     let F : State → State = λ s. record s { latest = max now s.latest; failures = failures.number } in
     record {
-      step_is = accepted_step (state_of p) (call.Decline now id subtask) accepted
+      step_is = step_accepted (state_of p) (call.Decline now id subtask) accepted
           ∙ ap (decline m) there ∙ decline_is m r ∙ aborts ∙ ap (λ i. dropping counted (λ s. eqb s.id i) reply.DeclineAborted) its
           ∙ answered reply.DeclineAborted (drop counted (λ s. eqb s.id id) None) (state_of (declined q now failures)) (length (released_by counted (λ s. eqb s.id id) None)) n
           (ap F d.state_is) d.count_is;
@@ -215,7 +212,7 @@ not_many b t n says e =
 
 -- the choice
 
-same_choice : (last base : Option ℕ) → choice_from last base ≡ storing.choice_from last base
+pub same_choice : (last base : Option ℕ) → choice_from last base ≡ storing.choice_from last base
 same_choice (Some id) base = refl
 same_choice None (Some id) = refl
 same_choice None None = refl
@@ -294,7 +291,7 @@ begun_answers p q now t from n accepted is released tied none chosen =
     let after : State = begun_state (with_base (drop m (rolled_back t) None) t) now in
     let e : state_of (begun q now) ≡ after = ap (λ s. begun_state s now) is in
     record {
-      step_is = accepted_step m (call.Restore now t None) accepted
+      step_is = step_accepted m (call.Restore now t None) accepted
           ∙ restore_is m now t
           ∙ ap (λ c. (let x : Stepped = (after, Done (reply.Restored c (length (released_by m (rolled_back t) None)))) in x)) (ap choice_of (sym e) ∙ sym chosen)
           ∙ answered (reply.Restored from) after (state_of (begun q now)) (length (released_by m (rolled_back t) None)) n e released;
@@ -320,9 +317,9 @@ unfolding state_of effect
 reshaped_answers p q now t shape r accepted a =
     let m : State = state_of p in
     let n : State = record m { latest = max now m.latest } in
-    let e : restore n t None ≡ (state_of q, Done r) = sym (accepted_step m (call.Restore now t None) (same_refusal m now t shape accepted)) ∙ a.step_is in
+    let e : restore n t None ≡ (state_of q, Done r) = sym (step_accepted m (call.Restore now t None) (same_refusal m now t shape accepted)) ∙ a.step_is in
     record {
-      step_is = accepted_step m (call.Restore now t (Some shape)) accepted ∙ reshaped n t shape ∙ ap (λ (x : Stepped). (let y : Stepped = (record x.0 { shape = shape }, x.1) in y)) e;
+      step_is = step_accepted m (call.Restore now t (Some shape)) accepted ∙ reshaped n t shape ∙ ap (λ (x : Stepped). (let y : Stepped = (record x.0 { shape = shape }, x.1) in y)) e;
       tied = record { uses_are = a.tied.uses_are; retained = a.tied.retained; tolerable = a.tied.tolerable; spare = a.tied.spare; room = a.tied.room };
       none_ended = a.none_ended;
     }
@@ -346,7 +343,7 @@ ceased_answers p q now k n accepted d count =
     let F : State → State = λ s. record s { latest = max now s.latest; base = None; mode = Cancelled } in
     let after : State = F (drop m (cancelled m) None) in
     record {
-      step_is = accepted_step m (call.Cancel now) accepted
+      step_is = step_accepted m (call.Cancel now) accepted
           ∙ cancel_is m now
           ∙ ap (λ c. (let x : Stepped = (after, Done (reply.Cancelled c (length (released_by m (cancelled m) None)))) in x)) (sym count)
           ∙ answered (reply.Cancelled k) after (state_of (ceased q now)) (length (released_by m (cancelled m) None)) n (ap F d.state_is) d.count_is;

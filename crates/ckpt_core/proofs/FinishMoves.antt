@@ -7,14 +7,14 @@ use Rattle.std.proofs.lemmas.Bool.{cases_Bool, eqb-true, eqb-false, eq-eqb, ne_e
 use Rattle.ckpt_ids.specs.declared.ack.Acked.{Acked}
 use Rattle.ckpt_ids.specs.Ordered.{IsIn, in_order}
 use Rattle.ckpt_ids.specs.Records.{Record, Use, Subtask, Pin, uses, uses_of}
-use Rattle.ckpt_ids.proofs.OrderedLemmas.{IsIn-append_cases, IsIn-append_left, IsIn-append_right, IsIn-map, IsIn-from_map, IsIn-from_flat_map, IsIn-filter, IsIn-from_filter}
+use Rattle.ckpt_ids.proofs.OrderedLemmas.{IsIn-append_cases, IsIn-append_left, IsIn-append_right, IsIn-map, IsIn-from_map, IsIn-from_flat_map, IsIn-filter, IsIn-from_filter, filter-all, filter-same}
 use Rattle.ckpt_core.specs.Soundness.{id_before}
 use Rattle.ckpt_core.specs.State.{unpinned}
 use Rattle.ckpt_core.specs.Steps.{replaced}
 use Rattle.ckpt_core.specs.Grouped.{is_pin, pins, with_pins, grouped, records_of}
 use Rattle.ckpt_core.proofs.CountLemmas.{map_same}
 use Rattle.ckpt_core.proofs.GroupedLemmas.{AreApart, in_order-filter, in_order-map, in_order_same, apart-filter, apart-map, apart-append, apart_left, apart_between}
-use Rattle.ckpt_core.proofs.GroupMoves.{filter_same, filter_all, filter_none, filter-map, map-map, filter-filter, with_pins_kept}
+use Rattle.ckpt_core.proofs.GroupMoves.{filter_none, filter-map, map-map, filter-filter, with_pins_kept}
 use Rattle.ckpt_core.proofs.AckMoves.{with_instead, id-with_instead, with_instead-other, with_instead-same, replaced_members, in_replaced, still_in_replaced}
 use Rattle.ckpt_core.proofs.UsesOrder.{holds, from_holds, use_of_record, uses-filter}
 
@@ -106,7 +106,7 @@ finish_groups keep us pending checkpoints savepoints more_checkpoints more_savep
 
 no_pins_of_others : (id : ℕ) (q : Record) → (q.id ≡ id → ⊥) → filter (λ u. not (pins id u)) (uses_of q) ≡ uses_of q
 no_pins_of_others id q ne =
-    filter_all (λ u. not (pins id u)) (uses_of q)
+    filter-all (λ u. not (pins id u)) (uses_of q)
     (λ u h. not_from_false (pins id u) (and_left (eqb u.id id) (is_pin u.holder) (ne_eqb u.id id (λ e. ne (sym (use_of_record q u h) ∙ e)))))
 
 unpinned_uses : (q d : Record) → q.id ≡ d.id → q.acks ≡ d.acks → d.pins ≡ [] → uses_of d ≡ filter (λ u. not (pins d.id u)) (uses_of q)
@@ -114,7 +114,7 @@ unpinned_uses q d e acks none =
     let of_ack : Acked → List Use = λ a. holds q.id (Subtask a.subtask) a.files in
     let np : Use → Bool = λ u. not (pins d.id u) in
     let held : filter np (flat_map of_ack q.acks) ≡ flat_map of_ack q.acks =
-    filter_all np (flat_map of_ack q.acks) (λ u h.
+    filter-all np (flat_map of_ack q.acks) (λ u h.
     let k = IsIn-from_flat_map of_ack u q.acks h in
     let no_pin : is_pin u.holder ≡ false = ap is_pin (from_holds q.id (Subtask k.0.subtask) k.0.files u k.2).1 in
     not_from_false (pins d.id u) (and_right (eqb u.id d.id) (is_pin u.holder) no_pin)) in
@@ -154,7 +154,7 @@ pub finish_uses : (keep : ℕ → Bool) (rs : List Record) (d : Record) → ((q 
     filter (still_used keep d.id) (uses rs) ≡ uses (filter (λ s. keep s.id) (replaced rs d))
 finish_uses keep rs d acks none =
     let np : Use → Bool = λ u. not (pins d.id u) in
-    filter_same (still_used keep d.id) (λ u. np u && keep u.id) (uses rs) (λ u h. and_swap (keep u.id) (np u))
+    filter-same (still_used keep d.id) (λ u. np u && keep u.id) (uses rs) (λ u h. and_swap (keep u.id) (np u))
     ∙ sym (filter-filter (λ u. keep u.id) np (uses rs))
     ∙ ap (filter (λ u. keep u.id)) (sym (replaced_uses rs d acks none))
     ∙ sym (uses-filter keep (replaced rs d))
@@ -178,6 +178,6 @@ ended_records keep rs r rd same =
     ap end (with_instead-other rd q ne) ∙ ap (λ b. cond b (record q { pins = [] }) q) e ∙ sym (ap (with_instead d) (with_instead-other r q (λ k. ne (k ∙ same))) ∙ with_instead-other d q ne))
     (cases_Bool (eqb q.id rd.id)) in
     let ended : (xs : List Record) → map end (filter keeps xs) ≡ filter keeps (map end xs) = λ xs.
-    ap (map end) (filter_same keeps (λ s. keeps (end s)) xs (λ s h. ap keep (sym (end_id s)))) ∙ sym (filter-map keeps end xs) in
+    ap (map end) (filter-same keeps (λ s. keeps (end s)) xs (λ s h. ap keep (sym (end_id s)))) ∙ sym (filter-map keeps end xs) in
     ended (replaced rs rd)
     ∙ ap (filter keeps) (map-map end (with_instead rd) rs ∙ map_same (λ q. end (with_instead rd q)) (λ q. with_instead d (with_instead r q)) rs each ∙ sym (map-map (with_instead d) (with_instead r) rs))

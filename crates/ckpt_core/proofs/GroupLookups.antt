@@ -9,13 +9,14 @@ use Rattle.std.proofs.lemmas.Bool.{cases_Bool, both_ways, eqb-true, and_parts, a
 use Rattle.ckpt_ids.specs.declared.numbers.Kind.TheVariants as kind
 use Rattle.ckpt_ids.specs.Ordered.{IsIn, IsInOrder, in_order}
 use Rattle.ckpt_ids.specs.Records.{Record, Use}
-use Rattle.ckpt_ids.proofs.OrderedLemmas.{IsIn-append_cases, IsIn-append_right, IsIn-from_map, IsIn-in_order, IsIn-from_in_order, list_any-from_IsIn, IsIn-from_list_any}
+use Rattle.ckpt_ids.proofs.OrderedLemmas.{IsIn-append_cases, IsIn-append_right, IsIn-from_map, IsIn-in_order, IsIn-from_in_order, list_any-from_IsIn, IsIn-from_list_any, filter-all}
 use Rattle.ckpt_core.specs.Soundness.{id_before}
 use Rattle.ckpt_core.specs.State.{is_pending, is_checkpoint, is_done_checkpoint, last_checkpoint}
 use Rattle.ckpt_core.specs.Grouped.{with_pins, grouped, records_of}
 use Rattle.ckpt_core.proofs.GroupedLemmas.{AreApart, in_order-from_apart, apart_left, apart_right, same_records, in_order-filter}
-use Rattle.ckpt_core.proofs.GroupMoves.{filter_none, filter_all}
-use Rattle.ckpt_core.proofs.Lookups.{AreGroups, has_number, find-records_of, find-map, count_by-records_of, count_none, count_all, count_same}
+use Rattle.ckpt_core.proofs.GroupMoves.{filter_none}
+use Rattle.ckpt_core.proofs.Lookups.{AreGroups, has_number, find-records_of, find-map, count_by-records_of, count_all, count_same}
+use Rattle.ckpt_ids.proofs.CountLemmas.{count_by-none}
 
 pub is_checkpoint-kind : (r : Record) → r.kind ≡ kind.Checkpoint → is_checkpoint r ≡ true
 is_checkpoint-kind r e = ap (λ k. is_checkpoint (record r { kind = k })) e
@@ -27,6 +28,14 @@ is_savepoint-kind r e = ap (λ k. is_checkpoint (record r { kind = k })) e
 unfoldable pub first_found : {X : Type 0} → Option X → Option X → Option X
 first_found (Some x) o = Some x
 first_found None o = o
+
+pub first_found-some : {X : Type 0} (x : X) (o : Option X) → first_found (Some x) o ≡ Some x
+unfolding first_found
+first_found-some x o = refl
+
+pub first_found-none : {X : Type 0} (o : Option X) → first_found None o ≡ o
+unfolding first_found
+first_found-none o = refl
 
 pub find-append : {X : Type 0} (p : X → Bool) (xs ys : List X) → find p (xs ++ ys) ≡ first_found (find p xs) (find p ys)
 unfolding first_found
@@ -49,8 +58,8 @@ pub pending_checkpoints-groups : (us : List Use) (pending checkpoints savepoints
     count_by (λ r. is_pending r && is_checkpoint r) (records_of us pending checkpoints savepoints) ≡ count_by is_checkpoint pending
 pending_checkpoints-groups us pending checkpoints savepoints groups =
     let p : Record → Bool = λ r. is_pending r && is_checkpoint r in
-    let none_c : count_by p checkpoints ≡ 0 = count_none p checkpoints (λ r h. and_left (is_pending r) (is_checkpoint r) (not_from_true r.done (groups.checkpoints_done r h).0)) in
-    let none_s : count_by p savepoints ≡ 0 = count_none p savepoints (λ r h. and_left (is_pending r) (is_checkpoint r) (not_from_true r.done (groups.savepoints_done r h).0)) in
+    let none_c : count_by p checkpoints ≡ 0 = count_by-none p checkpoints (λ r h. and_left (is_pending r) (is_checkpoint r) (not_from_true r.done (groups.checkpoints_done r h).0)) in
+    let none_s : count_by p savepoints ≡ 0 = count_by-none p savepoints (λ r h. and_left (is_pending r) (is_checkpoint r) (not_from_true r.done (groups.savepoints_done r h).0)) in
     let own : count_by p pending ≡ count_by is_checkpoint pending = count_same p is_checkpoint pending (λ r h. ap (λ b. b && is_checkpoint r) (not_from_false r.done (groups.not_done r h))) in
     count_by-records_of p us pending checkpoints savepoints (λ r. refl) ∙ omega arith
 
@@ -58,7 +67,7 @@ pub savepoints-groups : (us : List Use) (pending checkpoints savepoints : List R
     count_by (λ r. not (is_checkpoint r)) (records_of us pending checkpoints savepoints) ≡ count_by (λ r. not (is_checkpoint r)) pending + length savepoints
 savepoints-groups us pending checkpoints savepoints groups =
     let p : Record → Bool = λ r. not (is_checkpoint r) in
-    let none_c : count_by p checkpoints ≡ 0 = count_none p checkpoints (λ r h. not_from_true (is_checkpoint r) (is_checkpoint-kind r (groups.checkpoints_done r h).1)) in
+    let none_c : count_by p checkpoints ≡ 0 = count_by-none p checkpoints (λ r h. not_from_true (is_checkpoint r) (is_checkpoint-kind r (groups.checkpoints_done r h).1)) in
     let all_s : count_by p savepoints ≡ length savepoints = count_all p savepoints (λ r h. not_from_false (is_checkpoint r) (is_savepoint-kind r (groups.savepoints_done r h).1)) in
     count_by-records_of p us pending checkpoints savepoints (λ r. refl) ∙ omega arith
 
@@ -134,7 +143,7 @@ last_checkpoint-groups us pending checkpoints savepoints apart groups order =
     let first : filter p (map (with_pins us) pending) ≡ [] = filter_none p (map (with_pins us) pending) (λ r h.
     let q = IsIn-from_map (with_pins us) r pending h in
     and_left r.done (is_checkpoint r) (ap (λ w. w.done) q.2 ∙ groups.not_done q.0 q.1)) in
-    let second : filter p checkpoints ≡ checkpoints = filter_all p checkpoints (λ r h. and_from r.done (is_checkpoint r) (groups.checkpoints_done r h).0 (is_checkpoint-kind r (groups.checkpoints_done r h).1)) in
+    let second : filter p checkpoints ≡ checkpoints = filter-all p checkpoints (λ r h. and_from r.done (is_checkpoint r) (groups.checkpoints_done r h).0 (is_checkpoint-kind r (groups.checkpoints_done r h).1)) in
     let third : filter p savepoints ≡ [] = filter_none p savepoints (λ r h. and_right r.done (is_checkpoint r) (is_savepoint-kind r (groups.savepoints_done r h).1)) in
     let whole : filter p g ≡ checkpoints =
     filter-append p (map (with_pins us) pending) (checkpoints ++ savepoints)

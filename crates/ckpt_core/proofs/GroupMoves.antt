@@ -8,10 +8,10 @@ use Rattle.std.proofs.lemmas.Bool.{cases_Bool, both_ways, eqb-true, eq-eqb, ne_e
 use Rattle.ckpt_ids.specs.Ascending.{IsAscendingSet}
 use Rattle.ckpt_ids.specs.Ordered.{IsIn, IsInOrder, in_order, in_order_once}
 use Rattle.ckpt_ids.specs.Records.{Record, Use, Subtask, Pin, use_before, uses, uses_of}
-use Rattle.ckpt_ids.proofs.OrderedLemmas.{IsIn-append_left, IsIn-map, IsIn-from_filter, IsInOrder-append}
+use Rattle.ckpt_ids.proofs.OrderedLemmas.{IsIn-append_left, IsIn-map, IsIn-from_filter, IsInOrder-append, filter-all, filter-same}
 use Rattle.ckpt_core.specs.Soundness.{id_before}
 use Rattle.ckpt_core.specs.Grouped.{is_pin, pins, pins_of, with_pins, grouped, records_of}
-use Rattle.ckpt_core.proofs.CountLemmas.{map_same, filter_itself}
+use Rattle.ckpt_core.proofs.CountLemmas.{map_same}
 use Rattle.ckpt_core.proofs.GroupedLemmas.{AreApart, in_order-filter, in_order-newest}
 use Rattle.ckpt_core.proofs.UsesOrder.{holds, from_holds, holds_in_order, in_order_once-itself, earlier_record}
 
@@ -32,15 +32,6 @@ filter_implied {X} p q (x ∷ xs) implies =
 pub filter_none : {X : Type 0} (p : X → Bool) (xs : List X) → ((x : X) → IsIn x xs → p x ≡ false) → filter p xs ≡ []
 filter_none p [] fails = refl
 filter_none p (x ∷ xs) fails = ap (λ b. cond b (x ∷ filter p xs) (filter p xs)) (fails x (inl refl)) ∙ filter_none p xs (λ y h. fails y (inr h))
-
-pub filter_all : {X : Type 0} (p : X → Bool) (xs : List X) → ((x : X) → IsIn x xs → p x ≡ true) → filter p xs ≡ xs
-filter_all = filter_itself
-
--- two tests that agree on a list keep the same of it
-pub filter_same : {X : Type 0} (p q : X → Bool) (xs : List X) → ((x : X) → IsIn x xs → p x ≡ q x) → filter p xs ≡ filter q xs
-filter_same p q [] agree = refl
-filter_same p q (x ∷ xs) agree =
-    ap (λ b. cond b (x ∷ filter p xs) (filter p xs)) (agree x (inl refl)) ∙ ap (λ ys. cond (q x) (x ∷ ys) ys) (filter_same p q xs (λ y h. agree y (inr h)))
 
 pub filter-filter : {X : Type 0} (p q : X → Bool) (xs : List X) → filter p (filter q xs) ≡ filter (λ x. q x && p x) xs
 filter-filter p q [] = refl

@@ -2,24 +2,17 @@
 use Rattle.std.proofs.Common.{◌≡◌, ℕ, ◌≤◌, Bool, true, false, not, eqb, List, [], ◌∷◌, map, length, refl, sym, subst, inl, inr, arith}
 use Rattle.std.proofs.lemmas.Bool.{lt-ltb, eq-eqb, cases_Bool}
 use Rattle.std.proofs.lemmas.List.Sums.{length-filter, count_by-le-length}
-use Rattle.ckpt_ids.specs.Ordered.{IsIn}
+use Rattle.ckpt_ids.specs.Ordered.{IsIn, AreDistinct}
 use Rattle.ckpt_ids.specs.Ascending.{ascending_set}
 use Rattle.ckpt_ids.specs.Records.{Use, count, is_present, released}
 use Rattle.ckpt_outbox.specs.Queues as queues
 use Rattle.ckpt_outbox.specs.Queues.{Queues, is_in, is_known}
 use Rattle.ckpt_core.specs.Parts.{present_in}
 use Rattle.ckpt_core.specs.Soundness as soundness
-use Rattle.ckpt_core.proofs.CountLemmas.{counted-from_IsIn}
-use Rattle.ckpt_core.proofs.Released.{ascending-released, before-from_released, distinct-from_ascending, IsIn-from_test}
-
--- a test that is not passed
-not_in : (f : ℕ) (fs : List ℕ) → (IsIn f fs → ⊥) → is_in f fs ≡ false
-not_in f fs new = elim (cases_Bool (is_in f fs)) [ inl e ↦ absurd (new (IsIn-from_test f fs e)) | inr e ↦ e ]
-
--- no number stands twice, as a test
-pub distinct_by_test : (fs : List ℕ) → soundness.AreDistinct fs → queues.AreDistinct fs
-distinct_by_test [] a = tt
-distinct_by_test (f ∷ fs) a = (not_in f fs a.0, distinct_by_test fs a.1)
+use Rattle.ckpt_core.proofs.Released.{ascending-released, before-from_released, IsIn-from_test}
+use Rattle.ckpt_ids.proofs.CountLemmas.{counted-from_IsIn}
+use Rattle.ckpt_ids.proofs.OrderedLemmas.{AreDistinct-from_order}
+use Rattle.ckpt_ids.proofs.AscendingLemmas.{numbers_in_order}
 
 -- there are at most as many released files as files that were present
 pub released_room : (before after : List Use) (room : ℕ) → present_in before ≤ room → length (released before after) ≤ room
@@ -29,8 +22,8 @@ released_room before after room h =
     omega (arith, length-filter gone fs, count_by-le-length gone fs)
 
 -- each stands once
-pub released_once : (before after : List Use) → queues.AreDistinct (released before after)
-released_once before after = distinct_by_test (released before after) (distinct-from_ascending (released before after) (ascending-released before after))
+pub released_once : (before after : List Use) → AreDistinct (released before after)
+released_once before after = AreDistinct-from_order numbers_in_order (released before after) (ascending-released before after)
 
 -- a use of a file makes it present
 pub present-from_use : (u : Use) (us : List Use) → IsIn u us → is_present us u.file ≡ true
@@ -48,7 +41,7 @@ released_unknown before after q unknown f h = unknown f (present-from_released f
 -- what `put` requires
 pub record CanBePut (files : List ℕ) (q : Queues) : Type 0 where
   pub room : length files ≤ q.spare
-  pub distinct : queues.AreDistinct files
+  pub distinct : AreDistinct files
   pub unknown : (f : ℕ) → is_in f files ≡ true → is_known q f ≡ false
 
 pub can_be_put : (before after : List Use) (q : Queues) (files : List ℕ) → files ≡ released before after → present_in before ≤ q.spare → ((f : ℕ) → is_present before f ≡ true → is_known q f ≡ false) → CanBePut files q

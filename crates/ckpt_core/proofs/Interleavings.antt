@@ -7,14 +7,14 @@ use Rattle.ckpt_ids.specs.declared.call.Call.{Call}
 use Rattle.ckpt_ids.specs.declared.reply.Answer.{Answer}
 use Rattle.ckpt_ids.specs.Ordered.{IsIn}
 use Rattle.ckpt_ids.specs.Records.{Record}
-use Rattle.ckpt_ids.proofs.CountLemmas.{count_by-cons}
+use Rattle.ckpt_ids.proofs.CountLemmas.{count_by-cons, count_by_yes, count_by_no}
 use Rattle.ckpt_ids.proofs.OrderedLemmas.{IsIn-append_right}
 use Rattle.ckpt_core.specs.State.{State}
 use Rattle.ckpt_core.specs.Steps.{step}
 use Rattle.ckpt_core.specs.Histories.{replay, answers}
 use Rattle.ckpt_core.specs.Soundness.{IsSound}
 use Rattle.ckpt_core.specs.Interleavings.{SameBySeat, NewFile, ack_with, AreApart, calls_of, completed_by, first_completed, is_completing, SameOutcome, AnyOrder}
-use Rattle.ckpt_core.proofs.CountLemmas.{count_by_no, count_by_yes, count_by_at_most_more}
+use Rattle.ckpt_core.proofs.CountLemmas.{count_by_at_most_more}
 use Rattle.ckpt_core.proofs.SoundCalls.{step_keeps}
 use Rattle.ckpt_core.proofs.Rearranged.{Rearranged, IsIn-midst, IsIn-rearranged, Rearranged-map, Rearranged-from_map, rearranged_by_seat, count_by-rearranged}
 use Rattle.ckpt_core.proofs.NewFiles.{Awaits, Exchanged, awaits_after, not_completing, exchanged_new}

@@ -10,13 +10,15 @@ use Rattle.ckpt_core.specs.State.{State, Opening, opened}
 use Rattle.ckpt_core.specs.Steps.{step}
 use Rattle.ckpt_core.specs.Histories.{replay}
 use Rattle.ckpt_core.specs.Soundness.{IsSound}
-use Rattle.ckpt_core.specs.Laws.{CanOpen, AreCalls, along, times, one_if, registered_by, handed_by, deleted_by, new_by, ShareNone, NoneAgain, Balance, Handed, Accounted, UsedNoMore, Outbox}
+use Rattle.ckpt_core.specs.Laws.{CanOpen, AreCalls, along, one_if, registered_by, handed_by, deleted_by, new_by, ShareNone, NoneAgain, Balance, Handed, Accounted, UsedNoMore, Outbox}
 use Rattle.ckpt_core.proofs.Released.{not_in-from_test}
 use Rattle.ckpt_core.proofs.RecordLists.{outbox_of}
-use Rattle.ckpt_core.proofs.Balances.{times_none, times_at_most_once, times_some, IsIn-from_times, times-append}
+use Rattle.ckpt_core.proofs.Balances.{times_none, times_at_most_once}
 use Rattle.ckpt_core.proofs.StepBalances.{step_balances, out_stays, handed_is_out, deleted_is_gone, newly_present}
 use Rattle.ckpt_core.proofs.SoundCalls.{step_keeps}
 use Rattle.ckpt_core.proofs.SoundHistories.{opening_is_sound, replay_is_sound}
+use Rattle.ckpt_ids.specs.Counting.{times}
+use Rattle.ckpt_ids.proofs.CountLemmas.{times-from_IsIn, IsIn-from_times, times-append}
 
 -- from any sound state on
 balance_from : (m : State) (calls : List Call) (f : ℕ) → IsSound m → AreCalls calls → times f (along registered_by m calls) + one_if (is_present (uses m.records) f) ≡ times f (along handed_by m calls) + one_if (is_present (uses (replay m calls).records) f)
@@ -96,7 +98,7 @@ handed-from_registered : (o : Opening) (calls : List Call) (f : ℕ) → CanOpen
 handed-from_registered o calls f c a h e =
     let even : times f (along registered_by (opened o) calls) ≡ times f (along handed_by (opened o) calls) + one_if (is_present (uses (replay (opened o) calls).records) f) = balance o calls c a f in
     let none : one_if (is_present (uses (replay (opened o) calls).records) f) ≡ 0 = ap one_if e in
-    let some : 0 < times f (along registered_by (opened o) calls) = times_some f (along registered_by (opened o) calls) h in
+    let some : 0 < times f (along registered_by (opened o) calls) = times-from_IsIn f (along registered_by (opened o) calls) h in
     IsIn-from_times f (along handed_by (opened o) calls) (omega arith)
 
 -- a registered file in no use is in the outbox or was deleted
@@ -121,7 +123,7 @@ handed o calls c a none f =
     (traced_along (opened o) calls [] [] (opening_is_sound o c) a (λ f h. absurd h) f h) in
     let registered : IsIn f out → IsIn f in_ = λ (h : IsIn f out).
     let even : times f in_ ≡ times f out + one_if (is_present (uses m.records) f) = balance o calls c a f in
-    let some : 0 < times f out = times_some f out h in
+    let some : 0 < times f out = times-from_IsIn f out h in
     IsIn-from_times f in_ (omega arith) in
     (λ (h : IsIn f out). (registered h, count-from_absent m f (absent h)), λ h. handed-from_registered o calls f c a h.0 (absent-from_count m f h.1))
 

@@ -15,9 +15,10 @@ use Rattle.ckpt_core.specs.Soundness.{IsSound}
 use Rattle.ckpt_core.specs.Laws.{CanOpen, AreCalls, Part, is_disposed_by, IsNeverDisposed, Savepoints}
 use Rattle.ckpt_core.proofs.Moves.{IsMoved, savepoint_moved, disposed_of, IsNoAck}
 use Rattle.ckpt_core.proofs.Takings.{savepoint_kept}
-use Rattle.ckpt_core.proofs.StepViews.{step_moves, step_accepted, IsPassedOver, IsTakenBy, ack_seen}
+use Rattle.ckpt_core.proofs.StepViews.{step_moves, IsPassedOver, IsTakenBy, ack_seen}
 use Rattle.ckpt_core.proofs.SoundCalls.{step_keeps}
 use Rattle.ckpt_core.proofs.SoundHistories.{replay_is_sound}
+use Rattle.ckpt_core.proofs.StepCases.{step_accepted}
 
 -- a done savepoint
 pub record IsDoneSavepoint (m : State) (r : Record) : Type 0 where

@@ -1,5 +1,4 @@
 pub mod Accepted
-pub mod AckCounts
 pub mod AckLate
 pub mod AckMoves
 pub mod AckRecords
@@ -63,6 +62,7 @@ pub mod SoundOutbox
 pub mod SoundTriggers
 pub mod Spreads
 pub mod StepBalances
+pub mod StepCases
 pub mod StepViews
 pub mod Takings
 pub mod TickParts

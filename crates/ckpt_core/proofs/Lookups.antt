@@ -46,10 +46,6 @@ count_by-records_of p us pending checkpoints savepoints same =
     ∙ ap (λ n. n + count_by p (checkpoints ++ savepoints)) (count_by-map p (with_pins us) pending ∙ count_same (λ r. p (with_pins us r)) p pending (λ r h. same r))
     ∙ ap (λ n. count_by p pending + n) (count_by-append p checkpoints savepoints)
 
-pub count_none : {X : Type 0} (p : X → Bool) (xs : List X) → ((x : X) → IsIn x xs → p x ≡ false) → count_by p xs ≡ 0
-count_none p [] fails = refl
-count_none p (x ∷ xs) fails = count_by-cons p x xs ∙ ap (λ b. cond b 1 0 + count_by p xs) (fails x (inl refl)) ∙ ap (λ n. 0 + n) (count_none p xs (λ y h. fails y (inr h))) ∙ omega arith
-
 pub count_all : {X : Type 0} (p : X → Bool) (xs : List X) → ((x : X) → IsIn x xs → p x ≡ true) → count_by p xs ≡ length xs
 count_all p [] passes = refl
 count_all p (x ∷ xs) passes = count_by-cons p x xs ∙ ap (λ b. cond b 1 0 + count_by p xs) (passes x (inl refl)) ∙ ap (λ n. 1 + n) (count_all p xs (λ y h. passes y (inr h))) ∙ omega arith
@@ -70,29 +66,22 @@ find_same p xs ys forth back one =
     find-one p y xs (back y k.0) k.1 (λ z h t. one z y h (back y k.0) t k.1) ∙ sym e in
     elim (find p ys) as (λ o. (find p ys ≡ o → find p xs ≡ find p ys)) [ None ↦ none | Some y ↦ some y ] refl
 
-apart_one : (xs : List Record) → AreApart xs → (y z : Record) → IsIn y xs → IsIn z xs → y.id ≡ z.id → y ≡ z
-apart_one [] a y z h k e = absurd h
-apart_one (x ∷ xs) a y z (inl b) (inl c) e = b ∙ sym c
-apart_one (x ∷ xs) a y z (inl b) (inr k) e = absurd (a.0 z k (ap (λ w. w.id) (sym b) ∙ e))
-apart_one (x ∷ xs) a y z (inr h) (inl c) e = absurd (a.0 y h (ap (λ w. w.id) (sym c) ∙ sym e))
-apart_one (x ∷ xs) a y z (inr h) (inr k) e = apart_one xs a.1 y z h k e
-
 pub one_of_number : (xs : List Record) → AreApart xs → (y z : Record) → IsIn y xs → IsIn z xs → y.id ≡ z.id → y ≡ z
-one_of_number = apart_one
+one_of_number [] a y z h k e = absurd h
+one_of_number (x ∷ xs) a y z (inl b) (inl c) e = b ∙ sym c
+one_of_number (x ∷ xs) a y z (inl b) (inr k) e = absurd (a.0 z k (ap (λ w. w.id) (sym b) ∙ e))
+one_of_number (x ∷ xs) a y z (inr h) (inl c) e = absurd (a.0 y h (ap (λ w. w.id) (sym c) ∙ sym e))
+one_of_number (x ∷ xs) a y z (inr h) (inr k) e = one_of_number xs a.1 y z h k e
 
 -- a test that only records of one number pass finds the same in the records in order and in the groups
 pub find-records_of : (p : Record → Bool) (id : ℕ) (us : List Use) (pending checkpoints savepoints : List Record) → AreApart (grouped us pending checkpoints savepoints) → ((r : Record) → p r ≡ true → r.id ≡ id) → find p (records_of us pending checkpoints savepoints) ≡ find p (grouped us pending checkpoints savepoints)
 find-records_of p id us pending checkpoints savepoints apart only =
     let g : List Record = grouped us pending checkpoints savepoints in
     find_same p (in_order id_before g) g (λ z h. IsIn-from_in_order id_before z g h) (λ z h. IsIn-in_order id_before z g h)
-    (λ y z h k a b. apart_one g apart y z (IsIn-from_in_order id_before y g h) (IsIn-from_in_order id_before z g k) (only y a ∙ sym (only z b)))
-
-none_there : {X : Type 0} (p : X → Bool) (ys : List X) → ((y : X) → IsIn y ys → p y ≡ false) → find p ys ≡ None
-none_there p [] fails = refl
-none_there p (y ∷ ys) fails = ap (λ b. cond b (Some y) (find p ys)) (fails y (inl refl)) ∙ none_there p ys (λ z h. fails z (inr h))
+    (λ y z h k a b. one_of_number g apart y z (IsIn-from_in_order id_before y g h) (IsIn-from_in_order id_before z g k) (only y a ∙ sym (only z b)))
 
 pub find-append_left : {X : Type 0} (p : X → Bool) (xs ys : List X) → ((y : X) → IsIn y ys → p y ≡ false) → find p (xs ++ ys) ≡ find p xs
-find-append_left p [] ys fails = none_there p ys fails
+find-append_left p [] ys fails = find-none p ys fails
 find-append_left p (x ∷ xs) ys fails = ap (λ o. cond (p x) (Some x) o) (find-append_left p xs ys fails)
 
 pub find-append_right : {X : Type 0} (p : X → Bool) (xs ys : List X) → ((x : X) → IsIn x xs → p x ≡ false) → find p (xs ++ ys) ≡ find p ys
@@ -118,7 +107,7 @@ pub record AreGroups (pending checkpoints savepoints : List Record) : Type 0 whe
 abbrev pub has_number : ℕ → Record → Bool
 has_number id r = eqb r.id id
 
-done_in : {pending checkpoints savepoints : List Record} → AreGroups pending checkpoints savepoints → (r : Record) → IsIn r (checkpoints ++ savepoints) → r.done ≡ true
+pub done_in : {pending checkpoints savepoints : List Record} → AreGroups pending checkpoints savepoints → (r : Record) → IsIn r (checkpoints ++ savepoints) → r.done ≡ true
 done_in {pending} {checkpoints} {savepoints} groups r h = ⊎_elim (λ (k : IsIn r checkpoints). (groups.checkpoints_done r k).0) (λ (k : IsIn r savepoints). (groups.savepoints_done r k).0) (IsIn-append_cases r checkpoints savepoints h)
 
 -- the pending record of a number

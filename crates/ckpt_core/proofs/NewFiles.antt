@@ -18,7 +18,7 @@ use Rattle.ckpt_core.specs.Steps.{Stepped, replaced, with_records, completed_wit
 use Rattle.ckpt_core.specs.Soundness.{IsSound}
 use Rattle.ckpt_core.specs.Laws.{is_ack_pending, is_ack_taken, Part}
 use Rattle.ckpt_core.specs.Interleavings.{NewFile, ack_with, is_completing}
-use Rattle.ckpt_core.proofs.CountLemmas.{counted-from_IsIn, IsIn-from_find}
+use Rattle.ckpt_core.proofs.CountLemmas.{IsIn-from_find}
 use Rattle.ckpt_core.proofs.UsesLemmas.{IsHeld, IsHeld-from_present, present-from_IsHeld}
 use Rattle.ckpt_core.proofs.Accepted.{not_refused-ack}
 use Rattle.ckpt_core.proofs.RefusalRows.{row_holds, row_fails}
@@ -27,6 +27,9 @@ use Rattle.ckpt_core.proofs.SoundCalls.{step_keeps}
 use Rattle.ckpt_core.proofs.HeldLemmas.{held_or_named, held_still}
 use Rattle.ckpt_core.proofs.ExchangeLemmas.{has_not_after, pending_of_replaced}
 use Rattle.ckpt_core.proofs.Exchange.{step_ack, left_pending, exchange}
+use Rattle.ckpt_ids.proofs.CountLemmas.{counted-from_IsIn}
+use Rattle.ckpt_core.proofs.StepCases.{step_refused}
+use Rattle.ckpt_core.proofs.StepViews.{acknowledged_is_taken}
 
 -- the record lacks this subtask
 abbrev pub Lacks : Record → NewFile → Type 0
@@ -120,11 +123,6 @@ with_new r n = with_ack r n.subtask (n.file ∷ []) []
 abbrev after_new : State → ℕ → Record → NewFile → State
 after_new m now r n = with_records (record m { latest = max now m.latest }) (replaced m.records (with_new r n))
 
--- one that is refused changes nothing
-pub step_refused : (m : State) (call : Call) (why : Refusal) → refusal m call ≡ Some why → step m call ≡ (m, Refused why)
-unfolding step
-step_refused m call why e = ap (unless_refused m call) e
-
 lacks_still : (r : Record) (a b : NewFile) → (a.subtask ≡ b.subtask → ⊥) → Lacks r b → Lacks (with_new r a) b
 lacks_still r a b ne l = (l.0, has_not_after r a.subtask b.subtask (ascending ((a.file ∷ []) ++ [])) (λ e. ne (sym e)) l.1)
 
@@ -204,22 +202,9 @@ not_completing m now id a b wa wb ne =
     let P : Stepped → Type 0 = λ x. is_completing x.1 ≡ false in
     after_first m now id a b wa wb ne P (λ why. refl) refl
 
--- one that is accepted is taken into its record
-taken_in : (n : State) (w : Record) → is_ack_taken (acknowledged_in n w).1 ≡ true
-unfolding acknowledged_in completed_with
-taken_in n w =
-    let c : Record = record w { done = true } in
-    let full : Stepped = completed_with (with_records n (replaced n.records c)) c in
-    let part : Stepped = (with_records n (replaced n.records w), Done (reply.AckPending (missing w))) in
-    let P : Bool → Type 0 = λ b. is_ack_taken (cond b full part).1 ≡ true in
-    ⊎_elim
-    (λ (e : eqb (missing w) 0 ≡ true). subst P (sym e) refl)
-    (λ (e : eqb (missing w) 0 ≡ false). subst P (sym e) refl)
-    (cases_Bool (eqb (missing w) 0))
-
 taken : (m : State) (now id : ℕ) (n : NewFile) → Awaits m id n → refusal m (ack_with now id n) ≡ None → is_ack_taken (step m (ack_with now id n)).1 ≡ true
 taken m now id n w e =
-    ap (λ (x : Stepped). is_ack_taken x.1) (step_ack m now id (part_of n) w.r e w.found) ∙ taken_in (record m { latest = max now m.latest }) (with_new w.r n)
+    ap (λ (x : Stepped). is_ack_taken x.1) (step_ack m now id (part_of n) w.r e w.found) ∙ acknowledged_is_taken (record m { latest = max now m.latest }) (with_new w.r n)
 
 -- two, in either order
 

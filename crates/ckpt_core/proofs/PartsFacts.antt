@@ -20,13 +20,9 @@ use Rattle.ckpt_core.proofs.DropMoves.{apart_in, groups_of}
 use Rattle.ckpt_core.proofs.GroupedLemmas.{apart_between}
 use Rattle.ckpt_core.proofs.Lookups.{AreGroups, has_number}
 use Rattle.ckpt_core.proofs.GroupLookups.{last_checkpoint-groups, last_id, last_id-greatest, record_of-groups, first_found}
+use Rattle.ckpt_core.proofs.EndingMoves.{same_choice}
 
 -- the choice
-
-same_choice : (a b : Option ℕ) → choice_from a b ≡ storing.choice_from a b
-same_choice (Some a) b = refl
-same_choice None (Some b) = refl
-same_choice None None = refl
 
 pub choice-parts : (p : Parts) → IsSound (state_of p) → IsStored p.store → ((r : Record) → IsIn r p.pending → IsPending r) → choice_of (state_of p) ≡ storing.choice_of p.store
 unfolding state_of choice_of

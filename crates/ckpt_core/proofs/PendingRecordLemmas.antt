@@ -14,7 +14,7 @@ use Rattle.std.proofs.lemmas.List.Folds.{list_any-append}
 use Rattle.ckpt_ids.specs.declared.subtask.SubtaskId.{SubtaskId}
 use Rattle.ckpt_ids.specs.Ordered.{IsIn, IsInOrder}
 use Rattle.ckpt_ids.specs.Records.{Record, has_acknowledged}
-use Rattle.ckpt_ids.proofs.OrderedLemmas.{IsIn-from_map, IsIn-from_filter, IsIn-append_cases, IsInOrder-append, IsInOrder-filter, IsInOrder-map, ComesBefore-at}
+use Rattle.ckpt_ids.proofs.OrderedLemmas.{IsIn-from_map, IsIn-from_filter, IsIn-append_cases, IsInOrder-append, IsInOrder-filter, IsInOrder-map, ComesBefore-at, filter-all, filter-same}
 use Rattle.ckpt_pending.specs.Acknowledging.{IsPending, without_ack}
 use Rattle.ckpt_pending.proofs.PendingLemmas.{without-with_ack}
 use Rattle.ckpt_pending.proofs.SubtaskLemmas.{count_by_same}
@@ -24,7 +24,7 @@ use Rattle.ckpt_core.specs.Steps.{acknowledged}
 use Rattle.ckpt_core.specs.PendingRecords.{acked, retracted, records_in, by_number, AreKept}
 use Rattle.ckpt_ids.proofs.CountLemmas.{count_by-cons, count_by-append, count_by-map}
 use Rattle.ckpt_core.proofs.CountLemmas.{map_itself}
-use Rattle.ckpt_core.proofs.GroupMoves.{filter_all, filter_same, filter-filter, map-map}
+use Rattle.ckpt_core.proofs.GroupMoves.{filter-filter, map-map}
 
 -- the record of a number, as tests of a record and of a key
 abbrev pub numbered : ℕ → Record → Bool
@@ -96,7 +96,7 @@ remove-by_number id (r ∷ rs) order =
     let rest : List (ℕ × Record) = remove_entry (at_number id) (by_number rs) in
     let keep : Record → Bool = λ s. not (numbered id s) in
     let P : Bool → Type 0 = λ b. cond b (by_number rs) ((r.id, r) ∷ rest) ≡ by_number (cond (not b) (r ∷ filter keep rs) (filter keep rs)) in
-    let gone : numbered id r ≡ true → P (numbered id r) = λ (t : numbered id r ≡ true). subst P (sym t) (ap by_number (sym (filter_all keep rs (λ s h. ap not (others id r rs order t s h))))) in
+    let gone : numbered id r ≡ true → P (numbered id r) = λ (t : numbered id r ≡ true). subst P (sym t) (ap by_number (sym (filter-all keep rs (λ s h. ap not (others id r rs order t s h))))) in
     let stays : numbered id r ≡ false → P (numbered id r) = λ (t : numbered id r ≡ false). subst P (sym t) (ap (λ es. (r.id, r) ∷ es) (remove-by_number id rs order.1)) in
     ap (λ b. cond b (by_number rs) ((r.id, r) ∷ rest)) (same_key id r.id) ∙ ⊎_elim gone stays (cases_Bool (numbered id r))
 
@@ -219,7 +219,7 @@ filter-one_more ids id rs =
     let all : Record → Bool = λ r. not (list_any (λ i. eqb r.id i) (ids ++ id ∷ [])) in
     let bools : (a b : Bool) → (not a && not b) ≡ not (a || (b || false)) = λ a b. grind (arith, nat_tests) in
     let each : (r : Record) → (old r && new r) ≡ all r = λ r. bools (list_any (λ i. eqb r.id i) ids) (eqb r.id id) ∙ ap not (sym (list_any-append (λ i. eqb r.id i) ids (id ∷ []))) in
-    filter-filter new old rs ∙ filter_same (λ r. old r && new r) all rs (λ r h. each r)
+    filter-filter new old rs ∙ filter-same (λ r. old r && new r) all rs (λ r h. each r)
 
 pub count_by-others : {X : Type 0} (p : X → Bool) (xs : List X) → count_by p xs + count_by (λ x. not (p x)) xs ≡ length xs
 count_by-others p [] = refl

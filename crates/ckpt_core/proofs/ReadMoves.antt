@@ -21,9 +21,10 @@ use Rattle.ckpt_core.specs.Soundness.{id_before}
 use Rattle.ckpt_core.specs.State.{State, record_of}
 use Rattle.ckpt_core.specs.Steps.{Stepped, effect, take_files, without, show}
 use Rattle.ckpt_core.proofs.GroupedLemmas.{apart-from_in_order}
-use Rattle.ckpt_core.proofs.GroupLookups.{record_of-groups, first_found, find-append}
+use Rattle.ckpt_core.proofs.GroupLookups.{record_of-groups, first_found, find-append, first_found-some, first_found-none}
 use Rattle.ckpt_core.proofs.Lookups.{has_number}
-use Rattle.ckpt_core.proofs.EndingMoves.{accepted_step}
+use Rattle.ckpt_core.proofs.StepCases.{step_accepted}
+use Rattle.ckpt_core.proofs.RefusalRows.{first_row-none}
 
 -- another outbox with as many places reserved
 tied_with : (p : Parts) (outbox : Queues) → AreTied p → outbox.spare ≡ p.outbox.spare → AreTied (record p { outbox = outbox })
@@ -40,7 +41,7 @@ pub taken_answers : (p : Parts) (most : ℕ) (outbox : Queues) (handed : List �
     Answers p (record p { outbox = outbox }) (call.Take most) (reply.Taken handed)
 unfolding state_of effect take_files
 taken_answers p most outbox handed sound accepted is gives = record {
-  step_is = accepted_step (state_of p) (call.Take most) accepted
+  step_is = step_accepted (state_of p) (call.Take most) accepted
       ∙ ap (λ o. (let x : Stepped = (state_of (record p { outbox = o }), Done (reply.Taken (take most p.outbox.waiting))) in x)) (sym is)
       ∙ ap (λ fs. (let x : Stepped = (state_of (record p { outbox = outbox }), Done (reply.Taken fs)) in x)) (sym gives);
   tied = tied_with p outbox sound.tied (ap (λ o. o.spare) is);
@@ -51,7 +52,7 @@ pub deleted_answers : (p : Parts) (file : ℕ) (outbox : Queues) → AreSound p 
     Answers p (record p { outbox = outbox }) (call.Deleted file) (reply.Deleted file)
 unfolding state_of effect
 deleted_answers p file outbox sound accepted is = record {
-  step_is = accepted_step (state_of p) (call.Deleted file) accepted
+  step_is = step_accepted (state_of p) (call.Deleted file) accepted
       ∙ ap (λ o. (let x : Stepped = (state_of (record p { outbox = o }), Done (reply.Deleted file)) in x)) (sym is);
   tied = tied_with p outbox sound.tied (ap (λ o. o.spare) is);
   none_ended = sound.none_ended;
@@ -61,7 +62,7 @@ pub undeleted_answers : (p : Parts) (file : ℕ) (outbox : Queues) → AreSound 
     Answers p (record p { outbox = outbox }) (call.Undeleted file) (reply.Undeleted file)
 unfolding state_of effect
 undeleted_answers p file outbox sound accepted is = record {
-  step_is = accepted_step (state_of p) (call.Undeleted file) accepted
+  step_is = step_accepted (state_of p) (call.Undeleted file) accepted
       ∙ ap (λ o. (let x : Stepped = (state_of (record p { outbox = o }), Done (reply.Undeleted file)) in x)) (sym is);
   tied = tied_with p outbox sound.tied (ap (λ o. o.spare) is);
   none_ended = sound.none_ended;
@@ -70,7 +71,7 @@ undeleted_answers p file outbox sound accepted is = record {
 pub counted_answers : (p : Parts) (file n : ℕ) → AreSound p → IsAccepted p (call.Count file) → n ≡ count p.registry file → Answers p p (call.Count file) (reply.Counted file n)
 unfolding state_of effect
 counted_answers p file n sound accepted is = record {
-  step_is = accepted_step (state_of p) (call.Count file) accepted
+  step_is = step_accepted (state_of p) (call.Count file) accepted
       ∙ ap (λ k. (let x : Stepped = (state_of p, Done (reply.Counted file k)) in x)) (ap (λ us. count us file) (sym sound.tied.uses_are) ∙ sym is);
   tied = sound.tied;
   none_ended = sound.none_ended;
@@ -78,17 +79,9 @@ counted_answers p file n sound accepted is = record {
 
 -- the metadata of a record
 
-first_is : (r : Record) (o : Option Record) → first_found (Some r) o ≡ Some r
-first_is r None = sym (find-append (λ _. true) (r ∷ []) [])
-first_is r (Some s) = sym (find-append (λ _. true) (r ∷ []) (s ∷ []))
-
-second_is : (o : Option Record) → first_found None o ≡ o
-second_is None = sym (find-append (λ (_ : Record). true) [] [])
-second_is (Some s) = sym (find-append (λ _. true) [] (s ∷ []))
-
 either : (a b : Option Record) → elim a as (λ _. Option Record) [ Some r ↦ Some r | None ↦ b ] ≡ first_found a b
-either (Some r) b = sym (first_is r b)
-either None b = sym (second_is b)
+either (Some r) b = sym (first_found-some r b)
+either None b = sym (first_found-none b)
 
 stored_found : (id : ℕ) (s : storing.Stored) → storing.record_of s id ≡ first_found (find (has_number id) s.checkpoints) (find (has_number id) s.savepoints)
 stored_found id s = either (find (has_number id) s.checkpoints) (find (has_number id) s.savepoints)
@@ -104,11 +97,11 @@ record_there p id order =
 pub pending_metadata : (p : Parts) (id : ℕ) (r : Record) (metadata : Metadata) → IsInOrder id_before (records_in p) → find (has_number id) p.pending ≡ Some r → metadata ≡ metadata_of r →
     option_map metadata_of (record_of (state_of p) id) ≡ Some metadata
 pending_metadata p id r metadata order there is =
-    ap (option_map metadata_of) (record_there p id order ∙ ap (λ o. first_found (option_map (with_pins p.registry) o) (storing.record_of p.store id)) there ∙ first_is (with_pins p.registry r) (storing.record_of p.store id))
+    ap (option_map metadata_of) (record_there p id order ∙ ap (λ o. first_found (option_map (with_pins p.registry) o) (storing.record_of p.store id)) there ∙ first_found-some (with_pins p.registry r) (storing.record_of p.store id))
     ∙ ap (λ x. Some x) (sym is)
 
 pub stored_record : (p : Parts) (id : ℕ) → IsInOrder id_before (records_in p) → find (has_number id) p.pending ≡ None → record_of (state_of p) id ≡ storing.record_of p.store id
-stored_record p id order none = record_there p id order ∙ ap (λ o. first_found (option_map (with_pins p.registry) o) (storing.record_of p.store id)) none ∙ second_is (storing.record_of p.store id)
+stored_record p id order none = record_there p id order ∙ ap (λ o. first_found (option_map (with_pins p.registry) o) (storing.record_of p.store id)) none ∙ first_found-none (storing.record_of p.store id)
 
 pub stored_metadata : (p : Parts) (id : ℕ) (r : Record) (metadata : Metadata) → IsInOrder id_before (records_in p) → find (has_number id) p.pending ≡ None → storing.record_of p.store id ≡ Some r → metadata ≡ metadata_of r →
     option_map metadata_of (record_of (state_of p) id) ≡ Some metadata
@@ -119,13 +112,9 @@ some_record : (o : Option Record) → no_record o ≡ None → IsSome o
 some_record (Some r) h = refl
 some_record None h = absurd (cc)
 
-first_is_none : (row : Option Refusal) (rows : List (Option Refusal)) → first_some (row ∷ rows) ≡ None → row ≡ None
-first_is_none None rows h = refl
-first_is_none (Some why) rows h = absurd (cc)
-
 pub accepted_show : (m : State) (id : ℕ) → refusal m (call.Show id) ≡ None → IsSome (record_of m id)
 unfolding refusal
-accepted_show m id h = some_record (record_of m id) (first_is_none (no_record (record_of m id)) _ h)
+accepted_show m id h = some_record (record_of m id) (first_row-none (no_record (record_of m id)) _ h)
 
 shown : (m : State) (o : Option Record) (metadata : Metadata) → option_map metadata_of o ≡ Some metadata → (let x : Stepped = (m, show o) in x) ≡ (m, Done (reply.Shown metadata))
 shown m (Some r) metadata e = let same : metadata_of r ≡ metadata = cc in ap (λ k. (let x : Stepped = (m, Done (reply.Shown k)) in x)) same
@@ -134,7 +123,7 @@ shown m None metadata e = absurd (cc)
 pub shown_answers : (p : Parts) (id : ℕ) (metadata : Metadata) → AreSound p → IsAccepted p (call.Show id) → option_map metadata_of (record_of (state_of p) id) ≡ Some metadata → Answers p p (call.Show id) (reply.Shown metadata)
 unfolding effect
 shown_answers p id metadata sound accepted is = record {
-  step_is = accepted_step (state_of p) (call.Show id) accepted ∙ shown (state_of p) (record_of (state_of p) id) metadata is;
+  step_is = step_accepted (state_of p) (call.Show id) accepted ∙ shown (state_of p) (record_of (state_of p) id) metadata is;
   tied = sound.tied;
   none_ended = sound.none_ended;
 }

@@ -5,7 +5,7 @@ use Rattle.std.specs.List.{filter}
 use Rattle.std.proofs.lemmas.Bool.{cases_Bool, both_ways, and_parts, and_from, and_left, and_right, not-true, not_from_false, ltb-true, lt-ltb, le-ltb, leb-false}
 use Rattle.ckpt_ids.specs.declared.numbers.Kind.{Kind}
 use Rattle.ckpt_ids.specs.declared.numbers.Kind.TheVariants as kind
-use Rattle.ckpt_ids.specs.Ordered.{IsIn, IsInOrder, ComesBefore}
+use Rattle.ckpt_ids.specs.Ordered.{IsIn, IsInOrder, ComesBefore, AreDistinct}
 use Rattle.ckpt_ids.specs.Configuration.{IsWithinLimits}
 use Rattle.ckpt_ids.specs.Records.{Record, uses, is_present}
 use Rattle.ckpt_ids.specs.Shapes.{IsShape}
@@ -14,9 +14,9 @@ use Rattle.ckpt_rules.specs.Trigger.{limit}
 use Rattle.ckpt_core.specs.declared.mode.Mode.TheVariants.{Running}
 use Rattle.ckpt_core.specs.State.{State, Opening, is_checkpoint, is_pending, is_done_checkpoint}
 use Rattle.ckpt_core.specs.Refusals.{is_done_savepoint}
-use Rattle.ckpt_core.specs.Soundness.{IsSound, IsRecord, id_before, AreDistinct}
-use Rattle.ckpt_ids.proofs.CountLemmas.{count_by-append}
-use Rattle.ckpt_core.proofs.CountLemmas.{count_by_yes, count_by_no, count_by-le, count_by-changed, IsIn-from_changed}
+use Rattle.ckpt_core.specs.Soundness.{IsSound, IsRecord, id_before}
+use Rattle.ckpt_ids.proofs.CountLemmas.{count_by-append, count_by_yes, count_by_no}
+use Rattle.ckpt_core.proofs.CountLemmas.{count_by-le, count_by-changed, IsIn-from_changed}
 use Rattle.ckpt_core.proofs.Released.{IsIn-from_test, test-from_IsIn}
 use Rattle.ckpt_pending.proofs.SubtaskLemmas.{count_by_same}
 

@@ -19,14 +19,8 @@ use Rattle.ckpt_core.specs.Parts.{AreSound, AreTied, records_in, state_of, is_kn
 use Rattle.ckpt_core.proofs.RefusalRows.{rows_only}
 use Rattle.ckpt_core.proofs.GroupedLemmas.{AreApart, apart-from_in_order}
 use Rattle.ckpt_core.proofs.Lookups.{AreGroups, has_number, pending_of-groups}
-use Rattle.ckpt_core.proofs.GroupLookups.{first_found, find-append, record_of-groups, savepoints-groups, done_savepoint-groups}
-
-groups_of : (p : Parts) → ((r : Record) → IsIn r p.pending → IsPending r) → IsStored p.store → AreGroups p.pending p.store.checkpoints p.store.savepoints
-groups_of p pending stored = record {
-  not_done = λ r h. (pending r h).not_done;
-  checkpoints_done = λ r h. let d = stored.checkpoints_done r h in (d.0.is_done, d.1);
-  savepoints_done = λ r h. let d = stored.savepoints_done r h in (d.0.is_done, d.1);
-}
+use Rattle.ckpt_core.proofs.GroupLookups.{first_found, find-append, record_of-groups, savepoints-groups, done_savepoint-groups, first_found-some, first_found-none}
+use Rattle.ckpt_core.proofs.DropMoves.{groups_of}
 
 apart_of : (p : Parts) → AreSound p → AreApart (grouped p.registry p.pending p.store.checkpoints p.store.savepoints)
 unfolding state_of
@@ -47,14 +41,6 @@ pub savepoints-parts : (p : Parts) → ((r : Record) → IsIn r p.pending → Is
 unfolding state_of
 savepoints-parts p pending stored =
     savepoints-groups p.registry p.pending p.store.checkpoints p.store.savepoints (groups_of p pending stored)
-
-first_found-some : (r : Record) (o : Option Record) → first_found (Some r) o ≡ Some r
-first_found-some r None = sym (find-append (λ _. true) (r ∷ []) [])
-first_found-some r (Some s) = sym (find-append (λ _. true) (r ∷ []) (s ∷ []))
-
-first_found-none : (o : Option Record) → first_found None o ≡ o
-first_found-none None = sym (find-append (λ _. true) [] [])
-first_found-none (Some s) = sym (find-append (λ _. true) [] (s ∷ []))
 
 no_record-first : (f : Record → Record) (a b c : Option Record) → no_record (first_found (option_map f a) (first_found b c)) ≡ refuse_if (is_none a && is_none (elim b as (λ _. Option Record) [ Some r ↦ Some r | None ↦ c ])) NoSuchRecord
 no_record-first f (Some r) b c = ap no_record (first_found-some (f r) (first_found b c))

@@ -7,13 +7,12 @@ use Rattle.std.specs.Result.{is_ok}
 use Rattle.std.specs.List.{list_any}
 use Rattle.std.proofs.lemmas.Bool.{both_ways, eq-eqb, ltb-false, leb-true, or_parts, or_cases, cases_lt}
 use Rattle.std.proofs.lemmas.List.{get_or_default}
-use Rattle.ckpt_ids.specs.Ordered.{IsIn}
+use Rattle.ckpt_ids.specs.Ordered.{IsIn, AreDistinct}
 use Rattle.ckpt_ids.specs.Ascending.{IsAscending, IsAscendingSet}
-use Rattle.ckpt_ids.proofs.OrderedLemmas.{ComesBefore-at, ComesBefore-from, IsIn-place, IsIn-get_or, IsIn-from_list_any, list_any-from_IsIn}
+use Rattle.ckpt_ids.proofs.OrderedLemmas.{ComesBefore-at, ComesBefore-from, IsIn-place, IsIn-get_or, IsIn-from_list_any, list_any-from_IsIn, AreDistinct-append, AreDistinct-left, AreDistinct-right, AreDistinct-apart, AreDistinct-from_order}
 use Rattle.ckpt_ids.proofs.AscendingLemmas.{numbers_in_order}
-use Rattle.ckpt_core.specs.Soundness.{AreDistinct}
 use Rattle.ckpt_core.specs.Refusals.{has_repeats}
-use Rattle.ckpt_core.proofs.Released.{distinct-from_ascending, distinct-append, distinct_left, distinct_right, distinct_apart, distinct-from_test, IsIn-from_test, test-from_IsIn}
+use Rattle.ckpt_core.proofs.Released.{distinct-from_test, IsIn-from_test, test-from_IsIn}
 
 or_true : (a b : Bool) → a ≡ true → (a || b) ≡ true
 or_true true b e = refl
@@ -71,7 +70,7 @@ repeats-from_adjacent xs true a h =
     let next : (k d : ℕ) → suc k < length xs → true ≡ ltb (get_or xs k d) (get_or xs (suc k) d) = λ k d lt.
     let At : ℕ → Type 0 = λ n. true ≡ ltb (get_or xs k d) (get_or xs n d) in
     subst At (add-one k) (h k d (omega arith)) in
-    sym (test-from_distinct xs (distinct-from_ascending xs (set-from_adjacent xs next)))
+    sym (test-from_distinct xs (AreDistinct-from_order numbers_in_order xs (set-from_adjacent xs next)))
 repeats-from_adjacent xs false a h =
     let k : ℕ = h.0 in
     let lt : suc k < length xs = omega (arith, h.1) in
@@ -100,10 +99,10 @@ among-from_search xs x (Err i) a h =
 -- two lists
 
 repeats_left : (xs ys : List ℕ) → has_repeats xs ≡ true → has_repeats (xs ++ ys) ≡ true
-repeats_left xs ys e = true_unless (has_repeats (xs ++ ys)) (λ f. both_ways (has_repeats xs) (test-from_distinct xs (distinct_left xs ys (distinct-from_test (xs ++ ys) f))) e)
+repeats_left xs ys e = true_unless (has_repeats (xs ++ ys)) (λ f. both_ways (has_repeats xs) (test-from_distinct xs (AreDistinct-left xs ys (distinct-from_test (xs ++ ys) f))) e)
 
 repeats_right : (xs ys : List ℕ) → has_repeats ys ≡ true → has_repeats (xs ++ ys) ≡ true
-repeats_right xs ys e = true_unless (has_repeats (xs ++ ys)) (λ f. both_ways (has_repeats ys) (test-from_distinct ys (distinct_right xs ys (distinct-from_test (xs ++ ys) f))) e)
+repeats_right xs ys e = true_unless (has_repeats (xs ++ ys)) (λ f. both_ways (has_repeats ys) (test-from_distinct ys (AreDistinct-right xs ys (distinct-from_test (xs ++ ys) f))) e)
 
 abbrev share : List ℕ → List ℕ → Bool
 share xs ys = list_any (λ f. list_any (λ g. eqb f g) xs) ys
@@ -111,13 +110,13 @@ share xs ys = list_any (λ f. list_any (λ g. eqb f g) xs) ys
 repeats_between : (xs ys : List ℕ) → share xs ys ≡ true → has_repeats (xs ++ ys) ≡ true
 repeats_between xs ys e =
     let both = IsIn-from_list_any (λ f. list_any (λ g. eqb f g) xs) ys e in
-    true_unless (has_repeats (xs ++ ys)) (λ f. distinct_apart xs ys (distinct-from_test (xs ++ ys) f) both.0 (IsIn-from_test both.0 xs both.2) both.1)
+    true_unless (has_repeats (xs ++ ys)) (λ f. AreDistinct-apart xs ys (distinct-from_test (xs ++ ys) f) both.0 (IsIn-from_test both.0 xs both.2) both.1)
 
 no_repeats : (xs ys : List ℕ) → has_repeats xs ≡ false → has_repeats ys ≡ false → share xs ys ≡ false → has_repeats (xs ++ ys) ≡ false
 no_repeats xs ys a b e =
     let apart : (x : ℕ) → IsIn x xs → IsIn x ys → ⊥ = λ x h k.
     both_ways (share xs ys) e (list_any-from_IsIn (λ f. list_any (λ g. eqb f g) xs) x ys k (test-from_IsIn x xs h)) in
-    test-from_distinct (xs ++ ys) (distinct-append xs ys (distinct-from_test xs a) (distinct-from_test ys b) apart)
+    test-from_distinct (xs ++ ys) (AreDistinct-append xs ys (distinct-from_test xs a) (distinct-from_test ys b) apart)
 
 -- a file stands twice in one list, or in both
 pub repeats_within : (xs ys : List ℕ) (v : Bool) → v ≡ (has_repeats xs || has_repeats ys) → v ≡ true → v ≡ has_repeats (xs ++ ys)

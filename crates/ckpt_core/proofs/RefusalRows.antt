@@ -18,6 +18,11 @@ pub row_last : (row : Option Refusal) (rows : List (Option Refusal)) (o : Option
 row_last None rows o h e = h ∙ sym e
 row_last (Some why) rows o h e = h
 
+-- where none holds, the first does not
+pub first_row-none : (row : Option Refusal) (rows : List (Option Refusal)) → first_some (row ∷ rows) ≡ None → row ≡ None
+first_row-none None rows h = refl
+first_row-none (Some why) rows h = absurd (cc)
+
 -- two rows, then others
 pub rows_hold : (why : Refusal) (row next : Option Refusal) (rows : List (Option Refusal)) → Some why ≡ first_some (row ∷ next ∷ []) → Some why ≡ first_some (row ∷ next ∷ rows)
 rows_hold why (Some other) next rows h = h

@@ -2,17 +2,16 @@
 use Rattle.std.proofs.Common.{◌≡◌, ℕ, Bool, true, false, not, cond, ltb, eqb, List, [], ◌∷◌, ◌++◌, map, refl, sym, subst, inl, inr, ⊎_elim}
 use Rattle.std.specs.List.{filter, list_any}
 use Rattle.std.proofs.lemmas.Bool.{cases_Bool, both_ways, eqb-true, eq-eqb, lt-ltb, not-true, not_from_false, or_parts}
-use Rattle.ckpt_ids.specs.Ordered.{IsIn}
+use Rattle.ckpt_ids.specs.Ordered.{IsIn, AreDistinct}
 use Rattle.ckpt_ids.specs.Ascending.{IsAscendingSet, ascending_set}
 use Rattle.ckpt_ids.specs.Records.{Record, Use, uses, count, is_present, released}
 use Rattle.ckpt_ids.proofs.AscendingLemmas.{numbers_in_order}
 use Rattle.ckpt_ids.proofs.OrderedLemmas.{IsIn-append_left, IsIn-append_right, IsIn-append_cases, IsIn-map, IsIn-from_map, IsIn-filter, IsIn-from_filter, IsInOrder-filter, IsInOrder-in_order_once, IsIn-in_order_once, IsIn-from_in_order_once, ComesBefore-at, IsIn-from_list_any, list_any-from_IsIn}
-use Rattle.ckpt_core.specs.Soundness.{AreDistinct}
 use Rattle.ckpt_core.specs.Refusals.{has_repeats}
-use Rattle.ckpt_core.proofs.CountLemmas.{counted-from_IsIn}
 use Rattle.ckpt_core.proofs.UsesLemmas.{IsHeld-from_present, use-from_Holds}
 use Rattle.ckpt_ids.proofs.OrderedLemmas.{IsIn-flat_map}
 use Rattle.ckpt_ids.specs.Records.{uses_of}
+use Rattle.ckpt_ids.proofs.CountLemmas.{counted-from_IsIn}
 
 -- the files of a list of uses are ascending
 pub ascending-released : (before after : List Use) → IsAscendingSet (released before after)
@@ -55,45 +54,6 @@ released-from_held f before after h gone =
     IsIn-released f q.0 (uses before) after (IsIn-flat_map uses_of r.0 q.0 before r.1 q.1) q.2 gone
 
 -- no number twice
-
--- ascending numbers
-pub distinct-from_ascending : (xs : List ℕ) → IsAscendingSet xs → AreDistinct xs
-distinct-from_ascending [] a = tt
-distinct-from_ascending (x ∷ xs) a =
-    let new : IsIn x xs → ⊥ = λ (h : IsIn x xs). both_ways (ltb x x) (numbers_in_order.irreflexive x) (ComesBefore-at ltb x x xs a.0 h) in
-    (new, distinct-from_ascending xs a.1)
-
--- two lists with no number twice that share none
-pub distinct-append : (xs ys : List ℕ) → AreDistinct xs → AreDistinct ys → ((x : ℕ) → IsIn x xs → IsIn x ys → ⊥) → AreDistinct (xs ++ ys)
-distinct-append [] ys a b apart = b
-distinct-append (x ∷ xs) ys a b apart =
-    let new : IsIn x (xs ++ ys) → ⊥ = λ (h : IsIn x (xs ++ ys)). ⊎_elim a.0 (apart x (inl refl)) (IsIn-append_cases x xs ys h) in
-    (new, distinct-append xs ys a.1 b (λ y h k. apart y (inr h) k))
-
--- the first of two lists
-pub distinct_left : (xs ys : List ℕ) → AreDistinct (xs ++ ys) → AreDistinct xs
-distinct_left [] ys a = tt
-distinct_left (x ∷ xs) ys a = (λ h. a.0 (IsIn-append_left x xs ys h), distinct_left xs ys a.1)
-
--- the second
-pub distinct_right : (xs ys : List ℕ) → AreDistinct (xs ++ ys) → AreDistinct ys
-distinct_right [] ys a = a
-distinct_right (x ∷ xs) ys a = distinct_right xs ys a.1
-
--- they share none
-pub distinct_apart : (xs ys : List ℕ) → AreDistinct (xs ++ ys) → (x : ℕ) → IsIn x xs → IsIn x ys → ⊥
-distinct_apart [] ys a x h k = absurd h
-distinct_apart (y ∷ xs) ys a x (inl e) k = let P : ℕ → Type 0 = λ z. IsIn z (xs ++ ys) in a.0 (subst P e (IsIn-append_right x xs ys k))
-distinct_apart (y ∷ xs) ys a x (inr h) k = distinct_apart xs ys a.1 x h k
-
--- what a filter keeps
-pub distinct-filter : (p : ℕ → Bool) (xs : List ℕ) → AreDistinct xs → AreDistinct (filter p xs)
-distinct-filter p [] a = tt
-distinct-filter p (x ∷ xs) a =
-    let P : Bool → Type 0 = λ b. AreDistinct (cond b (x ∷ filter p xs) (filter p xs)) in
-    let rest : AreDistinct (filter p xs) = distinct-filter p xs a.1 in
-    let new : IsIn x (filter p xs) → ⊥ = λ (h : IsIn x (filter p xs)). a.0 (IsIn-from_filter p x xs h).0 in
-    ⊎_elim (λ (e : p x ≡ true). subst P (sym e) (new, rest)) (λ (e : p x ≡ false). subst P (sym e) rest) (cases_Bool (p x))
 
 -- a list that passes the test of repeats
 pub distinct-from_test : (xs : List ℕ) → has_repeats xs ≡ false → AreDistinct xs

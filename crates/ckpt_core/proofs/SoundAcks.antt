@@ -5,15 +5,15 @@ use Rattle.std.specs.List.{filter, list_any}
 use Rattle.std.proofs.lemmas.Bool.{cases_Bool, both_ways, not-true, not_from_false, and_parts, and_left, and_cases, and_from, or_parts, cond_both, ltb-false}
 use Rattle.ckpt_ids.specs.declared.subtask.SubtaskId.{SubtaskId}
 use Rattle.ckpt_ids.specs.declared.ack.Acked.{Acked}
-use Rattle.ckpt_ids.specs.Ordered.{IsIn, IsInOrder}
+use Rattle.ckpt_ids.specs.Ordered.{IsIn, IsInOrder, AreDistinct}
 use Rattle.ckpt_ids.specs.Ascending.{ascending}
 use Rattle.ckpt_ids.specs.Records.{Record, uses, is_present, missing, has_acknowledged}
 use Rattle.ckpt_ids.specs.Shapes.{is_subtask}
-use Rattle.ckpt_ids.proofs.OrderedLemmas.{IsIn-append_cases, IsIn-from_in_order}
+use Rattle.ckpt_ids.proofs.OrderedLemmas.{IsIn-append_cases, IsIn-from_in_order, filter-all}
 use Rattle.ckpt_core.specs.State.{State, is_checkpoint, is_done_checkpoint, is_subsumed, is_surplus, is_known, in_outbox, kept, unpinned}
 use Rattle.ckpt_core.specs.Steps.{acknowledged, replaced, with_records, superseded}
-use Rattle.ckpt_core.specs.Soundness.{IsSound, IsRecord, AreDistinct, id_before}
-use Rattle.ckpt_core.proofs.CountLemmas.{count_by-changed, filter_itself, IsIn-from_changed}
+use Rattle.ckpt_core.specs.Soundness.{IsSound, IsRecord, id_before}
+use Rattle.ckpt_core.proofs.CountLemmas.{count_by-changed, IsIn-from_changed}
 use Rattle.ckpt_core.proofs.UsesLemmas.{Holds, IsHeld, Holds-put_ack, absent-from_not_held, not_held}
 use Rattle.ckpt_core.proofs.Released.{not_in-from_test}
 use Rattle.ckpt_core.proofs.RecordLists.{AreSoundRecords, IsSoundOutbox, sound_from, records_of, outbox_of, is_pending_checkpoint, later, newest_at_most}
@@ -80,7 +80,7 @@ savepoint_beside {change} {old} {new} {rs} id p pending e =
 
 -- a filter that keeps all leaves all
 pub nothing_dropped : (change : Record → Record) (rs : List Record) → map change (filter (λ _. true) rs) ≡ map change rs
-nothing_dropped change rs = ap (map change) (filter_itself (λ _. true) rs (λ x h. refl))
+nothing_dropped change rs = ap (map change) (filter-all (λ _. true) rs (λ x h. refl))
 
 -- the record still lacks an acknowledgement
 pub ack_pending_is_sound : (m : State) (q : Record) (subtask : SubtaskId) (fresh reused : List ℕ) → IsSound m → IsAcking m q subtask fresh reused → eqb (missing (with_ack q subtask fresh reused)) 0 ≡ false → IsSound (with_records m (replaced m.records (with_ack q subtask fresh reused)))

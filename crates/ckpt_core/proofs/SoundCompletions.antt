@@ -4,13 +4,13 @@ use Rattle.std.specs.Prelude.{count_by, Some, None}
 use Rattle.std.specs.List.{filter, list_any}
 use Rattle.std.proofs.lemmas.Bool.{cases_Bool, both_ways, not-true, not_from_false, and_left, and_right, or_parts, cond_both, eqb-true, ltb-true, lt-ltb}
 use Rattle.ckpt_ids.specs.declared.subtask.SubtaskId.{SubtaskId}
-use Rattle.ckpt_ids.specs.Ordered.{IsIn, IsInOrder}
+use Rattle.ckpt_ids.specs.Ordered.{IsIn, IsInOrder, AreDistinct}
 use Rattle.ckpt_ids.specs.Records.{Record, uses, is_present, missing}
-use Rattle.ckpt_ids.proofs.OrderedLemmas.{IsIn-append_left, IsIn-append_right, IsIn-append_cases, IsIn-from_filter, IsInOrder-map}
+use Rattle.ckpt_ids.proofs.OrderedLemmas.{IsIn-append_left, IsIn-append_right, IsIn-append_cases, IsIn-from_filter, IsInOrder-map, AreDistinct-append, AreDistinct-left, AreDistinct-right, AreDistinct-apart, AreDistinct-filter}
 use Rattle.ckpt_core.specs.State.{State, is_checkpoint, is_done_checkpoint, is_known, in_outbox, kept, unpinned, drop, released_by}
 use Rattle.ckpt_core.specs.Steps.{Stepped, replaced, with_records, superseded, completed_with, acknowledged_in, ack}
-use Rattle.ckpt_core.specs.Soundness.{IsSound, IsRecord, AreDistinct, id_before}
-use Rattle.ckpt_core.proofs.Released.{test-from_IsIn, distinct_left, distinct_right, distinct_apart, distinct-append, distinct-filter}
+use Rattle.ckpt_core.specs.Soundness.{IsSound, IsRecord, id_before}
+use Rattle.ckpt_core.proofs.Released.{test-from_IsIn}
 use Rattle.ckpt_core.proofs.RecordLists.{AreSoundRecords, IsSoundOutbox, sound_from, records_of, outbox_of, is_pending_checkpoint}
 use Rattle.ckpt_core.proofs.Replacing.{put_in, IsReplacing, put_in_replaces, unpinned_replaces, cond_same, replaced_records, completed_records}
 use Rattle.ckpt_core.proofs.AckRecords.{completed_is}
@@ -172,8 +172,8 @@ late_is_sound m subtask fresh reused s once =
           (λ (t : IsIn f m.taken). o.unused f (IsIn-append_right f m.waiting m.taken t))
           (IsIn-append_cases f (m.waiting ++ unknown) m.taken h);
       apart =
-          let front : AreDistinct (m.waiting ++ unknown) = distinct-append m.waiting unknown (distinct_left m.waiting m.taken o.apart) (distinct-filter (λ f. not (is_known m f)) fresh (distinct_left fresh reused once)) (λ f w u. out f u (IsIn-append_left f m.waiting m.taken w)) in
-          distinct-append (m.waiting ++ unknown) m.taken front (distinct_right m.waiting m.taken o.apart) (λ f h t. ⊎_elim (λ (w : IsIn f m.waiting). distinct_apart m.waiting m.taken o.apart f w t) (λ (u : IsIn f unknown). out f u (IsIn-append_right f m.waiting m.taken t)) (IsIn-append_cases f m.waiting unknown h));
+          let front : AreDistinct (m.waiting ++ unknown) = AreDistinct-append m.waiting unknown (AreDistinct-left m.waiting m.taken o.apart) (AreDistinct-filter (λ f. not (is_known m f)) fresh (AreDistinct-left fresh reused once)) (λ f w u. out f u (IsIn-append_left f m.waiting m.taken w)) in
+          AreDistinct-append (m.waiting ++ unknown) m.taken front (AreDistinct-right m.waiting m.taken o.apart) (λ f h t. ⊎_elim (λ (w : IsIn f m.waiting). AreDistinct-apart m.waiting m.taken o.apart f w t) (λ (u : IsIn f unknown). out f u (IsIn-append_right f m.waiting m.taken t)) (IsIn-append_cases f m.waiting unknown h));
     } in
     sound_from (record m { waiting = m.waiting ++ unknown }) (record {
       config = s.config;

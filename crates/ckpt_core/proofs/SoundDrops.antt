@@ -3,17 +3,18 @@ use Rattle.std.proofs.Common.{◌≡◌, ◌≢◌, ℕ, ◌<◌, ◌≤◌, ◌
 use Rattle.std.specs.Prelude.{Some, None}
 use Rattle.std.specs.List.{filter, list_any}
 use Rattle.std.proofs.lemmas.Bool.{cases_Bool, both_ways, not-true, not_from_false, and_parts}
-use Rattle.ckpt_ids.specs.Ordered.{IsIn}
+use Rattle.ckpt_ids.specs.Ordered.{IsIn, AreDistinct}
 use Rattle.ckpt_ids.specs.Records.{Record, uses, is_present, released}
-use Rattle.ckpt_ids.proofs.OrderedLemmas.{IsIn-append_left, IsIn-append_right, IsIn-append_cases, IsIn-from_list_any, list_any-from_IsIn}
+use Rattle.ckpt_ids.proofs.OrderedLemmas.{IsIn-append_left, IsIn-append_right, IsIn-append_cases, IsIn-from_list_any, list_any-from_IsIn, AreDistinct-append, AreDistinct-left, AreDistinct-right, AreDistinct-apart, AreDistinct-from_order}
 use Rattle.ckpt_core.specs.declared.mode.Mode.TheVariants.{Running, Failed}
 use Rattle.ckpt_core.specs.State.{State, is_checkpoint, is_pending, drop}
 use Rattle.ckpt_core.specs.Steps.{failed_over}
-use Rattle.ckpt_core.specs.Soundness.{IsSound, AreDistinct}
+use Rattle.ckpt_core.specs.Soundness.{IsSound}
 use Rattle.ckpt_core.proofs.CountLemmas.{IsIn-changed, IsIn-from_changed}
 use Rattle.ckpt_core.proofs.UsesLemmas.{Holds, IsHeld, IsHeld_before}
-use Rattle.ckpt_core.proofs.Released.{ascending-released, after-from_released, held-from_released, distinct-from_ascending, distinct-append, distinct_left, distinct_right, distinct_apart}
+use Rattle.ckpt_core.proofs.Released.{ascending-released, after-from_released, held-from_released}
 use Rattle.ckpt_core.proofs.RecordLists.{IsSoundOutbox, sound_from, records_of, outbox_of, filtered_records}
+use Rattle.ckpt_ids.proofs.AscendingLemmas.{numbers_in_order}
 
 -- a done savepoint with this number
 abbrev pub is_savepoint : ℕ → Record → Bool
@@ -48,13 +49,13 @@ outbox_dropped before after waiting taken s was =
           (λ (t : IsIn f taken). gone f (IsIn-append_right f waiting taken t))
           (IsIn-append_cases f (waiting ++ out) taken h);
       apart =
-          let front : AreDistinct (waiting ++ out) = distinct-append waiting out (distinct_left waiting taken s.apart) (distinct-from_ascending out (ascending-released (uses before) (uses after))) (λ f w r. new f r (IsIn-append_left f waiting taken w)) in
+          let front : AreDistinct (waiting ++ out) = AreDistinct-append waiting out (AreDistinct-left waiting taken s.apart) (AreDistinct-from_order numbers_in_order out (ascending-released (uses before) (uses after))) (λ f w r. new f r (IsIn-append_left f waiting taken w)) in
           let share_none : (f : ℕ) → IsIn f (waiting ++ out) → IsIn f taken → ⊥ = λ f h t.
           ⊎_elim
-          (λ (w : IsIn f waiting). distinct_apart waiting taken s.apart f w t)
+          (λ (w : IsIn f waiting). AreDistinct-apart waiting taken s.apart f w t)
           (λ (r : IsIn f out). new f r (IsIn-append_right f waiting taken t))
           (IsIn-append_cases f waiting out h) in
-          distinct-append (waiting ++ out) taken front (distinct_right waiting taken s.apart) share_none;
+          AreDistinct-append (waiting ++ out) taken front (AreDistinct-right waiting taken s.apart) share_none;
     }
 
 -- the outbox after records were filtered

@@ -3,13 +3,12 @@ use Rattle.std.proofs.Common.{◌≡◌, ℕ, true, not, eqb, List, [], ◌∷�
 use Rattle.std.specs.List.{list_any}
 use Rattle.std.proofs.lemmas.Bool.{not-true, eqb-true, eqb-false}
 use Rattle.std.proofs.lemmas.List.{take-append-drop}
-use Rattle.ckpt_ids.specs.Ordered.{IsIn}
+use Rattle.ckpt_ids.specs.Ordered.{IsIn, AreDistinct}
 use Rattle.ckpt_ids.specs.Records.{Record}
-use Rattle.ckpt_ids.proofs.OrderedLemmas.{IsIn-append_left, IsIn-append_right, IsIn-append_cases, IsIn-from_filter, IsIn-from_list_any}
+use Rattle.ckpt_ids.proofs.OrderedLemmas.{IsIn-append_left, IsIn-append_right, IsIn-append_cases, IsIn-from_filter, IsIn-from_list_any, AreDistinct-append, AreDistinct-left, AreDistinct-right, AreDistinct-apart, AreDistinct-filter}
 use Rattle.ckpt_core.specs.State.{State}
 use Rattle.ckpt_core.specs.Steps.{take_files, without}
-use Rattle.ckpt_core.specs.Soundness.{IsSound, AreDistinct}
-use Rattle.ckpt_core.proofs.Released.{distinct_left, distinct_right, distinct_apart, distinct-append, distinct-filter}
+use Rattle.ckpt_core.specs.Soundness.{IsSound}
 use Rattle.ckpt_core.proofs.RecordLists.{IsSoundOutbox, sound_from, records_of, outbox_of}
 
 -- the outbox alone is changed
@@ -30,8 +29,8 @@ outbox_is_sound m waiting taken s o =
 -- the front goes behind the end
 outbox_rotated : (rs : List Record) (xs ys taken : List ℕ) → IsSoundOutbox rs (xs ++ ys) taken → IsSoundOutbox rs ys (taken ++ xs)
 outbox_rotated rs xs ys taken o =
-    let front : AreDistinct (xs ++ ys) = distinct_left (xs ++ ys) taken o.apart in
-    let behind : AreDistinct (taken ++ xs) = distinct-append taken xs (distinct_right (xs ++ ys) taken o.apart) (distinct_left xs ys front) (λ f t h. distinct_apart (xs ++ ys) taken o.apart f (IsIn-append_left f xs ys h) t) in
+    let front : AreDistinct (xs ++ ys) = AreDistinct-left (xs ++ ys) taken o.apart in
+    let behind : AreDistinct (taken ++ xs) = AreDistinct-append taken xs (AreDistinct-right (xs ++ ys) taken o.apart) (AreDistinct-left xs ys front) (λ f t h. AreDistinct-apart (xs ++ ys) taken o.apart f (IsIn-append_left f xs ys h) t) in
     record {
       unused = λ f h.
           let in_all : IsIn f ((xs ++ ys) ++ taken) =
@@ -40,10 +39,10 @@ outbox_rotated rs xs ys taken o =
           (λ (k : IsIn f (taken ++ xs)). ⊎_elim (λ (t : IsIn f taken). IsIn-append_right f (xs ++ ys) taken t) (λ (x : IsIn f xs). IsIn-append_left f (xs ++ ys) taken (IsIn-append_left f xs ys x)) (IsIn-append_cases f taken xs k))
           (IsIn-append_cases f ys (taken ++ xs) h) in
           o.unused f in_all;
-      apart = distinct-append ys (taken ++ xs) (distinct_right xs ys front) behind (λ f h k.
+      apart = AreDistinct-append ys (taken ++ xs) (AreDistinct-right xs ys front) behind (λ f h k.
           ⊎_elim
-          (λ (t : IsIn f taken). distinct_apart (xs ++ ys) taken o.apart f (IsIn-append_right f xs ys h) t)
-          (λ (x : IsIn f xs). distinct_apart xs ys front f x h)
+          (λ (t : IsIn f taken). AreDistinct-apart (xs ++ ys) taken o.apart f (IsIn-append_right f xs ys h) t)
+          (λ (x : IsIn f xs). AreDistinct-apart xs ys front f x h)
           (IsIn-append_cases f taken xs k));
     }
 
@@ -61,7 +60,7 @@ outbox_without rs f waiting taken o =
     let fewer : (g : ℕ) → IsIn g (without f taken) → IsIn g taken = λ g h. (IsIn-from_filter (λ x. not (eqb x f)) g taken h).0 in
     record {
       unused = λ g h. o.unused g (⊎_elim (λ (k : IsIn g waiting). IsIn-append_left g waiting taken k) (λ (k : IsIn g (without f taken)). IsIn-append_right g waiting taken (fewer g k)) (IsIn-append_cases g waiting (without f taken) h));
-      apart = distinct-append waiting (without f taken) (distinct_left waiting taken o.apart) (distinct-filter (λ x. not (eqb x f)) taken (distinct_right waiting taken o.apart)) (λ g h k. distinct_apart waiting taken o.apart g h (fewer g k));
+      apart = AreDistinct-append waiting (without f taken) (AreDistinct-left waiting taken o.apart) (AreDistinct-filter (λ x. not (eqb x f)) taken (AreDistinct-right waiting taken o.apart)) (λ g h k. AreDistinct-apart waiting taken o.apart g h (fewer g k));
     }
 
 -- the file goes back to the end of those that wait
@@ -70,7 +69,7 @@ outbox_back rs f waiting taken o there =
     let w = outbox_without rs f waiting taken o in
     let only : (g : ℕ) → IsIn g (f ∷ []) → g ≡ f = λ g h. ⊎_elim (λ (e : g ≡ f). e) (λ (n : ⊥). absurd n) h in
     let P : ℕ → Type 0 = λ g. IsIn g taken in
-    let front : AreDistinct (waiting ++ f ∷ []) = distinct-append waiting (f ∷ []) (distinct_left waiting taken o.apart) (λ n. n, tt) (λ g h k. distinct_apart waiting taken o.apart g h (subst P (sym (only g k)) there)) in
+    let front : AreDistinct (waiting ++ f ∷ []) = AreDistinct-append waiting (f ∷ []) (AreDistinct-left waiting taken o.apart) (λ n. n, tt) (λ g h k. AreDistinct-apart waiting taken o.apart g h (subst P (sym (only g k)) there)) in
     let gone : (g : ℕ) → g ≡ f → IsIn g (without f taken) → ⊥ = λ g e h. eqb-false g f (not-true (eqb g f) (IsIn-from_filter (λ x. not (eqb x f)) g taken h).1) e in
     record {
       unused = λ g h.
@@ -78,9 +77,9 @@ outbox_back rs f waiting taken o there =
           (λ (k : IsIn g (waiting ++ f ∷ [])). ⊎_elim (λ (i : IsIn g waiting). o.unused g (IsIn-append_left g waiting taken i)) (λ (i : IsIn g (f ∷ [])). o.unused g (IsIn-append_right g waiting taken (subst P (sym (only g i)) there))) (IsIn-append_cases g waiting (f ∷ []) k))
           (λ (k : IsIn g (without f taken)). w.unused g (IsIn-append_right g waiting (without f taken) k))
           (IsIn-append_cases g (waiting ++ f ∷ []) (without f taken) h);
-      apart = distinct-append (waiting ++ f ∷ []) (without f taken) front (distinct_right waiting (without f taken) w.apart) (λ g h k.
+      apart = AreDistinct-append (waiting ++ f ∷ []) (without f taken) front (AreDistinct-right waiting (without f taken) w.apart) (λ g h k.
           ⊎_elim
-          (λ (i : IsIn g waiting). distinct_apart waiting (without f taken) w.apart g i k)
+          (λ (i : IsIn g waiting). AreDistinct-apart waiting (without f taken) w.apart g i k)
           (λ (i : IsIn g (f ∷ [])). gone g (only g i) k)
           (IsIn-append_cases g waiting (f ∷ []) h));
     }

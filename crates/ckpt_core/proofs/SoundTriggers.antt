@@ -27,8 +27,8 @@ use Rattle.ckpt_core.specs.State.{State, is_checkpoint, is_pending, is_expired, 
 use Rattle.ckpt_core.specs.Refusals.{savepoints}
 use Rattle.ckpt_core.specs.Steps.{Stepped, triggered, start_or_hold, after_expiry, tick, failed_over, pending_checkpoints, dropped_by}
 use Rattle.ckpt_core.specs.Soundness.{IsSound, IsRecord}
-use Rattle.ckpt_ids.proofs.CountLemmas.{count_by-append}
-use Rattle.ckpt_core.proofs.CountLemmas.{count_by_yes, count_by_no, counted-from_IsIn, IsIn-from_find}
+use Rattle.ckpt_ids.proofs.CountLemmas.{count_by-append, count_by_yes, count_by_no, counted-from_IsIn}
+use Rattle.ckpt_core.proofs.CountLemmas.{IsIn-from_find}
 use Rattle.ckpt_core.proofs.UsesLemmas.{Holds, IsHeld, Holds-from_use, absent-from_not_held, not_held}
 use Rattle.ckpt_core.proofs.RecordLists.{AreSoundRecords, IsSoundOutbox, sound_from, records_of, outbox_of, appended_records, is_pending_checkpoint}
 use Rattle.ckpt_core.proofs.SoundDrops.{is_savepoint, drop_keeps, counted_is_sound, failed_over_is_sound, savepoint_not_pending}

@@ -13,7 +13,7 @@ use Rattle.ckpt_ids.specs.declared.call.Target.TheVariants as target
 use Rattle.ckpt_ids.specs.Ordered.{IsIn}
 use Rattle.ckpt_ids.specs.Ascending.{ascending}
 use Rattle.ckpt_ids.specs.Records.{Record, uses, is_present, released, missing}
-use Rattle.ckpt_ids.proofs.OrderedLemmas.{IsIn-append_left, IsIn-append_cases, IsIn-in_order, IsIn-from_in_order}
+use Rattle.ckpt_ids.proofs.OrderedLemmas.{IsIn-append_left, IsIn-append_cases, IsIn-in_order, IsIn-from_in_order, AreDistinct-left}
 use Rattle.ckpt_rules.specs.Trigger.{hold, gap}
 use Rattle.ckpt_rules.specs.declared.hold.Hold.{Hold}
 use Rattle.ckpt_rules.specs.declared.hold.Hold.TheVariants.{Interval, AtOnce, Pause, Go}
@@ -22,7 +22,6 @@ use Rattle.ckpt_core.specs.Steps.{Stepped, pending_checkpoints, dropped_by, repl
 use Rattle.ckpt_core.specs.Soundness.{IsSound}
 use Rattle.ckpt_core.specs.Laws.{registered_as}
 use Rattle.ckpt_core.proofs.UsesLemmas.{Holds, Holds-put_ack_new, Holds-put_ack_old, IsHeld, IsHeld-from_present, not_held, Holds-put_ack}
-use Rattle.ckpt_core.proofs.Released.{distinct_left}
 use Rattle.ckpt_core.proofs.Replacing.{put_in, IsReplacing, put_in_replaces}
 use Rattle.ckpt_core.proofs.SoundDrops.{held_before_filter}
 use Rattle.ckpt_core.proofs.SoundTriggers.{new_record, held-from_pins}
@@ -156,7 +155,7 @@ even_acked m q subtask fresh reused done s a =
     (λ (k : IsIn f files). ⊎_elim (λ (i : IsIn f fresh). inl i) (λ (i : IsIn f reused). inr (IsHeld-from_present f rs (a.present f i))) (IsIn-append_cases f fresh reused (IsIn-from_in_order ltb f (fresh ++ reused) k)))
     (λ (k : Holds f q). inr (q, a.there, k))
     (Holds-put_ack f its q h) in
-    even_added rs (map (put_in c) rs) fresh (distinct_left fresh reused a.once) new now_held
+    even_added rs (map (put_in c) rs) fresh (AreDistinct-left fresh reused a.once) new now_held
     (λ f h. held_beside_put f rs q c p a.there refl (Holds-put_ack_old f its q) h)
     (λ f h. ⊎_elim (λ (k : Holds f c). named f k) (λ (k : IsHeld f rs). inr k) (held_after_put f rs q c p h))
 

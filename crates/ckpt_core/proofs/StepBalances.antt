@@ -18,14 +18,17 @@ use Rattle.ckpt_core.specs.State.{State, is_known}
 use Rattle.ckpt_core.specs.Refusals.{refusal, moment_of, pending_of}
 use Rattle.ckpt_core.specs.Steps.{Stepped, ack, take_files, without, effect, at_moment, step}
 use Rattle.ckpt_core.specs.Soundness.{IsSound}
-use Rattle.ckpt_core.specs.Laws.{Part, ack_of, is_ack_taken, times, one_if, registered_as, registered_by, handed_by, deleted_as, deleted_by, new_by}
+use Rattle.ckpt_core.specs.Laws.{Part, ack_of, is_ack_taken, one_if, registered_as, registered_by, handed_by, deleted_as, deleted_by, new_by}
 use Rattle.ckpt_core.proofs.Accepted.{IsAcceptedAck, accepted_ack, accepted_deleted}
 use Rattle.ckpt_core.proofs.SoundDrops.{moment_is_sound}
 use Rattle.ckpt_core.proofs.SoundCalls.{acking, acking_at}
 use Rattle.ckpt_core.proofs.RecordLists.{outbox_of}
-use Rattle.ckpt_core.proofs.StepViews.{step_refused, step_accepted, refused_or_not, IsPassedOver, IsTakenBy, ack_seen}
-use Rattle.ckpt_core.proofs.Balances.{IsIn-from_times, drop_front, drop_all}
+use Rattle.ckpt_core.proofs.StepViews.{refused_or_not, IsPassedOver, IsTakenBy, ack_seen}
+use Rattle.ckpt_core.proofs.Balances.{drop_front, drop_all}
 use Rattle.ckpt_core.proofs.Spreads.{IsSpread, unspread, tick_spreads, savepoint_spreads, decline_spreads, dispose_spreads, restore_spreads, cancel_spreads, acknowledged_spreads, late_spreads}
+use Rattle.ckpt_ids.specs.Counting.{times}
+use Rattle.ckpt_ids.proofs.CountLemmas.{IsIn-from_times}
+use Rattle.ckpt_core.proofs.StepCases.{step_refused, step_accepted}
 
 -- what a call with this answer registers
 abbrev registers : State → Call → Answer → List ℕ

@@ -21,16 +21,7 @@ use Rattle.ckpt_core.proofs.SoundCalls.{acking, acking_at}
 use Rattle.ckpt_core.proofs.Exchange.{step_ack}
 use Rattle.ckpt_core.proofs.Moves.{IsMoved, unmoved, effect_moves, disposed_of, IsNoAck}
 use Rattle.ckpt_core.proofs.Takings.{IsTaken, taken}
-
--- what a step is
-pub step_refused : (m : State) (call : Call) (why : Refusal) → refusal m call ≡ Some why → step m call ≡ (m, Refused why)
-unfolding step
-step_refused m call why e = ap (unless_refused m call) e
-
--- an accepted call
-pub step_accepted : (m : State) (call : Call) → refusal m call ≡ None → step m call ≡ effect (at_moment m (moment_of call)) call
-unfolding step
-step_accepted m call e = ap (unless_refused m call) e
+use Rattle.ckpt_core.proofs.StepCases.{step_refused, step_accepted}
 
 -- a refusal, or none
 pub refused_or_not : (o : Option Refusal) → ((why : Refusal) × (o ≡ Some why)) ⊎ (o ≡ None)

@@ -38,12 +38,13 @@ use Rattle.ckpt_core.proofs.EndingCounts.{few_pending}
 use Rattle.ckpt_core.proofs.TriggerParts.{limit_bound}
 use Rattle.ckpt_core.specs.declared.mode.Mode.TheVariants.{Running}
 use Rattle.ckpt_core.proofs.GroupedLemmas.{AreApart, apart_left, apart_between}
-use Rattle.ckpt_core.proofs.Lookups.{AreGroups, count_by-records_of, count_none, count_same, one_of_number}
+use Rattle.ckpt_core.proofs.Lookups.{AreGroups, count_by-records_of, count_same, one_of_number, done_in}
 use Rattle.ckpt_core.proofs.GroupLookups.{pending_checkpoints-groups}
-use Rattle.ckpt_core.proofs.DropMoves.{apart_in, done_of, fails, numbers, noted-from_IsIn, IsIn-from_noted}
-use Rattle.ckpt_core.proofs.EndingMoves.{accepted_step}
+use Rattle.ckpt_core.proofs.DropMoves.{apart_in, fails, numbers, noted-from_IsIn, IsIn-from_noted}
 use Rattle.ckpt_core.proofs.SoundTriggers.{new_record}
 use Rattle.ckpt_core.proofs.TickStates.{is_late, started, starts_as, starts_done, starts_unused, stepped, tick_fails, tick_goes, tick_starts, ticked}
+use Rattle.ckpt_ids.proofs.CountLemmas.{count_by-none}
+use Rattle.ckpt_core.proofs.StepCases.{step_accepted}
 
 -- the clock
 
@@ -68,7 +69,7 @@ pub savepoint_answers : (p q : Parts) (now id : ℕ) (c : Moments) → IsAccepte
 unfolding state_of effect
 savepoint_answers p q now id c accepted seen after new tied none = record {
   step_is =
-      accepted_step (state_of p) (call.Savepoint now) accepted
+      step_accepted (state_of p) (call.Savepoint now) accepted
       ∙ ap (λ m. stepped (triggered m kind.Savepoint) (Done (reply.SavepointTriggered p.next))) (sym (seen_state p now c seen))
       ∙ ap (λ m. stepped m (Done (reply.SavepointTriggered p.next))) (sym after)
       ∙ ap (λ i. stepped (state_of q) (Done (reply.SavepointTriggered i))) (sym new);
@@ -123,8 +124,8 @@ pub counted_in_pending : (p : Parts) (t u : Record → Bool) → AreGroups p.pen
     count_by t (records_in p) ≡ count_by u p.pending
 counted_in_pending p t u groups same none agree =
     let all : count_by t (records_in p) ≡ count_by t p.pending + (count_by t p.store.checkpoints + count_by t p.store.savepoints) = count_by-records_of t p.registry p.pending p.store.checkpoints p.store.savepoints same in
-    let a : count_by t p.store.checkpoints ≡ 0 = count_none t p.store.checkpoints (λ r h. none r (groups.checkpoints_done r h).0) in
-    let b : count_by t p.store.savepoints ≡ 0 = count_none t p.store.savepoints (λ r h. none r (groups.savepoints_done r h).0) in
+    let a : count_by t p.store.checkpoints ≡ 0 = count_by-none t p.store.checkpoints (λ r h. none r (groups.checkpoints_done r h).0) in
+    let b : count_by t p.store.savepoints ≡ 0 = count_by-none t p.store.savepoints (λ r h. none r (groups.savepoints_done r h).0) in
     let c : count_by t p.pending ≡ count_by u p.pending = count_same t u p.pending (λ r h. agree r (groups.not_done r h)) in
     omega (arith, all, a, b, c)
 
@@ -174,7 +175,7 @@ noted_are p q t sound groups same none agree r h =
     both_ways (q s.0) e (sym (agree s.0 (groups.not_done s.0 s.1)) ∙ twins ∙ agree w.0 (groups.not_done w.0 v.0) ∙ v.1))))
     (cases_Bool (q s.0)) in
     let done : IsIn r of_done → Goal = λ k.
-    none r (done_of groups r k) ∙ sym (fails (is_noted noted r) (λ n.
+    none r (done_in groups r k) ∙ sym (fails (is_noted noted r) (λ n.
     let w = IsIn-from_noted r (filter q p.pending) n in
     let v = IsIn-from_filter q w.0 p.pending w.1 in
     apart_between of_pending of_done (apart_in p sound) (with_pins p.registry w.0) r (IsIn-map (with_pins p.registry) w.0 p.pending v.0) k (sym w.2))) in
@@ -210,7 +211,7 @@ pub done_not_dropped : (p q : Parts) (ids : List ℕ) (pending : ℕ) (end : Tic
     (r : Record) → IsIn r (q.store.checkpoints ++ q.store.savepoints) → is_noted ids r ≡ false
 unfolding state_of
 done_not_dropped p q ids pending end agree groups starts r h =
-    let done : r.done ≡ true = done_of groups r h in
+    let done : r.done ≡ true = done_in groups r h in
     let there : IsIn r (records_in q) = IsIn-in_order id_before r (grouped q.registry q.pending q.store.checkpoints q.store.savepoints) (IsIn-append_right r (map (with_pins q.registry) q.pending) (q.store.checkpoints ++ q.store.savepoints) h) in
     let before : IsIn r (records_in p) = starts_done (state_of p) pending (state_of q) end starts r there done in
     sym (agree r before) ∙ ap (λ b. not b && leb (r.started + p.opened.config.timeout) p.clock.latest) done
@@ -220,7 +221,7 @@ done_not_dropped p q ids pending end agree groups starts r h =
 pub tick_answers : (p q : Parts) (now : ℕ) (c : Moments) (r : Reply) → IsAccepted p (call.Tick now) → c ≡ record p.clock { latest = max now p.clock.latest } → tick (state_of (record p { clock = c })) ≡ stepped (state_of q) (Done r) → AreTied q → q.ended.items ≡ [] → Answers p q (call.Tick now) r
 unfolding state_of effect
 tick_answers p q now c r accepted seen after tied none = record {
-  step_is = accepted_step (state_of p) (call.Tick now) accepted ∙ ap tick (sym (seen_state p now c seen)) ∙ after;
+  step_is = step_accepted (state_of p) (call.Tick now) accepted ∙ ap tick (sym (seen_state p now c seen)) ∙ after;
   tied = tied;
   none_ended = none;
 }
@@ -228,7 +229,7 @@ tick_answers p q now c r accepted seen after tied none = record {
 pub tick_wants_memory : (p : Parts) (now : ℕ) (c : Moments) → IsAccepted p (call.Tick now) → c ≡ record p.clock { latest = max now p.clock.latest } → answer_wants (call.Tick 0) (tick (state_of (record p { clock = c }))).1 ≡ true → may_want_memory (state_of p) (call.Tick now) ≡ true
 unfolding state_of effect
 tick_wants_memory p now c accepted seen wants =
-    ap (λ (s : Stepped). answer_wants (call.Tick now) s.1) (accepted_step (state_of p) (call.Tick now) accepted ∙ ap tick (sym (seen_state p now c seen))) ∙ same_wants (tick (state_of (record p { clock = c }))).1 ∙ wants
+    ap (λ (s : Stepped). answer_wants (call.Tick now) s.1) (step_accepted (state_of p) (call.Tick now) accepted ∙ ap tick (sym (seen_state p now c seen))) ∙ same_wants (tick (state_of (record p { clock = c }))).1 ∙ wants
   where
     wants_same : (r : Reply) → answer_wants (call.Tick now) (Done r) ≡ answer_wants (call.Tick 0) (Done r)
     wants_same r = refl

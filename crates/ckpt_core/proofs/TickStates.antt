@@ -14,7 +14,7 @@ use Rattle.ckpt_ids.specs.declared.reply.Answer.TheVariants.{Done}
 use Rattle.ckpt_ids.specs.Ordered.{IsIn, IsInOrder}
 use Rattle.ckpt_ids.specs.Records.{Record, Use, uses, uses_of, is_present, released}
 use Rattle.ckpt_ids.proofs.AscendingLemmas.{numbers_in_order}
-use Rattle.ckpt_ids.proofs.OrderedLemmas.{IsIn-append_left, IsIn-append_right, IsIn-append_cases, IsIn-flat_map, IsIn-from_flat_map, IsInOrder-append, same_from_members}
+use Rattle.ckpt_ids.proofs.OrderedLemmas.{IsIn-append_left, IsIn-append_right, IsIn-append_cases, IsIn-flat_map, IsIn-from_flat_map, IsInOrder-append, same_from_members, filter-all}
 use Rattle.ckpt_rules.specs.declared.hold.Hold.{Hold}
 use Rattle.ckpt_rules.specs.declared.hold.Hold.TheVariants as hold
 use Rattle.ckpt_rules.specs.Trigger.{gap}
@@ -29,7 +29,6 @@ use Rattle.ckpt_core.proofs.UsesLemmas.{IsHeld, Holds, IsHeld-from_present, pres
 use Rattle.ckpt_core.proofs.Released.{ascending-released, before-from_released, after-from_released, IsIn-released, IsIn-from_test}
 use Rattle.ckpt_core.proofs.RecordLists.{IsSoundOutbox}
 use Rattle.ckpt_core.proofs.SoundTriggers.{new_record, outbox_triggered, held-from_pins}
-use Rattle.ckpt_core.proofs.GroupMoves.{filter_all}
 use Rattle.ckpt_core.proofs.Lookups.{count_same}
 use Rattle.ckpt_core.proofs.DropMoves.{drop_same, fails}
 use Rattle.ckpt_core.proofs.PinsLemmas.{pins_stay, pins_same}
@@ -41,7 +40,7 @@ keeps dropped r = not (dropped r)
 
 kept-append : (b : Record → Bool) (rs : List Record) (x : Record) → b x ≡ false → kept b None (rs ++ x ∷ []) ≡ kept b None rs ++ x ∷ []
 kept-append b rs x e =
-    let last : filter (keeps b) (x ∷ []) ≡ x ∷ [] = filter_all (keeps b) (x ∷ []) (λ r h. ⊎_elim (λ (k : r ≡ x). ap (keeps b) k ∙ not_from_false (b x) e) (λ k. absurd k) h) in
+    let last : filter (keeps b) (x ∷ []) ≡ x ∷ [] = filter-all (keeps b) (x ∷ []) (λ r h. ⊎_elim (λ (k : r ≡ x). ap (keeps b) k ∙ not_from_false (b x) e) (λ k. absurd k) h) in
     ap (map (unpinned None)) (filter-append (keeps b) rs (x ∷ []) ∙ ap (λ xs. filter (keeps b) rs ++ xs) last)
     ∙ map-append (unpinned None) (filter (keeps b) rs) (x ∷ [])
 

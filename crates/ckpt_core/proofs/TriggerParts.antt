@@ -14,7 +14,7 @@ use Rattle.ckpt_ids.specs.declared.reply.Choice.TheVariants as choice
 use Rattle.ckpt_ids.specs.Ascending.{IsAscendingSet, ascending_set}
 use Rattle.ckpt_ids.specs.Ordered.{IsIn, IsInOrder, in_order_once}
 use Rattle.ckpt_ids.specs.Records.{Record, Use, Pin, use_before, uses, uses_of, is_present}
-use Rattle.ckpt_ids.proofs.OrderedLemmas.{IsIn-append_cases, IsIn-append_left, IsIn-map, IsIn-from_map, IsIn-flat_map, IsIn-from_flat_map, IsIn-in_order, IsIn-in_order_once, IsIn-from_in_order_once, IsInOrder-in_order_once, same_from_members}
+use Rattle.ckpt_ids.proofs.OrderedLemmas.{IsIn-append_cases, IsIn-append_left, IsIn-map, IsIn-from_map, IsIn-flat_map, IsIn-from_flat_map, IsIn-in_order, IsIn-in_order_once, IsIn-from_in_order_once, IsInOrder-in_order_once, same_from_members, filter-all}
 use Rattle.ckpt_ids.proofs.AscendingLemmas.{numbers_in_order}
 use Rattle.ckpt_core.specs.declared.parts.Parts.{Parts}
 use Rattle.ckpt_ids.specs.Configuration.{Configuration, IsWithinLimits}
@@ -28,7 +28,8 @@ use Rattle.ckpt_ids.proofs.CountLemmas.{count_by-cons}
 use Rattle.ckpt_core.proofs.CountLemmas.{IsIn-from_find}
 use Rattle.ckpt_core.proofs.HandOut.{present-from_use}
 use Rattle.ckpt_core.proofs.UsesOrder.{holds, from_holds, use_of_record}
-use Rattle.ckpt_core.proofs.GroupMoves.{filter_all, filter_none, trigger_groups, trigger_uses, uses_of-triggered}
+use Rattle.ckpt_core.proofs.GroupMoves.{filter_none, trigger_groups, trigger_uses, uses_of-triggered}
+use Rattle.ckpt_core.proofs.SoundTriggers.{ascending-pins}
 
 -- every use is of a record with an earlier number
 pub older_uses : (p : Parts) → AreTied p → IsSound (state_of p) → (u : Use) → IsIn u p.registry → u.id < p.next
@@ -47,15 +48,6 @@ older_records p sound r h = sound.below_next r (IsIn-in_order id_before r (group
 pub older_pending : (p : Parts) → IsSound (state_of p) → (r : Record) → IsIn r p.pending → r.id < p.next
 older_pending p sound r h =
     older_records p sound (with_pins p.registry r) (IsIn-append_left (with_pins p.registry r) (map (with_pins p.registry) p.pending) (p.store.checkpoints ++ p.store.savepoints) (IsIn-map (with_pins p.registry) r p.pending h))
-
-files_ascend : (o : Option Record) → IsAscendingSet (files_of o)
-files_ascend None = tt
-files_ascend (Some r) = IsInOrder-in_order_once numbers_in_order (map (λ u. u.file) (uses (r ∷ [])))
-
--- the pins are present, and each stands once
-pub pins_ascend : (m : State) → IsAscendingSet (pins_now m)
-unfolding pins_now
-pins_ascend m = files_ascend (chosen (choice_of m) m)
 
 chosen_in : (m : State) (c : Choice) (r : Record) → chosen c m ≡ Some r → IsIn r m.records
 chosen_in m (choice.Checkpoint id) r e = (IsIn-from_find (λ q. eqb q.id id) r m.records e).0
@@ -109,7 +101,7 @@ abbrev pub after_pin : Parts → List ℕ → List Use
 after_pin p files = in_order_once use_before (p.registry ++ holds p.next Pin files)
 
 trigger_registry : (p : Parts) → AreTied p → IsSound (state_of p) → IsInOrder use_before p.registry → after_pin p (pins_now (state_of p)) ≡ p.registry ++ holds p.next Pin (pins_now (state_of p))
-trigger_registry p tied sound order = trigger_uses p.registry p.next (pins_now (state_of p)) order (older_uses p tied sound) (pins_ascend (state_of p))
+trigger_registry p tied sound order = trigger_uses p.registry p.next (pins_now (state_of p)) order (older_uses p tied sound) (ascending-pins (state_of p))
 
 trigger_records : (p : Parts) (kind : Kind) → AreTied p → IsSound (state_of p) → IsInOrder use_before p.registry →
     records_in (with_record p (after_pin p (pins_now (state_of p))) (new_record p kind)) ≡ records_in p ++ record (new_record p kind) { pins = pins_now (state_of p) } ∷ []
@@ -153,7 +145,7 @@ pub trigger_undone : (p : Parts) → IsSound (state_of p) → (x : Record) → x
 trigger_undone p sound x e =
     let other : Record → Bool = λ r. not (eqb r.id p.next) in
     filter-append other p.pending (x ∷ [])
-    ∙ ap (λ rs. rs ++ filter other (x ∷ [])) (filter_all other p.pending (λ r h. let lt : r.id < p.next = older_pending p sound r h in not_from_false (eqb r.id p.next) (ne_eqb r.id p.next (λ k. omega arith))))
+    ∙ ap (λ rs. rs ++ filter other (x ∷ [])) (filter-all other p.pending (λ r h. let lt : r.id < p.next = older_pending p sound r h in not_from_false (eqb r.id p.next) (ne_eqb r.id p.next (λ k. omega arith))))
     ∙ ap (λ rs. p.pending ++ rs) (filter_none other (x ∷ []) (λ r h. ⊎_elim (λ (k : r ≡ x). not_from_true (eqb r.id p.next) (eq-eqb r.id p.next (ap (λ w. w.id) k ∙ e))) (λ (k : IsIn r []). absurd k) h))
     ∙ append-nil p.pending
 

@@ -8,7 +8,7 @@ use Rattle.ckpt_ids.specs.Ordered.{IsIn}
 use Rattle.ckpt_ids.specs.Acknowledged.{acknowledges_before, put_ack}
 use Rattle.ckpt_ids.specs.Records.{Record, Use, Subtask, Pin, uses, uses_of, count, is_present}
 use Rattle.ckpt_ids.proofs.OrderedLemmas.{IsIn-append_left, IsIn-append_right, IsIn-append_cases, IsIn-map, IsIn-from_map, IsIn-flat_map, IsIn-from_flat_map, IsIn-put_cases, IsIn-put, IsIn-put_itself}
-use Rattle.ckpt_core.proofs.CountLemmas.{counted-from_IsIn, IsIn-from_counted}
+use Rattle.ckpt_ids.proofs.CountLemmas.{counted-from_IsIn, IsIn-from_counted}
 
 -- a record holds a file
 abbrev pub Holds : ℕ → Record → Type 0

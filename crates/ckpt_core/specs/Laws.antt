@@ -23,6 +23,7 @@ use Rattle.ckpt_core.specs.Refusals.{refusal}
 use Rattle.ckpt_core.specs.Steps.{step}
 use Rattle.ckpt_core.specs.Histories.{replay}
 use Rattle.ckpt_core.specs.Soundness.{IsCall}
+use Rattle.ckpt_ids.specs.Counting.{times}
 
 -- the answer AckPending
 abbrev pub is_ack_pending : Answer → Bool
@@ -79,10 +80,6 @@ AreCalls (call ∷ calls) = IsCall call × AreCalls calls
 abbrev pub along : {X : Type 0} → (State → Call → List X) → State → List Call → List X
 along by m [] = []
 along by m (call ∷ calls) = by m call ++ along by (step m call).0 calls
-
--- how often a number is in a list
-abbrev pub times : ℕ → List ℕ → ℕ
-times f xs = count_by (λ g. g == f) xs
 
 abbrev pub one_if : Bool → ℕ
 one_if b = if b then 1 else 0
@@ -204,3 +201,7 @@ Pinned o before call calls =
     → ((g : ℕ) → IsIn g reused → IsIn g (files_of (chosen (choice_of m) m)))
     → refusal (replay (step m call).0 calls) (Ack now id subtask fresh reused) ≡ Some (FileGone f)
     → ⊥
+
+-- whatever call triggers the record
+abbrev pub PinsStay : Type 0
+PinsStay = (o : Opening) (before : List Call) (call : Call) (calls : List Call) → CanOpen o → AreCalls before → IsCall call → AreCalls calls → Pinned o before call calls

@@ -4,6 +4,7 @@ pub mod Histories
 pub mod Interleavings
 pub mod Laws
 pub mod Memory
+pub mod Moving
 pub mod Opening
 pub mod Parts
 pub mod PendingRecords

@@ -1,5 +1,5 @@
 -- The parts of a coordinator, seen as its state, and what ties them to one another.
-use Rattle.std.specs.Prelude.{◌≡◌, ℕ, ◌≤◌, Bool, ◌||◌, ◌==◌, List, [], map, length, unwrap_or, None}
+use Rattle.std.specs.Prelude.{◌≡◌, ℕ, ◌≤◌, Bool, ◌||◌, ◌==◌, List, [], map, length, unwrap_or, None, not, ◌∷◌, find, Option, Some}
 use Rattle.std.specs.List.{list_any}
 use Rattle.std.specs.Vec.{vec_capacity}
 use Rattle.ckpt_ids.specs.Ascending.{ascending_set}
@@ -11,10 +11,13 @@ use Rattle.ckpt_outbox.specs.Queues.{is_known}
 use Rattle.ckpt_core.specs.declared.parts.Opened.{Opened}
 use Rattle.ckpt_core.specs.declared.parts.Parts.{Parts}
 use Rattle.ckpt_core.specs.State.{State, Opening, drop, released_by}
-use Rattle.ckpt_core.specs.Refusals.{refusal}
+use Rattle.ckpt_core.specs.Refusals.{refusal, first_some, is_foreign, is_repeat, named}
 use Rattle.ckpt_core.specs.Steps.{step}
 use Rattle.ckpt_core.specs.Soundness.{IsSound}
 use Rattle.ckpt_core.specs.Grouped.{records_of}
+use Rattle.ckpt_ids.specs.declared.subtask.SubtaskId.{SubtaskId}
+use Rattle.ckpt_ids.specs.declared.reply.Refusal.{Refusal}
+use Rattle.ckpt_ids.specs.declared.reply.Refusal.TheVariants.{NameTaken, FileGone}
 
 abbrev pub records_in : Parts → List Record
 records_in p = records_of p.registry p.pending p.store.checkpoints p.store.savepoints
@@ -89,3 +92,12 @@ pub record Drops (old new : Parts) (dropped : Record → Bool) (count : ℕ) : T
 -- whether a file is in use, waits for deletion or was fetched for it
 abbrev pub is_known_in : Parts → ℕ → Bool
 is_known_in p f = is_present p.registry f || is_known p.outbox f
+
+-- the rows on the part of a subtask in a pending record
+abbrev pub part_refusal : Parts → Record → SubtaskId → List ℕ → List ℕ → Option Refusal
+part_refusal p r subtask fresh reused = first_some (
+    is_foreign (Some r) subtask
+    ∷ is_repeat (Some r) subtask
+    ∷ named NameTaken (find (is_known_in p) fresh)
+    ∷ named FileGone (find (λ f. not (is_present p.registry f)) reused)
+    ∷ [])

@@ -75,6 +75,10 @@ abbrev pub repeated_file : Call → Option Refusal
 repeated_file (Ack now id subtask fresh reused) = refuse_if (has_repeats (fresh ++ reused)) RepeatedFile
 repeated_file call = None
 
+-- the two rows on the files of an acknowledgement
+abbrev pub files_refusal : List ℕ → List ℕ → Option Refusal
+files_refusal fresh reused = first_some (refuse_if (nat_lt 4096 (length fresh + length reused)) TooManyFiles ∷ refuse_if (has_repeats (fresh ++ reused)) RepeatedFile ∷ [])
+
 -- never given to a record
 abbrev pub was_not_given : State → ℕ → Bool
 was_not_given m id = nat_lt id m.opening.first || nat_le m.next id

@@ -6,7 +6,7 @@ use Rattle.ckpt_ids.specs.declared.call.Call.TheVariants.{Restore}
 use Rattle.ckpt_ids.specs.Acknowledged.{AreInSubtaskOrder}
 use Rattle.ckpt_ids.specs.Ascending.{IsAscendingSet}
 use Rattle.ckpt_ids.specs.Configuration.{IsWithinLimits}
-use Rattle.ckpt_ids.specs.Ordered.{IsIn, IsInOrder}
+use Rattle.ckpt_ids.specs.Ordered.{IsIn, IsInOrder, AreDistinct}
 use Rattle.ckpt_ids.specs.Records.{Record, IsFull, missing, uses, is_present}
 use Rattle.ckpt_ids.specs.Shapes.{IsShape, is_subtask}
 use Rattle.ckpt_rules.specs.Trigger.{limit}
@@ -17,11 +17,6 @@ use Rattle.ckpt_core.specs.Steps.{pending_checkpoints}
 
 abbrev pub id_before : Record → Record → Bool
 id_before r s = nat_lt r.id s.id
-
--- no file stands twice
-abbrev pub AreDistinct : List ℕ → Type 0
-AreDistinct [] = Unit {0}
-AreDistinct (x ∷ xs) = (IsIn x xs → ⊥) × AreDistinct xs
 
 -- the acknowledgements of a record are of its own subtasks, each at most once, and name each file once
 pub record IsRecord (r : Record) : Type 0 where

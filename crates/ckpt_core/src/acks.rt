@@ -4,9 +4,9 @@ ghost use Rattle.ckpt_ids.specs.declared.call.Call.TheVariants as call;
 ghost use Rattle.ckpt_ids.specs.declared.numbers.Kind.TheVariants as kind;
 ghost use Rattle.ckpt_ids.specs.declared.reply.Reply.TheVariants as reply;
 ghost use Rattle.ckpt_ids.specs.Ascending.{ascending};
-ghost use Rattle.ckpt_ids.specs.Ordered.{IsIn, IsInOrder, in_order_once, put};
+ghost use Rattle.ckpt_ids.specs.Ordered.{AreDistinct, IsIn, IsInOrder, in_order_once, put};
 ghost use Rattle.ckpt_ids.specs.Records.{Record, Subtask, is_present, released, use_before};
-ghost use Rattle.ckpt_outbox.specs.Queues.{AreDistinct, is_in, is_known};
+ghost use Rattle.ckpt_outbox.specs.Queues.{is_in, is_known};
 ghost use Rattle.ckpt_pending.specs.Acknowledging.{IsPending};
 ghost use Rattle.ckpt_registry.specs.Uses.{after_end, triples};
 ghost use Rattle.ckpt_store.specs.Storing.{IsAbove, IsStored, by_id, has_savepoint, retained_of};
@@ -16,6 +16,7 @@ ghost use Rattle.ckpt_core.specs.Parts.{Answers, AreSound, IsAccepted, Stays, is
 ghost use Rattle.ckpt_core.specs.PendingRecords.{acked};
 ghost use Rattle.ckpt_core.specs.Refusals.{pending_of};
 ghost use Rattle.ckpt_core.specs.Soundness.{id_before};
+ghost use Rattle.ckpt_core.specs.Moving.{checkpoint_completed, completion, savepoint_completed, taken_in, with_checkpoint, with_room, with_waiting};
 
 use crate::parts::Parts;
 use ckpt_ids::{CheckpointId, FileId, Files, Kind, Reply, SubtaskId};
@@ -117,7 +118,7 @@ impl Parts {
 
     /// Makes room in the outbox for the files that are in use and so many more.
     fn make_room_for_files(&mut self, more: usize) -> Result<(), AllocError>
-        ensures ok { OnOk result (self.new ≡ record self.old { outbox = record self.old.outbox { spare = max (present_in self.old.registry + more) self.old.outbox.spare } }) }
+        ensures ok { OnOk result (self.new ≡ with_room self.old more) }
         ensures err { OnErr result (self.new ≡ self.old) }
     {
         let Some(files) = self.registry.present().checked_add(more as u64) else {
@@ -139,7 +140,7 @@ impl Parts {
         requires sound { AreSound self.old }
         requires accepted { IsAccepted self.old (call.Ack now id subtask fresh.now reused.now) }
         requires there { IsSome (find (λ r. r.id == id) self.old.pending) }
-        ensures ok { OnOk result (self.new ≡ record self.old { clock = record self.old.clock { latest = max now self.old.clock.latest }; pending = acked id subtask (ascending (fresh.now ++ reused.now)) self.old.pending; registry = in_order_once use_before (self.old.registry ++ triples id (Subtask subtask) (fresh.now ++ reused.now)) }) }
+        ensures ok { OnOk result (self.new ≡ taken_in self.old now id subtask fresh.now reused.now) }
         ensures err { OnErr result (self.new ≡ self.old) }
         ensures pending { (r : Record) → IsIn r self.old.pending → IsPending r }
         ensures in_order { IsInOrder id_before self.old.pending }
@@ -178,12 +179,10 @@ impl Parts {
         requires unknown { (f : ℕ) → is_present self.old.registry f ≡ true → is_known self.old.outbox f ≡ false }
         requires spare { present_in self.old.registry ≤ self.old.outbox.spare }
         requires none_ended { self.old.ended.items ≡ [] }
-        ensures parts { let after = after_end done.id [] self.old.registry in
-            let files = released self.old.registry after in
-            self.new ≡ record self.old { registry = after; store = record self.old.store { savepoints = put by_id done self.old.store.savepoints; spare = self.new.store.spare }; outbox = record self.old.outbox { waiting = self.old.outbox.waiting ++ files; spare = self.old.outbox.spare - length files }; ended = self.new.ended } }
+        ensures parts { self.new ≡ savepoint_completed self.old done self.new }
         ensures none_ended { self.new.ended.items ≡ [] }
         ensures capacity { vec_capacity self.new.ended ≡ vec_capacity self.old.ended }
-        ensures reply { result ≡ reply.AckCompleted 0 (length (released self.old.registry (after_end done.id [] self.old.registry))) }
+        ensures reply { result ≡ completion self.old done [] }
     {
         let id = done.id();
         self.store.add_savepoint(done);
@@ -205,14 +204,10 @@ impl Parts {
         requires none_ended { self.old.ended.items ≡ [] }
         requires places { length self.old.pending + 1 ≤ vec_capacity self.old.ended }
         requires few { length self.old.pending + 1 < 2 ^ 32 }
-        ensures parts { let gone = superseded self.old.pending self.old.store done in
-            let after = after_end done.id gone self.old.registry in
-            let files = released self.old.registry after in
-            self.new ≡ record self.old { registry = after; pending = filter (λ r. not (is_noted gone r)) self.old.pending; store = record self.old.store { checkpoints = retained_of self.old.store.retained (self.old.store.checkpoints ++ done ∷ []); base = None; spare = self.new.store.spare }; outbox = record self.old.outbox { waiting = self.old.outbox.waiting ++ files; spare = self.old.outbox.spare - length files }; failures = record self.old.failures { number = 0 }; clock = record self.old.clock { completed = Some self.old.clock.latest }; ended = self.new.ended } }
+        ensures parts { self.new ≡ checkpoint_completed self.old done (superseded self.old.pending self.old.store done) self.new }
         ensures none_ended { self.new.ended.items ≡ [] }
         ensures capacity { vec_capacity self.new.ended ≡ vec_capacity self.old.ended }
-        ensures reply { let gone = superseded self.old.pending self.old.store done in
-            result ≡ reply.AckCompleted (length gone) (length (released self.old.registry (after_end done.id gone self.old.registry))) }
+        ensures reply { result ≡ completion self.old done (superseded self.old.pending self.old.store done) }
     {
         let id = done.id();
         self.pending.note_subsumed(id, &mut self.ended);
@@ -232,7 +227,7 @@ impl Parts {
         requires checkpoint { done.kind ≡ kind.Checkpoint }
         requires above { IsAbove self.old.store.checkpoints done.id }
         requires places { vec_len self.old.ended + 1 ≤ vec_capacity self.old.ended }
-        ensures parts { self.new ≡ record self.old { store = record self.old.store { checkpoints = retained_of self.old.store.retained (self.old.store.checkpoints ++ done ∷ []); base = None; spare = self.new.store.spare }; ended = self.new.ended } }
+        ensures parts { self.new ≡ with_checkpoint self.old done self.new }
         ensures noted { self.new.ended.items ≡ self.old.ended.items ++ surplus self.old.store done }
         ensures capacity { vec_capacity self.new.ended ≡ vec_capacity self.old.ended }
     {
@@ -284,7 +279,7 @@ impl Parts {
         requires distinct { AreDistinct files.now }
         requires unknown { (f : ℕ) → is_in f files.now ≡ true → is_known self.old.outbox f ≡ false }
         requires spare { present_in self.old.registry ≤ self.old.outbox.spare }
-        ensures ok { OnOk result (self.new ≡ record self.old { outbox = record self.old.outbox { waiting = self.old.outbox.waiting ++ files.now; spare = self.new.outbox.spare } }) }
+        ensures ok { OnOk result (self.new ≡ with_waiting self.old files.now self.new.outbox.spare) }
         ensures spare { present_in self.old.registry ≤ self.new.outbox.spare }
         ensures err { OnErr result (self.new ≡ self.old) }
         ensures memory { OnErr result (0 < length files.now) }

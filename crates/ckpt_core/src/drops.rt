@@ -9,6 +9,7 @@ ghost use Rattle.ckpt_store.specs.Storing.{IsStored, has_savepoint};
 ghost use Rattle.ckpt_core.specs.Parts.{AreSound, AreTied, Drops, is_noted, present_in, records_in, state_of};
 ghost use Rattle.ckpt_core.specs.Soundness.{id_before};
 ghost use Rattle.ckpt_core.specs.State.{is_done_checkpoint, is_pending};
+ghost use Rattle.ckpt_core.specs.Moving.{releasing};
 
 use crate::parts::Parts;
 use ckpt_ids::CheckpointId;
@@ -29,9 +30,7 @@ impl Parts {
     pub(crate) fn hand_out(&mut self) -> u64
         requires unknown { (f : ℕ) → is_present self.old.registry f ≡ true → is_known self.old.outbox f ≡ false }
         requires room { present_in self.old.registry ≤ self.old.outbox.spare }
-        ensures parts { let after = without self.old.ended.items self.old.registry in
-            let files = released self.old.registry after in
-            self.new ≡ record self.old { registry = after; outbox = record self.old.outbox { waiting = self.old.outbox.waiting ++ files; spare = self.old.outbox.spare - length files }; ended = self.new.ended } }
+        ensures parts { self.new ≡ releasing self.old (without self.old.ended.items self.old.registry) self.new }
         ensures cleared { self.new.ended.items ≡ [] }
         ensures capacity { vec_capacity self.new.ended ≡ vec_capacity self.old.ended }
         ensures count { result ≡ length (released self.old.registry (without self.old.ended.items self.old.registry)) }
@@ -47,9 +46,7 @@ impl Parts {
     pub(crate) fn hand_out_after(&mut self, id: CheckpointId) -> u64
         requires unknown { (f : ℕ) → is_present self.old.registry f ≡ true → is_known self.old.outbox f ≡ false }
         requires room { present_in self.old.registry ≤ self.old.outbox.spare }
-        ensures parts { let after = after_end id self.old.ended.items self.old.registry in
-            let files = released self.old.registry after in
-            self.new ≡ record self.old { registry = after; outbox = record self.old.outbox { waiting = self.old.outbox.waiting ++ files; spare = self.old.outbox.spare - length files }; ended = self.new.ended } }
+        ensures parts { self.new ≡ releasing self.old (after_end id self.old.ended.items self.old.registry) self.new }
         ensures cleared { self.new.ended.items ≡ [] }
         ensures capacity { vec_capacity self.new.ended ≡ vec_capacity self.old.ended }
         ensures count { result ≡ length (released self.old.registry (after_end id self.old.ended.items self.old.registry)) }

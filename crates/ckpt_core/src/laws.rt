@@ -6,7 +6,7 @@ ghost use Rattle.ckpt_ids.specs.Records.{Record};
 ghost use Rattle.ckpt_core.specs.State.{State, Opening, opened};
 ghost use Rattle.ckpt_core.specs.Histories.{replay};
 ghost use Rattle.ckpt_core.specs.Soundness.{IsSound, IsCall};
-ghost use Rattle.ckpt_core.specs.Laws.{Exchange, Part, CanOpen, AreCalls, Balance, Handed, Accounted, UsedNoMore, Outbox, Acknowledgements, Numbers, Savepoints, ChoiceIsLive, Pinned};
+ghost use Rattle.ckpt_core.specs.Laws.{Exchange, Part, CanOpen, AreCalls, Balance, Handed, Accounted, UsedNoMore, Outbox, Acknowledgements, Numbers, Savepoints, ChoiceIsLive, Pinned, PinsStay};
 ghost use Rattle.ckpt_core.specs.Interleavings.{NewFile, AnyOrder};
 
 /// Two acknowledgements of different subtasks of one record, one right after the other, go in
@@ -64,7 +64,7 @@ pub fn choice()
 /// An acknowledgement for a pending record that reuses only files of the choice at that record's
 /// trigger is never refused FileGone.
 pub fn pinned()
-    ensures { (o : Opening) (before : List Call) (call : Call) (calls : List Call) → CanOpen o → AreCalls before → IsCall call → AreCalls calls → Pinned o before call calls }
+    ensures { PinsStay }
 {}
 
 /// What holds of a coordinator at each moment holds after every list of calls.

@@ -7,8 +7,8 @@ ghost use Rattle.ckpt_ids.specs.Records.{is_present};
 ghost use Rattle.ckpt_ids.specs.declared.call.Call.TheVariants.{Tick, Savepoint, Ack, Decline, Dispose, Restore, Cancel, Deleted, Show};
 ghost use Rattle.ckpt_ids.specs.declared.reply.Refusal.TheVariants.{NotRunning, TooManyFiles, RepeatedFile, UnknownCheckpoint, NameTaken, FileGone, IdsUsedUp};
 ghost use Rattle.ckpt_core.specs.Grouped.{with_pins};
-ghost use Rattle.ckpt_core.specs.Parts.{AreSound, state_of, records_in, is_known_in};
-ghost use Rattle.ckpt_core.specs.Refusals.{first_some, has_repeats, is_cancelled, is_done_savepoint, is_foreign, is_repeat, is_running, moment_too_large, named, pending_of, refusal, refuse_if, savepoints, was_not_given};
+ghost use Rattle.ckpt_core.specs.Parts.{AreSound, state_of, records_in, is_known_in, part_refusal};
+ghost use Rattle.ckpt_core.specs.Refusals.{first_some, has_repeats, is_cancelled, is_done_savepoint, is_foreign, is_repeat, is_running, moment_too_large, named, pending_of, refusal, refuse_if, savepoints, was_not_given, files_refusal};
 
 use crate::mode::Mode;
 use crate::parts::Parts;
@@ -53,7 +53,7 @@ fn test_subtask(pending: &Pending, subtask: SubtaskId) -> Result<(), Refusal>
 /// [`Refusal::RepeatedFile`] exactly where a file stands twice. A call that acknowledges with such
 /// files is refused so by every coordinator.
 pub fn test_files(fresh: &Files, reused: &Files) -> Result<(), Refusal>
-    ensures { result_err result ≡ first_some (refuse_if (nat_lt 4096 (length fresh.now + length reused.now)) TooManyFiles ∷ refuse_if (has_repeats (fresh.now ++ reused.now)) RepeatedFile ∷ []) }
+    ensures { result_err result ≡ files_refusal fresh.now reused.now }
 {
     let count = fresh.len().saturating_add(reused.len());
     refuse_if(count > MOST_FILES, Refusal::TooManyFiles)?;
@@ -175,7 +175,7 @@ impl Parts {
         fresh: &Files,
         reused: &Files,
     ) -> Result<(), Refusal>
-        ensures { result_err result ≡ first_some (is_foreign (Some pending.now) subtask ∷ is_repeat (Some pending.now) subtask ∷ named NameTaken (find (is_known_in self.now) fresh.now) ∷ named FileGone (find (λ f. not (is_present self.now.registry f)) reused.now) ∷ []) }
+        ensures { result_err result ≡ part_refusal self.now pending.now subtask fresh.now reused.now }
     {
         test_subtask(pending, subtask)?;
         refuse_if(pending.has(subtask), Refusal::AlreadyAcknowledged)?;

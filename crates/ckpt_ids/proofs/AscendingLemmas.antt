@@ -1,15 +1,13 @@
 -- Numbers in ascending order: what sorting makes.
-use Rattle.std.proofs.Common.{◌≡◌, ◌≢◌, ℕ, zero, suc, ◌+◌, ◌<◌, ◌≤◌, Bool, true, false, not, cond, ltb, leb, eqb, List, [], ◌∷◌, ◌++◌, length, get_or, refl, sym, ap, subst, ◌∙◌, ◌⊎◌, inl, inr, ⊎_elim, arith, rules}
-use Rattle.std.specs.Prelude.{count_by}
-use Rattle.std.specs.List.{sum_by}
-use Rattle.std.specs.List.Sorted.{IsPermutation, IsSortedByKey, IsNonDecreasingBy, IsSorted}
+use Rattle.std.proofs.Common.{◌≡◌, ℕ, suc, ◌+◌, ◌<◌, ◌≤◌, Bool, true, false, cond, ltb, leb, eqb, List, [], ◌∷◌, length, get_or, refl, sym, ap, subst, ◌∙◌, inl, inr, ⊎_elim, arith}
+use Rattle.std.specs.List.Sorted.{IsPermutation, IsNonDecreasingBy, IsSorted}
 use Rattle.std.specs.Ordering.{nat_cmp}
-use Rattle.std.proofs.lemmas.Bool.{cases_Bool, both_ways, ltb-true, ltb-false, leb-true, leb-false, lt-ltb, le-ltb, le-leb, eqb-true, eqb-false, eq-eqb, cases_order, cases_eq, ne_eqb}
-use Rattle.std.proofs.lemmas.List.Sums.{sum_by-cons}
+use Rattle.std.proofs.lemmas.Bool.{cases_Bool, ltb-true, ltb-false, leb-true, lt-ltb, le-ltb, le-leb, eq-eqb}
 use Rattle.std.proofs.lemmas.List.Sorted.{IsNonDecreasingBy-from_sort, sum_by-IsPermutation}
-use Rattle.std.proofs.lemmas.Bool.Decides.{nat_tests}
-use Rattle.ckpt_ids.specs.Ordered.{IsIn, ComesBefore, IsInOrder, put, in_order, IsStrictOrder}
+use Rattle.ckpt_ids.specs.Ordered.{IsIn, put, IsStrictOrder}
 use Rattle.ckpt_ids.specs.Ascending.{IsAscending, ascending}
+use Rattle.ckpt_ids.specs.Counting.{times}
+use Rattle.ckpt_ids.proofs.CountLemmas.{count_by-cons, count_by_yes, IsIn-from_times}
 use Rattle.ckpt_ids.proofs.OrderedLemmas.{ComesBefore-at, ComesBefore-from, IsIn-put_cases, IsIn-place}
 
 -- the order of numbers
@@ -20,26 +18,11 @@ numbers_in_order = record {
   total = λ x y a b. omega (arith, ltb-false x y a, ltb-false y x b);
 }
 
--- how often a number stands in a list
-abbrev pub times : ℕ → List ℕ → ℕ
-times z xs = sum_by (λ x. cond (eqb x z) 1 0) xs
-
 pub times-cons : (z x : ℕ) (xs : List ℕ) → times z (x ∷ xs) ≡ cond (eqb x z) 1 0 + times z xs
-times-cons z x xs = sum_by-cons (λ y. cond (eqb y z) 1 0) x xs
+times-cons z x xs = count_by-cons (λ y. eqb y z) x xs
 
 times-cons_same : (z : ℕ) (xs : List ℕ) → times z (z ∷ xs) ≡ suc (times z xs)
-times-cons_same z xs = times-cons z z xs ∙ ap (λ b. cond b 1 0 + times z xs) (eq-eqb z z refl) ∙ omega arith
-
-times-cons_other : (z x : ℕ) (xs : List ℕ) → (x ≡ z → ⊥) → times z (x ∷ xs) ≡ times z xs
-times-cons_other z x xs ne = times-cons z x xs ∙ ap (λ b. cond b 1 0 + times z xs) (ne_eqb x z ne) ∙ omega arith
-
-IsIn-from_times : (z : ℕ) (xs : List ℕ) → 0 < times z xs → IsIn z xs
-IsIn-from_times z [] h = absurd (omega arith)
-IsIn-from_times z (x ∷ xs) h =
-    ⊎_elim
-    (λ (e : x ≡ z). inl (sym e))
-    (λ (ne : x ≡ z → ⊥). let rest : 0 < times z xs = omega (arith, times-cons_other z x xs ne) in inr (IsIn-from_times z xs rest))
-    (cases_eq x z)
+times-cons_same z xs = count_by_yes (λ y. eqb y z) z xs (eq-eqb z z refl)
 
 least_first : (x y : ℕ) (ys : List ℕ) → IsAscending (y ∷ ys) → IsIn x (y ∷ ys) → y ≤ x
 least_first x y ys a (inl e) = omega arith

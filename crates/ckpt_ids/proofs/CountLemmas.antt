@@ -1,13 +1,48 @@
 -- How many elements of a list pass a test.
-use Rattle.std.proofs.Common.{◌≡◌, ℕ, ◌+◌, Bool, cond, List, [], ◌∷◌, ◌++◌, map, refl, arith}
+use Rattle.std.proofs.Common.{◌≡◌, ℕ, suc, ◌+◌, ◌<◌, Bool, true, false, cond, eqb, List, [], ◌∷◌, ◌++◌, map, refl, sym, ap, subst, ◌∙◌, inl, inr, ⊎_elim, arith}
 use Rattle.std.specs.Prelude.{count_by}
-use Rattle.std.proofs.lemmas.Bool.{cond_both}
+use Rattle.std.proofs.lemmas.Bool.{cases_Bool, cond_both, eqb-true, eq-eqb}
 use Rattle.std.proofs.lemmas.List.Sums.{sum_by-append, sum_by-cons}
-use Rattle.ckpt_ids.specs.Ordered.{put, in_order}
+use Rattle.ckpt_ids.specs.Counting.{times}
+use Rattle.ckpt_ids.specs.Ordered.{IsIn, put, in_order}
 
 -- one more element in front
 pub count_by-cons : {X : Type 0} (p : X → Bool) (x : X) (xs : List X) → count_by p (x ∷ xs) ≡ cond (p x) 1 0 + count_by p xs
 count_by-cons p x xs = sum_by-cons (λ y. cond (p y) 1 0) x xs
+
+-- an element that passes counts once
+pub count_by_yes : {X : Type 0} (p : X → Bool) (x : X) (xs : List X) → p x ≡ true → count_by p (x ∷ xs) ≡ suc (count_by p xs)
+count_by_yes p x xs e =
+    let one : Bool → ℕ = λ b. cond b 1 0 in
+    let here : one (p x) ≡ 1 = ap one e in
+    omega (arith, count_by-cons p x xs)
+
+-- one that fails does not count
+pub count_by_no : {X : Type 0} (p : X → Bool) (x : X) (xs : List X) → p x ≡ false → count_by p (x ∷ xs) ≡ count_by p xs
+count_by_no p x xs e =
+    let one : Bool → ℕ = λ b. cond b 1 0 in
+    let here : one (p x) ≡ 0 = ap one e in
+    omega (arith, count_by-cons p x xs)
+
+-- where none passes
+pub count_by-none : {X : Type 0} (p : X → Bool) (xs : List X) → ((x : X) → IsIn x xs → p x ≡ false) → count_by p xs ≡ 0
+count_by-none p [] fails = refl
+count_by-none p (x ∷ xs) fails = count_by_no p x xs (fails x (inl refl)) ∙ count_by-none p xs (λ y h. fails y (inr h))
+
+-- where an element passes, the count is above 0
+pub counted-from_IsIn : {X : Type 0} (p : X → Bool) (x : X) (xs : List X) → IsIn x xs → p x ≡ true → 0 < count_by p xs
+counted-from_IsIn p x [] h e = absurd h
+counted-from_IsIn p x (y ∷ xs) (inl same) e = omega (arith, count_by_yes p y xs (ap p (sym same) ∙ e))
+counted-from_IsIn p x (y ∷ xs) (inr h) e = let rest : 0 < count_by p xs = counted-from_IsIn p x xs h e in omega (arith, count_by-cons p y xs)
+
+-- and the other way round
+pub IsIn-from_counted : {X : Type 0} (p : X → Bool) (xs : List X) → 0 < count_by p xs → (x : X) × IsIn x xs × (p x ≡ true)
+IsIn-from_counted p [] h = absurd (omega arith)
+IsIn-from_counted {X} p (x ∷ xs) h =
+    let Found : Type 0 = (y : X) × IsIn y (x ∷ xs) × (p y ≡ true) in
+    let here : p x ≡ true → Found = λ (e : p x ≡ true). (x, inl refl, e) in
+    let later : p x ≡ false → Found = λ (e : p x ≡ false). let rest : 0 < count_by p xs = omega (arith, count_by_no p x xs e) in let q = IsIn-from_counted p xs rest in (q.0, inr q.1, q.2) in
+    ⊎_elim here later (cases_Bool (p x))
 
 -- two lists together
 pub count_by-append : {X : Type 0} (p : X → Bool) (xs ys : List X) → count_by p (xs ++ ys) ≡ count_by p xs + count_by p ys
@@ -34,3 +69,17 @@ pub count_by-in_order : {X : Type 0} (p : X → Bool) (before : X → X → Bool
 count_by-in_order p before [] = refl
 count_by-in_order p before (x ∷ xs) =
     omega (arith, count_by-put p before x (in_order before xs), count_by-cons p x xs, count_by-in_order p before xs)
+
+-- how often a number stands in a list
+
+pub times-append : (f : ℕ) (xs ys : List ℕ) → times f (xs ++ ys) ≡ times f xs + times f ys
+times-append f xs ys = count_by-append (λ x. eqb x f) xs ys
+
+pub times-from_IsIn : (f : ℕ) (xs : List ℕ) → IsIn f xs → 0 < times f xs
+times-from_IsIn f xs h = counted-from_IsIn (λ x. eqb x f) f xs h (eq-eqb f f refl)
+
+pub IsIn-from_times : (f : ℕ) (xs : List ℕ) → 0 < times f xs → IsIn f xs
+IsIn-from_times f xs h =
+    let q = IsIn-from_counted (λ x. eqb x f) xs h in
+    let P : ℕ → Type 0 = λ x. IsIn x xs in
+    subst P (eqb-true q.0 f q.2) q.1

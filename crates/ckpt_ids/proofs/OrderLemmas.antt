@@ -1,14 +1,13 @@
 -- The orders of subtasks, holders and uses are strict.
-use Rattle.std.proofs.Common.{◌≡◌, ℕ, Bool, true, false, ◌&&◌, ◌||◌, ltb, eqb, refl, sym, ap, ◌∙◌, ◌⊎◌, inl, inr, ⊎_elim, arith}
+use Rattle.std.proofs.Common.{◌≡◌, ℕ, Bool, true, false, ◌&&◌, ◌||◌, ltb, eqb, refl, sym, ap, ◌∙◌, ⊎_elim}
 use Rattle.std.specs.Bool.{Decides}
-use Rattle.std.proofs.lemmas.Bool.{cases_Bool, both_ways, or_cases, or_parts, or_from, or_left, or_right, and_parts, and_cases, and_from, and_left, and_right}
+use Rattle.std.proofs.lemmas.Bool.{both_ways, or_cases, or_parts, or_from, or_left, or_right, and_parts, and_cases, and_from, and_right}
 use Rattle.std.proofs.lemmas.Bool.Decides.{Decides-eqb}
 use Rattle.ckpt_ids.specs.declared.subtask.SubtaskId.{SubtaskId}
-use Rattle.ckpt_ids.specs.declared.ack.Acked.{Acked}
 use Rattle.ckpt_ids.specs.Ordered.{IsStrictOrder}
 use Rattle.ckpt_ids.specs.Shapes.{same_subtask}
-use Rattle.ckpt_ids.specs.Acknowledged.{is_before, acknowledges_before}
-use Rattle.ckpt_ids.specs.Records.{Use, Holder, Subtask, Pin, Record, holder_before, same_holder, use_before}
+use Rattle.ckpt_ids.specs.Acknowledged.{is_before}
+use Rattle.ckpt_ids.specs.Records.{Use, Holder, Subtask, Pin, holder_before, same_holder, use_before}
 use Rattle.ckpt_ids.proofs.AscendingLemmas.{numbers_in_order}
 
 -- first by one part, then by another

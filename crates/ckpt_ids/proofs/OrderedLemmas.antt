@@ -1,8 +1,8 @@
 -- What holds of lists in order. The principle: two lists in a strict order that have the same elements are equal.
-use Rattle.std.proofs.Common.{◌≡◌, ℕ, zero, suc, length, get_or, ◌+◌, ◌<◌, Bool, true, false, not, cond, List, [], ◌∷◌, ◌++◌, map, refl, sym, ap, subst, ◌∙◌, ◌⊎◌, inl, inr, ⊎_elim, arith, rules}
+use Rattle.std.proofs.Common.{◌≡◌, ℕ, zero, suc, length, get_or, ◌<◌, Bool, true, false, cond, List, [], ◌∷◌, ◌++◌, map, refl, sym, ap, subst, ◌∙◌, ◌⊎◌, inl, inr, ⊎_elim, arith}
 use Rattle.std.specs.List.{filter, list_any, flat_map}
-use Rattle.std.proofs.lemmas.Bool.{cases_Bool, both_ways, cond-true, cond-false, or_cases, or_left, or_right}
-use Rattle.ckpt_ids.specs.Ordered.{IsIn, ComesBefore, IsInOrder, put, put_once, in_order, in_order_once, IsStrictOrder}
+use Rattle.std.proofs.lemmas.Bool.{cases_Bool, both_ways, cond-true, or_cases, or_left, or_right}
+use Rattle.ckpt_ids.specs.Ordered.{IsIn, AreDistinct, ComesBefore, IsInOrder, put, put_once, in_order, in_order_once, IsStrictOrder}
 
 -- membership
 
@@ -73,6 +73,18 @@ IsIn-from_filter {X} p x (y ∷ xs) h =
     let gone : p y ≡ false → Q = λ (e : p y ≡ false). let k : IsIn x (filter p xs) = subst P e h in later k in
     ⊎_elim kept gone (cases_Bool (p y))
 
+-- a filter that keeps each element
+pub filter-all : {X : Type 0} (p : X → Bool) (xs : List X) → ((x : X) → IsIn x xs → p x ≡ true) → filter p xs ≡ xs
+filter-all p [] e = refl
+filter-all p (x ∷ xs) e = cond-true (p x) (x ∷ filter p xs) (filter p xs) (e x (inl refl)) ∙ ap (λ ys. x ∷ ys) (filter-all p xs (λ y h. e y (inr h)))
+
+-- two tests that agree on the elements keep the same
+pub filter-same : {X : Type 0} (p q : X → Bool) (xs : List X) → ((x : X) → IsIn x xs → p x ≡ q x) → filter p xs ≡ filter q xs
+filter-same p q [] e = refl
+filter-same p q (x ∷ xs) e =
+    let rest : filter p xs ≡ filter q xs = filter-same p q xs (λ y h. e y (inr h)) in
+    ap (λ b. cond b (x ∷ filter p xs) (filter p xs)) (e x (inl refl)) ∙ ap (λ ys. cond (q x) (x ∷ ys) ys) rest
+
 -- a test that some element passes
 pub list_any-from_IsIn : {X : Type 0} (p : X → Bool) (x : X) (xs : List X) → IsIn x xs → p x ≡ true → list_any p xs ≡ true
 list_any-from_IsIn p x [] h t = absurd h
@@ -131,7 +143,7 @@ same_heads {X} {before} o x y xs ys a b (inr h) (inr k) =
     let xy : before x y ≡ true = ComesBefore-at before x y xs a k in
     absurd (both_ways (before x x) (o.irreflexive x) (o.transitive x y x xy yx))
 
-in_tail : {X : Type 0} {before : X → X → Bool} (o : IsStrictOrder before) (x z : X) (xs ys : List X) → ComesBefore before x xs → IsIn z xs → IsIn z (x ∷ ys) → IsIn z ys
+pub in_tail : {X : Type 0} {before : X → X → Bool} (o : IsStrictOrder before) (x z : X) (xs ys : List X) → ComesBefore before x xs → IsIn z xs → IsIn z (x ∷ ys) → IsIn z ys
 in_tail {X} {before} o x z xs ys a h (inl e) = absurd (both_ways (before x x) (o.irreflexive x) (ap (before x) (sym e) ∙ ComesBefore-at before x z xs a h))
 in_tail o x z xs ys a h (inr k) = k
 
@@ -257,3 +269,38 @@ IsIn-in_order before z (x ∷ xs) (inr h) = IsIn-put before x z (in_order before
 pub IsIn-from_in_order : {X : Type 0} (before : X → X → Bool) (z : X) (xs : List X) → IsIn z (in_order before xs) → IsIn z xs
 IsIn-from_in_order before z [] h = h
 IsIn-from_in_order before z (x ∷ xs) h = ⊎_elim (λ a. inl a) (λ k. inr (IsIn-from_in_order before z xs k)) (IsIn-put_cases before x z (in_order before xs) h)
+
+-- no element twice
+
+pub AreDistinct-append : {X : Type 0} (xs ys : List X) → AreDistinct xs → AreDistinct ys → ((x : X) → IsIn x xs → IsIn x ys → ⊥) → AreDistinct (xs ++ ys)
+AreDistinct-append [] ys a b apart = b
+AreDistinct-append {X} (x ∷ xs) ys a b apart =
+    let new : IsIn x (xs ++ ys) → ⊥ = λ (h : IsIn x (xs ++ ys)). ⊎_elim a.0 (apart x (inl refl)) (IsIn-append_cases x xs ys h) in
+    (new, AreDistinct-append xs ys a.1 b (λ y h k. apart y (inr h) k))
+
+pub AreDistinct-left : {X : Type 0} (xs ys : List X) → AreDistinct (xs ++ ys) → AreDistinct xs
+AreDistinct-left [] ys a = tt
+AreDistinct-left (x ∷ xs) ys a = (λ h. a.0 (IsIn-append_left x xs ys h), AreDistinct-left xs ys a.1)
+
+pub AreDistinct-right : {X : Type 0} (xs ys : List X) → AreDistinct (xs ++ ys) → AreDistinct ys
+AreDistinct-right [] ys a = a
+AreDistinct-right (x ∷ xs) ys a = AreDistinct-right xs ys a.1
+
+-- two parts share no element
+pub AreDistinct-apart : {X : Type 0} (xs ys : List X) → AreDistinct (xs ++ ys) → (x : X) → IsIn x xs → IsIn x ys → ⊥
+AreDistinct-apart [] ys a x h k = absurd h
+AreDistinct-apart {X} (y ∷ xs) ys a x (inl e) k = let P : X → Type 0 = λ z. IsIn z (xs ++ ys) in a.0 (subst P e (IsIn-append_right x xs ys k))
+AreDistinct-apart (y ∷ xs) ys a x (inr h) k = AreDistinct-apart xs ys a.1 x h k
+
+pub AreDistinct-filter : {X : Type 0} (p : X → Bool) (xs : List X) → AreDistinct xs → AreDistinct (filter p xs)
+AreDistinct-filter p [] a = tt
+AreDistinct-filter {X} p (x ∷ xs) a =
+    let P : Bool → Type 0 = λ b. AreDistinct (cond b (x ∷ filter p xs) (filter p xs)) in
+    let rest : AreDistinct (filter p xs) = AreDistinct-filter p xs a.1 in
+    let new : IsIn x (filter p xs) → ⊥ = λ (h : IsIn x (filter p xs)). a.0 (IsIn-from_filter p x xs h).0 in
+    ⊎_elim (λ (e : p x ≡ true). subst P (sym e) (new, rest)) (λ (e : p x ≡ false). subst P (sym e) rest) (cases_Bool (p x))
+
+-- a list in a strict order
+pub AreDistinct-from_order : {X : Type 0} {before : X → X → Bool} (o : IsStrictOrder before) (xs : List X) → IsInOrder before xs → AreDistinct xs
+AreDistinct-from_order o [] a = tt
+AreDistinct-from_order {X} {before} o (x ∷ xs) a = (λ h. both_ways (before x x) (o.irreflexive x) (ComesBefore-at before x x xs a.0 h), AreDistinct-from_order o xs a.1)

@@ -1,6 +1,8 @@
 pub mod Acknowledged
 pub mod Ascending
 pub mod Configuration
+pub mod Counting
 pub mod Ordered
 pub mod Records
+pub mod RefusalTexts
 pub mod Shapes

@@ -6,6 +6,11 @@ abbrev pub IsIn : {X : Type 0} → X → List X → Type 0
 IsIn x [] = ⊥
 IsIn x (y ∷ ys) = (x ≡ y) ⊎ IsIn x ys
 
+-- no element stands twice
+abbrev pub AreDistinct : {X : Type 0} → List X → Type 0
+AreDistinct [] = Unit {0}
+AreDistinct (x ∷ xs) = (IsIn x xs → ⊥) × AreDistinct xs
+
 -- x comes before each element
 abbrev pub ComesBefore : {X : Type 0} → (X → X → Bool) → X → List X → Type 0
 ComesBefore before x [] = Unit {0}

@@ -1,5 +1,5 @@
 -- Checkpoints and savepoints as one flat list of records, and what is found in it by filtering.
-use Rattle.std.specs.Prelude.{◌≡◌, ℕ, Bool, true, false, not, ◌&&◌, ◌||◌, nat_lt, ◌==◌, List, ◌∷◌, [], ◌++◌, map, filter, flat_map, count_by}
+use Rattle.std.specs.Prelude.{◌≡◌, ℕ, Bool, true, false, not, ◌&&◌, ◌||◌, nat_lt, ◌==◌, List, ◌++◌, map, filter, flat_map, count_by}
 use Rattle.std.specs.List.{list_any}
 use Rattle.ckpt_ids.specs.declared.subtask.SubtaskId.{SubtaskId}
 use Rattle.ckpt_ids.specs.declared.numbers.Kind.{Kind}

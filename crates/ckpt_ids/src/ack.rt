@@ -64,6 +64,14 @@ impl Acks {
     {
         self.list.get(place)
     }
+
+    /// The acknowledgements, in the order of their subtasks.
+    pub fn as_slice(&self) -> &[Acked]
+        ensures acks { result.now ≡ self.now }
+        ensures order { AreInSubtaskOrder self.now }
+    {
+        self.list.as_slice()
+    }
 }
 
 impl PartialEq for Acks {

@@ -1,5 +1,5 @@
 ghost use Rattle.std.specs.Prelude.{◌≡◌, ◌^◌, ◌≤◌, ◌↔◌, Bool, true, false, IsErr, IsTrue, OnOk, IfOk};
-ghost use Rattle.ckpt_ids.specs.Configuration.{Configuration, IsWithinLimits, is_within_limits};
+ghost use Rattle.ckpt_ids.specs.Configuration.{Configuration, IsWithinLimits, configured, is_within_limits};
 
 use std::marker::Model;
 use thiserror::Error;
@@ -65,8 +65,8 @@ impl Config {
         retained: u64,
         keep_on_cancel: bool,
     ) -> Result<Config, BadConfig>
-        ensures refused { IsErr result ↔ (is_within_limits (record { interval = interval; pause = pause; at_once = at_once; timeout = timeout; tolerable = tolerable; retained = retained; keep_on_cancel = keep_on_cancel }) ≡ false) }
-        ensures value { IfOk result (λ config. config ≡ record { interval = interval; pause = pause; at_once = at_once; timeout = timeout; tolerable = tolerable; retained = retained; keep_on_cancel = keep_on_cancel }) }
+        ensures refused { IsErr result ↔ (is_within_limits (configured interval pause at_once timeout tolerable retained keep_on_cancel) ≡ false) }
+        ensures value { IfOk result (λ config. config ≡ configured interval pause at_once timeout tolerable retained keep_on_cancel) }
     {
         let good = 10 <= interval
             && interval <= LONGEST

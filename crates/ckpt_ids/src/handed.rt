@@ -46,6 +46,13 @@ impl Handed {
         self.numbers.get(place).copied()
     }
 
+    /// The files, in the order in which they were handed out.
+    pub fn as_slice(&self) -> &[FileId]
+        ensures { result.now ≡ self.now }
+    {
+        self.numbers.as_slice()
+    }
+
     /// The files without the first `count`. Works in place, and takes no memory.
     pub fn rest(self, count: usize) -> Handed
         requires { count ≤ length self }

@@ -13,6 +13,7 @@ pub mod config;
 pub mod files;
 pub mod handed;
 pub mod numbers;
+mod refusal_text;
 pub mod reply;
 pub mod shape;
 pub mod subtask;

@@ -1,6 +1,6 @@
 use crate::{
-    Acked, Acks, BadConfig, CheckpointId, Config, FileId, Files, Handed, Kind, Metadata, Shape,
-    ShapeFault, SubtaskId,
+    Acked, Acks, BadConfig, CheckpointId, Config, FileId, Files, Handed, Kind, Metadata, Refusal,
+    Shape, ShapeFault, SubtaskId,
 };
 use std::alloc::{AllocError, Global};
 use std::test::Fail;
@@ -117,11 +117,41 @@ fn handed_files_keep_their_order(rt: HostRuntime) -> Result<(), Fail> {
     assert_eq!(rt; list.len(), 3);
     assert!(rt; !list.is_empty());
     assert_eq!(rt; list.get(0), Some(FileId(2)));
+    assert_eq!(rt;
+        list.as_slice(),
+        [FileId(2), FileId(1), FileId(3)].as_slice()
+    );
     let rest = list.rest(1);
     assert_eq!(rt; rest.len(), 2);
     assert_eq!(rt; rest.get(0), Some(FileId(1)));
     assert_eq!(rt; rest.get(1), Some(FileId(3)));
     assert_eq!(rt; rest.get(2), None);
+    Ok(())
+}
+
+#[test]
+fn a_refusal_tells_its_name_and_its_file(rt: HostRuntime) -> Result<(), Fail> {
+    let texts = [
+        (Refusal::MomentTooLarge, "MomentTooLarge"),
+        (Refusal::NotRunning, "NotRunning"),
+        (Refusal::TooManyFiles, "TooManyFiles"),
+        (Refusal::RepeatedFile, "RepeatedFile"),
+        (Refusal::UnknownCheckpoint, "UnknownCheckpoint"),
+        (Refusal::UnknownSubtask, "UnknownSubtask"),
+        (Refusal::AlreadyAcknowledged, "AlreadyAcknowledged"),
+        (Refusal::NameTaken(FileId(11)), "NameTaken 11"),
+        (Refusal::FileGone(FileId(12)), "FileGone 12"),
+        (Refusal::NoSuchSavepoint, "NoSuchSavepoint"),
+        (Refusal::InUse, "InUse"),
+        (Refusal::TooManySavepoints, "TooManySavepoints"),
+        (Refusal::NotTaken, "NotTaken"),
+        (Refusal::NoSuchRecord, "NoSuchRecord"),
+        (Refusal::IdsUsedUp, "IdsUsedUp"),
+    ];
+    for (refusal, text) in texts {
+        let told = format!(in rt.alloc(); "{refusal}")?;
+        assert_eq!(rt; told.as_str(), text);
+    }
     Ok(())
 }
 
@@ -143,6 +173,7 @@ fn acknowledgements_are_listed(rt: HostRuntime) -> Result<(), Fail> {
     assert!(rt; !acks.is_empty());
     assert!(rt; acks.get(0).is_some_and(|acked| acked.subtask == subtask));
     assert!(rt; acks.get(1).is_none());
+    assert_eq!(rt; acks.as_slice().len(), 1);
     let metadata = Metadata {
         id: CheckpointId(1),
         kind: Kind::Checkpoint,

@@ -5,11 +5,11 @@ use Rattle.std.specs.Option.{option_or}
 use Rattle.std.proofs.lemmas.Bool.{cases_Bool, cases_eq, both_ways, ltb-true, eqb-true, eq-eqb, ne_eqb, or_parts, or_from, or_left, or_right, or_cases, cond-false, false_from_ne_true}
 use Rattle.std.proofs.lemmas.List.Folds.{list_any-append}
 use Rattle.std.proofs.lemmas.List.{take-append-drop}
-use Rattle.ckpt_ids.specs.Ordered.{IsIn}
+use Rattle.ckpt_ids.specs.Ordered.{IsIn, AreDistinct}
 use Rattle.ckpt_ids.specs.Ascending.{IsAscendingSet}
-use Rattle.ckpt_ids.proofs.OrderedLemmas.{list_any-from_IsIn, IsIn-from_list_any, ComesBefore-at}
+use Rattle.ckpt_ids.proofs.OrderedLemmas.{list_any-from_IsIn, IsIn-from_list_any, ComesBefore-at, AreDistinct-append, AreDistinct-apart, AreDistinct-filter, AreDistinct-left, AreDistinct-right}
 use Rattle.ckpt_outbox.specs.declared.places.Place.TheVariants.{Waiting, Taken}
-use Rattle.ckpt_outbox.specs.Queues.{is_in, AreDistinct, without}
+use Rattle.ckpt_outbox.specs.Queues.{is_in, without}
 use Rattle.ckpt_outbox.specs.Places.{taken_place, place_of}
 
 pub eqb_flip : (a b : ℕ) → (a == b) ≡ (b == a)
@@ -35,38 +35,41 @@ not_in-parts x xs ys h = or_parts (is_in x xs) (is_in x ys) (sym (is_in-append x
 pub not_in-append : (x : ℕ) (xs ys : List ℕ) → is_in x xs ≡ false → is_in x ys ≡ false → is_in x (xs ++ ys) ≡ false
 not_in-append x xs ys h k = is_in-append x xs ys ∙ or_from (is_in x xs) (is_in x ys) h k
 
+pub is_in-from_IsIn : (x : ℕ) (xs : List ℕ) → IsIn x xs → is_in x xs ≡ true
+is_in-from_IsIn x xs h = list_any-from_IsIn (λ g. x == g) x xs h (eqb_itself x)
+
+pub IsIn-from_is_in : (x : ℕ) (xs : List ℕ) → is_in x xs ≡ true → IsIn x xs
+IsIn-from_is_in x xs h =
+    let found : (y : ℕ) × IsIn y xs × ((x == y) ≡ true) = IsIn-from_list_any (λ g. x == g) xs h in
+    let P : ℕ → Type 0 = λ y. IsIn y xs in
+    subst P (sym (eqb-true x found.0 found.2)) found.1
+
+-- what is not there, by the test
+pub not_in : (x : ℕ) (xs : List ℕ) → (IsIn x xs → ⊥) → is_in x xs ≡ false
+not_in x xs new = false_from_ne_true (is_in x xs) (λ h. new (IsIn-from_is_in x xs h))
+
+pub absent : (x : ℕ) (xs : List ℕ) → is_in x xs ≡ false → IsIn x xs → ⊥
+absent x xs e h = both_ways (is_in x xs) e (is_in-from_IsIn x xs h)
+
 -- two elements, one in the list and one not, differ
 pub apart : (x y : ℕ) (xs : List ℕ) → is_in x xs ≡ false → is_in y xs ≡ true → (x == y) ≡ false
 apart x y xs h k = ne_eqb x y (λ e. both_ways (is_in y xs) (ap (λ z. is_in z xs) (sym e) ∙ h) k)
 
 -- distinct files
 
-pub AreDistinct-append : (xs ys : List ℕ) → AreDistinct xs → AreDistinct ys → ((x : ℕ) → is_in x xs ≡ true → is_in x ys ≡ false) → AreDistinct (xs ++ ys)
-AreDistinct-append [] ys a b f = b
-AreDistinct-append (x ∷ xs) ys a b f =
-    (not_in-append x xs ys a.0 (f x (or_left (x == x) (is_in x xs) (eqb_itself x))), AreDistinct-append xs ys a.1 b (λ y h. f y (or_right (y == x) (is_in y xs) h)))
+pub distinct-append : (xs ys : List ℕ) → AreDistinct xs → AreDistinct ys → ((x : ℕ) → is_in x xs ≡ true → is_in x ys ≡ false) → AreDistinct (xs ++ ys)
+distinct-append xs ys a b f = AreDistinct-append xs ys a b (λ x h k. absent x ys (f x (is_in-from_IsIn x xs h)) k)
 
-pub AreDistinct-left : (xs ys : List ℕ) → AreDistinct (xs ++ ys) → AreDistinct xs
-AreDistinct-left [] ys a = tt
-AreDistinct-left (x ∷ xs) ys a = ((not_in-parts x xs ys a.0).0, AreDistinct-left xs ys a.1)
-
-pub AreDistinct-right : (xs ys : List ℕ) → AreDistinct (xs ++ ys) → AreDistinct ys
-AreDistinct-right [] ys a = a
-AreDistinct-right (x ∷ xs) ys a = AreDistinct-right xs ys a.1
-
-pub AreDistinct-apart : (xs ys : List ℕ) → AreDistinct (xs ++ ys) → (x : ℕ) → is_in x xs ≡ true → is_in x ys ≡ false
-AreDistinct-apart [] ys a x h = absurd (both_ways false refl h)
-AreDistinct-apart (y ∷ xs) ys a x h =
-    let here : (x == y) ≡ true → is_in x ys ≡ false = λ (e : (x == y) ≡ true). ap (λ z. is_in z ys) (eqb-true x y e) ∙ (not_in-parts y xs ys a.0).1 in
-    ⊎_elim here (λ (k : is_in x xs ≡ true). AreDistinct-apart xs ys a.1 x k) (or_cases (x == y) (is_in x xs) h)
+pub distinct-apart : (xs ys : List ℕ) → AreDistinct (xs ++ ys) → (x : ℕ) → is_in x xs ≡ true → is_in x ys ≡ false
+distinct-apart xs ys a x h = not_in x ys (AreDistinct-apart xs ys a x (IsIn-from_is_in x xs h))
 
 pub AreDistinct-swap : (xs ys : List ℕ) → AreDistinct (xs ++ ys) → AreDistinct (ys ++ xs)
 AreDistinct-swap xs ys a =
-    AreDistinct-append ys xs (AreDistinct-right xs ys a) (AreDistinct-left xs ys a) (λ x h. false_from_ne_true (is_in x xs) (λ k. both_ways (is_in x ys) (AreDistinct-apart xs ys a x k) h))
+    distinct-append ys xs (AreDistinct-right xs ys a) (AreDistinct-left xs ys a) (λ x h. false_from_ne_true (is_in x xs) (λ k. both_ways (is_in x ys) (distinct-apart xs ys a x k) h))
 
 pub AreDistinct-push : (x : ℕ) (xs : List ℕ) → AreDistinct xs → is_in x xs ≡ false → AreDistinct (xs ++ x ∷ [])
 AreDistinct-push x xs a h =
-    AreDistinct-append xs (x ∷ []) a (refl, tt) (λ y k. or_from (y == x) false (eqb_flip y x ∙ apart x y xs h k) refl)
+    distinct-append xs (x ∷ []) a ((λ h. h), tt) (λ y k. or_from (y == x) false (eqb_flip y x ∙ apart x y xs h k) refl)
 
 -- what `without` keeps
 
@@ -88,11 +91,7 @@ pub gone_without : (f : ℕ) (xs : List ℕ) → is_in f (without f xs) ≡ fals
 gone_without f xs = false_from_ne_true (is_in f (without f xs)) (λ k. both_ways (f == f) (is_in-without f f xs k).1 (eqb_itself f))
 
 pub AreDistinct-without : (f : ℕ) (xs : List ℕ) → AreDistinct xs → AreDistinct (without f xs)
-AreDistinct-without f [] a = tt
-AreDistinct-without f (y ∷ xs) a =
-    let P : Bool → Type 0 = λ b. AreDistinct (cond (not b) (y ∷ without f xs) (without f xs)) in
-    let rest : AreDistinct (without f xs) = AreDistinct-without f xs a.1 in
-    ⊎_elim (λ (e : (y == f) ≡ true). subst P (sym e) rest) (λ (e : (y == f) ≡ false). subst P (sym e) (not_in-without y f xs a.0, rest)) (cases_Bool (y == f))
+AreDistinct-without f xs a = AreDistinct-filter (λ g. not (g == f)) xs a
 
 pub without_absent : (f : ℕ) (xs : List ℕ) → is_in f xs ≡ false → without f xs ≡ xs
 without_absent f [] h = refl
@@ -104,29 +103,29 @@ without_absent f (y ∷ xs) h =
 
 pub distinct_deleted : (f : ℕ) (ws ts : List ℕ) → AreDistinct (ws ++ ts) → AreDistinct (ws ++ without f ts)
 distinct_deleted f ws ts a =
-    AreDistinct-append ws (without f ts) (AreDistinct-left ws ts a) (AreDistinct-without f ts (AreDistinct-right ws ts a)) (λ x h. not_in-without x f ts (AreDistinct-apart ws ts a x h))
+    distinct-append ws (without f ts) (AreDistinct-left ws ts a) (AreDistinct-without f ts (AreDistinct-right ws ts a)) (λ x h. not_in-without x f ts (distinct-apart ws ts a x h))
 
 pub distinct_undeleted : (f : ℕ) (ws ts : List ℕ) → AreDistinct (ws ++ ts) → is_in f ws ≡ false → AreDistinct ((ws ++ f ∷ []) ++ without f ts)
 distinct_undeleted f ws ts a h =
     let first : AreDistinct (ws ++ f ∷ []) = AreDistinct-push f ws (AreDistinct-left ws ts a) h in
     let both : (x : ℕ) → is_in x (ws ++ f ∷ []) ≡ true → is_in x (without f ts) ≡ false = λ x k.
-    ⊎_elim (λ (i : is_in x ws ≡ true). not_in-without x f ts (AreDistinct-apart ws ts a x i)) (λ (i : is_in x (f ∷ []) ≡ true). ⊎_elim (λ (e : (x == f) ≡ true). ap (λ z. is_in z (without f ts)) (eqb-true x f e) ∙ gone_without f ts) (λ (e : false ≡ true). absurd (both_ways false refl e)) (or_cases (x == f) false i)) (or_cases (is_in x ws) (is_in x (f ∷ [])) (sym (is_in-append x ws (f ∷ [])) ∙ k)) in
-    AreDistinct-append (ws ++ f ∷ []) (without f ts) first (AreDistinct-without f ts (AreDistinct-right ws ts a)) both
+    ⊎_elim (λ (i : is_in x ws ≡ true). not_in-without x f ts (distinct-apart ws ts a x i)) (λ (i : is_in x (f ∷ []) ≡ true). ⊎_elim (λ (e : (x == f) ≡ true). ap (λ z. is_in z (without f ts)) (eqb-true x f e) ∙ gone_without f ts) (λ (e : false ≡ true). absurd (both_ways false refl e)) (or_cases (x == f) false i)) (or_cases (is_in x ws) (is_in x (f ∷ [])) (sym (is_in-append x ws (f ∷ [])) ∙ k)) in
+    distinct-append (ws ++ f ∷ []) (without f ts) first (AreDistinct-without f ts (AreDistinct-right ws ts a)) both
 
 pub distinct_put : (f : ℕ) (ws ts : List ℕ) → AreDistinct (ws ++ ts) → is_in f (ws ++ ts) ≡ false → AreDistinct ((ws ++ f ∷ []) ++ ts)
 distinct_put f ws ts a h =
     let parts : (is_in f ws ≡ false) × (is_in f ts ≡ false) = not_in-parts f ws ts h in
     let both : (x : ℕ) → is_in x (ws ++ f ∷ []) ≡ true → is_in x ts ≡ false = λ x k.
-    ⊎_elim (λ (i : is_in x ws ≡ true). AreDistinct-apart ws ts a x i) (λ (i : is_in x (f ∷ []) ≡ true). ⊎_elim (λ (e : (x == f) ≡ true). ap (λ z. is_in z ts) (eqb-true x f e) ∙ parts.1) (λ (e : false ≡ true). absurd (both_ways false refl e)) (or_cases (x == f) false i)) (or_cases (is_in x ws) (is_in x (f ∷ [])) (sym (is_in-append x ws (f ∷ [])) ∙ k)) in
-    AreDistinct-append (ws ++ f ∷ []) ts (AreDistinct-push f ws (AreDistinct-left ws ts a) parts.0) (AreDistinct-right ws ts a) both
+    ⊎_elim (λ (i : is_in x ws ≡ true). distinct-apart ws ts a x i) (λ (i : is_in x (f ∷ []) ≡ true). ⊎_elim (λ (e : (x == f) ≡ true). ap (λ z. is_in z ts) (eqb-true x f e) ∙ parts.1) (λ (e : false ≡ true). absurd (both_ways false refl e)) (or_cases (x == f) false i)) (or_cases (is_in x ws) (is_in x (f ∷ [])) (sym (is_in-append x ws (f ∷ [])) ∙ k)) in
+    distinct-append (ws ++ f ∷ []) ts (AreDistinct-push f ws (AreDistinct-left ws ts a) parts.0) (AreDistinct-right ws ts a) both
 
 pub distinct_taken : (front rest ts : List ℕ) → AreDistinct ((front ++ rest) ++ ts) → AreDistinct (rest ++ (ts ++ front))
 distinct_taken front rest ts a =
     let ws : AreDistinct (front ++ rest) = AreDistinct-left (front ++ rest) ts a in
-    let across : (x : ℕ) → is_in x (front ++ rest) ≡ true → is_in x ts ≡ false = AreDistinct-apart (front ++ rest) ts a in
-    let later : AreDistinct (ts ++ front) = AreDistinct-swap front ts (AreDistinct-append front ts (AreDistinct-left front rest ws) (AreDistinct-right (front ++ rest) ts a) (λ x h. across x (is_in-left x front rest h))) in
+    let across : (x : ℕ) → is_in x (front ++ rest) ≡ true → is_in x ts ≡ false = distinct-apart (front ++ rest) ts a in
+    let later : AreDistinct (ts ++ front) = AreDistinct-swap front ts (distinct-append front ts (AreDistinct-left front rest ws) (AreDistinct-right (front ++ rest) ts a) (λ x h. across x (is_in-left x front rest h))) in
     let swapped : AreDistinct (rest ++ front) = AreDistinct-swap front rest ws in
-    AreDistinct-append rest (ts ++ front) (AreDistinct-right front rest ws) later (λ x h. not_in-append x ts front (across x (is_in-right x front rest h)) (AreDistinct-apart rest front swapped x h))
+    distinct-append rest (ts ++ front) (AreDistinct-right front rest ws) later (λ x h. not_in-append x ts front (across x (is_in-right x front rest h)) (distinct-apart rest front swapped x h))
 
 -- places
 
@@ -166,22 +165,4 @@ AreDistinct-take n xs a = AreDistinct-left (take n xs) (drop n xs) (subst AreDis
 
 -- the last of distinct files is none of the others
 pub last_is_new : (x : ℕ) (xs : List ℕ) → AreDistinct (xs ++ x ∷ []) → is_in x xs ≡ false
-last_is_new x xs a = AreDistinct-apart (x ∷ []) xs (AreDistinct-swap xs (x ∷ []) a) x (or_left (x == x) false (eqb_itself x))
-
--- for callers of `put`
-
-pub is_in-from_IsIn : (x : ℕ) (xs : List ℕ) → IsIn x xs → is_in x xs ≡ true
-is_in-from_IsIn x xs h = list_any-from_IsIn (λ g. x == g) x xs h (eqb_itself x)
-
-pub IsIn-from_is_in : (x : ℕ) (xs : List ℕ) → is_in x xs ≡ true → IsIn x xs
-IsIn-from_is_in x xs h =
-    let found : (y : ℕ) × IsIn y xs × ((x == y) ≡ true) = IsIn-from_list_any (λ g. x == g) xs h in
-    let P : ℕ → Type 0 = λ y. IsIn y xs in
-    subst P (sym (eqb-true x found.0 found.2)) found.1
-
--- files that ascend are distinct
-pub AreDistinct-from_ascending : (xs : List ℕ) → IsAscendingSet xs → AreDistinct xs
-AreDistinct-from_ascending [] a = tt
-AreDistinct-from_ascending (x ∷ xs) a =
-    let absent : is_in x xs ≡ true → ⊥ = λ h. let l : x < x = ltb-true x x (ComesBefore-at nat_lt x x xs a.0 (IsIn-from_is_in x xs h)) in omega arith in
-    (false_from_ne_true (is_in x xs) absent, AreDistinct-from_ascending xs a.1)
+last_is_new x xs a = distinct-apart (x ∷ []) xs (AreDistinct-swap xs (x ∷ []) a) x (or_left (x == x) false (eqb_itself x))

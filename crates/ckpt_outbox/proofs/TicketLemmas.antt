@@ -16,9 +16,10 @@ use Rattle.std.proofs.lemmas.Bool.{cases_Bool, cases_lt, both_ways, eqb-true, lt
 use Rattle.std.proofs.lemmas.Map.Keys.{sorted_head, sorted_tail}
 use Rattle.ckpt_outbox.specs.declared.places.Place.{Place}
 use Rattle.ckpt_outbox.specs.declared.places.Place.TheVariants.{Waiting, Taken}
-use Rattle.ckpt_outbox.specs.Queues.{is_in, AreDistinct, without}
+use Rattle.ckpt_outbox.specs.Queues.{is_in, without}
 use Rattle.ckpt_outbox.specs.Places.{taken_place, place_of, ticketed, ticket_of, AreBelow}
-use Rattle.ckpt_outbox.proofs.QueueLemmas.{eqb_flip, eqb_itself, without_absent, no_taken_place, taken_place-append, place_of-put, is_some_taken_place, is_in-append, not_in-parts, AreDistinct-apart, AreDistinct-swap, distinct_taken}
+use Rattle.ckpt_outbox.proofs.QueueLemmas.{eqb_flip, eqb_itself, without_absent, no_taken_place, taken_place-append, place_of-put, is_some_taken_place, is_in-append, not_in-parts, distinct-apart, AreDistinct-swap, distinct_taken, not_in}
+use Rattle.ckpt_ids.specs.Ordered.{AreDistinct}
 
 -- comparisons
 
@@ -70,7 +71,7 @@ values-removed f t (e ∷ es) o a h =
     let R : Bool → List ℕ = λ b. cond (not b) (e.1 ∷ without f (values_of es)) (without f (values_of es)) in
     let here : (f == e.1) ≡ true → Q (is_at (nat_cmp t) e.0) = λ (j : (f == e.1) ≡ true).
     let at : is_at (nat_cmp t) e.0 ≡ true = at_itself t e.0 (sym (same_ticket e.0 t (subst P j h))) in
-    let absent : is_in f (values_of es) ≡ false = ap (λ z. is_in z (values_of es)) (eqb-true f e.1 j) ∙ a.0 in
+    let absent : is_in f (values_of es) ≡ false = ap (λ z. is_in z (values_of es)) (eqb-true f e.1 j) ∙ not_in e.1 (values_of es) a.0 in
     subst Q (sym at) (sym (ap R (eqb_flip e.1 f ∙ j) ∙ without_absent f (values_of es) absent)) in
     let later : (f == e.1) ≡ false → Q (is_at (nat_cmp t) e.0) = λ (j : (f == e.1) ≡ false).
     let rest : taken_place f es ≡ Some (Taken t) = subst P j h in
@@ -87,7 +88,7 @@ taken_place-removed f t x (e ∷ es) o a h =
     let Goal : Bool → Bool → Option Place → Type 0 = λ b d p. p ≡ cond b None (cond d (Some (Taken e.0)) (taken_place x es)) in
     let here : (f == e.1) ≡ true → Q (is_at (nat_cmp t) e.0) = λ (j : (f == e.1) ≡ true).
     let at : is_at (nat_cmp t) e.0 ≡ true = at_itself t e.0 (sym (same_ticket e.0 t (subst P j h))) in
-    let absent : is_in f (values_of es) ≡ false = ap (λ z. is_in z (values_of es)) (eqb-true f e.1 j) ∙ a.0 in
+    let absent : is_in f (values_of es) ≡ false = ap (λ z. is_in z (values_of es)) (eqb-true f e.1 j) ∙ not_in e.1 (values_of es) a.0 in
     let same : (f == x) ≡ true → Goal (f == x) (x == e.1) (taken_place x es) = λ (i : (f == x) ≡ true).
     subst (λ b. Goal b (x == e.1) (taken_place x es)) (sym i) (no_taken_place x es (ap (λ z. is_in z (values_of es)) (sym (eqb-true f x i)) ∙ absent)) in
     let other : (f == x) ≡ false → Goal (f == x) (x == e.1) (taken_place x es) = λ (i : (f == x) ≡ false).
@@ -150,7 +151,7 @@ index_added (Some p) b g f e = ap (λ z. option_or z g) (f refl) ∙ sym e
 pub index_added_at : (n x : ℕ) (es : List (ℕ × ℕ)) (xs : List ℕ) (g : Option Place) → AreDistinct (values_of es ++ xs) → option_or (taken_place x es) g ≡ g → option_or (taken_place x (ticketed n xs)) g ≡ option_or (taken_place x (es ++ ticketed n xs)) g
 index_added_at n x es xs g a e =
     let none : is_some (taken_place x es) ≡ true → taken_place x (ticketed n xs) ≡ None = λ h.
-    no_taken_place x (ticketed n xs) (ap (is_in x) (values-ticketed n xs) ∙ AreDistinct-apart (values_of es) xs a x (sym (is_some_taken_place x es) ∙ h)) in
+    no_taken_place x (ticketed n xs) (ap (is_in x) (values-ticketed n xs) ∙ distinct-apart (values_of es) xs a x (sym (is_some_taken_place x es) ∙ h)) in
     index_added (taken_place x es) (taken_place x (ticketed n xs)) g none e ∙ ap (λ z. option_or z g) (sym (taken_place-append x es (ticketed n xs)))
 
 -- one more file has its ticket
@@ -159,7 +160,7 @@ index_pushed n m x y xs g a e =
     let old : Option Place = taken_place x (ticketed n xs) in
     let P : Bool → Type 0 = λ b. cond b (Some (Taken m)) (option_or old g) ≡ option_or (option_or old (cond b (Some (Taken m)) None)) g in
     let none : (y == x) ≡ true → old ≡ None = λ (h : (y == x) ≡ true).
-    no_taken_place x (ticketed n xs) (ap (is_in x) (values-ticketed n xs) ∙ ap (λ z. is_in z xs) (sym (eqb-true y x h)) ∙ AreDistinct-apart (y ∷ []) xs (AreDistinct-swap xs (y ∷ []) a) y (or_left (y == y) false (eqb_itself y))) in
+    no_taken_place x (ticketed n xs) (ap (is_in x) (values-ticketed n xs) ∙ ap (λ z. is_in z xs) (sym (eqb-true y x h)) ∙ distinct-apart (y ∷ []) xs (AreDistinct-swap xs (y ∷ []) a) y (or_left (y == y) false (eqb_itself y))) in
     let here : (y == x) ≡ true → P (y == x) = λ (h : (y == x) ≡ true). subst P (sym h) (sym (ap (λ z. option_or (option_or z (Some (Taken m))) g) (none h))) in
     let nil : (o : Option Place) → option_or o g ≡ option_or (option_or o None) g = λ o. elim o as (λ o. option_or o g ≡ option_or (option_or o None) g) [ None ↦ refl | Some p ↦ refl ] in
     let there : (y == x) ≡ false → P (y == x) = λ (h : (y == x) ≡ false). subst P (sym h) (nil old) in
@@ -179,7 +180,7 @@ place_of-taken x front rest es fs a e =
     let far : AreDistinct (rest ++ (values_of es ++ front)) = distinct_taken front rest (values_of es) a in
     let Goal : Option Place → Type 0 = λ p. option_or p (place_of (front ++ rest) es x) ≡ cond (is_in x rest) (Some Waiting) p in
     let taken : is_in x (values_of es ++ front) ≡ true → Goal (taken_place x fs) = λ (h : is_in x (values_of es ++ front) ≡ true).
-    let moved : is_in x rest ≡ false = AreDistinct-apart (values_of es ++ front) rest (AreDistinct-swap rest (values_of es ++ front) far) x h in
+    let moved : is_in x rest ≡ false = distinct-apart (values_of es ++ front) rest (AreDistinct-swap rest (values_of es ++ front) far) x h in
     let some : is_some (taken_place x fs) ≡ true = is_some_taken_place x fs ∙ ap (is_in x) e ∙ h in
     let whole : (p : Option Place) → is_some p ≡ true → option_or p (place_of (front ++ rest) es x) ≡ p = λ p. elim p as (λ p. is_some p ≡ true → option_or p (place_of (front ++ rest) es x) ≡ p) [ None ↦ λ k. absurd (both_ways false refl k) | Some q ↦ λ k. refl ] in
     whole (taken_place x fs) some ∙ sym (cond-false (is_in x rest) (Some Waiting) (taken_place x fs) moved) in
@@ -222,7 +223,7 @@ list_any_flip x (y ∷ ys) = ap (λ b. b || list_any (λ g. g == x) ys) (eqb_fli
 pub is_some_ticket : (x : ℕ) (ws : List ℕ) (es : List (ℕ × ℕ)) → AreDistinct (ws ++ values_of es) → is_some (ticket_of (place_of ws es x)) ≡ list_any (λ g. g == x) (values_of es)
 is_some_ticket x ws es a =
     let P : Bool → Type 0 = λ b. is_some (ticket_of (cond b (Some Waiting) (taken_place x es))) ≡ is_in x (values_of es) in
-    let waits : is_in x ws ≡ true → P (is_in x ws) = λ (k : is_in x ws ≡ true). subst P (sym k) (sym (AreDistinct-apart ws (values_of es) a x k)) in
+    let waits : is_in x ws ≡ true → P (is_in x ws) = λ (k : is_in x ws ≡ true). subst P (sym k) (sym (distinct-apart ws (values_of es) a x k)) in
     let same : (es : List (ℕ × ℕ)) → is_some (ticket_of (taken_place x es)) ≡ is_some (taken_place x es) = λ es. tickets_only x es in
     let not_waits : is_in x ws ≡ false → P (is_in x ws) = λ (k : is_in x ws ≡ false). subst P (sym k) (same es ∙ is_some_taken_place x es) in
     ⊎_elim waits not_waits (cases_Bool (is_in x ws)) ∙ sym (list_any_flip x (values_of es))

@@ -9,7 +9,8 @@ use Rattle.std.specs.Option.{option_or}
 use Rattle.std.specs.Map.{keys_of, values_of}
 use Rattle.ckpt_outbox.specs.declared.places.Place.{Place}
 use Rattle.ckpt_outbox.specs.declared.places.Place.TheVariants.{Waiting, Taken}
-use Rattle.ckpt_outbox.specs.Queues.{is_in, AreDistinct}
+use Rattle.ckpt_outbox.specs.Queues.{is_in}
+use Rattle.ckpt_ids.specs.Ordered.{AreDistinct}
 
 -- the place of a taken file: its ticket
 abbrev pub taken_place : ℕ → List (ℕ × ℕ) → Option Place

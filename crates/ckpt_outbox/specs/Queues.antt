@@ -1,5 +1,5 @@
 -- The two queues of an outbox.
-use Rattle.std.specs.Prelude.{◌≡◌, ℕ, Bool, false, not, ◌==◌, List, [], ◌∷◌, ◌++◌}
+use Rattle.std.specs.Prelude.{ℕ, Bool, not, ◌==◌, List, ◌++◌}
 use Rattle.std.specs.List.{list_any, filter}
 
 pub record Queues : Type 0 where
@@ -13,11 +13,6 @@ pub record Queues : Type 0 where
 -- whether the file is one of these
 abbrev pub is_in : ℕ → List ℕ → Bool
 is_in file files = list_any (λ g. file == g) files
-
--- no file stands twice
-abbrev pub AreDistinct : List ℕ → Type 0
-AreDistinct [] = Unit {0}
-AreDistinct (file ∷ files) = (is_in file files ≡ false) × AreDistinct files
 
 -- whether the file waits or is taken
 abbrev pub is_known : Queues → ℕ → Bool

@@ -1,6 +1,7 @@
 ghost use Rattle.std.specs.Prelude.{◌≡◌, ◌≤◌, ◌<◌, ◌+◌, ◌-◌, ◌^◌, ◌↔◌, ◌++◌, ◌∷◌, ℕ, [], true, false, max, min, length, take, drop, IsErr, IfOk, OnOk, OnErr};
 ghost use Rattle.std.specs.VecDeque.{deque_capacity};
-ghost use Rattle.ckpt_outbox.specs.Queues.{Queues, is_in, is_known, is_taken, without, AreDistinct};
+ghost use Rattle.ckpt_outbox.specs.Queues.{Queues, is_in, is_known, is_taken, without};
+ghost use Rattle.ckpt_ids.specs.Ordered.{AreDistinct};
 
 use crate::places::{Index, Place, note, note_new, ticket};
 use crate::tickets::{Tickets, give};
@@ -211,6 +212,13 @@ impl Outbox {
         ensures { result ≡ length self.now.waiting }
     {
         self.waiting.len() as u64
+    }
+
+    /// How many files are taken.
+    pub fn taken(&self) -> u64
+        ensures { result ≡ length self.now.taken }
+    {
+        self.taken.files.len() as u64
     }
 }
 

@@ -2,8 +2,9 @@ ghost use Rattle.std.specs.Prelude.{◌≡◌, ◌<◌, ◌≤◌, ◌+◌, ◌^
 ghost use Rattle.std.specs.Option.{option_or};
 ghost use Rattle.std.specs.HashMap as hash;
 ghost use Rattle.std.specs.HashMap.{spare};
-ghost use Rattle.ckpt_outbox.specs.Queues.{AreDistinct, is_in};
+ghost use Rattle.ckpt_outbox.specs.Queues.{is_in};
 ghost use Rattle.ckpt_outbox.specs.Places.{taken_place, ticketed, ticket_of};
+ghost use Rattle.ckpt_ids.specs.Ordered.{AreDistinct};
 
 use ckpt_hash::Secret;
 use ckpt_ids::FileId;

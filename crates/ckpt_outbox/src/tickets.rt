@@ -5,8 +5,9 @@ ghost use Rattle.std.specs.BTreeMap.{IsOrdered};
 ghost use Rattle.std.specs.Ordering.{nat_cmp};
 ghost use Rattle.std.specs.HashMap as hash;
 ghost use Rattle.std.specs.HashMap.{spare};
-ghost use Rattle.ckpt_outbox.specs.Queues.{AreDistinct, is_in};
+ghost use Rattle.ckpt_outbox.specs.Queues.{is_in};
 ghost use Rattle.ckpt_outbox.specs.Places.{taken_place, ticketed, AreBelow, HasTickets};
+ghost use Rattle.ckpt_ids.specs.Ordered.{AreDistinct};
 
 use crate::places::{Index, note_taken};
 use ckpt_ids::FileId;

@@ -11,7 +11,8 @@ use Rattle.ckpt_ids.specs.Records.{Record, missing, has_acknowledged, IsFull}
 use Rattle.ckpt_ids.proofs.OrderLemmas.{subtasks_in_order, same_subtask-Decides}
 use Rattle.ckpt_ids.proofs.OrderedLemmas.{same_from_members, IsInOrder-map, IsIn-map, IsIn-from_map, IsIn-from_list_any, list_any-from_IsIn}
 use Rattle.ckpt_pending.specs.Acknowledging.{IsPending}
-use Rattle.ckpt_pending.proofs.SubtaskLemmas.{IsInOrder-subtasks, IsIn-subtasks, none_counted, count_by_none, count_by-cons, one_if}
+use Rattle.ckpt_pending.proofs.SubtaskLemmas.{IsInOrder-subtasks, IsIn-subtasks, none_counted, count_by-cons, one_if}
+use Rattle.ckpt_ids.proofs.CountLemmas.{count_by-none}
 
 -- a subtask of a full record has acknowledged
 IsIn-acknowledged : (r : Record) (s : SubtaskId) → has_acknowledged r s ≡ true → IsIn s (map (λ a. a.subtask) r.acks)
@@ -36,7 +37,7 @@ full_from_missing r p none =
 -- the converse
 pub missing_from_full : (r : Record) → IsFull r → missing r ≡ 0
 missing_from_full r full =
-    count_by_none (λ s. not (has_acknowledged r s)) (subtasks r.shape)
+    count_by-none (λ s. not (has_acknowledged r s)) (subtasks r.shape)
     (λ s h.
     let P : List SubtaskId → Type 0 = λ xs. IsIn s xs in
     let q = IsIn-from_map (λ (a : Acked). a.subtask) s r.acks (subst P (sym full) h) in

@@ -98,10 +98,3 @@ none_counted {X} p x (y ∷ xs) e (inl same) =
     let one : p y ≡ true → p x ≡ false = λ (t : p y ≡ true). let here : one_if (p y) ≡ 1 = ap one_if t in absurd (omega (arith, count_by-cons p y xs)) in
     ⊎_elim one (λ (t : p y ≡ false). ap p same ∙ t) (cases_Bool (p y))
 none_counted p x (y ∷ xs) e (inr h) = none_counted p x xs (omega (arith, count_by-cons p y xs)) h
-
-pub count_by_none : {X : Type 0} (p : X → Bool) (xs : List X) → ((x : X) → IsIn x xs → p x ≡ false) → count_by p xs ≡ 0
-count_by_none p [] f = refl
-count_by_none p (x ∷ xs) f =
-    let rest : count_by p xs ≡ 0 = count_by_none p xs (λ y h. f y (inr h)) in
-    let here : one_if (p x) ≡ 0 = ap one_if (f x (inl refl)) in
-    omega (arith, count_by-cons p x xs)

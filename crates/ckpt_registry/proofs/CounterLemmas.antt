@@ -8,7 +8,8 @@ use Rattle.std.proofs.lemmas.Bool.{false≢true}
 use Rattle.std.specs.Map.{lookup}
 use Rattle.indexmap.specs.IndexMap.{get}
 use Rattle.ckpt_registry.proofs.ListLemmas.{one_if, one_if-true, one_if-false}
-use Rattle.ckpt_registry.specs.Counters.{Counts, counter, counted_once, times, AreInRange}
+use Rattle.ckpt_registry.specs.Counters.{Counts, counter, counted_once, AreInRange}
+use Rattle.ckpt_ids.specs.Counting.{times}
 
 -- n has w at k, and else what m has
 abbrev pub Sets : Counts → Counts → ℕ → Option ℕ → Type 0

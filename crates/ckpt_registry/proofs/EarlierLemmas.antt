@@ -8,11 +8,11 @@ use Rattle.std.specs.Bool.{MatchBool}
 use Rattle.ckpt_ids.specs.Ascending.{IsAscending}
 use Rattle.ckpt_ids.specs.Records.{Use, Holder, count, is_present, use_before}
 use Rattle.ckpt_ids.proofs.OrderedLemmas.{IsIn-append_cases, IsIn-from_map, IsIn-from_in_order_once, IsIn-from_filter}
-use Rattle.ckpt_registry.specs.Counters.{times}
 use Rattle.ckpt_registry.specs.Earlier.{AreBefore, IsPinnable, IsUsable}
 use Rattle.ckpt_registry.specs.Uses.{HasNoUse, triples, is_owned, is_ended, without, after_end}
-use Rattle.ckpt_ids.proofs.CountLemmas.{count_by-append}
-use Rattle.ckpt_registry.proofs.RegistryLemmas.{IsIn-from_times, IsAscendingSet-from_once}
+use Rattle.ckpt_ids.proofs.CountLemmas.{count_by-append, IsIn-from_times}
+use Rattle.ckpt_registry.proofs.RegistryLemmas.{IsAscendingSet-from_once}
+use Rattle.ckpt_ids.specs.Counting.{times}
 
 list_all_at : (p : ℕ → Bool) (xs : List ℕ) → list_all p xs ≡ true → (x : ℕ) → IsIn x xs → p x ≡ true
 list_all_at p [] h x k = absurd k

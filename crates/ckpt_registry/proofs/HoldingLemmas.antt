@@ -16,14 +16,14 @@ use Rattle.std.proofs.lemmas.Map.Lookups.{exact_unsigned}
 use Rattle.std.proofs.lemmas.Option.{none-some, same_Some}
 use Rattle.ckpt_ids.specs.Ordered.{IsIn}
 use Rattle.ckpt_ids.specs.Records.{Use, count}
-use Rattle.ckpt_ids.proofs.OrderedLemmas.{IsIn-append_cases, IsIn-from_map}
+use Rattle.ckpt_ids.proofs.OrderedLemmas.{IsIn-append_cases, IsIn-from_map, filter-all, filter-same}
 use Rattle.ckpt_registry.specs.declared.holdings.Holder.{Holder}
 use Rattle.ckpt_registry.specs.declared.holdings.Held.{Held}
 use Rattle.std.specs.declared.vec.Vec.{Vec}
 use Rattle.ckpt_registry.specs.Holdings.{holder_of, use_of, uses_by, uses_in, times_held, with_holder}
 use Rattle.ckpt_registry.specs.Uses.{triples, is_owned, without, without_record}
 use Rattle.ckpt_ids.proofs.CountLemmas.{count_by-append, count_by-map}
-use Rattle.ckpt_registry.proofs.ListLemmas.{filter-all, filter-none, filter-same, filter-filter}
+use Rattle.ckpt_registry.proofs.ListLemmas.{filter-none, filter-filter}
 
 abbrev Entry : Type 0
 Entry = ℕ × Vec Held Global

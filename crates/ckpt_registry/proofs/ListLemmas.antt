@@ -2,9 +2,9 @@
 use Rattle.std.proofs.Common.{◌≡◌, ℕ, ◌+◌, ◌<◌, ◌≤◌, Bool, true, false, not, cond, ◌&&◌, List, [], ◌∷◌, ◌++◌, refl, sym, ap, subst, ◌∙◌, ◌⊎◌, inl, inr, ⊎_elim, arith, count_by}
 use Rattle.std.specs.List.{filter}
 use Rattle.std.proofs.lemmas.Bool.{cases_Bool, cases_lt, both_ways, cond-true, cond-false}
-use Rattle.ckpt_ids.specs.Ordered.{IsIn, IsInOrder, put_once, in_order_once, IsStrictOrder}
+use Rattle.ckpt_ids.specs.Ordered.{IsIn, IsInOrder, put_once, in_order_once, IsStrictOrder, AreDistinct}
 use Rattle.ckpt_ids.proofs.CountLemmas.{count_by-cons, count_by-append}
-use Rattle.ckpt_ids.proofs.OrderedLemmas.{IsIn-append_left, IsIn-append_right, IsIn-append_cases, IsIn-filter, IsIn-from_filter, IsInOrder-filter, IsInOrder-in_order_once, IsIn-in_order_once, IsIn-from_in_order_once, ComesBefore-at, same_from_members}
+use Rattle.ckpt_ids.proofs.OrderedLemmas.{IsIn-append_left, IsIn-append_right, IsIn-append_cases, IsIn-filter, IsIn-from_filter, IsInOrder-filter, IsInOrder-in_order_once, IsIn-in_order_once, IsIn-from_in_order_once, ComesBefore-at, same_from_members, AreDistinct-append, AreDistinct-from_order}
 
 -- a test as a number
 abbrev pub one_if : Bool → ℕ
@@ -32,20 +32,9 @@ module _ {X : Type 0} where
       let same : one_if (q x && p x) ≡ 0 = ap (λ b. one_if (b && p x)) e in omega arith in
       ⊎_elim kept gone (cases_Bool (q x))
 
-  pub filter-all : (q : X → Bool) (xs : List X) → ((x : X) → IsIn x xs → q x ≡ true) → filter q xs ≡ xs
-  filter-all q [] h = refl
-  filter-all q (x ∷ xs) h = cond-true (q x) (x ∷ filter q xs) (filter q xs) (h x (inl refl)) ∙ ap (λ ys. x ∷ ys) (filter-all q xs (λ y k. h y (inr k)))
-
   pub filter-none : (q : X → Bool) (xs : List X) → ((x : X) → IsIn x xs → q x ≡ false) → filter q xs ≡ []
   filter-none q [] h = refl
   filter-none q (x ∷ xs) h = cond-false (q x) (x ∷ filter q xs) (filter q xs) (h x (inl refl)) ∙ filter-none q xs (λ y k. h y (inr k))
-
-  -- two tests that agree on the elements keep the same
-  pub filter-same : (p q : X → Bool) (xs : List X) → ((x : X) → IsIn x xs → p x ≡ q x) → filter p xs ≡ filter q xs
-  filter-same p q [] h = refl
-  filter-same p q (x ∷ xs) h =
-      let rest : filter p xs ≡ filter q xs = filter-same p q xs (λ y k. h y (inr k)) in
-      ap (λ b. cond b (x ∷ filter p xs) (filter p xs)) (h x (inl refl)) ∙ ap (λ ys. cond (q x) (x ∷ ys) ys) rest
 
   pub filter-filter : (p q : X → Bool) (xs : List X) → filter p (filter q xs) ≡ filter (λ x. q x && p x) xs
   filter-filter p q [] = refl
@@ -56,21 +45,7 @@ module _ {X : Type 0} where
       let gone : q x ≡ false → Goal (q x) = λ (e : q x ≡ false). subst Goal (sym e) rest in
       ⊎_elim kept gone (cases_Bool (q x))
 
-  -- no element stands twice
-  abbrev pub AreApart : List X → Type 0
-  AreApart [] = Unit {0}
-  AreApart (x ∷ xs) = (IsIn x xs → ⊥) × AreApart xs
-
-  pub AreApart-append : (xs ys : List X) → AreApart xs → AreApart ys → ((x : X) → IsIn x xs → IsIn x ys → ⊥) → AreApart (xs ++ ys)
-  AreApart-append [] ys a b f = b
-  AreApart-append (x ∷ xs) ys a b f =
-      (λ h. ⊎_elim a.0 (λ (k : IsIn x ys). f x (inl refl) k) (IsIn-append_cases x xs ys h), AreApart-append xs ys a.1 b (λ y h k. f y (inr h) k))
-
 module _ {X : Type 0} {before : X → X → Bool} (o : IsStrictOrder before) where
-  pub AreApart-from_order : (xs : List X) → IsInOrder before xs → AreApart xs
-  AreApart-from_order [] a = tt
-  AreApart-from_order (x ∷ xs) a = (λ h. both_ways (before x x) (o.irreflexive x) (ComesBefore-at before x x xs a.0 h), AreApart-from_order xs a.1)
-
   count_by-put_once : (p : X → Bool) (x : X) (xs : List X) → (IsIn x xs → ⊥) → count_by p (put_once before x xs) ≡ one_if (p x) + count_by p xs
   count_by-put_once p x [] new = count_by-cons p x []
   count_by-put_once p x (y ∷ xs) new =
@@ -85,7 +60,7 @@ module _ {X : Type 0} {before : X → X → Bool} (o : IsStrictOrder before) whe
       ⊎_elim later here (cases_Bool (before y x))
 
   -- a list whose elements differ keeps all of them when it is put in order
-  pub count_by-in_order_once : (p : X → Bool) (xs : List X) → AreApart xs → count_by p (in_order_once before xs) ≡ count_by p xs
+  pub count_by-in_order_once : (p : X → Bool) (xs : List X) → AreDistinct xs → count_by p (in_order_once before xs) ≡ count_by p xs
   count_by-in_order_once p [] a = refl
   count_by-in_order_once p (x ∷ xs) a =
       omega (arith, count_by-put_once p x (in_order_once before xs) (λ h. a.0 (IsIn-from_in_order_once before x xs h)), count_by-in_order_once p xs a.1, count_by-cons p x xs)
@@ -158,9 +133,9 @@ module _ {X : Type 0} {before : X → X → Bool} (o : IsStrictOrder before) (xs
       same_from_members o (in_order_once before ys) (in_order_once before (in_order_once before xs ++ zs)) (IsInOrder-in_order_once o ys) (IsInOrder-in_order_once o (in_order_once before xs ++ zs)) forth back
 
   -- and none stands twice, if none of zs does or is in xs
-  pub count_by-added : ((p : X → Bool) → count_by p xs ≡ count_by p (in_order_once before xs)) → AreApart zs → ((z : X) → IsIn z (in_order_once before xs) → IsIn z zs → ⊥) → (p : X → Bool) → count_by p ys ≡ count_by p (in_order_once before ys)
+  pub count_by-added : ((p : X → Bool) → count_by p xs ≡ count_by p (in_order_once before xs)) → AreDistinct zs → ((z : X) → IsIn z (in_order_once before xs) → IsIn z zs → ⊥) → (p : X → Bool) → count_by p ys ≡ count_by p (in_order_once before ys)
   count_by-added once apart new p =
-      let all : AreApart (in_order_once before xs ++ zs) = AreApart-append (in_order_once before xs) zs (AreApart-from_order o (in_order_once before xs) (IsInOrder-in_order_once o xs)) apart new in
+      let all : AreDistinct (in_order_once before xs ++ zs) = AreDistinct-append (in_order_once before xs) zs (AreDistinct-from_order o (in_order_once before xs) (IsInOrder-in_order_once o xs)) apart new in
       let after : count_by p (in_order_once before ys) ≡ count_by p (in_order_once before (in_order_once before xs ++ zs)) = ap (count_by p) in_order_once-added in
       omega (arith, adds p, once p, count_by-in_order_once o p (in_order_once before xs ++ zs) all, count_by-append p (in_order_once before xs) zs)
 

@@ -12,43 +12,30 @@ use Rattle.std.proofs.lemmas.Bool.{cases_Bool, cases_lt, both_ways, cond-true, c
 use Rattle.std.proofs.lemmas.List.Elements.{filter-append}
 use Rattle.std.proofs.lemmas.Map.Keys.{IsDistinct-head, IsDistinct-tail}
 use Rattle.indexmap.specs.IndexMap.{index_map_len, IsUnique}
-use Rattle.ckpt_ids.specs.Ordered.{IsIn, IsInOrder, in_order_once}
+use Rattle.ckpt_ids.specs.Ordered.{IsIn, IsInOrder, in_order_once, AreDistinct}
 use Rattle.ckpt_ids.specs.Ascending.{IsAscending, IsAscendingSet, ascending_set}
 use Rattle.ckpt_ids.specs.declared.subtask.SubtaskId.{SubtaskId}
 use Rattle.ckpt_ids.specs.Records.{Use, Holder, Subtask, Pin, count, is_present, released, same_holder, use_before}
-use Rattle.ckpt_ids.proofs.OrderedLemmas.{IsIn-from_map, IsIn-filter, IsIn-from_filter, IsIn-in_order_once, IsIn-from_in_order_once, IsInOrder-in_order_once, IsInOrder-filter, ComesBefore-at, ComesBefore-from, same_from_members}
+use Rattle.ckpt_ids.proofs.OrderedLemmas.{IsIn-from_map, IsIn-filter, IsIn-from_filter, IsIn-in_order_once, IsIn-from_in_order_once, IsInOrder-in_order_once, IsInOrder-filter, ComesBefore-at, ComesBefore-from, same_from_members, filter-same}
 use Rattle.ckpt_ids.proofs.AscendingLemmas.{numbers_in_order, IsAscending-from_sorted}
 use Rattle.ckpt_ids.proofs.OrderLemmas.{uses_in_order}
-use Rattle.ckpt_registry.specs.Counters.{Counts, counter, counted_once, times, AreInRange}
+use Rattle.ckpt_registry.specs.Counters.{Counts, counter, counted_once, AreInRange}
 use Rattle.ckpt_registry.specs.Holdings.{Holdings, uses_in}
 use Rattle.ckpt_registry.specs.Sound.{stored, in_use, StandsOnce, IsSound}
 use Rattle.ckpt_registry.specs.Uses.{IsEachOnce, HasNoUse, triples, is_owned, is_ended, without, without_record, after_end}
 use Rattle.ckpt_registry.proofs.CounterLemmas.{get-from_counter, counted_once-above, counted_once-zero, counted_once-le, above_from_counted_once, zero_from_counted_once}
-use Rattle.ckpt_ids.proofs.CountLemmas.{count_by-cons, count_by-append, count_by-map}
-use Rattle.ckpt_registry.proofs.ListLemmas.{one_if, one_if-true, one_if-false, AreApart, count_by-in_order_once, in_order_once-filter, count_by-added, in_order_once-added, IsIn-from_added, count_by-filtered, filter-same, filter-filter}
+use Rattle.ckpt_ids.proofs.CountLemmas.{count_by-cons, count_by-append, count_by-map, times-from_IsIn, IsIn-from_times}
+use Rattle.ckpt_registry.proofs.ListLemmas.{one_if, one_if-true, one_if-false, count_by-in_order_once, in_order_once-filter, count_by-added, in_order_once-added, IsIn-from_added, count_by-filtered, filter-filter}
+use Rattle.ckpt_ids.specs.Counting.{times}
 
 -- numbers and how often they stand
 
-pub times-from_IsIn : (x : ℕ) (xs : List ℕ) → IsIn x xs → 0 < times x xs
-times-from_IsIn x [] h = absurd h
-times-from_IsIn x (y ∷ xs) (inl e) =
-    let one : one_if (eqb y x) ≡ 1 = one_if-true (eqb y x) (eq-eqb y x (sym e)) in omega (arith, count_by-cons (λ z. eqb z x) y xs)
-times-from_IsIn x (y ∷ xs) (inr h) = omega (arith, count_by-cons (λ z. eqb z x) y xs, times-from_IsIn x xs h)
-
-pub IsIn-from_times : (x : ℕ) (xs : List ℕ) → 0 < times x xs → IsIn x xs
-IsIn-from_times x [] h = absurd (omega arith)
-IsIn-from_times x (y ∷ xs) h =
-    let here : eqb y x ≡ true → IsIn x (y ∷ xs) = λ (e : eqb y x ≡ true). inl (sym (eqb-true y x e)) in
-    let later : eqb y x ≡ false → IsIn x (y ∷ xs) = λ (e : eqb y x ≡ false).
-    let none : one_if (eqb y x) ≡ 0 = one_if-false (eqb y x) e in inr (IsIn-from_times x xs (omega (arith, count_by-cons (λ z. eqb z x) y xs))) in
-    ⊎_elim here later (cases_Bool (eqb y x))
-
-pub AreApart-from_times : (xs : List ℕ) → IsEachOnce xs → AreApart xs
-AreApart-from_times [] h = tt
-AreApart-from_times (x ∷ xs) h =
+pub AreDistinct-from_times : (xs : List ℕ) → IsEachOnce xs → AreDistinct xs
+AreDistinct-from_times [] h = tt
+AreDistinct-from_times (x ∷ xs) h =
     let one : one_if (eqb x x) ≡ 1 = one_if-true (eqb x x) (eq-eqb x x refl) in (
       λ k. absurd (omega (arith, h x, count_by-cons (λ z. eqb z x) x xs, times-from_IsIn x xs k)),
-      AreApart-from_times xs (λ y. omega (arith, h y, count_by-cons (λ z. eqb z y) x xs)),
+      AreDistinct-from_times xs (λ y. omega (arith, h y, count_by-cons (λ z. eqb z y) x xs)),
     )
 
 pub IsEachOnce-from_ascending : (xs : List ℕ) → IsAscendingSet xs → IsEachOnce xs
@@ -66,7 +53,7 @@ IsEachOnce-from_ascending (x ∷ xs) a = λ y.
 pub IsAscendingSet-from_once : (xs : List ℕ) → IsAscending xs → IsEachOnce xs → IsAscendingSet xs
 IsAscendingSet-from_once [] a h = tt
 IsAscendingSet-from_once (x ∷ xs) a h =
-    let apart = AreApart-from_times (x ∷ xs) h in
+    let apart = AreDistinct-from_times (x ∷ xs) h in
     let above : (y : ℕ) → IsIn y xs → ltb x y ≡ true = λ y k.
     let up : x ≤ y = leb-true x y (ComesBefore-at leb x y xs a.0 k) in
     let P : ℕ → Type 0 = λ z. IsIn z xs in
@@ -88,12 +75,12 @@ file_from_count f us h = let same : count us f ≡ times f (map file_of us) = sy
 pub count-triples : (id : ℕ) (holder : Holder) (files : List ℕ) (f : ℕ) → count (triples id holder files) f ≡ times f files
 count-triples id holder files f = let make : ℕ → Use = λ x. record { id = id; holder = holder; file = x } in count_by-map (λ (u : Use). eqb u.file f) make files
 
-AreApart-triples : (id : ℕ) (holder : Holder) (files : List ℕ) → AreApart files → AreApart (triples id holder files)
-AreApart-triples id holder [] a = tt
-AreApart-triples id holder (x ∷ files) a =
+AreDistinct-triples : (id : ℕ) (holder : Holder) (files : List ℕ) → AreDistinct files → AreDistinct (triples id holder files)
+AreDistinct-triples id holder [] a = tt
+AreDistinct-triples id holder (x ∷ files) a =
     let make : ℕ → Use = λ y. record { id = id; holder = holder; file = y } in (
       λ h. let q = IsIn-from_map make (make x) files h in let P : ℕ → Type 0 = λ z. IsIn z files in let same : x ≡ q.0 = ap file_of q.2 in a.0 (subst P (sym same) q.1),
-      AreApart-triples id holder files a.1,
+      AreDistinct-triples id holder files a.1,
     )
 
 triples-holder : (id : ℕ) (holder : Holder) (files : List ℕ) (u : Use) → IsIn u (triples id holder files) → (u.id ≡ id) × (u.holder ≡ holder)
@@ -133,10 +120,10 @@ all_at P x [] a h = absurd h
 all_at P x (y ∷ xs) a (inl e) = subst P (sym e) a.0
 all_at P x (y ∷ xs) a (inr h) = all_at P x xs a.1 h
 
-AreApart-from_distinct : (ks : List ℕ) → IsDistinct eqb ks → AreApart ks
-AreApart-from_distinct [] h = tt
-AreApart-from_distinct (k ∷ ks) h =
-    (λ q. both_ways (eqb k k) (all_at (λ y. eqb k y ≡ false) k ks (IsDistinct-head eqb k ks h) q) (eq-eqb k k refl), AreApart-from_distinct ks (IsDistinct-tail eqb k ks h))
+AreDistinct-from_distinct : (ks : List ℕ) → IsDistinct eqb ks → AreDistinct ks
+AreDistinct-from_distinct [] h = tt
+AreDistinct-from_distinct (k ∷ ks) h =
+    (λ q. both_ways (eqb k k) (all_at (λ y. eqb k y ≡ false) k ks (IsDistinct-head eqb k ks h) q) (eq-eqb k k refl), AreDistinct-from_distinct ks (IsDistinct-tail eqb k ks h))
 
 count_by-true : (xs : List ℕ) → count_by (λ x. true) xs ≡ length xs
 count_by-true [] = refl
@@ -155,7 +142,7 @@ index_map_len-in_use a p counts room s unique =
     let used : 0 < count (in_use a p) z = count-from_file z (in_use a p) (IsIn-from_in_order_once ltb z files h) in
     IsIn-in_order_once numbers_in_order z keys (key_from_lookup z (counter counts z) counts.entries (get-from_counter counts z (omega (arith, counted z)))) in
     let same : ascending_set keys ≡ ascending_set files = same_from_members numbers_in_order (ascending_set keys) (ascending_set files) (IsInOrder-in_order_once numbers_in_order keys) (IsInOrder-in_order_once numbers_in_order files) forth back in
-    let whole : count_by (λ x. true) (ascending_set keys) ≡ count_by (λ x. true) keys = count_by-in_order_once numbers_in_order (λ x. true) keys (AreApart-from_distinct keys unique) in
+    let whole : count_by (λ x. true) (ascending_set keys) ≡ count_by (λ x. true) keys = count_by-in_order_once numbers_in_order (λ x. true) keys (AreDistinct-from_distinct keys unique) in
     sym (length-map counts.entries (λ e. e.0)) ∙ sym (count_by-true keys) ∙ sym whole ∙ count_by-true (ascending_set keys) ∙ ap length same
 
 -- what is added
@@ -167,7 +154,7 @@ module _ (a p b q : Holdings) (id : ℕ) (holder : Holder) (files : List ℕ) (a
   pub StandsOnce-added : StandsOnce (stored a p) → IsEachOnce files → HasNoUse (in_use a p) id holder → StandsOnce (stored b q)
   StandsOnce-added once each unused =
       count_by-added uses_in_order (stored a p) (stored b q) (triples id holder files) adds once
-      (AreApart-triples id holder files (AreApart-from_times files each))
+      (AreDistinct-triples id holder files (AreDistinct-from_times files each))
       (λ u h k. let same = triples-holder id holder files u k in unused u h same.0 same.1)
 
 -- what is taken away

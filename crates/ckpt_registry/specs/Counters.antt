@@ -10,10 +10,6 @@ Counts = IndexMap ℕ ℕ Secret
 abbrev pub counter : Counts → ℕ → ℕ
 counter m f = unwrap_or (get nat_eq m f) 0
 
--- how often a file stands in a list
-abbrev pub times : ℕ → List ℕ → ℕ
-times f files = count_by (λ x. x == f) files
-
 -- 1 where the file is counted, 0 elsewhere
 abbrev pub counted_once : Counts → ℕ → ℕ
 counted_once m f = if nat_lt 0 (counter m f) then 1 else 0

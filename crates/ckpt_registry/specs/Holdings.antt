@@ -1,5 +1,5 @@
 -- The uses that the maps from a record's number to what it holds stand for.
-use Rattle.std.specs.Prelude.{ℕ, ◌==◌, List, map, count_by}
+use Rattle.std.specs.Prelude.{◌≡◌, ℕ, ◌+◌, Bool, ◌==◌, List, map, count_by}
 use Rattle.std.specs.List.{flat_map}
 use Rattle.std.specs.BTreeMap.{BTreeMap}
 use Rattle.std.specs.declared.vec.Vec.{Vec}
@@ -37,3 +37,7 @@ times_held f held = count_by (λ h. h.file == f) held
 -- these files, as a holder holds them
 abbrev pub with_holder : Holder → List ℕ → List Held
 with_holder holder files = map (λ f. record { holder = holder; file = f }) files
+
+-- the uses after are those before and these, in any order
+abbrev pub Adds : List Use → List Use → List Use → Type 0
+Adds before more after = (p : Use → Bool) → count_by p after ≡ count_by p before + count_by p more

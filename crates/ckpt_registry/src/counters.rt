@@ -2,8 +2,9 @@ ghost use Rattle.std.specs.Prelude.{◌≡◌, ℕ, ◌+◌, ◌^◌, ◌<◌, �
 ghost use Rattle.std.specs.Vec.{vec_capacity};
 ghost use Rattle.indexmap.specs.IndexMap.{index_map_len, spare};
 ghost use Rattle.ckpt_ids.specs.Ordered.{IsIn};
-ghost use Rattle.ckpt_registry.specs.Counters.{counter, counted_once, times, AreInRange};
+ghost use Rattle.ckpt_registry.specs.Counters.{counter, counted_once, AreInRange};
 ghost use Rattle.ckpt_registry.specs.Uses.{IsEachOnce};
+ghost use Rattle.ckpt_ids.specs.Counting.{times};
 
 use ckpt_hash::Secret;
 use ckpt_ids::FileId;

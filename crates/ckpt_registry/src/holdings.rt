@@ -1,12 +1,13 @@
 ghost use Rattle.std.specs.Prelude.{◌≡◌, ℕ, ◌+◌, ◌≤◌, ◌==◌, ◌++◌, Bool, count_by, vec_len, OnOk, OnErr, List, length};
 ghost use Rattle.std.specs.Vec.{vec_capacity};
 ghost use Rattle.indexmap.specs.IndexMap.{index_map_len};
-ghost use Rattle.ckpt_registry.specs.Counters.{counter, counted_once, times, AreInRange};
+ghost use Rattle.ckpt_registry.specs.Counters.{counter, counted_once, AreInRange};
 ghost use Rattle.std.specs.BTreeMap.{IsOrdered};
 ghost use Rattle.std.specs.Ordering.{nat_cmp};
 ghost use Rattle.ckpt_ids.specs.Records.{Use, count};
-ghost use Rattle.ckpt_registry.specs.Holdings.{holder_of, times_held, uses_in, with_holder};
+ghost use Rattle.ckpt_registry.specs.Holdings.{Adds, holder_of, times_held, uses_in, with_holder};
 ghost use Rattle.ckpt_registry.specs.Uses.{triples, without, without_record};
+ghost use Rattle.ckpt_ids.specs.Counting.{times};
 
 use crate::counters::{Counts, lower};
 use ckpt_ids::{CheckpointId, FileId, SubtaskId};
@@ -81,7 +82,7 @@ pub(crate) fn hold(
 ) -> Result<(), AllocError>
     requires { IsOrdered nat_cmp holdings.old }
     ensures ordered { IsOrdered nat_cmp holdings.new }
-    ensures ok { OnOk result ((p : Use → Bool) → count_by p (uses_in holdings.new.entries) ≡ count_by p (uses_in holdings.old.entries) + count_by p (triples id (holder_of holder) (fresh.now ++ reused.now))) }
+    ensures ok { OnOk result (Adds (uses_in holdings.old.entries) (triples id (holder_of holder) (fresh.now ++ reused.now)) (uses_in holdings.new.entries)) }
     ensures err { OnErr result (uses_in holdings.new.entries ≡ uses_in holdings.old.entries) }
 {
     if fresh.is_empty() && reused.is_empty() {

@@ -1,6 +1,6 @@
 ghost use Rattle.std.specs.Prelude.{◌≡◌, ◌+◌, ◌<◌, ◌^◌, max, Some, None};
 ghost use Rattle.ckpt_rules.specs.Moments.{Moments, IsInRange};
-ghost use Rattle.ckpt_rules.specs.Trigger.{gap, limit, hold};
+ghost use Rattle.ckpt_rules.specs.Trigger.{gap, limit, hold, pause_ends};
 
 use crate::hold::Hold;
 use ckpt_ids::Config;
@@ -95,6 +95,16 @@ impl Clock {
         match self.completed {
             Some(completed) if now < completed + config.pause() => Hold::Pause,
             _ => Hold::Go,
+        }
+    }
+
+    /// The moment from which neither the interval nor the pause holds a checkpoint back.
+    pub fn due(&self, config: &Config) -> u64
+        ensures { result ≡ max self.now.due (pause_ends config.now self.now.completed) }
+    {
+        match self.completed {
+            Some(completed) => self.due.max(completed + config.pause()),
+            None => self.due,
         }
     }
 

@@ -1,5 +1,5 @@
 -- What a job can restart from: its completed checkpoints and savepoints.
-use Rattle.std.specs.Prelude.{◌≡◌, ℕ, ◌-◌, ◌^◌, ◌<◌, ◌≤◌, Bool, true, nat_lt, ◌==◌, if◌then◌else◌, List, [], ◌∷◌, length, drop, slice_get, Option, Some, None, IfSome}
+use Rattle.std.specs.Prelude.{◌≡◌, ℕ, ◌-◌, ◌^◌, ◌<◌, ◌≤◌, Bool, true, nat_lt, ◌==◌, if◌then◌else◌, List, [], ◌∷◌, ◌++◌, length, drop, slice_get, Option, Some, None, IfSome}
 use Rattle.std.specs.Option.{option_map}
 use Rattle.std.specs.List.{list_any, find}
 use Rattle.ckpt_ids.specs.declared.numbers.Kind.{Kind}
@@ -68,6 +68,10 @@ lowest (r ∷ records) = Some r.id
 -- the number of the first, where there are more than so many
 abbrev pub past_retained : ℕ → List Record → Option ℕ
 past_retained count records = if nat_lt count (length records) then lowest records else None
+
+-- the store once this checkpoint is complete, with room for so many more records
+abbrev pub completing : Stored → Record → ℕ → Stored
+completing s done spare = record s { checkpoints = retained_of s.retained (s.checkpoints ++ done ∷ []); base = None; spare = spare }
 
 -- the number of the last, which is the greatest where they rise
 abbrev pub greatest : List Record → Option ℕ

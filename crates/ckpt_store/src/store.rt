@@ -2,7 +2,7 @@ ghost use Rattle.std.specs.Prelude.{◌≡◌, ℕ, ◌+◌, ◌-◌, ◌^◌, �
 ghost use Rattle.std.specs.Option.{option_copied};
 ghost use Rattle.ckpt_ids.specs.declared.numbers.Kind.TheVariants as kind;
 ghost use Rattle.ckpt_ids.specs.Ordered.{put};
-ghost use Rattle.ckpt_store.specs.Storing.{Stored, IsStored, IsAbove, by_id, has_id, has_savepoint, retained_of, past_retained, lowest, choice_of, record_of};
+ghost use Rattle.ckpt_store.specs.Storing.{Stored, IsStored, IsAbove, by_id, has_id, has_savepoint, completing, past_retained, lowest, choice_of, record_of};
 
 use crate::places::{place_in_queue, place_in_row};
 use ckpt_ids::{CheckpointId, Choice, Kind};
@@ -78,7 +78,7 @@ impl Store {
         requires room { 1 ≤ self.old.spare }
         requires checkpoint { done.kind ≡ kind.Checkpoint }
         requires above { IsAbove self.old.checkpoints done.id }
-        ensures value { self.new ≡ record self.old { checkpoints = retained_of self.old.retained (self.old.checkpoints ++ done ∷ []); base = None; spare = self.new.spare } }
+        ensures value { self.new ≡ completing self.old done self.new.spare }
         ensures dropped { result ≡ past_retained self.old.retained (self.old.checkpoints ++ done ∷ []) }
         ensures room { self.old.spare ≤ self.new.spare + 1 }
     {

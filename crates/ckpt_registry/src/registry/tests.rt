@@ -1,8 +1,8 @@
 ghost use Rattle.std.specs.Prelude.{◌≡◌, ◌<◌, ◌+◌, ◌-◌, ◌^◌, ◌&&◌, ◌==◌, [], not, nat_lt, IsTrue, MatchBool};
 ghost use Rattle.std.specs.List.{list_all};
 ghost use Rattle.ckpt_ids.specs.Records.{count, is_present};
-ghost use Rattle.ckpt_registry.specs.Counters.{times};
 ghost use Rattle.ckpt_registry.specs.Earlier.{AreBefore, IsPinnable, IsUsable};
+ghost use Rattle.ckpt_ids.specs.Counting.{times};
 
 use super::*;
 use std::process::Abort;

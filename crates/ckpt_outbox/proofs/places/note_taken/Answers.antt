@@ -4,11 +4,11 @@ use Rattle.std.specs.HashMap as hash
 use Rattle.std.proofs.lemmas.List.{take_more}
 use Rattle.std.proofs.lemmas.Grind.{common_steps}
 use Rattle.ckpt_outbox.specs.declared.places.Place.TheVariants.{Taken}
-use Rattle.ckpt_outbox.specs.Queues.{AreDistinct}
 use Rattle.ckpt_outbox.specs.Places.{taken_place, ticketed}
 use Rattle.ckpt_outbox.proofs.QueueLemmas.{AreDistinct-take}
 use Rattle.ckpt_outbox.proofs.TicketLemmas.{index_pushed}
 use Rattle.ckpt_outbox.proofs.places.note_taken.Goals as goal
+use Rattle.ckpt_ids.specs.Ordered.{AreDistinct}
 
 pub loop-file-preserved : goal.loop-file-preserved
 loop-file-preserved c =

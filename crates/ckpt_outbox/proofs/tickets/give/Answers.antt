@@ -3,11 +3,12 @@ use Rattle.std.specs.HashMap as hash
 use Rattle.std.specs.Map.{values_of}
 use Rattle.std.specs.Option.{option_or}
 use Rattle.ckpt_outbox.specs.declared.places.Place.{Place}
-use Rattle.ckpt_outbox.specs.Queues.{AreDistinct}
 use Rattle.ckpt_outbox.specs.Places.{taken_place, ticketed}
-use Rattle.ckpt_outbox.proofs.QueueLemmas.{AreDistinct-left, AreDistinct-right, taken_place-append}
+use Rattle.ckpt_outbox.proofs.QueueLemmas.{taken_place-append}
 use Rattle.ckpt_outbox.proofs.TicketLemmas.{values-append, values-ticketed, AreBelow-append, AreBelow-more, AreBelow-ticketed, index_added_at, index_twice, index_again, none_before}
 use Rattle.ckpt_outbox.proofs.tickets.give.Goals as goal
+use Rattle.ckpt_ids.specs.Ordered.{AreDistinct}
+use Rattle.ckpt_ids.proofs.OrderedLemmas.{AreDistinct-left, AreDistinct-right}
 
 pub renumber_if_due-requires-clause-distinct : goal.renumber_if_due-requires-clause-distinct
 renumber_if_due-requires-clause-distinct c = AreDistinct-left (values_of c.args.tickets.now.files.entries) c.args.given.now c.requires.distinct

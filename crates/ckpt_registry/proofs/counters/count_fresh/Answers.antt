@@ -2,9 +2,10 @@ use Rattle.std.proofs.Common.{◌≡◌, ℕ, ◌<◌, length, take, Some, sym, 
 use Rattle.std.specs.Result.{IsOk}
 use Rattle.ckpt_ids.specs.Ordered.{IsIn}
 use Rattle.ckpt_ids.proofs.OrderedLemmas.{IsIn-get_or}
-use Rattle.ckpt_registry.specs.Counters.{counter, times}
+use Rattle.ckpt_registry.specs.Counters.{counter}
 use Rattle.ckpt_registry.proofs.CounterLemmas.{Sets, OnOk-at, counter_more, AreInRange-set, get-none, times_before, length_fresh}
 use Rattle.ckpt_registry.proofs.counters.count_fresh.Goals as goal
+use Rattle.ckpt_ids.specs.Counting.{times}
 
 pub loop-file-preserved : goal.loop-file-preserved
 loop-file-preserved c =

@@ -1,7 +1,8 @@
 use Rattle.std.proofs.Common.{◌≡◌, ℕ, ◌+◌, ◌≤◌, length, take}
 use Rattle.indexmap.specs.IndexMap.{index_map_len, spare}
-use Rattle.ckpt_registry.specs.Counters.{counter, times, AreInRange}
+use Rattle.ckpt_registry.specs.Counters.{counter, AreInRange}
 use Rattle.ckpt_registry.proofs.counters.count_fresh.Given as goal
+use Rattle.ckpt_ids.specs.Counting.{times}
 
 abbrev pub invariant-loop-file : goal.invariant-loop-file
 invariant-loop-file l = record {

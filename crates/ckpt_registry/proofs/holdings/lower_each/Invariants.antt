@@ -1,9 +1,10 @@
 use Rattle.std.proofs.Common.{◌≡◌, ℕ, ◌+◌, take, vec_len}
 use Rattle.std.specs.Vec.{vec_capacity}
 use Rattle.indexmap.specs.IndexMap.{index_map_len}
-use Rattle.ckpt_registry.specs.Counters.{counter, counted_once, times, AreInRange}
+use Rattle.ckpt_registry.specs.Counters.{counter, counted_once, AreInRange}
 use Rattle.ckpt_registry.specs.Holdings.{times_held}
 use Rattle.ckpt_registry.proofs.holdings.lower_each.Given as goal
+use Rattle.ckpt_ids.specs.Counting.{times}
 
 abbrev pub invariant-loop-one : goal.invariant-loop-one
 invariant-loop-one l = record {

@@ -4,10 +4,11 @@ use Rattle.std.specs.BTreeMap.{IsOrdered}
 use Rattle.std.specs.Ordering.{nat_cmp}
 use Rattle.indexmap.specs.IndexMap.{index_map_len}
 use Rattle.ckpt_ids.specs.Records.{count}
-use Rattle.ckpt_registry.specs.Counters.{counter, counted_once, times, AreInRange}
+use Rattle.ckpt_registry.specs.Counters.{counter, counted_once, AreInRange}
 use Rattle.ckpt_registry.specs.Holdings.{uses_in}
 use Rattle.ckpt_registry.specs.Uses.{without}
 use Rattle.ckpt_registry.proofs.holdings.release_each.Given as goal
+use Rattle.ckpt_ids.specs.Counting.{times}
 
 abbrev pub invariant-loop-owner : goal.invariant-loop-owner
 invariant-loop-owner l = record {

@@ -4,14 +4,15 @@ use Rattle.ckpt_ids.specs.Ordered.{IsIn}
 use Rattle.ckpt_core.specs.declared.parts.Parts.{Parts}
 use Rattle.ckpt_core.specs.Parts.{state_of, AreTied}
 use Rattle.ckpt_core.proofs.CountBound.{registry_bound}
-use Rattle.ckpt_core.proofs.TriggerParts.{made_record, pins_ascend, pins_present, older_pending, older_uses, triggered_state, triggered_tied, undone_state}
+use Rattle.ckpt_core.proofs.TriggerParts.{made_record, pins_present, older_pending, older_uses, triggered_state, triggered_tied, undone_state}
 use Rattle.ckpt_core.proofs.parts.Parts.add.Goals as goal
+use Rattle.ckpt_core.proofs.SoundTriggers.{ascending-pins}
 
 pub add-requires : goal.add-requires
 add-requires c = record { newest = λ r h. let lt : r.id < c.args.self.now.next = older_pending c.args.self.now c.requires.sound r h in let e = ap (λ q. q.id) c.new.ensures in omega arith }
 
 pub pin-requires-clause-ascending : goal.pin-requires-clause-ascending
-pin-requires-clause-ascending c = let P : List ℕ → Type 0 = λ fs. IsAscendingSet fs in subst P (sym c.requires.pins) (pins_ascend (state_of c.args.self.now))
+pin-requires-clause-ascending c = let P : List ℕ → Type 0 = λ fs. IsAscendingSet fs in subst P (sym c.requires.pins) (ascending-pins (state_of c.args.self.now))
 
 pub pin-requires-clause-present : goal.pin-requires-clause-present
 pin-requires-clause-present c = λ f h. let P : List ℕ → Type 0 = λ fs. IsIn f fs in pins_present c.args.self.now c.requires.tied f (subst P c.requires.pins h)

@@ -2,12 +2,12 @@ use Rattle.std.proofs.Common.{◌≡◌, ◌∙◌, ◌+◌, ◌++◌, ◌∷◌
 use Rattle.std.specs.List.{list_any}
 use Rattle.std.proofs.lemmas.List.{take_more}
 use Rattle.ckpt_ids.specs.Records.{Record}
-use Rattle.ckpt_core.proofs.GroupMoves.{filter_all}
 use Rattle.ckpt_core.proofs.PendingRecordLemmas.{filter-one_more, numbered}
 use Rattle.ckpt_core.proofs.pending_records.PendingRecords.remove_all.Goals as goal
+use Rattle.ckpt_ids.proofs.OrderedLemmas.{filter-all}
 
 pub loop-id-init : goal.loop-id-init
-loop-id-init c = sym (filter_all (λ r. not (list_any (λ i. eqb r.id i) [])) c.args.self.now (λ r h. refl))
+loop-id-init c = sym (filter-all (λ r. not (list_any (λ i. eqb r.id i) [])) c.args.self.now (λ r h. refl))
 
 pub loop-id-preserved : goal.loop-id-preserved
 loop-id-preserved c =

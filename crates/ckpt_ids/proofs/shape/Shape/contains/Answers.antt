@@ -1,6 +1,6 @@
-use Rattle.std.proofs.Common.{◌≡◌, ◌∙◌, sym, ap, ltb, arith, get_or, length, ℕ, false, refl, ◌<◌, ◌≤◌}
+use Rattle.std.proofs.Common.{◌≡◌, ◌∙◌, sym, arith, get_or, length, refl, ◌<◌, ◌≤◌}
 use Rattle.std.proofs.lemmas.List.{get_or_read, get_or_past}
-use Rattle.std.proofs.lemmas.Bool.{ltb-false, lt-ltb, le-ltb}
+use Rattle.std.proofs.lemmas.Bool.{le-ltb}
 use Rattle.ckpt_ids.proofs.ShapeLemmas.{is_subtask_is}
 use Rattle.ckpt_ids.proofs.shape.Shape.contains.Goals as goal
 

@@ -1,4 +1,4 @@
-use Rattle.std.proofs.Common.{◌≡◌, ◌∙◌, sym, arith, length, ◌<◌, ◌≤◌, get_or}
+use Rattle.std.proofs.Common.{◌∙◌, sym, arith}
 use Rattle.ckpt_ids.proofs.ShapeLemmas.{subtask_found, subtask_further}
 use Rattle.ckpt_ids.proofs.shape.Shape.nth.Goals as goal
 

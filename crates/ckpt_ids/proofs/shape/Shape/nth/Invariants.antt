@@ -1,4 +1,4 @@
-use Rattle.std.proofs.Common.{◌≡◌, drop, length}
+use Rattle.std.proofs.Common.{◌≡◌, drop}
 use Rattle.std.specs.Prelude.{slice_get}
 use Rattle.ckpt_ids.specs.Shapes.{subtasks, subtasks_from}
 use Rattle.ckpt_ids.proofs.shape.Shape.nth.Given as goal

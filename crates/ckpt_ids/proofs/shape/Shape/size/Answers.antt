@@ -1,4 +1,4 @@
-use Rattle.std.proofs.Common.{◌≡◌, ◌∙◌, sym, sum, length}
+use Rattle.std.proofs.Common.{◌∙◌, sym}
 use Rattle.ckpt_ids.proofs.ShapeLemmas.{length-subtasks_from}
 use Rattle.ckpt_ids.proofs.shape.Shape.size.Goals as goal
 

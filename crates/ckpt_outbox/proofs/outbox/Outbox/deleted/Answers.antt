@@ -5,11 +5,13 @@ use Rattle.std.specs.BTreeMap.{is_at}
 use Rattle.std.specs.Ordering.{nat_cmp}
 use Rattle.std.proofs.lemmas.Bool.{both_ways}
 use Rattle.ckpt_outbox.specs.declared.places.Place.TheVariants.{Taken}
-use Rattle.ckpt_outbox.specs.Queues.{Queues, AreDistinct, is_in, is_taken, without}
+use Rattle.ckpt_outbox.specs.Queues.{Queues, is_in, is_taken, without}
 use Rattle.ckpt_outbox.specs.Places.{place_of, taken_place, ticket_of, AreBelow}
-use Rattle.ckpt_outbox.proofs.QueueLemmas.{AreDistinct-right, distinct_deleted}
+use Rattle.ckpt_outbox.proofs.QueueLemmas.{distinct_deleted}
 use Rattle.ckpt_outbox.proofs.TicketLemmas.{place_from_ticket, is_some_ticket, values-removed, taken_place-removed, length-removed, AreBelow-removed, place_of-removed}
 use Rattle.ckpt_outbox.proofs.outbox.Outbox.deleted.Goals as goal
+use Rattle.ckpt_ids.specs.Ordered.{AreDistinct}
+use Rattle.ckpt_ids.proofs.OrderedLemmas.{AreDistinct-right}
 
 pub returns-in_default-clause-refused : goal.returns-in_default-clause-refused
 returns-in_default-clause-refused c =

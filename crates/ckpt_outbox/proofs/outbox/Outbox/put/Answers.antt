@@ -2,9 +2,10 @@ use Rattle.std.proofs.Common.{◌≡◌, ◌∙◌, ◌+◌, ℕ, List, [], ◌�
 use Rattle.std.proofs.lemmas.List.{take_more}
 use Rattle.std.proofs.lemmas.List.Folds.{list_any_at}
 use Rattle.std.proofs.lemmas.Bool.{eq-eqb}
-use Rattle.ckpt_outbox.specs.Queues.{AreDistinct, is_in, is_known}
+use Rattle.ckpt_outbox.specs.Queues.{is_in, is_known}
 use Rattle.ckpt_outbox.proofs.QueueLemmas.{AreDistinct-take, last_is_new, not_in-parts, not_in-append}
 use Rattle.ckpt_outbox.proofs.outbox.Outbox.put.Goals as goal
+use Rattle.ckpt_ids.specs.Ordered.{AreDistinct}
 
 pub put_one-requires-clause-unknown : goal.put_one-requires-clause-unknown
 put_one-requires-clause-unknown c =

@@ -3,11 +3,13 @@ use Rattle.std.specs.HashMap as hash
 use Rattle.std.specs.Map.{values_of}
 use Rattle.std.specs.Option.{option_or}
 use Rattle.std.proofs.lemmas.List.{take-append-drop}
-use Rattle.ckpt_outbox.specs.Queues.{AreDistinct, is_in}
+use Rattle.ckpt_outbox.specs.Queues.{is_in}
 use Rattle.ckpt_outbox.specs.Places.{place_of, taken_place}
-use Rattle.ckpt_outbox.proofs.QueueLemmas.{AreDistinct-right, is_some_place, is_in-left, distinct_taken}
+use Rattle.ckpt_outbox.proofs.QueueLemmas.{is_some_place, is_in-left, distinct_taken}
 use Rattle.ckpt_outbox.proofs.TicketLemmas.{has_tickets, place_of-taken, length-from_values}
 use Rattle.ckpt_outbox.proofs.outbox.Outbox.take.Goals as goal
+use Rattle.ckpt_ids.specs.Ordered.{AreDistinct}
+use Rattle.ckpt_ids.proofs.OrderedLemmas.{AreDistinct-right}
 
 pub give-requires-clause-distinct : goal.give-requires-clause-distinct
 give-requires-clause-distinct c =

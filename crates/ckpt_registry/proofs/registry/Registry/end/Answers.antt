@@ -2,12 +2,13 @@ use Rattle.std.proofs.Common.{◌≡◌, ℕ, ◌+◌, ◌≤◌, List, not, ref
 use Rattle.std.specs.Vec.{vec_capacity}
 use Rattle.indexmap.specs.IndexMap.{index_map_len}
 use Rattle.ckpt_ids.specs.Records.{Use, count}
-use Rattle.ckpt_registry.specs.Counters.{counter, counted_once, times}
+use Rattle.ckpt_registry.specs.Counters.{counter, counted_once}
 use Rattle.ckpt_registry.specs.Holdings.{uses_in}
 use Rattle.ckpt_registry.specs.Sound.{IsSound, in_use}
 use Rattle.ckpt_registry.specs.Uses.{is_ended, without, without_record, after_end}
 use Rattle.ckpt_registry.proofs.RegistryLemmas.{stored-after_end, in_use-filtered, counter-in_use, IsIn-without, IsIn-after_pins, IsSound-filtered, released-sorted}
 use Rattle.ckpt_registry.proofs.registry.Registry.end.Goals as goal
+use Rattle.ckpt_ids.specs.Counting.{times}
 
 pub invariant_of-self : goal.invariant_of-self
 invariant_of-self c =

@@ -3,12 +3,13 @@ use Rattle.std.specs.Vec.{vec_capacity}
 use Rattle.std.proofs.lemmas.Bool.{ltb-true}
 use Rattle.ckpt_ids.specs.Ordered.{IsIn, in_order_once}
 use Rattle.ckpt_ids.specs.Records.{Use, Pin, count, use_before}
-use Rattle.ckpt_registry.specs.Counters.{counter, times}
+use Rattle.ckpt_registry.specs.Counters.{counter}
 use Rattle.ckpt_registry.specs.Holdings.{uses_in}
 use Rattle.ckpt_registry.specs.Sound.{in_use}
 use Rattle.ckpt_registry.specs.Uses.{HasNoUse, triples}
 use Rattle.ckpt_registry.proofs.RegistryLemmas.{counter-in_use, IsEachOnce-from_ascending, IsSound-pinned, in_use-added, stored-pinned}
 use Rattle.ckpt_registry.proofs.registry.Registry.pin.Goals as goal
+use Rattle.ckpt_ids.specs.Counting.{times}
 
 pub count_reused-requires-clause-present : goal.count_reused-requires-clause-present
 count_reused-requires-clause-present c = λ f h.

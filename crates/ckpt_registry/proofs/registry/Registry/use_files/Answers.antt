@@ -4,17 +4,15 @@ use Rattle.std.proofs.lemmas.Bool.{ltb-true, ltb-false}
 use Rattle.indexmap.specs.IndexMap.{index_map_len}
 use Rattle.ckpt_ids.specs.Ordered.{IsIn, in_order_once}
 use Rattle.ckpt_ids.specs.Records.{Use, Subtask, count, use_before}
-use Rattle.ckpt_registry.specs.Counters.{counter, times}
+use Rattle.ckpt_registry.specs.Counters.{counter}
 use Rattle.ckpt_registry.specs.Holdings.{uses_in}
 use Rattle.ckpt_registry.specs.Sound.{in_use}
 use Rattle.ckpt_registry.specs.Uses.{HasNoUse, triples}
 use Rattle.ckpt_registry.proofs.CounterLemmas.{counter-unchanged}
-use Rattle.ckpt_ids.proofs.CountLemmas.{count_by-append}
 use Rattle.ckpt_registry.proofs.RegistryLemmas.{counter-in_use, IsSound-acknowledged, in_use-added, stored-acknowledged}
 use Rattle.ckpt_registry.proofs.registry.Registry.use_files.Goals as goal
-
-times-append : (f : ℕ) (xs ys : List ℕ) → times f (xs ++ ys) ≡ times f xs + times f ys
-times-append f xs ys = count_by-append (λ x. eqb x f) xs ys
+use Rattle.ckpt_ids.specs.Counting.{times}
+use Rattle.ckpt_ids.proofs.CountLemmas.{times-append}
 
 pub count_fresh-requires-clause-each_once : goal.count_fresh-requires-clause-each_once
 count_fresh-requires-clause-each_once c = λ f.
