@@ -1,84 +1,98 @@
 """A task's queue in the driver: a thread that makes the actor's calls one after the other, and acknowledges."""
 import queue
 import threading
-from typing import Any, Dict, Sequence
+from typing import Any, Dict, List, Optional, Sequence, Tuple, Union
 
 from distributed import Client
 
 from cluster import WAIT, Worker
-from relkvanu import AckLate, DeclineFailed, Refused
+from relkvanu import AckLate, Refused
 from task import Task
+
+Message = Union[int, Dict[int, int]]  # the number of a barrier; or ends of partitions, up to which to count
+
+
+class Lost(Exception):
+    """The worker of the task is gone."""
 
 
 class Channel(threading.Thread):
-    """The task of one subtask, on a worker. A barrier goes through the same queue as the records."""
+    """The task of one subtask, on a worker. Barriers go through the same queue as records."""
 
     def __init__(self, job: Any, index: int, worker: Worker, client: Client, partitions: Sequence[int], files: Sequence[int]) -> None:
         super().__init__(name=f"task-{index}")
-        self.job, self.index, self.worker = job, index, worker
-        self.partitions = list(partitions)
-        self.queue: "queue.Queue[Any]" = queue.Queue(4)
-        self.ending = threading.Event()
-        # by the job: how long the task stops after each file of its next snapshot, and whether its loss is told
-        self.pause, self.tells_loss = 0.0, True
+        self.job, self.index, self.worker, self.partitions = job, index, worker, list(partitions)
+        self.queue: "queue.Queue[Message]" = queue.Queue(4)
+        self.is_ending = threading.Event()
+        self.is_stopping = False  # its next checkpoint is not to come to its end
+        self.stops_in: Optional[int] = None  # the first file of that
+        self.tells_loss = True
         self.actor = client.submit(
             Task, str(job.storage), job.seed, self.partitions, list(files),
             actor=True, workers=[worker.address], allow_other_workers=False, pure=False,
         ).result(timeout=WAIT)
+        self.ends: Dict[int, int] = self.call("offsets")  # of the source
 
-    def put(self, message: Any) -> None:
-        """A number is a barrier's, a dictionary has the ends of partitions up to which to count. What is put after the
-        end is lost."""
-        while not self.ending.is_set():
+    def call(self, method: str, *arguments: Any) -> Any:
+        if self.worker.has_ended():
+            raise Lost
+        try:
+            return getattr(self.actor, method)(*arguments).result(timeout=WAIT)
+        except (OSError, ValueError) as fault:
+            if self.worker.has_ended(within=5):  # the connection breaks a moment before
+                raise Lost from fault
+            raise
+
+    def put(self, message: Message) -> None:
+        """Waits for room. What is put after the end is lost."""
+        while not self.is_ending.is_set():
             try:
                 return self.queue.put(message, timeout=0.05)
             except queue.Full:
                 continue
 
-    def offsets(self) -> Dict[int, int]:
-        return self.actor.offsets().result(timeout=WAIT)
-
-    def run(self) -> None:
-        while not (self.ending.is_set() and self.queue.empty()):
-            try:
-                message = self.queue.get(timeout=0.05)
-            except queue.Empty:
-                continue
-            try:
-                self.take_part(message) if isinstance(message, int) else self.actor.advance(message).result(timeout=WAIT)
-            except (OSError, ValueError):  # the worker was lost
-                self.ending.set()
-                self.job.failed.set()
-                break
-
     def stop(self) -> None:
         """Ends the thread after what is in its queue."""
-        self.ending.set()
+        self.is_ending.set()
         self.join()
 
-    def take_part(self, id: int) -> None:
-        """The task's part of record id. Where the worker is lost on the way, the driver declines for it, or says
-        nothing, and then the record expires."""
+    def run(self) -> None:
+        while not (self.is_ending.is_set() and self.queue.empty()):
+            try:
+                message = self.queue.get(timeout=0.05)
+                if isinstance(message, int):
+                    self.take_part(message)
+                else:
+                    self.call("advance", message)
+            except queue.Empty:
+                continue
+            except Lost:
+                self.is_ending.set()
+
+    def snapshot(self, id: int) -> Tuple[List[int], List[int]]:
+        """What the task wrote and names again. Where its worker is lost, the driver deletes what it wrote, and declines
+        for it; or says nothing, and then the record expires."""
         numbers = self.job.new_files(len(self.partitions))
-        self.numbers = numbers
+        pause = WAIT if self.is_stopping else 0.0
+        self.stops_in = numbers[0] if self.is_stopping else None
         try:
-            fresh, reused = self.actor.snapshot(numbers, self.pause).result(timeout=WAIT)
-        except (OSError, ValueError):
-            self.worker.process.wait()
+            return self.call("snapshot", list(numbers), pause)
+        except Lost:
             self.job.delete(numbers)
             if self.tells_loss:
-                reply = self.job.coordinator.decline(self.job.now(), id, 0, self.index)
-                self.job.count(reply)
-                assert isinstance(reply, DeclineFailed), reply
+                self.job.decline(id, self.index)
             raise
+
+    def take_part(self, id: int) -> None:
+        """The task's part of a record. It is refused where a file that was to be used again is gone, as it is with those
+        of a record that another task declined: then all is written anew."""
+        fresh, reused = self.snapshot(id)
         try:
-            reply = self.job.coordinator.ack(self.job.now(), id, 0, self.index, fresh, reused)
+            reply = self.job.ack(id, self.index, fresh, reused)
         except Refused as refusal:
             assert refusal.name == "FileGone", refusal
-            self.job.count(refusal)
-            self.actor.refused().result(timeout=WAIT)
+            self.call("refused")
             self.take_part(id)
         else:
-            self.job.count(reply)
             if not isinstance(reply, AckLate):
-                self.actor.acknowledged().result(timeout=WAIT)
+                self.call("acknowledged")

@@ -6,10 +6,13 @@ import sys
 import tempfile
 from typing import List
 
+import dask
 from distributed import Client, LocalCluster
 
 HERE = pathlib.Path(__file__).resolve().parent
 WAIT = 120  # seconds for what takes one on a fast machine
+# a call of an actor whose process is gone tries to connect for so long
+dask.config.set({"distributed.comm.timeouts.connect": "8s"})
 
 
 class Worker:
@@ -18,7 +21,7 @@ class Worker:
     def __init__(self, client: Client, scheduler: str, folder: str) -> None:
         before = set(client.scheduler_info()["workers"])
         command = ["-m", "distributed.cli.dask_worker", scheduler, "--no-nanny", "--no-dashboard", "--nthreads", "1"]
-        command += ["--host", "127.0.0.1", "--memory-limit", "0", "--local-directory", folder, "--death-timeout", str(WAIT)]
+        command += ["--host", "127.0.0.1", "--memory-limit", "0", "--local-directory", folder, "--death-timeout", "60"]
         environment = {**os.environ, "PYTHONPATH": str(HERE)}
         self.process = subprocess.Popen(
             [sys.executable, *command], env=environment, stdout=subprocess.DEVNULL, stderr=subprocess.DEVNULL
@@ -26,8 +29,13 @@ class Worker:
         client.wait_for_workers(len(before) + 1, timeout=WAIT)
         (self.address,) = set(client.scheduler_info()["workers"]) - before
 
-    def is_alive(self) -> bool:
-        return self.process.poll() is None
+    def has_ended(self, within: float = 0) -> bool:
+        """Whether the process has ended, or ends within so many seconds."""
+        try:
+            self.process.wait(within)
+        except subprocess.TimeoutExpired:
+            return False
+        return True
 
     def kill(self) -> None:
         """SIGKILL; the process writes nothing after it."""
@@ -55,7 +63,10 @@ class Cluster:
         self.workers.remove(worker)
         self.client.wait_for_workers(len(self.workers), timeout=WAIT)
 
-    def close(self) -> None:
+    def __enter__(self) -> "Cluster":
+        return self
+
+    def __exit__(self, *_: object) -> None:
         for worker in self.workers:
             worker.kill()
         self.client.close()

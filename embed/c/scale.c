@@ -1,0 +1,263 @@
+/* scale acks SUBTASKS ROUNDS | files MOST | log FOLDER CALLS: what the coordinator costs, for docs/SCALE.md.
+ *
+ * acks: acknowledgements a second of a job with so many subtasks, from one thread and under a lock from many.
+ * files: the bytes that a coordinator has, and how long a trigger and a completion take, at 1000 live files and so on.
+ * log: calls a second that are written to a log first, with a sync for each or for many; and their replay. */
+#define _GNU_SOURCE
+#include "script.h"
+
+#include <fcntl.h>
+#include <inttypes.h>
+#include <malloc.h>
+#include <pthread.h>
+#include <stdlib.h>
+#include <string.h>
+#include <time.h>
+#include <unistd.h>
+
+enum { FRESH = 3, HELD = 11, MOST_THREADS = 64, PART = 4096 };
+
+struct job {
+    relkvanu handle;
+    pthread_mutex_t lock;
+    uint64_t subtasks, id, moment, file; /* the next file */
+    uint64_t *held;                      /* the last files of each subtask, the oldest first; 0: none */
+};
+
+/* A thread's share of a round: the subtasks from first on, in steps. */
+struct share {
+    struct job *job;
+    uint64_t first, step;
+};
+
+static double seconds(void) {
+    struct timespec now;
+    clock_gettime(CLOCK_MONOTONIC, &now);
+    return (double)now.tv_sec + (double)now.tv_nsec / 1e9;
+}
+
+static relkvanu_answer done(relkvanu_answer answer) {
+    if (answer.code != RELKVANU_DONE) {
+        fprintf(stderr, "scale: a call answers code %" PRIu32 " %" PRIu32 "\n", answer.code, answer.what);
+        exit(1);
+    }
+    return answer;
+}
+
+static void opened(relkvanu *handle, uint64_t subtasks, uint64_t retained) {
+    relkvanu_settings settings = {1000, 0, 1, 600000, 0, retained, false};
+    handle->state = NULL;
+    done(relkvanu_open(handle, &settings, &subtasks, 1, 0, 1, 1, 2));
+}
+
+/* Acknowledges with FRESH new files, and the last HELD - FRESH of the subtask's others. */
+static void *acknowledge(void *with) {
+    const struct share *share = with;
+    struct job *job = share->job;
+    for (uint64_t index = share->first; index < job->subtasks; index += share->step) {
+        uint64_t *held = job->held + index * HELD, fresh[FRESH];
+        size_t first = FRESH;
+        while (first < HELD && held[first] == 0) {
+            first++;
+        }
+        pthread_mutex_lock(&job->lock);
+        for (size_t place = 0; place < FRESH; place++) {
+            fresh[place] = job->file++;
+        }
+        done(relkvanu_ack(&job->handle, job->moment, job->id, 0, (uint16_t)index, fresh, FRESH, held + first, HELD - first));
+        pthread_mutex_unlock(&job->lock);
+        memmove(held, held + FRESH, (HELD - FRESH) * sizeof *held);
+        memcpy(held + HELD - FRESH, fresh, sizeof fresh);
+    }
+    return NULL;
+}
+
+static void discard(relkvanu *handle) {
+    static uint64_t files[PART];
+    for (uint64_t len = PART; len == PART;) {
+        len = done(relkvanu_take(handle, files, PART)).a;
+        for (uint64_t place = 0; place < len; place++) {
+            done(relkvanu_deleted(handle, files[place]));
+        }
+    }
+}
+
+/* Seconds in which the threads make the acknowledgements of the rounds; the rest of a round is not counted. */
+static double rounds(struct job *job, uint64_t threads, uint64_t count) {
+    double took = 0;
+    for (uint64_t round = 0; round < count; round++) {
+        pthread_t ids[MOST_THREADS];
+        struct share shares[MOST_THREADS];
+        job->moment += 1000;
+        job->id = done(relkvanu_tick(&job->handle, job->moment)).b;
+        double start = seconds();
+        for (uint64_t nth = 0; nth < threads; nth++) {
+            shares[nth] = (struct share){job, nth, threads};
+            pthread_create(&ids[nth], NULL, acknowledge, &shares[nth]);
+        }
+        for (uint64_t nth = 0; nth < threads; nth++) {
+            pthread_join(ids[nth], NULL);
+        }
+        took += seconds() - start;
+        discard(&job->handle);
+    }
+    return took;
+}
+
+static void acks(uint64_t subtasks, uint64_t count) {
+    static const uint64_t threads[] = {1, 2, 4, 16, 64};
+    for (size_t place = 0; place < sizeof threads / sizeof threads[0]; place++) {
+        struct job job = {.lock = PTHREAD_MUTEX_INITIALIZER, .subtasks = subtasks, .file = 1};
+        job.held = calloc(subtasks * HELD, sizeof *job.held);
+        opened(&job.handle, subtasks, 1);
+        rounds(&job, 1, 5);
+        double took = rounds(&job, threads[place], count);
+        printf("%2" PRIu64 " threads: %.0f acknowledgements a second\n", threads[place], (double)(subtasks * count) / took);
+        relkvanu_close(&job.handle);
+        free(job.held);
+    }
+}
+
+static uint64_t bytes_now(void) {
+    struct mallinfo2 info = mallinfo2();
+    return info.uordblks + info.hblkhd;
+}
+
+/* The acknowledgements of a record with so many files in all, new ones or the same again; seconds of the last. */
+static double record_of(relkvanu *handle, uint64_t moment, uint64_t id, uint64_t subtasks, uint64_t all, bool is_fresh) {
+    static uint64_t files[PART];
+    double start = 0;
+    for (uint64_t index = 0; index < subtasks; index++) {
+        uint64_t len = 0;
+        for (uint64_t file = index; file < all; file += subtasks) {
+            files[len++] = file + 1;
+        }
+        start = seconds();
+        done(relkvanu_ack(handle, moment, id, 0, (uint16_t)index, files, is_fresh ? len : 0, files, is_fresh ? 0 : len));
+    }
+    return seconds() - start;
+}
+
+static double per(uint64_t bytes, uint64_t count) {
+    return (double)bytes / (double)count;
+}
+
+static void files(uint64_t all) {
+    uint64_t subtasks = all / 1000 < 1 ? 1 : all / 1000, before = bytes_now();
+    relkvanu handle;
+    opened(&handle, subtasks, 2);
+    done(relkvanu_tick(&handle, 1000));
+    record_of(&handle, 1000, 1, subtasks, all, true);
+    uint64_t live = bytes_now();
+    double start = seconds();
+    done(relkvanu_tick(&handle, 2000));
+    double triggered = seconds() - start;
+    uint64_t pinned = bytes_now();
+    double completed = record_of(&handle, 2000, 2, subtasks, all, false);
+    uint64_t again = bytes_now();
+    for (uint64_t id = 3; id <= 4; id++) {
+        done(relkvanu_tick(&handle, 1000 * id));
+        record_of(&handle, 1000 * id, id, subtasks, 0, true);
+    }
+    uint64_t waiting = bytes_now();
+    start = seconds();
+    discard(&handle);
+    double discarded = seconds() - start;
+    printf("%7" PRIu64 " files: %.0f bytes each in one checkpoint, %.0f with pins, %.0f in two, %.0f waiting;"
+           " trigger %.3f ms, last of %" PRIu64 " acknowledgements %.3f ms, take and deleted %.0f ns each\n",
+           all, per(live - before, all), per(pinned - before, all), per(again - before, all), per(waiting - before, all),
+           triggered * 1e3, subtasks, completed * 1e3, discarded * 1e9 / (double)all);
+    relkvanu_close(&handle);
+}
+
+/* Bytes of done records without a file: of savepoints, as many of them may be live. */
+static void records(uint64_t subtasks, uint64_t count) {
+    relkvanu handle;
+    opened(&handle, subtasks, 1);
+    uint64_t before = bytes_now();
+    for (uint64_t id = 1; id <= count; id++) {
+        done(relkvanu_savepoint(&handle, 0));
+        record_of(&handle, 0, id, subtasks, 0, true);
+    }
+    printf("a record of %" PRIu64 " subtasks without a file: %.0f bytes\n", subtasks, per(bytes_now() - before, count));
+    relkvanu_close(&handle);
+}
+
+static struct script script;
+
+static void call(const char *text) {
+    static char line[SCRIPT_LINE];
+    strcpy(line, text);
+    line[strcspn(line, "\n")] = '\0';
+    done(script_call(&script, line));
+}
+
+/* Calls a second, where each line is written to the log before its call, and every so many are synced. */
+static void logged(const char *path, uint64_t calls, uint64_t at_once) {
+    char line[256];
+    int log = open(path, O_CREAT | O_TRUNC | O_WRONLY | O_APPEND, 0600);
+    const char *opening[] = {"config 10 0 1 600000 0 1 delete\n", "job 1\n", "start 0\n"};
+    memset(&script, 0, sizeof script);
+    for (int place = 0; place < 3; place++) {
+        dprintf(log, "%s", opening[place]);
+        call(opening[place]);
+    }
+    double start = seconds();
+    for (uint64_t nth = 0; nth < calls; nth++) {
+        uint64_t id = nth / 2 + 1, file = 4 * id;
+        if (nth % 2 == 0) {
+            snprintf(line, sizeof line, "tick %" PRIu64 "\n", 10 * id);
+        } else {
+            snprintf(line, sizeof line, "ack %" PRIu64 " %" PRIu64 " 0.0 +%" PRIu64 " +%" PRIu64 " +%" PRIu64 "\n", 10 * id, id, file, file + 1, file + 2);
+        }
+        if (write(log, line, strlen(line)) < 0 || (at_once != 0 && nth % at_once == at_once - 1 && fdatasync(log) != 0)) {
+            perror(path);
+            exit(1);
+        }
+        call(line);
+    }
+    printf("log, %3" PRIu64 " calls synced at once: %.0f calls a second\n", at_once, (double)calls / (seconds() - start));
+    close(log);
+    script_close(&script);
+}
+
+static void replay(const char *path) {
+    static char line[SCRIPT_LINE];
+    FILE *from = fopen(path, "r");
+    uint64_t calls = 0;
+    memset(&script, 0, sizeof script);
+    double start = seconds();
+    while (fgets(line, sizeof line, from) != NULL) {
+        line[strcspn(line, "\n")] = '\0';
+        done(script_call(&script, line));
+        calls++;
+    }
+    printf("replay: %.0f calls a second\n", (double)calls / (seconds() - start));
+    fclose(from);
+    script_close(&script);
+}
+
+int main(int argc, char **argv) {
+    if (argc == 4 && strcmp(argv[1], "acks") == 0) {
+        acks(strtoull(argv[2], NULL, 10), strtoull(argv[3], NULL, 10));
+    } else if (argc == 3 && strcmp(argv[1], "files") == 0) {
+        for (uint64_t all = 1000; all <= strtoull(argv[2], NULL, 10); all *= 10) {
+            files(all);
+        }
+        records(1, 1000);
+        records(4096, 100);
+    } else if (argc == 4 && strcmp(argv[1], "log") == 0) {
+        char path[512];
+        uint64_t calls = strtoull(argv[3], NULL, 10);
+        snprintf(path, sizeof path, "%s/scale.log", argv[2]);
+        logged(path, calls, 1);
+        logged(path, 64 * calls, 64);
+        logged(path, 100 * calls, 0);
+        replay(path);
+        unlink(path);
+    } else {
+        fprintf(stderr, "scale acks SUBTASKS ROUNDS | files MOST | log FOLDER CALLS\n");
+        return 2;
+    }
+    return 0;
+}
