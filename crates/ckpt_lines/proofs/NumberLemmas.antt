@@ -1,86 +1,102 @@
--- What `parse` reads as a number without a sign.
-use Rattle.std.proofs.Common.{◌≡◌, ◌≢◌, ℕ, ◌^◌, ◌<◌, Bool, true, false, ◌&&◌, ltb, List, [], ◌∷◌, length, get_or, Some, None, Result, Ok, Err, refl, sym, subst, ◌∙◌, MatchResult, arith, lt-ltb, ltb-true, eqb-true, nat_eq, eqb, zero, suc}
-use Rattle.std.specs.Result.{result_ok, OkIff}
-use Rattle.std.specs.List.{starts_with}
-use Rattle.std.specs.Char.{is_ascii_digit}
-use Rattle.std.specs.Str.{all_ascii_digits, IsUtf8}
-use Rattle.std.proofs.Math.Bool.{and-true}
-use Rattle.std.specs.Str.Parse.{digits_value, ParsesUnsigned}
-use Rattle.std.proofs.lemmas.Str.{IsUtf8-from_ascii}
-use Rattle.std.proofs.lemmas.Str.Parse.{IsNumeralModel, numerals_by_value, tells_all_ascii_digits, parse_plain}
+-- A number is read digit by digit.
+use Rattle.std.proofs.Common.{◌≡◌, ℕ, ◌+◌, ◌-◌, ◌*◌, ◌^◌, ◌<◌, ◌≤◌, Bool, true, false, ◌&&◌, cond, ltb, List, [], ◌∷◌, length, take, get_or, Option, Some, None, refl, sym, ap, ◌∙◌, arith, lt-ltb, ltb-true, zero, suc}
+use Rattle.std.specs.Char.{is_ascii_digit, digit_value}
+use Rattle.std.specs.Str.{all_ascii_digits}
+use Rattle.std.specs.Str.Parse.{digits_value}
+use Rattle.std.proofs.lemmas.Bool.{and_parts, and_from}
 use Rattle.std.proofs.lemmas.Bool.Decides.{nat_tests}
-use Rattle.ckpt_lines.specs.Values.{is_number, number_of}
+use Rattle.std.proofs.lemmas.Int.Digits.{digits_value_more}
+use Rattle.std.proofs.lemmas.List.{take_all}
+use Rattle.std.proofs.lemmas.Str.Parse.{digits_value-take-le}
+use Rattle.ckpt_lines.specs.Values.{is_number, number_of, with_digit}
 
-own : IsNumeralModel (λ ds. all_ascii_digits ds ≡ true) (digits_value 10)
-own = numerals_by_value (λ ds. all_ascii_digits ds ≡ true) tells_all_ascii_digits
+-- the first so many bytes are digits, and spell the number
+pub record Spells (word : List ℕ) (place number : ℕ) : Type 0 where
+  pub digits : all_ascii_digits (take place word) ≡ true
+  pub value : number ≡ digits_value 10 (take place word)
+  pub fits : number < 2 ^ 64
+
+digit_is : (b : ℕ) → is_ascii_digit b ≡ true → digit_value b ≡ b - 48
+digit_is b digit = grind (arith, nat_tests)
+
+digits_more : (word : List ℕ) (i : ℕ) → i < length word → all_ascii_digits (take i word) ≡ true → is_ascii_digit (get_or word i 0) ≡ true → all_ascii_digits (take (i + 1) word) ≡ true
+digits_more [] i within digits digit = absurd (omega arith)
+digits_more (b ∷ bs) zero within digits digit = and_from (is_ascii_digit b) true digit refl
+digits_more (b ∷ bs) (suc i) within digits digit =
+    let parts : (is_ascii_digit b ≡ true) × (all_ascii_digits (take i bs) ≡ true) = and_parts (is_ascii_digit b) (all_ascii_digits (take i bs)) digits in
+    let e : suc i + 1 ≡ suc (i + 1) = omega arith in
+    rw e (and_from (is_ascii_digit b) (all_ascii_digits (take (i + 1) bs)) parts.0 (digits_more bs i (omega arith) parts.1 digit))
+
+digit_at : (word : List ℕ) (i : ℕ) → i < length word → all_ascii_digits word ≡ true → is_ascii_digit (get_or word i 0) ≡ true
+digit_at [] i within digits = absurd (omega arith)
+digit_at (b ∷ bs) zero within digits = (and_parts (is_ascii_digit b) (all_ascii_digits bs) digits).0
+digit_at (b ∷ bs) (suc i) within digits = digit_at bs i (omega arith) (and_parts (is_ascii_digit b) (all_ascii_digits bs) digits).1
+
+abbrev more : ℕ → ℕ → ℕ
+more number byte = number * 10 + (byte - 48)
+
+abbrev takes : ℕ → ℕ → Bool
+takes number byte = is_ascii_digit byte && ltb (more number byte) (2 ^ 64)
+
+value_more : (word : List ℕ) (i number : ℕ) → i < length word → Spells word i number → is_ascii_digit (get_or word i 0) ≡ true → more number (get_or word i 0) ≡ digits_value 10 (take (i + 1) word)
+value_more word i number within spells digit =
+    ap (λ n. n * 10 + (get_or word i 0 - 48)) spells.value ∙ ap (λ n. digits_value 10 (take i word) * 10 + n) (sym (digit_is (get_or word i 0) digit)) ∙ sym (digits_value_more 10 word i within)
+
+pub Spells-none : (word : List ℕ) → Spells word 0 0
+Spells-none word = record { digits = refl; value = refl; fits = omega arith }
+
+pub Spells-more : (word : List ℕ) (i number next : ℕ) → i < length word → Spells word i number → with_digit number (get_or word i 0) ≡ Some next → Spells word (i + 1) next
+Spells-more word i number next within spells is = by (takes number (get_or word i 0)) refl
+  where
+    by : (b : Bool) → takes number (get_or word i 0) ≡ b → Spells word (i + 1) next
+    by true e =
+        let parts : (is_ascii_digit (get_or word i 0) ≡ true) × (ltb (more number (get_or word i 0)) (2 ^ 64) ≡ true) = and_parts (is_ascii_digit (get_or word i 0)) (ltb (more number (get_or word i 0)) (2 ^ 64)) e in
+        let small : more number (get_or word i 0) < 2 ^ 64 = ltb-true (more number (get_or word i 0)) (2 ^ 64) parts.1 in
+        let some : Some (more number (get_or word i 0)) ≡ Some next = ap (λ b. cond b (Some (more number (get_or word i 0))) None) (sym e) ∙ is in
+        let same : more number (get_or word i 0) ≡ next = cc in
+        record {
+          digits = digits_more word i within spells.digits parts.0;
+          value = sym same ∙ value_more word i number within spells parts.0;
+          fits = omega (arith, same);
+        }
+    by false e = let none : ◌≡◌ {A = Option ℕ} None (Some next) = ap (λ b. cond b (Some (more number (get_or word i 0))) None) (sym e) ∙ is in absurd cc
 
 abbrev IsNumber : List ℕ → Type 0
-IsNumber word = (all_ascii_digits word ≡ true) × (0 < length word) × (digits_value 10 word < 2 ^ 64)
-
-and_parts : (a b : Bool) → (a && b) ≡ true → (a ≡ true) × (b ≡ true)
-and_parts true b e = (refl, e)
-and_parts false b e = absurd (cc)
-
-is_number_from : (word : List ℕ) → IsNumber word → is_number word ≡ true
-is_number_from word is = rw (is.0, lt-ltb 0 (length word) is.1, lt-ltb (digits_value 10 word) (2 ^ 64) is.2) refl
+IsNumber word = (0 < length word) × (all_ascii_digits word ≡ true) × (digits_value 10 word < 2 ^ 64)
 
 is_number_to : (word : List ℕ) → is_number word ≡ true → IsNumber word
 is_number_to word e =
     let outer : ((ltb 0 (length word) && all_ascii_digits word) ≡ true) × (ltb (digits_value 10 word) (2 ^ 64) ≡ true) = and_parts _ _ e in
     let inner : (ltb 0 (length word) ≡ true) × (all_ascii_digits word ≡ true) = and_parts _ _ outer.0 in
-    (inner.1, ltb-true 0 (length word) inner.0, ltb-true (digits_value 10 word) (2 ^ 64) outer.1)
+    (ltb-true 0 (length word) inner.0, inner.1, ltb-true (digits_value 10 word) (2 ^ 64) outer.1)
 
--- what is no number of digits has no value
-pub no_number : (word : List ℕ) → ¬ (all_ascii_digits word ≡ true) → number_of word ≡ None
+no_number : (word : List ℕ) → (IsNumber word → ⊥) → number_of word ≡ None
 unfolding number_of
-no_number word not_digits =
-    let P : Bool → Type 0 = λ b. is_number word ≡ b → number_of word ≡ None in
-    let cases : (b : Bool) → P b = λ b. elim b as P [ true ↦ λ e. absurd (not_digits (is_number_to word e).0) | false ↦ λ e. rw e refl ] in
-    cases (is_number word) refl
+no_number word not = by (is_number word) refl
+  where
+    by : (b : Bool) → is_number word ≡ b → number_of word ≡ None
+    by true e = absurd (not (is_number_to word e))
+    by false e = rw e refl
 
-told_by : {E : Type 0} (word : List ℕ) (r : Result ℕ E) → OkIff r (IsNumber word) (digits_value 10 word) → result_ok r ≡ number_of word
+pub Spells-empty : (word : List ℕ) → length word ≡ 0 → number_of word ≡ None
+Spells-empty word empty = no_number word (λ is. let some : 0 < length word = is.0 in absurd (omega arith))
+
+-- where a byte can't be taken there is no number
+pub Spells-stops : (word : List ℕ) (i number : ℕ) → i < length word → Spells word i number → with_digit number (get_or word i 0) ≡ None → number_of word ≡ None
+Spells-stops word i number within spells is = no_number word (λ all.
+    let digit : is_ascii_digit (get_or word i 0) ≡ true = digit_at word i within all.1 in
+    let value : more number (get_or word i 0) ≡ digits_value 10 (take (i + 1) word) = value_more word i number within spells digit in
+    let bound : digits_value 10 (take (i + 1) word) ≤ digits_value 10 word = digits_value-take-le 10 word (i + 1) (omega arith) in
+    let fits : digits_value 10 word < 2 ^ 64 = all.2 in
+    let taken : takes number (get_or word i 0) ≡ true = and_from (is_ascii_digit (get_or word i 0)) (ltb (more number (get_or word i 0)) (2 ^ 64)) digit (lt-ltb (more number (get_or word i 0)) (2 ^ 64) (omega (arith, value))) in
+    let some : ◌≡◌ {A = Option ℕ} (Some (more number (get_or word i 0))) None = ap (λ b. cond b (Some (more number (get_or word i 0))) None) (sym taken) ∙ is in
+    absurd cc)
+
+pub Spells-all : (word : List ℕ) (i number : ℕ) → 0 < length word → length word ≤ i → Spells word i number → Some number ≡ number_of word
 unfolding number_of
-told_by word (Ok n) is = rw (is_number_from word is.0, is.1) refl
-told_by word (Err e) is_none =
-    let P : Bool → Type 0 = λ b. is_number word ≡ b → None ≡ number_of word in
-    let cases : (b : Bool) → P b = λ b. elim b as P [ true ↦ λ e. absurd (is_none (is_number_to word e)) | false ↦ λ e. rw e refl ] in
-    cases (is_number word) refl
-
--- `parse` reads a sign too, so the word begins with none
-pub number_of-parse : {E : Type 0} (word : List ℕ) (read : Result ℕ E) → get_or word 0 0 ≢ 43 → ParsesUnsigned 64 10 word read → result_ok read ≡ number_of word
-number_of-parse word read no_plus parsed = told_by word read (parse_plain own 64 word read parsed no_plus)
-
-all_ascii : (word : List ℕ) → all_ascii_digits word ≡ true → (i : ℕ) → get_or word i 0 < 128
-all_ascii [] digits i = omega arith
-all_ascii (b ∷ bs) digits zero = let first : is_ascii_digit b ≡ true = (and_parts _ _ digits).0 in grind (arith, nat_tests)
-all_ascii (b ∷ bs) digits (suc i) = all_ascii bs (and_parts _ _ digits).1 i
-
-pub no_number_from_bytes : (word : List ℕ) → ¬ (IsUtf8 word) → number_of word ≡ None
-no_number_from_bytes word no_text = no_number word (λ digits. no_text (IsUtf8-from_ascii word (all_ascii word digits)))
-
-plus_is : (b : ℕ) (bs : List ℕ) → starts_with nat_eq (b ∷ bs) (43 ∷ []) ≡ eqb 43 b
-plus_is b bs = and-true (eqb 43 b)
-
-pub no_number_from_plus : (word : List ℕ) → starts_with nat_eq word (43 ∷ []) ≡ true → number_of word ≡ None
-no_number_from_plus [] plus = absurd (cc)
-no_number_from_plus (b ∷ bs) plus = no_number (b ∷ bs) (λ digits.
-    let first : is_ascii_digit b ≡ true = (and_parts _ _ digits).0 in
-    let sign : 43 ≡ b = eqb-true 43 b (sym (plus_is b bs) ∙ plus) in
-    let no_digit : is_ascii_digit 43 ≡ true = subst (λ (x : ℕ). is_ascii_digit x ≡ true) (sym sign) first in
-    cc)
-
-pub no_plus : (word : List ℕ) → starts_with nat_eq word (43 ∷ []) ≡ false → get_or word 0 0 ≢ 43
-no_plus [] other = λ e. absurd (cc)
-no_plus (b ∷ bs) other = λ (e : b ≡ 43).
-    let same : eqb 43 b ≡ true = rw e refl in
-    let not_same : eqb 43 b ≡ false = sym (plus_is b bs) ∙ other in
-    cc (same, not_same)
-
--- what `ok()` says of a result
-pub fails_at_none : {A E : Type 0} (P : A → Type 0) (Q : E → Type 0) (r : Result A E) → MatchResult r P Q → result_ok r ≡ None → (e : E) × Q e
-fails_at_none P Q (Ok x) told none = absurd (cc)
-fails_at_none P Q (Err e) told none = (e, told)
-
-pub holds_at_some : {A E : Type 0} (P : A → Type 0) (Q : E → Type 0) (r : Result A E) (x : A) → MatchResult r P Q → result_ok r ≡ Some x → P x
-holds_at_some P Q (Ok y) x told some = let same : y ≡ x = cc in subst P same told
-holds_at_some P Q (Err e) x told some = absurd (cc)
+Spells-all word i number some past spells =
+    let whole : take i word ≡ word = take_all i word past in
+    let value : number ≡ digits_value 10 word = spells.value ∙ ap (digits_value 10) whole in
+    let digits : all_ascii_digits word ≡ true = ap all_ascii_digits (sym whole) ∙ spells.digits in
+    let small : digits_value 10 word < 2 ^ 64 = omega (arith, value, spells.fits) in
+    rw (digits, lt-ltb 0 (length word) some, lt-ltb (digits_value 10 word) (2 ^ 64) small) (ap Some value)

@@ -1,6 +1,6 @@
 ghost use Rattle.std.specs.Prelude.{◌≡◌};
 ghost use Rattle.ckpt_lines.specs.Reading.{IsExact};
-ghost use Rattle.ckpt_lines.specs.Values.{file_word, number_of, part_of, retention, subtask_of, target_of};
+ghost use Rattle.ckpt_lines.specs.Values.{file_word, number_of, part_of, retention, subtask_of, target_of, with_digit};
 
 use crate::fault::LineFault;
 use ckpt_ids::{CheckpointId, FileId, SubtaskId, Target};
@@ -18,11 +18,24 @@ pub enum FileWord {
 pub fn number_of(word: &[u8]) -> Option<u64>
     ensures { result ≡ number_of word.now }
 {
-    if word.starts_with(b"+") {
+    if word.is_empty() {
         return None;
     }
-    let text = str::from_utf8(word).ok()?;
-    text.parse().ok()
+    let mut number = 0;
+    for byte in word {
+        number = with_digit(number, *byte)?;
+    }
+    Some(number)
+}
+
+/// The number with one digit more, or `None` where the byte is no digit or the number is too large.
+fn with_digit(number: u64, byte: u8) -> Option<u64>
+    ensures { result ≡ with_digit number byte }
+{
+    if !byte.is_ascii_digit() {
+        return None;
+    }
+    number.checked_mul(10)?.checked_add(u64::from(byte - b'0'))
 }
 
 /// The number of a vertex, or of a subtask of one: at most 65535.

@@ -1,6 +1,5 @@
 -- The state that a book's calls lead to, after calls more.
 use Rattle.std.proofs.Common.{◌≡◌, ℕ, List, [], ◌∷◌, ◌++◌, ap, ◌∙◌, refl}
-use Rattle.std.specs.Prelude.{Result, Ok, Err, IfOk}
 use Rattle.std.proofs.lemmas.List.{map-append}
 use Rattle.ckpt_ids.specs.declared.call.Call.{Call}
 use Rattle.ckpt_core.specs.State.{State, Opening, opened}
@@ -30,7 +29,3 @@ answer_to-step h call = refl
 pub state_of_book-opened : (h : History) (o : Opening) → h.opening ≡ o → h.entries ≡ [] → state_of_book h ≡ opened o
 unfolding state_of_book
 state_of_book-opened h o same none = ap (λ (es : List Entry). replay (opened h.opening) (calls_of es)) none ∙ ap opened same
-
-pub IfOk-map : {T E : Type 0} (r : Result T E) (P Q : T → Type 0) → ((x : T) → P x → Q x) → IfOk r P → IfOk r Q
-IfOk-map (Ok x) P Q f p = f x p
-IfOk-map (Err e) P Q f p = tt

@@ -1,4 +1,4 @@
-ghost use Rattle.std.specs.Prelude.{◌≡◌, ◌↔◌, [], false, None, Err, IfOk, OnErr, string_bytes};
+ghost use Rattle.std.specs.Prelude.{◌≡◌, ◌↔◌, [], false, true, None, Err, IfOk, OnErr, is_err, string_bytes};
 ghost use Rattle.ckpt_session.specs.Sessions.{opening_scene, before_start, configured, shaped, started, called, restored, new_shape, is_new_shape, all_called, obeyed, said};
 
 use crate::all::AllLine;
@@ -56,8 +56,9 @@ impl Session {
     /// Obeys the line with this number, and answers what it prints: one text with its newline, or
     /// nothing. A line with a fault changes nothing, nor does one that the script refuses.
     ///
-    /// Fails only for want of memory, and then the coordinator is given up: the session is as it was
-    /// before its `start`, with the configuration and the shape.
+    /// Fails only for want of memory, also where the line could not be read for it, and then the
+    /// coordinator is given up: the session is as it was before its `start`, with the configuration
+    /// and the shape.
     #[tactic(auto, unfolding(crate::specs::Sessions::said))]
     pub fn say<T: Team>(
         &mut self,
@@ -67,9 +68,11 @@ impl Session {
     ) -> Result<String, AllocError>
         ensures said { IfOk result (λ text. (self.new, string_bytes text) ≡ said number self.old line) }
         ensures given_up { OnErr result (self.new ≡ record self.old { core = None }) }
+        ensures memory { line ≡ Err LineFault.Memory → is_err result ≡ true }
     {
         let answered = match line {
             Ok(line) => self.obey(line, team),
+            Err(LineFault::Memory) => Err(AllocError),
             Err(why) => fault_text(self.alloc, number, why),
         };
         if answered.is_err() {

@@ -1,21 +1,23 @@
-use Rattle.std.proofs.Common.{◌≡◌, ◌≢◌, ℕ, List, get_or, sym, subst, ap, ◌∙◌}
-use Rattle.ckpt_lines.specs.Values.{number_of}
-use Rattle.ckpt_lines.proofs.NumberLemmas.{no_number_from_plus, no_number_from_bytes, no_plus, number_of-parse, fails_at_none, holds_at_some}
+use Rattle.std.proofs.Common.{ℕ, ◌≡◌, ◌<◌, eqb, false, length, sym, ◌∙◌, arith, eqb-true, zero, suc}
+use Rattle.ckpt_lines.proofs.NumberLemmas.{Spells-all, Spells-empty, Spells-more, Spells-stops}
 use Rattle.ckpt_lines.proofs.values.number_of.Goals as goal
 
-pub returns-then-starts_with : goal.returns-then-starts_with
-returns-then-starts_with c = sym (no_number_from_plus c.args.word.now (sym c.starts_with.ensures.value ∙ c.if-starts_with.true))
+not_empty : (n : ℕ) → eqb n 0 ≡ false → 0 < n
+not_empty zero e = absurd (cc)
+not_empty (suc n) e = omega arith
 
-pub returns-in_err-text : goal.returns-in_err-text
-returns-in_err-text c =
-    let no_text = fails_at_none _ _ c.from_utf8.result c.from_utf8.ensures.cases (sym c.ok.ensures.value ∙ c.in_err-text.was) in
-    c.from_residual.ensures ∙ sym (no_number_from_bytes c.args.word.now no_text.1.0)
+pub returns-then-is_empty : goal.returns-then-is_empty
+returns-then-is_empty c = sym (Spells-empty c.args.word.now (eqb-true (length c.args.word.now) 0 (sym c.is_empty.ensures ∙ c.if-is_empty.true)))
+
+pub returns-in_err-number : goal.returns-in_err-number
+returns-in_err-number c =
+    c.from_residual.ensures ∙ sym (Spells-stops c.args.word.now c.loop-byte.byte-index c.loop-byte.number (omega arith) c.loop-byte.invariant (sym c.with_digit.ensures ∙ c.in_err-number.was))
+
+pub loop-byte-preserved : goal.loop-byte-preserved
+loop-byte-preserved c =
+    Spells-more c.args.word.now c.loop-byte.byte-index c.loop-byte.number c.in_ok-number.number (omega arith) c.loop-byte.invariant (sym c.with_digit.ensures ∙ c.in_ok-number.was)
 
 pub returns : goal.returns
 returns c =
-    let word : List ℕ = c.args.word.now in
-    let text : List ℕ = c.in_ok-text.text.now in
-    let told = holds_at_some _ _ c.from_utf8.result c.in_ok-text.text c.from_utf8.ensures.cases (sym c.ok.ensures.value ∙ c.in_ok-text.was) in
-    let same : text ≡ word = told.0 in
-    let sign : get_or text 0 0 ≢ 43 = subst (λ (bs : List ℕ). get_or bs 0 0 ≢ 43) (sym same) (no_plus word (sym c.starts_with.ensures.value ∙ c.if-starts_with.false)) in
-    c.ok-2.ensures.value ∙ number_of-parse text c.parse.result sign c.parse.ensures.value.0 ∙ ap number_of same
+    let some : 0 < length c.args.word.now = not_empty (length c.args.word.now) (sym c.is_empty.ensures ∙ c.if-is_empty.false) in
+    Spells-all c.args.word.now c.loop-byte.byte-index c.loop-byte.number some (omega arith) c.loop-byte.invariant

@@ -1,0 +1,5 @@
+use Rattle.ckpt_lines.proofs.NumberLemmas.{Spells}
+use Rattle.ckpt_lines.proofs.values.number_of.Given as goal
+
+abbrev pub invariant-loop-byte : goal.invariant-loop-byte
+invariant-loop-byte l = Spells l.word l.byte-index l.number
