@@ -17,20 +17,26 @@ static void write_whole(int to, const char *bytes, size_t len) {
     }
 }
 
-static bool dies_here(struct coordinator *c) {
-    return c->steps != 0 && --c->steps == 0;
+static bool dies_at(struct coordinator *c, enum place place) {
+    return c->death.place == place && c->death.nth != 0 && --c->death.nth == 0;
 }
 
 static void die(void) {
     kill(getpid(), SIGKILL);
-    pause();
+    for (;;) {
+        pause();
+    }
+}
+
+static void may_die_at(struct coordinator *c, enum place place) {
+    if (dies_at(c, place)) {
+        die();
+    }
 }
 
 void coordinator_step(struct coordinator *c) {
     pthread_mutex_lock(&c->lock);
-    if (dies_here(c)) {
-        die();
-    }
+    may_die_at(c, BETWEEN_STEPS);
     pthread_mutex_unlock(&c->lock);
 }
 
@@ -95,6 +101,7 @@ static void note(struct coordinator *c, uint64_t id, relkvanu_answer answer) {
     c->calls++;
     if (answer.code == RELKVANU_REFUSED) {
         c->refused++;
+        c->gone += answer.what == RELKVANU_FILE_GONE;
     } else {
         CHECK(answer.code == RELKVANU_DONE, "a call answers code %" PRIu32, answer.code);
         c->answers[answer.what]++;
@@ -111,26 +118,21 @@ static relkvanu_answer obey(struct coordinator *c, char *line) {
     return answer;
 }
 
-/* Writes a line to the log and syncs it, then makes its call. A process that is killed here leaves half a line,
- * or a whole one whose call was not made. */
+/* Writes a line to the log and syncs it, then makes its call. */
 static relkvanu_answer logged(struct coordinator *c, char *line) {
     size_t len = strlen(line);
     CHECK(len + 1 < SCRIPT_LINE, "a line is too long");
     line[len] = '\n';
-    if (dies_here(c)) {
+    if (dies_at(c, HALF_A_LINE)) {
         write_whole(c->log, line, len / 2);
         die();
     }
     write_whole(c->log, line, len + 1);
     CHECK(fdatasync(c->log) == 0, "the log can't be synced: %s", strerror(errno));
-    if (dies_here(c)) {
-        die();
-    }
+    may_die_at(c, BEFORE_A_CALL);
     line[len] = '\0';
     relkvanu_answer answer = obey(c, line);
-    if (dies_here(c)) {
-        die();
-    }
+    may_die_at(c, AFTER_A_CALL);
     return answer;
 }
 
@@ -174,14 +176,13 @@ void coordinator_replay(struct coordinator *c, const char *log) {
     replayed(c, log);
 }
 
-void coordinator_open(struct coordinator *c, const char *log, uint64_t seed, uint64_t steps) {
+void coordinator_open(struct coordinator *c, const char *log, struct death death) {
     coordinator_clear(c);
-    c->seed = seed;
     c->log = open(log, O_CREAT | O_WRONLY | O_APPEND, 0600);
     CHECK(c->log >= 0, "%s can't be opened: %s", log, strerror(errno));
     off_t whole = replayed(c, log);
     CHECK(ftruncate(c->log, whole) == 0, "%s can't be cut off after its last whole line", log);
-    c->steps = steps;
+    c->death = death;
     if (c->script.handle.state == NULL) {
         coordinator_call(c, "config 100 0 2 5000 2 2 delete");
         coordinator_call(c, "job %d", TASKS);

@@ -11,11 +11,21 @@
 
 enum { REPLIES = 23 };
 
+/* Where the process may kill itself: with half of a line in the log, before its call, after it, or between two steps of
+ * a task or of the discarder. */
+enum place { HALF_A_LINE, BEFORE_A_CALL, AFTER_A_CALL, BETWEEN_STEPS, PLACES };
+
+/* The process is killed when it comes to the place for the nth time; 0: it is not. */
+struct death {
+    enum place place;
+    uint64_t nth;
+};
+
 struct coordinator {
     pthread_mutex_t lock;
     struct script script;
     int log;
-    uint64_t seed, steps;         /* until the process kills itself; 0: it does not */
+    struct death death;
     uint64_t next_file;           /* above all that were named */
     uint64_t last;                /* the greatest number of a record */
     uint64_t savepoint_pending;   /* 0: none */
@@ -23,7 +33,7 @@ struct coordinator {
     bool is_rolled_back;
     uint64_t restored;            /* how many checkpoints were complete at the last restore */
     uint64_t answers[REPLIES];    /* how often each was given, */
-    uint64_t refused;             /* and how often a refusal */
+    uint64_t refused, gone;       /* and how often a refusal, and that for a file that is gone */
     uint64_t calls;
     uint64_t handed_again;        /* files that a message which came twice has handed out once more */
     uint64_t *taken;              /* fetched and not reported */
@@ -37,9 +47,8 @@ struct progress {
     bool is_rolled_back;
 };
 
-/* Opens the log, a new one where there is none: then the coordinator too, with these lines. Where steps is not 0,
- * the process is killed after so many. */
-void coordinator_open(struct coordinator *c, const char *log, uint64_t seed, uint64_t steps);
+/* Opens the log, a new one where there is none: then the coordinator too, by its first lines. */
+void coordinator_open(struct coordinator *c, const char *log, struct death death);
 
 /* Replays a log to compare with. Nothing is written. */
 void coordinator_replay(struct coordinator *c, const char *log);
@@ -62,7 +71,7 @@ uint64_t coordinator_new_file(struct coordinator *c);
 
 struct progress coordinator_progress(struct coordinator *c);
 
-/* A place where the process may be killed: the seed says at which. */
+/* A place between two steps. */
 void coordinator_step(struct coordinator *c);
 
 #endif

@@ -23,7 +23,7 @@ void job_open(struct job *job, const char *folder) {
     path_of(job->local, "%.400s/local", folder);
     path_of(job->log, "%.400s/log", folder);
     mkdir(job->storage, 0700);
-    coordinator_open(&job->coordinator, job->log, job->seed, job->coordinator.steps);
+    coordinator_open(&job->coordinator, job->log, job->death);
     discarder_report(&job->coordinator, job->storage);
     discarder_drain(&job->coordinator, job->storage);
     /* what is left and not used was written by tasks that died before they named it */
@@ -75,7 +75,7 @@ static void prepare(struct job *job, unsigned index) {
     task->index = index;
     task->is_failed = &job->is_failed;
     task->held.len = 0;
-    task->chance.state = mixed(job->seed ^ mixed(job->coordinator.calls + index));
+    task->chance.state = chance_below(&job->chance, UINT64_MAX);
     path_of(task->folder, "%.400s/task-%u", job->local, index);
     empty_folder(task->folder);
 }

@@ -12,6 +12,7 @@ struct job {
     struct discarder discarder;
     char storage[PATH], local[PATH], log[PATH];
     uint64_t seed;
+    struct death death;
     uint64_t started, seconds;  /* of this process */
     bool is_endless;            /* the process is to be killed */
     struct chance chance;

@@ -1,6 +1,6 @@
 /* engine FOLDER SEED SECONDS [KILLS]: runs a job of four tasks with a RocksDB each for so many seconds over a folder of
  * its own, and checks its end. With KILLS the process that runs it is killed so often first, and started again
- * over its log: at moments that the seed chooses, in turn between two steps of its own and from outside. */
+ * over its log: at places and moments that the seed chooses, in turn each kind of place and a moment. */
 #define _GNU_SOURCE
 #include "check.h"
 
@@ -9,7 +9,7 @@
 #include <sys/wait.h>
 #include <unistd.h>
 
-enum { MOST_STEPS = 600, MOST_MS = 1200, GUARD_SECONDS = 300 };
+enum { MOST_NTH = 150, MOST_MS = 1200, GUARD_MS = 300000 };
 
 static void print_end(const struct job *job) {
     const struct coordinator *c = &job->coordinator;
@@ -18,8 +18,8 @@ static void print_end(const struct job *job) {
         records += job->offsets[partition];
     }
     printf("rocksdb: %" PRIu64 " records of %d partitions counted exactly, %" PRIu64 " tasks stopped in the last process\n", records, PARTITIONS, job->failures);
-    printf("rocksdb: %" PRIu64 " calls logged, %" PRIu64 " refused; %" PRIu64 " records completed; %" PRIu64 " restores, of them %" PRIu64 " from nothing\n",
-           c->calls, c->refused, c->answers[RELKVANU_ACK_COMPLETED],
+    printf("rocksdb: %" PRIu64 " calls logged, %" PRIu64 " refused, %" PRIu64 " of them for a file that is gone; %" PRIu64 " records completed; %" PRIu64 " restores, of them %" PRIu64 " from nothing\n",
+           c->calls, c->refused, c->gone, c->answers[RELKVANU_ACK_COMPLETED],
            c->answers[RELKVANU_RESTORED_CHECKPOINT] + c->answers[RELKVANU_RESTORED_SAVEPOINT] + c->answers[RELKVANU_RESTORED_FRESH],
            c->answers[RELKVANU_RESTORED_FRESH]);
     printf("rocksdb: %" PRIu64 " late acknowledgements, %" PRIu64 " declines, %" PRIu64 " files deleted, %" PRIu64 " deletions failed\n",
@@ -27,13 +27,13 @@ static void print_end(const struct job *job) {
            c->answers[RELKVANU_DELETED], c->answers[RELKVANU_UNDELETED]);
 }
 
-static void run(const char *folder, uint64_t seed, uint64_t choices, uint64_t seconds, uint64_t steps, bool is_endless) {
+static void run(const char *folder, uint64_t seed, uint64_t choices, uint64_t seconds, struct death death, bool is_endless) {
     static struct job job;
     job.seed = seed;
     job.seconds = seconds;
     job.is_endless = is_endless;
     job.chance.state = mixed(choices);
-    job.coordinator.steps = steps;
+    job.death = death;
     job_open(&job, folder);
     job_run(&job);
     check_end(&job);
@@ -44,12 +44,13 @@ static void run(const char *folder, uint64_t seed, uint64_t choices, uint64_t se
 /* Starts a process that runs the job until it is killed. */
 static void run_and_kill(const char *folder, uint64_t seed, uint64_t nth) {
     struct chance chance = {mixed(seed ^ mixed(nth))};
-    uint64_t steps = nth % 2 == 0 ? 1 + chance_below(&chance, MOST_STEPS) : 0;
-    uint64_t ms = nth % 2 == 0 ? GUARD_SECONDS * 1000 : 1 + chance_below(&chance, MOST_MS);
+    bool from_outside = nth % (PLACES + 1) == PLACES;
+    struct death death = {(enum place)(nth % (PLACES + 1)), from_outside ? 0 : 1 + chance_below(&chance, MOST_NTH)};
+    uint64_t ms = from_outside ? 1 + chance_below(&chance, MOST_MS) : GUARD_MS;
     pid_t child = fork();
     CHECK(child >= 0, "no process");
     if (child == 0) {
-        run(folder, seed, chance.state, 1, steps, true);
+        run(folder, seed, chance.state, 1, death, true);
         _exit(1);
     }
     int status;
@@ -74,7 +75,7 @@ int main(int argc, char **argv) {
     for (uint64_t nth = 0; nth < kills; nth++) {
         run_and_kill(argv[1], seed, nth);
     }
-    run(argv[1], seed, seed, seconds, 0, false);
+    run(argv[1], seed, seed, seconds, (struct death){PLACES, 0}, false);
     printf("rocksdb: the process was killed %" PRIu64 " times\n", kills);
     return 0;
 }

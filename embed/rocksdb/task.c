@@ -129,13 +129,15 @@ static bool uploads(struct task *task, uint64_t id, const char *folder) {
     return true;
 }
 
-/* The task's part of a record: by the seed it takes its time, or can't. */
+/* The task's part of a record: by the seed it takes its time, or finds after a while that it can't. By then others have
+ * acknowledged, and may name files again that go with the record. */
 static void take_part(struct task *task, uint64_t id) {
     char folder[PATH];
     if (chance_below(&task->chance, 8) == 0) {
         sleep_ms(chance_below(&task->chance, 200));
     }
     if (chance_below(&task->chance, 24) == 0) {
+        sleep_ms(100);
         decline(task, id);
         return;
     }

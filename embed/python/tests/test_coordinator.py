@@ -2,7 +2,9 @@
 import threading
 import unittest
 
-from relkvanu import AckPending, BadArgument, Closed, Coordinator, Refused, Settings, Shown, Triggered
+from relkvanu import (
+    AckPending, BadArgument, Closed, Coordinator, Refused, RestoredCheckpoint, Settings, Shown, Triggered,
+)
 
 SETTINGS = Settings(interval=1000)
 
@@ -67,6 +69,22 @@ class Calls(unittest.TestCase):
             pass
         job.close()
         self.assertRaises(Closed, job.tick, 1000)
+
+    def test_a_job_is_opened_anew_from_its_last_checkpoint(self):
+        with Coordinator(SETTINGS, [2], 0) as job:
+            job.tick(1000)
+            job.ack(1000, 1, 0, 0, [1, 2])
+            job.ack(1000, 1, 0, 1, [3], [2])
+            files = job.show(1).files
+        with Coordinator(SETTINGS, [2], 0, first=2) as job:
+            self.assertEqual(job.tick(2000), Triggered(expired=0, id=2))
+            known = set()
+            for index, named in files.items():
+                job.ack(2000, 2, 0, index, [f for f in named if f not in known], [f for f in named if f in known])
+                known.update(named)
+            self.assertEqual(job.show(2).files, {0: (1, 2), 1: (2, 3)})
+            self.assertEqual([job.count(file).uses for file in (1, 2, 3)], [1, 2, 1])
+            self.assertEqual(job.restore(3000), RestoredCheckpoint(id=2, released=0))
 
     def test_threads_share_it(self):
         with Coordinator(SETTINGS, [64], 0) as job:
