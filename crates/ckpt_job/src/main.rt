@@ -6,7 +6,7 @@
 #![tactic(auto)]
 
 use ckpt_script::run;
-use ckpt_workers::InOrder;
+use ckpt_workers::Threads;
 use std::process::ExitCode;
 
 /// The run ended before the end of the script.
@@ -15,7 +15,8 @@ const CUT: u8 = 2;
 fn main(rt: HostRuntime) -> ExitCode {
     let mut reader = rt.stdin();
     let mut writer = rt.stdout();
-    match run(rt.alloc(), &mut reader, &mut writer, &mut InOrder) {
+    let mut team = Threads::new(&rt, rt.alloc());
+    match run(rt.alloc(), &mut reader, &mut writer, &mut team) {
         Ok(summary) => ExitCode::from(u8::from(summary.faults > 0)),
         Err(fault) => {
             // Where standard error fails too, the status alone tells.
