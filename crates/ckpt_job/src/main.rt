@@ -6,7 +6,7 @@
 #![tactic(auto)]
 
 use ckpt_script::{RunFault, Secret, run_keyed};
-use ckpt_workers::InOrder;
+use ckpt_workers::Threads;
 use std::io;
 use std::process::ExitCode;
 use std::random::RandomSource;
@@ -17,14 +17,9 @@ const CUT: u8 = 2;
 fn main(rt: HostRuntime) -> ExitCode {
     let mut reader = rt.stdin();
     let mut writer = rt.stdout();
+    let mut team = Threads::new(&rt, rt.alloc());
     let result = match secret(&rt) {
-        Ok(secret) => run_keyed(
-            rt.alloc(),
-            secret,
-            &mut reader,
-            &mut writer,
-            &mut InOrder,
-        ),
+        Ok(secret) => run_keyed(rt.alloc(), secret, &mut reader, &mut writer, &mut team),
         Err(_) => Err(RunFault::Read),
     };
     match result {

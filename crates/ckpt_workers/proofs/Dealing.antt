@@ -1,9 +1,73 @@
 -- Members of a list that are dealt out in turn.
-use Rattle.std.proofs.Common.{◌≡◌, ℕ, ◌+◌, ◌%◌, Bool, true, false, cond, eqb, List, [], ◌∷◌, ◌++◌, length, refl, ap, ◌∙◌, arith}
+use Rattle.std.proofs.Common.{◌≡◌, ℕ, ◌+◌, ◌-◌, ◌*◌, ◌/◌, ◌%◌, ◌<◌, ◌≤◌, ◌≢◌, Bool, true, false, cond, zero, suc, eqb, eq-eqb, ne_eqb, List, [], ◌∷◌, ◌++◌, length, refl, sym, ap, ◌∙◌, ◌⊎◌, ⊎_elim, arith, length-append}
 use Rattle.std.specs.Prelude.{map, filter}
 use Rattle.std.specs.List.{enumerate_from}
 use Rattle.std.proofs.lemmas.List.{map-append}
 use Rattle.std.proofs.lemmas.List.Elements.{filter-append}
+use Rattle.std.proofs.lemmas.Nat.{div-mul-add, div-add-mod'}
+use Rattle.std.proofs.lemmas.Bool.{cases_order}
+use Rattle.std.proofs.Math.Nat.{suc-mul, mod-lt}
+use Rattle.std.proofs.Math.Numerals.{add-one}
+use Rattle.ckpt_workers.specs.Deals.{turns_of}
+
+quotient : (n q s m : ℕ) → s < n → m ≡ q * n + s → m / n ≡ q
+quotient n q s m small e = ap (λ x. x / n) e ∙ div-mul-add q n s small
+
+quotient_next : (n q s m : ℕ) → s < n → m ≡ q * n + n + s → m / n ≡ q + 1
+quotient_next n q s m small e = quotient n (q + 1) s m small (e ∙ ap (λ x. x + s) (sym (suc-mul q n) ∙ ap (λ x. x * n) (sym (add-one q))))
+
+-- the place goes to the seat: one turn more
+turns_of-next : (n k m : ℕ) → k < n → turns_of n k (m + 1) ≡ turns_of n k m + cond (eqb (m % n) k) 1 0
+turns_of-next n k m below =
+    let parts : m / n * n + m % n ≡ m = div-add-mod' m n in
+    let small : m % n < n = mod-lt m (omega arith) in
+    by_order (m / n) (m % n) parts small (cases_order (m % n) k)
+  where
+    by_order : (q r : ℕ) → q * n + r ≡ m → r < n → (r ≡ k) ⊎ ((r < k) ⊎ (k < r)) → turns_of n k (m + 1) ≡ turns_of n k m + cond (eqb r k) 1 0
+    by_order q r parts small order =
+        ⊎_elim
+        (λ same.
+        let now : turns_of n k m ≡ q = quotient n q (n - 1) (m + (n - 1 - k)) (omega arith) (omega arith) in
+        let next : turns_of n k (m + 1) ≡ q + 1 = quotient_next n q 0 (m + 1 + (n - 1 - k)) (omega arith) (omega arith) in
+        next ∙ ap (λ x. x + 1) (sym now) ∙ ap (λ b. turns_of n k m + cond b 1 0) (sym (eq-eqb r k same)))
+        (λ other.
+        ⊎_elim
+        (λ less.
+        let now : turns_of n k m ≡ q = quotient n q (r + (n - 1 - k)) (m + (n - 1 - k)) (omega arith) (omega arith) in
+        let next : turns_of n k (m + 1) ≡ q = quotient n q (r + (n - k)) (m + 1 + (n - 1 - k)) (omega arith) (omega arith) in
+        let differ : r ≢ k = λ e. absurd (omega arith) in
+        next ∙ sym now ∙ omega arith ∙ ap (λ b. turns_of n k m + cond b 1 0) (sym (ne_eqb r k differ)))
+        (λ more.
+        let now : turns_of n k m ≡ q + 1 = quotient_next n q (r - 1 - k) (m + (n - 1 - k)) (omega arith) (omega arith) in
+        let next : turns_of n k (m + 1) ≡ q + 1 = quotient_next n q (r - k) (m + 1 + (n - 1 - k)) (omega arith) (omega arith) in
+        let differ : r ≢ k = λ e. absurd (omega arith) in
+        next ∙ sym now ∙ omega arith ∙ ap (λ b. turns_of n k m + cond b 1 0) (sym (ne_eqb r k differ)))
+        other)
+        order
+
+turns_of-none : (n k : ℕ) → k < n → turns_of n k 0 ≡ 0
+turns_of-none n k below = quotient n 0 (n - 1 - k) (0 + (n - 1 - k)) (omega arith) (omega arith)
+
+-- the turns of a place's own seat before it
+pub turns_of-here : (n m : ℕ) → 0 < n → turns_of n (m % n) m ≡ m / n
+turns_of-here n m some =
+    let parts : m / n * n + m % n ≡ m = div-add-mod' m n in
+    let small : m % n < n = mod-lt m some in
+    quotient n (m / n) (n - 1) (m + (n - 1 - m % n)) (omega arith) (omega arith)
+
+pub turns_of-le : (n k m more : ℕ) → k < n → turns_of n k m ≤ turns_of n k (m + more)
+turns_of-le n k m zero below = let e : m + 0 ≡ m = omega arith in omega (arith, ap (turns_of n k) e)
+turns_of-le n k m (suc more) below =
+    let e : m + suc more ≡ m + more + 1 = omega arith in
+    omega (arith, turns_of-le n k m more below, turns_of-next n k (m + more) below, ap (turns_of n k) e)
+
+-- the seat's place in its list, where more places than this one are dealt out
+pub turns_of-within : (n m count : ℕ) → 0 < n → m < count → m / n < turns_of n (m % n) count
+turns_of-within n m count some less =
+    let small : m % n < n = mod-lt m some in
+    let e : m + 1 + (count - (m + 1)) ≡ count = omega arith in
+    let one : ◌≡◌ {A = ℕ} (cond (eqb (m % n) (m % n)) 1 0) 1 = ap (λ b. cond b 1 0) (eq-eqb (m % n) (m % n) refl) in
+    omega (arith, turns_of-here n m some, turns_of-next n (m % n) m small, one, turns_of-le n (m % n) (m + 1) (count - (m + 1)) small, ap (turns_of n (m % n)) e)
 
 module _ {A : Type 0} where
   -- those from this place on
@@ -45,3 +109,27 @@ module _ {A : Type 0} where
   dealt_from-cons n threads seat x xs =
       dealt_from-append n threads seat (x ∷ []) xs
       ∙ ap (λ l. l ++ dealt_from (n + 1) threads seat xs) (dealt_from-one n threads seat x)
+
+  length-in_turn : (n k m : ℕ) (x : A) → length (in_turn n k m x) ≡ cond (eqb (m % n) k) 1 0
+  length-in_turn n k m x = by_test (eqb (m % n) k)
+    where
+      by_test : (b : Bool) → length (cond b (x ∷ []) []) ≡ cond b 1 0
+      by_test true = refl
+      by_test false = refl
+
+  length-dealt_from : (m n k : ℕ) (xs : List A) → k < n → length (dealt_from m n k xs) + turns_of n k m ≡ turns_of n k (m + length xs)
+  length-dealt_from m n k [] below = let e : m ≡ m + length {A = A} [] = omega arith in let same : turns_of n k m ≡ turns_of n k (m + length {A = A} []) = ap (turns_of n k) e in omega (arith, same)
+  length-dealt_from m n k (x ∷ xs) below =
+      let e : m + 1 + length xs ≡ m + length (x ∷ xs) = omega arith in
+      omega (
+        arith,
+        ap length (dealt_from-cons m n k x xs),
+        length-append (in_turn n k m x) (dealt_from (m + 1) n k xs),
+        length-in_turn n k m x,
+        turns_of-next n k m below,
+        length-dealt_from (m + 1) n k xs below,
+        ap (turns_of n k) e,
+      )
+
+  pub length-dealt_to : (n k : ℕ) (xs : List A) → k < n → length (dealt_from 0 n k xs) ≡ turns_of n k (length xs)
+  length-dealt_to n k xs below = let e : 0 + length xs ≡ length xs = omega arith in omega (arith, length-dealt_from 0 n k xs below, turns_of-none n k below, ap (turns_of n k) e)

@@ -1,4 +1,5 @@
 pub mod Crossings
+pub mod DealLemmas
 pub mod Dealing
 pub mod RoundLemmas
 pub mod SeatLemmas
@@ -7,4 +8,5 @@ pub mod ShiftLemmas
 pub mod TallyLemmas
 pub mod TaskLemmas
 pub mod TeamLemmas
+pub mod ThreadLemmas
 pub mod TimerLemmas

@@ -10,16 +10,10 @@ use Rattle.ckpt_locked.specs.declared.book.Entry.{Entry}
 use Rattle.ckpt_locked.specs.Books.{History, answer_to, entered}
 use Rattle.ckpt_locked.specs.Seats.{answers_by, calls_by}
 use Rattle.ckpt_workers.specs.declared.team.Made.{Made}
-use Rattle.ckpt_workers.specs.Teams.{IsOneMore, IsTeamwork, dealt_to, is_accepted}
+use Rattle.ckpt_workers.specs.Teams.{IsOneMore, IsTally, IsTeamwork, dealt_to, is_accepted}
 use Rattle.ckpt_core.specs.Interleavings.{completed_by, first_completed}
 use Rattle.ckpt_workers.proofs.Dealing.{dealt_to-push, in_turn}
 use Rattle.ckpt_workers.proofs.SeatLemmas.{after, after-nil, after-append, answers_by-append, calls_by-append, SeatsBelow-push}
-
--- what is counted of these answers
-pub record IsTally (made : Made) (answers : List Answer) : Type 0 where
-  pub accepted : made.accepted ≡ count_by is_accepted answers
-  pub refused : made.refused ≡ count_by (λ a. not (is_accepted a)) answers
-  pub completed : made.completed ≡ first_completed answers
 
 -- new is old with one more answer
 pub record IsCounted (old new : Made) (answer : Answer) : Type 0 where

@@ -1,5 +1,5 @@
 -- Shares of calls, each made by a thread of its own.
-use Rattle.std.specs.Prelude.{◌≡◌, List}
+use Rattle.std.specs.Prelude.{◌≡◌, ℕ, ◌<◌, List, length, slice_index_or, Result, IfOk}
 use Rattle.ckpt_workers.specs.declared.shares.Share.{Share}
 use Rattle.ckpt_workers.specs.declared.shares.Report.{Report}
 use Rattle.ckpt_workers.specs.Shifts.{Exchange, IsShift, answers_in, calls_in}
@@ -10,3 +10,12 @@ pub record IsWorked (share : Share) (report : Report) : Type 0 where
   pub shift : IsShift share.pass told report.pass
   pub calls_are : calls_in told ≡ share.calls.items
   pub answers_are : answers_in told ≡ report.answers.items
+
+-- report i is of share i
+abbrev pub AreWorked : List Share → List Report → Type 0
+AreWorked shares reports = (i : ℕ) (s : Share) (r : Report) → i < length shares → IsWorked (slice_index_or shares i s) (slice_index_or reports i r)
+
+-- what came of share i, where it is a report, is of share i
+abbrev pub AreTried : {E : Type 0} → List Share → List (Result Report E) → Type 0
+AreTried {E} shares outcomes =
+    (i : ℕ) (s : Share) (o : Result Report E) → i < length shares → IfOk (slice_index_or outcomes i o) (IsWorked (slice_index_or shares i s))

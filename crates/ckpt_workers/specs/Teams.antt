@@ -19,6 +19,12 @@ abbrev pub is_accepted : Answer → Bool
 is_accepted (Done reply) = true
 is_accepted (Refused why) = false
 
+-- what is counted of these answers
+pub record IsTally (made : Made) (answers : List Answer) : Type 0 where
+  pub accepted : made.accepted ≡ count_by is_accepted answers
+  pub refused : made.refused ≡ count_by (λ a. not (is_accepted a)) answers
+  pub completed : made.completed ≡ first_completed answers
+
 -- one more call is entered, and its answer counted
 pub record IsOneMore (old : Made) (seat : ℕ) (call : Call) (new : Made) : Type 0 where
   pub book : new.book ≡ entered old.book seat call

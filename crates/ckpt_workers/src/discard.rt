@@ -42,7 +42,7 @@ pub fn discard_round<R: Wait, G: Gate, S: Storage>(
     most: u64,
 ) -> (Pass, Round)
     requires pass { pass.lock ≡ G.lock gate.now }
-    ensures round { (answer : Option Answer) × IsDiscarded most (record { deleted = S.deleted storage.old; failures = S.failures storage.old }) (record { deleted = S.deleted storage.new; failures = S.failures storage.new }) pass result.0 result.1 answer }
+    ensures round { (answer : Option Answer) × IsDiscarded most (S.stored storage.old) (S.stored storage.new) pass result.0 result.1 answer }
     ensures ended { IsEnded result.1 }
 {
     let (pass, answer) = ask(rt, gate, pass, Call::Take { most });
@@ -66,7 +66,7 @@ pub fn resume_round<R: Wait, G: Gate, S: Storage>(
 ) -> (Pass, Round)
     requires pass { pass.lock ≡ G.lock gate.now }
     requires gone { gone ≡ true → left ≢ [] }
-    ensures reported { IsReported left gone (record { deleted = S.deleted storage.old; failures = S.failures storage.old }) (record { deleted = S.deleted storage.new; failures = S.failures storage.new }) pass result.0 result.1 }
+    ensures reported { IsReported left gone (S.stored storage.old) (S.stored storage.new) pass result.0 result.1 }
     ensures ended { IsEnded result.1 }
 {
     report_each(rt, gate, pass, storage, left, gone)
@@ -83,7 +83,7 @@ fn report_each<R: Wait, G: Gate, S: Storage>(
 ) -> (Pass, Round)
     requires pass { pass.lock ≡ G.lock gate.now }
     requires gone { gone ≡ true → files ≢ [] }
-    ensures reported { IsReported files gone (record { deleted = S.deleted storage.old; failures = S.failures storage.old }) (record { deleted = S.deleted storage.new; failures = S.failures storage.new }) pass result.0 result.1 }
+    ensures reported { IsReported files gone (S.stored storage.old) (S.stored storage.new) pass result.0 result.1 }
     ensures ended { IsEnded result.1 }
 {
     let count = files.len();
@@ -153,7 +153,7 @@ fn file_at(files: &Handed, place: usize) -> FileId
 
 /// Deletes the file, unless it is gone, and answers whether it is deleted.
 fn try_delete<S: Storage>(storage: &mut S, file: FileId, gone: bool) -> bool
-    ensures { IsTried file gone (record { deleted = S.deleted storage.old; failures = S.failures storage.old }) (record { deleted = S.deleted storage.new; failures = S.failures storage.new }) result }
+    ensures { IsTried file gone (S.stored storage.old) (S.stored storage.new) result }
 {
     gone || storage.delete(file).is_ok()
 }

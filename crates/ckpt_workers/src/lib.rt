@@ -10,6 +10,7 @@ pub mod shares;
 pub mod storage;
 pub mod task;
 pub mod team;
+pub mod threads;
 pub mod timer;
 
 pub use discard::{Round, discard_round, resume_round};
@@ -20,4 +21,5 @@ pub use shares::{Report, Share, spread};
 pub use storage::{Storage, StorageFault};
 pub use task::{Tally, task_worker};
 pub use team::{InOrder, Made, Team};
+pub use threads::Threads;
 pub use timer::{TimerTally, timer_worker};

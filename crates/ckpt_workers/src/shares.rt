@@ -1,5 +1,5 @@
-ghost use Rattle.std.specs.Prelude.{◌≡◌, ◌<◌, ℕ, Ok, All, IfOk, map, slice_index_or, vec_len};
-ghost use Rattle.ckpt_workers.specs.Spreads.{IsWorked};
+ghost use Rattle.std.specs.Prelude.{◌≡◌, Ok, All, IfOk, map, vec_len};
+ghost use Rattle.ckpt_workers.specs.Spreads.{AreTried, AreWorked, IsWorked};
 
 use crate::gate::Gate;
 use ckpt_ids::{Answer, Call};
@@ -36,7 +36,7 @@ pub fn spread<R: Threads + Wait + Sync, G: Gate + Sync>(
 ) -> Result<Vec<Report>, AllocError>
     requires passes { All (λ s. s.pass.lock ≡ G.lock gate.now) shares.items }
     ensures count { IfOk result (λ reports. vec_len reports ≡ vec_len shares) }
-    ensures each { IfOk result (λ reports. (i : ℕ) (s : _) (r : _) → i < vec_len shares → IsWorked (slice_index_or shares.items i s) (slice_index_or reports.items i r)) }
+    ensures each { IfOk result (λ reports. AreWorked shares.items reports.items) }
 {
     let outcomes = work_on_all(rt, alloc, gate, shares)?;
     all_of(alloc, outcomes)
@@ -51,7 +51,7 @@ fn work_on_all<R: Threads + Wait + Sync, G: Gate + Sync>(
 ) -> Result<Vec<Result<Report, AllocError>>, AllocError>
     requires passes { All (λ s. s.pass.lock ≡ G.lock gate.now) shares.items }
     ensures count { IfOk result (λ outcomes. vec_len outcomes ≡ vec_len shares) }
-    ensures each { IfOk result (λ outcomes. (i : ℕ) (s : _) (o : _) → i < vec_len shares → IfOk (slice_index_or outcomes.items i o) (λ r. IsWorked (slice_index_or shares.items i s) r)) }
+    ensures each { IfOk result (λ outcomes. AreTried shares.items outcomes.items) }
 {
     thread::map_vec(
         rt,

@@ -1,4 +1,5 @@
-ghost use Rattle.std.specs.Prelude.{◌≡◌, ◌<◌, ◌≤◌, ◌++◌, ℕ, List, [], ◌∷◌, OnErr, OnOk};
+ghost use Rattle.std.specs.Prelude.{◌≡◌, ◌<◌, ◌≤◌, ◌++◌, [], ◌∷◌, OnErr, OnOk};
+ghost use Rattle.ckpt_workers.specs.Rounds.{Stored};
 
 use ckpt_ids::FileId;
 use thiserror::Error;
@@ -10,16 +11,13 @@ pub struct StorageFault;
 
 /// Where files are deleted.
 pub trait Storage {
-    /// What it deleted so far, in order.
-    ghost deleted: { Self → List ℕ };
-
-    /// How often it failed.
-    ghost failures: { Self → ℕ };
+    /// What it deleted so far, in order, and how often it failed.
+    ghost stored: { Self → Stored };
 
     /// Deletes a file. A fault leaves the file, as far as storage knows, and is counted.
     fn delete(&mut self, file: FileId) -> Result<(), StorageFault>
-        ensures deleted { OnOk result (deleted self.new ≡ deleted self.old ++ file ∷ []) }
-        ensures same { OnErr result (deleted self.new ≡ deleted self.old) }
-        ensures failed { OnErr result (failures self.old < failures self.new) }
-        ensures counted { failures self.old ≤ failures self.new };
+        ensures deleted { OnOk result ((stored self.new).deleted ≡ (stored self.old).deleted ++ file ∷ []) }
+        ensures same { OnErr result ((stored self.new).deleted ≡ (stored self.old).deleted) }
+        ensures failed { OnErr result ((stored self.old).failures < (stored self.new).failures) }
+        ensures counted { (stored self.old).failures ≤ (stored self.new).failures };
 }

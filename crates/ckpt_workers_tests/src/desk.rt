@@ -99,9 +99,7 @@ impl<'a, R: Abort> Disk<'a, R> {
 }
 
 impl<'a, R: Abort> Storage for Disk<'a, R> {
-    ghost deleted = { λ d. d.deleted.items };
-
-    ghost failures = { λ d. d.failures };
+    ghost stored = { λ d. record { deleted = d.deleted.items; failures = d.failures } };
 
     fn delete(&mut self, file: FileId) -> Result<(), StorageFault> {
         let place = self.tries;

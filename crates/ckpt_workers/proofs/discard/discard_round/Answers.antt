@@ -8,8 +8,8 @@ use Rattle.ckpt_workers.proofs.discard.discard_round.Goals as goal
 
 pub returns-in-Some-clause-round : goal.returns-in-Some-clause-round
 returns-in-Some-clause-round g c =
-    let before : Stored = record { deleted = g.S.Storage.deleted c.args.storage.now; failures = g.S.Storage.failures c.args.storage.now } in
-    let after : Stored = record { deleted = g.S.Storage.deleted c.report_each.new.storage; failures = g.S.Storage.failures c.report_each.new.storage } in (
+    let before : Stored = g.S.Storage.stored c.args.storage.now in
+    let after : Stored = g.S.Storage.stored c.report_each.new.storage in (
       Some c.in-Some.answer,
       (
         c.ask-pass.result.0,

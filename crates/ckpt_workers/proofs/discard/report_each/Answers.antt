@@ -14,7 +14,7 @@ round taken deleted failed left gone = record { taken = taken; deleted = deleted
 pub loop-place-init : goal.loop-place-init
 loop-place-init g c =
     let files = c.args.files in
-    let stored : Stored = record { deleted = g.S.Storage.deleted c.args.storage.now; failures = g.S.Storage.failures c.args.storage.now } in
+    let stored : Stored = g.S.Storage.stored c.args.storage.now in
     record {
       reported = IsReported-none files c.args.gone stored c.args.pass (round (length files) 0 0 files c.args.gone) refl refl refl refl refl;
       counted = refl;
@@ -27,9 +27,9 @@ returns-then-not-answered-clause-reported g c =
     let files = c.args.files in
     let l = c.loop-place in
     let now = c.try_delete-deleted.new.storage in
-    let before : Stored = record { deleted = g.S.Storage.deleted c.args.storage.now; failures = g.S.Storage.failures c.args.storage.now } in
-    let mid : Stored = record { deleted = g.S.Storage.deleted l.storage; failures = g.S.Storage.failures l.storage } in
-    let after : Stored = record { deleted = g.S.Storage.deleted now; failures = g.S.Storage.failures now } in
+    let before : Stored = g.S.Storage.stored c.args.storage.now in
+    let mid : Stored = g.S.Storage.stored l.storage in
+    let after : Stored = g.S.Storage.stored now in
     let was : Round = round (length files) l.counts.deleted l.counts.failed (drop l.place files) l.gone in
     let is : Round = c.round.result in
     let left = drop_at files l.place c.file_at-file.result c.file_at-file.ensures in
@@ -45,9 +45,9 @@ loop-place-preserved g c =
     let files = c.args.files in
     let l = c.loop-place in
     let now = c.try_delete-deleted.new.storage in
-    let before : Stored = record { deleted = g.S.Storage.deleted c.args.storage.now; failures = g.S.Storage.failures c.args.storage.now } in
-    let mid : Stored = record { deleted = g.S.Storage.deleted l.storage; failures = g.S.Storage.failures l.storage } in
-    let after : Stored = record { deleted = g.S.Storage.deleted now; failures = g.S.Storage.failures now } in
+    let before : Stored = g.S.Storage.stored c.args.storage.now in
+    let mid : Stored = g.S.Storage.stored l.storage in
+    let after : Stored = g.S.Storage.stored now in
     let was : Round = round (length files) l.counts.deleted l.counts.failed (drop l.place files) l.gone in
     let is : Round = round (length files) c.add.new.self.deleted c.add.new.self.failed (drop (l.place + 1) files) false in
     let left = drop_at files l.place c.file_at-file.result c.file_at-file.ensures in
@@ -70,8 +70,8 @@ pub returns-clause-reported : goal.returns-clause-reported
 returns-clause-reported g c =
     let files = c.args.files in
     let l = c.loop-place in
-    let before : Stored = record { deleted = g.S.Storage.deleted c.args.storage.now; failures = g.S.Storage.failures c.args.storage.now } in
-    let after : Stored = record { deleted = g.S.Storage.deleted l.storage; failures = g.S.Storage.failures l.storage } in
+    let before : Stored = g.S.Storage.stored c.args.storage.now in
+    let after : Stored = g.S.Storage.stored l.storage in
     let was : Round = round (length files) l.counts.deleted l.counts.failed (drop l.place files) l.gone in
     let told = c.round-2.ensures in
     let at : c.len-count.result ≡ l.place = omega arith in

@@ -1,8 +1,8 @@
-use Rattle.std.proofs.Common.{vec_len}
+use Rattle.std.proofs.Common.{length}
 use Rattle.ckpt_workers.specs.Spreads.{IsWorked}
 use Rattle.ckpt_workers.proofs.ShareLemmas.{each_report}
 use Rattle.ckpt_workers.proofs.shares.spread.Goals as goal
 
 pub returns-clause-each : goal.returns-clause-each
 returns-clause-each g c =
-    each_report (λ v. v.items) IsWorked c.args.shares.items (vec_len c.args.shares) c.in_ok-outcomes.outcomes.items c.all_of.result c.all_of.ensures c.in_ok-outcomes.ensures.each
+    each_report (λ v. v.items) IsWorked c.args.shares.items (length c.args.shares.items) c.in_ok-outcomes.outcomes.items c.all_of.result c.all_of.ensures c.in_ok-outcomes.ensures.each

@@ -1,6 +1,7 @@
 use Rattle.std.proofs.Common.{◌%◌, [], ◌∷◌, refl, ap, arith, length-append}
 use Rattle.ckpt_workers.specs.declared.team.Made.{Made}
-use Rattle.ckpt_workers.proofs.TeamLemmas.{IsTally, IsTeamwork-none, IsTeamwork-push}
+use Rattle.ckpt_workers.specs.Teams.{IsTally}
+use Rattle.ckpt_workers.proofs.TeamLemmas.{IsTeamwork-none, IsTeamwork-push}
 use Rattle.ckpt_workers.proofs.team.InOrderTeam.make.Goals as goal
 
 pub loop-call-init : goal.loop-call-init
