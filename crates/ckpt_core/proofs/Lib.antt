@@ -19,10 +19,12 @@ pub mod CountLemmas
 pub mod DealtCalls
 pub mod DropDone
 pub mod DropMoves
+pub mod DueFacts
 pub mod EndingCounts
 pub mod EndingMoves
 pub mod Exchange
 pub mod ExchangeLemmas
+pub mod ExpiryFacts
 pub mod FinishMoves
 pub mod GroupLookups
 pub mod GroupMoves
@@ -37,6 +39,7 @@ pub mod LawExamples
 pub mod LawNumbers
 pub mod LawPinned
 pub mod LawSavepoints
+pub mod LiveFacts
 pub mod Lookups
 pub mod MissingFiles
 pub mod Moves

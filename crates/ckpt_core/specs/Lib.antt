@@ -1,4 +1,5 @@
 pub mod Completing
+pub mod FaultTexts
 pub mod Grouped
 pub mod Histories
 pub mod Interleavings
@@ -8,6 +9,7 @@ pub mod Moving
 pub mod Opening
 pub mod Parts
 pub mod PendingRecords
+pub mod Reads
 pub mod Refusals
 pub mod Soundness
 pub mod Starting

@@ -15,6 +15,7 @@ use crate::refusals::{MOMENTS_END, NUMBERS_END};
 use ckpt_hash::Secret;
 use ckpt_ids::{Call, Config, Refusal, Reply, Shape};
 use std::alloc::{AllocError, Global};
+use std::fmt;
 use std::marker::Model;
 use thiserror::Error;
 
@@ -30,15 +31,30 @@ pub enum OpenFault {
 }
 
 /// Why a call has changed nothing.
-#[derive(Clone, Copy, Debug, PartialEq, Eq, Error)]
+#[derive(Clone, Copy, Debug, PartialEq, Eq)]
 pub enum CoreFault {
     /// The coordinator refuses the call as it stands.
-    #[error("the call is refused")]
     Refused(Refusal),
     /// The call is lawful, and memory ran out.
-    #[error("out of memory")]
     Memory,
 }
+
+/// `refused` with the name of the refusal and the file that it names, or `out of memory`.
+impl fmt::Display for CoreFault {
+    ghost use Rattle.std.specs.Prelude.{Some};
+    ghost use Rattle.ckpt_core.specs.FaultTexts.{fault_text};
+
+    ghost output = { λ fault. Some (fault_text fault) };
+
+    fn fmt<W: fmt::Write>(&self, f: &mut fmt::Formatter<W>) -> fmt::Result {
+        match self {
+            CoreFault::Refused(why) => write!(f, "refused {why}"),
+            CoreFault::Memory => f.write_str("out of memory"),
+        }
+    }
+}
+
+impl std::error::Error for CoreFault {}
 
 impl From<AllocError> for CoreFault {
     ghost use Rattle.std.specs.Prelude.{◌≡◌};
@@ -61,7 +77,7 @@ impl From<AllocError> for CoreFault {
 /// Source: the Flink documentation, "Checkpoints", "Savepoints" and "Checkpointing".
 #[derive(Drop)]
 pub struct Core {
-    parts: Parts,
+    pub(crate) parts: Parts,
 }
 
 impl Model for Core {

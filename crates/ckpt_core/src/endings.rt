@@ -111,7 +111,7 @@ impl Parts {
     }
 
     /// What the job would restart from.
-    fn choice(&self) -> Choice
+    pub(crate) fn choice(&self) -> Choice
         requires { IsInOrder id_before (records_in self.now) }
         ensures { result ≡ choice_of (state_of self.now) }
     {

@@ -1,15 +1,17 @@
-ghost use Rattle.std.specs.Prelude.{◌≡◌, ℕ, ◌+◌, ◌<◌, ◌≤◌, Bool, true, false, not, ◌&&◌, nat_lt, nat_le, ◌==◌, List, [], ◌∷◌, ◌++◌, map, filter, find, length, count_by, Some, IsSome, OnOk, OnErr, vec_len};
+ghost use Rattle.std.specs.Prelude.{◌≡◌, ℕ, ◌+◌, ◌<◌, ◌≤◌, Bool, true, false, not, ◌&&◌, ◌||◌, nat_lt, nat_le, ◌==◌, List, [], ◌∷◌, ◌++◌, map, filter, find, length, count_by, Some, IsSome, OnOk, OnErr, vec_len};
 ghost use Rattle.std.specs.List.{list_any};
-ghost use Rattle.std.specs.Option.{option_copied};
+ghost use Rattle.std.specs.Option.{option_copied, option_map};
 ghost use Rattle.std.specs.Vec.{vec_capacity};
 ghost use Rattle.ckpt_ids.specs.Ordered.{IsIn, IsInOrder};
 ghost use Rattle.ckpt_ids.specs.Records.{Record, has_acknowledged};
 ghost use Rattle.ckpt_ids.specs.Shapes.{is_subtask};
 ghost use Rattle.ckpt_pending.specs.Acknowledging.{IsPending};
 ghost use Rattle.ckpt_core.specs.PendingRecords.{acked, retracted};
+ghost use Rattle.ckpt_core.specs.Reads.{has_come, live_of};
 ghost use Rattle.ckpt_core.specs.Soundness.{id_before};
 ghost use Rattle.ckpt_core.specs.State.{is_checkpoint};
 
+use crate::queries::{Live, live_pending};
 use ckpt_ids::{CheckpointId, Files, Kind, SubtaskId};
 use ckpt_pending::Pending;
 use std::alloc::{AllocError, Global};
@@ -143,6 +145,26 @@ impl PendingRecords {
         self.records.len() - self.checkpoints
     }
 
+    /// The first record from this number on.
+    pub(crate) fn first_from(&self, id: CheckpointId) -> Option<Live>
+        ensures value { result ≡ option_map live_of (find (λ r. nat_le id r.id) self.now) }
+        ensures in_order { IsInOrder id_before self.now }
+    {
+        let pending = self.records.values().find(|pending| pending.id() >= id)?;
+        Some(live_pending(pending))
+    }
+
+    /// The least moment at which a record started, in milliseconds.
+    pub(crate) fn least_started(&self) -> Option<u64>
+        ensures { (t : ℕ) → list_any (λ r. nat_le r.started t) self.now ≡ has_come result t }
+    {
+        let mut least = None;
+        for pending in self.records.values() {
+            least = Some(earlier(least, pending.started()));
+        }
+        least
+    }
+
     /// Notes the numbers of all records in room that is there. Takes no memory.
     pub(crate) fn note_all(&self, ended: &mut Vec<CheckpointId>)
         requires room { vec_len ended.old + length self.now ≤ vec_capacity ended.old }
@@ -192,6 +214,16 @@ impl PendingRecords {
                 ended.push_reserved(pending.id());
             }
         }
+    }
+}
+
+/// The earlier of two moments, where there are two.
+fn earlier(least: Option<u64>, moment: u64) -> u64
+    ensures { (t : ℕ) → nat_le result t ≡ (has_come least t || nat_le moment t) }
+{
+    match least {
+        Some(least) => least.min(moment),
+        None => moment,
     }
 }
 

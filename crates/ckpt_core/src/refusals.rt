@@ -300,7 +300,7 @@ impl Parts {
     }
 
     /// The pending record of this number.
-    fn pending_record(&self, id: CheckpointId) -> Option<&Pending>
+    pub(crate) fn pending_record(&self, id: CheckpointId) -> Option<&Pending>
         requires { AreSound self.now }
         ensures { pending_of (records_in self.now) id ≡ option_map (with_pins self.now.registry) (option_copied result) }
     {

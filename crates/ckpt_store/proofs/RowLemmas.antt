@@ -1,5 +1,5 @@
 -- Rows of records that rise by number: what a search by halves finds there, and what an insertion and a removal leave.
-use Rattle.std.proofs.Common.{◌≡◌, ℕ, zero, suc, ◌<◌, ◌≤◌, Bool, true, false, not, cond, ltb, eqb, List, [], ◌∷◌, length, get_or, refl, sym, ap, subst, ◌∙◌, inl, inr, ⊎_elim, arith, Option, Some, None, Result, Ok, Err, IfOk, OnErr, ◌||◌, Bor, IfSome}
+use Rattle.std.proofs.Common.{◌≡◌, ℕ, zero, suc, ◌<◌, ◌≤◌, Bool, true, false, not, cond, ltb, leb, eqb, List, [], ◌∷◌, length, get_or, refl, sym, ap, subst, ◌∙◌, inl, inr, ⊎_elim, arith, Option, Some, None, Result, Ok, Err, IfOk, OnErr, ◌||◌, Bor, IfSome}
 use Rattle.std.specs.Prelude.{filter, slice_get}
 use Rattle.std.specs.List.{list_any, find, insert, remove, HoldsAt}
 use Rattle.std.specs.List.Sorted.{IsNonDecreasingBy, IsPartitionedBy, IsPartitionPoint, IsBinarySearchResult, IsSearchInRange}
@@ -7,7 +7,7 @@ use Rattle.std.specs.Ordering.{nat_cmp, ordering_index}
 use Rattle.std.specs.declared.cmp.Ordering.TheVariants.{Less, Equal, Greater}
 use Rattle.std.specs.Option.{is_some, option_copied}
 use Rattle.std.proofs.lemmas.Option.{slice_get-get_or, slice_get_past}
-use Rattle.std.proofs.lemmas.Bool.{lt-ltb, ltb-true, ltb-false, eq-eqb, ne_eqb, cases_lt, or_parts}
+use Rattle.std.proofs.lemmas.Bool.{lt-ltb, lt-leb, le-leb, ltb-true, ltb-false, eq-eqb, ne_eqb, cases_lt, or_parts}
 use Rattle.std.proofs.lemmas.Bool.Decides.{nat_tests}
 use Rattle.ckpt_ids.specs.Ordered.{IsIn, ComesBefore, put}
 use Rattle.ckpt_ids.specs.Records.{Record}
@@ -149,3 +149,17 @@ insert-partition x (r ∷ records) (suc place) within h =
 pub copied_from_get : (r : Option (Bor Record)) (records : List Record) (place : ℕ) → is_some r ≡ ltb place (length records) → IfSome r (λ x. x.now ≡ get_or records place x.now) → option_copied r ≡ slice_get records place
 copied_from_get None records place e h = sym (slice_get_past records place (ltb-false place (length records) (sym e)))
 copied_from_get (Some x) records place e h = ap (λ q. Some q) h ∙ sym (slice_get-get_or records place x.now (ltb-true place (length records) (sym e)))
+
+-- the first from a number on
+
+pub find-partition : (id : ℕ) (records : List Record) (place : ℕ) → IsPartitionPoint (λ r. ltb r.id id ≡ true) (λ r. ltb r.id id ≡ false) records place → slice_get records place ≡ find (λ r. leb id r.id) records
+find-partition id [] place h = slice_get_past [] place (omega arith)
+find-partition id (r ∷ records) zero h =
+    let P : Bool → Type 0 = λ b. Some r ≡ cond b (Some r) (find (λ q. leb id q.id) records) in
+    let here : ltb r.id id ≡ false = h.1 0 r (omega arith) (omega arith) in
+    subst P (sym (le-leb id r.id (ltb-false r.id id here))) refl
+find-partition id (r ∷ records) (suc place) h =
+    let P : Bool → Type 0 = λ b. slice_get records place ≡ cond b (Some r) (find (λ q. leb id q.id) records) in
+    let here : ltb r.id id ≡ true = h.0 0 r (omega arith) (omega arith) in
+    let rest : IsPartitionPoint (λ q. ltb q.id id ≡ true) (λ q. ltb q.id id ≡ false) records place = (λ k d l m. h.0 (suc k) d (omega arith) (omega arith), λ k d l m. h.1 (suc k) d (omega arith) (omega arith)) in
+    subst P (sym (lt-leb id r.id (ltb-true r.id id here))) (find-partition id records place rest)

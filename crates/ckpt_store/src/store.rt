@@ -1,4 +1,5 @@
-ghost use Rattle.std.specs.Prelude.{◌≡◌, ℕ, ◌+◌, ◌-◌, ◌^◌, ◌↔◌, ◌<◌, ◌≤◌, Bool, true, false, not, ◌==◌, [], ◌∷◌, ◌++◌, length, drop, filter, Ok, Err, Some, None, OnOk, OnErr};
+ghost use Rattle.std.specs.Prelude.{◌≡◌, ℕ, ◌+◌, ◌-◌, ◌^◌, ◌↔◌, ◌<◌, ◌≤◌, Bool, true, false, not, nat_le, ◌==◌, [], ◌∷◌, ◌++◌, length, drop, filter, Ok, Err, Some, None, OnOk, OnErr};
+ghost use Rattle.std.specs.List.{find};
 ghost use Rattle.std.specs.Option.{option_copied};
 ghost use Rattle.ckpt_ids.specs.declared.numbers.Kind.TheVariants as kind;
 ghost use Rattle.ckpt_ids.specs.Ordered.{put};
@@ -199,6 +200,24 @@ impl Store {
     {
         let done = self.checkpoints.pop_front()?;
         Some(done.id())
+    }
+
+    /// The first completed checkpoint from this number on. It is searched by halves.
+    pub fn checkpoint_from(&self, id: CheckpointId) -> Option<&Done>
+        ensures value { option_copied result ≡ find (λ r. nat_le id r.id) self.now.checkpoints }
+        ensures stored { IsStored self.now }
+    {
+        let place = self.checkpoints.partition_point(|done| done.id() < id);
+        self.checkpoints.get(place)
+    }
+
+    /// The first completed savepoint from this number on. It is searched by halves.
+    pub fn savepoint_from(&self, id: CheckpointId) -> Option<&Done>
+        ensures value { option_copied result ≡ find (λ r. nat_le id r.id) self.now.savepoints }
+        ensures stored { IsStored self.now }
+    {
+        let place = self.savepoints.partition_point(|done| done.id() < id);
+        self.savepoints.get(place)
     }
 
     /// The completed checkpoint of this number, else the completed savepoint. It is searched by

@@ -1,0 +1,12 @@
+-- The first of the pending ones, of the checkpoints or of the savepoints.
+use Rattle.std.proofs.Common.{◌≡◌, ◌∙◌, ap}
+use Rattle.ckpt_core.specs.Reads.{sooner}
+use Rattle.ckpt_core.proofs.LiveFacts.{first_live}
+use Rattle.ckpt_core.proofs.parts.Parts.first_from.Goals as goal
+
+pub returns : goal.returns
+returns c =
+    let p = c.args.self.now in
+    c.sooner.ensures
+    ∙ ap (sooner c.first_from-pending.result) c.sooner-done.ensures
+    ∙ first_live p c.args.id c.first_from-pending.result c.checkpoint_from.result c.savepoint_from.result c.requires c.first_from-pending.ensures.in_order c.checkpoint_from.ensures.stored.checkpoints_rise c.checkpoint_from.ensures.stored.savepoints_rise c.first_from-pending.ensures.value c.checkpoint_from.ensures.value c.savepoint_from.ensures.value

@@ -1,0 +1,44 @@
+-- At each turn as many records are below the number as turns were made.
+use Rattle.std.proofs.Common.{rules, ◌≡◌, ◌∙◌, ℕ, ◌+◌, ◌<◌, ◌^◌, Option, Some, None, sym, ap, arith}
+use Rattle.std.specs.Prelude.{count_by, find}
+use Rattle.std.specs.Option.{option_map}
+use Rattle.ckpt_core.specs.declared.queries.Live.{Live}
+use Rattle.ckpt_core.specs.Parts.{records_in}
+use Rattle.ckpt_core.specs.Reads.{live_of}
+use Rattle.ckpt_core.proofs.LiveFacts.{is_below, is_from, live_bound, live_in_order, none_below_zero, walk_ended, walk_goes_on, walk_stopped}
+use Rattle.ckpt_core.proofs.parts.Parts.live.Goals as goal
+
+pub loop-init : goal.loop-init
+loop-init c = none_below_zero (records_in c.args.self.now)
+
+pub returns-in_err-live : goal.returns-in_err-live
+returns-in_err-live c =
+    let p = c.args.self.now in
+    let turn : c.loop.counter < c.args.place = search rules in
+    let none : None ≡ option_map live_of (find (is_from c.loop.lowest) (records_in p)) = sym c.in_err-live.was ∙ c.first_from.ensures in
+    c.from_residual.ensures ∙ walk_stopped c.loop.lowest c.loop.counter c.args.place (records_in p) (live_in_order p c.requires) c.loop.invariant turn none
+
+found : (c : goal.After-struct_known-1) → Some c.in_ok-live.live ≡ option_map live_of (find (is_from c.loop.lowest) (records_in c.args.self.now))
+found c = sym c.in_ok-live.was ∙ c.first_from.ensures
+
+its_number : (c : goal.After-struct_known-1) → c.live.inside.0.0.0 ≡ c.in_ok-live.live.id
+its_number c = ap (λ (l : Live). l.id) c.live.view_is
+
+pub overflow_add-lowest : goal.overflow_add-lowest
+overflow_add-lowest c =
+    let bound : c.in_ok-live.live.id < 2 ^ 62 = live_bound c.args.self.now c.loop.lowest c.in_ok-live.live c.requires.sound (found c) in
+    let same : c.live.inside.0.0.0 ≡ c.in_ok-live.live.id = its_number c in
+    let small : c.live.inside.0.0.0 + 1 < 2 ^ 64 = omega arith in
+    search rules
+
+pub loop-preserved : goal.loop-preserved
+loop-preserved c =
+    let p = c.args.self.now in
+    ap (λ n. count_by (is_below (n + 1)) (records_in p)) (its_number c)
+    ∙ walk_goes_on c.loop.lowest c.loop.counter c.in_ok-live.live (records_in p) (live_in_order p c.requires) c.loop.invariant (found c)
+
+pub returns : goal.returns
+returns c =
+    let p = c.args.self.now in
+    let all : c.loop.counter ≡ c.args.place = search rules in
+    walk_ended c.loop.lowest c.args.place (records_in p) c.first_from-2.result (live_in_order p c.requires) (c.loop.invariant ∙ all) c.first_from-2.ensures

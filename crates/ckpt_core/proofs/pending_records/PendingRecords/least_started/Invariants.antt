@@ -1,0 +1,7 @@
+use Rattle.std.proofs.Common.{◌≡◌, ℕ, ◌||◌, nat_le}
+use Rattle.std.specs.List.{list_any}
+use Rattle.ckpt_core.specs.Reads.{has_come}
+use Rattle.ckpt_core.proofs.pending_records.PendingRecords.least_started.Given as goal
+
+abbrev pub invariant-loop-pending : goal.invariant-loop-pending
+invariant-loop-pending l = (t : ℕ) → (has_come l.least t || list_any (λ r. nat_le r.started t) l.pending-iterator) ≡ list_any (λ r. nat_le r.started t) l.self

@@ -1,0 +1,213 @@
+//! What a coordinator tells without a call. None of it takes memory or changes anything.
+
+ghost use Rattle.std.specs.Prelude.{◌≡◌, length, find, nat_le, slice_get};
+ghost use Rattle.std.specs.Option.{option_map};
+ghost use Rattle.ckpt_ids.specs.Records.{missing, uses};
+ghost use Rattle.ckpt_store.specs.Storing.{IsStored};
+ghost use Rattle.ckpt_core.specs.Parts.{AreSound, present_in, records_in, state_of};
+ghost use Rattle.ckpt_core.specs.Reads.{IsNextExpiry, NoneIsEarlyFrom, NoneTriggersBefore, live_of, next_due, sooner};
+ghost use Rattle.ckpt_core.specs.Refusals.{pending_of};
+ghost use Rattle.ckpt_core.specs.Soundness.{IsSound};
+ghost use Rattle.ckpt_core.specs.State.{choice_of};
+
+use crate::coordinator::Core;
+use crate::mode::Mode;
+use crate::parts::Parts;
+use ckpt_ids::{CheckpointId, Choice, Kind};
+use ckpt_pending::{Done, Pending};
+
+/// A live record: its number, whether it is a checkpoint or a savepoint, and whether it is done or
+/// pending.
+#[derive(Clone, Copy, Debug, PartialEq, Eq)]
+pub struct Live {
+    pub id: CheckpointId,
+    pub kind: Kind,
+    pub done: bool,
+}
+
+impl Core {
+    /// What the job is doing. It also tells a caller that the coordinator is sound.
+    #[tactic(auto, unfolding(crate::specs::Parts::state_of))]
+    pub fn mode(&self) -> Mode
+        ensures value { result ≡ self.now.mode }
+        ensures sound { IsSound self.now }
+    {
+        self.parts.mode
+    }
+
+    /// The moment from which neither the interval nor the pause holds a checkpoint back, in
+    /// milliseconds: no tick before it triggers one. A tick at it or later triggers one unless as
+    /// many are pending as may be, or the job does not run. So this is when to tick next.
+    pub fn due(&self) -> u64
+        ensures value { result ≡ next_due self.now }
+        ensures before { NoneTriggersBefore self.now result }
+        ensures from { NoneIsEarlyFrom self.now result }
+    {
+        self.parts.due()
+    }
+
+    /// The moment at which the first of the pending records expires, in milliseconds, or `None`
+    /// where none is pending. Looks at each pending record.
+    pub fn oldest_expiry(&self) -> Option<u64>
+        ensures { IsNextExpiry self.now result }
+    {
+        self.parts.oldest_expiry()
+    }
+
+    /// The record that a restart begins from.
+    pub fn choice(&self) -> Choice
+        ensures { result ≡ choice_of self.now }
+    {
+        self.parts.choice()
+    }
+
+    /// The live record at this place, where they stand in rising number, or `None` past the last.
+    /// Takes a search by halves for each place before it, and looks at the pending records.
+    #[tactic(auto, unfolding(crate::specs::Parts::state_of))]
+    pub fn live(&self, place: usize) -> Option<Live>
+        ensures { result ≡ option_map live_of (slice_get self.now.records place) }
+    {
+        self.parts.live(place)
+    }
+
+    /// How many files live records use.
+    pub fn files_in_use(&self) -> u64
+        ensures { result ≡ present_in (uses self.now.records) }
+    {
+        self.parts.files_in_use()
+    }
+
+    /// How many files wait to be fetched for deletion.
+    #[tactic(auto, unfolding(crate::specs::Parts::state_of))]
+    pub fn files_waiting(&self) -> u64
+        ensures { result ≡ length self.now.waiting }
+    {
+        self.parts.outbox.waiting()
+    }
+
+    /// How many files were fetched for deletion and are not yet reported.
+    #[tactic(auto, unfolding(crate::specs::Parts::state_of))]
+    pub fn files_taken(&self) -> u64
+        ensures { result ≡ length self.now.taken }
+    {
+        self.parts.outbox.taken()
+    }
+
+    /// How many subtasks of this pending record have not acknowledged, or `None` where no record
+    /// of this number is pending.
+    #[tactic(auto, unfolding(crate::specs::Parts::state_of))]
+    pub fn missing(&self, id: CheckpointId) -> Option<u32>
+        ensures { result ≡ option_map missing (pending_of self.now.records id) }
+    {
+        self.parts.missing(id)
+    }
+}
+
+impl Parts {
+    fn due(&self) -> u64
+        ensures value { result ≡ next_due (state_of self.now) }
+        ensures before { NoneTriggersBefore (state_of self.now) result }
+        ensures from { NoneIsEarlyFrom (state_of self.now) result }
+    {
+        self.clock.due(&self.opened.config)
+    }
+
+    fn oldest_expiry(&self) -> Option<u64>
+        requires { AreSound self.now }
+        ensures { IsNextExpiry (state_of self.now) result }
+    {
+        // what the store ensures: its records are done
+        let _ = self.store.base();
+        // what the pending records ensure: they are not done
+        let _ = self.pending.get(CheckpointId(0));
+        let timeout = self.opened.config.timeout();
+        let started = self.pending.least_started()?;
+        Some(started + timeout)
+    }
+
+    fn live(&self, place: usize) -> Option<Live>
+        requires { AreSound self.now }
+        ensures { result ≡ option_map live_of (slice_get (records_in self.now) place) }
+    {
+        let mut lowest = CheckpointId(0);
+        for _ in 0..place {
+            let live = self.first_from(lowest)?;
+            lowest = CheckpointId(live.id.0 + 1);
+        }
+        self.first_from(lowest)
+    }
+
+    /// The first live record from this number on.
+    fn first_from(&self, id: CheckpointId) -> Option<Live>
+        requires { AreSound self.now }
+        ensures { result ≡ option_map live_of (find (λ r. nat_le id r.id) (records_in self.now)) }
+    {
+        let pending = self.pending.first_from(id);
+        let done = sooner(self.checkpoint_from(id), self.savepoint_from(id));
+        sooner(pending, done)
+    }
+
+    fn checkpoint_from(&self, id: CheckpointId) -> Option<Live>
+        ensures value { result ≡ option_map live_of (find (λ r. nat_le id r.id) self.now.store.checkpoints) }
+        ensures stored { IsStored self.now.store }
+    {
+        let done = self.store.checkpoint_from(id)?;
+        Some(live_done(done))
+    }
+
+    fn savepoint_from(&self, id: CheckpointId) -> Option<Live>
+        ensures value { result ≡ option_map live_of (find (λ r. nat_le id r.id) self.now.store.savepoints) }
+        ensures stored { IsStored self.now.store }
+    {
+        let done = self.store.savepoint_from(id)?;
+        Some(live_done(done))
+    }
+
+    fn files_in_use(&self) -> u64
+        requires { AreSound self.now }
+        ensures { result ≡ present_in (uses (state_of self.now).records) }
+    {
+        self.registry.present()
+    }
+
+    fn missing(&self, id: CheckpointId) -> Option<u32>
+        requires { AreSound self.now }
+        ensures { result ≡ option_map missing (pending_of (records_in self.now) id) }
+    {
+        let pending = self.pending_record(id)?;
+        Some(pending.missing())
+    }
+}
+
+/// The one with the lower number, where there are two.
+fn sooner(left: Option<Live>, right: Option<Live>) -> Option<Live>
+    ensures { result ≡ sooner left right }
+{
+    match left {
+        Some(a) => match right {
+            Some(b) => Some(if a.id < b.id { a } else { b }),
+            None => Some(a),
+        },
+        None => right,
+    }
+}
+
+fn live_done(done: &Done) -> Live
+    ensures { result ≡ live_of done.now }
+{
+    Live {
+        id: done.id(),
+        kind: done.kind(),
+        done: true,
+    }
+}
+
+pub(crate) fn live_pending(pending: &Pending) -> Live
+    ensures { result ≡ live_of pending.now }
+{
+    Live {
+        id: pending.id(),
+        kind: pending.kind(),
+        done: false,
+    }
+}
