@@ -20,7 +20,7 @@ class Channel(threading.Thread):
     """The task of one subtask, on a worker. Barriers go through the same queue as records."""
 
     def __init__(self, job: Any, index: int, worker: Worker, client: Client, partitions: Sequence[int], files: Sequence[int]) -> None:
-        super().__init__(name=f"task-{index}")
+        super().__init__(name=f"task-{index}", daemon=True)
         self.job, self.index, self.worker, self.partitions = job, index, worker, list(partitions)
         self.queue: "queue.Queue[Message]" = queue.Queue(4)
         self.is_ending = threading.Event()
@@ -32,6 +32,7 @@ class Channel(threading.Thread):
             actor=True, workers=[worker.address], allow_other_workers=False, pure=False,
         ).result(timeout=WAIT)
         self.ends: Dict[int, int] = self.call("offsets")  # of the source
+        self.putting = threading.Lock()
 
     def call(self, method: str, *arguments: Any) -> Any:
         if self.worker.has_ended():
@@ -42,6 +43,18 @@ class Channel(threading.Thread):
             if self.worker.has_ended(within=5):  # the connection breaks a moment before
                 raise Lost from fault
             raise
+
+    def advance(self, ends: Dict[int, int]) -> None:
+        """Puts records: those before these offsets."""
+        with self.putting:
+            self.ends.update(ends)
+            self.put(ends)
+
+    def send_barrier(self, id: int, cut: Dict[int, int]) -> None:
+        """Puts a barrier behind the records that were put, and tells how far these go."""
+        with self.putting:
+            cut.update(self.ends)
+            self.put(id)
 
     def put(self, message: Message) -> None:
         """Waits for room. What is put after the end is lost."""

@@ -66,9 +66,12 @@ class Cluster:
     def __enter__(self) -> "Cluster":
         return self
 
-    def __exit__(self, *_: object) -> None:
+    def kill(self) -> None:
         for worker in self.workers:
             worker.kill()
+
+    def __exit__(self, *_: object) -> None:
+        self.kill()
         self.client.close()
         self.scheduler.close()
         self.folder.cleanup()

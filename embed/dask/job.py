@@ -35,11 +35,12 @@ class Job:
         self.lock = threading.RLock()  # of the channels and what is counted; the coordinator has its own
         self.channels: List[Channel] = []
         self.next_file = 1
+        self.cuts: Dict[int, Dict[int, int]] = {}  # the source's offsets at the barriers of a record
         self.replies: Counter = Counter()
         self.kills = 0
         self.has_failed, self.has_completed, self.is_over = threading.Event(), threading.Event(), threading.Event()
         self.coordinator = Coordinator(SETTINGS, [LARGE], self.now())
-        self.threads = [threading.Thread(target=loop, args=(self,)) for loop in (timer, source, discarder)]
+        self.threads = [threading.Thread(target=loop, args=(self,), daemon=True) for loop in (timer, source, discarder)]
 
     def now(self) -> int:
         return time.monotonic_ns() // 1_000_000
@@ -98,6 +99,8 @@ class Job:
                 Channel(self, index, workers[index % len(workers)], client, range(index, PARTITIONS, tasks), files)
                 for index in range(tasks)
             ]
+            ends = {partition: end for channel in self.channels for partition, end in channel.ends.items()}
+            assert isinstance(reply, RestoredFresh) or ends == self.cuts[reply.id], "not the states at the barriers"
             for channel in self.channels:
                 channel.start()
 
@@ -214,8 +217,9 @@ def timer(job: Job) -> None:
             channels = job.channels
             reply = job.tick() if channels and not job.has_failed.is_set() else None
         if isinstance(reply, Triggered):
+            cut = job.cuts[reply.id] = {}
             for channel in channels:
-                channel.put(reply.id)
+                channel.send_barrier(reply.id, cut)
         time.sleep(0.02)
 
 
@@ -226,9 +230,7 @@ def source(job: Job) -> None:
         with job.lock:
             channels = job.channels
         for channel in channels:
-            ends = {p: channel.ends[p] + BATCH for p in channel.partitions if chance.random() < 0.2}
-            channel.ends.update(ends)
-            channel.put(ends)
+            channel.advance({p: channel.ends[p] + BATCH for p in channel.partitions if chance.random() < 0.2})
         time.sleep(0.02)
 
 
@@ -246,20 +248,20 @@ def discarder(job: Job) -> None:
         time.sleep(0 if files else 0.02)
 
 
-def end_at_fault(fault: threading.ExceptHookArgs) -> None:
-    """A thread that fails ends the process: nothing would wait for it."""
-    threading.__excepthook__(fault)
-    os._exit(1)
-
-
 def main() -> None:
-    threading.excepthook = end_at_fault
     seconds, seed = float(sys.argv[1]), int(sys.argv[2]) if len(sys.argv) > 2 else 1
     with tempfile.TemporaryDirectory() as storage, Cluster(WORKERS) as cluster:
+        def end_at_fault(fault: threading.ExceptHookArgs) -> None:
+            """A thread that fails ends all: nothing would wait for it."""
+            threading.__excepthook__(fault)
+            cluster.kill()
+            os._exit(1)
+
+        threading.excepthook = end_at_fault
         job = Job(cluster, pathlib.Path(storage), seed)
-        with job.coordinator:
-            job.run(seconds)
-            job.finish()
+        job.run(seconds)
+        job.finish()
+        job.coordinator.close()
 
 
 if __name__ == "__main__":

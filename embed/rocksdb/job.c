@@ -24,6 +24,7 @@ void job_open(struct job *job, const char *folder) {
     path_of(job->log, "%.400s/log", folder);
     mkdir(job->storage, 0700);
     coordinator_open(&job->coordinator, job->log, job->death);
+    job->first = job->coordinator.last + 1;
     discarder_report(&job->coordinator, job->storage);
     discarder_drain(&job->coordinator, job->storage);
     /* what is left and not used was written by tasks that died before they named it */
@@ -74,6 +75,8 @@ static void prepare(struct job *job, unsigned index) {
     task->storage = job->storage;
     task->index = index;
     task->is_failed = &job->is_failed;
+    task->cuts = job->cuts;
+    task->parallelism = job->parallelism;
     task->held.len = 0;
     task->chance.state = chance_below(&job->chance, UINT64_MAX);
     path_of(task->folder, "%.400s/task-%u", job->local, index);
@@ -124,6 +127,8 @@ static void load(struct job *job, uint64_t id) {
     }
     for (unsigned partition = 0; partition < PARTITIONS; partition++) {
         job->offsets[partition] = store_offset(&job->tasks[partition % job->parallelism].store, partition);
+        bool is_known = id >= job->first && id + CUTS > job->coordinator.last;
+        CHECK(!is_known || job->offsets[partition] == job->cuts[id % CUTS][partition], "partition %u is not as it was at the barrier", partition);
     }
 }
 

@@ -22,6 +22,8 @@ struct job {
     pthread_t source;
     atomic_bool source_stops;
     uint64_t offsets[PARTITIONS]; /* the source's */
+    uint64_t cuts[CUTS][PARTITIONS];
+    uint64_t first;               /* the first number of a record of this process */
     uint64_t next_failure;
     unsigned victim;              /* the task that is to be stopped; TASKS: none */
     uint64_t failures;

@@ -141,6 +141,9 @@ static void take_part(struct task *task, uint64_t id) {
         decline(task, id);
         return;
     }
+    for (unsigned partition = task->index; partition < PARTITIONS; partition += task->parallelism) {
+        task->cuts[id % CUTS][partition] = store_offset(&task->store, partition);
+    }
     path_of(folder, "%.400s/checkpoint", task->folder);
     store_snapshot(&task->store, folder);
     if (!uploads(task, id, folder)) {

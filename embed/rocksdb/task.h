@@ -9,6 +9,9 @@
 
 #include <stdatomic.h>
 
+/* The cut of record id stands at id modulo CUTS. */
+enum { CUTS = 1024 };
+
 /* A file of a database, and the number that it has in the storage folder. */
 struct held {
     char name[NAME];
@@ -37,6 +40,8 @@ struct task {
     struct files held;          /* of the database's files, those of its last accepted acknowledgement */
     struct upload left;         /* what it was uploading when it was stopped; id 0: nothing */
     struct chance chance;
+    uint64_t (*cuts)[PARTITIONS]; /* the job's: how far each partition was counted at a record's barrier */
+    unsigned parallelism;
     atomic_bool is_stopped;
     atomic_uint stops_after;    /* in the next checkpoint, after so many files; 0: not there */
     atomic_bool *is_failed;     /* the job's: it has to be restored */
