@@ -10,13 +10,13 @@ ghost use Rattle.ckpt_outbox.specs.Queues.{is_in, is_known};
 ghost use Rattle.ckpt_pending.specs.Acknowledging.{IsPending};
 ghost use Rattle.ckpt_registry.specs.Uses.{after_end, triples};
 ghost use Rattle.ckpt_store.specs.Storing.{IsAbove, IsStored, by_id, has_savepoint, retained_of};
-ghost use Rattle.ckpt_core.specs.Completing.{IsMissing, superseded, surplus};
+ghost use Rattle.ckpt_core.specs.Inside.Completing.{IsMissing, superseded, surplus};
 ghost use Rattle.ckpt_core.specs.Memory.{may_want_memory};
-ghost use Rattle.ckpt_core.specs.Parts.{Answers, AreSound, IsAccepted, Stays, is_known_in, is_noted, present_in, state_of};
-ghost use Rattle.ckpt_core.specs.PendingRecords.{acked};
+ghost use Rattle.ckpt_core.specs.Inside.Parts.{Answers, AreSound, IsAccepted, Stays, is_known_in, is_noted, present_in, state_of};
+ghost use Rattle.ckpt_core.specs.Inside.PendingRecords.{acked};
 ghost use Rattle.ckpt_core.specs.Refusals.{pending_of};
 ghost use Rattle.ckpt_core.specs.Soundness.{id_before};
-ghost use Rattle.ckpt_core.specs.Moving.{checkpoint_completed, completion, savepoint_completed, taken_in, with_checkpoint, with_room, with_waiting};
+ghost use Rattle.ckpt_core.specs.Inside.Moving.{checkpoint_completed, completion, savepoint_completed, taken_in, with_checkpoint, with_room, with_waiting};
 
 use crate::parts::Parts;
 use ckpt_ids::{CheckpointId, FileId, Files, Kind, Reply, SubtaskId};

@@ -4,7 +4,7 @@ ghost use Rattle.ckpt_ids.specs.declared.reply.Answer.TheVariants.{Done};
 ghost use Rattle.ckpt_ids.specs.declared.reply.Refusal.{Refusal};
 ghost use Rattle.ckpt_core.specs.Memory.{may_want_memory};
 ghost use Rattle.ckpt_core.specs.Opening.{open_fault};
-ghost use Rattle.ckpt_core.specs.Parts.{Answers, AreSound, IsAccepted, Stays, state_of};
+ghost use Rattle.ckpt_core.specs.Inside.Parts.{Answers, AreSound, IsAccepted, Stays, state_of};
 ghost use Rattle.ckpt_core.specs.Refusals.{refusal};
 ghost use Rattle.ckpt_core.specs.Soundness.{IsCall};
 ghost use Rattle.ckpt_core.specs.State.{opened};
@@ -81,7 +81,7 @@ pub struct Core {
 }
 
 impl Model for Core {
-    ghost use Rattle.ckpt_core.specs.Parts.{AreSound, state_of};
+    ghost use Rattle.ckpt_core.specs.Inside.Parts.{AreSound, state_of};
     ghost use Rattle.ckpt_core.specs.State.{State};
 
     ghost Value = { State };

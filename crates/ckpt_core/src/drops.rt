@@ -6,10 +6,10 @@ ghost use Rattle.ckpt_outbox.specs.Queues.{is_known};
 ghost use Rattle.ckpt_pending.specs.Acknowledging.{IsPending};
 ghost use Rattle.ckpt_registry.specs.Uses.{without, after_end};
 ghost use Rattle.ckpt_store.specs.Storing.{IsStored, has_savepoint};
-ghost use Rattle.ckpt_core.specs.Parts.{AreSound, AreTied, Drops, is_noted, present_in, records_in, state_of};
+ghost use Rattle.ckpt_core.specs.Inside.Parts.{AreSound, AreTied, Drops, is_noted, present_in, records_in, state_of};
 ghost use Rattle.ckpt_core.specs.Soundness.{id_before};
 ghost use Rattle.ckpt_core.specs.State.{is_done_checkpoint, is_pending};
-ghost use Rattle.ckpt_core.specs.Moving.{releasing};
+ghost use Rattle.ckpt_core.specs.Inside.Moving.{releasing};
 
 use crate::parts::Parts;
 use ckpt_ids::CheckpointId;

@@ -1,5 +1,5 @@
 ghost use Rattle.std.specs.Prelude.{◌≡◌, ◌<◌, ◌≤◌, ◌^◌};
-ghost use Rattle.ckpt_core.specs.Parts.{AreSound, state_of};
+ghost use Rattle.ckpt_core.specs.Inside.Parts.{AreSound, state_of};
 ghost use Rattle.ckpt_core.specs.State.{opened};
 
 use crate::mode::Mode;

@@ -6,7 +6,7 @@ ghost use Rattle.ckpt_ids.specs.Ordered.{IsIn, IsInOrder};
 ghost use Rattle.ckpt_ids.specs.Records.{Record, has_acknowledged};
 ghost use Rattle.ckpt_ids.specs.Shapes.{is_subtask};
 ghost use Rattle.ckpt_pending.specs.Acknowledging.{IsPending};
-ghost use Rattle.ckpt_core.specs.PendingRecords.{acked, retracted};
+ghost use Rattle.ckpt_core.specs.Inside.PendingRecords.{acked, retracted};
 ghost use Rattle.ckpt_core.specs.Reads.{has_come, live_of};
 ghost use Rattle.ckpt_core.specs.Soundness.{id_before};
 ghost use Rattle.ckpt_core.specs.State.{is_checkpoint};
@@ -29,7 +29,7 @@ pub(crate) struct PendingRecords {
 impl Model for PendingRecords {
     ghost use Rattle.std.specs.Prelude.{List};
     ghost use Rattle.ckpt_ids.specs.Records.{Record};
-    ghost use Rattle.ckpt_core.specs.PendingRecords.{records_in, AreKept};
+    ghost use Rattle.ckpt_core.specs.Inside.PendingRecords.{records_in, AreKept};
 
     ghost Value = { List Record };
 

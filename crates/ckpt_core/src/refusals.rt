@@ -6,8 +6,8 @@ ghost use Rattle.ckpt_ids.specs.Ascending.{IsAscending};
 ghost use Rattle.ckpt_ids.specs.Records.{is_present};
 ghost use Rattle.ckpt_ids.specs.declared.call.Call.TheVariants.{Tick, Savepoint, Ack, Decline, Dispose, Restore, Cancel, Deleted, Show};
 ghost use Rattle.ckpt_ids.specs.declared.reply.Refusal.TheVariants.{NotRunning, TooManyFiles, RepeatedFile, UnknownCheckpoint, NameTaken, FileGone, IdsUsedUp};
-ghost use Rattle.ckpt_core.specs.Grouped.{with_pins};
-ghost use Rattle.ckpt_core.specs.Parts.{AreSound, state_of, records_in, is_known_in, part_refusal};
+ghost use Rattle.ckpt_core.specs.Inside.Grouped.{with_pins};
+ghost use Rattle.ckpt_core.specs.Inside.Parts.{AreSound, state_of, records_in, is_known_in, part_refusal};
 ghost use Rattle.ckpt_core.specs.Refusals.{first_some, has_repeats, is_cancelled, is_done_savepoint, is_foreign, is_repeat, is_running, moment_too_large, named, pending_of, refusal, refuse_if, savepoints, was_not_given, files_refusal};
 
 use crate::mode::Mode;

@@ -9,9 +9,9 @@ ghost use Rattle.ckpt_outbox.specs.Queues.{is_known};
 ghost use Rattle.ckpt_rules.specs.declared.hold.Hold.TheVariants as hold;
 ghost use Rattle.ckpt_core.specs.declared.mode.Mode.TheVariants.{Running};
 ghost use Rattle.ckpt_core.specs.Memory.{answer_wants, may_want_memory};
-ghost use Rattle.ckpt_core.specs.Parts.{Answers, AreSound, AreTied, IsAccepted, Stays, is_noted, records_in, state_of};
+ghost use Rattle.ckpt_core.specs.Inside.Parts.{Answers, AreSound, AreTied, IsAccepted, Stays, is_noted, records_in, state_of};
 ghost use Rattle.ckpt_core.specs.Soundness.{IsSound, id_before};
-ghost use Rattle.ckpt_core.specs.Starting.{Starts, held_at};
+ghost use Rattle.ckpt_core.specs.Inside.Starting.{Starts, held_at};
 ghost use Rattle.ckpt_core.specs.State.{choice_of, chosen, drop, pins_now};
 ghost use Rattle.ckpt_core.specs.Steps.{tick, triggered};
 

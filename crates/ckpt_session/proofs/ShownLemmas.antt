@@ -10,9 +10,9 @@ use Rattle.ckpt_core.specs.State.{State, is_pending, record_of}
 use Rattle.ckpt_core.specs.Refusals.{refusal, pending_of}
 use Rattle.ckpt_core.specs.Soundness.{IsSound}
 use Rattle.ckpt_core.specs.Steps.{Stepped, step, effect, show}
-use Rattle.ckpt_core.proofs.CountLemmas.{IsIn-from_find}
-use Rattle.ckpt_core.proofs.LawChoice.{found}
-use Rattle.ckpt_core.proofs.MissingFiles.{pending_record}
+use Rattle.ckpt_core.proofs.Records.Counts.{IsIn-from_find}
+use Rattle.ckpt_core.proofs.Histories.Choice.{found}
+use Rattle.ckpt_core.proofs.Reordering.MissingFiles.{pending_record}
 use Rattle.ckpt_session.specs.AllLines.{pending_metadata, shown_pending}
 
 -- a Show changes nothing

@@ -16,7 +16,7 @@ use Rattle.ckpt_core.specs.Soundness.{IsSound}
 use Rattle.ckpt_core.specs.Refusals.{pending_of}
 use Rattle.ckpt_core.specs.Histories.{replay, answers}
 use Rattle.ckpt_core.specs.Interleavings.{of_seat}
-use Rattle.ckpt_core.proofs.DealtCalls.{SeatsFrom, seated_answers, all_missing, ComesToTheSame, dealt_calls}
+use Rattle.ckpt_core.proofs.Reordering.DealtCalls.{SeatsFrom, seated_answers, all_missing, ComesToTheSame, dealt_calls}
 use Rattle.ckpt_locked.specs.declared.book.Entry.{Entry}
 use Rattle.ckpt_locked.specs.Books.{History, calls_of, entered, answer_to, state_of_book}
 use Rattle.ckpt_locked.specs.Seats.{calls_by, answers_by, SeatsBelow}

@@ -1,4 +1,4 @@
-use Rattle.ckpt_core.proofs.LawBalance.{accounted}
+use Rattle.ckpt_core.proofs.Histories.Balance.{accounted}
 use Rattle.ckpt_core.proofs.laws.accounted.Goals as goal
 
 pub returns : goal.returns

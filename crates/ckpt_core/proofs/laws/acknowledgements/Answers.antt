@@ -1,4 +1,4 @@
-use Rattle.ckpt_core.proofs.LawAcknowledgements.{acknowledgements}
+use Rattle.ckpt_core.proofs.Histories.Acknowledgements.{acknowledgements}
 use Rattle.ckpt_core.proofs.laws.acknowledgements.Goals as goal
 
 pub returns : goal.returns

@@ -1,4 +1,4 @@
-use Rattle.ckpt_core.proofs.Interleavings.{any_order}
+use Rattle.ckpt_core.proofs.Reordering.Interleavings.{any_order}
 use Rattle.ckpt_core.proofs.laws.any_order.Goals as goal
 
 pub returns : goal.returns

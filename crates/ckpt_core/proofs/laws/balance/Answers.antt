@@ -1,4 +1,4 @@
-use Rattle.ckpt_core.proofs.LawBalance.{balance}
+use Rattle.ckpt_core.proofs.Histories.Balance.{balance}
 use Rattle.ckpt_core.proofs.laws.balance.Goals as goal
 
 pub returns : goal.returns

@@ -1,4 +1,4 @@
-use Rattle.ckpt_core.proofs.LawChoice.{choice_is_live}
+use Rattle.ckpt_core.proofs.Histories.Choice.{choice_is_live}
 use Rattle.ckpt_core.proofs.laws.choice.Goals as goal
 
 pub returns : goal.returns

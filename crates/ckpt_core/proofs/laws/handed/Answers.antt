@@ -1,4 +1,4 @@
-use Rattle.ckpt_core.proofs.LawBalance.{handed}
+use Rattle.ckpt_core.proofs.Histories.Balance.{handed}
 use Rattle.ckpt_core.proofs.laws.handed.Goals as goal
 
 pub returns : goal.returns

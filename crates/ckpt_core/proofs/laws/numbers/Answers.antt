@@ -1,4 +1,4 @@
-use Rattle.ckpt_core.proofs.LawNumbers.{numbers}
+use Rattle.ckpt_core.proofs.Histories.Numbers.{numbers}
 use Rattle.ckpt_core.proofs.laws.numbers.Goals as goal
 
 pub returns : goal.returns

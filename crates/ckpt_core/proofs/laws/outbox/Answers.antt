@@ -1,4 +1,4 @@
-use Rattle.ckpt_core.proofs.LawBalance.{outbox}
+use Rattle.ckpt_core.proofs.Histories.Balance.{outbox}
 use Rattle.ckpt_core.proofs.laws.outbox.Goals as goal
 
 pub returns : goal.returns

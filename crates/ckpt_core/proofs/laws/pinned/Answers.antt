@@ -1,4 +1,4 @@
-use Rattle.ckpt_core.proofs.LawPinned.{pinned}
+use Rattle.ckpt_core.proofs.Histories.Pinned.{pinned}
 use Rattle.ckpt_core.proofs.laws.pinned.Goals as goal
 
 pub returns : goal.returns

@@ -1,4 +1,4 @@
-use Rattle.ckpt_core.proofs.LawSavepoints.{savepoints_stay}
+use Rattle.ckpt_core.proofs.Histories.Savepoints.{savepoints_stay}
 use Rattle.ckpt_core.proofs.laws.savepoints.Goals as goal
 
 pub returns : goal.returns

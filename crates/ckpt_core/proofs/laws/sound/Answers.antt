@@ -1,4 +1,4 @@
-use Rattle.ckpt_core.proofs.SoundHistories.{replay_is_sound}
+use Rattle.ckpt_core.proofs.Soundness.Histories.{replay_is_sound}
 use Rattle.ckpt_core.proofs.laws.sound.Goals as goal
 
 pub returns : goal.returns

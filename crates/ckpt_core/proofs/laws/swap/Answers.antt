@@ -1,4 +1,4 @@
-use Rattle.ckpt_core.proofs.Exchange.{exchange}
+use Rattle.ckpt_core.proofs.Reordering.Exchange.{exchange}
 use Rattle.ckpt_core.proofs.laws.swap.Goals as goal
 
 pub returns : goal.returns

@@ -1,4 +1,4 @@
-use Rattle.ckpt_core.proofs.LawBalance.{used_no_more}
+use Rattle.ckpt_core.proofs.Histories.Balance.{used_no_more}
 use Rattle.ckpt_core.proofs.laws.used_no_more.Goals as goal
 
 pub returns : goal.returns

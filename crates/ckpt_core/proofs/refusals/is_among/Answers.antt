@@ -1,5 +1,5 @@
 use Rattle.std.proofs.Common.{◌∙◌}
-use Rattle.ckpt_core.proofs.RefusalRepeats.{among-from_search}
+use Rattle.ckpt_core.proofs.Answering.RefusalRepeats.{among-from_search}
 use Rattle.ckpt_core.proofs.refusals.is_among.Goals as goal
 
 pub returns : goal.returns

@@ -1,6 +1,6 @@
 use Rattle.std.proofs.Common.{rules, nat_lt}
 use Rattle.std.proofs.lemmas.List.Sorted.{answers_always}
-use Rattle.ckpt_core.proofs.RefusalRepeats.{repeats-from_adjacent}
+use Rattle.ckpt_core.proofs.Answering.RefusalRepeats.{repeats-from_adjacent}
 use Rattle.ckpt_core.proofs.refusals.repeats.Goals as goal
 
 pub returns : goal.returns

@@ -1,5 +1,5 @@
 -- The parts are sound again after a call.
-use Rattle.ckpt_core.proofs.CoreCalls.{sound_answered}
+use Rattle.ckpt_core.proofs.Answering.Calls.{sound_answered}
 use Rattle.ckpt_core.proofs.coordinator.Core.apply.Goals as goal
 
 pub invariant_of-self-2 : goal.invariant_of-self-2

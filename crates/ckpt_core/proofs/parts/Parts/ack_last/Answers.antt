@@ -1,11 +1,11 @@
 -- The parts after each call are those of the lemmas.
 use Rattle.std.proofs.Common.{sym, subst}
 use Rattle.ckpt_core.specs.declared.parts.Parts.{Parts}
-use Rattle.ckpt_core.specs.Parts.{Stays}
-use Rattle.ckpt_core.proofs.AckLate.{on_each_error}
-use Rattle.ckpt_core.proofs.AckStates.{roomier_accepted, roomier_sound, roomier_stays, taking_from}
-use Rattle.ckpt_core.proofs.CompleteAnswers.{checkpoint_answers, savepoint_answers}
-use Rattle.ckpt_core.proofs.CompleteCalls.{IsLast, CanComplete, can_complete, last_above, last_made, last_new, made_place, none_missing}
+use Rattle.ckpt_core.specs.Inside.Parts.{Stays}
+use Rattle.ckpt_core.proofs.Acknowledging.Late.{on_each_error}
+use Rattle.ckpt_core.proofs.Acknowledging.States.{roomier_accepted, roomier_sound, roomier_stays, taking_from}
+use Rattle.ckpt_core.proofs.Completing.Answers.{checkpoint_answers, savepoint_answers}
+use Rattle.ckpt_core.proofs.Completing.Calls.{IsLast, CanComplete, can_complete, last_above, last_made, last_new, made_place, none_missing}
 use Rattle.ckpt_core.proofs.parts.Parts.ack_last.Goals as goal
 
 pub returns-in_err-reserve-clause-err : goal.returns-in_err-reserve-clause-err

@@ -1,8 +1,8 @@
 -- The unknown files are those of the step, and memory is wanted only where there are such.
 use Rattle.std.proofs.Common.{◌∙◌, ap, sym, length, arith}
-use Rattle.ckpt_core.proofs.Accepted.{accepted_ack}
-use Rattle.ckpt_core.specs.Parts.{state_of}
-use Rattle.ckpt_core.proofs.AckLate.{late_wants, unknown_counted, unknown_distinct, unknown_new, late_answers, on_each_error}
+use Rattle.ckpt_core.proofs.Answering.Accepted.{accepted_ack}
+use Rattle.ckpt_core.specs.Inside.Parts.{state_of}
+use Rattle.ckpt_core.proofs.Acknowledging.Late.{late_wants, unknown_counted, unknown_distinct, unknown_new, late_answers, on_each_error}
 use Rattle.ckpt_core.proofs.parts.Parts.ack_late.Goals as goal
 
 pub returns-in_err-unknown-clause-memory : goal.returns-in_err-unknown-clause-memory

@@ -1,9 +1,9 @@
 -- Making room leaves the state as it is, and so does what fails; what was taken is the step.
 use Rattle.std.proofs.Common.{◌+◌, ◌≤◌, sym, subst, length, arith}
 use Rattle.ckpt_core.specs.declared.parts.Parts.{Parts}
-use Rattle.ckpt_core.specs.Parts.{Stays, present_in}
-use Rattle.ckpt_core.proofs.AckLate.{on_each_error}
-use Rattle.ckpt_core.proofs.AckStates.{made_room, room_made, roomier_accepted, roomier_sound, roomier_stays, taking_from, waiting_answers}
+use Rattle.ckpt_core.specs.Inside.Parts.{Stays, present_in}
+use Rattle.ckpt_core.proofs.Acknowledging.Late.{on_each_error}
+use Rattle.ckpt_core.proofs.Acknowledging.States.{made_room, room_made, roomier_accepted, roomier_sound, roomier_stays, taking_from, waiting_answers}
 use Rattle.ckpt_core.proofs.parts.Parts.ack_waiting.Goals as goal
 
 pub take_ack-requires-clause-sound : goal.take_ack-requires-clause-sound

@@ -2,11 +2,11 @@ use Rattle.std.proofs.Common.{ℕ, ◌<◌, List, sym, ap, subst, arith}
 use Rattle.ckpt_ids.specs.Ascending.{IsAscendingSet}
 use Rattle.ckpt_ids.specs.Ordered.{IsIn}
 use Rattle.ckpt_core.specs.declared.parts.Parts.{Parts}
-use Rattle.ckpt_core.specs.Parts.{state_of, AreTied}
-use Rattle.ckpt_core.proofs.CountBound.{registry_bound}
-use Rattle.ckpt_core.proofs.TriggerParts.{made_record, pins_present, older_pending, older_uses, triggered_state, triggered_tied, undone_state}
+use Rattle.ckpt_core.specs.Inside.Parts.{state_of, AreTied}
+use Rattle.ckpt_core.proofs.Using.CountBound.{registry_bound}
+use Rattle.ckpt_core.proofs.Triggering.TriggerParts.{made_record, pins_present, older_pending, older_uses, triggered_state, triggered_tied, undone_state}
 use Rattle.ckpt_core.proofs.parts.Parts.add.Goals as goal
-use Rattle.ckpt_core.proofs.SoundTriggers.{ascending-pins}
+use Rattle.ckpt_core.proofs.Soundness.Triggers.{ascending-pins}
 
 pub add-requires : goal.add-requires
 add-requires c = record { newest = λ r h. let lt : r.id < c.args.self.now.next = older_pending c.args.self.now c.requires.sound r h in let e = ap (λ q. q.id) c.new.ensures in omega arith }

@@ -1,8 +1,8 @@
 -- The calls that take memory in any case may want it.
 use Rattle.std.proofs.Common.{ap, Some, ◌∙◌}
 use Rattle.ckpt_ids.specs.declared.call.Call.TheVariants.{Savepoint, Restore, Take, Show}
-use Rattle.ckpt_core.specs.Parts.{state_of}
-use Rattle.ckpt_core.proofs.CoreCalls.{wants_here, savepoint_wants, restore_wants, take_wants, show_wants}
+use Rattle.ckpt_core.specs.Inside.Parts.{state_of}
+use Rattle.ckpt_core.proofs.Answering.Calls.{wants_here, savepoint_wants, restore_wants, take_wants, show_wants}
 use Rattle.ckpt_core.proofs.parts.Parts.answer.Goals as goal
 
 pub returns-in-Savepoint-clause-memory : goal.returns-in-Savepoint-clause-memory

@@ -1,7 +1,7 @@
 -- After the drop the job has no base, and ends.
-use Rattle.ckpt_core.specs.Parts.{state_of}
-use Rattle.ckpt_core.proofs.Accepted.{accepted_cancel}
-use Rattle.ckpt_core.proofs.EndingMoves.{cancelled_answers}
+use Rattle.ckpt_core.specs.Inside.Parts.{state_of}
+use Rattle.ckpt_core.proofs.Answering.Accepted.{accepted_cancel}
+use Rattle.ckpt_core.proofs.Ending.Moves.{cancelled_answers}
 use Rattle.ckpt_core.proofs.parts.Parts.cancel.Goals as goal
 
 pub see-requires : goal.see-requires

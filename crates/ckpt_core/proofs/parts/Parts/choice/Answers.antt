@@ -1,6 +1,6 @@
 use Rattle.std.proofs.Common.{◌∙◌}
-use Rattle.ckpt_core.proofs.DropMoves.{groups_of}
-use Rattle.ckpt_core.proofs.EndingMoves.{choice_is}
+use Rattle.ckpt_core.proofs.Ending.Drops.{groups_of}
+use Rattle.ckpt_core.proofs.Ending.Moves.{choice_is}
 use Rattle.ckpt_core.proofs.parts.Parts.choice.Goals as goal
 
 pub returns : goal.returns

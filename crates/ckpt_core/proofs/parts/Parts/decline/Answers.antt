@@ -9,14 +9,14 @@ use Rattle.ckpt_ids.specs.declared.numbers.Kind.TheVariants as kind
 use Rattle.ckpt_ids.specs.declared.call.Call.TheVariants as call
 use Rattle.ckpt_ids.specs.declared.reply.Reply.TheVariants as reply
 use Rattle.ckpt_rules.specs.Moments.{Moments}
-use Rattle.ckpt_core.specs.Grouped.{with_pins}
-use Rattle.ckpt_core.specs.Parts.{state_of, Answers}
+use Rattle.ckpt_core.specs.Inside.Grouped.{with_pins}
+use Rattle.ckpt_core.specs.Inside.Parts.{state_of, Answers}
 use Rattle.ckpt_core.specs.State.{is_checkpoint}
-use Rattle.ckpt_core.proofs.Accepted.{accepted_decline}
-use Rattle.ckpt_core.proofs.CountLemmas.{IsIn-from_find}
-use Rattle.ckpt_core.proofs.Lookups.{has_number}
-use Rattle.ckpt_core.proofs.DropMoves.{groups_of}
-use Rattle.ckpt_core.proofs.EndingMoves.{late_answers, pending_there, pending_absent, few_failed, failed_answers, aborted_checkpoint_answers, aborted_savepoint_answers, declined_as, kind_test, not_many}
+use Rattle.ckpt_core.proofs.Answering.Accepted.{accepted_decline}
+use Rattle.ckpt_core.proofs.Records.Counts.{IsIn-from_find}
+use Rattle.ckpt_core.proofs.Records.Lookups.{has_number}
+use Rattle.ckpt_core.proofs.Ending.Drops.{groups_of}
+use Rattle.ckpt_core.proofs.Ending.Moves.{late_answers, pending_there, pending_absent, few_failed, failed_answers, aborted_checkpoint_answers, aborted_savepoint_answers, declined_as, kind_test, not_many}
 use Rattle.ckpt_core.proofs.parts.Parts.decline.Goals as goal
 use Rattle.ckpt_core.proofs.parts.Parts.decline.Goals.{then-eq, else-eq, then-failed, else-failed}
 

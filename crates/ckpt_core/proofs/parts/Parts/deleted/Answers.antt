@@ -1,9 +1,9 @@
 -- The file is taken, since the call was not refused.
 use Rattle.std.proofs.lemmas.Bool.{both_ways}
-use Rattle.ckpt_core.specs.Parts.{state_of}
+use Rattle.ckpt_core.specs.Inside.Parts.{state_of}
 use Rattle.ckpt_outbox.specs.Queues.{is_taken}
-use Rattle.ckpt_core.proofs.Accepted.{accepted_deleted}
-use Rattle.ckpt_core.proofs.ReadMoves.{deleted_answers, not_err}
+use Rattle.ckpt_core.proofs.Answering.Accepted.{accepted_deleted}
+use Rattle.ckpt_core.proofs.Answering.Reads.{deleted_answers, not_err}
 use Rattle.ckpt_core.proofs.parts.Parts.deleted.Goals as goal
 
 pub returns : goal.returns

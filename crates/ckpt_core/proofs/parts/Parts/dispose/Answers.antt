@@ -1,12 +1,12 @@
 -- The savepoint is there and not the base, since the call was not refused.
 use Rattle.std.proofs.Common.{◌∙◌, ap, sym, refl}
 use Rattle.std.proofs.lemmas.Bool.{both_ways, eq-eqb}
-use Rattle.ckpt_core.specs.Parts.{state_of}
+use Rattle.ckpt_core.specs.Inside.Parts.{state_of}
 use Rattle.ckpt_core.specs.Refusals.{is_number}
-use Rattle.ckpt_core.proofs.Accepted.{accepted_dispose}
-use Rattle.ckpt_core.proofs.GroupLookups.{done_savepoint-groups}
-use Rattle.ckpt_core.proofs.DropMoves.{groups_of}
-use Rattle.ckpt_core.proofs.EndingMoves.{disposed_answers}
+use Rattle.ckpt_core.proofs.Answering.Accepted.{accepted_dispose}
+use Rattle.ckpt_core.proofs.Records.GroupLookups.{done_savepoint-groups}
+use Rattle.ckpt_core.proofs.Ending.Drops.{groups_of}
+use Rattle.ckpt_core.proofs.Ending.Moves.{disposed_answers}
 use Rattle.ckpt_core.proofs.parts.Parts.dispose.Goals as goal
 
 pub drop_savepoint-requires-clause-there : goal.drop_savepoint-requires-clause-there

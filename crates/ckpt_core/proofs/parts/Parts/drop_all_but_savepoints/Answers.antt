@@ -4,8 +4,8 @@ use Rattle.std.proofs.lemmas.List.{length-map}
 use Rattle.ckpt_ids.specs.Records.{Record, is_present}
 use Rattle.ckpt_outbox.specs.Queues.{is_known}
 use Rattle.ckpt_core.specs.declared.parts.Parts.{Parts}
-use Rattle.ckpt_core.proofs.DropMoves.{numbers, staying, groups_of, none_known, room_to_note}
-use Rattle.ckpt_core.proofs.DropDone.{emptied, others_dropped}
+use Rattle.ckpt_core.proofs.Ending.Drops.{numbers, staying, groups_of, none_known, room_to_note}
+use Rattle.ckpt_core.proofs.Ending.DropDone.{emptied, others_dropped}
 use Rattle.ckpt_core.proofs.parts.Parts.drop_all_but_savepoints.Goals as goal
 
 pub note_all-requires : goal.note_all-requires

@@ -1,8 +1,8 @@
 -- Dropping the noted records is a drop by number; the done ones stay, since none of them is noted.
 use Rattle.std.proofs.Common.{◌≡◌, sym, ap, ◌∙◌}
-use Rattle.ckpt_core.specs.Grouped.{grouped}
-use Rattle.ckpt_core.proofs.DropMoves.{left, staying, drops_from, staying_done}
-use Rattle.ckpt_core.proofs.GroupedLemmas.{apart-from_in_order}
+use Rattle.ckpt_core.specs.Inside.Grouped.{grouped}
+use Rattle.ckpt_core.proofs.Ending.Drops.{left, staying, drops_from, staying_done}
+use Rattle.ckpt_core.proofs.Records.Grouped.{apart-from_in_order}
 use Rattle.ckpt_core.proofs.parts.Parts.drop_noted.Goals as goal
 
 pub returns : goal.returns

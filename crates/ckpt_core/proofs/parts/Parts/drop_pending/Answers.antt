@@ -1,8 +1,8 @@
 -- The number of a pending record is noted, and no done record has it.
 use Rattle.std.proofs.Common.{◌++◌, ◌∷◌, [], ap, ◌∙◌, arith}
-use Rattle.ckpt_core.specs.Parts.{state_of}
-use Rattle.ckpt_core.proofs.DropMoves.{none_known, room_to_note}
-use Rattle.ckpt_core.proofs.DropDone.{one_pending, done_is_other, pending_one_dropped}
+use Rattle.ckpt_core.specs.Inside.Parts.{state_of}
+use Rattle.ckpt_core.proofs.Ending.Drops.{none_known, room_to_note}
+use Rattle.ckpt_core.proofs.Ending.DropDone.{one_pending, done_is_other, pending_one_dropped}
 use Rattle.ckpt_core.proofs.parts.Parts.drop_pending.Goals as goal
 
 pub push_reserved-requires : goal.push_reserved-requires

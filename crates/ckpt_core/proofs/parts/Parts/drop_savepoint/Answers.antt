@@ -5,8 +5,8 @@ use Rattle.std.proofs.lemmas.Bool.{both_ways}
 use Rattle.ckpt_store.specs.declared.store.DisposeFault.{DisposeFault}
 use Rattle.ckpt_store.specs.declared.store.DisposeFault.TheVariants.{NoSuchSavepoint, InUse}
 use Rattle.ckpt_store.specs.Storing.{has_savepoint}
-use Rattle.ckpt_core.proofs.DropMoves.{none_known, room_to_note}
-use Rattle.ckpt_core.proofs.DropDone.{savepoint_dropped, one_there}
+use Rattle.ckpt_core.proofs.Ending.Drops.{none_known, room_to_note}
+use Rattle.ckpt_core.proofs.Ending.DropDone.{savepoint_dropped, one_there}
 use Rattle.ckpt_core.proofs.parts.Parts.drop_savepoint.Goals as goal
 
 let_go : {T : Type 0} (r : Result T DisposeFault) (P : Type 0) → (r ≡ Err NoSuchSavepoint → ⊥) → (r ≡ Err InUse → ⊥) → OnOk r P → P

@@ -1,7 +1,7 @@
 use Rattle.std.proofs.Common.{◌≡◌, sym, subst}
-use Rattle.ckpt_core.specs.Parts.{state_of}
+use Rattle.ckpt_core.specs.Inside.Parts.{state_of}
 use Rattle.ckpt_core.specs.Reads.{NoneIsEarlyFrom, NoneTriggersBefore, next_due}
-use Rattle.ckpt_core.proofs.DueFacts.{none_before, none_early}
+use Rattle.ckpt_core.proofs.Reading.Due.{none_before, none_early}
 use Rattle.ckpt_core.proofs.parts.Parts.due.Goals as goal
 
 is_due : (c : goal.After-due) → c.due.result ≡ next_due (state_of c.args.self.now)

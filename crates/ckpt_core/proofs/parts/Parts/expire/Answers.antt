@@ -1,10 +1,10 @@
 use Rattle.std.proofs.Common.{◌≡◌, ◌≤◌, ◌+◌, ◌++◌, length, ◌-◌}
-use Rattle.ckpt_core.specs.Parts.{is_noted, state_of}
+use Rattle.ckpt_core.specs.Inside.Parts.{is_noted, state_of}
 use Rattle.std.proofs.Common.{ap, ◌∙◌, arith, inl, inr, ◌⊎◌}
-use Rattle.ckpt_core.proofs.DropMoves.{groups_of, noted_tied, numbers, room_to_note}
-use Rattle.ckpt_core.proofs.EndingMoves.{not_many}
-use Rattle.ckpt_core.proofs.TickStates.{starts_in_order}
-use Rattle.ckpt_core.proofs.TickParts.{done_not_dropped, expiry_fails, expiry_goes, expiry_wants, few_checkpoints, few_expired, few_failures, is_old, late_at_most, noted_are_expired, failed_tolerable, started_tolerable, tied_failures, unknown_after}
+use Rattle.ckpt_core.proofs.Ending.Drops.{groups_of, noted_tied, numbers, room_to_note}
+use Rattle.ckpt_core.proofs.Ending.Moves.{not_many}
+use Rattle.ckpt_core.proofs.Triggering.TickStates.{starts_in_order}
+use Rattle.ckpt_core.proofs.Triggering.TickParts.{done_not_dropped, expiry_fails, expiry_goes, expiry_wants, few_checkpoints, few_expired, few_failures, is_old, late_at_most, noted_are_expired, failed_tolerable, started_tolerable, tied_failures, unknown_after}
 use Rattle.ckpt_core.proofs.parts.Parts.expire.Goals as goal
 use Rattle.ckpt_core.proofs.parts.Parts.expire.Goals.{else-late-gt0-via-then-late-gt0+else-intolerable, else-late-gt0-via-else-late-gt0}
 use Rattle.std.proofs.lemmas.List.{length-map}

@@ -1,7 +1,7 @@
 use Rattle.std.proofs.Common.{◌≡◌, ◌∙◌, ap, Some, None}
 use Rattle.std.proofs.lemmas.Result.{IfOk-weaker}
 use Rattle.ckpt_ids.specs.Ascending.{ascending}
-use Rattle.ckpt_core.specs.Parts.{state_of}
+use Rattle.ckpt_core.specs.Inside.Parts.{state_of}
 use Rattle.ckpt_core.specs.State.{pins_now, choice_of, chosen, files_of}
 use Rattle.ckpt_core.proofs.parts.Parts.files_of_choice.Goals as goal
 

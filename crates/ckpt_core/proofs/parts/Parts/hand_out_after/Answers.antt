@@ -2,7 +2,7 @@
 use Rattle.std.proofs.Common.{◌≡◌, ◌∙◌, ap}
 use Rattle.ckpt_ids.specs.Records.{released}
 use Rattle.ckpt_registry.specs.Uses.{after_end}
-use Rattle.ckpt_core.proofs.HandOut.{can_be_put}
+use Rattle.ckpt_core.proofs.Ending.HandOut.{can_be_put}
 use Rattle.ckpt_core.proofs.parts.Parts.hand_out_after.Goals as goal
 
 shown : (c : goal.After-put-arg-1) → c.end-files.result.now ≡ released c.args.self.now.registry (after_end c.args.id c.args.self.now.ended.items c.args.self.now.registry)

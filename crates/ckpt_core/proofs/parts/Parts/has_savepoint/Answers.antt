@@ -1,5 +1,5 @@
 use Rattle.std.proofs.Common.{◌∙◌, sym}
-use Rattle.ckpt_core.proofs.RefusalLookups.{done_savepoint-parts}
+use Rattle.ckpt_core.proofs.Answering.RefusalLookups.{done_savepoint-parts}
 use Rattle.ckpt_core.proofs.parts.Parts.has_savepoint.Goals as goal
 
 pub returns : goal.returns

@@ -3,9 +3,9 @@ use Rattle.std.proofs.Common.{rules, ◌≡◌, ◌∙◌, ℕ, ◌+◌, ◌<◌
 use Rattle.std.specs.Prelude.{count_by, find}
 use Rattle.std.specs.Option.{option_map}
 use Rattle.ckpt_core.specs.declared.queries.Live.{Live}
-use Rattle.ckpt_core.specs.Parts.{records_in}
+use Rattle.ckpt_core.specs.Inside.Parts.{records_in}
 use Rattle.ckpt_core.specs.Reads.{live_of}
-use Rattle.ckpt_core.proofs.LiveFacts.{is_below, is_from, live_bound, live_in_order, none_below_zero, walk_ended, walk_goes_on, walk_stopped}
+use Rattle.ckpt_core.proofs.Reading.Live.{is_below, is_from, live_bound, live_in_order, none_below_zero, walk_ended, walk_goes_on, walk_stopped}
 use Rattle.ckpt_core.proofs.parts.Parts.live.Goals as goal
 
 pub loop-init : goal.loop-init

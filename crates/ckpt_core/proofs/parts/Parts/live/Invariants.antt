@@ -1,6 +1,6 @@
 use Rattle.std.proofs.Common.{◌≡◌, nat_lt}
 use Rattle.std.specs.Prelude.{count_by}
-use Rattle.ckpt_core.specs.Parts.{records_in}
+use Rattle.ckpt_core.specs.Inside.Parts.{records_in}
 use Rattle.ckpt_core.proofs.parts.Parts.live.Given as goal
 
 abbrev pub invariant-loop : goal.invariant-loop

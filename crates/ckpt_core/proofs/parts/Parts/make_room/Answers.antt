@@ -1,6 +1,6 @@
 use Rattle.std.proofs.Common.{arith}
 use Rattle.std.proofs.lemmas.Result.{on_ok_weaker}
-use Rattle.ckpt_core.proofs.Lookups.{length-records_of}
+use Rattle.ckpt_core.proofs.Records.Lookups.{length-records_of}
 use Rattle.ckpt_core.proofs.parts.Parts.make_room.Goals as goal
 
 pub overflow_add-live : goal.overflow_add-live

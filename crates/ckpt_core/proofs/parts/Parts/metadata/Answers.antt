@@ -4,8 +4,8 @@ use Rattle.std.specs.Prelude.{find, IsSome}
 use Rattle.std.specs.Option.{option_copied}
 use Rattle.ckpt_ids.specs.Records.{Record}
 use Rattle.ckpt_store.specs.Storing as storing
-use Rattle.ckpt_core.proofs.Lookups.{has_number}
-use Rattle.ckpt_core.proofs.ReadMoves.{pending_metadata, stored_metadata, stored_record, for_ok, some_copied}
+use Rattle.ckpt_core.proofs.Records.Lookups.{has_number}
+use Rattle.ckpt_core.proofs.Answering.Reads.{pending_metadata, stored_metadata, stored_record, for_ok, some_copied}
 use Rattle.ckpt_core.proofs.parts.Parts.metadata.Goals as goal
 
 pub returns-in-Some : goal.returns-in-Some

@@ -4,7 +4,7 @@ use Rattle.std.proofs.lemmas.List.{length-map}
 use Rattle.std.specs.Vec.{vec_capacity}
 use Rattle.ckpt_ids.specs.Records.{Record}
 use Rattle.ckpt_store.specs.Storing.{lowest}
-use Rattle.ckpt_core.proofs.DropMoves.{numbers}
+use Rattle.ckpt_core.proofs.Ending.Drops.{numbers}
 use Rattle.ckpt_core.proofs.parts.Parts.note_and_pop_checkpoints.Goals as goal
 
 one_there : (rs : List Record) (id : ℕ) → Some id ≡ lowest rs → 0 < length rs

@@ -1,4 +1,4 @@
-use Rattle.ckpt_core.proofs.RefusalLookups.{pending_of-parts}
+use Rattle.ckpt_core.proofs.Answering.RefusalLookups.{pending_of-parts}
 use Rattle.ckpt_core.proofs.parts.Parts.pending_record.Goals as goal
 
 pub returns : goal.returns

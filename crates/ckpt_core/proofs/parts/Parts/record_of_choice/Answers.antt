@@ -1,5 +1,5 @@
 use Rattle.std.proofs.Common.{◌∙◌, sym}
-use Rattle.ckpt_core.proofs.PartsFacts.{chosen_checkpoint, chosen_savepoint, chosen_fresh}
+use Rattle.ckpt_core.proofs.Records.PartsFacts.{chosen_checkpoint, chosen_savepoint, chosen_fresh}
 use Rattle.ckpt_core.proofs.parts.Parts.record_of_choice.Goals as goal
 
 pub returns-in-Checkpoint : goal.returns-in-Checkpoint

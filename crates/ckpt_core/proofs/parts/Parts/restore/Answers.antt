@@ -2,9 +2,9 @@
 use Rattle.std.proofs.Common.{None, subst}
 use Rattle.ckpt_ids.specs.declared.call.Target.{Target}
 use Rattle.ckpt_ids.specs.declared.call.Call.TheVariants as call
-use Rattle.ckpt_core.specs.Parts.{state_of, IsAccepted}
-use Rattle.ckpt_core.proofs.Accepted.{accepted_restore, accepted_restore_savepoint}
-use Rattle.ckpt_core.proofs.EndingMoves.{rolled_back_in_order, restarted_clock, restored_answers}
+use Rattle.ckpt_core.specs.Inside.Parts.{state_of, IsAccepted}
+use Rattle.ckpt_core.proofs.Answering.Accepted.{accepted_restore, accepted_restore_savepoint}
+use Rattle.ckpt_core.proofs.Ending.Moves.{rolled_back_in_order, restarted_clock, restored_answers}
 use Rattle.ckpt_core.proofs.parts.Parts.restore.Goals as goal
 
 pub roll_back-released-requires-clause-there : goal.roll_back-released-requires-clause-there

@@ -1,6 +1,6 @@
 -- The record is live, since the call was not refused.
-use Rattle.ckpt_core.specs.Parts.{state_of}
-use Rattle.ckpt_core.proofs.ReadMoves.{accepted_show, shown_answers}
+use Rattle.ckpt_core.specs.Inside.Parts.{state_of}
+use Rattle.ckpt_core.proofs.Answering.Reads.{accepted_show, shown_answers}
 use Rattle.ckpt_core.proofs.parts.Parts.show.Goals as goal
 
 pub metadata-requires-clause-in_order : goal.metadata-requires-clause-in_order

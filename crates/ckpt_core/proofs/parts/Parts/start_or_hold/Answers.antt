@@ -1,8 +1,8 @@
 use Rattle.ckpt_rules.specs.declared.hold.Hold.TheVariants as hold
-use Rattle.ckpt_core.specs.Parts.{state_of}
+use Rattle.ckpt_core.specs.Inside.Parts.{state_of}
 use Rattle.std.proofs.Common.{ap}
 use Rattle.ckpt_core.specs.Steps.{start_or_hold}
-use Rattle.ckpt_core.proofs.TickParts.{held_result, on_err_from, starts_now}
+use Rattle.ckpt_core.proofs.Triggering.TickParts.{held_result, on_err_from, starts_now}
 use Rattle.ckpt_core.proofs.parts.Parts.start_or_hold.Goals as goal
 
 -- src/triggers.rt:219:26

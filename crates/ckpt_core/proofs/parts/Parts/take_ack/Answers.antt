@@ -1,8 +1,8 @@
 -- The call was accepted, so the acknowledgement can be taken; taken back, nothing has changed.
 use Rattle.std.proofs.Common.{◌≡◌, ◌∙◌, ap}
-use Rattle.ckpt_core.specs.PendingRecords.{retracted}
-use Rattle.ckpt_core.proofs.AckTakes.{CanTake, IsFoundAcked, can_take, is_found_acked, some_from}
-use Rattle.ckpt_core.proofs.PendingRecordLemmas.{retracted-acked}
+use Rattle.ckpt_core.specs.Inside.PendingRecords.{retracted}
+use Rattle.ckpt_core.proofs.Acknowledging.Takes.{CanTake, IsFoundAcked, can_take, is_found_acked, some_from}
+use Rattle.ckpt_core.proofs.Records.Pending.{retracted-acked}
 use Rattle.ckpt_core.proofs.parts.Parts.take_ack.Goals as goal
 
 pub joined-requires : goal.joined-requires

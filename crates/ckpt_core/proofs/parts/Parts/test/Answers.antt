@@ -1,8 +1,8 @@
 use Rattle.std.proofs.Common.{rules, ◌≡◌, ◌∙◌, ap, sym, ⊎_elim}
 use Rattle.ckpt_ids.specs.declared.call.Call.TheVariants.{Deleted, Undeleted}
-use Rattle.ckpt_core.specs.Parts.{state_of}
+use Rattle.ckpt_core.specs.Inside.Parts.{state_of}
 use Rattle.ckpt_core.specs.Refusals.{refusal}
-use Rattle.ckpt_core.proofs.RefusalRows.{same_reports}
+use Rattle.ckpt_core.proofs.Answering.RefusalRows.{same_reports}
 use Rattle.ckpt_core.proofs.parts.Parts.test.Goals as goal
 
 pub returns-in-Take : goal.returns-in-Take

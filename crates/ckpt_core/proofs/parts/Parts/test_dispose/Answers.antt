@@ -1,7 +1,7 @@
 use Rattle.std.proofs.Common.{rules}
-use Rattle.ckpt_core.specs.Parts.{state_of}
+use Rattle.ckpt_core.specs.Inside.Parts.{state_of}
 use Rattle.ckpt_core.specs.Refusals.{refusal}
-use Rattle.ckpt_core.proofs.RefusalRows.{row_holds, row_fails, row_last}
+use Rattle.ckpt_core.proofs.Answering.RefusalRows.{row_holds, row_fails, row_last}
 use Rattle.ckpt_core.proofs.parts.Parts.test_dispose.Goals as goal
 
 pub returns-in_err-refuse_if : goal.returns-in_err-refuse_if

@@ -3,10 +3,10 @@ use Rattle.std.specs.Prelude.{find}
 use Rattle.std.specs.Option.{is_none}
 use Rattle.ckpt_ids.specs.declared.reply.Refusal.TheVariants.{NoSuchRecord}
 use Rattle.ckpt_store.specs.Storing.{record_of}
-use Rattle.ckpt_core.specs.Parts.{state_of}
+use Rattle.ckpt_core.specs.Inside.Parts.{state_of}
 use Rattle.ckpt_core.specs.Refusals.{refusal, refuse_if}
-use Rattle.ckpt_core.proofs.RefusalRows.{row_last}
-use Rattle.ckpt_core.proofs.RefusalLookups.{no_record-parts, none_among, both_none, first_there}
+use Rattle.ckpt_core.proofs.Answering.RefusalRows.{row_last}
+use Rattle.ckpt_core.proofs.Answering.RefusalLookups.{no_record-parts, none_among, both_none, first_there}
 use Rattle.ckpt_core.proofs.parts.Parts.test_show.Goals as goal
 use Rattle.ckpt_core.proofs.parts.Parts.test_show.Goals.{then-is_none, else-is_none}
 

@@ -1,10 +1,10 @@
-use Rattle.ckpt_core.specs.Parts.{state_of}
+use Rattle.ckpt_core.specs.Inside.Parts.{state_of}
 use Rattle.ckpt_core.specs.Soundness.{IsSound}
 use Rattle.std.proofs.Common.{sym, subst}
 use Rattle.ckpt_core.specs.State.{State}
-use Rattle.ckpt_core.proofs.Accepted.{accepted_tick}
-use Rattle.ckpt_core.proofs.SoundDrops.{moment_is_sound}
-use Rattle.ckpt_core.proofs.TickParts.{clock_back, seen_state, tick_answers, tick_wants_memory, tied_clock}
+use Rattle.ckpt_core.proofs.Answering.Accepted.{accepted_tick}
+use Rattle.ckpt_core.proofs.Soundness.Drops.{moment_is_sound}
+use Rattle.ckpt_core.proofs.Triggering.TickParts.{clock_back, seen_state, tick_answers, tick_wants_memory, tied_clock}
 use Rattle.ckpt_core.proofs.parts.Parts.tick.Goals as goal
 
 -- src/triggers.rt:155:9

@@ -3,8 +3,8 @@ use Rattle.std.proofs.lemmas.Result.{on_ok_weaker, on_err_weaker}
 use Rattle.ckpt_core.specs.Soundness.{IsSound}
 use Rattle.ckpt_core.specs.State.{State, pins_now}
 use Rattle.ckpt_core.specs.Steps.{triggered}
-use Rattle.ckpt_core.proofs.TickParts.{on_err_from}
-use Rattle.ckpt_core.proofs.TriggerParts.{ended_state, live_records}
+use Rattle.ckpt_core.proofs.Triggering.TickParts.{on_err_from}
+use Rattle.ckpt_core.proofs.Triggering.TriggerParts.{ended_state, live_records}
 use Rattle.ckpt_core.proofs.parts.Parts.trigger.Goals as goal
 
 pub make_room-requires : goal.make_room-requires

@@ -5,9 +5,9 @@ use Rattle.ckpt_ids.specs.Records.{Record}
 use Rattle.ckpt_pending.specs.Acknowledging.{IsPending}
 use Rattle.ckpt_pending.proofs.PendingLemmas.{IsPending-put}
 use Rattle.ckpt_core.specs.Steps.{acknowledged}
-use Rattle.ckpt_core.specs.PendingRecords.{records_in}
-use Rattle.ckpt_core.proofs.CountLemmas.{IsIn-from_find}
-use Rattle.ckpt_core.proofs.PendingRecordLemmas.{found, numbered, at_number, changed, changed-itself, entries-changed, records_in-from, AreKept-changed}
+use Rattle.ckpt_core.specs.Inside.PendingRecords.{records_in}
+use Rattle.ckpt_core.proofs.Records.Counts.{IsIn-from_find}
+use Rattle.ckpt_core.proofs.Records.Pending.{found, numbered, at_number, changed, changed-itself, entries-changed, records_in-from, AreKept-changed}
 use Rattle.ckpt_core.proofs.pending_records.PendingRecords.ack.Goals as goal
 use Rattle.ckpt_core.proofs.pending_records.PendingRecords.ack.Goals.{in-Ok, in-Err}
 

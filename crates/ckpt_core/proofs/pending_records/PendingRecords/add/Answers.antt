@@ -3,8 +3,8 @@ use Rattle.std.specs.BTreeMap.{insert_entry}
 use Rattle.ckpt_ids.specs.Ordered.{IsIn}
 use Rattle.ckpt_ids.specs.Records.{Record}
 use Rattle.ckpt_core.specs.State.{is_checkpoint}
-use Rattle.ckpt_core.specs.PendingRecords.{AreKept, records_in}
-use Rattle.ckpt_core.proofs.PendingRecordLemmas.{from_bool-cond, entries-added, AreKept-added, records_in-from}
+use Rattle.ckpt_core.specs.Inside.PendingRecords.{AreKept, records_in}
+use Rattle.ckpt_core.proofs.Records.Pending.{from_bool-cond, entries-added, AreKept-added, records_in-from}
 use Rattle.ckpt_core.proofs.pending_records.PendingRecords.add.Goals as goal
 
 abbrev one : Bool → ℕ

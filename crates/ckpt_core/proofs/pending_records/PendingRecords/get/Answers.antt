@@ -3,7 +3,7 @@ use Rattle.ckpt_ids.specs.Ordered.{IsIn}
 use Rattle.ckpt_ids.specs.Records.{Record}
 use Rattle.ckpt_pending.specs.Acknowledging.{IsPending}
 use Rattle.std.specs.Prelude.{find}
-use Rattle.ckpt_core.proofs.PendingRecordLemmas.{found, numbered}
+use Rattle.ckpt_core.proofs.Records.Pending.{found, numbered}
 use Rattle.ckpt_core.proofs.pending_records.PendingRecords.get.Goals as goal
 
 pub returns-clause-value : goal.returns-clause-value

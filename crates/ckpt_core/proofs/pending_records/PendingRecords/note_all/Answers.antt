@@ -2,8 +2,8 @@ use Rattle.std.proofs.Common.{◌≡◌, ◌∙◌, ◌++◌, ℕ, List, map, le
 use Rattle.std.specs.Map.{keys_of}
 use Rattle.std.proofs.lemmas.List.{length-map}
 use Rattle.ckpt_ids.specs.Records.{Record}
-use Rattle.ckpt_core.specs.PendingRecords.{records_in}
-use Rattle.ckpt_core.proofs.PendingRecordLemmas.{keys-by_number}
+use Rattle.ckpt_core.specs.Inside.PendingRecords.{records_in}
+use Rattle.ckpt_core.proofs.Records.Pending.{keys-by_number}
 use Rattle.ckpt_core.proofs.pending_records.PendingRecords.note_all.Goals as goal
 
 pub loop-id-init : goal.loop-id-init

@@ -2,8 +2,8 @@ use Rattle.std.proofs.Common.{◌≡◌, ◌∙◌, ◌+◌, ◌-◌, not, Bool,
 use Rattle.std.specs.Map.{lookup}
 use Rattle.ckpt_ids.specs.Records.{Record}
 use Rattle.ckpt_core.specs.State.{is_checkpoint}
-use Rattle.ckpt_core.specs.PendingRecords.{records_in}
-use Rattle.ckpt_core.proofs.PendingRecordLemmas.{from_bool-cond, found, numbered, at_number, entries-removed, records_in-from, count-removed, AreKept-removed}
+use Rattle.ckpt_core.specs.Inside.PendingRecords.{records_in}
+use Rattle.ckpt_core.proofs.Records.Pending.{from_bool-cond, found, numbered, at_number, entries-removed, records_in-from, count-removed, AreKept-removed}
 use Rattle.ckpt_core.proofs.pending_records.PendingRecords.remove.Goals as goal
 
 abbrev one : Bool → ℕ

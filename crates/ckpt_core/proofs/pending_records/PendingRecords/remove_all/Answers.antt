@@ -2,7 +2,7 @@ use Rattle.std.proofs.Common.{◌≡◌, ◌∙◌, ◌+◌, ◌++◌, ◌∷◌
 use Rattle.std.specs.List.{list_any}
 use Rattle.std.proofs.lemmas.List.{take_more}
 use Rattle.ckpt_ids.specs.Records.{Record}
-use Rattle.ckpt_core.proofs.PendingRecordLemmas.{filter-one_more, numbered}
+use Rattle.ckpt_core.proofs.Records.Pending.{filter-one_more, numbered}
 use Rattle.ckpt_core.proofs.pending_records.PendingRecords.remove_all.Goals as goal
 use Rattle.ckpt_ids.proofs.OrderedLemmas.{filter-all}
 

@@ -4,9 +4,9 @@ use Rattle.std.specs.Map.{lookup}
 use Rattle.ckpt_ids.specs.Records.{Record}
 use Rattle.ckpt_pending.specs.Acknowledging.{IsPending, without_ack}
 use Rattle.ckpt_pending.proofs.PendingLemmas.{IsPending-without}
-use Rattle.ckpt_core.specs.PendingRecords.{records_in}
-use Rattle.ckpt_core.proofs.CountLemmas.{IsIn-from_find}
-use Rattle.ckpt_core.proofs.PendingRecordLemmas.{found, numbered, at_number, changed, entries-changed, records_in-from, AreKept-changed}
+use Rattle.ckpt_core.specs.Inside.PendingRecords.{records_in}
+use Rattle.ckpt_core.proofs.Records.Counts.{IsIn-from_find}
+use Rattle.ckpt_core.proofs.Records.Pending.{found, numbered, at_number, changed, entries-changed, records_in-from, AreKept-changed}
 use Rattle.ckpt_core.proofs.pending_records.PendingRecords.retract.Goals as goal
 
 pub unwrap-pending-requires : goal.unwrap-pending-requires

@@ -2,7 +2,7 @@ use Rattle.std.proofs.Common.{◌≡◌, ◌∙◌, List, sym, ap, length, count
 use Rattle.std.proofs.lemmas.Map.Entries.{length-values_of}
 use Rattle.ckpt_ids.specs.Records.{Record}
 use Rattle.ckpt_core.specs.State.{is_checkpoint}
-use Rattle.ckpt_core.proofs.PendingRecordLemmas.{count_by-others}
+use Rattle.ckpt_core.proofs.Records.Pending.{count_by-others}
 use Rattle.ckpt_core.proofs.pending_records.PendingRecords.savepoints.Goals as goal
 
 pub returns : goal.returns

@@ -1,0 +1,109 @@
+-- What an acknowledgement does that comes after its record has ended.
+use Rattle.std.proofs.Common.{◌≡◌, ℕ, ◌≤◌, ◌<◌, max, true, false, not, ◌||◌, List, ◌++◌, length, sym, ap, subst, ◌∙◌, arith, Option, None}
+use Rattle.std.specs.Prelude.{count_by, OnErr, Result, Ok, Err}
+use Rattle.std.specs.List.{filter}
+use Rattle.std.proofs.lemmas.Bool.{not-true, or_parts, lt-ltb}
+use Rattle.std.proofs.lemmas.List.Sums.{length-filter}
+use Rattle.ckpt_ids.specs.declared.call.Call.TheVariants.{Ack}
+use Rattle.ckpt_ids.specs.declared.reply.Answer.TheVariants.{Done}
+use Rattle.ckpt_ids.specs.declared.reply.Reply.TheVariants as reply
+use Rattle.ckpt_ids.specs.declared.subtask.SubtaskId.{SubtaskId}
+use Rattle.ckpt_ids.specs.Records.{Record, is_present}
+use Rattle.ckpt_ids.proofs.OrderedLemmas.{IsIn-from_filter, filter-same, AreDistinct-left, AreDistinct-filter}
+use Rattle.ckpt_outbox.specs.Queues as queues
+use Rattle.ckpt_rules.specs.Moments.{Moments}
+use Rattle.ckpt_core.specs.declared.parts.Parts.{Parts}
+use Rattle.ckpt_core.specs.Memory.{may_want_memory, answer_wants}
+use Rattle.ckpt_core.specs.Inside.Parts.{Answers, AreSound, AreTied, IsAccepted, is_known_in, present_in, state_of}
+use Rattle.ckpt_core.specs.Refusals.{refusal, pending_of}
+use Rattle.ckpt_core.specs.State.{State, is_known}
+use Rattle.ckpt_core.specs.Steps.{Stepped, ack, effect, step, unless_refused}
+use Rattle.ckpt_core.proofs.Answering.Accepted.{IsAcceptedAck, accepted_ack}
+use Rattle.ckpt_core.proofs.Ending.Released.{distinct-from_test, IsIn-from_test}
+use Rattle.ckpt_ids.specs.Ordered.{AreDistinct}
+
+-- what an accepted acknowledgement does
+pub ack_step : (m : State) (now id : ℕ) (subtask : SubtaskId) (fresh reused : List ℕ) (o : Option Record) → refusal m (Ack now id subtask fresh reused) ≡ None → pending_of m.records id ≡ o →
+    step m (Ack now id subtask fresh reused) ≡ ack (record m { latest = max now m.latest }) o subtask fresh reused
+unfolding step effect
+ack_step m now id subtask fresh reused o accepted found =
+    ap (unless_refused m (Ack now id subtask fresh reused)) accepted
+    ∙ ap (λ q. ack (record m { latest = max now m.latest }) q subtask fresh reused) found
+
+-- the unknown files
+abbrev pub unknown_in : Parts → List ℕ → List ℕ
+unknown_in p fresh = filter (λ f. not (is_known_in p f)) fresh
+
+known_same : (p : Parts) (f : ℕ) → AreTied p → is_known_in p f ≡ is_known (state_of p) f
+unfolding state_of
+known_same p f tied = ap (λ us. is_present us f || queues.is_known p.outbox f) tied.uses_are
+
+unknown_same : (p : Parts) (now : ℕ) (fresh : List ℕ) → AreTied p → filter (λ f. not (is_known (record (state_of p) { latest = max now p.clock.latest }) f)) fresh ≡ unknown_in p fresh
+unfolding state_of
+unknown_same p now fresh tied = filter-same (λ f. not (is_known (state_of p) f)) (λ f. not (is_known_in p f)) fresh (λ f h. ap not (sym (known_same p f tied)))
+
+late_step : (p : Parts) (now id : ℕ) (subtask : SubtaskId) (fresh reused : List ℕ) → AreTied p → IsAccepted p (Ack now id subtask fresh reused) → pending_of (state_of p).records id ≡ None →
+    step (state_of p) (Ack now id subtask fresh reused) ≡ (record (state_of p) { latest = max now p.clock.latest; waiting = p.outbox.waiting ++ unknown_in p fresh }, Done (reply.AckLate (length (unknown_in p fresh))))
+unfolding state_of ack
+late_step p now id subtask fresh reused tied accepted ended =
+    let m : State = record (state_of p) { latest = max now p.clock.latest } in
+    ack_step (state_of p) now id subtask fresh reused None accepted ended
+    ∙ ap (λ files. (record m { waiting = m.waiting ++ files }, Done (reply.AckLate (length files)))) (unknown_same p now fresh tied)
+
+pub late_wants : (p : Parts) (now id : ℕ) (subtask : SubtaskId) (fresh reused : List ℕ) → AreTied p → IsAccepted p (Ack now id subtask fresh reused) → pending_of (state_of p).records id ≡ None → 0 < length (unknown_in p fresh) →
+    may_want_memory (state_of p) (Ack now id subtask fresh reused) ≡ true
+late_wants p now id subtask fresh reused tied accepted ended some =
+    ap (λ (s : Stepped). answer_wants (Ack now id subtask fresh reused) s.1) (late_step p now id subtask fresh reused tied accepted ended) ∙ lt-ltb 0 (length (unknown_in p fresh)) some
+
+pub unknown_counted : (p : Parts) (fresh : List ℕ) → 0 < count_by (λ f. not (is_known_in p f)) fresh → 0 < length (unknown_in p fresh)
+unknown_counted p fresh h = omega (arith, length-filter (λ f. not (is_known_in p f)) fresh)
+
+-- they can be put
+pub unknown_distinct : (p : Parts) (now id : ℕ) (subtask : SubtaskId) (fresh reused files : List ℕ) → IsAccepted p (Ack now id subtask fresh reused) → files ≡ unknown_in p fresh → AreDistinct files
+unknown_distinct p now id subtask fresh reused files accepted is =
+    let a : IsAcceptedAck (state_of p) now id subtask fresh reused = accepted_ack (state_of p) now id subtask fresh reused accepted in
+    let P : List ℕ → Type 0 = λ fs. AreDistinct fs in
+    subst P (sym is) (AreDistinct-filter (λ f. not (is_known_in p f)) fresh (AreDistinct-left fresh reused (distinct-from_test (fresh ++ reused) a.once)))
+
+pub unknown_new : (p : Parts) (fresh files : List ℕ) → files ≡ unknown_in p fresh → (f : ℕ) → queues.is_in f files ≡ true → queues.is_known p.outbox f ≡ false
+unknown_new p fresh files is f h =
+    let there = IsIn-from_test f (unknown_in p fresh) (ap (queues.is_in f) (sym is) ∙ h) in
+    (or_parts (is_present p.registry f) (queues.is_known p.outbox f) (not-true (is_known_in p f) (IsIn-from_filter (λ g. not (is_known_in p g)) f fresh there).1)).1
+
+-- the parts after it
+abbrev late : Parts → ℕ → List ℕ → ℕ → Parts
+late p now files spare = record p { outbox = record p.outbox { waiting = p.outbox.waiting ++ files; spare = spare }; clock = record p.clock { latest = max now p.clock.latest } }
+
+late_is : (p : Parts) (now id : ℕ) (subtask : SubtaskId) (fresh reused : List ℕ) (spare : ℕ) → AreSound p → IsAccepted p (Ack now id subtask fresh reused) → pending_of (state_of p).records id ≡ None → present_in p.registry ≤ spare →
+    Answers p (late p now (unknown_in p fresh) spare) (Ack now id subtask fresh reused) (reply.AckLate (length (unknown_in p fresh)))
+unfolding state_of
+late_is p now id subtask fresh reused spare sound accepted ended room = record {
+  step_is = late_step p now id subtask fresh reused sound.tied accepted ended;
+  tied = record {
+    uses_are = sound.tied.uses_are;
+    retained = sound.tied.retained;
+    tolerable = sound.tied.tolerable;
+    spare = room;
+    room = sound.tied.room;
+  };
+  none_ended = sound.none_ended;
+}
+
+pub late_answers : (p o : Parts) (now id : ℕ) (subtask : SubtaskId) (fresh reused files : List ℕ) (n : ℕ) (clock : Moments) → AreSound p → IsAccepted p (Ack now id subtask fresh reused) → pending_of (state_of p).records id ≡ None →
+    files ≡ unknown_in p fresh → o ≡ record p { outbox = record p.outbox { waiting = p.outbox.waiting ++ files; spare = o.outbox.spare } } → present_in p.registry ≤ o.outbox.spare →
+    clock ≡ record o.clock { latest = max now o.clock.latest } → n ≡ length files →
+    Answers p (record o { clock = clock }) (Ack now id subtask fresh reused) (reply.AckLate n)
+late_answers p o now id subtask fresh reused files n clock sound accepted ended is put room seen counted =
+    let spare : ℕ = o.outbox.spare in
+    let same : record o { clock = clock } ≡ late p now (unknown_in p fresh) spare =
+    ap (λ c. record o { clock = c }) seen
+    ∙ ap (λ (x : Parts). record x { clock = record x.clock { latest = max now x.clock.latest } }) put
+    ∙ ap (λ fs. late p now fs spare) is in
+    let P : Parts → Type 0 = λ x. Answers p x (Ack now id subtask fresh reused) (reply.AckLate n) in
+    let Q : ℕ → Type 0 = λ k. Answers p (late p now (unknown_in p fresh) spare) (Ack now id subtask fresh reused) (reply.AckLate k) in
+    subst P (sym same) (subst Q (sym (counted ∙ ap length is)) (late_is p now id subtask fresh reused spare sound accepted ended room))
+
+-- a fact that is known holds of each error
+pub on_each_error : {T E : Type 0} (r : Result T E) (P : Type 0) → P → OnErr r P
+on_each_error (Ok x) P h = tt
+on_each_error (Err x) P h = h

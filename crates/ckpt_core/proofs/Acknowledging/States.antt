@@ -1,0 +1,279 @@
+-- What an accepted acknowledgement of a pending record makes of the parts.
+use Rattle.std.proofs.Common.{◌≡◌, ℕ, ◌+◌, ◌-◌, ◌≤◌, ◌<◌, max, Bool, true, false, cond, ltb, eqb, List, ◌++◌, map, length, refl, sym, ap, subst, ◌∙◌, ⊎_elim, arith, Some, None}
+use Rattle.std.specs.Prelude.{find}
+use Rattle.std.specs.Option.{option_map}
+use Rattle.std.specs.Vec.{vec_capacity}
+use Rattle.std.proofs.lemmas.Bool.{cases_Bool, both_ways, eqb-true, ne_eqb, eq-eqb}
+use Rattle.std.proofs.lemmas.List.{length-map}
+use Rattle.ckpt_ids.specs.declared.call.Call.{Call}
+use Rattle.ckpt_ids.specs.declared.call.Call.TheVariants.{Ack}
+use Rattle.ckpt_ids.specs.declared.reply.Answer.TheVariants.{Done}
+use Rattle.ckpt_ids.specs.declared.reply.Reply.TheVariants as reply
+use Rattle.ckpt_ids.specs.declared.subtask.SubtaskId.{SubtaskId}
+use Rattle.ckpt_ids.specs.Ascending.{ascending}
+use Rattle.ckpt_ids.specs.Ordered.{IsIn, IsInOrder, in_order_once}
+use Rattle.ckpt_ids.specs.Records.{Record, Use, Subtask, is_present, missing, use_before, uses, uses_of}
+use Rattle.ckpt_ids.proofs.OrderedLemmas.{IsIn-append_cases, IsIn-append_left, IsIn-map, IsIn-in_order, IsIn-from_in_order, IsInOrder-map, IsIn-in_order_once, IsIn-from_in_order_once}
+use Rattle.ckpt_ids.proofs.OrderLemmas.{uses_in_order}
+use Rattle.ckpt_pending.specs.Acknowledging.{IsPending}
+use Rattle.ckpt_pending.proofs.PendingLemmas.{missing-with_ack}
+use Rattle.ckpt_registry.specs.Uses.{triples}
+use Rattle.ckpt_store.specs.Storing.{IsStored}
+use Rattle.ckpt_core.specs.declared.parts.Parts.{Parts}
+use Rattle.ckpt_core.specs.Inside.Completing.{IsMissing}
+use Rattle.ckpt_core.specs.Inside.Grouped.{with_pins, grouped, records_of}
+use Rattle.ckpt_core.specs.Memory.{may_want_memory, answer_wants}
+use Rattle.ckpt_core.specs.Inside.Parts.{Answers, AreSound, AreTied, IsAccepted, Stays, present_in, records_in, state_of}
+use Rattle.ckpt_core.specs.Inside.PendingRecords.{acked}
+use Rattle.ckpt_core.specs.Refusals.{pending_of, refusal}
+use Rattle.ckpt_core.specs.Soundness.{IsSound, id_before}
+use Rattle.ckpt_core.specs.State.{State}
+use Rattle.ckpt_core.specs.Steps.{Stepped, ack, acknowledged, acknowledged_in, completed_with, replaced, step, with_records}
+use Rattle.ckpt_core.proofs.Answering.Accepted.{accepted_ack}
+use Rattle.ckpt_core.proofs.Acknowledging.Late.{ack_step}
+use Rattle.ckpt_core.proofs.Acknowledging.Moves.{ack_groups, ack_uses, no_pin-holds, with_instead, id-with_instead, replaced_members}
+use Rattle.ckpt_core.proofs.Acknowledging.Records.{IsAcknowledged}
+use Rattle.ckpt_core.proofs.Acknowledging.Takes.{found_pending, found_record}
+use Rattle.ckpt_core.proofs.Acknowledging.Uses.{present_more}
+use Rattle.ckpt_core.proofs.Records.Counts.{IsIn-from_find, map_same}
+use Rattle.ckpt_core.proofs.Ending.Drops.{apart_in}
+use Rattle.ckpt_core.proofs.Records.Grouped.{apart_between}
+use Rattle.ckpt_core.proofs.Ending.HandOut.{present-from_use}
+use Rattle.ckpt_core.proofs.Records.Lookups.{has_number}
+use Rattle.ckpt_core.proofs.Records.Pending.{find-from_IsIn}
+use Rattle.ckpt_core.proofs.Records.Replacing.{same_record}
+use Rattle.ckpt_core.proofs.Soundness.Acks.{IsAcking, with_ack, with_ack_is}
+use Rattle.ckpt_core.proofs.Soundness.Calls.{acking}
+use Rattle.ckpt_core.proofs.Using.Order.{from_holds, all_uses_in_order, record_in_order, record_uses_in_order, uses-in_order}
+use Rattle.ckpt_core.specs.Inside.Moving.{taken_in}
+
+-- the parts with other room
+
+abbrev pub roomy : Parts → ℕ → ℕ → Parts
+roomy p spare places = record p { outbox = record p.outbox { spare = spare }; store = record p.store { spare = places } }
+
+pub record IsRoomier (p q : Parts) : Type 0 where
+  pub spare : ℕ
+  pub places : ℕ
+  pub is : q ≡ roomy p spare places
+  pub room : present_in p.registry ≤ spare
+
+pub made_room : (p q : Parts) (more : ℕ) → q ≡ record p { outbox = record p.outbox { spare = max (present_in p.registry + more) p.outbox.spare } } → IsRoomier p q
+made_room p q more e = record { spare = max (present_in p.registry + more) p.outbox.spare; places = p.store.spare; is = e; room = omega arith }
+
+pub room_made : (p q : Parts) (more : ℕ) → q ≡ record p { outbox = record p.outbox { spare = max (present_in p.registry + more) p.outbox.spare } } → present_in q.registry + more ≤ q.outbox.spare
+room_made p q more e = omega (arith, ap (λ x. present_in x.registry) e, ap (λ x. x.outbox.spare) e)
+
+roomy_state : (p : Parts) (spare places : ℕ) → state_of (roomy p spare places) ≡ state_of p
+unfolding state_of
+roomy_state p spare places = refl
+
+pub roomier_state : {p q : Parts} → IsRoomier p q → state_of q ≡ state_of p
+roomier_state {p} {q} r = ap state_of r.is ∙ roomy_state p r.spare r.places
+
+pub roomier_sound : {p q : Parts} → IsRoomier p q → AreSound p → AreSound q
+roomier_sound {p} {q} r sound =
+    let P : Parts → Type 0 = λ x. AreSound x in
+    let Q : State → Type 0 = λ m. IsSound m in
+    subst P (sym r.is) (record {
+      tied = record { uses_are = sound.tied.uses_are; retained = sound.tied.retained; tolerable = sound.tied.tolerable; spare = r.room; room = sound.tied.room };
+      sound = subst Q (sym (roomy_state p r.spare r.places)) sound.sound;
+      none_ended = sound.none_ended;
+    })
+
+pub roomier_stays : {p q : Parts} → IsRoomier p q → AreSound p → Stays p q
+roomier_stays {p} {q} r sound = let s : AreSound q = roomier_sound r sound in record { state_is = roomier_state r; tied = s.tied; none_ended = s.none_ended }
+
+-- what is known of it
+pub record IsTaking (p : Parts) (now id : ℕ) (s : SubtaskId) (fresh reused : List ℕ) (r : Record) : Type 0 where
+  pub sound : AreSound p
+  pub accepted : IsAccepted p (Ack now id s fresh reused)
+  pub pending : (q : Record) → IsIn q p.pending → IsPending q
+  pub in_order : IsInOrder id_before p.pending
+  pub stored : IsStored p.store
+  pub found : find (has_number id) p.pending ≡ Some r
+
+-- where other room was made first
+pub roomier_accepted : {p q : Parts} (now id : ℕ) (s : SubtaskId) (fresh reused : List ℕ) → IsRoomier p q → IsAccepted p (Ack now id s fresh reused) → IsAccepted q (Ack now id s fresh reused)
+roomier_accepted {p} {q} now id s fresh reused r accepted = ap (λ m. refusal m (Ack now id s fresh reused)) (roomier_state r) ∙ accepted
+
+pub taking_from : {p q : Parts} {id n : ℕ} (now : ℕ) (s : SubtaskId) (fresh reused : List ℕ) → IsRoomier p q → AreSound p → IsAccepted p (Ack now id s fresh reused) → ((x : Record) → IsIn x q.pending → IsPending x) → IsInOrder id_before q.pending → IsStored q.store → (w : IsMissing p.pending id n) → IsTaking q now id s fresh reused w.lacking
+taking_from {p} {q} {id} {n} now s fresh reused r sound accepted pending order stored w = record {
+  sound = roomier_sound r sound;
+  accepted = roomier_accepted now id s fresh reused r accepted;
+  pending = pending;
+  in_order = order;
+  stored = stored;
+  found = ap (λ x. find (has_number id) x.pending) r.is ∙ w.found;
+}
+
+pub its_number : {p : Parts} {now id : ℕ} {s : SubtaskId} {fresh reused : List ℕ} {r : Record} → IsTaking p now id s fresh reused r → r.id ≡ id
+its_number {p} {now} {id} {s} {fresh} {reused} {r} t = eqb-true r.id id (IsIn-from_find (has_number id) r p.pending t.found).1
+
+pub taking : {p : Parts} {now id : ℕ} {s : SubtaskId} {fresh reused : List ℕ} {r : Record} → IsTaking p now id s fresh reused r → IsAcking (state_of p) (with_pins p.registry r) s fresh reused
+taking {p} {now} {id} {s} {fresh} {reused} {r} t =
+    acking (state_of p) now id s fresh reused (with_pins p.registry r) (accepted_ack (state_of p) now id s fresh reused t.accepted) (found_record p id r t.sound.sound t.pending t.stored t.found)
+
+pub acked_replaced : (id : ℕ) (s : SubtaskId) (files : List ℕ) (r : Record) (rs : List Record) → IsInOrder id_before rs → find (has_number id) rs ≡ Some r → acked id s files rs ≡ replaced rs (acknowledged r s files)
+acked_replaced id s files r rs order found =
+    let a : Record = acknowledged r s files in
+    let its : r.id ≡ id = eqb-true r.id id (IsIn-from_find (has_number id) r rs found).1 in
+    map_same (λ q. cond (has_number id q) (acknowledged q s files) q) (with_instead a) rs (λ q h.
+    let Goal : Type 0 = cond (has_number id q) (acknowledged q s files) q ≡ with_instead a q in
+    ⊎_elim
+    (λ (e : has_number id q ≡ true).
+    let both : Some q ≡ Some r = sym (find-from_IsIn id q rs order h e) ∙ found in
+    let same : q ≡ r = cc in
+    ap (λ b. cond b (acknowledged q s files) q) e ∙ ap (λ x. acknowledged x s files) same ∙ sym (ap (λ b. cond b a q) (ap (eqb q.id) its ∙ e)))
+    (λ (e : has_number id q ≡ false). ap (λ b. cond b (acknowledged q s files) q) e ∙ sym (ap (λ b. cond b a q) (ap (eqb q.id) its ∙ e)))
+    (cases_Bool (has_number id q)))
+
+pub registry_in_order : (p : Parts) → AreSound p → IsInOrder use_before p.registry
+unfolding state_of
+registry_in_order p sound = let P : List Use → Type 0 = λ us. IsInOrder use_before us in subst P (sym sound.tied.uses_are) (uses-in_order (records_in p) sound.sound.in_order sound.sound.each)
+
+-- the records after it
+pub taken_records : {p : Parts} {now id : ℕ} {s : SubtaskId} {fresh reused : List ℕ} {r : Record} → IsTaking p now id s fresh reused r → records_in (taken_in p now id s fresh reused) ≡ replaced (records_in p) (with_ack (with_pins p.registry r) s fresh reused)
+taken_records {p} {now} {id} {s} {fresh} {reused} {r} t =
+    let files : List ℕ = ascending (fresh ++ reused) in
+    let added : List Use = triples id (Subtask s) (fresh ++ reused) in
+    let there = (IsIn-from_find (has_number id) r p.pending t.found).0 in
+    ap (λ rs. records_of (in_order_once use_before (p.registry ++ added)) rs p.store.checkpoints p.store.savepoints) (acked_replaced id s files r p.pending t.in_order t.found)
+    ∙ ack_groups p.registry added p.pending p.store.checkpoints p.store.savepoints (acknowledged r s files) (registry_in_order p t.sound) (no_pin-holds id s (fresh ++ reused))
+    (λ q h e. apart_between (map (with_pins p.registry) p.pending) (p.store.checkpoints ++ p.store.savepoints) (apart_in p t.sound.sound) (with_pins p.registry r) q (IsIn-map (with_pins p.registry) r p.pending there) h (sym e))
+
+pub replaced_in_order : (rs : List Record) (a : Record) → IsInOrder id_before rs → IsInOrder id_before (replaced rs a)
+replaced_in_order rs a order = IsInOrder-map id_before id_before (with_instead a) rs (λ x y h. ap (λ i. ltb i (with_instead a y).id) (id-with_instead a x) ∙ ap (ltb x.id) (id-with_instead a y) ∙ h) order
+
+-- their uses
+pub taken_uses : {p : Parts} {now id : ℕ} {s : SubtaskId} {fresh reused : List ℕ} {r : Record} → IsTaking p now id s fresh reused r → (taken_in p now id s fresh reused).registry ≡ uses (replaced (records_in p) (with_ack (with_pins p.registry r) s fresh reused))
+unfolding state_of
+taken_uses {p} {now} {id} {s} {fresh} {reused} {r} t =
+    let rs : List Record = records_in p in
+    let q : Record = with_pins p.registry r in
+    let a : Record = with_ack q s fresh reused in
+    let k : IsAcking (state_of p) q s fresh reused = taking t in
+    let is : IsAcknowledged a = with_ack_is t.sound.sound k in
+    let own : IsInOrder use_before (uses_of a) = record_uses_in_order a is.acks_in_order is.files (t.sound.sound.each q k.there).pins in
+    let each : (x : Record) → IsIn x (replaced rs a) → IsInOrder use_before (uses_of x) = λ x h.
+    let P : Record → Type 0 = λ w. IsInOrder use_before (uses_of w) in
+    ⊎_elim (λ (e : x ≡ a). subst P (sym e) own) (λ (o : IsIn x rs × (x.id ≡ a.id → ⊥)). record_in_order x (t.sound.sound.each x o.0)) (replaced_members rs a x h) in
+    ap (λ us. in_order_once use_before (us ++ triples id (Subtask s) (fresh ++ reused))) t.sound.tied.uses_are
+    ∙ ap (λ i. in_order_once use_before (uses rs ++ triples i (Subtask s) (fresh ++ reused))) (sym (its_number t))
+    ∙ ack_uses rs q s (fresh ++ reused) (ascending (fresh ++ reused)) k.there (λ x h e. same_record x q rs t.sound.sound.in_order h k.there e)
+    (λ f h. IsIn-in_order ltb f (fresh ++ reused) h) (λ f h. IsIn-from_in_order ltb f (fresh ++ reused) h) (all_uses_in_order (replaced rs a) (replaced_in_order rs a t.sound.sound.in_order) each)
+
+taken_kept : (us added : List Use) (u : Use) → IsIn u us → IsIn u (in_order_once use_before (us ++ added))
+taken_kept us added u h = IsIn-in_order_once uses_in_order u (us ++ added) (IsIn-append_left u us added h)
+
+taken_new : (us : List Use) (id : ℕ) (s : SubtaskId) (fresh reused : List ℕ) → ((f : ℕ) → IsIn f reused → is_present us f ≡ true) → (u : Use) → IsIn u (in_order_once use_before (us ++ triples id (Subtask s) (fresh ++ reused))) → is_present us u.file ≡ false → IsIn u.file fresh
+taken_new us id s fresh reused present u h absent =
+    let added : List Use = triples id (Subtask s) (fresh ++ reused) in
+    ⊎_elim
+    (λ (k : IsIn u us). absurd (both_ways (is_present us u.file) absent (present-from_use u us k)))
+    (λ (k : IsIn u added).
+    ⊎_elim
+    (λ (f : IsIn u.file fresh). f)
+    (λ (f : IsIn u.file reused). absurd (both_ways (is_present us u.file) absent (present u.file f)))
+    (IsIn-append_cases u.file fresh reused (from_holds id (Subtask s) (fresh ++ reused) u k).2))
+    (IsIn-append_cases u us added (IsIn-from_in_order_once use_before u (us ++ added) h))
+
+pub taken_present : {p : Parts} {now id : ℕ} {s : SubtaskId} {fresh reused : List ℕ} {r : Record} → IsTaking p now id s fresh reused r → present_in (taken_in p now id s fresh reused).registry ≤ present_in p.registry + length fresh
+unfolding state_of
+taken_present {p} {now} {id} {s} {fresh} {reused} {r} t =
+    let k : IsAcking (state_of p) (with_pins p.registry r) s fresh reused = taking t in
+    let present : (f : ℕ) → IsIn f reused → is_present p.registry f ≡ true = λ f h. ap (λ us. is_present us f) t.sound.tied.uses_are ∙ k.present f h in
+    present_more p.registry (taken_in p now id s fresh reused).registry fresh (taken_kept p.registry (triples id (Subtask s) (fresh ++ reused))) (taken_new p.registry id s fresh reused present)
+
+pub taken_tied : {p : Parts} {now id : ℕ} {s : SubtaskId} {fresh reused : List ℕ} {r : Record} → IsTaking p now id s fresh reused r → present_in p.registry + length fresh ≤ p.outbox.spare → AreTied (taken_in p now id s fresh reused)
+taken_tied {p} {now} {id} {s} {fresh} {reused} {r} t room =
+    let a : Record = with_ack (with_pins p.registry r) s fresh reused in
+    let old : length (records_in p) ≤ vec_capacity p.ended = t.sound.tied.room in
+    record {
+      uses_are = taken_uses t ∙ ap uses (sym (taken_records t));
+      retained = t.sound.tied.retained;
+      tolerable = t.sound.tied.tolerable;
+      spare = omega (arith, taken_present t, room);
+      room = omega (arith, ap length (taken_records t), length-map (records_in p) (with_instead a), old);
+    }
+
+-- the state after it
+abbrev pub moved : Parts → ℕ → State
+moved p now = record (state_of p) { latest = max now p.clock.latest }
+
+pub taken_state : {p : Parts} {now id : ℕ} {s : SubtaskId} {fresh reused : List ℕ} {r : Record} → IsTaking p now id s fresh reused r → state_of (taken_in p now id s fresh reused) ≡ with_records (moved p now) (replaced (records_in p) (with_ack (with_pins p.registry r) s fresh reused))
+unfolding state_of
+taken_state {p} {now} {id} {s} {fresh} {reused} {r} t = ap (λ rs. with_records (moved p now) rs) (taken_records t)
+
+-- how many acknowledgements it lacks then
+pub one_less : {p : Parts} {now id : ℕ} {s : SubtaskId} {fresh reused : List ℕ} {r : Record} → IsTaking p now id s fresh reused r → missing (with_ack (with_pins p.registry r) s fresh reused) + 1 ≡ missing r
+one_less {p} {now} {id} {s} {fresh} {reused} {r} t =
+    let k : IsAcking (state_of p) (with_pins p.registry r) s fresh reused = taking t in
+    missing-with_ack (with_pins p.registry r) s (ascending (fresh ++ reused)) k.of_subtask k.first
+
+pub taken_step : {p : Parts} {now id : ℕ} {s : SubtaskId} {fresh reused : List ℕ} {r : Record} → IsTaking p now id s fresh reused r →
+    step (state_of p) (Ack now id s fresh reused) ≡ acknowledged_in (moved p now) (with_ack (with_pins p.registry r) s fresh reused)
+unfolding state_of ack
+taken_step {p} {now} {id} {s} {fresh} {reused} {r} t =
+    ack_step (state_of p) now id s fresh reused (Some (with_pins p.registry r)) t.accepted (found_record p id r t.sound.sound t.pending t.stored t.found)
+
+still_waiting : (m : State) (a : Record) → (missing a ≡ 0 → ⊥) → acknowledged_in m a ≡ (with_records m (replaced m.records a), Done (reply.AckPending (missing a)))
+unfolding acknowledged_in
+still_waiting m a some =
+    let done : Record = record a { done = true } in
+    ap (λ b. cond b (completed_with (with_records m (replaced m.records done)) done) (with_records m (replaced m.records a), Done (reply.AckPending (missing a)))) (ne_eqb (missing a) 0 some)
+
+pub now_complete : (m : State) (a : Record) → missing a ≡ 0 → acknowledged_in m a ≡ completed_with (with_records m (replaced m.records (record a { done = true }))) (record a { done = true })
+unfolding acknowledged_in
+now_complete m a none =
+    let done : Record = record a { done = true } in
+    ap (λ b. cond b (completed_with (with_records m (replaced m.records done)) done) (with_records m (replaced m.records a), Done (reply.AckPending (missing a)))) (eq-eqb (missing a) 0 none)
+
+waiting_step : {p : Parts} {now id : ℕ} {s : SubtaskId} {fresh reused : List ℕ} {r : Record} (n : ℕ) → IsTaking p now id s fresh reused r → missing r ≡ n → 1 < n →
+    step (state_of p) (Ack now id s fresh reused) ≡ (state_of (taken_in p now id s fresh reused), Done (reply.AckPending (n - 1)))
+unfolding state_of
+waiting_step {p} {now} {id} {s} {fresh} {reused} {r} n t lacking others =
+    let m : State = moved p now in
+    let a : Record = with_ack (with_pins p.registry r) s fresh reused in
+    let less : missing a + 1 ≡ missing r = one_less t in
+    let some : missing a ≡ 0 → ⊥ = λ e. omega arith in
+    let count : missing a ≡ n - 1 = omega arith in
+    let after : State = with_records m (replaced m.records a) in
+    taken_step t ∙ still_waiting m a some ∙ ap (λ k. (after, Done (reply.AckPending k))) count ∙ ap (λ x. (x, Done (reply.AckPending (n - 1)))) (sym (taken_state t))
+
+pub waiting_answers : {p q : Parts} {now id : ℕ} {s : SubtaskId} {fresh reused : List ℕ} {r : Record} (new : Parts) (n : ℕ) → IsRoomier p q → IsTaking q now id s fresh reused r → present_in q.registry + length fresh ≤ q.outbox.spare → missing r ≡ n → 1 < n → new ≡ taken_in q now id s fresh reused →
+    Answers p new (Ack now id s fresh reused) (reply.AckPending (n - 1))
+waiting_answers {p} {q} {now} {id} {s} {fresh} {reused} {r} new n roomier t room lacking others is =
+    let P : Parts → Type 0 = λ x. Answers p x (Ack now id s fresh reused) (reply.AckPending (n - 1)) in
+    subst P (sym is) (record {
+      step_is = ap (λ m. step m (Ack now id s fresh reused)) (sym (roomier_state roomier)) ∙ waiting_step n t lacking others;
+      tied = taken_tied t room;
+      none_ended = t.sound.none_ended;
+    })
+
+-- memory may be wanted for it
+pub acked_wants : {p : Parts} {now id : ℕ} {s : SubtaskId} {fresh reused : List ℕ} {r : Record} → IsTaking p now id s fresh reused r → may_want_memory (state_of p) (Ack now id s fresh reused) ≡ true
+unfolding acknowledged_in completed_with
+acked_wants {p} {now} {id} {s} {fresh} {reused} {r} t =
+    let call : Call = Ack now id s fresh reused in
+    let m : State = moved p now in
+    let a : Record = with_ack (with_pins p.registry r) s fresh reused in
+    let P : Bool → Type 0 = λ b. answer_wants call (cond b (completed_with (with_records m (replaced m.records (record a { done = true }))) (record a { done = true })) (with_records m (replaced m.records a), Done (reply.AckPending (missing a)))).1 ≡ true in
+    ap (λ (x : Stepped). answer_wants call x.1) (taken_step t)
+    ∙ ⊎_elim
+    (λ (e : eqb (missing a) 0 ≡ true). subst P (sym e) refl)
+    (λ (e : eqb (missing a) 0 ≡ false). subst P (sym e) refl)
+    (cases_Bool (eqb (missing a) 0))
+
+-- a pending record that is found, or that is not
+
+pub none_found : (p : Parts) (id : ℕ) → IsSound (state_of p) → ((r : Record) → IsIn r p.pending → IsPending r) → IsStored p.store → find (has_number id) p.pending ≡ None → pending_of (state_of p).records id ≡ None
+none_found p id sound pending stored e = found_pending p id sound pending stored ∙ ap (option_map (with_pins p.registry)) e
+
+pub it_lacks : (p : Parts) (id : ℕ) (r : Record) → IsSound (state_of p) → find (has_number id) p.pending ≡ Some r → ((r : Record) → IsIn r p.pending → IsPending r) → 0 < missing r
+unfolding state_of
+it_lacks p id r sound e pending =
+    let there = (IsIn-from_find (has_number id) r p.pending e).0 in
+    let q : Record = with_pins p.registry r in
+    let all : List Record = grouped p.registry p.pending p.store.checkpoints p.store.savepoints in
+    (sound.each q (IsIn-in_order id_before q all (IsIn-append_left q (map (with_pins p.registry) p.pending) (p.store.checkpoints ++ p.store.savepoints) (IsIn-map (with_pins p.registry) r p.pending there)))).pending (pending r there).not_done

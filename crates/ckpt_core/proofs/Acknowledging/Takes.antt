@@ -1,0 +1,146 @@
+-- What an accepted acknowledgement of a pending record may rely on.
+use Rattle.std.proofs.Common.{◌≡◌, ℕ, ◌+◌, ◌-◌, ◌*◌, ◌^◌, ◌<◌, ◌≤◌, Bool, true, false, cond, eqb, List, ◌++◌, length, refl, sym, ap, subst, ◌∙◌, ⊎_elim, arith, Option, Some, None}
+use Rattle.std.specs.Prelude.{find}
+use Rattle.std.specs.Option.{option_map, IsSome}
+use Rattle.std.specs.List.{flat_map}
+use Rattle.std.proofs.lemmas.Bool.{cases_Bool, eqb-true, or_parts}
+use Rattle.ckpt_ids.specs.declared.ack.Acked.{Acked}
+use Rattle.ckpt_ids.specs.declared.call.Call.TheVariants.{Ack}
+use Rattle.ckpt_ids.specs.declared.subtask.SubtaskId.{SubtaskId}
+use Rattle.ckpt_ids.specs.Acknowledged.{put_ack, acknowledges_before}
+use Rattle.ckpt_ids.specs.Ordered.{IsIn}
+use Rattle.ckpt_ids.specs.Records.{Record, Use, Subtask, Pin, count, is_present, uses, uses_of, has_acknowledged}
+use Rattle.ckpt_ids.specs.Shapes.{is_subtask, same_subtask}
+use Rattle.ckpt_ids.proofs.OrderedLemmas.{IsIn-append_cases, IsIn-from_flat_map, IsIn-put_itself, list_any-from_IsIn}
+use Rattle.ckpt_pending.proofs.SubtaskLemmas.{same_subtask-itself}
+use Rattle.ckpt_pending.specs.Acknowledging.{IsPending}
+use Rattle.ckpt_registry.specs.Uses.{IsEachOnce, HasNoUse}
+use Rattle.ckpt_store.specs.Storing.{IsStored}
+use Rattle.ckpt_core.specs.declared.parts.Parts.{Parts}
+use Rattle.ckpt_core.specs.Inside.Grouped.{with_pins}
+use Rattle.ckpt_core.specs.Inside.Parts.{AreSound, IsAccepted, records_in, state_of}
+use Rattle.ckpt_core.specs.Inside.PendingRecords.{acked}
+use Rattle.ckpt_core.specs.Refusals.{pending_of}
+use Rattle.ckpt_core.specs.Soundness.{IsSound}
+use Rattle.ckpt_core.specs.State.{in_outbox}
+use Rattle.ckpt_core.specs.Steps.{acknowledged}
+use Rattle.ckpt_core.proofs.Answering.Accepted.{IsAcceptedAck, accepted_ack}
+use Rattle.ckpt_core.proofs.Acknowledging.Records.{new_subtask}
+use Rattle.ckpt_core.proofs.Records.Counts.{IsIn-from_find}
+use Rattle.ckpt_core.proofs.Ending.Drops.{apart_in, groups_of}
+use Rattle.ckpt_core.proofs.Records.Lookups.{has_number, pending_of-groups, find-map, find_agree}
+use Rattle.ckpt_core.proofs.Records.Replacing.{same_record}
+use Rattle.ckpt_core.proofs.Soundness.Acks.{IsAcking}
+use Rattle.ckpt_core.proofs.Soundness.Calls.{acking}
+use Rattle.ckpt_core.proofs.Triggering.TriggerParts.{live_records}
+use Rattle.ckpt_core.proofs.Using.Order.{holds, from_holds, use_of_record}
+use Rattle.ckpt_core.proofs.Reordering.ExchangeLemmas.{has_its_own}
+use Rattle.ckpt_core.proofs.Using.CountBound.{count-records}
+use Rattle.ckpt_core.proofs.Histories.Balances.{times_at_most_once}
+
+-- the record of this number, with its pins
+pub found_pending : (p : Parts) (id : ℕ) → IsSound (state_of p) → ((r : Record) → IsIn r p.pending → IsPending r) → IsStored p.store → pending_of (state_of p).records id ≡ option_map (with_pins p.registry) (find (has_number id) p.pending)
+unfolding state_of
+found_pending p id sound pending stored = pending_of-groups id p.registry p.pending p.store.checkpoints p.store.savepoints (apart_in p sound) (groups_of p pending stored)
+
+pub found_record : (p : Parts) (id : ℕ) (r : Record) → IsSound (state_of p) → ((r : Record) → IsIn r p.pending → IsPending r) → IsStored p.store → find (has_number id) p.pending ≡ Some r → pending_of (state_of p).records id ≡ Some (with_pins p.registry r)
+found_record p id r sound pending stored e = found_pending p id sound pending stored ∙ ap (option_map (with_pins p.registry)) e
+
+-- a subtask that has not acknowledged holds nothing
+subtask_holder : (s t : SubtaskId) → Subtask s ≡ Subtask t → s ≡ t
+subtask_holder s t e = cc
+
+pin_is_no_subtask : (s : SubtaskId) → Pin ≡ Subtask s → ⊥
+pin_is_no_subtask s e = cc
+
+not_used : (q : Record) (s : SubtaskId) (u : Use) → has_acknowledged q s ≡ false → IsIn u (uses_of q) → u.holder ≡ Subtask s → ⊥
+not_used q s u new h e =
+    let of_ack : Acked → List Use = λ a. holds q.id (Subtask a.subtask) a.files in
+    ⊎_elim
+    (λ (k : IsIn u (flat_map of_ack q.acks)).
+    let a = IsIn-from_flat_map of_ack u q.acks k in
+    new_subtask q s a.0 new a.1 (subtask_holder s a.0.subtask (sym e ∙ (from_holds q.id (Subtask a.0.subtask) a.0.files u a.2).1)))
+    (λ (k : IsIn u (holds q.id Pin q.pins)). pin_is_no_subtask s (sym (from_holds q.id Pin q.pins u k).1 ∙ e))
+    (IsIn-append_cases u (flat_map of_ack q.acks) (holds q.id Pin q.pins) h)
+
+-- what is required to take it
+pub record CanTake (p : Parts) (now id : ℕ) (subtask : SubtaskId) (fresh reused : List ℕ) : Type 0 where
+  pub few : length fresh + length reused ≤ 4096
+  pub moment : now < 2 ^ 62
+  pub expected : (r : Record) → find (has_number id) p.pending ≡ Some r → (is_subtask r.shape subtask ≡ true) × (has_acknowledged r subtask ≡ false)
+  pub fresh_absent : (f : ℕ) → IsIn f fresh → is_present p.registry f ≡ false
+  pub reused_present : (f : ℕ) → IsIn f reused → is_present p.registry f ≡ true
+  pub each_once : IsEachOnce (fresh ++ reused)
+  pub below : (f : ℕ) → IsIn f reused → count p.registry f < 2 ^ 32 - 1
+  pub unused : HasNoUse p.registry id (Subtask subtask)
+
+count_limit : (p : Parts) (f : ℕ) → AreSound p → count p.registry f < 2 ^ 32 - 1
+unfolding state_of
+count_limit p f sound =
+    let bound : count (uses (records_in p)) f ≤ 4097 * length (records_in p) = count-records f (records_in p) sound.sound.each in
+    let few : length (records_in p) ≤ 2064 = live_records p sound.sound in
+    let same : count p.registry f ≡ count (uses (records_in p)) f = ap (λ us. count us f) sound.tied.uses_are in
+    omega arith
+
+no_use : (p : Parts) (q : Record) (id : ℕ) (s : SubtaskId) → AreSound p → IsIn q (state_of p).records → q.id ≡ id → has_acknowledged q s ≡ false → HasNoUse p.registry id (Subtask s)
+unfolding state_of
+no_use p q id s sound there its new u h same holder =
+    let P : List Use → Type 0 = λ us. IsIn u us in
+    let x = IsIn-from_flat_map uses_of u (records_in p) (subst P sound.tied.uses_are h) in
+    let of_x : u.id ≡ x.0.id = use_of_record x.0 u x.2 in
+    let is : x.0 ≡ q = same_record x.0 q (records_in p) sound.sound.in_order x.1 there (sym of_x ∙ same ∙ sym its) in
+    let Q : Record → Type 0 = λ r. IsIn u (uses_of r) in
+    not_used q s u new (subst Q is x.2) holder
+
+pub can_take : (p : Parts) (now id : ℕ) (subtask : SubtaskId) (fresh reused : List ℕ) (r : Record) → AreSound p → IsAccepted p (Ack now id subtask fresh reused) → ((r : Record) → IsIn r p.pending → IsPending r) → IsStored p.store → find (has_number id) p.pending ≡ Some r → CanTake p now id subtask fresh reused
+unfolding state_of
+can_take p now id subtask fresh reused r sound accepted pending stored e =
+    let a : IsAcceptedAck (state_of p) now id subtask fresh reused = accepted_ack (state_of p) now id subtask fresh reused accepted in
+    let q : Record = with_pins p.registry r in
+    let found : pending_of (state_of p).records id ≡ Some q = found_record p id r sound.sound pending stored e in
+    let k : IsAcking (state_of p) q subtask fresh reused = acking (state_of p) now id subtask fresh reused q a found in
+    let its : r.id ≡ id = eqb-true r.id id (IsIn-from_find (has_number id) r p.pending e).1 in
+    let present : (f : ℕ) → is_present p.registry f ≡ is_present (uses (records_in p)) f = λ f. ap (λ us. is_present us f) sound.tied.uses_are in
+    record {
+      few = a.few;
+      moment = a.moment;
+      expected = λ s h.
+          let g : pending_of (state_of p).records id ≡ Some (with_pins p.registry s) = found_record p id s sound.sound pending stored h in
+          (a.of_subtask (with_pins p.registry s) g, a.first (with_pins p.registry s) g);
+      fresh_absent = λ f h. present f ∙ (or_parts (is_present (uses (records_in p)) f) (in_outbox (state_of p) f) (k.unknown f h)).0;
+      reused_present = λ f h. present f ∙ k.present f h;
+      each_once = λ f. times_at_most_once f (fresh ++ reused) k.once;
+      below = λ f h. count_limit p f sound;
+      unused = no_use p q id subtask sound k.there its k.first;
+    }
+
+-- the record after it
+
+ack_id : (id : ℕ) (s : SubtaskId) (files : List ℕ) (r : Record) → (cond (has_number id r) (acknowledged r s files) r).id ≡ r.id
+ack_id id s files r =
+    let P : Bool → Type 0 = λ b. (cond b (acknowledged r s files) r).id ≡ r.id in
+    ⊎_elim (λ (e : has_number id r ≡ true). subst P (sym e) refl) (λ (e : has_number id r ≡ false). subst P (sym e) refl) (cases_Bool (has_number id r))
+
+pub found_acked : (id : ℕ) (s : SubtaskId) (files : List ℕ) (r : Record) (rs : List Record) → find (has_number id) rs ≡ Some r → find (has_number id) (acked id s files rs) ≡ Some (acknowledged r s files)
+found_acked id s files r rs e =
+    let ack : Record → Record = λ q. cond (has_number id q) (acknowledged q s files) q in
+    find-map (has_number id) ack rs
+    ∙ ap (option_map ack) (find_agree (λ q. has_number id (ack q)) (has_number id) rs (λ q h. ap (λ i. eqb i id) (ack_id id s files q)) ∙ e)
+    ∙ ap (λ b. Some (cond b (acknowledged r s files) r)) (IsIn-from_find (has_number id) r rs e).1
+
+pub record IsFoundAcked (id : ℕ) (s : SubtaskId) (rs : List Record) : Type 0 where
+  pub there : IsSome (find (has_number id) rs)
+  pub acknowledged : (r : Record) → find (has_number id) rs ≡ Some r → has_acknowledged r s ≡ true
+
+pub is_found_acked : (id : ℕ) (s : SubtaskId) (files : List ℕ) (r : Record) (rs new : List Record) → find (has_number id) rs ≡ Some r → new ≡ acked id s files rs → IsFoundAcked id s new
+is_found_acked id s files r rs new e is =
+    let found : find (has_number id) new ≡ Some (acknowledged r s files) = ap (find (has_number id)) is ∙ found_acked id s files r rs e in
+    let P : Option Record → Type 0 = λ o. IsSome o in
+    record {
+      there = subst P (sym found) refl;
+      acknowledged = λ q h. let same : acknowledged r s files ≡ q = let both : Some (acknowledged r s files) ≡ Some q = sym found ∙ h in cc in ap (λ x. has_acknowledged x s) (sym same) ∙ has_its_own r s files;
+    }
+
+pub some_from : {X : Type 0} (o : Option X) → IsSome o → (x : X) × (o ≡ Some x)
+some_from (Some x) h = (x, refl)
+some_from None h = absurd (cc)

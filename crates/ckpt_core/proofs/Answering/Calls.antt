@@ -1,0 +1,82 @@
+-- What an accepted call leaves of the parts, and that what fails for want of memory may want some.
+use Rattle.std.proofs.Common.{◌≡◌, ℕ, Bool, true, List, ◌∷◌, refl, sym, ap, subst, ◌∙◌, Option, Some, None}
+use Rattle.std.specs.Prelude.{Result, Ok, Err, IfOk, OnErr}
+use Rattle.ckpt_ids.specs.declared.call.Call.{Call}
+use Rattle.ckpt_ids.specs.declared.call.Call.TheVariants.{Savepoint, Restore, Take, Show}
+use Rattle.ckpt_ids.specs.declared.call.Target.{Target}
+use Rattle.ckpt_ids.specs.declared.reply.Reply.{Reply}
+use Rattle.ckpt_ids.specs.declared.reply.Refusal.{Refusal}
+use Rattle.ckpt_ids.specs.Records.{Record}
+use Rattle.ckpt_core.specs.declared.parts.Parts.{Parts}
+use Rattle.ckpt_core.specs.Memory.{answer_wants, may_want_memory}
+use Rattle.ckpt_core.specs.Inside.Parts.{AreSound, Answers, Stays, state_of}
+use Rattle.ckpt_core.specs.Refusals.{first_some, moment_of, no_record, refusal}
+use Rattle.ckpt_core.specs.Soundness.{IsCall, IsSound}
+use Rattle.ckpt_core.specs.State.{State, record_of}
+use Rattle.ckpt_core.specs.Steps.{Stepped, at_moment, effect, restore, show, step, take_files, unless_refused}
+use Rattle.ckpt_core.proofs.Soundness.Calls.{step_keeps}
+use Rattle.ckpt_core.proofs.Answering.StepCases.{step_accepted}
+use Rattle.ckpt_core.proofs.Answering.RefusalRows.{first_row-none}
+
+-- after a call
+
+pub sound_answered : (old new : Parts) (call : Call) (reply : Reply) → IsCall call → AreSound old → Answers old new call reply → AreSound new
+sound_answered old new call reply c s a =
+    let P : Stepped → Type 0 = λ stepped. IsSound stepped.0 in
+    record {
+      tied = a.tied;
+      sound = subst P a.step_is (step_keeps (state_of old) call c s.sound);
+      none_ended = a.none_ended;
+    }
+
+pub sound_unchanged : (old new : Parts) → AreSound old → Stays old new → AreSound new
+sound_unchanged old new s a = record {
+  tied = a.tied;
+  sound = subst IsSound (sym a.state_is) s.sound;
+  none_ended = a.none_ended;
+}
+
+-- whether it was answered or not
+pub sound_after : {E : Type 0} (old new : Parts) (call : Call) (result : Result Reply E) → IsCall call → AreSound old → IfOk result (Answers old new call) → OnErr result (Stays old new) → AreSound new
+sound_after old new call (Ok reply) c s a h = sound_answered old new call reply c s a
+sound_after old new call (Err error) c s a h = sound_unchanged old new s h
+
+-- memory
+
+-- so its answer tells whether it may want memory
+wants_as_effect : (m : State) (call : Call) → refusal m call ≡ None → may_want_memory m call ≡ answer_wants call (effect (at_moment m (moment_of call)) call).1
+wants_as_effect m call e =
+    let wanted : Stepped → Bool = λ stepped. answer_wants call stepped.1 in
+    ap wanted (step_accepted m call e)
+
+pub savepoint_wants : (m : State) (now : ℕ) → refusal m (Savepoint now) ≡ None → may_want_memory m (Savepoint now) ≡ true
+unfolding effect
+savepoint_wants m now e = wants_as_effect m (Savepoint now) e
+
+pub restore_wants : (m : State) (now : ℕ) (target : Target) (shape : List ℕ) → refusal m (Restore now target (Some shape)) ≡ None → may_want_memory m (Restore now target (Some shape)) ≡ true
+unfolding effect restore
+restore_wants m now target shape e = wants_as_effect m (Restore now target (Some shape)) e
+
+pub take_wants : (m : State) (most : ℕ) → refusal m (Take most) ≡ None → may_want_memory m (Take most) ≡ true
+unfolding effect take_files
+take_wants m most e = wants_as_effect m (Take most) e
+
+shown : (id : ℕ) (o : Option Record) → no_record o ≡ None → answer_wants (Show id) (show o) ≡ true
+shown id None h = absurd (cc)
+shown id (Some r) h = refl
+
+-- the record is there
+accepted_show : (m : State) (id : ℕ) → refusal m (Show id) ≡ None → no_record (record_of m id) ≡ None
+unfolding refusal
+accepted_show m id h = first_row-none (no_record (record_of m id)) _ h
+
+pub show_wants : (m : State) (id : ℕ) → refusal m (Show id) ≡ None → may_want_memory m (Show id) ≡ true
+unfolding effect
+show_wants m id e = wants_as_effect m (Show id) e ∙ shown id (record_of m id) (accepted_show m id e)
+
+-- of an accepted call, whatever the answer
+pub wants_here : {A E : Type 0} (result : Result A E) (m : State) (call same : Call) → call ≡ same → refusal m call ≡ None → (refusal m same ≡ None → may_want_memory m same ≡ true) → OnErr result (may_want_memory m call ≡ true)
+wants_here (Ok reply) m call same e accepted h = tt
+wants_here (Err error) m call same e accepted h =
+    let P : Call → Type 0 = λ k. refusal m k ≡ None → may_want_memory m k ≡ true in
+    subst P (sym e) h accepted

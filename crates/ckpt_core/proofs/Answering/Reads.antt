@@ -1,0 +1,143 @@
+-- Calls that read, and those that move a file in the outbox.
+use Rattle.std.proofs.Common.{◌≡◌, ℕ, true, List, [], ◌∷◌, ◌++◌, take, refl, sym, ap, ◌∙◌, arith, Option, Some, None}
+use Rattle.std.specs.Prelude as prelude
+use Rattle.std.specs.Prelude.{find, IsSome, Result, Ok, Err, IsErr, IfOk, OnOk}
+use Rattle.std.specs.Borrow.{Bor}
+use Rattle.std.specs.Option.{option_map, option_copied}
+use Rattle.ckpt_ids.specs.declared.ack.Metadata.{Metadata}
+use Rattle.ckpt_ids.specs.declared.call.Call.TheVariants as call
+use Rattle.ckpt_ids.specs.declared.reply.Refusal.{Refusal}
+use Rattle.ckpt_ids.specs.declared.reply.Reply.TheVariants as reply
+use Rattle.ckpt_ids.specs.declared.reply.Answer.TheVariants.{Done}
+use Rattle.ckpt_ids.specs.Ordered.{IsInOrder}
+use Rattle.ckpt_ids.specs.Records.{Record, count, metadata_of}
+use Rattle.ckpt_outbox.specs.Queues.{Queues}
+use Rattle.ckpt_store.specs.Storing as storing
+use Rattle.ckpt_core.specs.declared.parts.Parts.{Parts}
+use Rattle.ckpt_core.specs.Inside.Grouped.{with_pins, grouped}
+use Rattle.ckpt_core.specs.Inside.Parts.{Answers, AreTied, AreSound, IsAccepted, records_in, state_of}
+use Rattle.ckpt_core.specs.Refusals.{refusal, first_some, no_record}
+use Rattle.ckpt_core.specs.Soundness.{id_before}
+use Rattle.ckpt_core.specs.State.{State, record_of}
+use Rattle.ckpt_core.specs.Steps.{Stepped, effect, take_files, without, show}
+use Rattle.ckpt_core.proofs.Records.Grouped.{apart-from_in_order}
+use Rattle.ckpt_core.proofs.Records.GroupLookups.{record_of-groups, first_found, find-append, first_found-some, first_found-none}
+use Rattle.ckpt_core.proofs.Records.Lookups.{has_number}
+use Rattle.ckpt_core.proofs.Answering.StepCases.{step_accepted}
+use Rattle.ckpt_core.proofs.Answering.RefusalRows.{first_row-none}
+
+-- another outbox with as many places reserved
+tied_with : (p : Parts) (outbox : Queues) → AreTied p → outbox.spare ≡ p.outbox.spare → AreTied (record p { outbox = outbox })
+tied_with p outbox tied e = record {
+  uses_are = tied.uses_are;
+  retained = tied.retained;
+  tolerable = tied.tolerable;
+  spare = omega (arith, tied.spare, e);
+  room = tied.room;
+}
+
+pub taken_answers : (p : Parts) (most : ℕ) (outbox : Queues) (handed : List ℕ) → AreSound p → IsAccepted p (call.Take most) →
+    outbox ≡ record p.outbox { waiting = prelude.drop most p.outbox.waiting; taken = p.outbox.taken ++ take most p.outbox.waiting } → handed ≡ take most p.outbox.waiting →
+    Answers p (record p { outbox = outbox }) (call.Take most) (reply.Taken handed)
+unfolding state_of effect take_files
+taken_answers p most outbox handed sound accepted is gives = record {
+  step_is = step_accepted (state_of p) (call.Take most) accepted
+      ∙ ap (λ o. (let x : Stepped = (state_of (record p { outbox = o }), Done (reply.Taken (take most p.outbox.waiting))) in x)) (sym is)
+      ∙ ap (λ fs. (let x : Stepped = (state_of (record p { outbox = outbox }), Done (reply.Taken fs)) in x)) (sym gives);
+  tied = tied_with p outbox sound.tied (ap (λ o. o.spare) is);
+  none_ended = sound.none_ended;
+}
+
+pub deleted_answers : (p : Parts) (file : ℕ) (outbox : Queues) → AreSound p → IsAccepted p (call.Deleted file) → outbox ≡ record p.outbox { taken = without file p.outbox.taken } →
+    Answers p (record p { outbox = outbox }) (call.Deleted file) (reply.Deleted file)
+unfolding state_of effect
+deleted_answers p file outbox sound accepted is = record {
+  step_is = step_accepted (state_of p) (call.Deleted file) accepted
+      ∙ ap (λ o. (let x : Stepped = (state_of (record p { outbox = o }), Done (reply.Deleted file)) in x)) (sym is);
+  tied = tied_with p outbox sound.tied (ap (λ o. o.spare) is);
+  none_ended = sound.none_ended;
+}
+
+pub undeleted_answers : (p : Parts) (file : ℕ) (outbox : Queues) → AreSound p → IsAccepted p (call.Undeleted file) → outbox ≡ record p.outbox { waiting = p.outbox.waiting ++ file ∷ []; taken = without file p.outbox.taken } →
+    Answers p (record p { outbox = outbox }) (call.Undeleted file) (reply.Undeleted file)
+unfolding state_of effect
+undeleted_answers p file outbox sound accepted is = record {
+  step_is = step_accepted (state_of p) (call.Undeleted file) accepted
+      ∙ ap (λ o. (let x : Stepped = (state_of (record p { outbox = o }), Done (reply.Undeleted file)) in x)) (sym is);
+  tied = tied_with p outbox sound.tied (ap (λ o. o.spare) is);
+  none_ended = sound.none_ended;
+}
+
+pub counted_answers : (p : Parts) (file n : ℕ) → AreSound p → IsAccepted p (call.Count file) → n ≡ count p.registry file → Answers p p (call.Count file) (reply.Counted file n)
+unfolding state_of effect
+counted_answers p file n sound accepted is = record {
+  step_is = step_accepted (state_of p) (call.Count file) accepted
+      ∙ ap (λ k. (let x : Stepped = (state_of p, Done (reply.Counted file k)) in x)) (ap (λ us. count us file) (sym sound.tied.uses_are) ∙ sym is);
+  tied = sound.tied;
+  none_ended = sound.none_ended;
+}
+
+-- the metadata of a record
+
+either : (a b : Option Record) → elim a as (λ _. Option Record) [ Some r ↦ Some r | None ↦ b ] ≡ first_found a b
+either (Some r) b = sym (first_found-some r b)
+either None b = sym (first_found-none b)
+
+stored_found : (id : ℕ) (s : storing.Stored) → storing.record_of s id ≡ first_found (find (has_number id) s.checkpoints) (find (has_number id) s.savepoints)
+stored_found id s = either (find (has_number id) s.checkpoints) (find (has_number id) s.savepoints)
+
+-- a live record is pending or stored
+pub record_there : (p : Parts) (id : ℕ) → IsInOrder id_before (records_in p) →
+    record_of (state_of p) id ≡ first_found (option_map (with_pins p.registry) (find (has_number id) p.pending)) (storing.record_of p.store id)
+unfolding state_of
+record_there p id order =
+    record_of-groups id p.registry p.pending p.store.checkpoints p.store.savepoints (apart-from_in_order (grouped p.registry p.pending p.store.checkpoints p.store.savepoints) order)
+    ∙ ap (first_found (option_map (with_pins p.registry) (find (has_number id) p.pending))) (sym (stored_found id p.store))
+
+pub pending_metadata : (p : Parts) (id : ℕ) (r : Record) (metadata : Metadata) → IsInOrder id_before (records_in p) → find (has_number id) p.pending ≡ Some r → metadata ≡ metadata_of r →
+    option_map metadata_of (record_of (state_of p) id) ≡ Some metadata
+pending_metadata p id r metadata order there is =
+    ap (option_map metadata_of) (record_there p id order ∙ ap (λ o. first_found (option_map (with_pins p.registry) o) (storing.record_of p.store id)) there ∙ first_found-some (with_pins p.registry r) (storing.record_of p.store id))
+    ∙ ap (λ x. Some x) (sym is)
+
+pub stored_record : (p : Parts) (id : ℕ) → IsInOrder id_before (records_in p) → find (has_number id) p.pending ≡ None → record_of (state_of p) id ≡ storing.record_of p.store id
+stored_record p id order none = record_there p id order ∙ ap (λ o. first_found (option_map (with_pins p.registry) o) (storing.record_of p.store id)) none ∙ first_found-none (storing.record_of p.store id)
+
+pub stored_metadata : (p : Parts) (id : ℕ) (r : Record) (metadata : Metadata) → IsInOrder id_before (records_in p) → find (has_number id) p.pending ≡ None → storing.record_of p.store id ≡ Some r → metadata ≡ metadata_of r →
+    option_map metadata_of (record_of (state_of p) id) ≡ Some metadata
+stored_metadata p id r metadata order none there is =
+    ap (option_map metadata_of) (stored_record p id order none ∙ there) ∙ ap (λ x. Some x) (sym is)
+
+some_record : (o : Option Record) → no_record o ≡ None → IsSome o
+some_record (Some r) h = refl
+some_record None h = absurd (cc)
+
+pub accepted_show : (m : State) (id : ℕ) → refusal m (call.Show id) ≡ None → IsSome (record_of m id)
+unfolding refusal
+accepted_show m id h = some_record (record_of m id) (first_row-none (no_record (record_of m id)) _ h)
+
+shown : (m : State) (o : Option Record) (metadata : Metadata) → option_map metadata_of o ≡ Some metadata → (let x : Stepped = (m, show o) in x) ≡ (m, Done (reply.Shown metadata))
+shown m (Some r) metadata e = let same : metadata_of r ≡ metadata = cc in ap (λ k. (let x : Stepped = (m, Done (reply.Shown k)) in x)) same
+shown m None metadata e = absurd (cc)
+
+pub shown_answers : (p : Parts) (id : ℕ) (metadata : Metadata) → AreSound p → IsAccepted p (call.Show id) → option_map metadata_of (record_of (state_of p) id) ≡ Some metadata → Answers p p (call.Show id) (reply.Shown metadata)
+unfolding effect
+shown_answers p id metadata sound accepted is = record {
+  step_is = step_accepted (state_of p) (call.Show id) accepted ∙ shown (state_of p) (record_of (state_of p) id) metadata is;
+  tied = sound.tied;
+  none_ended = sound.none_ended;
+}
+
+-- results
+
+pub not_err : {T E : Type 0} (r : Result T E) (P : Type 0) → (IsErr r → ⊥) → OnOk r P → P
+not_err (Ok x) P never h = h
+not_err (Err e) P never h = absurd (never refl)
+
+pub for_ok : {T E : Type 0} (r : Result T E) (P Q : T → Type 0) → ((x : T) → P x → Q x) → IfOk r P → IfOk r Q
+for_ok (Ok x) P Q follows h = follows x h
+for_ok (Err e) P Q follows h = h
+
+pub some_copied : {T : Type 0} (o : Option (Bor T)) → IsSome (option_copied o) → IsSome o
+some_copied (Some x) h = refl
+some_copied None h = absurd (cc)

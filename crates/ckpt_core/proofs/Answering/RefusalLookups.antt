@@ -1,0 +1,94 @@
+-- What the table of refusals looks up in the records, found in the parts.
+use Rattle.std.proofs.Common.{◌≡◌, ℕ, ◌+◌, Bool, true, false, not, ◌&&◌, ◌||◌, eqb, List, [], ◌∷◌, length, refl, sym, ap, ◌∙◌, Option, Some, None, Bor}
+use Rattle.std.specs.Prelude.{count_by, find}
+use Rattle.std.specs.Option.{option_map, option_copied, is_none, is_some}
+use Rattle.std.proofs.lemmas.Bool.{both_ways}
+use Rattle.ckpt_ids.specs.declared.subtask.SubtaskId.{SubtaskId}
+use Rattle.ckpt_ids.specs.declared.reply.Refusal.{Refusal}
+use Rattle.ckpt_ids.specs.declared.reply.Refusal.TheVariants.{NameTaken, FileGone, NoSuchRecord}
+use Rattle.ckpt_ids.specs.Ordered.{IsIn}
+use Rattle.ckpt_ids.specs.Records.{Record, Use, uses, is_present}
+use Rattle.ckpt_pending.specs.Acknowledging.{IsPending}
+use Rattle.ckpt_store.specs.Storing.{IsStored, has_savepoint, record_of}
+use Rattle.ckpt_outbox.specs.Queues as queues
+use Rattle.ckpt_core.specs.declared.parts.Parts.{Parts}
+use Rattle.ckpt_core.specs.State.{is_checkpoint, is_known}
+use Rattle.ckpt_core.specs.Refusals.{first_some, is_foreign, is_repeat, is_done_savepoint, savepoints, named, no_record, pending_of, refuse_if, where_pending}
+use Rattle.ckpt_core.specs.Inside.Grouped.{with_pins, grouped}
+use Rattle.ckpt_core.specs.Inside.Parts.{AreSound, AreTied, records_in, state_of, is_known_in}
+use Rattle.ckpt_core.proofs.Answering.RefusalRows.{rows_only}
+use Rattle.ckpt_core.proofs.Records.Grouped.{AreApart, apart-from_in_order}
+use Rattle.ckpt_core.proofs.Records.Lookups.{AreGroups, has_number, pending_of-groups}
+use Rattle.ckpt_core.proofs.Records.GroupLookups.{first_found, find-append, record_of-groups, savepoints-groups, done_savepoint-groups, first_found-some, first_found-none}
+use Rattle.ckpt_core.proofs.Ending.Drops.{groups_of}
+
+apart_of : (p : Parts) → AreSound p → AreApart (grouped p.registry p.pending p.store.checkpoints p.store.savepoints)
+unfolding state_of
+apart_of p sound = apart-from_in_order (grouped p.registry p.pending p.store.checkpoints p.store.savepoints) sound.sound.in_order
+
+pub pending_of-parts : (p : Parts) (id : ℕ) (o : Option Record) → AreSound p → ((r : Record) → IsIn r p.pending → IsPending r) → IsStored p.store → o ≡ find (λ r. eqb r.id id) p.pending →
+    pending_of (records_in p) id ≡ option_map (with_pins p.registry) o
+pending_of-parts p id o sound pending stored e =
+    pending_of-groups id p.registry p.pending p.store.checkpoints p.store.savepoints (apart_of p sound) (groups_of p pending stored)
+    ∙ ap (option_map (with_pins p.registry)) (sym e)
+
+pub done_savepoint-parts : (p : Parts) (id : ℕ) → ((r : Record) → IsIn r p.pending → IsPending r) → IsStored p.store → is_done_savepoint (state_of p) id ≡ has_savepoint p.store id
+unfolding state_of
+done_savepoint-parts p id pending stored =
+    done_savepoint-groups id p.registry p.pending p.store.checkpoints p.store.savepoints (groups_of p pending stored)
+
+pub savepoints-parts : (p : Parts) → ((r : Record) → IsIn r p.pending → IsPending r) → IsStored p.store → savepoints (state_of p) ≡ count_by (λ r. not (is_checkpoint r)) p.pending + length p.store.savepoints
+unfolding state_of
+savepoints-parts p pending stored =
+    savepoints-groups p.registry p.pending p.store.checkpoints p.store.savepoints (groups_of p pending stored)
+
+no_record-first : (f : Record → Record) (a b c : Option Record) → no_record (first_found (option_map f a) (first_found b c)) ≡ refuse_if (is_none a && is_none (elim b as (λ _. Option Record) [ Some r ↦ Some r | None ↦ c ])) NoSuchRecord
+no_record-first f (Some r) b c = ap no_record (first_found-some (f r) (first_found b c))
+no_record-first f None (Some r) c = ap no_record (first_found-none (first_found (Some r) c) ∙ first_found-some r c)
+no_record-first f None None (Some r) = ap no_record (first_found-none (first_found None (Some r)) ∙ first_found-none (Some r))
+no_record-first f None None None = ap no_record (first_found-none (first_found None None) ∙ first_found-none None)
+
+pub no_record-parts : (p : Parts) (id : ℕ) → AreSound p → no_record (find (λ r. eqb r.id id) (records_in p)) ≡ refuse_if (is_none (find (λ r. eqb r.id id) p.pending) && is_none (record_of p.store id)) NoSuchRecord
+no_record-parts p id sound =
+    ap no_record (record_of-groups id p.registry p.pending p.store.checkpoints p.store.savepoints (apart_of p sound))
+    ∙ no_record-first (with_pins p.registry) (find (has_number id) p.pending) (find (has_number id) p.store.checkpoints) (find (has_number id) p.store.savepoints)
+
+none_copied : {X : Type 0} (o : Option (Bor X)) (none : Bool) → is_some o ≡ not none → is_none (option_copied o) ≡ none
+none_copied (Some x) true e = absurd (both_ways true e refl)
+none_copied (Some x) false e = refl
+none_copied None true e = refl
+none_copied None false e = absurd (both_ways true (sym e) refl)
+
+pub none_among : {X : Type 0} (o : Option (Bor X)) (none : Bool) (q : Option X) → is_some o ≡ not none → option_copied o ≡ q → none ≡ is_none q
+none_among o none q e is = sym (none_copied o none e) ∙ ap is_none is
+
+pub both_none : (a b v x y : Bool) → x ≡ true → x ≡ a → v ≡ y → y ≡ b → v ≡ (a && b)
+both_none true b v x y t e f g = f ∙ g
+both_none false b v x y t e f g = absurd (both_ways x e t)
+
+pub first_there : (a b v x : Bool) → x ≡ false → x ≡ a → v ≡ false → v ≡ (a && b)
+first_there true b v x t e f = absurd (both_ways x t e)
+first_there false b v x t e f = f
+
+-- the rows on the part of a subtask, before rows that do not hold
+abbrev rows_of : Option Record → SubtaskId → Option Refusal → Option Refusal → List (Option Refusal) → List (Option Refusal)
+rows_of o subtask taken gone rows = is_foreign o subtask ∷ is_repeat o subtask ∷ where_pending o taken ∷ where_pending o gone ∷ rows
+
+-- where the record is pending
+pub part_rows : (p : Parts) (id : ℕ) (subtask : SubtaskId) (fresh reused : List ℕ) (rows : List (Option Refusal)) (r : Record) (o : Option Refusal) → AreTied p → pending_of (records_in p) id ≡ Some (with_pins p.registry r) →
+    o ≡ first_some (is_foreign (Some r) subtask ∷ is_repeat (Some r) subtask ∷ named NameTaken (find (is_known_in p) fresh) ∷ named FileGone (find (λ f. not (is_present p.registry f)) reused) ∷ []) →
+    first_some rows ≡ None →
+    o ≡ first_some (rows_of (pending_of (records_in p) id) subtask (named NameTaken (find (is_known (state_of p)) fresh)) (named FileGone (find (λ f. not (is_present (uses (records_in p)) f)) reused)) rows)
+unfolding state_of
+part_rows p id subtask fresh reused rows r o tied e h none =
+    let by_uses : List Use → Option Refusal = λ us. first_some (is_foreign (Some r) subtask ∷ is_repeat (Some r) subtask ∷ named NameTaken (find (λ f. is_present us f || queues.is_known p.outbox f) fresh) ∷ named FileGone (find (λ f. not (is_present us f)) reused) ∷ []) in
+    let taken : Option Refusal = named NameTaken (find (is_known (state_of p)) fresh) in
+    let gone : Option Refusal = named FileGone (find (λ f. not (is_present (uses (records_in p)) f)) reused) in
+    h ∙ ap by_uses tied.uses_are
+    ∙ ap (λ q. first_some (rows_of q subtask taken gone [])) (sym e)
+    ∙ rows_only (rows_of (pending_of (records_in p) id) subtask taken gone []) rows none
+
+-- where it is not
+pub no_part_rows : (o : Option Record) (subtask : SubtaskId) (taken gone : Option Refusal) (rows : List (Option Refusal)) → o ≡ None → first_some rows ≡ None → None ≡ first_some (rows_of o subtask taken gone rows)
+no_part_rows o subtask taken gone rows e none =
+    sym none ∙ ap (λ q. first_some (rows_of q subtask taken gone rows)) (sym e)

@@ -1,0 +1,139 @@
+-- A file that is named twice, in ascending lists: it stands beside itself, or in both lists.
+use Rattle.std.proofs.Common.{◌≡◌, ℕ, zero, suc, ◌+◌, ◌<◌, ◌≤◌, Bool, true, false, not, ◌||◌, ltb, leb, eqb, List, [], ◌∷◌, ◌++◌, length, get_or, refl, sym, ap, subst, ◌∙◌, ⊎_elim, arith, MatchBool, Ok, Err, Result, add-one}
+use Rattle.std.specs.List.Sorted.{IsBinarySearchResult}
+use Rattle.std.specs.Ordering.{nat_cmp}
+use Rattle.std.proofs.lemmas.List.Sorted.{searched}
+use Rattle.std.specs.Result.{is_ok}
+use Rattle.std.specs.List.{list_any}
+use Rattle.std.proofs.lemmas.Bool.{both_ways, eq-eqb, ltb-false, leb-true, or_parts, or_cases, cases_lt}
+use Rattle.std.proofs.lemmas.List.{get_or_default}
+use Rattle.ckpt_ids.specs.Ordered.{IsIn, AreDistinct}
+use Rattle.ckpt_ids.specs.Ascending.{IsAscending, IsAscendingSet}
+use Rattle.ckpt_ids.proofs.OrderedLemmas.{ComesBefore-at, ComesBefore-from, IsIn-place, IsIn-get_or, IsIn-from_list_any, list_any-from_IsIn, AreDistinct-append, AreDistinct-left, AreDistinct-right, AreDistinct-apart, AreDistinct-from_order}
+use Rattle.ckpt_ids.proofs.AscendingLemmas.{numbers_in_order}
+use Rattle.ckpt_core.specs.Refusals.{has_repeats}
+use Rattle.ckpt_core.proofs.Ending.Released.{distinct-from_test, IsIn-from_test, test-from_IsIn}
+
+or_true : (a b : Bool) → a ≡ true → (a || b) ≡ true
+or_true true b e = refl
+or_true false b e = absurd (both_ways false refl e)
+
+or_other : (a b : Bool) → b ≡ true → (a || b) ≡ true
+or_other true b e = refl
+or_other false b e = e
+
+true_unless : (b : Bool) → (b ≡ false → ⊥) → b ≡ true
+true_unless true h = refl
+true_unless false h = absurd (h refl)
+
+false_unless : (b : Bool) → (b ≡ true → ⊥) → b ≡ false
+false_unless true h = absurd (h refl)
+false_unless false h = refl
+
+-- the test of repeats
+
+test-from_distinct : (xs : List ℕ) → AreDistinct xs → has_repeats xs ≡ false
+test-from_distinct [] a = refl
+test-from_distinct (x ∷ xs) a =
+    let first : list_any (λ y. eqb x y) xs ≡ false = false_unless (list_any (λ y. eqb x y) xs) (λ e. a.0 (IsIn-from_test x xs e)) in
+    ap (λ b. b || has_repeats xs) first ∙ test-from_distinct xs a.1
+
+-- ascending numbers, by place
+
+ascending_at : (xs : List ℕ) → IsAscending xs → (i j : ℕ) → i ≤ j → j < length xs → get_or xs i 0 ≤ get_or xs j 0
+ascending_at [] a i j le lt = absurd (omega arith)
+ascending_at (x ∷ xs) a zero zero le lt = omega arith
+ascending_at (x ∷ xs) a zero (suc j) le lt = leb-true x (get_or xs j 0) (ComesBefore-at leb x (get_or xs j 0) xs a.0 (IsIn-get_or xs j 0 (omega arith)))
+ascending_at (x ∷ xs) a (suc i) zero le lt = absurd (omega arith)
+ascending_at (x ∷ xs) a (suc i) (suc j) le lt = ascending_at xs a.1 i j (omega arith) (omega arith)
+
+-- where each number is below the next, none stands twice
+set-from_adjacent : (xs : List ℕ) → ((k d : ℕ) → suc k < length xs → true ≡ ltb (get_or xs k d) (get_or xs (suc k) d)) → IsAscendingSet xs
+set-from_adjacent [] h = tt
+set-from_adjacent (x ∷ []) h = (tt, tt)
+set-from_adjacent (x ∷ y ∷ ys) h =
+    let first : ltb x y ≡ true = sym (h 0 0 (omega arith)) in
+    let rest : IsAscendingSet (y ∷ ys) = set-from_adjacent (y ∷ ys) (λ k d lt. h (suc k) d (omega arith)) in
+    ((first, ComesBefore-from ltb x ys (λ z k. numbers_in_order.transitive x y z first (ComesBefore-at ltb y z ys rest.0 k))), rest)
+
+repeat_at : (xs : List ℕ) (k : ℕ) → suc k < length xs → get_or xs k 0 ≡ get_or xs (suc k) 0 → has_repeats xs ≡ true
+repeat_at [] k lt e = absurd (omega arith)
+repeat_at (x ∷ []) k lt e = absurd (omega arith)
+repeat_at (x ∷ y ∷ ys) zero lt e = or_true (list_any (λ z. eqb x z) (y ∷ ys)) (has_repeats (y ∷ ys)) (or_true (eqb x y) (list_any (λ z. eqb x z) ys) (eq-eqb x y e))
+repeat_at (x ∷ y ∷ ys) (suc k) lt e = or_other (list_any (λ z. eqb x z) (y ∷ ys)) (has_repeats (y ∷ ys)) (repeat_at (y ∷ ys) k (omega arith) e)
+
+-- what a comparison of all neighbours says of an ascending list
+pub repeats-from_adjacent : (xs : List ℕ) (r : Bool) → IsAscending xs →
+    MatchBool r ((k d : ℕ) → k + 1 < length xs → true ≡ ltb (get_or xs k d) (get_or xs (k + 1) d)) ((k : ℕ) × (k + 1 < length xs) × ((d : ℕ) → false ≡ ltb (get_or xs k d) (get_or xs (k + 1) d))) →
+    not r ≡ has_repeats xs
+repeats-from_adjacent xs true a h =
+    let next : (k d : ℕ) → suc k < length xs → true ≡ ltb (get_or xs k d) (get_or xs (suc k) d) = λ k d lt.
+    let At : ℕ → Type 0 = λ n. true ≡ ltb (get_or xs k d) (get_or xs n d) in
+    subst At (add-one k) (h k d (omega arith)) in
+    sym (test-from_distinct xs (AreDistinct-from_order numbers_in_order xs (set-from_adjacent xs next)))
+repeats-from_adjacent xs false a h =
+    let k : ℕ = h.0 in
+    let lt : suc k < length xs = omega (arith, h.1) in
+    let At : ℕ → Type 0 = λ n. false ≡ ltb (get_or xs k 0) (get_or xs n 0) in
+    let not_below : false ≡ ltb (get_or xs k 0) (get_or xs (suc k) 0) = subst At (add-one k) (h.2 0) in
+    let above : get_or xs (suc k) 0 ≤ get_or xs k 0 = ltb-false (get_or xs k 0) (get_or xs (suc k) 0) (sym not_below) in
+    let below : get_or xs k 0 ≤ get_or xs (suc k) 0 = ascending_at xs a k (suc k) (omega arith) lt in
+    sym (repeat_at xs k lt (omega arith))
+
+-- what a search by halves says
+pub among-from_search : (xs : List ℕ) (x : ℕ) (r : Result ℕ ℕ) → IsAscending xs → IsBinarySearchResult (λ y. nat_cmp y x) xs r → is_ok r ≡ list_any (λ f. eqb x f) xs
+among-from_search xs x (Ok i) a h =
+    let at : (i < length xs) × (get_or xs i 0 ≡ x) = searched xs x (Ok i) h (ascending_at xs a) in
+    let Here : ℕ → Type 0 = λ z. IsIn z xs in
+    sym (test-from_IsIn x xs (subst Here at.1 (IsIn-get_or xs i 0 at.0)))
+among-from_search xs x (Err i) a h =
+    let at : (i ≤ length xs) × ((k : ℕ) → k < i → get_or xs k 0 < x) × ((k : ℕ) → i ≤ k → k < length xs → x < get_or xs k 0) = searched xs x (Err i) h (ascending_at xs a) in
+    let absent : IsIn x xs → ⊥ = λ (q : IsIn x xs).
+    let place = IsIn-place x xs q in
+    let k : ℕ = place.0 in
+    let lt : k < length xs = place.1 in
+    let here : get_or xs k 0 ≡ x = get_or_default xs k 0 x lt ∙ place.2 in
+    ⊎_elim (λ (b : k < i). absurd (omega (arith, at.1 k b, here))) (λ (b : i ≤ k). absurd (omega (arith, at.2 k b lt, here))) (cases_lt k i) in
+    sym (false_unless (list_any (λ f. eqb x f) xs) (λ e. absent (IsIn-from_test x xs e)))
+
+-- two lists
+
+repeats_left : (xs ys : List ℕ) → has_repeats xs ≡ true → has_repeats (xs ++ ys) ≡ true
+repeats_left xs ys e = true_unless (has_repeats (xs ++ ys)) (λ f. both_ways (has_repeats xs) (test-from_distinct xs (AreDistinct-left xs ys (distinct-from_test (xs ++ ys) f))) e)
+
+repeats_right : (xs ys : List ℕ) → has_repeats ys ≡ true → has_repeats (xs ++ ys) ≡ true
+repeats_right xs ys e = true_unless (has_repeats (xs ++ ys)) (λ f. both_ways (has_repeats ys) (test-from_distinct ys (AreDistinct-right xs ys (distinct-from_test (xs ++ ys) f))) e)
+
+abbrev share : List ℕ → List ℕ → Bool
+share xs ys = list_any (λ f. list_any (λ g. eqb f g) xs) ys
+
+repeats_between : (xs ys : List ℕ) → share xs ys ≡ true → has_repeats (xs ++ ys) ≡ true
+repeats_between xs ys e =
+    let both = IsIn-from_list_any (λ f. list_any (λ g. eqb f g) xs) ys e in
+    true_unless (has_repeats (xs ++ ys)) (λ f. AreDistinct-apart xs ys (distinct-from_test (xs ++ ys) f) both.0 (IsIn-from_test both.0 xs both.2) both.1)
+
+no_repeats : (xs ys : List ℕ) → has_repeats xs ≡ false → has_repeats ys ≡ false → share xs ys ≡ false → has_repeats (xs ++ ys) ≡ false
+no_repeats xs ys a b e =
+    let apart : (x : ℕ) → IsIn x xs → IsIn x ys → ⊥ = λ x h k.
+    both_ways (share xs ys) e (list_any-from_IsIn (λ f. list_any (λ g. eqb f g) xs) x ys k (test-from_IsIn x xs h)) in
+    test-from_distinct (xs ++ ys) (AreDistinct-append xs ys (distinct-from_test xs a) (distinct-from_test ys b) apart)
+
+-- a file stands twice in one list, or in both
+pub repeats_within : (xs ys : List ℕ) (v : Bool) → v ≡ (has_repeats xs || has_repeats ys) → v ≡ true → v ≡ has_repeats (xs ++ ys)
+repeats_within xs ys v is e =
+    e ∙ sym (⊎_elim (repeats_left xs ys) (repeats_right xs ys) (or_cases (has_repeats xs) (has_repeats ys) (sym is ∙ e)))
+
+pub repeats_across : (xs ys : List ℕ) (v s : Bool) → v ≡ (has_repeats xs || has_repeats ys) → v ≡ false → s ≡ share xs ys → s ≡ has_repeats (xs ++ ys)
+repeats_across xs ys v true is e shared = sym (repeats_between xs ys (sym shared))
+repeats_across xs ys v false is e shared =
+    let each = or_parts (has_repeats xs) (has_repeats ys) (sym is ∙ e) in
+    sym (no_repeats xs ys each.0 each.1 (sym shared))
+
+-- a test that is made where another failed
+pub or_first : (a b v : Bool) → a ≡ true → v ≡ true → v ≡ (a || b)
+or_first true b v e h = h
+or_first false b v e h = absurd (both_ways false refl e)
+
+pub or_second : (a b v : Bool) → a ≡ false → v ≡ b → v ≡ (a || b)
+or_second true b v e h = absurd (both_ways true e refl)
+or_second false b v e h = h

@@ -1,0 +1,205 @@
+-- What a completed checkpoint supersedes, as the step has it, is what was noted.
+use Rattle.std.proofs.Common.{◌≡◌, ℕ, ◌+◌, ◌≤◌, Bool, true, false, not, ◌&&◌, ◌||◌, ltb, leb, eqb, List, [], ◌∷◌, ◌++◌, map, length, refl, sym, ap, subst, ◌∙◌, inl, ⊎_elim, arith}
+use Rattle.std.specs.Prelude.{count_by}
+use Rattle.std.specs.List.{filter}
+use Rattle.std.proofs.lemmas.Bool.{lt-ltb, and_from, and_left, and_right, not_from_false}
+use Rattle.std.proofs.lemmas.List.{length-append, length-map}
+use Rattle.std.proofs.lemmas.List.Sums.{length-filter}
+use Rattle.ckpt_ids.specs.declared.numbers.Kind.TheVariants as kind
+use Rattle.ckpt_ids.specs.declared.subtask.SubtaskId.{SubtaskId}
+use Rattle.ckpt_ids.specs.Ordered.{IsIn}
+use Rattle.ckpt_ids.specs.Records.{Record}
+use Rattle.ckpt_ids.proofs.OrderedLemmas.{IsIn-append_cases, IsIn-append_left, IsIn-append_right, IsIn-map, IsIn-from_map, IsIn-from_filter, IsIn-in_order, IsIn-from_in_order, IsInOrder-append}
+use Rattle.ckpt_store.specs.Storing.{AreRising, IsAbove}
+use Rattle.ckpt_core.specs.declared.parts.Parts.{Parts}
+use Rattle.ckpt_core.specs.Inside.Completing as completing
+use Rattle.ckpt_core.specs.Inside.Completing.{is_before, earlier, surplus}
+use Rattle.ckpt_core.specs.Inside.Grouped.{with_pins, grouped}
+use Rattle.ckpt_core.specs.Inside.Parts.{is_noted, records_in, state_of}
+use Rattle.ckpt_core.specs.Soundness.{id_before}
+use Rattle.ckpt_core.specs.State.{State, is_checkpoint, is_done_checkpoint, is_pending, is_subsumed, is_surplus}
+use Rattle.ckpt_core.specs.Steps.{dropped_by, replaced, superseded, with_records}
+use Rattle.ckpt_core.proofs.Acknowledging.Moves.{replaced_members, still_in_replaced}
+use Rattle.ckpt_core.proofs.Acknowledging.States.{IsTaking, moved, taken_records}
+use Rattle.ckpt_core.proofs.Completing.Lists.{IsFinishing, is_past, later_in, noted_pending, noted_row, noted_savepoint, or_false, others, past_count, past_is_surplus}
+use Rattle.ckpt_core.proofs.Completing.Moves.{count_completed}
+use Rattle.ckpt_core.proofs.Completing.Taken.{acked_record, done_record, pinned_acked, pinned_done, taken_there, taken_apart, taken_groups, checkpoint_ending, ending_completes}
+use Rattle.ckpt_core.proofs.Records.Counts.{IsIn-from_find}
+use Rattle.ckpt_core.proofs.Records.GroupLookups.{is_checkpoint-kind, is_savepoint-kind}
+use Rattle.ckpt_core.proofs.Records.Lookups.{AreGroups, count_same, has_number}
+use Rattle.ckpt_ids.proofs.CountLemmas.{count_by-none}
+use Rattle.ckpt_core.specs.Inside.Moving.{taken_in}
+
+-- the tests of the step on one record
+
+superseded_where : (m : State) (c x : Record) → is_checkpoint c ≡ true → superseded m c x ≡ (is_subsumed c.id x || is_surplus m x)
+superseded_where m c x e = ap (λ b. b && (is_subsumed c.id x || is_surplus m x)) e
+
+pending_subsumed : (id : ℕ) (x : Record) → x.done ≡ false → is_subsumed id x ≡ is_before id x
+pending_subsumed id x e = ap (λ b. (not b && is_checkpoint x) && ltb x.id id) e
+
+done_not_subsumed : (id : ℕ) (x : Record) → x.done ≡ true → is_subsumed id x ≡ false
+done_not_subsumed id x e = ap (λ b. (not b && is_checkpoint x) && ltb x.id id) e
+
+abbrev later_done : State → Record → ℕ
+later_done m x = count_by (λ s. is_done_checkpoint s && ltb x.id s.id) m.records
+
+done_surplus : (m : State) (x : Record) → is_done_checkpoint x ≡ true → is_surplus m x ≡ leb m.opening.config.retained (later_done m x)
+done_surplus m x e = ap (λ b. b && leb m.opening.config.retained (later_done m x)) e
+
+no_surplus : (m : State) (x : Record) → is_done_checkpoint x ≡ false → is_surplus m x ≡ false
+no_surplus m x e = ap (λ b. b && leb m.opening.config.retained (later_done m x)) e
+
+superseded_pending : (m : State) (c x : Record) → is_checkpoint c ≡ true → x.done ≡ false → superseded m c x ≡ is_before c.id x
+superseded_pending m c x e pending =
+    superseded_where m c x e
+    ∙ ap (λ b. is_subsumed c.id x || b) (no_surplus m x (and_left x.done (is_checkpoint x) pending))
+    ∙ or_false (is_subsumed c.id x)
+    ∙ pending_subsumed c.id x pending
+
+superseded_checkpoint : (m : State) (c x : Record) → is_checkpoint c ≡ true → x.done ≡ true → is_checkpoint x ≡ true → superseded m c x ≡ leb m.opening.config.retained (later_done m x)
+superseded_checkpoint m c x e done checkpoint =
+    superseded_where m c x e
+    ∙ ap (λ b. b || is_surplus m x) (done_not_subsumed c.id x done)
+    ∙ done_surplus m x (and_from x.done (is_checkpoint x) done checkpoint)
+
+superseded_savepoint : (m : State) (c x : Record) → is_checkpoint c ≡ true → x.done ≡ true → is_checkpoint x ≡ false → superseded m c x ≡ false
+superseded_savepoint m c x e done savepoint =
+    superseded_where m c x e
+    ∙ ap (λ b. b || is_surplus m x) (done_not_subsumed c.id x done)
+    ∙ no_surplus m x (and_right x.done (is_checkpoint x) savepoint)
+
+-- all completed checkpoints, the last one last
+abbrev pub row_of : Parts → Record → List Record
+row_of p d = p.store.checkpoints ++ d ∷ []
+
+-- all others are older
+pub its_above : {p : Parts} {now id : ℕ} {s : SubtaskId} {fresh reused : List ℕ} {r : Record} → IsTaking p now id s fresh reused r → r.kind ≡ kind.Checkpoint → IsAbove p.store.checkpoints r.id
+unfolding state_of
+its_above {p} {now} {id} {s} {fresh} {reused} {r} t checkpoint c h =
+    let g : AreGroups (taken_in p now id s fresh reused).pending p.store.checkpoints p.store.savepoints = taken_groups t in
+    let all : List Record = grouped p.registry p.pending p.store.checkpoints p.store.savepoints in
+    let pinned : List Record = map (with_pins p.registry) p.pending in
+    let done : List Record = p.store.checkpoints ++ p.store.savepoints in
+    let there = (IsIn-from_find (has_number id) r p.pending t.found).0 in
+    let k = g.checkpoints_done c h in
+    let pending : r.done ≡ false = (t.pending r there).not_done in
+    t.sound.sound.newer (with_pins p.registry r) c
+    (IsIn-in_order id_before (with_pins p.registry r) all (IsIn-append_left (with_pins p.registry r) pinned done (IsIn-map (with_pins p.registry) r p.pending there)))
+    (IsIn-in_order id_before c all (IsIn-append_right c pinned done (IsIn-append_left c p.store.checkpoints p.store.savepoints h)))
+    (and_from (is_pending r) (is_checkpoint r) (not_from_false r.done pending) (is_checkpoint-kind r checkpoint))
+    (and_from c.done (is_checkpoint c) k.0 (is_checkpoint-kind c k.1))
+
+pub finishing : {p : Parts} {now id : ℕ} {s : SubtaskId} {fresh reused : List ℕ} {r : Record} → IsTaking p now id s fresh reused r → r.kind ≡ kind.Checkpoint →
+    IsFinishing (taken_in p now id s fresh reused).registry (taken_in p now id s fresh reused).pending p.store (acked_record r s fresh reused) (done_record r s fresh reused)
+finishing {p} {now} {id} {s} {fresh} {reused} {r} t checkpoint = record {
+  apart = taken_apart t;
+  there = taken_there t;
+  same = refl;
+  above = its_above t checkpoint;
+  rising = t.stored.checkpoints_rise;
+  few = t.stored.few;
+  some = t.stored.retained_from;
+}
+
+pub row_rises : {p : Parts} {now id : ℕ} {s : SubtaskId} {fresh reused : List ℕ} {r : Record} → IsTaking p now id s fresh reused r → r.kind ≡ kind.Checkpoint → AreRising (row_of p (done_record r s fresh reused))
+row_rises {p} {now} {id} {s} {fresh} {reused} {r} t checkpoint =
+    let d : Record = done_record r s fresh reused in
+    IsInOrder-append id_before p.store.checkpoints (d ∷ []) t.stored.checkpoints_rise (tt, tt) (λ x y h k.
+    ⊎_elim (λ (e : y ≡ d). ap (λ w. ltb x.id w.id) e ∙ lt-ltb x.id d.id (its_above t checkpoint x h)) (λ (n : ⊥). absurd n) k)
+
+row_is_done : {p : Parts} {now id : ℕ} {s : SubtaskId} {fresh reused : List ℕ} {r : Record} → IsTaking p now id s fresh reused r → r.kind ≡ kind.Checkpoint → (x : Record) → IsIn x (row_of p (done_record r s fresh reused)) → (x.done ≡ true) × (is_checkpoint x ≡ true)
+row_is_done {p} {now} {id} {s} {fresh} {reused} {r} t checkpoint x h =
+    let d : Record = done_record r s fresh reused in
+    let Goal : Type 0 = (x.done ≡ true) × (is_checkpoint x ≡ true) in
+    let g : AreGroups (taken_in p now id s fresh reused).pending p.store.checkpoints p.store.savepoints = taken_groups t in
+    let old : IsIn x p.store.checkpoints → Goal = λ (c : IsIn x p.store.checkpoints). let k = g.checkpoints_done x c in (k.0, is_checkpoint-kind x k.1) in
+    let new : x ≡ d → Goal = λ (e : x ≡ d). (ap (λ w. w.done) e, ap is_checkpoint e ∙ is_checkpoint-kind d checkpoint) in
+    ⊎_elim old (⊎_elim new (λ (n : ⊥). absurd n)) (IsIn-append_cases x p.store.checkpoints (d ∷ []) h)
+
+-- the state that the step completes in
+abbrev pub completing_in : Parts → ℕ → Record → SubtaskId → List ℕ → List ℕ → State
+completing_in p now r s fresh reused = with_records (moved p now) (replaced (records_in p) (pinned_done p r s fresh reused))
+
+-- the numbers that are noted
+abbrev pub gone_by : Parts → ℕ → ℕ → SubtaskId → List ℕ → List ℕ → Record → List ℕ
+gone_by p now id s fresh reused r = completing.superseded (others r.id (taken_in p now id s fresh reused).pending) p.store (done_record r s fresh reused)
+
+later_same : {p : Parts} {now id : ℕ} {s : SubtaskId} {fresh reused : List ℕ} {r : Record} → IsTaking p now id s fresh reused r → r.kind ≡ kind.Checkpoint → (x : Record) → later_done (completing_in p now r s fresh reused) x ≡ later_in (row_of p (done_record r s fresh reused)) x
+later_same {p} {now} {id} {s} {fresh} {reused} {r} t checkpoint x =
+    let d : Record = done_record r s fresh reused in
+    let after : Parts = taken_in p now id s fresh reused in
+    let row : List Record = row_of p d in
+    let g : AreGroups after.pending p.store.checkpoints p.store.savepoints = taken_groups t in
+    let later : Record → Bool = λ y. is_done_checkpoint y && ltb x.id y.id in
+    let all : count_by later (replaced (records_in p) (pinned_done p r s fresh reused)) ≡ count_by later (others r.id after.pending) + (count_by later row + count_by later p.store.savepoints) =
+    count_completed (ending_completes t (checkpoint_ending t)) later (λ y fs. refl) in
+    let none_pending : count_by later (others r.id after.pending) ≡ 0 = count_by-none later (others r.id after.pending) (λ y h.
+    ap (λ b. (b && is_checkpoint y) && ltb x.id y.id) (g.not_done y (IsIn-from_filter (λ q. not (eqb q.id r.id)) y after.pending h).0)) in
+    let no_savepoint : count_by later p.store.savepoints ≡ 0 = count_by-none later p.store.savepoints (λ y h.
+    let k = g.savepoints_done y h in ap (λ b. b && ltb x.id y.id) (and_right y.done (is_checkpoint y) (is_savepoint-kind y k.1))) in
+    let of_row : count_by later row ≡ later_in row x = count_same later (λ y. ltb x.id y.id) row (λ y h.
+    let k = row_is_done t checkpoint y h in ap (λ b. b && ltb x.id y.id) (and_from y.done (is_checkpoint y) k.0 k.1)) in
+    omega arith
+
+-- the tests agree
+pub superseded_is : {p : Parts} {now id : ℕ} {s : SubtaskId} {fresh reused : List ℕ} {r : Record} → IsTaking p now id s fresh reused r → r.kind ≡ kind.Checkpoint → (x : Record) → IsIn x (replaced (records_in p) (pinned_done p r s fresh reused)) →
+    superseded (completing_in p now r s fresh reused) (pinned_done p r s fresh reused) x ≡ is_noted (gone_by p now id s fresh reused r) x
+unfolding state_of
+superseded_is {p} {now} {id} {s} {fresh} {reused} {r} t checkpoint x h =
+    let m : State = completing_in p now r s fresh reused in
+    let c : Record = pinned_done p r s fresh reused in
+    let a : Record = pinned_acked p r s fresh reused in
+    let d : Record = done_record r s fresh reused in
+    let gone : List ℕ = gone_by p now id s fresh reused r in
+    let after : Parts = taken_in p now id s fresh reused in
+    let row : List Record = row_of p d in
+    let pinned : List Record = map (with_pins after.registry) after.pending in
+    let done : List Record = p.store.checkpoints ++ p.store.savepoints in
+    let g : AreGroups after.pending p.store.checkpoints p.store.savepoints = taken_groups t in
+    let f : IsFinishing after.registry after.pending p.store (acked_record r s fresh reused) d = finishing t checkpoint in
+    let its : is_checkpoint c ≡ true = is_checkpoint-kind c checkpoint in
+    let Agree : Record → Type 0 = λ y. superseded m c y ≡ is_noted gone y in
+    let fits : length row ≤ p.store.retained + 1 = omega (arith, length-append p.store.checkpoints (d ∷ []), t.stored.few) in
+    let surplus_is : (y : Record) → IsIn y row → leb m.opening.config.retained (later_done m y) ≡ is_noted gone y = λ y k.
+    ap (leb m.opening.config.retained) (later_same t checkpoint y)
+    ∙ ap (λ n. leb n (later_in row y)) (sym t.sound.tied.retained)
+    ∙ past_is_surplus p.store.retained row y (row_rises t checkpoint) fits t.stored.retained_from k
+    ∙ sym (noted_row f y k) in
+    let completed : (y : Record) → IsIn y p.store.checkpoints → Agree y = λ y k.
+    let q = g.checkpoints_done y k in
+    superseded_checkpoint m c y its q.0 (is_checkpoint-kind y q.1) ∙ surplus_is y (IsIn-append_left y p.store.checkpoints (d ∷ []) k) in
+    let itself : Agree c = superseded_checkpoint m c c its refl its ∙ surplus_is d (IsIn-append_right d p.store.checkpoints (d ∷ []) (inl refl)) in
+    let saved : (y : Record) → IsIn y p.store.savepoints → Agree y = λ y k.
+    let q = g.savepoints_done y k in
+    superseded_savepoint m c y its q.0 (is_savepoint-kind y q.1) ∙ sym (noted_savepoint f y k) in
+    let waiting : (y : Record) → IsIn y after.pending → Agree (with_pins after.registry y) = λ y k.
+    superseded_pending m c (with_pins after.registry y) its (g.not_done y k) ∙ sym (noted_pending f y k) in
+    let of_pending : IsIn x pinned → Agree x = λ (k : IsIn x pinned).
+    let q = IsIn-from_map (with_pins after.registry) x after.pending k in subst Agree (sym q.2) (waiting q.0 q.1) in
+    let of_done : IsIn x done → Agree x = λ (k : IsIn x done). ⊎_elim (completed x) (saved x) (IsIn-append_cases x p.store.checkpoints p.store.savepoints k) in
+    let other : IsIn x (records_in p) × (x.id ≡ c.id → ⊥) → Agree x = λ (k : IsIn x (records_in p) × (x.id ≡ c.id → ⊥)).
+    let P : List Record → Type 0 = λ rs. IsIn x rs in
+    let there : IsIn x (records_in after) = subst P (sym (taken_records t)) (still_in_replaced (records_in p) a x k.0 k.1) in
+    ⊎_elim of_pending of_done (IsIn-append_cases x pinned done (IsIn-from_in_order id_before x (grouped after.registry after.pending p.store.checkpoints p.store.savepoints) there)) in
+    ⊎_elim (λ (e : x ≡ c). subst Agree (sym e) itself) other (replaced_members (records_in p) c x h)
+
+-- how many they are
+pub superseded_count : {p : Parts} {now id : ℕ} {s : SubtaskId} {fresh reused : List ℕ} {r : Record} → IsTaking p now id s fresh reused r → r.kind ≡ kind.Checkpoint →
+    dropped_by (completing_in p now r s fresh reused) (superseded (completing_in p now r s fresh reused) (pinned_done p r s fresh reused)) ≡ length (gone_by p now id s fresh reused r)
+superseded_count {p} {now} {id} {s} {fresh} {reused} {r} t checkpoint =
+    let m : State = completing_in p now r s fresh reused in
+    let c : Record = pinned_done p r s fresh reused in
+    let d : Record = done_record r s fresh reused in
+    let gone : List ℕ = gone_by p now id s fresh reused r in
+    let after : Parts = taken_in p now id s fresh reused in
+    let row : List Record = row_of p d in
+    let left : List Record = others r.id after.pending in
+    let f : IsFinishing after.registry after.pending p.store (acked_record r s fresh reused) d = finishing t checkpoint in
+    let all : count_by (superseded m c) m.records ≡ count_by (is_noted gone) m.records = count_same (superseded m c) (is_noted gone) m.records (superseded_is t checkpoint) in
+    let parts : count_by (is_noted gone) m.records ≡ count_by (is_noted gone) left + (count_by (is_noted gone) row + count_by (is_noted gone) p.store.savepoints) =
+    count_completed (ending_completes t (checkpoint_ending t)) (is_noted gone) (λ y fs. refl) in
+    let of_pending : count_by (is_noted gone) left ≡ count_by (is_before d.id) left = count_same (is_noted gone) (is_before d.id) left (λ y h. noted_pending f y (IsIn-from_filter (λ q. not (eqb q.id r.id)) y after.pending h).0) in
+    let of_row : count_by (is_noted gone) row ≡ length (surplus p.store d) = count_same (is_noted gone) (is_past p.store.retained row) row (noted_row f) ∙ past_count p.store.retained row (row_rises t checkpoint) in
+    let of_savepoints : count_by (is_noted gone) p.store.savepoints ≡ 0 = count_by-none (is_noted gone) p.store.savepoints (noted_savepoint f) in
+    omega (arith, length-append (earlier d.id left) (surplus p.store d), length-map (filter (is_before d.id) left) (λ (q : Record). q.id), length-filter (is_before d.id) left)

@@ -1,0 +1,170 @@
+-- What the completion of a record may rely on.
+use Rattle.std.proofs.Common.{◌≡◌, ℕ, ◌+◌, ◌<◌, ◌≤◌, ◌^◌, max, Bool, true, false, not, eqb, List, [], ◌++◌, length, refl, sym, ap, subst, ◌∙◌, ⊎_elim, arith, Some}
+use Rattle.std.specs.Prelude.{find}
+use Rattle.std.specs.Vec.{vec_capacity}
+use Rattle.std.proofs.lemmas.Bool.{eqb-true, eq-eqb, ltb-true, or_parts, not_from_true}
+use Rattle.std.proofs.lemmas.List.{length-map}
+use Rattle.std.proofs.lemmas.List.Sums.{length-filter}
+use Rattle.ckpt_ids.specs.declared.call.Call.TheVariants.{Ack}
+use Rattle.ckpt_ids.specs.declared.numbers.Kind.TheVariants as kind
+use Rattle.ckpt_ids.specs.declared.subtask.SubtaskId.{SubtaskId}
+use Rattle.ckpt_ids.specs.Ascending.{ascending}
+use Rattle.ckpt_ids.specs.Ordered.{IsIn, IsInOrder}
+use Rattle.ckpt_ids.specs.Records.{Record, Use, Subtask, count, is_present, missing, uses}
+use Rattle.ckpt_ids.proofs.OrderedLemmas.{IsIn-append_cases, IsIn-append_right, IsIn-from_list_any, IsIn-from_in_order_once}
+use Rattle.ckpt_outbox.specs.Queues.{is_known}
+use Rattle.ckpt_pending.specs.Acknowledging.{IsPending}
+use Rattle.ckpt_registry.specs.Uses.{triples}
+use Rattle.ckpt_store.specs.Storing.{Stored, IsAbove, IsStored, has_id, has_savepoint}
+use Rattle.ckpt_core.specs.declared.parts.Parts.{Parts}
+use Rattle.ckpt_core.specs.Inside.Completing.{IsMissing}
+use Rattle.ckpt_core.specs.Inside.Grouped.{with_pins}
+use Rattle.ckpt_core.specs.Inside.Parts.{AreSound, AreTied, IsAccepted, present_in, records_in, state_of}
+use Rattle.ckpt_core.specs.Soundness.{id_before}
+use Rattle.ckpt_core.specs.State.{in_outbox}
+use Rattle.ckpt_core.proofs.Acknowledging.Moves.{with_instead}
+use Rattle.ckpt_core.proofs.Acknowledging.States.{IsRoomier, IsTaking, its_number, room_made, taking_from, one_less, taken_records, taken_tied, taking}
+use Rattle.ckpt_core.proofs.Acknowledging.Takes.{found_acked}
+use Rattle.ckpt_core.proofs.Completing.Agrees.{its_above}
+use Rattle.ckpt_core.proofs.Completing.Lists.{fewer, others}
+use Rattle.ckpt_core.proofs.Completing.Taken.{acked_record, done_record, pinned_acked, taken_there, not_done_number}
+use Rattle.ckpt_core.proofs.Ending.Drops.{fails, none_known}
+use Rattle.ckpt_core.proofs.Ending.HandOut.{present-from_use}
+use Rattle.ckpt_core.proofs.Records.Lookups.{has_number, length-records_of}
+use Rattle.ckpt_core.proofs.Soundness.Acks.{IsAcking}
+use Rattle.ckpt_core.proofs.Triggering.TriggerParts.{live_records}
+use Rattle.ckpt_core.proofs.Using.Order.{from_holds}
+use Rattle.ckpt_ids.proofs.CountLemmas.{IsIn-from_counted}
+use Rattle.ckpt_core.specs.Inside.Moving.{taken_in}
+
+-- the parts without the pending record
+abbrev pub taken_out : Parts → ℕ → ℕ → SubtaskId → List ℕ → List ℕ → Record → Parts
+taken_out p now id s fresh reused r = record (taken_in p now id s fresh reused) { pending = others r.id (taken_in p now id s fresh reused).pending }
+
+-- it was given its last acknowledgement, and was taken out as done
+pub record IsLast (p then : Parts) (now id : ℕ) (s : SubtaskId) (fresh reused : List ℕ) (r done : Record) : Type 0 where
+  pub taking : IsTaking p now id s fresh reused r
+  pub last : missing r ≡ 1
+  pub room : present_in p.registry + length fresh ≤ p.outbox.spare
+  pub place : 1 ≤ p.store.spare
+  pub is : then ≡ taken_out p now id s fresh reused r
+  pub done_is : done ≡ done_record r s fresh reused
+
+-- before it is taken out
+pub none_missing : {p : Parts} {now id : ℕ} {s : SubtaskId} {fresh reused : List ℕ} {r : Record} (then : Parts) → IsTaking p now id s fresh reused r → missing r ≡ 1 → then ≡ taken_in p now id s fresh reused → IsMissing then.pending id 0
+none_missing {p} {now} {id} {s} {fresh} {reused} {r} then t last is =
+    let P : Parts → Type 0 = λ x. IsMissing x.pending id 0 in
+    subst P (sym is) (record {
+      lacking = acked_record r s fresh reused;
+      found = found_acked id s (ascending (fresh ++ reused)) r p.pending t.found;
+      counted = omega (arith, one_less t);
+    })
+
+pub is_last : {p : Parts} {now id : ℕ} {s : SubtaskId} {fresh reused : List ℕ} {r : Record} (then after : Parts) (done : Record) → IsTaking p now id s fresh reused r → missing r ≡ 1 → present_in p.registry + length fresh ≤ p.outbox.spare → 1 ≤ p.store.spare → then ≡ taken_in p now id s fresh reused →
+    ((q : Record) → find (has_number id) then.pending ≡ Some q → done ≡ record q { done = true }) → after ≡ record then { pending = others id then.pending } → IsLast p after now id s fresh reused r done
+is_last {p} {now} {id} {s} {fresh} {reused} {r} then after done t last room place is finished out = record {
+  taking = t;
+  last = last;
+  room = room;
+  place = place;
+  is = out ∙ ap (λ (x : Parts). record x { pending = others id x.pending }) is ∙ ap (λ i. record (taken_in p now id s fresh reused) { pending = others i (taken_in p now id s fresh reused).pending }) (sym (its_number t));
+  done_is = finished (acked_record r s fresh reused) (ap (λ x. find (has_number id) x.pending) is ∙ found_acked id s (ascending (fresh ++ reused)) r p.pending t.found);
+}
+
+-- nothing in use is in the outbox
+taken_unknown : {p : Parts} {now id : ℕ} {s : SubtaskId} {fresh reused : List ℕ} {r : Record} → IsTaking p now id s fresh reused r → (f : ℕ) → is_present (taken_in p now id s fresh reused).registry f ≡ true → is_known p.outbox f ≡ false
+unfolding state_of
+taken_unknown {p} {now} {id} {s} {fresh} {reused} {r} t f h =
+    let k : IsAcking (state_of p) (with_pins p.registry r) s fresh reused = taking t in
+    let us : List Use = (taken_in p now id s fresh reused).registry in
+    let added : List Use = triples id (Subtask s) (fresh ++ reused) in
+    let q = IsIn-from_counted (λ (u : Use). eqb u.file f) us (ltb-true 0 (count us f) h) in
+    let same : q.0.file ≡ f = eqb-true q.0.file f q.2 in
+    let none : (g : ℕ) → is_present p.registry g ≡ true → is_known p.outbox g ≡ false = none_known p t.sound.tied t.sound.sound in
+    let its : is_known p.outbox q.0.file ≡ false =
+    ⊎_elim
+    (λ (a : IsIn q.0 p.registry). none q.0.file (present-from_use q.0 p.registry a))
+    (λ (b : IsIn q.0 added).
+    ⊎_elim
+    (λ (c : IsIn q.0.file fresh). (or_parts (is_present (uses (records_in p)) q.0.file) (in_outbox (state_of p) q.0.file) (k.unknown q.0.file c)).1)
+    (λ (c : IsIn q.0.file reused). none q.0.file (ap (λ vs. is_present vs q.0.file) t.sound.tied.uses_are ∙ k.present q.0.file c))
+    (IsIn-append_cases q.0.file fresh reused (from_holds id (Subtask s) (fresh ++ reused) q.0 b).2))
+    (IsIn-append_cases q.0 p.registry added (IsIn-from_in_order_once _ q.0 (p.registry ++ added) q.1)) in
+    ap (is_known p.outbox) (sym same) ∙ its
+
+-- there are few records
+taken_few : {p : Parts} {now id : ℕ} {s : SubtaskId} {fresh reused : List ℕ} {r : Record} → IsTaking p now id s fresh reused r → length (records_in (taken_in p now id s fresh reused)) ≤ 2064
+taken_few {p} {now} {id} {s} {fresh} {reused} {r} t =
+    omega (arith, ap length (taken_records t), length-map (records_in p) (with_instead (pinned_acked p r s fresh reused)), live_records p t.sound.sound)
+
+fewer_pending : {p : Parts} {now id : ℕ} {s : SubtaskId} {fresh reused : List ℕ} {r : Record} → IsTaking p now id s fresh reused r → length (others r.id (taken_in p now id s fresh reused).pending) + 1 ≤ length (records_in (taken_in p now id s fresh reused))
+fewer_pending {p} {now} {id} {s} {fresh} {reused} {r} t =
+    let after : Parts = taken_in p now id s fresh reused in
+    let a : Record = acked_record r s fresh reused in
+    let other : Record → Bool = λ q. not (eqb q.id r.id) in
+    omega (arith, length-filter other after.pending, fewer other a after.pending (taken_there t) (not_from_true (eqb r.id r.id) (eq-eqb r.id r.id refl)), length-records_of after.registry after.pending p.store.checkpoints p.store.savepoints)
+
+-- what is required of both
+pub record CanComplete (then : Parts) : Type 0 where
+  pub room : 1 ≤ then.store.spare
+  pub unknown : (f : ℕ) → is_present then.registry f ≡ true → is_known then.outbox f ≡ false
+  pub spare : present_in then.registry ≤ then.outbox.spare
+  pub none_ended : then.ended.items ≡ []
+  pub places : length then.pending + 1 ≤ vec_capacity then.ended
+  pub few : length then.pending + 1 < 2 ^ 32
+  pub few_savepoints : length then.store.savepoints + 1 < 2 ^ 32
+
+pub can_complete : {p then : Parts} {now id : ℕ} {s : SubtaskId} {fresh reused : List ℕ} {r done : Record} → IsLast p then now id s fresh reused r done → CanComplete then
+can_complete {p} {then} {now} {id} {s} {fresh} {reused} {r} {done} l =
+    let t : IsTaking p now id s fresh reused r = l.taking in
+    let after : Parts = taken_in p now id s fresh reused in
+    let tied : AreTied after = taken_tied t l.room in
+    let P : Parts → Type 0 = λ x. CanComplete x in
+    let all : length (records_in after) ≡ length after.pending + (length p.store.checkpoints + length p.store.savepoints) = length-records_of after.registry after.pending p.store.checkpoints p.store.savepoints in
+    subst P (sym l.is) (record {
+      room = l.place;
+      unknown = taken_unknown t;
+      spare = tied.spare;
+      none_ended = t.sound.none_ended;
+      places = omega (arith, fewer_pending t, tied.room);
+      few = omega (arith, fewer_pending t, taken_few t);
+      few_savepoints = omega (arith, all, taken_few t);
+    })
+
+-- of a checkpoint
+pub last_above : {p then : Parts} {now id : ℕ} {s : SubtaskId} {fresh reused : List ℕ} {r done : Record} → IsLast p then now id s fresh reused r done → done.kind ≡ kind.Checkpoint → IsAbove then.store.checkpoints done.id
+last_above {p} {then} {now} {id} {s} {fresh} {reused} {r} {done} l checkpoint =
+    let its : r.kind ≡ kind.Checkpoint = sym (ap (λ x. x.kind) l.done_is) ∙ checkpoint in
+    let P : Parts → Type 0 = λ x. IsAbove x.store.checkpoints done.id in
+    let Q : Record → Type 0 = λ x. IsAbove p.store.checkpoints x.id in
+    subst P (sym l.is) (subst Q (sym l.done_is) (its_above l.taking its))
+
+-- of a savepoint
+pub last_new : {p then : Parts} {now id : ℕ} {s : SubtaskId} {fresh reused : List ℕ} {r done : Record} → IsLast p then now id s fresh reused r done → has_savepoint then.store done.id ≡ false
+last_new {p} {then} {now} {id} {s} {fresh} {reused} {r} {done} l =
+    ap (λ x. has_savepoint x.store done.id) l.is
+    ∙ ap (λ x. has_savepoint p.store x.id) l.done_is
+    ∙ fails (has_savepoint p.store r.id) (λ (h : has_savepoint p.store r.id ≡ true).
+    let q = IsIn-from_list_any (has_id r.id) p.store.savepoints h in
+    not_done_number l.taking q.0 (IsIn-append_right q.0 p.store.checkpoints p.store.savepoints q.1) (sym (eqb-true q.0.id r.id q.2)))
+
+-- room was made in the outbox, then in the store
+pub made_place : (p q : Parts) (more : ℕ) (store : Stored) → q ≡ record p { outbox = record p.outbox { spare = max (present_in p.registry + more) p.outbox.spare } } → store ≡ record q.store { spare = store.spare } → IsRoomier p (record q { store = store })
+made_place p q more store made kept = record {
+  spare = max (present_in p.registry + more) p.outbox.spare;
+  places = store.spare;
+  is =
+      ap (λ x. record q { store = x }) kept
+      ∙ ap (λ (x : Parts). record x { store = record x.store { spare = store.spare } }) made;
+  room = omega arith;
+}
+
+-- all that the calls left
+pub last_made : {id : ℕ} (p q then after : Parts) (done : Record) (now : ℕ) (s : SubtaskId) (fresh reused : List ℕ) (more : ℕ) (store : Stored) → AreSound p → IsAccepted p (Ack now id s fresh reused) → (w : IsMissing p.pending id 1) → more ≡ length fresh →
+    q ≡ record p { outbox = record p.outbox { spare = max (present_in p.registry + more) p.outbox.spare } } → store ≡ record q.store { spare = store.spare } → 1 ≤ store.spare →
+    ((x : Record) → IsIn x q.pending → IsPending x) → IsInOrder id_before q.pending → IsStored store → then ≡ taken_in (record q { store = store }) now id s fresh reused →
+    ((x : Record) → find (has_number id) then.pending ≡ Some x → done ≡ record x { done = true }) → after ≡ record then { pending = others id then.pending } →
+    IsLast (record q { store = store }) after now id s fresh reused w.lacking done
+last_made {id} p q then after done now s fresh reused more store sound accepted w counted made kept place pending order stored is finished out =
+    let room : present_in q.registry + length fresh ≤ q.outbox.spare = omega (arith, room_made p q more made, counted) in
+    is_last then after done (taking_from now s fresh reused (made_place p q more store made kept) sound accepted pending order stored w) w.counted room place is finished out

@@ -1,0 +1,142 @@
+-- What a completion makes of the records, of their uses, and of how many there are.
+use Rattle.std.proofs.Common.{◌≡◌, ℕ, ◌+◌, Bool, true, false, not, ◌&&◌, ◌||◌, cond, eqb, List, [], ◌∷◌, ◌++◌, map, length, refl, sym, ap, subst, ◌∙◌, ◌⊎◌, ⊎_elim, Some}
+use Rattle.std.specs.Prelude.{count_by}
+use Rattle.std.specs.List.{filter}
+use Rattle.std.proofs.lemmas.Bool.{cases_Bool}
+use Rattle.ckpt_ids.specs.declared.reply.Answer.TheVariants.{Done}
+use Rattle.ckpt_ids.specs.declared.reply.Reply.TheVariants as reply
+use Rattle.ckpt_ids.specs.Ordered.{IsIn}
+use Rattle.ckpt_ids.specs.Records.{Record, Use, released, uses, uses_of}
+use Rattle.ckpt_ids.proofs.OrderedLemmas.{IsIn-append_left, IsIn-map, IsIn-from_in_order, filter-all, filter-same}
+use Rattle.ckpt_registry.specs.Uses.{after_end, is_ended, is_owned}
+use Rattle.ckpt_core.specs.Inside.Grouped.{pins, with_pins, grouped, records_of}
+use Rattle.ckpt_core.specs.Inside.Parts.{is_noted}
+use Rattle.ckpt_core.specs.Soundness.{id_before}
+use Rattle.ckpt_core.specs.State.{State, drop, kept, released_by, unpinned}
+use Rattle.ckpt_core.specs.Steps.{cleared, completed_with, dropped_by, replaced, superseded}
+use Rattle.ckpt_core.proofs.Acknowledging.Moves.{with_instead}
+use Rattle.ckpt_core.proofs.Completing.Lists.{others}
+use Rattle.ckpt_ids.proofs.CountLemmas.{count_by-map}
+use Rattle.ckpt_core.proofs.Ending.Drops.{stays, staying}
+use Rattle.ckpt_core.proofs.Completing.Finish.{finish_groups, finish_uses, ended_records, still_used}
+use Rattle.ckpt_core.proofs.Records.Grouped.{AreApart}
+use Rattle.ckpt_core.proofs.Records.Lookups.{count_same, count_by-records_of, one_of_number}
+
+-- the record d is the pending record with its number, done and without pins; it is among the done ones after
+pub record IsEnding (us : List Use) (pending checkpoints savepoints more_checkpoints more_savepoints : List Record) (r d : Record) : Type 0 where
+  pub apart : AreApart (grouped us pending checkpoints savepoints)
+  pub more_apart : AreApart (more_checkpoints ++ more_savepoints)
+  pub there : IsIn r pending
+  pub same : d.id ≡ r.id
+  pub acks : r.acks ≡ d.acks
+  pub no_pins : d.pins ≡ []
+  pub forth : (z : Record) → IsIn z (more_checkpoints ++ more_savepoints) → (z ≡ d) ⊎ IsIn z (checkpoints ++ savepoints)
+  pub back : (z : Record) → (z ≡ d) ⊎ IsIn z (checkpoints ++ savepoints) → IsIn z (more_checkpoints ++ more_savepoints)
+  pub uses_are : us ≡ uses (records_of us pending checkpoints savepoints)
+
+not_or : (a b : Bool) → not (a || b) ≡ (not a && not b)
+not_or true b = refl
+not_or false b = refl
+
+-- the uses that stay
+after_end_is : (id : ℕ) (gone : List ℕ) (us : List Use) → after_end id gone us ≡ filter (still_used (stays gone) id) us
+after_end_is id gone us = filter-same (λ u. not (is_ended id gone u)) (still_used (stays gone) id) us (λ u h. not_or (is_owned gone u) (pins id u))
+
+-- the records that stay
+abbrev pub left_groups : List Use → List Record → List Record → List Record → Record → List ℕ → List Record
+left_groups us pending more_checkpoints more_savepoints d gone = records_of (after_end d.id gone us) (staying gone (others d.id pending)) (staying gone more_checkpoints) (staying gone more_savepoints)
+
+pub left_records : {us : List Use} {pending checkpoints savepoints more_checkpoints more_savepoints : List Record} {r d : Record} → IsEnding us pending checkpoints savepoints more_checkpoints more_savepoints r d → (gone : List ℕ) →
+    left_groups us pending more_checkpoints more_savepoints d gone ≡ staying gone (replaced (records_of us pending checkpoints savepoints) d)
+left_records {us} {pending} {checkpoints} {savepoints} {more_checkpoints} {more_savepoints} {r} {d} e gone =
+    ap (λ vs. records_of vs (staying gone (others d.id pending)) (staying gone more_checkpoints) (staying gone more_savepoints)) (after_end_is d.id gone us)
+    ∙ finish_groups (stays gone) us pending checkpoints savepoints more_checkpoints more_savepoints r d e.apart e.more_apart e.there e.same e.forth e.back
+
+same_acks : {us : List Use} {pending checkpoints savepoints more_checkpoints more_savepoints : List Record} {r d : Record} → IsEnding us pending checkpoints savepoints more_checkpoints more_savepoints r d →
+    (q : Record) → IsIn q (records_of us pending checkpoints savepoints) → q.id ≡ d.id → q.acks ≡ d.acks
+same_acks {us} {pending} {checkpoints} {savepoints} {more_checkpoints} {more_savepoints} {r} {d} e q h same =
+    let all : List Record = grouped us pending checkpoints savepoints in
+    let is : q ≡ with_pins us r = one_of_number all e.apart q (with_pins us r) (IsIn-from_in_order id_before q all h) (IsIn-append_left (with_pins us r) (map (with_pins us) pending) (checkpoints ++ savepoints) (IsIn-map (with_pins us) r pending e.there)) (same ∙ e.same) in
+    ap (λ x. x.acks) is ∙ e.acks
+
+-- their uses
+pub left_uses : {us : List Use} {pending checkpoints savepoints more_checkpoints more_savepoints : List Record} {r d : Record} → IsEnding us pending checkpoints savepoints more_checkpoints more_savepoints r d → (gone : List ℕ) →
+    after_end d.id gone us ≡ uses (left_groups us pending more_checkpoints more_savepoints d gone)
+left_uses {us} {pending} {checkpoints} {savepoints} {more_checkpoints} {more_savepoints} {r} {d} e gone =
+    let rs : List Record = records_of us pending checkpoints savepoints in
+    after_end_is d.id gone us
+    ∙ ap (filter (still_used (stays gone) d.id)) e.uses_are
+    ∙ finish_uses (stays gone) rs d (same_acks e) e.no_pins
+    ∙ ap uses (sym (left_records e gone))
+
+-- as the step has it: rd is d with its pins, a the same before it is done, and rs the records before a was put in
+
+kept_is : (rs : List Record) (a rd : Record) (dropped : Record → Bool) (gone : List ℕ) → a.id ≡ rd.id → ((s : Record) → IsIn s (replaced rs rd) → dropped s ≡ is_noted gone s) →
+    kept dropped (Some rd.id) (replaced rs rd) ≡ staying gone (replaced (replaced rs a) (record rd { pins = [] }))
+kept_is rs a rd dropped gone same agree =
+    ap (map (unpinned (Some rd.id))) (filter-same (λ s. not (dropped s)) (λ s. stays gone s.id) (replaced rs rd) (λ s h. ap not (agree s h)))
+    ∙ ended_records (stays gone) rs a rd same
+
+pub record IsCompleting (us : List Use) (pending checkpoints savepoints more_checkpoints more_savepoints rs : List Record) (r d a rd : Record) : Type 0 where
+  pub ending : IsEnding us pending checkpoints savepoints more_checkpoints more_savepoints r d
+  pub same : a.id ≡ rd.id
+  pub its : rd.id ≡ d.id
+  pub unpinned : record rd { pins = [] } ≡ d
+  pub same_uses : uses_of rd ≡ uses_of a
+  pub records_are : records_of us pending checkpoints savepoints ≡ replaced rs a
+
+pub kept_records : {us : List Use} {pending checkpoints savepoints more_checkpoints more_savepoints rs : List Record} {r d a rd : Record} → IsCompleting us pending checkpoints savepoints more_checkpoints more_savepoints rs r d a rd →
+    (dropped : Record → Bool) (gone : List ℕ) → ((s : Record) → IsIn s (replaced rs rd) → dropped s ≡ is_noted gone s) →
+    kept dropped (Some rd.id) (replaced rs rd) ≡ left_groups us pending more_checkpoints more_savepoints d gone
+kept_records {us} {pending} {checkpoints} {savepoints} {more_checkpoints} {more_savepoints} {rs} {r} {d} {a} {rd} c dropped gone agree =
+    kept_is rs a rd dropped gone c.same agree
+    ∙ ap (λ x. staying gone (replaced (replaced rs a) x)) c.unpinned
+    ∙ ap (λ xs. staying gone (replaced xs d)) (sym c.records_are)
+    ∙ sym (left_records c.ending gone)
+
+uses_instead : (rs : List Record) (a rd : Record) → a.id ≡ rd.id → uses_of rd ≡ uses_of a → uses (replaced rs rd) ≡ uses (replaced rs a)
+uses_instead [] a rd same e = refl
+uses_instead (x ∷ rs) a rd same e =
+    let P : Bool → Type 0 = λ b. uses_of (cond b rd x) ≡ uses_of (cond b a x) in
+    let first : uses_of (with_instead rd x) ≡ uses_of (with_instead a x) =
+    ⊎_elim (λ (t : eqb x.id rd.id ≡ true). subst P (sym t) e) (λ (t : eqb x.id rd.id ≡ false). subst P (sym t) refl) (cases_Bool (eqb x.id rd.id))
+    ∙ ap (λ i. uses_of (cond (eqb x.id i) a x)) (sym same) in
+    ap (λ us. us ++ uses (replaced rs rd)) first ∙ ap (λ us. uses_of (with_instead a x) ++ us) (uses_instead rs a rd same e)
+
+pub released_files : {us : List Use} {pending checkpoints savepoints more_checkpoints more_savepoints rs : List Record} {r d a rd : Record} → IsCompleting us pending checkpoints savepoints more_checkpoints more_savepoints rs r d a rd →
+    (dropped : Record → Bool) (gone : List ℕ) → ((s : Record) → IsIn s (replaced rs rd) → dropped s ≡ is_noted gone s) →
+    released (uses (replaced rs rd)) (uses (kept dropped (Some rd.id) (replaced rs rd))) ≡ released us (after_end d.id gone us)
+released_files {us} {pending} {checkpoints} {savepoints} {more_checkpoints} {more_savepoints} {rs} {r} {d} {a} {rd} c dropped gone agree =
+    let before : uses (replaced rs rd) ≡ us = uses_instead rs a rd c.same c.same_uses ∙ ap uses (sym c.records_are) ∙ sym c.ending.uses_are in
+    let after : uses (kept dropped (Some rd.id) (replaced rs rd)) ≡ after_end d.id gone us = ap uses (kept_records c dropped gone agree) ∙ sym (left_uses c.ending gone) in
+    ap (λ vs. released vs (uses (kept dropped (Some rd.id) (replaced rs rd)))) before ∙ ap (released us) after
+
+-- how many pass a test that does not look at pins
+pub count_completed : {us : List Use} {pending checkpoints savepoints more_checkpoints more_savepoints rs : List Record} {r d a rd : Record} → IsCompleting us pending checkpoints savepoints more_checkpoints more_savepoints rs r d a rd →
+    (p : Record → Bool) → ((x : Record) (fs : List ℕ) → p (record x { pins = fs }) ≡ p x) → count_by p (replaced rs rd) ≡ count_by p (others d.id pending) + (count_by p more_checkpoints + count_by p more_savepoints)
+count_completed {us} {pending} {checkpoints} {savepoints} {more_checkpoints} {more_savepoints} {rs} {r} {d} {a} {rd} c p blind =
+    let none : Record → Bool = λ s. false in
+    let all : List Record = replaced rs rd in
+    let end : Record → Record = unpinned (Some rd.id) in
+    let as_before : (x : Record) → IsIn x all → p x ≡ p (end x) = λ x h.
+    let P : Bool → Type 0 = λ b. p x ≡ p (cond b (record x { pins = [] }) x) in
+    ⊎_elim (λ (t : eqb x.id rd.id ≡ true). subst P (sym t) (sym (blind x []))) (λ (t : eqb x.id rd.id ≡ false). subst P (sym t) refl) (cases_Bool (eqb x.id rd.id)) in
+    let same_kept : kept none (Some rd.id) all ≡ map end all = ap (map end) (filter-all (λ s. not (none s)) all (λ s h. refl)) in
+    let whole : (xs : List Record) → staying [] xs ≡ xs = λ xs. filter-all (λ s. stays [] s.id) xs (λ s h. refl) in
+    count_same p (λ x. p (end x)) all as_before
+    ∙ sym (count_by-map p end all)
+    ∙ ap (count_by p) (sym same_kept ∙ kept_records c none [] (λ s h. refl))
+    ∙ count_by-records_of p (after_end d.id [] us) (staying [] (others d.id pending)) (staying [] more_checkpoints) (staying [] more_savepoints) (λ x. blind x _)
+    ∙ ap (λ xs. count_by p xs + (count_by p (staying [] more_checkpoints) + count_by p (staying [] more_savepoints))) (whole (others d.id pending))
+    ∙ ap (λ xs. count_by p (others d.id pending) + (count_by p xs + count_by p (staying [] more_savepoints))) (whole more_checkpoints)
+    ∙ ap (λ xs. count_by p (others d.id pending) + (count_by p more_checkpoints + count_by p xs)) (whole more_savepoints)
+
+-- the step
+pub completed_is : (m : State) (rd : Record) (left : List Record) (files : List ℕ) (n : ℕ) → kept (superseded m rd) (Some rd.id) m.records ≡ left → released_by m (superseded m rd) (Some rd.id) ≡ files → dropped_by m (superseded m rd) ≡ n →
+    completed_with m rd ≡ (cleared (record m { records = left; waiting = m.waiting ++ files }) rd, Done (reply.AckCompleted n (length files)))
+unfolding completed_with drop
+completed_is m rd left files n is_left is_files is_n =
+    let was : List ℕ = released_by m (superseded m rd) (Some rd.id) in
+    ap (λ rs. (cleared (record m { records = rs; waiting = m.waiting ++ was }) rd, Done (reply.AckCompleted (dropped_by m (superseded m rd)) (length was)))) is_left
+    ∙ ap (λ fs. (cleared (record m { records = left; waiting = m.waiting ++ fs }) rd, Done (reply.AckCompleted (dropped_by m (superseded m rd)) (length fs)))) is_files
+    ∙ ap (λ k. (cleared (record m { records = left; waiting = m.waiting ++ files }) rd, Done (reply.AckCompleted k (length files)))) is_n

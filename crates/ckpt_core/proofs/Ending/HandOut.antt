@@ -1,0 +1,55 @@
+-- Released files can be put into the outbox: room that was kept for the files in use is room for them, none stands twice, and none is known to it.
+use Rattle.std.proofs.Common.{◌≡◌, ℕ, ◌≤◌, Bool, true, false, not, eqb, List, [], ◌∷◌, map, length, refl, sym, subst, inl, inr, arith}
+use Rattle.std.proofs.lemmas.Bool.{lt-ltb, eq-eqb, cases_Bool}
+use Rattle.std.proofs.lemmas.List.Sums.{length-filter, count_by-le-length}
+use Rattle.ckpt_ids.specs.Ordered.{IsIn, AreDistinct}
+use Rattle.ckpt_ids.specs.Ascending.{ascending_set}
+use Rattle.ckpt_ids.specs.Records.{Use, count, is_present, released}
+use Rattle.ckpt_outbox.specs.Queues as queues
+use Rattle.ckpt_outbox.specs.Queues.{Queues, is_in, is_known}
+use Rattle.ckpt_core.specs.Inside.Parts.{present_in}
+use Rattle.ckpt_core.specs.Soundness as soundness
+use Rattle.ckpt_core.proofs.Ending.Released.{ascending-released, before-from_released, IsIn-from_test}
+use Rattle.ckpt_ids.proofs.CountLemmas.{counted-from_IsIn}
+use Rattle.ckpt_ids.proofs.OrderedLemmas.{AreDistinct-from_order}
+use Rattle.ckpt_ids.proofs.AscendingLemmas.{numbers_in_order}
+
+-- there are at most as many released files as files that were present
+pub released_room : (before after : List Use) (room : ℕ) → present_in before ≤ room → length (released before after) ≤ room
+released_room before after room h =
+    let fs = ascending_set (map (λ (u : Use). u.file) before) in
+    let gone : ℕ → Bool = λ f. not (is_present after f) in
+    omega (arith, length-filter gone fs, count_by-le-length gone fs)
+
+-- each stands once
+pub released_once : (before after : List Use) → AreDistinct (released before after)
+released_once before after = AreDistinct-from_order numbers_in_order (released before after) (ascending-released before after)
+
+-- a use of a file makes it present
+pub present-from_use : (u : Use) (us : List Use) → IsIn u us → is_present us u.file ≡ true
+present-from_use u us h = lt-ltb 0 (count us u.file) (counted-from_IsIn (λ v. eqb v.file u.file) u us h (eq-eqb u.file u.file refl))
+
+pub present-from_released : (f : ℕ) (before after : List Use) → is_in f (released before after) ≡ true → is_present before f ≡ true
+present-from_released f before after h =
+    let q = before-from_released f before after (IsIn-from_test f (released before after) h) in
+    rw q.2 (present-from_use q.0 before q.1)
+
+-- and none is in the outbox, since none that was present is
+pub released_unknown : (before after : List Use) (q : Queues) → ((f : ℕ) → is_present before f ≡ true → is_known q f ≡ false) → (f : ℕ) → is_in f (released before after) ≡ true → is_known q f ≡ false
+released_unknown before after q unknown f h = unknown f (present-from_released f before after h)
+
+-- what `put` requires
+pub record CanBePut (files : List ℕ) (q : Queues) : Type 0 where
+  pub room : length files ≤ q.spare
+  pub distinct : AreDistinct files
+  pub unknown : (f : ℕ) → is_in f files ≡ true → is_known q f ≡ false
+
+pub can_be_put : (before after : List Use) (q : Queues) (files : List ℕ) → files ≡ released before after → present_in before ≤ q.spare → ((f : ℕ) → is_present before f ≡ true → is_known q f ≡ false) → CanBePut files q
+can_be_put before after q files is room unknown =
+    let P : List ℕ → Type 0 = λ fs. CanBePut fs q in
+    let released_can : P (released before after) = record {
+      room = released_room before after q.spare room;
+      distinct = released_once before after;
+      unknown = released_unknown before after q unknown;
+    } in
+    subst P (sym is) released_can

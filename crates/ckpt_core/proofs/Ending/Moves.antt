@@ -1,0 +1,399 @@
+-- What the parts become when records end by a call, and the step of the state that this is.
+use Rattle.std.proofs.Common.{◌≡◌, ℕ, ◌+◌, ◌<◌, ◌≤◌, max, Bool, true, false, not, ◌&&◌, cond, ltb, eqb, List, [], ◌++◌, map, length, refl, sym, ap, subst, ◌∙◌, ⊎_elim, arith, Option, Some, None}
+use Rattle.std.specs.Prelude.{find, IsTrue, ◌↔◌}
+use denote.Enum.Bare.{sameb}
+use Rattle.std.specs.Option.{option_map}
+use Rattle.std.proofs.lemmas.Bool.{cases_Bool, both_ways, lt-ltb, le-ltb, ltb-true, ltb-false}
+use Rattle.ckpt_ids.specs.declared.subtask.SubtaskId.{SubtaskId}
+use Rattle.ckpt_ids.specs.contracts.numbers.Kind.{the_type}
+use Rattle.ckpt_ids.specs.declared.numbers.Kind.{Kind}
+use Rattle.ckpt_ids.specs.declared.numbers.Kind.TheVariants as kind
+use Rattle.ckpt_ids.specs.declared.call.Call.{Call}
+use Rattle.ckpt_ids.specs.declared.call.Call.TheVariants as call
+use Rattle.ckpt_ids.specs.declared.call.Target.{Target}
+use Rattle.ckpt_ids.specs.declared.call.Target.TheVariants as target
+use Rattle.ckpt_ids.specs.declared.reply.Choice.{Choice}
+use Rattle.ckpt_ids.specs.declared.reply.Reply.{Reply}
+use Rattle.ckpt_ids.specs.declared.reply.Reply.TheVariants as reply
+use Rattle.ckpt_ids.specs.declared.reply.Answer.TheVariants.{Done}
+use Rattle.ckpt_ids.specs.Ordered.{IsIn, IsInOrder}
+use Rattle.ckpt_ids.specs.Records.{Record}
+use Rattle.ckpt_ids.proofs.OrderedLemmas.{IsIn-append_left, IsIn-map, IsIn-in_order}
+use Rattle.ckpt_rules.specs.FailureCount.{FailureCount}
+use Rattle.ckpt_rules.specs.Moments.{Moments}
+use Rattle.ckpt_rules.specs.Trigger.{gap}
+use Rattle.ckpt_store.specs.Storing as storing
+use Rattle.ckpt_store.specs.Storing.{IsStored, Stored}
+use Rattle.ckpt_core.specs.declared.mode.Mode.{Mode}
+use Rattle.ckpt_core.specs.declared.mode.Mode.TheVariants.{Running, Failed, Cancelled}
+use Rattle.ckpt_core.specs.declared.parts.Parts.{Parts}
+use Rattle.ckpt_core.specs.Inside.Grouped.{with_pins, grouped}
+use Rattle.ckpt_core.specs.Inside.Parts.{Answers, AreTied, AreSound, Drops, IsAccepted, records_in, state_of}
+use Rattle.ckpt_core.specs.Refusals.{refusal, moment_of, pending_of, is_done_savepoint}
+use Rattle.ckpt_core.specs.Soundness.{IsSound, id_before}
+use Rattle.ckpt_core.specs.State.{State, choice_of, choice_from, last_checkpoint, drop, kept, released_by, unpinned, is_pending, is_checkpoint}
+use Rattle.ckpt_core.specs.Steps.{Stepped, step, effect, at_moment, unless_refused, decline, decline_pending, dispose, dropping, failed_over, restarted, restore, rolled_back, with_base, cancel, cancelled, dropped_by}
+use Rattle.ckpt_core.proofs.Records.Counts.{IsIn-from_find}
+use Rattle.ckpt_core.proofs.Ending.Drops.{apart_in}
+use Rattle.ckpt_core.proofs.Records.Grouped.{apart-from_in_order}
+use Rattle.ckpt_core.proofs.Records.GroupLookups.{last_id-greatest, last_checkpoint-groups}
+use Rattle.ckpt_core.proofs.Records.Lookups.{AreGroups, has_number, pending_of-groups}
+use Rattle.ckpt_core.proofs.Records.Lists.{in_order-changed}
+use Rattle.ckpt_core.proofs.Answering.StepCases.{step_accepted}
+
+-- a state and a number, by what they are equal to
+pub answered : (say : ℕ → Reply) (s t : State) (k n : ℕ) → t ≡ s → n ≡ k → (let x : Stepped = (s, Done (say k)) in x) ≡ (t, Done (say n))
+answered say s t k n e f = ap (λ x. (let y : Stepped = (x, Done (say k)) in y)) (sym e) ∙ ap (λ x. (let y : Stepped = (t, Done (say x)) in y)) (sym f)
+
+-- a savepoint is let go
+
+pub disposed_answers : (p q : Parts) (id n : ℕ) → IsAccepted p (call.Dispose id) → Drops p q (λ r. eqb r.id id) n → Answers p q (call.Dispose id) (reply.Disposed n)
+unfolding effect dispose dropping
+disposed_answers p q id n accepted d = record {
+  step_is = step_accepted (state_of p) (call.Dispose id) accepted
+      ∙ answered reply.Disposed (drop (state_of p) (λ r. eqb r.id id) None) (state_of q) (length (released_by (state_of p) (λ r. eqb r.id id) None)) n d.state_is d.count_is;
+  tied = d.tied;
+  none_ended = d.none_ended;
+}
+
+-- a subtask declines
+
+pub late_answers : (p : Parts) (now id : ℕ) (subtask : SubtaskId) → AreSound p → IsAccepted p (call.Decline now id subtask) → pending_of (records_in p) id ≡ None →
+    Answers p (record p { clock = record p.clock { latest = max now p.clock.latest } }) (call.Decline now id subtask) reply.DeclineLate
+unfolding state_of effect decline
+late_answers p now id subtask sound accepted none = record {
+  step_is = step_accepted (state_of p) (call.Decline now id subtask) accepted ∙ ap (decline (record (state_of p) { latest = max now p.clock.latest })) none;
+  tied = record { uses_are = sound.tied.uses_are; retained = sound.tied.retained; tolerable = sound.tied.tolerable; spare = sound.tied.spare; room = sound.tied.room };
+  none_ended = sound.none_ended;
+}
+
+-- what a declined record does, by whether it is a checkpoint
+declined_by : State → Record → Bool → Stepped
+declined_by m r checkpoint =
+    let failures : ℕ = (cond checkpoint (m.failures + 1) m.failures) in
+    let counted : State = record m { failures = failures } in
+    cond (checkpoint && ltb m.opening.config.tolerable failures)
+    (failed_over counted, Done (reply.DeclineFailed (length (released_by m is_pending None))))
+    (dropping counted (λ s. eqb s.id r.id) reply.DeclineAborted)
+
+decline_is : (m : State) (r : Record) → decline m (Some r) ≡ declined_by m r (is_checkpoint r)
+unfolding decline decline_pending declined_by
+decline_is m r = refl
+
+failed_checkpoint : (m : State) (r : Record) → m.opening.config.tolerable < m.failures + 1 →
+    declined_by m r true ≡ (failed_over (record m { failures = m.failures + 1 }), Done (reply.DeclineFailed (length (released_by m is_pending None))))
+unfolding declined_by
+failed_checkpoint m r many = ap (λ b. cond b (let x : Stepped = (failed_over (record m { failures = m.failures + 1 }), Done (reply.DeclineFailed (length (released_by m is_pending None)))) in x) (dropping (record m { failures = m.failures + 1 }) (λ s. eqb s.id r.id) reply.DeclineAborted)) (lt-ltb m.opening.config.tolerable (m.failures + 1) many)
+
+aborted_checkpoint : (m : State) (r : Record) → m.failures + 1 ≤ m.opening.config.tolerable → declined_by m r true ≡ dropping (record m { failures = m.failures + 1 }) (λ s. eqb s.id r.id) reply.DeclineAborted
+unfolding declined_by
+aborted_checkpoint m r few = ap (λ b. cond b (let x : Stepped = (failed_over (record m { failures = m.failures + 1 }), Done (reply.DeclineFailed (length (released_by m is_pending None)))) in x) (dropping (record m { failures = m.failures + 1 }) (λ s. eqb s.id r.id) reply.DeclineAborted)) (le-ltb m.opening.config.tolerable (m.failures + 1) few)
+
+aborted_savepoint : (m : State) (r : Record) → declined_by m r false ≡ dropping m (λ s. eqb s.id r.id) reply.DeclineAborted
+unfolding declined_by
+aborted_savepoint m r = refl
+
+-- the record of a number that is pending
+pub pending_there : (p : Parts) (id : ℕ) (r : Record) → IsSound (state_of p) → AreGroups p.pending p.store.checkpoints p.store.savepoints → find (has_number id) p.pending ≡ Some r → pending_of (records_in p) id ≡ Some (with_pins p.registry r)
+pending_there p id r sound groups e =
+    pending_of-groups id p.registry p.pending p.store.checkpoints p.store.savepoints (apart_in p sound) groups ∙ ap (option_map (with_pins p.registry)) e
+
+pub pending_absent : (p : Parts) (id : ℕ) → IsSound (state_of p) → AreGroups p.pending p.store.checkpoints p.store.savepoints → find (has_number id) p.pending ≡ None → pending_of (records_in p) id ≡ None
+pending_absent p id sound groups e =
+    pending_of-groups id p.registry p.pending p.store.checkpoints p.store.savepoints (apart_in p sound) groups ∙ ap (option_map (with_pins p.registry)) e
+
+failed_not_running : Failed ≡ Running → ⊥
+failed_not_running e = cc
+
+cancelled_not_running : Cancelled ≡ Running → ⊥
+cancelled_not_running e = cc
+
+-- while a record is pending few checkpoints have failed
+pub few_failed : (p : Parts) (id : ℕ) (r : Record) → AreSound p → AreGroups p.pending p.store.checkpoints p.store.savepoints → find (has_number id) p.pending ≡ Some r → p.failures.number ≤ 1000
+unfolding state_of
+few_failed p id r sound groups e =
+    let k = IsIn-from_find (has_number id) r p.pending e in
+    let there : IsIn (with_pins p.registry r) (records_in p) =
+    IsIn-in_order id_before (with_pins p.registry r) (grouped p.registry p.pending p.store.checkpoints p.store.savepoints)
+    (IsIn-append_left (with_pins p.registry r) (map (with_pins p.registry) p.pending) (p.store.checkpoints ++ p.store.savepoints) (IsIn-map (with_pins p.registry) r p.pending k.0)) in
+    let runs : p.mode ≡ Running → p.failures.number ≤ 1000 = λ (e : p.mode ≡ Running). omega (arith, sound.sound.failures e, sound.sound.config.tolerable_to) in
+    let idle : (p.mode ≡ Running → ⊥) → p.failures.number ≤ 1000 = λ (ne : p.mode ≡ Running → ⊥). absurd (both_ways r.done (groups.not_done r k.0) (sound.sound.idle ne (with_pins p.registry r) there)) in
+    let P : Mode → Type 0 = λ mode. p.mode ≡ mode → p.failures.number ≤ 1000 in
+    elim p.mode as P [ Running ↦ runs | Failed ↦ (λ e. idle (λ k. failed_not_running (sym e ∙ k))) | Cancelled ↦ (λ e. idle (λ k. cancelled_not_running (sym e ∙ k))) ] refl
+
+-- the parts after a decline that counts so many failures
+abbrev pub declined : Parts → ℕ → FailureCount → Parts
+declined q now failures = record q { clock = record q.clock { latest = max now q.clock.latest }; failures = failures }
+
+declined_tied : (p q : Parts) (now : ℕ) (failures : FailureCount) → AreTied p → AreTied q → q.opened.config.tolerable ≡ p.opened.config.tolerable → failures.tolerable ≡ p.failures.tolerable → AreTied (declined q now failures)
+declined_tied p q now failures before tied same e = record {
+  uses_are = tied.uses_are;
+  retained = tied.retained;
+  tolerable = e ∙ before.tolerable ∙ sym same;
+  spare = tied.spare;
+  room = tied.room;
+}
+
+pub failed_answers : (p q : Parts) (now id : ℕ) (subtask : SubtaskId) (r : Record) (failures : FailureCount) (n : ℕ) → AreTied p → IsAccepted p (call.Decline now id subtask) →
+    pending_of (records_in p) id ≡ Some r → is_checkpoint r ≡ true → failures ≡ record p.failures { number = p.failures.number + 1 } → failures.tolerable < failures.number →
+    state_of q ≡ failed_over (state_of p) → n ≡ length (released_by (state_of p) is_pending None) → AreTied q → q.ended.items ≡ [] →
+    Answers p (declined q now failures) (call.Decline now id subtask) (reply.DeclineFailed n)
+unfolding state_of effect failed_over drop
+failed_answers p q now id subtask r failures n before accepted there checkpoint count many is released tied none =
+    let m : State = record (state_of p) { latest = max now p.clock.latest } in
+    let over : m.opening.config.tolerable < m.failures + 1 = omega (arith, before.tolerable, many, ap (λ f. f.number) count, ap (λ f. f.tolerable) count) in
+    let F : State → State = λ s. record s { latest = max now s.latest; failures = failures.number } in
+    record {
+      step_is = step_accepted (state_of p) (call.Decline now id subtask) accepted
+          ∙ ap (decline m) there ∙ decline_is m r ∙ ap (declined_by m r) checkpoint ∙ failed_checkpoint m r over
+          ∙ answered reply.DeclineFailed (failed_over (record m { failures = m.failures + 1 })) (state_of (declined q now failures)) (length (released_by m is_pending None)) n
+          (ap F is ∙ ap (λ k. failed_over (record m { failures = k })) (ap (λ f. f.number) count)) released;
+      tied = declined_tied p q now failures before tied (ap (λ s. s.opening.config.tolerable) is) (ap (λ f. f.tolerable) count);
+      none_ended = none;
+    }
+
+aborted_answers : (p q : Parts) (now id : ℕ) (subtask : SubtaskId) (r : Record) (failures : FailureCount) (n : ℕ) → AreTied p → IsAccepted p (call.Decline now id subtask) →
+    pending_of (records_in p) id ≡ Some r → r.id ≡ id → failures.tolerable ≡ p.failures.tolerable →
+    declined_by (record (state_of p) { latest = max now p.clock.latest }) r (is_checkpoint r) ≡ dropping (record (state_of p) { latest = max now p.clock.latest; failures = failures.number }) (λ s. eqb s.id r.id) reply.DeclineAborted →
+    Drops p q (λ s. eqb s.id id) n →
+    Answers p (declined q now failures) (call.Decline now id subtask) (reply.DeclineAborted n)
+unfolding state_of effect drop dropping
+aborted_answers p q now id subtask r failures n before accepted there its tolerable aborts d =
+    let m : State = record (state_of p) { latest = max now p.clock.latest } in
+    let counted : State = record (state_of p) { latest = max now p.clock.latest; failures = failures.number } in
+    let F : State → State = λ s. record s { latest = max now s.latest; failures = failures.number } in
+    record {
+      step_is = step_accepted (state_of p) (call.Decline now id subtask) accepted
+          ∙ ap (decline m) there ∙ decline_is m r ∙ aborts ∙ ap (λ i. dropping counted (λ s. eqb s.id i) reply.DeclineAborted) its
+          ∙ answered reply.DeclineAborted (drop counted (λ s. eqb s.id id) None) (state_of (declined q now failures)) (length (released_by counted (λ s. eqb s.id id) None)) n
+          (ap F d.state_is) d.count_is;
+      tied = declined_tied p q now failures before d.tied (ap (λ s. s.opening.config.tolerable) d.state_is) tolerable;
+      none_ended = d.none_ended;
+    }
+
+pub aborted_checkpoint_answers : (p q : Parts) (now id : ℕ) (subtask : SubtaskId) (r : Record) (failures : FailureCount) (n : ℕ) → AreTied p → IsAccepted p (call.Decline now id subtask) →
+    pending_of (records_in p) id ≡ Some r → r.id ≡ id → is_checkpoint r ≡ true → failures ≡ record p.failures { number = p.failures.number + 1 } → failures.number ≤ failures.tolerable →
+    Drops p q (λ s. eqb s.id id) n →
+    Answers p (declined q now failures) (call.Decline now id subtask) (reply.DeclineAborted n)
+unfolding state_of
+aborted_checkpoint_answers p q now id subtask r failures n before accepted there its checkpoint count few d =
+    let m : State = record (state_of p) { latest = max now p.clock.latest } in
+    let not_over : m.failures + 1 ≤ m.opening.config.tolerable = omega (arith, before.tolerable, few, ap (λ f. f.number) count, ap (λ f. f.tolerable) count) in
+    aborted_answers p q now id subtask r failures n before accepted there its (ap (λ f. f.tolerable) count)
+    (ap (declined_by m r) checkpoint ∙ aborted_checkpoint m r not_over ∙ ap (λ k. dropping (record m { failures = k }) (λ s. eqb s.id r.id) reply.DeclineAborted) (sym (ap (λ f. f.number) count))) d
+
+pub aborted_savepoint_answers : (p q : Parts) (now id : ℕ) (subtask : SubtaskId) (r : Record) (n : ℕ) → AreTied p → IsAccepted p (call.Decline now id subtask) →
+    pending_of (records_in p) id ≡ Some r → r.id ≡ id → is_checkpoint r ≡ false →
+    Drops p q (λ s. eqb s.id id) n →
+    Answers p (declined q now p.failures) (call.Decline now id subtask) (reply.DeclineAborted n)
+unfolding state_of
+aborted_savepoint_answers p q now id subtask r n before accepted there its savepoint d =
+    let m : State = record (state_of p) { latest = max now p.clock.latest } in
+    aborted_answers p q now id subtask r p.failures n before accepted there its refl (ap (declined_by m r) savepoint ∙ aborted_savepoint m r) d
+
+pub declined_as : (p x q : Parts) (now : ℕ) (clock : Moments) (failures f : FailureCount) (call : Call) (r s : Reply) → x ≡ q → clock ≡ record x.clock { latest = max now x.clock.latest } → failures ≡ f → r ≡ s →
+    Answers p (declined q now f) call s → Answers p (record x { clock = clock; failures = failures }) call r
+declined_as p x q now clock failures f call r s is ticks counts says answers =
+    let same : record x { clock = clock; failures = failures } ≡ declined q now f =
+    ap (λ k. record x { clock = k; failures = failures }) ticks ∙ ap (declined x now) counts ∙ ap (λ y. declined y now f) is in
+    let P : Parts → Type 0 = λ y. Answers p y call s in
+    let Q : Reply → Type 0 = λ t. Answers p (record x { clock = clock; failures = failures }) call t in
+    subst Q (sym says) (subst P (sym same) answers)
+
+-- tests
+
+pub kind_test : (k : Kind) → sameb the_type k kind.Checkpoint ≡ elim k [ kind.Checkpoint ↦ true | kind.Savepoint ↦ false ]
+kind_test kind.Checkpoint = refl
+kind_test kind.Savepoint = refl
+
+pub not_many : (b : Bool) (t n : ℕ) → IsTrue b ↔ (t < n) → b ≡ false → n ≤ t
+not_many b t n says e =
+    ⊎_elim (λ (h : ltb t n ≡ true). absurd (both_ways b e (says.1 (ltb-true t n h)))) (λ (h : ltb t n ≡ false). ltb-false t n h) (cases_Bool (ltb t n))
+
+-- the choice
+
+pub same_choice : (last base : Option ℕ) → choice_from last base ≡ storing.choice_from last base
+same_choice (Some id) base = refl
+same_choice None (Some id) = refl
+same_choice None None = refl
+
+pub choice_is : (p : Parts) → IsInOrder id_before (records_in p) → AreGroups p.pending p.store.checkpoints p.store.savepoints → IsStored p.store → storing.choice_of p.store ≡ choice_of (state_of p)
+unfolding state_of choice_of
+choice_is p order groups stored =
+    let last : last_checkpoint (records_in p) ≡ storing.greatest p.store.checkpoints =
+    last_checkpoint-groups p.registry p.pending p.store.checkpoints p.store.savepoints (apart-from_in_order (grouped p.registry p.pending p.store.checkpoints p.store.savepoints) order) groups stored.checkpoints_rise
+    ∙ last_id-greatest p.store.checkpoints in
+    sym (ap (λ o. choice_from o p.store.base) last ∙ same_choice (storing.greatest p.store.checkpoints) p.store.base)
+
+-- rolling back
+
+with_base_records : (m : State) (t : Target) → (with_base m t).records ≡ m.records
+with_base_records m target.Latest = refl
+with_base_records m (target.Savepoint id) = refl
+
+pub rolled_back_in_order : (p q : Parts) (t : Target) → IsSound (state_of p) → state_of q ≡ with_base (drop (state_of p) (rolled_back t) None) t → IsInOrder id_before (records_in q)
+unfolding state_of drop
+rolled_back_in_order p q t sound is =
+    let same : records_in q ≡ kept (rolled_back t) None (records_in p) = ap (λ s. s.records) is ∙ with_base_records (drop (state_of p) (rolled_back t) None) t in
+    let P : List Record → Type 0 = IsInOrder id_before in
+    subst P (sym same) (in_order-changed (unpinned None) (λ r. not (rolled_back t r)) (records_in p) (λ r. refl) sound.in_order)
+
+-- a state with a base that is there
+pub based_is_sound : (m : State) (id : ℕ) → IsSound m → is_done_savepoint m id ≡ true → IsSound (record m { base = Some id })
+based_is_sound m id s there = record {
+  config = s.config;
+  shape = s.shape;
+  latest = s.latest;
+  first = s.first;
+  next_from = s.next_from;
+  next_to = s.next_to;
+  in_order = s.in_order;
+  from_first = s.from_first;
+  below_next = s.below_next;
+  each = s.each;
+  started = s.started;
+  retained = s.retained;
+  at_once = s.at_once;
+  savepoints_to = s.savepoints_to;
+  newer = s.newer;
+  base = λ b e. let same : id ≡ b = cc in let P : ℕ → Type 0 = λ i. is_done_savepoint m i ≡ true in subst P same there;
+  idle = s.idle;
+  failures = s.failures;
+  unused = s.unused;
+  apart = s.apart;
+}
+
+-- the parts after a restart
+abbrev pub begun : Parts → ℕ → Parts
+begun q now = record q {
+  clock = record { latest = max now q.clock.latest; due = max now q.clock.latest + gap q.opened.config; completed = None };
+  failures = record q.failures { number = 0 };
+  mode = Running;
+}
+
+-- the state after a restart
+begun_state : State → ℕ → State
+begun_state s now = record s { mode = Running; failures = 0; latest = max now s.latest; due = max now s.latest + gap s.opening.config; completed = None }
+
+restore_is : (m : State) (now : ℕ) (t : Target) →
+    restore (record m { latest = max now m.latest }) t None
+    ≡ (begun_state (with_base (drop m (rolled_back t) None) t) now, Done (reply.Restored (choice_of (begun_state (with_base (drop m (rolled_back t) None) t) now)) (length (released_by m (rolled_back t) None))))
+unfolding restore restarted drop begun_state
+restore_is m now target.Latest = refl
+restore_is m now (target.Savepoint id) = refl
+
+pub begun_answers : (p q : Parts) (now : ℕ) (t : Target) (from : Choice) (n : ℕ) → IsAccepted p (call.Restore now t None) →
+    state_of q ≡ with_base (drop (state_of p) (rolled_back t) None) t → n ≡ length (released_by (state_of p) (rolled_back t) None) → AreTied q → q.ended.items ≡ [] →
+    from ≡ choice_of (state_of (begun q now)) → Answers p (begun q now) (call.Restore now t None) (reply.Restored from n)
+unfolding state_of effect begun_state
+begun_answers p q now t from n accepted is released tied none chosen =
+    let m : State = state_of p in
+    let after : State = begun_state (with_base (drop m (rolled_back t) None) t) now in
+    let e : state_of (begun q now) ≡ after = ap (λ s. begun_state s now) is in
+    record {
+      step_is = step_accepted m (call.Restore now t None) accepted
+          ∙ restore_is m now t
+          ∙ ap (λ c. (let x : Stepped = (after, Done (reply.Restored c (length (released_by m (rolled_back t) None)))) in x)) (ap choice_of (sym e) ∙ sym chosen)
+          ∙ answered (reply.Restored from) after (state_of (begun q now)) (length (released_by m (rolled_back t) None)) n e released;
+      tied = record { uses_are = tied.uses_are; retained = tied.retained; tolerable = tied.tolerable; spare = tied.spare; room = tied.room };
+      none_ended = none;
+    }
+
+-- in another shape
+
+pub same_refusal : (m : State) (now : ℕ) (t : Target) (shape : List ℕ) → refusal m (call.Restore now t (Some shape)) ≡ None → refusal m (call.Restore now t None) ≡ None
+unfolding refusal
+same_refusal m now target.Latest shape h = h
+same_refusal m now (target.Savepoint id) shape h = h
+
+reshaped : (m : State) (t : Target) (shape : List ℕ) → restore m t (Some shape) ≡ (record (restore m t None).0 { shape = shape }, (restore m t None).1)
+unfolding restore restarted drop choice_of
+reshaped m target.Latest shape = refl
+reshaped m (target.Savepoint id) shape = refl
+
+pub reshaped_answers : (p q : Parts) (now : ℕ) (t : Target) (shape : List ℕ) (r : Reply) → IsAccepted p (call.Restore now t (Some shape)) → Answers p q (call.Restore now t None) r →
+    Answers p (record q { reshaped = Some shape }) (call.Restore now t (Some shape)) r
+unfolding state_of effect
+reshaped_answers p q now t shape r accepted a =
+    let m : State = state_of p in
+    let n : State = record m { latest = max now m.latest } in
+    let e : restore n t None ≡ (state_of q, Done r) = sym (step_accepted m (call.Restore now t None) (same_refusal m now t shape accepted)) ∙ a.step_is in
+    record {
+      step_is = step_accepted m (call.Restore now t (Some shape)) accepted ∙ reshaped n t shape ∙ ap (λ (x : Stepped). (let y : Stepped = (record x.0 { shape = shape }, x.1) in y)) e;
+      tied = record { uses_are = a.tied.uses_are; retained = a.tied.retained; tolerable = a.tied.tolerable; spare = a.tied.spare; room = a.tied.room };
+      none_ended = a.none_ended;
+    }
+
+-- cancelling
+
+cancel_is : (m : State) (now : ℕ) →
+    cancel (record m { latest = max now m.latest })
+    ≡ (record (drop m (cancelled m) None) { latest = max now m.latest; base = None; mode = Cancelled }, Done (reply.Cancelled (dropped_by m (cancelled m)) (length (released_by m (cancelled m) None))))
+unfolding cancel drop
+cancel_is m now = refl
+
+abbrev pub ceased : Parts → ℕ → Parts
+ceased q now = record q { clock = record q.clock { latest = max now q.clock.latest }; store = record q.store { base = None }; mode = Cancelled }
+
+pub ceased_answers : (p q : Parts) (now k n : ℕ) → IsAccepted p (call.Cancel now) → Drops p q (cancelled (state_of p)) n → k ≡ dropped_by (state_of p) (cancelled (state_of p)) →
+    Answers p (ceased q now) (call.Cancel now) (reply.Cancelled k n)
+unfolding state_of effect drop
+ceased_answers p q now k n accepted d count =
+    let m : State = state_of p in
+    let F : State → State = λ s. record s { latest = max now s.latest; base = None; mode = Cancelled } in
+    let after : State = F (drop m (cancelled m) None) in
+    record {
+      step_is = step_accepted m (call.Cancel now) accepted
+          ∙ cancel_is m now
+          ∙ ap (λ c. (let x : Stepped = (after, Done (reply.Cancelled c (length (released_by m (cancelled m) None)))) in x)) (sym count)
+          ∙ answered (reply.Cancelled k) after (state_of (ceased q now)) (length (released_by m (cancelled m) None)) n (ap F d.state_is) d.count_is;
+      tied = record { uses_are = d.tied.uses_are; retained = d.tied.retained; tolerable = d.tied.tolerable; spare = d.tied.spare; room = d.tied.room };
+      none_ended = d.none_ended;
+    }
+
+-- the parts with a base that is there
+pub based_sound : (p : Parts) (id : ℕ) (store : Stored) → AreSound p → is_done_savepoint (state_of p) id ≡ true → store ≡ record p.store { base = Some id } → AreSound (record p { store = store })
+unfolding state_of
+based_sound p id store sound there is =
+    let t = sound.tied in
+    let P : Stored → Type 0 = λ s. AreSound (record p { store = s }) in
+    subst P (sym is) (record {
+      tied = record { uses_are = t.uses_are; retained = t.retained; tolerable = t.tolerable; spare = t.spare; room = t.room };
+      sound = based_is_sound (state_of p) id sound.sound there;
+      none_ended = sound.none_ended;
+    })
+
+pub based_state : (p q : Parts) (id : ℕ) (store : Stored) (gone : Record → Bool) → store ≡ record p.store { base = Some id } → state_of q ≡ drop (state_of (record p { store = store })) gone None → state_of q ≡ record (drop (state_of p) gone None) { base = Some id }
+unfolding state_of drop
+based_state p q id store gone based is = is ∙ ap (λ s. drop (state_of (record p { store = s })) gone None) based
+
+pub based_count : (p : Parts) (id n : ℕ) (store : Stored) (gone : Record → Bool) → store ≡ record p.store { base = Some id } → n ≡ length (released_by (state_of (record p { store = store })) gone None) → n ≡ length (released_by (state_of p) gone None)
+unfolding state_of
+based_count p id n store gone based is = is ∙ ap (λ s. length (released_by (state_of (record p { store = s })) gone None)) based
+
+pub restarted_clock : (now moment : ℕ) (q : Parts) (seen clock : Moments) → moment ≡ max now q.clock.latest → seen ≡ record q.clock { latest = max now q.clock.latest } →
+    clock ≡ record { latest = seen.latest; due = moment + gap q.opened.config; completed = None } → clock ≡ record { latest = max now q.clock.latest; due = max now q.clock.latest + gap q.opened.config; completed = None }
+restarted_clock now moment q seen clock at sees restarts =
+    restarts
+    ∙ ap (λ (s : Moments). (let x : Moments = record { latest = s.latest; due = moment + gap q.opened.config; completed = None } in x)) sees
+    ∙ ap (λ k. (let x : Moments = record { latest = max now q.clock.latest; due = k + gap q.opened.config; completed = None } in x)) at
+
+pub restored_answers : (p q : Parts) (now : ℕ) (t : Target) (clock : Moments) (failures : FailureCount) (from : Choice) (n : ℕ) → IsAccepted p (call.Restore now t None) →
+    state_of q ≡ with_base (drop (state_of p) (rolled_back t) None) t → n ≡ length (released_by (state_of p) (rolled_back t) None) → AreTied q → q.ended.items ≡ [] →
+    clock ≡ record { latest = max now q.clock.latest; due = max now q.clock.latest + gap q.opened.config; completed = None } → failures ≡ record q.failures { number = 0 } →
+    from ≡ choice_of (state_of (record q { clock = clock; failures = failures; mode = Running })) →
+    Answers p (record q { clock = clock; failures = failures; mode = Running }) (call.Restore now t None) (reply.Restored from n)
+restored_answers p q now t clock failures from n accepted is released tied none ticks counts chosen =
+    let same : record q { clock = clock; failures = failures; mode = Running } ≡ begun q now =
+    ap (λ k. record q { clock = k; failures = failures; mode = Running }) ticks ∙ ap (λ f. record (begun q now) { failures = f }) counts in
+    let P : Parts → Type 0 = λ x. Answers p x (call.Restore now t None) (reply.Restored from n) in
+    subst P (sym same) (begun_answers p q now t from n accepted is released tied none (chosen ∙ ap (λ x. choice_of (state_of x)) same))
+
+pub cancelled_answers : (p q : Parts) (now k n : ℕ) (clock : Moments) (store : Stored) → IsAccepted p (call.Cancel now) → Drops p q (cancelled (state_of p)) n → k ≡ dropped_by (state_of p) (cancelled (state_of p)) →
+    clock ≡ record q.clock { latest = max now q.clock.latest } → store ≡ record q.store { base = None } →
+    Answers p (record q { clock = clock; store = store; mode = Cancelled }) (call.Cancel now) (reply.Cancelled k n)
+cancelled_answers p q now k n clock store accepted d count ticks freed =
+    let same : record q { clock = clock; store = store; mode = Cancelled } ≡ ceased q now =
+    ap (λ c. record q { clock = c; store = store; mode = Cancelled }) ticks ∙ ap (λ s. record (ceased q now) { store = s }) freed in
+    let P : Parts → Type 0 = λ x. Answers p x (call.Cancel now) (reply.Cancelled k n) in
+    subst P (sym same) (ceased_answers p q now k n accepted d count)

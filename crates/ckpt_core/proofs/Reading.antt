@@ -1,0 +1,4 @@
+-- What is read without a call: when a tick may trigger, when a record expires, the live records by place.
+pub mod Due
+pub mod Expiry
+pub mod Live

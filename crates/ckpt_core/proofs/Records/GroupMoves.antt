@@ -1,0 +1,122 @@
+-- What a change of the parts does to the records in rising number, and to their uses.
+use Rattle.std.proofs.Common.{◌≡◌, ℕ, ◌<◌, Bool, true, false, ◌&&◌, cond, eqb, List, [], ◌∷◌, ◌++◌, map, refl, sym, ap, subst, ◌∙◌, inl, inr, ⊎_elim, arith}
+use Rattle.std.specs.List.{filter, flat_map}
+use Rattle.std.proofs.lemmas.List.{append-nil, map-append}
+use Rattle.std.proofs.lemmas.List.Elements.{filter-append}
+use Rattle.std.proofs.lemmas.List.Concat.{flat_map-append}
+use Rattle.std.proofs.lemmas.Bool.{cases_Bool, both_ways, eqb-true, eq-eqb, ne_eqb, and_parts, and_from, and_left}
+use Rattle.ckpt_ids.specs.Ascending.{IsAscendingSet}
+use Rattle.ckpt_ids.specs.Ordered.{IsIn, IsInOrder, in_order, in_order_once}
+use Rattle.ckpt_ids.specs.Records.{Record, Use, Subtask, Pin, use_before, uses, uses_of}
+use Rattle.ckpt_ids.proofs.OrderedLemmas.{IsIn-append_left, IsIn-map, IsIn-from_filter, IsInOrder-append, filter-all, filter-same}
+use Rattle.ckpt_core.specs.Soundness.{id_before}
+use Rattle.ckpt_core.specs.Inside.Grouped.{is_pin, pins, pins_of, with_pins, grouped, records_of}
+use Rattle.ckpt_core.proofs.Records.Counts.{map_same}
+use Rattle.ckpt_core.proofs.Records.Grouped.{AreApart, in_order-filter, in_order-newest}
+use Rattle.ckpt_core.proofs.Using.Order.{holds, from_holds, holds_in_order, in_order_once-itself, earlier_record}
+
+-- lists
+
+-- a test that implies another keeps as much of what the other kept
+pub filter_implied : {X : Type 0} (p q : X → Bool) (xs : List X) → ((x : X) → IsIn x xs → p x ≡ true → q x ≡ true) → filter p (filter q xs) ≡ filter p xs
+filter_implied p q [] implies = refl
+filter_implied {X} p q (x ∷ xs) implies =
+    let rest : filter p (filter q xs) ≡ filter p xs = filter_implied p q xs (λ y h. implies y (inr h)) in
+    let P : Bool → Type 0 = λ b. filter p (cond b (x ∷ filter q xs) (filter q xs)) ≡ cond (p x) (x ∷ filter p xs) (filter p xs) in
+    let here : q x ≡ true → P (q x) = λ (e : q x ≡ true). subst P (sym e) (ap (λ ys. cond (p x) (x ∷ ys) ys) rest) in
+    let gone : q x ≡ false → P (q x) = λ (e : q x ≡ false).
+    let fails : p x ≡ false = ⊎_elim (λ (t : p x ≡ true). absurd (both_ways (q x) e (implies x (inl refl) t))) (λ (t : p x ≡ false). t) (cases_Bool (p x)) in
+    subst P (sym e) (rest ∙ ap (λ b. cond b (x ∷ filter p xs) (filter p xs)) (sym fails)) in
+    ⊎_elim here gone (cases_Bool (q x))
+
+pub filter_none : {X : Type 0} (p : X → Bool) (xs : List X) → ((x : X) → IsIn x xs → p x ≡ false) → filter p xs ≡ []
+filter_none p [] fails = refl
+filter_none p (x ∷ xs) fails = ap (λ b. cond b (x ∷ filter p xs) (filter p xs)) (fails x (inl refl)) ∙ filter_none p xs (λ y h. fails y (inr h))
+
+pub filter-filter : {X : Type 0} (p q : X → Bool) (xs : List X) → filter p (filter q xs) ≡ filter (λ x. q x && p x) xs
+filter-filter p q [] = refl
+filter-filter {X} p q (x ∷ xs) =
+    let rest : filter p (filter q xs) ≡ filter (λ y. q y && p y) xs = filter-filter p q xs in
+    let P : Bool → Type 0 = λ b. filter p (cond b (x ∷ filter q xs) (filter q xs)) ≡ cond (b && p x) (x ∷ filter (λ y. q y && p y) xs) (filter (λ y. q y && p y) xs) in
+    ⊎_elim (λ (e : q x ≡ true). subst P (sym e) (ap (λ ys. cond (p x) (x ∷ ys) ys) rest)) (λ (e : q x ≡ false). subst P (sym e) rest) (cases_Bool (q x))
+
+pub filter-map : {X Y : Type 0} (p : Y → Bool) (f : X → Y) (xs : List X) → filter p (map f xs) ≡ map f (filter (λ x. p (f x)) xs)
+filter-map p f [] = refl
+filter-map {X} {Y} p f (x ∷ xs) =
+    let rest : filter p (map f xs) ≡ map f (filter (λ y. p (f y)) xs) = filter-map p f xs in
+    let P : Bool → Type 0 = λ b. cond b (f x ∷ filter p (map f xs)) (filter p (map f xs)) ≡ map f (cond b (x ∷ filter (λ y. p (f y)) xs) (filter (λ y. p (f y)) xs)) in
+    ⊎_elim (λ (e : p (f x) ≡ true). subst P (sym e) (ap (λ ys. f x ∷ ys) rest)) (λ (e : p (f x) ≡ false). subst P (sym e) rest) (cases_Bool (p (f x)))
+
+pub map-map : {X Y Z : Type 0} (f : Y → Z) (g : X → Y) (xs : List X) → map f (map g xs) ≡ map (λ x. f (g x)) xs
+map-map f g [] = refl
+map-map f g (x ∷ xs) = ap (λ ys. f (g x) ∷ ys) (map-map f g xs)
+
+-- pins
+
+pub pins_kept : (keep : Use → Bool) (us : List Use) (id : ℕ) → ((u : Use) → IsIn u us → pins id u ≡ true → keep u ≡ true) → pins_of (filter keep us) id ≡ pins_of us id
+pins_kept keep us id kept = ap (λ ws. map (λ u. u.file) ws) (filter_implied (pins id) keep us kept)
+
+pub with_pins_kept : (keep : Use → Bool) (us : List Use) (r : Record) → ((u : Use) → IsIn u us → pins r.id u ≡ true → keep u ≡ true) → with_pins (filter keep us) r ≡ with_pins us r
+with_pins_kept keep us r kept = ap (λ fs. record r { pins = fs }) (pins_kept keep us r.id kept)
+
+-- a drop, by number
+
+pub drop_groups : (keep : ℕ → Bool) (us : List Use) (pending checkpoints savepoints : List Record) → AreApart (grouped us pending checkpoints savepoints) →
+    records_of (filter (λ u. keep u.id) us) (filter (λ r. keep r.id) pending) (filter (λ r. keep r.id) checkpoints) (filter (λ r. keep r.id) savepoints) ≡ filter (λ r. keep r.id) (records_of us pending checkpoints savepoints)
+drop_groups keep us pending checkpoints savepoints apart =
+    let keeps : Record → Bool = λ r. keep r.id in
+    let us' : List Use = filter (λ u. keep u.id) us in
+    let each : (r : Record) → IsIn r (filter keeps pending) → with_pins us' r ≡ with_pins us r = λ r h.
+    with_pins_kept (λ u. keep u.id) us r (λ u k p. ap keep (eqb-true u.id r.id (and_parts (eqb u.id r.id) (is_pin u.holder) p).0) ∙ (IsIn-from_filter keeps r pending h).1) in
+    let first : map (with_pins us') (filter keeps pending) ≡ filter keeps (map (with_pins us) pending) = map_same (with_pins us') (with_pins us) (filter keeps pending) each ∙ sym (filter-map keeps (with_pins us) pending) in
+    let whole : grouped us' (filter keeps pending) (filter keeps checkpoints) (filter keeps savepoints) ≡ filter keeps (grouped us pending checkpoints savepoints) =
+    ap (λ a. a ++ (filter keeps checkpoints ++ filter keeps savepoints)) first
+    ∙ ap (λ b. filter keeps (map (with_pins us) pending) ++ b) (sym (filter-append keeps checkpoints savepoints))
+    ∙ sym (filter-append keeps (map (with_pins us) pending) (checkpoints ++ savepoints)) in
+    ap (in_order id_before) whole ∙ in_order-filter keeps (grouped us pending checkpoints savepoints) apart
+
+-- a trigger: the newest record, with its pins
+
+pub pins_of-append : (us vs : List Use) (id : ℕ) → pins_of (us ++ vs) id ≡ pins_of us id ++ pins_of vs id
+pins_of-append us vs id =
+    ap (λ ws. map (λ u. u.file) ws) (filter-append (pins id) us vs) ∙ map-append (λ (u : Use). u.file) (filter (pins id) us) (filter (pins id) vs)
+
+pub pins_of-none : (us : List Use) (id : ℕ) → ((u : Use) → IsIn u us → pins id u ≡ false) → pins_of us id ≡ []
+pins_of-none us id fails = ap (λ ws. map (λ u. u.file) ws) (filter_none (pins id) us fails)
+
+pub pins_of-holds : (id : ℕ) (files : List ℕ) → pins_of (holds id Pin files) id ≡ files
+pins_of-holds id [] = refl
+pins_of-holds id (f ∷ files) =
+    let rest : List Use = filter (pins id) (holds id Pin files) in
+    let e : (eqb id id && true) ≡ true = and_from (eqb id id) true (eq-eqb id id refl) refl in
+    ap (λ b. map (λ u. u.file) (cond b (record { id = id; holder = Pin; file = f } ∷ rest) rest)) e ∙ ap (λ fs. f ∷ fs) (pins_of-holds id files)
+
+pub trigger_uses : (us : List Use) (id : ℕ) (files : List ℕ) → IsInOrder use_before us → ((u : Use) → IsIn u us → u.id < id) → IsAscendingSet files → in_order_once use_before (us ++ holds id Pin files) ≡ us ++ holds id Pin files
+trigger_uses us id files order older set =
+    in_order_once-itself (us ++ holds id Pin files)
+    (IsInOrder-append use_before us (holds id Pin files) order (holds_in_order id Pin files set)
+    (λ u v h k. earlier_record u v (let e : v.id ≡ id = (from_holds id Pin files v k).0 in let lt : u.id < id = older u h in omega arith)))
+
+pub trigger_groups : (us : List Use) (pending checkpoints savepoints : List Record) (x : Record) (files : List ℕ) → ((u : Use) → IsIn u us → u.id < x.id) → ((r : Record) → IsIn r (grouped us pending checkpoints savepoints) → r.id < x.id) →
+    records_of (us ++ holds x.id Pin files) (pending ++ x ∷ []) checkpoints savepoints ≡ records_of us pending checkpoints savepoints ++ record x { pins = files } ∷ []
+trigger_groups us pending checkpoints savepoints x files older newest =
+    let us' : List Use = us ++ holds x.id Pin files in
+    let x' : Record = record x { pins = files } in
+    let not_x : (u : Use) → IsIn u us → pins x.id u ≡ false = λ u h. and_left (eqb u.id x.id) (is_pin u.holder) (ne_eqb u.id x.id (λ e. let lt : u.id < x.id = older u h in omega arith)) in
+    let own : pins_of us' x.id ≡ files = pins_of-append us (holds x.id Pin files) x.id ∙ ap (λ fs. fs ++ pins_of (holds x.id Pin files) x.id) (pins_of-none us x.id not_x) ∙ pins_of-holds x.id files in
+    let each : (r : Record) → IsIn r pending → with_pins us' r ≡ with_pins us r = λ r h.
+    let lt : r.id < x.id = newest (with_pins us r) (IsIn-append_left (with_pins us r) (map (with_pins us) pending) (checkpoints ++ savepoints) (IsIn-map (with_pins us) r pending h)) in
+    let not_r : (u : Use) → IsIn u (holds x.id Pin files) → pins r.id u ≡ false = λ u k. and_left (eqb u.id r.id) (is_pin u.holder) (ne_eqb u.id r.id (λ e. let i : u.id ≡ x.id = (from_holds x.id Pin files u k).0 in omega arith)) in
+    let same : pins_of us' r.id ≡ pins_of us r.id = pins_of-append us (holds x.id Pin files) r.id ∙ ap (λ fs. pins_of us r.id ++ fs) (pins_of-none (holds x.id Pin files) r.id not_r) ∙ append-nil (pins_of us r.id) in
+    ap (λ fs. record r { pins = fs }) same in
+    let first : map (with_pins us') (pending ++ x ∷ []) ≡ map (with_pins us) pending ++ x' ∷ [] =
+    map-append (with_pins us') pending (x ∷ [])
+    ∙ ap (λ a. a ++ with_pins us' x ∷ []) (map_same (with_pins us') (with_pins us) pending each)
+    ∙ ap (λ fs. map (with_pins us) pending ++ record x { pins = fs } ∷ []) own in
+    ap (λ a. in_order id_before (a ++ (checkpoints ++ savepoints))) first
+    ∙ in_order-newest x' (map (with_pins us) pending) (checkpoints ++ savepoints) newest
+
+pub uses_of-triggered : (rs : List Record) (x : Record) → x.acks ≡ [] → uses (rs ++ x ∷ []) ≡ uses rs ++ holds x.id Pin x.pins
+uses_of-triggered rs x none =
+    flat_map-append uses_of rs (x ∷ [])
+    ∙ ap (λ ws. uses rs ++ ws) (append-nil (uses_of x) ∙ ap (λ acks. flat_map (λ a. holds x.id (Subtask a.subtask) a.files) acks ++ holds x.id Pin x.pins) none)

@@ -1,0 +1,121 @@
+-- What is found in the records in rising number is found in the groups.
+use Rattle.std.proofs.Common.{◌≡◌, ℕ, suc, ◌+◌, Bool, true, false, ◌&&◌, cond, eqb, List, [], ◌∷◌, ◌++◌, map, length, refl, sym, ap, subst, ◌∙◌, inl, inr, ⊎_elim, arith, Some, None}
+use Rattle.std.specs.Prelude.{count_by, find}
+use Rattle.std.specs.Option.{option_map}
+use Rattle.std.proofs.lemmas.Bool.{cases_Bool, both_ways, eqb-true, and_parts, and_left, not_from_false, not_from_true}
+use Rattle.std.proofs.lemmas.List.{length-append, length-map}
+use Rattle.ckpt_ids.specs.declared.numbers.Kind.TheVariants as kind
+use Rattle.ckpt_ids.specs.Ordered.{IsIn, put, in_order}
+use Rattle.ckpt_ids.specs.Records.{Record, Use}
+use Rattle.ckpt_ids.proofs.OrderedLemmas.{IsIn-append_cases, IsIn-in_order, IsIn-from_in_order}
+use Rattle.ckpt_core.specs.Soundness.{id_before}
+use Rattle.ckpt_core.specs.State.{is_pending}
+use Rattle.ckpt_core.specs.Refusals.{pending_of}
+use Rattle.ckpt_core.specs.Inside.Grouped.{with_pins, grouped, records_of}
+use Rattle.ckpt_ids.proofs.CountLemmas.{count_by-cons, count_by-append, count_by-map, count_by-in_order}
+use Rattle.ckpt_core.proofs.Records.Counts.{IsIn-from_find, fails-from_find, find-none}
+use Rattle.ckpt_core.proofs.Records.Grouped.{AreApart}
+
+-- counts
+
+length-put : (x : Record) (xs : List Record) → length (put id_before x xs) ≡ suc (length xs)
+length-put x [] = refl
+length-put x (y ∷ xs) =
+    let P : Bool → Type 0 = λ b. length (cond b (y ∷ put id_before x xs) (x ∷ y ∷ xs)) ≡ suc (suc (length xs)) in
+    ⊎_elim (λ (e : id_before y x ≡ true). subst P (sym e) (ap suc (length-put x xs))) (λ (e : id_before y x ≡ false). subst P (sym e) refl) (cases_Bool (id_before y x))
+
+pub length-in_order : (xs : List Record) → length (in_order id_before xs) ≡ length xs
+length-in_order [] = refl
+length-in_order (x ∷ xs) = length-put x (in_order id_before xs) ∙ ap suc (length-in_order xs)
+
+pub length-records_of : (us : List Use) (pending checkpoints savepoints : List Record) → length (records_of us pending checkpoints savepoints) ≡ length pending + (length checkpoints + length savepoints)
+length-records_of us pending checkpoints savepoints =
+    length-in_order (grouped us pending checkpoints savepoints)
+    ∙ length-append (map (with_pins us) pending) (checkpoints ++ savepoints)
+    ∙ ap (λ n. n + length (checkpoints ++ savepoints)) (length-map pending (with_pins us))
+    ∙ ap (λ n. length pending + n) (length-append checkpoints savepoints)
+
+pub count_same : {X : Type 0} (p q : X → Bool) (xs : List X) → ((x : X) → IsIn x xs → p x ≡ q x) → count_by p xs ≡ count_by q xs
+count_same p q [] agree = refl
+count_same p q (x ∷ xs) agree = count_by-cons p x xs ∙ ap (λ b. cond b 1 0 + count_by p xs) (agree x (inl refl)) ∙ ap (λ n. cond (q x) 1 0 + n) (count_same p q xs (λ y h. agree y (inr h))) ∙ sym (count_by-cons q x xs)
+
+pub count_by-records_of : (p : Record → Bool) (us : List Use) (pending checkpoints savepoints : List Record) → ((r : Record) → p (with_pins us r) ≡ p r) → count_by p (records_of us pending checkpoints savepoints) ≡ count_by p pending + (count_by p checkpoints + count_by p savepoints)
+count_by-records_of p us pending checkpoints savepoints same =
+    count_by-in_order p id_before (grouped us pending checkpoints savepoints)
+    ∙ count_by-append p (map (with_pins us) pending) (checkpoints ++ savepoints)
+    ∙ ap (λ n. n + count_by p (checkpoints ++ savepoints)) (count_by-map p (with_pins us) pending ∙ count_same (λ r. p (with_pins us r)) p pending (λ r h. same r))
+    ∙ ap (λ n. count_by p pending + n) (count_by-append p checkpoints savepoints)
+
+pub count_all : {X : Type 0} (p : X → Bool) (xs : List X) → ((x : X) → IsIn x xs → p x ≡ true) → count_by p xs ≡ length xs
+count_all p [] passes = refl
+count_all p (x ∷ xs) passes = count_by-cons p x xs ∙ ap (λ b. cond b 1 0 + count_by p xs) (passes x (inl refl)) ∙ ap (λ n. 1 + n) (count_all p xs (λ y h. passes y (inr h))) ∙ omega arith
+
+-- the one that passes a test
+
+pub find-one : (p : Record → Bool) (x : Record) (xs : List Record) → IsIn x xs → p x ≡ true → ((y : Record) → IsIn y xs → p y ≡ true → y ≡ x) → find p xs ≡ Some x
+find-one p x xs h t one =
+    let none : find p xs ≡ None → find p xs ≡ Some x = λ (e : find p xs ≡ None). absurd (both_ways (p x) (fails-from_find p x xs e h) t) in
+    let some : (y : Record) → find p xs ≡ Some y → find p xs ≡ Some x = λ y e. let k = IsIn-from_find p y xs e in e ∙ ap (λ w. Some w) (one y k.0 k.1) in
+    elim (find p xs) as (λ o. (find p xs ≡ o → find p xs ≡ Some x)) [ None ↦ none | Some y ↦ some y ] refl
+
+pub find_same : (p : Record → Bool) (xs ys : List Record) → ((z : Record) → IsIn z xs → IsIn z ys) → ((z : Record) → IsIn z ys → IsIn z xs) → ((y z : Record) → IsIn y xs → IsIn z xs → p y ≡ true → p z ≡ true → y ≡ z) → find p xs ≡ find p ys
+find_same p xs ys forth back one =
+    let none : find p ys ≡ None → find p xs ≡ find p ys = λ (e : find p ys ≡ None). find-none p xs (λ z h. fails-from_find p z ys e (forth z h)) ∙ sym e in
+    let some : (y : Record) → find p ys ≡ Some y → find p xs ≡ find p ys = λ y e.
+    let k = IsIn-from_find p y ys e in
+    find-one p y xs (back y k.0) k.1 (λ z h t. one z y h (back y k.0) t k.1) ∙ sym e in
+    elim (find p ys) as (λ o. (find p ys ≡ o → find p xs ≡ find p ys)) [ None ↦ none | Some y ↦ some y ] refl
+
+pub one_of_number : (xs : List Record) → AreApart xs → (y z : Record) → IsIn y xs → IsIn z xs → y.id ≡ z.id → y ≡ z
+one_of_number [] a y z h k e = absurd h
+one_of_number (x ∷ xs) a y z (inl b) (inl c) e = b ∙ sym c
+one_of_number (x ∷ xs) a y z (inl b) (inr k) e = absurd (a.0 z k (ap (λ w. w.id) (sym b) ∙ e))
+one_of_number (x ∷ xs) a y z (inr h) (inl c) e = absurd (a.0 y h (ap (λ w. w.id) (sym c) ∙ sym e))
+one_of_number (x ∷ xs) a y z (inr h) (inr k) e = one_of_number xs a.1 y z h k e
+
+-- a test that only records of one number pass finds the same in the records in order and in the groups
+pub find-records_of : (p : Record → Bool) (id : ℕ) (us : List Use) (pending checkpoints savepoints : List Record) → AreApart (grouped us pending checkpoints savepoints) → ((r : Record) → p r ≡ true → r.id ≡ id) → find p (records_of us pending checkpoints savepoints) ≡ find p (grouped us pending checkpoints savepoints)
+find-records_of p id us pending checkpoints savepoints apart only =
+    let g : List Record = grouped us pending checkpoints savepoints in
+    find_same p (in_order id_before g) g (λ z h. IsIn-from_in_order id_before z g h) (λ z h. IsIn-in_order id_before z g h)
+    (λ y z h k a b. one_of_number g apart y z (IsIn-from_in_order id_before y g h) (IsIn-from_in_order id_before z g k) (only y a ∙ sym (only z b)))
+
+pub find-append_left : {X : Type 0} (p : X → Bool) (xs ys : List X) → ((y : X) → IsIn y ys → p y ≡ false) → find p (xs ++ ys) ≡ find p xs
+find-append_left p [] ys fails = find-none p ys fails
+find-append_left p (x ∷ xs) ys fails = ap (λ o. cond (p x) (Some x) o) (find-append_left p xs ys fails)
+
+pub find-append_right : {X : Type 0} (p : X → Bool) (xs ys : List X) → ((x : X) → IsIn x xs → p x ≡ false) → find p (xs ++ ys) ≡ find p ys
+find-append_right p [] ys fails = refl
+find-append_right p (x ∷ xs) ys fails = ap (λ b. cond b (Some x) (find p (xs ++ ys))) (fails x (inl refl)) ∙ find-append_right p xs ys (λ z h. fails z (inr h))
+
+pub find-map : {X Y : Type 0} (p : Y → Bool) (f : X → Y) (xs : List X) → find p (map f xs) ≡ option_map f (find (λ x. p (f x)) xs)
+find-map p f [] = refl
+find-map {X} {Y} p f (x ∷ xs) =
+    let P : Bool → Type 0 = λ b. cond b (Some (f x)) (find p (map f xs)) ≡ option_map f (cond b (Some x) (find (λ y. p (f y)) xs)) in
+    ⊎_elim (λ (e : p (f x) ≡ true). subst P (sym e) refl) (λ (e : p (f x) ≡ false). subst P (sym e) (find-map p f xs)) (cases_Bool (p (f x)))
+
+pub find_agree : {X : Type 0} (p q : X → Bool) (xs : List X) → ((x : X) → IsIn x xs → p x ≡ q x) → find p xs ≡ find q xs
+find_agree p q [] agree = refl
+find_agree p q (x ∷ xs) agree = ap (λ b. cond b (Some x) (find p xs)) (agree x (inl refl)) ∙ ap (λ o. cond (q x) (Some x) o) (find_agree p q xs (λ y h. agree y (inr h)))
+
+-- what the groups hold
+pub record AreGroups (pending checkpoints savepoints : List Record) : Type 0 where
+  pub not_done : (r : Record) → IsIn r pending → r.done ≡ false
+  pub checkpoints_done : (r : Record) → IsIn r checkpoints → (r.done ≡ true) × (r.kind ≡ kind.Checkpoint)
+  pub savepoints_done : (r : Record) → IsIn r savepoints → (r.done ≡ true) × (r.kind ≡ kind.Savepoint)
+
+abbrev pub has_number : ℕ → Record → Bool
+has_number id r = eqb r.id id
+
+pub done_in : {pending checkpoints savepoints : List Record} → AreGroups pending checkpoints savepoints → (r : Record) → IsIn r (checkpoints ++ savepoints) → r.done ≡ true
+done_in {pending} {checkpoints} {savepoints} groups r h = ⊎_elim (λ (k : IsIn r checkpoints). (groups.checkpoints_done r k).0) (λ (k : IsIn r savepoints). (groups.savepoints_done r k).0) (IsIn-append_cases r checkpoints savepoints h)
+
+-- the pending record of a number
+pub pending_of-groups : (id : ℕ) (us : List Use) (pending checkpoints savepoints : List Record) → AreApart (grouped us pending checkpoints savepoints) → AreGroups pending checkpoints savepoints →
+    pending_of (records_of us pending checkpoints savepoints) id ≡ option_map (with_pins us) (find (has_number id) pending)
+pending_of-groups id us pending checkpoints savepoints apart groups =
+    let p : Record → Bool = λ r. is_pending r && eqb r.id id in
+    find-records_of p id us pending checkpoints savepoints apart (λ r h. eqb-true r.id id (and_parts (is_pending r) (eqb r.id id) h).1)
+    ∙ find-append_left p (map (with_pins us) pending) (checkpoints ++ savepoints) (λ r h. and_left (is_pending r) (eqb r.id id) (not_from_true r.done (done_in groups r h)))
+    ∙ find-map p (with_pins us) pending
+    ∙ ap (option_map (with_pins us)) (find_agree (λ r. p (with_pins us r)) (has_number id) pending (λ r h. ap (λ b. b && eqb r.id id) (not_from_false r.done (groups.not_done r h))))

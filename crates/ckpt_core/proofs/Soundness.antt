@@ -1,0 +1,9 @@
+-- Each call keeps a coordinator sound, one file for each kind of call.
+pub mod Acks
+pub mod Calls
+pub mod Completions
+pub mod Drops
+pub mod Histories
+pub mod Opening
+pub mod Outbox
+pub mod Triggers

@@ -1,0 +1,323 @@
+-- What a tick does to the parts is what it does to the state.
+use Rattle.std.proofs.Common.{◌≡◌, ℕ, ◌+◌, ◌<◌, ◌≤◌, Bool, true, false, not, ◌&&◌, leb, List, [], ◌++◌, map, max, length, refl, sym, ap, ◌∙◌, ◌⊎◌, inl, inr, ⊎_elim, arith, None, Result, Ok, Err, OnErr}
+use Rattle.std.specs.Prelude.{count_by}
+use Rattle.std.specs.List.{filter}
+use Rattle.std.specs.declared.vec.Vec.{Vec}
+use Rattle.std.specs.declared.alloc.Global.{Global}
+use Rattle.std.proofs.lemmas.Bool.{cases_Bool, both_ways, and_parts}
+use Rattle.std.proofs.lemmas.List.Sums.{length-filter}
+use Rattle.std.proofs.lemmas.List.Filters.{length-filter_both}
+use Rattle.ckpt_ids.specs.declared.numbers.Kind.TheVariants as kind
+use Rattle.ckpt_ids.specs.declared.call.Call.TheVariants as call
+use Rattle.ckpt_ids.specs.declared.reply.Reply.{Reply}
+use Rattle.ckpt_ids.specs.declared.reply.Reply.TheVariants as reply
+use Rattle.ckpt_ids.specs.declared.reply.TickEnd.{TickEnd}
+use Rattle.ckpt_ids.specs.declared.reply.TickEnd.TheVariants as ends
+use Rattle.ckpt_ids.specs.declared.reply.Answer.{Answer}
+use Rattle.ckpt_ids.specs.declared.reply.Answer.TheVariants.{Done, Refused}
+use Rattle.ckpt_ids.specs.Ordered.{IsIn}
+use Rattle.ckpt_ids.specs.Records.{Record, uses, is_present}
+use Rattle.ckpt_ids.proofs.OrderedLemmas.{IsIn-append_left, IsIn-append_right, IsIn-append_cases, IsIn-map, IsIn-from_map, IsIn-filter, IsIn-from_filter, IsIn-in_order, IsIn-from_in_order}
+use Rattle.ckpt_outbox.specs.Queues.{is_known}
+use Rattle.ckpt_rules.specs.declared.hold.Hold.{Hold}
+use Rattle.ckpt_rules.specs.declared.hold.Hold.TheVariants as hold
+use Rattle.ckpt_rules.specs.FailureCount.{FailureCount}
+use Rattle.ckpt_rules.specs.Moments.{Moments}
+use Rattle.ckpt_rules.specs.Trigger as trigger
+use Rattle.ckpt_rules.specs.Trigger.{gap}
+use Rattle.ckpt_core.specs.declared.parts.Parts.{Parts}
+use Rattle.ckpt_core.specs.Inside.Grouped.{with_pins, grouped}
+use Rattle.ckpt_core.specs.Memory.{answer_wants, may_want_memory}
+use Rattle.ckpt_core.specs.Inside.Parts.{Answers, AreSound, AreTied, IsAccepted, is_noted, records_in, state_of}
+use Rattle.ckpt_core.specs.Soundness.{IsSound, id_before}
+use Rattle.ckpt_core.specs.Inside.Starting.{Starts, held_at}
+use Rattle.ckpt_core.specs.State.{State, drop, is_checkpoint, is_expired}
+use Rattle.ckpt_core.specs.Steps.{Stepped, effect, start_or_hold, tick, triggered, failed_over, dropped_by}
+use Rattle.ckpt_core.proofs.Records.Counts.{count_by-le}
+use Rattle.ckpt_core.proofs.Ending.Counts.{few_pending}
+use Rattle.ckpt_core.proofs.Triggering.TriggerParts.{limit_bound}
+use Rattle.ckpt_core.specs.declared.mode.Mode.TheVariants.{Running}
+use Rattle.ckpt_core.proofs.Records.Grouped.{AreApart, apart_left, apart_between}
+use Rattle.ckpt_core.proofs.Records.Lookups.{AreGroups, count_by-records_of, count_same, one_of_number, done_in}
+use Rattle.ckpt_core.proofs.Records.GroupLookups.{pending_checkpoints-groups}
+use Rattle.ckpt_core.proofs.Ending.Drops.{apart_in, fails, numbers, noted-from_IsIn, IsIn-from_noted}
+use Rattle.ckpt_core.proofs.Soundness.Triggers.{new_record}
+use Rattle.ckpt_core.proofs.Triggering.TickStates.{is_late, started, starts_as, starts_done, starts_unused, stepped, tick_fails, tick_goes, tick_starts, ticked}
+use Rattle.ckpt_ids.proofs.CountLemmas.{count_by-none}
+use Rattle.ckpt_core.proofs.Answering.StepCases.{step_accepted}
+
+-- the clock
+
+pub seen_state : (p : Parts) (now : ℕ) (c : Moments) → c ≡ record p.clock { latest = max now p.clock.latest } → state_of (record p { clock = c }) ≡ record (state_of p) { latest = max now p.clock.latest }
+unfolding state_of
+seen_state p now c e = ap (λ k. state_of (record p { clock = k })) e
+
+pub clock_back : (p q : Parts) (now : ℕ) (c : Moments) → c ≡ record p.clock { latest = max now p.clock.latest } → state_of q ≡ state_of (record p { clock = c }) → state_of (record q { clock = p.clock }) ≡ state_of p
+unfolding state_of
+clock_back p q now c e s = ap {B = State} (λ (m : State). record m { latest = p.clock.latest; due = p.clock.due; completed = p.clock.completed }) s
+
+pub tied_clock : (p : Parts) (c : Moments) → AreTied p → AreTied (record p { clock = c })
+tied_clock p c tied = record { uses_are = tied.uses_are; retained = tied.retained; tolerable = tied.tolerable; spare = tied.spare; room = tied.room }
+
+pub tied_failures : (p : Parts) (f : FailureCount) → f.tolerable ≡ p.opened.config.tolerable → AreTied p → AreTied (record p { failures = f })
+tied_failures p f same tied = record { uses_are = tied.uses_are; retained = tied.retained; tolerable = same; spare = tied.spare; room = tied.room }
+
+-- a savepoint
+
+pub savepoint_answers : (p q : Parts) (now id : ℕ) (c : Moments) → IsAccepted p (call.Savepoint now) → c ≡ record p.clock { latest = max now p.clock.latest } → state_of q ≡ triggered (state_of (record p { clock = c })) kind.Savepoint → id ≡ p.next →
+    AreTied q → q.ended.items ≡ [] → Answers p q (call.Savepoint now) (reply.SavepointTriggered id)
+unfolding state_of effect
+savepoint_answers p q now id c accepted seen after new tied none = record {
+  step_is =
+      step_accepted (state_of p) (call.Savepoint now) accepted
+      ∙ ap (λ m. stepped (triggered m kind.Savepoint) (Done (reply.SavepointTriggered p.next))) (sym (seen_state p now c seen))
+      ∙ ap (λ m. stepped m (Done (reply.SavepointTriggered p.next))) (sym after)
+      ∙ ap (λ i. stepped (state_of q) (Done (reply.SavepointTriggered i))) (sym new);
+  tied = tied;
+  none_ended = none;
+}
+
+-- a start
+
+-- what holds anyway holds where there is an error
+pub on_err_from : {T E P : Type 0} (r : Result T E) → P → OnErr r P
+on_err_from (Ok x) h = tt
+on_err_from (Err e) h = h
+
+pub held_result : (p : Parts) (pending moment : ℕ) (h k : Hold) → moment ≡ max 0 p.clock.latest → h ≡ trigger.hold p.opened.config p.clock.due p.clock.completed moment pending → h ≡ k → held_at (state_of p) pending ≡ k
+unfolding state_of
+held_result p pending moment h k m e is =
+    let same : p.clock.latest ≡ moment = omega (arith, m) in
+    ap (λ t. trigger.hold p.opened.config p.clock.due p.clock.completed t pending) same ∙ sym e ∙ is
+
+pub started_state : (p q : Parts) (k : Moments) (moment : ℕ) → state_of q ≡ triggered (state_of p) kind.Checkpoint → moment ≡ max 0 p.clock.latest → k ≡ record q.clock { due = moment + gap q.opened.config } → state_of (record q { clock = k }) ≡ started (state_of p)
+unfolding state_of triggered
+started_state p q k moment after m e =
+    let same : moment ≡ p.clock.latest = omega (arith, m) in
+    let config : q.opened.config ≡ p.opened.config = ap (λ s. s.opening.config) after in
+    let due : moment + gap q.opened.config ≡ p.clock.latest + gap p.opened.config = ap (λ t. t + gap q.opened.config) same ∙ ap (λ c. p.clock.latest + gap c) config in
+    ap (λ c. state_of (record q { clock = c })) e
+    ∙ ap {B = State} (λ d. record (state_of q) { due = d }) due
+    ∙ ap {B = State} (λ (s : State). record s { due = p.clock.latest + gap p.opened.config }) after
+
+pub starts_now : (p q : Parts) (k : Moments) (pending moment id : ℕ) → held_at (state_of p) pending ≡ hold.Go → state_of q ≡ triggered (state_of p) kind.Checkpoint → id ≡ p.next → moment ≡ max 0 p.clock.latest → k ≡ record q.clock { due = moment + gap q.opened.config } →
+    Starts (state_of p) pending (state_of (record q { clock = k })) (ends.Triggered id)
+unfolding state_of start_or_hold
+starts_now p q k pending moment id go after new m e = λ expired.
+    ap (start_or_hold (state_of p) expired) go
+    ∙ ap (λ s. stepped s (ticked expired (ends.Triggered p.next))) (sym (started_state p q k moment after m e))
+    ∙ ap (λ i. stepped (state_of (record q { clock = k })) (ticked expired (ends.Triggered i))) (sym new)
+
+-- what expires
+
+abbrev pub is_old : ℕ → ℕ → Record → Bool
+is_old timeout moment r = leb (r.started + timeout) moment
+
+-- what is old has expired
+pub old_same : (p : Parts) (timeout moment : ℕ) → timeout ≡ p.opened.config.timeout → moment ≡ max 0 p.clock.latest → (r : Record) → leb (r.started + p.opened.config.timeout) p.clock.latest ≡ is_old timeout moment r
+old_same p timeout moment t m r =
+    let same : p.clock.latest ≡ moment = omega (arith, m) in
+    ap (λ x. leb (r.started + x) p.clock.latest) (sym t) ∙ ap (leb (r.started + timeout)) same
+
+-- a count over pending records alone
+pub counted_in_pending : (p : Parts) (t u : Record → Bool) → AreGroups p.pending p.store.checkpoints p.store.savepoints → ((r : Record) → t (with_pins p.registry r) ≡ t r) → ((r : Record) → r.done ≡ true → t r ≡ false) → ((r : Record) → r.done ≡ false → t r ≡ u r) →
+    count_by t (records_in p) ≡ count_by u p.pending
+counted_in_pending p t u groups same none agree =
+    let all : count_by t (records_in p) ≡ count_by t p.pending + (count_by t p.store.checkpoints + count_by t p.store.savepoints) = count_by-records_of t p.registry p.pending p.store.checkpoints p.store.savepoints same in
+    let a : count_by t p.store.checkpoints ≡ 0 = count_by-none t p.store.checkpoints (λ r h. none r (groups.checkpoints_done r h).0) in
+    let b : count_by t p.store.savepoints ≡ 0 = count_by-none t p.store.savepoints (λ r h. none r (groups.savepoints_done r h).0) in
+    let c : count_by t p.pending ≡ count_by u p.pending = count_same t u p.pending (λ r h. agree r (groups.not_done r h)) in
+    omega (arith, all, a, b, c)
+
+pub expired_counted : (p : Parts) (timeout moment : ℕ) → AreGroups p.pending p.store.checkpoints p.store.savepoints → timeout ≡ p.opened.config.timeout → moment ≡ max 0 p.clock.latest →
+    dropped_by (state_of p) (is_expired (state_of p) p.clock.latest) ≡ length (filter (is_old timeout moment) p.pending)
+unfolding state_of
+expired_counted p timeout moment groups t m =
+    counted_in_pending p (is_expired (state_of p) p.clock.latest) (is_old timeout moment) groups (λ r. refl) (λ r d. ap (λ b. not b && leb (r.started + p.opened.config.timeout) p.clock.latest) d)
+    (λ r d. ap (λ b. not b && leb (r.started + p.opened.config.timeout) p.clock.latest) d ∙ old_same p timeout moment t m r)
+    ∙ counted_length (is_old timeout moment) p.pending
+  where
+    counted_length : (q : Record → Bool) (rs : List Record) → count_by q rs ≡ length (filter q rs)
+    counted_length q rs = sym (length-filter q rs)
+
+pub late_counted : (p : Parts) (timeout moment : ℕ) → AreGroups p.pending p.store.checkpoints p.store.savepoints → timeout ≡ p.opened.config.timeout → moment ≡ max 0 p.clock.latest →
+    count_by (is_late (state_of p)) (records_in p) ≡ count_by (λ r. is_old timeout moment r && is_checkpoint r) p.pending
+unfolding state_of
+late_counted p timeout moment groups t m =
+    counted_in_pending p (is_late (state_of p)) (λ r. is_old timeout moment r && is_checkpoint r) groups (λ r. refl) (λ r d. ap (λ b. (not b && leb (r.started + p.opened.config.timeout) p.clock.latest) && is_checkpoint r) d)
+    (λ r d. ap (λ b. (not b && leb (r.started + p.opened.config.timeout) p.clock.latest) && is_checkpoint r) d ∙ ap (λ b. b && is_checkpoint r) (old_same p timeout moment t m r))
+
+-- two pending records with one number are one
+one_pending : (p : Parts) → IsSound (state_of p) → (t : Record → Bool) → ((r : Record) → t (with_pins p.registry r) ≡ t r) → (r s : Record) → IsIn r p.pending → IsIn s p.pending → r.id ≡ s.id → t r ≡ t s
+one_pending p sound t same r s h k e =
+    let of_pending : List Record = map (with_pins p.registry) p.pending in
+    let apart : AreApart of_pending = apart_left of_pending (p.store.checkpoints ++ p.store.savepoints) (apart_in p sound) in
+    let is : with_pins p.registry r ≡ with_pins p.registry s = one_of_number of_pending apart (with_pins p.registry r) (with_pins p.registry s) (IsIn-map (with_pins p.registry) r p.pending h) (IsIn-map (with_pins p.registry) s p.pending k) e in
+    sym (same r) ∙ ap t is ∙ same s
+
+-- the noted records are those that pass the test
+pub noted_are : (p : Parts) (q t : Record → Bool) → IsSound (state_of p) → AreGroups p.pending p.store.checkpoints p.store.savepoints → ((r : Record) → t (with_pins p.registry r) ≡ t r) → ((r : Record) → r.done ≡ true → t r ≡ false) → ((r : Record) → r.done ≡ false → t r ≡ q r) →
+    (r : Record) → IsIn r (records_in p) → t r ≡ is_noted (numbers (filter q p.pending)) r
+noted_are p q t sound groups same none agree r h =
+    let of_pending : List Record = map (with_pins p.registry) p.pending in
+    let of_done : List Record = p.store.checkpoints ++ p.store.savepoints in
+    let noted : List ℕ = numbers (filter q p.pending) in
+    let Goal : Type 0 = t r ≡ is_noted noted r in
+    let pending : IsIn r of_pending → Goal = λ k.
+    let s = IsIn-from_map (with_pins p.registry) r p.pending k in
+    let as_s : t r ≡ q s.0 = ap t s.2 ∙ same s.0 ∙ agree s.0 (groups.not_done s.0 s.1) in
+    ⊎_elim
+    (λ (e : q s.0 ≡ true). as_s ∙ e ∙ sym (noted-from_IsIn r s.0 (filter q p.pending) (IsIn-filter q s.0 p.pending s.1 e) (ap (λ w. w.id) s.2)))
+    (λ (e : q s.0 ≡ false). as_s ∙ e ∙ sym (fails (is_noted noted r) (λ n.
+    let w = IsIn-from_noted r (filter q p.pending) n in
+    let v = IsIn-from_filter q w.0 p.pending w.1 in
+    let twins : t s.0 ≡ t w.0 = one_pending p sound t same s.0 w.0 s.1 v.0 (sym (ap (λ x. x.id) s.2) ∙ w.2) in
+    both_ways (q s.0) e (sym (agree s.0 (groups.not_done s.0 s.1)) ∙ twins ∙ agree w.0 (groups.not_done w.0 v.0) ∙ v.1))))
+    (cases_Bool (q s.0)) in
+    let done : IsIn r of_done → Goal = λ k.
+    none r (done_in groups r k) ∙ sym (fails (is_noted noted r) (λ n.
+    let w = IsIn-from_noted r (filter q p.pending) n in
+    let v = IsIn-from_filter q w.0 p.pending w.1 in
+    apart_between of_pending of_done (apart_in p sound) (with_pins p.registry w.0) r (IsIn-map (with_pins p.registry) w.0 p.pending v.0) k (sym w.2))) in
+    ⊎_elim pending done (IsIn-append_cases r of_pending of_done (IsIn-from_in_order id_before r (grouped p.registry p.pending p.store.checkpoints p.store.savepoints) h))
+
+pub noted_are_expired : (p : Parts) (timeout moment : ℕ) → IsSound (state_of p) → AreGroups p.pending p.store.checkpoints p.store.savepoints → timeout ≡ p.opened.config.timeout → moment ≡ max 0 p.clock.latest →
+    (r : Record) → IsIn r (records_in p) → is_expired (state_of p) p.clock.latest r ≡ is_noted (numbers (filter (is_old timeout moment) p.pending)) r
+unfolding state_of
+noted_are_expired p timeout moment sound groups t m =
+    noted_are p (is_old timeout moment) (is_expired (state_of p) p.clock.latest) sound groups (λ r. refl) (λ r d. ap (λ b. not b && leb (r.started + p.opened.config.timeout) p.clock.latest) d)
+    (λ r d. ap (λ b. not b && leb (r.started + p.opened.config.timeout) p.clock.latest) d ∙ old_same p timeout moment t m r)
+
+-- the next record's number is not among the noted ones
+pub next_not_noted : (p : Parts) (q : Record → Bool) → IsSound (state_of p) → is_noted (numbers (filter q p.pending)) (new_record (state_of p) kind.Checkpoint) ≡ false
+unfolding state_of
+next_not_noted p q sound = fails (is_noted (numbers (filter q p.pending)) (new_record (state_of p) kind.Checkpoint)) (λ n.
+    let w = IsIn-from_noted (new_record (state_of p) kind.Checkpoint) (filter q p.pending) n in
+    let v = IsIn-from_filter q w.0 p.pending w.1 in
+    let here : IsIn (with_pins p.registry w.0) (grouped p.registry p.pending p.store.checkpoints p.store.savepoints) = IsIn-append_left (with_pins p.registry w.0) (map (with_pins p.registry) p.pending) (p.store.checkpoints ++ p.store.savepoints) (IsIn-map (with_pins p.registry) w.0 p.pending v.0) in
+    let lt : w.0.id < p.next = sound.below_next (with_pins p.registry w.0) (IsIn-in_order id_before (with_pins p.registry w.0) (grouped p.registry p.pending p.store.checkpoints p.store.savepoints) here) in
+    let same : p.next ≡ w.0.id = w.2 in
+    omega (arith, same, lt))
+
+-- after the start
+
+pub unknown_after : (p q : Parts) (pending : ℕ) (end : TickEnd) → IsSound (state_of p) → AreTied q → Starts (state_of p) pending (state_of q) end → (f : ℕ) → is_present q.registry f ≡ true → is_known q.outbox f ≡ false
+unfolding state_of
+unknown_after p q pending end sound tied starts f h =
+    let used : is_present (uses (records_in q)) f ≡ true = ap (λ us. is_present us f) (sym tied.uses_are) ∙ h in
+    fails (is_known q.outbox f) (λ e. both_ways (is_present (uses (records_in q)) f) (starts_unused (state_of p) pending (state_of q) end sound starts f e) used)
+
+pub done_not_dropped : (p q : Parts) (ids : List ℕ) (pending : ℕ) (end : TickEnd) → ((r : Record) → IsIn r (records_in p) → is_expired (state_of p) p.clock.latest r ≡ is_noted ids r) → AreGroups q.pending q.store.checkpoints q.store.savepoints → Starts (state_of p) pending (state_of q) end →
+    (r : Record) → IsIn r (q.store.checkpoints ++ q.store.savepoints) → is_noted ids r ≡ false
+unfolding state_of
+done_not_dropped p q ids pending end agree groups starts r h =
+    let done : r.done ≡ true = done_in groups r h in
+    let there : IsIn r (records_in q) = IsIn-in_order id_before r (grouped q.registry q.pending q.store.checkpoints q.store.savepoints) (IsIn-append_right r (map (with_pins q.registry) q.pending) (q.store.checkpoints ++ q.store.savepoints) h) in
+    let before : IsIn r (records_in p) = starts_done (state_of p) pending (state_of q) end starts r there done in
+    sym (agree r before) ∙ ap (λ b. not b && leb (r.started + p.opened.config.timeout) p.clock.latest) done
+
+-- the tick
+
+pub tick_answers : (p q : Parts) (now : ℕ) (c : Moments) (r : Reply) → IsAccepted p (call.Tick now) → c ≡ record p.clock { latest = max now p.clock.latest } → tick (state_of (record p { clock = c })) ≡ stepped (state_of q) (Done r) → AreTied q → q.ended.items ≡ [] → Answers p q (call.Tick now) r
+unfolding state_of effect
+tick_answers p q now c r accepted seen after tied none = record {
+  step_is = step_accepted (state_of p) (call.Tick now) accepted ∙ ap tick (sym (seen_state p now c seen)) ∙ after;
+  tied = tied;
+  none_ended = none;
+}
+
+pub tick_wants_memory : (p : Parts) (now : ℕ) (c : Moments) → IsAccepted p (call.Tick now) → c ≡ record p.clock { latest = max now p.clock.latest } → answer_wants (call.Tick 0) (tick (state_of (record p { clock = c }))).1 ≡ true → may_want_memory (state_of p) (call.Tick now) ≡ true
+unfolding state_of effect
+tick_wants_memory p now c accepted seen wants =
+    ap (λ (s : Stepped). answer_wants (call.Tick now) s.1) (step_accepted (state_of p) (call.Tick now) accepted ∙ ap tick (sym (seen_state p now c seen))) ∙ same_wants (tick (state_of (record p { clock = c }))).1 ∙ wants
+  where
+    wants_same : (r : Reply) → answer_wants (call.Tick now) (Done r) ≡ answer_wants (call.Tick 0) (Done r)
+    wants_same r = refl
+
+    same_wants : (a : Answer) → answer_wants (call.Tick now) a ≡ answer_wants (call.Tick 0) a
+    same_wants (Done r) = wants_same r
+    same_wants (Refused why) = refl
+
+-- the expiry
+
+pub late_at_most : (p : Parts) (timeout moment late : ℕ) → late ≡ count_by (λ r. is_old timeout moment r && is_checkpoint r) p.pending → late ≤ count_by is_checkpoint p.pending
+late_at_most p timeout moment late e =
+    omega (arith, e, count_by-le (λ r. is_old timeout moment r && is_checkpoint r) is_checkpoint p.pending (λ r h k. (and_parts (is_old timeout moment r) (is_checkpoint r) k).1))
+
+pub few_checkpoints : (p : Parts) → AreSound p → AreGroups p.pending p.store.checkpoints p.store.savepoints → count_by is_checkpoint p.pending ≤ 64
+unfolding state_of
+few_checkpoints p sound groups =
+    omega (arith, pending_checkpoints-groups p.registry p.pending p.store.checkpoints p.store.savepoints groups, sound.sound.at_once, limit_bound p.opened.config sound.sound.config)
+
+pub few_expired : (p : Parts) (q : Record → Bool) → AreSound p → AreGroups p.pending p.store.checkpoints p.store.savepoints → length (filter q p.pending) ≤ 1064
+few_expired p q sound groups =
+    omega (arith, length-filter_both q (λ r. not (q r)) (λ r. refl) p.pending, few_pending p sound groups)
+
+pub few_failures : (p : Parts) → AreSound p → p.mode ≡ Running → p.failures.number ≤ 1000
+unfolding state_of
+few_failures p sound running = omega (arith, sound.sound.failures running, sound.sound.config.tolerable_to)
+
+-- too many checkpoints were late
+pub expiry_fails : (p f : Parts) (ended : Vec ℕ Global) (failures : FailureCount) (timeout moment late expired : ℕ) → AreSound p → AreGroups p.pending p.store.checkpoints p.store.savepoints → timeout ≡ p.opened.config.timeout → moment ≡ max 0 p.clock.latest →
+    late ≡ count_by (λ r. is_old timeout moment r && is_checkpoint r) p.pending → expired ≡ length (filter (is_old timeout moment) p.pending) → failures ≡ record p.failures { number = p.failures.number + late } → 0 < late → failures.tolerable < failures.number →
+    state_of f ≡ failed_over (state_of (record p { ended = ended })) → tick (state_of p) ≡ stepped (state_of (record f { failures = failures })) (ticked expired ends.Failed)
+unfolding state_of
+expiry_fails p f ended failures timeout moment late expired sound groups t m l e counted some many after =
+    let number : failures.number ≡ p.failures.number + late = ap (λ (x : FailureCount). x.number) counted in
+    let tolerable : failures.tolerable ≡ p.opened.config.tolerable = ap (λ (x : FailureCount). x.tolerable) counted ∙ sound.tied.tolerable in
+    tick_fails (state_of p) late failures.number expired (l ∙ sym (late_counted p timeout moment groups t m)) number (e ∙ sym (expired_counted p timeout moment groups t m)) some (omega (arith, tolerable, many))
+    ∙ ap {B = Stepped} (λ (s : State). stepped (record s { failures = failures.number }) (ticked expired ends.Failed)) (sym after)
+
+-- what is left goes on
+goes : (p : Parts) (failures : FailureCount) (timeout moment late expired pending : ℕ) → AreSound p → AreGroups p.pending p.store.checkpoints p.store.savepoints → timeout ≡ p.opened.config.timeout → moment ≡ max 0 p.clock.latest →
+    late ≡ count_by (λ r. is_old timeout moment r && is_checkpoint r) p.pending → expired ≡ length (filter (is_old timeout moment) p.pending) → failures ≡ record p.failures { number = p.failures.number + late } → pending + late ≡ count_by is_checkpoint p.pending →
+    (late ≡ 0) ⊎ (failures.number ≤ failures.tolerable) → tick (state_of p) ≡ start_or_hold (drop (record (state_of p) { failures = failures.number }) (is_expired (state_of p) p.clock.latest) None) expired (held_at (state_of p) pending)
+unfolding state_of
+goes p failures timeout moment late expired pending sound groups t m l e counted rest few =
+    let number : failures.number ≡ p.failures.number + late = ap (λ (x : FailureCount). x.number) counted in
+    let tolerable : failures.tolerable ≡ p.opened.config.tolerable = ap (λ (x : FailureCount). x.tolerable) counted ∙ sound.tied.tolerable in
+    tick_goes (state_of p) late failures.number expired pending (l ∙ sym (late_counted p timeout moment groups t m)) number (e ∙ sym (expired_counted p timeout moment groups t m))
+    (rest ∙ sym (pending_checkpoints-groups p.registry p.pending p.store.checkpoints p.store.savepoints groups))
+    (⊎_elim (λ (z : late ≡ 0). inl z) (λ (h : failures.number ≤ failures.tolerable). inr (omega (arith, tolerable, h))) few)
+
+pub expiry_wants : (p : Parts) (failures : FailureCount) (timeout moment late expired pending : ℕ) → AreSound p → AreGroups p.pending p.store.checkpoints p.store.savepoints → timeout ≡ p.opened.config.timeout → moment ≡ max 0 p.clock.latest →
+    late ≡ count_by (λ r. is_old timeout moment r && is_checkpoint r) p.pending → expired ≡ length (filter (is_old timeout moment) p.pending) → failures ≡ record p.failures { number = p.failures.number + late } → pending + late ≡ count_by is_checkpoint p.pending →
+    (late ≡ 0) ⊎ (failures.number ≤ failures.tolerable) → held_at (state_of p) pending ≡ hold.Go → answer_wants (call.Tick 0) (tick (state_of p)).1 ≡ true
+unfolding start_or_hold
+expiry_wants p failures timeout moment late expired pending sound groups t m l e counted rest few go =
+    let after : State = drop (record (state_of p) { failures = failures.number }) (is_expired (state_of p) p.clock.latest) None in
+    ap (λ (s : Stepped). answer_wants (call.Tick 0) s.1) (goes p failures timeout moment late expired pending sound groups t m l e counted rest few ∙ ap (start_or_hold after expired) go)
+
+pub expiry_goes : (p s q : Parts) (ended : Vec ℕ Global) (failures : FailureCount) (timeout moment late expired pending : ℕ) (end : TickEnd) → AreSound p → AreGroups p.pending p.store.checkpoints p.store.savepoints → timeout ≡ p.opened.config.timeout → moment ≡ max 0 p.clock.latest →
+    late ≡ count_by (λ r. is_old timeout moment r && is_checkpoint r) p.pending → expired ≡ length (filter (is_old timeout moment) p.pending) → failures ≡ record p.failures { number = p.failures.number + late } → pending + late ≡ count_by is_checkpoint p.pending →
+    (late ≡ 0) ⊎ (failures.number ≤ failures.tolerable) → Starts (state_of (record p { ended = ended })) pending (state_of s) end → s.ended.items ≡ numbers (filter (is_old timeout moment) p.pending) → state_of q ≡ drop (state_of s) (is_noted s.ended.items) None →
+    tick (state_of p) ≡ stepped (state_of (record q { failures = failures })) (ticked expired end)
+unfolding state_of
+expiry_goes p s q ended failures timeout moment late expired pending end sound groups t m l e counted rest few starts noted after =
+    let ids : List ℕ = numbers (filter (is_old timeout moment) p.pending) in
+    let number : failures.number ≡ p.failures.number + late = ap (λ (x : FailureCount). x.number) counted in
+    let tolerable : failures.tolerable ≡ p.opened.config.tolerable = ap (λ (x : FailureCount). x.tolerable) counted ∙ sound.tied.tolerable in
+    tick_starts (state_of p) (state_of s) late failures.number expired pending (is_noted ids) end sound.sound (l ∙ sym (late_counted p timeout moment groups t m)) number (e ∙ sym (expired_counted p timeout moment groups t m))
+    (rest ∙ sym (pending_checkpoints-groups p.registry p.pending p.store.checkpoints p.store.savepoints groups))
+    (⊎_elim (λ (z : late ≡ 0). inl z) (λ (h : failures.number ≤ failures.tolerable). inr (omega (arith, tolerable, h))) few)
+    (noted_are_expired p timeout moment sound.sound groups t m)
+    (next_not_noted p (is_old timeout moment) sound.sound)
+    starts
+    ∙ ap {B = Stepped} (λ (k : State). stepped (record k { failures = failures.number }) (ticked expired end)) (ap (λ xs. drop (state_of s) (is_noted xs) None) (sym noted) ∙ sym after)
+
+-- the configuration stays
+
+counted_tolerable : (p : Parts) (failures : FailureCount) (late : ℕ) → AreTied p → failures ≡ record p.failures { number = p.failures.number + late } → failures.tolerable ≡ p.opened.config.tolerable
+counted_tolerable p failures late tied counted = ap (λ (x : FailureCount). x.tolerable) counted ∙ tied.tolerable
+
+pub failed_tolerable : (p f : Parts) (ended : Vec ℕ Global) (failures : FailureCount) (late : ℕ) → AreTied p → failures ≡ record p.failures { number = p.failures.number + late } → state_of f ≡ failed_over (state_of (record p { ended = ended })) → failures.tolerable ≡ f.opened.config.tolerable
+unfolding state_of failed_over drop
+failed_tolerable p f ended failures late tied counted after = counted_tolerable p failures late tied counted ∙ ap (λ (m : State). m.opening.config.tolerable) (sym after)
+
+pub started_tolerable : (p s q : Parts) (ended : Vec ℕ Global) (failures : FailureCount) (late pending : ℕ) (end : TickEnd) → AreTied p → failures ≡ record p.failures { number = p.failures.number + late } → Starts (state_of (record p { ended = ended })) pending (state_of s) end →
+    state_of q ≡ drop (state_of s) (is_noted s.ended.items) None → failures.tolerable ≡ q.opened.config.tolerable
+unfolding state_of drop triggered
+started_tolerable p s q ended failures late pending end tied counted starts after =
+    let started_config : s.opened.config.tolerable ≡ p.opened.config.tolerable =
+    ⊎_elim (λ (e : state_of s ≡ state_of p). ap (λ (m : State). m.opening.config.tolerable) e) (λ (e : state_of s ≡ started (state_of p)). ap (λ (m : State). m.opening.config.tolerable) e) (starts_as (state_of p) pending (state_of s) end starts) in
+    counted_tolerable p failures late tied counted ∙ sym started_config ∙ ap (λ (m : State). m.opening.config.tolerable) (sym after)

@@ -1,0 +1,313 @@
+-- What a tick does to a state: a checkpoint is started first, and what has expired is dropped after.
+use Rattle.std.proofs.Common.{◌≡◌, ℕ, ◌+◌, ◌<◌, ◌≤◌, Bool, true, false, not, ◌&&◌, cond, ltb, leb, List, [], ◌∷◌, ◌++◌, map, refl, sym, ap, subst, ◌∙◌, ◌⊎◌, inl, inr, ⊎_elim, arith, None}
+use Rattle.std.specs.Prelude.{count_by}
+use Rattle.std.specs.List.{filter}
+use Rattle.std.proofs.lemmas.Bool.{cases_Bool, both_ways, and_parts, and_right, not_from_false, ltb-true, lt-ltb}
+use Rattle.std.proofs.lemmas.List.{map-append}
+use Rattle.std.proofs.lemmas.List.Elements.{filter-append}
+use Rattle.ckpt_ids.specs.declared.numbers.Kind.TheVariants as kind
+use Rattle.ckpt_ids.specs.declared.reply.Reply.TheVariants.{Ticked}
+use Rattle.ckpt_ids.specs.declared.reply.TickEnd.{TickEnd}
+use Rattle.ckpt_ids.specs.declared.reply.TickEnd.TheVariants as ends
+use Rattle.ckpt_ids.specs.declared.reply.Answer.{Answer}
+use Rattle.ckpt_ids.specs.declared.reply.Answer.TheVariants.{Done}
+use Rattle.ckpt_ids.specs.Ordered.{IsIn, IsInOrder}
+use Rattle.ckpt_ids.specs.Records.{Record, Use, uses, uses_of, is_present, released}
+use Rattle.ckpt_ids.proofs.AscendingLemmas.{numbers_in_order}
+use Rattle.ckpt_ids.proofs.OrderedLemmas.{IsIn-append_left, IsIn-append_right, IsIn-append_cases, IsIn-flat_map, IsIn-from_flat_map, IsInOrder-append, same_from_members, filter-all}
+use Rattle.ckpt_rules.specs.declared.hold.Hold.{Hold}
+use Rattle.ckpt_rules.specs.declared.hold.Hold.TheVariants as hold
+use Rattle.ckpt_rules.specs.Trigger.{gap}
+use Rattle.ckpt_core.specs.State.{State, is_checkpoint, is_pending, is_expired, drop, kept, unpinned, pins_now, in_outbox}
+use Rattle.ckpt_core.specs.Soundness.{IsSound, id_before}
+use Rattle.ckpt_core.specs.Inside.Starting.{Starts, held_at}
+use Rattle.ckpt_core.specs.Steps.{Stepped, triggered, start_or_hold, after_expiry, tick, failed_over, pending_checkpoints, dropped_by}
+use Rattle.ckpt_registry.proofs.ListLemmas.{count_by-filter}
+use Rattle.ckpt_ids.proofs.CountLemmas.{count_by-cons}
+use Rattle.ckpt_core.proofs.Records.Counts.{map_itself}
+use Rattle.ckpt_core.proofs.Using.Present.{IsHeld, Holds, IsHeld-from_present, present-from_IsHeld, Holds-from_use}
+use Rattle.ckpt_core.proofs.Ending.Released.{ascending-released, before-from_released, after-from_released, IsIn-released, IsIn-from_test}
+use Rattle.ckpt_core.proofs.Records.Lists.{IsSoundOutbox}
+use Rattle.ckpt_core.proofs.Soundness.Triggers.{new_record, outbox_triggered, held-from_pins}
+use Rattle.ckpt_core.proofs.Records.Lookups.{count_same}
+use Rattle.ckpt_core.proofs.Ending.Drops.{drop_same, fails}
+use Rattle.ckpt_core.proofs.Triggering.Pins.{pins_stay, pins_same}
+
+-- the records after a trigger and a drop
+
+abbrev keeps : (Record → Bool) → Record → Bool
+keeps dropped r = not (dropped r)
+
+kept-append : (b : Record → Bool) (rs : List Record) (x : Record) → b x ≡ false → kept b None (rs ++ x ∷ []) ≡ kept b None rs ++ x ∷ []
+kept-append b rs x e =
+    let last : filter (keeps b) (x ∷ []) ≡ x ∷ [] = filter-all (keeps b) (x ∷ []) (λ r h. ⊎_elim (λ (k : r ≡ x). ap (keeps b) k ∙ not_from_false (b x) e) (λ k. absurd k) h) in
+    ap (map (unpinned None)) (filter-append (keeps b) rs (x ∷ []) ∙ ap (λ xs. filter (keeps b) rs ++ xs) last)
+    ∙ map-append (unpinned None) (filter (keeps b) rs) (x ∷ [])
+
+-- a file that the new record pins is held by what is kept
+pin_kept : (m : State) (b : Record → Bool) (f : ℕ) → IsSound m → ((r : Record) → IsIn r m.records → r.done ≡ true → b r ≡ false) → IsIn f (pins_now m) → IsHeld f (kept b None m.records)
+unfolding drop
+pin_kept m b f s spared h =
+    let same : pins_now (drop m b None) ≡ pins_now m = pins_stay m (drop m b None) (keeps b) s refl refl (λ r k d. not_from_false (b r) (spared r k d)) in
+    let P : List ℕ → Type 0 = λ fs. IsIn f fs in
+    held-from_pins (drop m b None) f (subst P (sym same) h)
+
+pinned : (m : State) (f : ℕ) (r x : Record) → IsIn r (x ∷ []) → x ≡ new_record m kind.Checkpoint → Holds f r → IsIn f (pins_now m)
+pinned m f r x h is held =
+    let same : r ≡ new_record m kind.Checkpoint = ⊎_elim (λ (e : r ≡ x). e ∙ is) (λ k. absurd k) h in
+    let P : Record → Type 0 = λ w. Holds f w in
+    of_new (subst P same held)
+  where
+    of_new : Holds f (new_record m kind.Checkpoint) → IsIn f (pins_now m)
+    of_new (inl h) = absurd h.1
+    of_new (inr h) = h
+
+-- so it is not released, nor does it keep another from being released
+released_with_pins : (m : State) (b : Record → Bool) (x : Record) → IsSound m → ((r : Record) → IsIn r m.records → r.done ≡ true → b r ≡ false) → x ≡ new_record m kind.Checkpoint →
+    released (uses (m.records ++ x ∷ [])) (uses (kept b None m.records ++ x ∷ [])) ≡ released (uses m.records) (uses (kept b None m.records))
+released_with_pins m b x s spared is =
+    let before : List Use = uses m.records in
+    let after : List Use = uses (kept b None m.records) in
+    let before' : List Use = uses (m.records ++ x ∷ []) in
+    let after' : List Use = uses (kept b None m.records ++ x ∷ []) in
+    let to : (f : ℕ) → IsIn f (released before' after') → IsIn f (released before after) = λ f h.
+    let u = before-from_released f before' after' h in
+    let gone : is_present after' f ≡ false = after-from_released f before' after' h in
+    let gone_too : is_present after f ≡ false = fails (is_present after f) (λ k.
+    let r = IsHeld-from_present f (kept b None m.records) k in
+    both_ways (is_present after' f) gone (present-from_IsHeld f (kept b None m.records ++ x ∷ []) (r.0, IsIn-append_left r.0 (kept b None m.records) (x ∷ []) r.1, r.2))) in
+    let r = IsIn-from_flat_map uses_of u.0 (m.records ++ x ∷ []) u.1 in
+    ⊎_elim
+    (λ (k : IsIn r.0 m.records). IsIn-released f u.0 before after (IsIn-flat_map uses_of r.0 u.0 m.records k r.2) (sym u.2) gone_too)
+    (λ (k : IsIn r.0 (x ∷ [])).
+    let P : ℕ → Type 0 = λ g. Holds g r.0 in
+    let held : Holds f r.0 = subst P (sym u.2) (Holds-from_use u.0 r.0 r.2) in
+    absurd (both_ways (is_present after' f) gone (present-from_IsHeld f (kept b None m.records ++ x ∷ []) (r.0, IsIn-append_right r.0 (kept b None m.records) (x ∷ []) k, held))))
+    (IsIn-append_cases r.0 m.records (x ∷ []) r.1) in
+    let back : (f : ℕ) → IsIn f (released before after) → IsIn f (released before' after') = λ f h.
+    let u = before-from_released f before after h in
+    let gone : is_present after f ≡ false = after-from_released f before after h in
+    let gone_too : is_present after' f ≡ false = fails (is_present after' f) (λ k.
+    let r = IsHeld-from_present f (kept b None m.records ++ x ∷ []) k in
+    both_ways (is_present after f) gone (present-from_IsHeld f (kept b None m.records) (⊎_elim
+    (λ (j : IsIn r.0 (kept b None m.records)). (r.0, j, r.2))
+    (λ (j : IsIn r.0 (x ∷ [])). pin_kept m b f s spared (pinned m f r.0 x j is r.2))
+    (IsIn-append_cases r.0 (kept b None m.records) (x ∷ []) r.1)))) in
+    let r = IsIn-from_flat_map uses_of u.0 m.records u.1 in
+    IsIn-released f u.0 before' after' (IsIn-flat_map uses_of r.0 u.0 (m.records ++ x ∷ []) (IsIn-append_left r.0 m.records (x ∷ []) r.1) r.2) (sym u.2) gone_too in
+    same_from_members numbers_in_order (released before' after') (released before after) (ascending-released before' after') (ascending-released before after) to back
+
+-- a drop after a trigger is a trigger after the drop, where no done record is dropped
+pub drop_triggered : (m : State) (b : Record → Bool) (due : ℕ) → IsSound m → ((r : Record) → IsIn r m.records → r.done ≡ true → b r ≡ false) → b (new_record m kind.Checkpoint) ≡ false →
+    drop (record (triggered m kind.Checkpoint) { due = due }) b None ≡ record (triggered (drop m b None) kind.Checkpoint) { due = due }
+unfolding drop triggered
+drop_triggered m b due s spared stays =
+    let x : Record = new_record m kind.Checkpoint in
+    let before : List Use = uses (m.records ++ x ∷ []) in
+    let left : List Record = kept b None m.records in
+    let out : List ℕ = released (uses m.records) (uses left) in
+    let same : pins_now (drop m b None) ≡ pins_now m = pins_stay m (drop m b None) (keeps b) s refl refl (λ r k d. not_from_false (b r) (spared r k d)) in
+    ap (λ rs. record m { due = due; next = m.next + 1; records = rs; waiting = m.waiting ++ released before (uses rs) }) (kept-append b m.records x stays)
+    ∙ ap (λ fs. record m { due = due; next = m.next + 1; records = left ++ x ∷ []; waiting = m.waiting ++ fs }) (released_with_pins m b x s spared refl)
+    ∙ ap (λ pins. record m { due = due; next = m.next + 1; records = left ++ record x { pins = pins } ∷ []; waiting = m.waiting ++ out }) (sym same)
+
+-- the state after a start
+
+abbrev pub started : State → State
+started m = record (triggered m kind.Checkpoint) { due = m.latest + gap m.opening.config }
+
+abbrev pub ticked : ℕ → TickEnd → Answer
+ticked expired end = Done (Ticked expired end)
+
+abbrev pub stepped : State → Answer → Stepped
+stepped m answer = (m, answer)
+
+state_first : (m k : State) (a c : Answer) → stepped m a ≡ stepped k c → m ≡ k
+state_first m k a c e = ap (λ p. p.0) e
+
+answer_second : (m k : State) (a c : Answer) → stepped m a ≡ stepped k c → a ≡ c
+answer_second m k a c e = ap (λ p. p.1) e
+
+started_as : (m : State) (expired : ℕ) (h : Hold) (after : State) (end : TickEnd) → start_or_hold m expired h ≡ (after, ticked expired end) → (after ≡ m) ⊎ (after ≡ started m)
+unfolding start_or_hold
+started_as m expired hold.Interval after end e = inl (sym (state_first m after (ticked expired ends.HeldInterval) (ticked expired end) e))
+started_as m expired hold.AtOnce after end e = inl (sym (state_first m after (ticked expired ends.HeldAtOnce) (ticked expired end) e))
+started_as m expired hold.Pause after end e = inl (sym (state_first m after (ticked expired ends.HeldPause) (ticked expired end) e))
+started_as m expired hold.Go after end e = inr (sym (state_first (started m) after (ticked expired (ends.Triggered m.next)) (ticked expired end) e))
+
+pub starts_as : (m : State) (pending : ℕ) (after : State) (end : TickEnd) → Starts m pending after end → (after ≡ m) ⊎ (after ≡ started m)
+starts_as m pending after end starts = started_as m 0 (held_at m pending) after end (starts 0)
+
+started_outbox : (m : State) → IsSound m → IsSoundOutbox (started m).records m.waiting m.taken
+unfolding triggered
+started_outbox m s = outbox_triggered m kind.Checkpoint s
+
+started_in_order : (m : State) → IsSound m → IsInOrder id_before (started m).records
+unfolding triggered
+started_in_order m s =
+    IsInOrder-append id_before m.records (new_record m kind.Checkpoint ∷ []) s.in_order (tt, tt) (λ x y h k.
+    ⊎_elim (λ (e : y ≡ new_record m kind.Checkpoint). let f : y.id ≡ m.next = ap (λ r. r.id) e in let lt : x.id < m.next = s.below_next x h in lt-ltb x.id y.id (omega arith)) (λ n. absurd n) k)
+
+pub starts_in_order : (m : State) (pending : ℕ) (after : State) (end : TickEnd) → IsSound m → Starts m pending after end → IsInOrder id_before after.records
+starts_in_order m pending after end s starts =
+    let P : State → Type 0 = λ k. IsInOrder id_before k.records in
+    ⊎_elim (λ (e : after ≡ m). subst P (sym e) s.in_order) (λ (e : after ≡ started m). subst P (sym e) (started_in_order m s)) (starts_as m pending after end starts)
+
+started_unused : (m : State) → IsSound m → (f : ℕ) → in_outbox (started m) f ≡ true → is_present (uses (started m).records) f ≡ false
+unfolding triggered
+started_unused m s f h = (started_outbox m s).unused f (IsIn-from_test f (m.waiting ++ m.taken) h)
+
+pub starts_unused : (m : State) (pending : ℕ) (after : State) (end : TickEnd) → IsSound m → Starts m pending after end → (f : ℕ) → in_outbox after f ≡ true → is_present (uses after.records) f ≡ false
+starts_unused m pending after end s starts =
+    let P : State → Type 0 = λ k. (f : ℕ) → in_outbox k f ≡ true → is_present (uses k.records) f ≡ false in
+    ⊎_elim (λ (e : after ≡ m). subst P (sym e) s.unused) (λ (e : after ≡ started m). subst P (sym e) (started_unused m s)) (starts_as m pending after end starts)
+
+started_done : (m : State) (r : Record) → IsIn r (started m).records → r.done ≡ true → IsIn r m.records
+unfolding triggered
+started_done m r h d =
+    ⊎_elim (λ (k : IsIn r m.records). k) (λ (k : IsIn r (new_record m kind.Checkpoint ∷ [])).
+    absurd (⊎_elim (λ (e : r ≡ new_record m kind.Checkpoint). both_ways r.done (ap (λ w. w.done) e) d) (λ n. absurd n) k))
+    (IsIn-append_cases r m.records (new_record m kind.Checkpoint ∷ []) h)
+
+-- a done record was done before
+pub starts_done : (m : State) (pending : ℕ) (after : State) (end : TickEnd) → Starts m pending after end → (r : Record) → IsIn r after.records → r.done ≡ true → IsIn r m.records
+starts_done m pending after end starts r h d =
+    let P : State → Type 0 = λ k. IsIn r k.records in
+    ⊎_elim (λ (e : after ≡ m). subst P e h) (λ (e : after ≡ started m). started_done m r (subst P e h) d) (starts_as m pending after end starts)
+
+-- the order of the start and of the drop
+
+held_then_drop : (m after : State) (failures expired : ℕ) (a b : Record → Bool) (here there : TickEnd) → ((r : Record) → IsIn r m.records → a r ≡ b r) → stepped m (ticked expired here) ≡ stepped after (ticked expired there) →
+    stepped (drop (record m { failures = failures }) a None) (ticked expired here) ≡ stepped (record (drop after b None) { failures = failures }) (ticked expired there)
+unfolding drop
+held_then_drop m after failures expired a b here there agree e =
+    ap (λ k. stepped (record k { failures = failures }) (ticked expired here)) (drop_same m a b agree ∙ ap (λ k. drop k b None) (state_first m after (ticked expired here) (ticked expired there) e))
+    ∙ ap (stepped (record (drop after b None) { failures = failures })) (answer_second m after (ticked expired here) (ticked expired there) e)
+
+started_then_drop : (m after : State) (failures expired : ℕ) (a b : Record → Bool) (there : TickEnd) → IsSound m → ((r : Record) → IsIn r m.records → a r ≡ b r) → ((r : Record) → IsIn r m.records → r.done ≡ true → b r ≡ false) →
+    b (new_record m kind.Checkpoint) ≡ false → stepped (started m) (ticked expired (ends.Triggered m.next)) ≡ stepped after (ticked expired there) →
+    stepped (record (started (drop m a None)) { failures = failures }) (ticked expired (ends.Triggered m.next)) ≡ stepped (record (drop after b None) { failures = failures }) (ticked expired there)
+unfolding drop
+started_then_drop m after failures expired a b there s agree spared stays e =
+    let due : ℕ = m.latest + gap m.opening.config in
+    ap (λ k. stepped (record k { failures = failures }) (ticked expired (ends.Triggered m.next)))
+    (ap (λ k. record (triggered k kind.Checkpoint) { due = due }) (drop_same m a b agree)
+    ∙ sym (drop_triggered m b due s spared stays)
+    ∙ ap (λ k. drop k b None) (state_first (started m) after (ticked expired (ends.Triggered m.next)) (ticked expired there) e))
+    ∙ ap (stepped (record (drop after b None) { failures = failures })) (answer_second (started m) after (ticked expired (ends.Triggered m.next)) (ticked expired there) e)
+
+-- what counts failures does not change a start
+started_counted : (m : State) (failures : ℕ) (a : Record → Bool) → started (drop (record m { failures = failures }) a None) ≡ record (started (drop m a None)) { failures = failures }
+unfolding drop triggered
+started_counted m failures a =
+    let left : List Record = kept a None m.records in
+    let out : List ℕ = released (uses m.records) (uses left) in
+    ap (λ pins. record m { failures = failures; due = m.latest + gap m.opening.config; next = m.next + 1; records = left ++ record (new_record m kind.Checkpoint) { pins = pins } ∷ []; waiting = m.waiting ++ out })
+    (pins_same (drop m a None) (drop (record m { failures = failures }) a None) refl refl (λ id e. refl))
+
+start_then_drop : (m : State) (h : Hold) (failures expired : ℕ) (a b : Record → Bool) (after : State) (end : TickEnd) → IsSound m → ((r : Record) → IsIn r m.records → a r ≡ b r) → ((r : Record) → IsIn r m.records → r.done ≡ true → b r ≡ false) →
+    b (new_record m kind.Checkpoint) ≡ false → start_or_hold m expired h ≡ (after, ticked expired end) → start_or_hold (drop (record m { failures = failures }) a None) expired h ≡ stepped (record (drop after b None) { failures = failures }) (ticked expired end)
+unfolding start_or_hold drop
+start_then_drop m hold.Interval failures expired a b after end s agree spared stays e = held_then_drop m after failures expired a b ends.HeldInterval end agree e
+start_then_drop m hold.AtOnce failures expired a b after end s agree spared stays e = held_then_drop m after failures expired a b ends.HeldAtOnce end agree e
+start_then_drop m hold.Pause failures expired a b after end s agree spared stays e = held_then_drop m after failures expired a b ends.HeldPause end agree e
+start_then_drop m hold.Go failures expired a b after end s agree spared stays e =
+    ap (λ k. stepped k (ticked expired (ends.Triggered m.next))) (started_counted m failures a)
+    ∙ started_then_drop m after failures expired a b end s agree spared stays e
+
+-- the count of what is left pending
+
+pub split : {X : Type 0} (p q : X → Bool) (xs : List X) → ((x : X) → q x ≡ true → p x ≡ true) → count_by p (filter (λ x. not (q x)) xs) + count_by q xs ≡ count_by p xs
+split p q [] within = refl
+split {X} p q (x ∷ xs) within =
+    let left : List X = filter (λ y. not (q y)) xs in
+    let rest : count_by p left + count_by q xs ≡ count_by p xs = split p q xs within in
+    let P : Bool → Type 0 = λ b. count_by p (cond (not b) (x ∷ left) left) + (cond b 1 0 + count_by q xs) ≡ cond (p x) 1 0 + count_by p xs in
+    let gone : q x ≡ true → P true = λ (e : q x ≡ true).
+    let one : ◌≡◌ {A = ℕ} (cond (p x) 1 0) 1 = ap (λ (b : Bool). cond b 1 0) (within x e) in
+    let goal : count_by p left + (1 + count_by q xs) ≡ cond (p x) 1 0 + count_by p xs = omega (arith, one, rest) in goal in
+    let stays : P false =
+    let goal : count_by p (x ∷ left) + (0 + count_by q xs) ≡ cond (p x) 1 0 + count_by p xs = omega (arith, count_by-cons p x left, rest) in goal in
+    let both : P (q x) = ⊎_elim (λ (e : q x ≡ true). subst P (sym e) (gone e)) (λ (e : q x ≡ false). subst P (sym e) stays) (cases_Bool (q x)) in
+    ap (λ n. count_by p (filter (λ y. not (q y)) (x ∷ xs)) + n) (count_by-cons q x xs) ∙ both ∙ sym (count_by-cons p x xs)
+
+abbrev pub pending_checkpoint : Record → Bool
+pending_checkpoint r = is_pending r && is_checkpoint r
+
+abbrev pub is_late : State → Record → Bool
+is_late m r = is_expired m m.latest r && is_checkpoint r
+
+-- so many checkpoints are left pending once the expired records are dropped
+pub pending_left : (m : State) (failures : ℕ) → pending_checkpoints (drop (record m { failures = failures }) (is_expired m m.latest) None) + count_by (is_late m) m.records ≡ pending_checkpoints m
+unfolding drop
+pending_left m failures =
+    let expired : Record → Bool = is_expired m m.latest in
+    let same : count_by pending_checkpoint (kept expired None m.records) ≡ count_by pending_checkpoint (filter (λ r. not (is_late m r)) m.records) =
+    ap (count_by pending_checkpoint) (map_itself (unpinned None) (filter (keeps expired) m.records) (λ r h. refl))
+    ∙ count_by-filter_agree pending_checkpoint (keeps expired) (λ r. not (is_late m r)) m.records (λ r e. ap not (late_is m r e)) in
+    ap (λ n. n + count_by (is_late m) m.records) same
+    ∙ split pending_checkpoint (is_late m) m.records (λ r e. let p = and_parts (is_expired m m.latest r) (is_checkpoint r) e in and_both (is_pending r) (is_checkpoint r) (and_parts (is_pending r) (leb (r.started + m.opening.config.timeout) m.latest) p.0).0 p.1)
+  where
+    and_both : (a b : Bool) → a ≡ true → b ≡ true → (a && b) ≡ true
+    and_both a b e f = ap (λ x. x && b) e ∙ f
+
+    and_true : (a b : Bool) → b ≡ true → a ≡ (a && b)
+    and_true true b e = sym e
+    and_true false b e = refl
+
+    -- among pending checkpoints
+    late_is : (m : State) (r : Record) → pending_checkpoint r ≡ true → is_expired m m.latest r ≡ is_late m r
+    late_is m r e = and_true (is_expired m m.latest r) (is_checkpoint r) (and_parts (is_pending r) (is_checkpoint r) e).1
+
+    count_by-filter_agree : (p q t : Record → Bool) (rs : List Record) → ((r : Record) → p r ≡ true → q r ≡ t r) → count_by p (filter q rs) ≡ count_by p (filter t rs)
+    count_by-filter_agree p q t rs agree =
+        let both : (r : Record) → (q r && p r) ≡ (t r && p r) = λ r. ⊎_elim (λ (e : p r ≡ true). ap (λ b. b && p r) (agree r e)) (λ (e : p r ≡ false). and_right (q r) (p r) e ∙ sym (and_right (t r) (p r) e)) (cases_Bool (p r)) in
+        count_by-filter p q rs ∙ count_same (λ r. q r && p r) (λ r. t r && p r) rs (λ r h. both r) ∙ sym (count_by-filter p t rs)
+
+-- the whole tick
+
+tick_if : (m : State) (b : Bool) → (ltb 0 (count_by (is_late m) m.records) && ltb m.opening.config.tolerable (m.failures + count_by (is_late m) m.records)) ≡ b →
+    tick m ≡ cond b (stepped (failed_over (record m { failures = m.failures + count_by (is_late m) m.records })) (ticked (dropped_by m (is_expired m m.latest)) ends.Failed))
+    (after_expiry (drop (record m { failures = m.failures + count_by (is_late m) m.records }) (is_expired m m.latest) None) (dropped_by m (is_expired m m.latest)))
+unfolding tick
+tick_if m b e = ap (λ c. cond c (stepped (failed_over (record m { failures = m.failures + count_by (is_late m) m.records })) (ticked (dropped_by m (is_expired m m.latest)) ends.Failed))
+    (after_expiry (drop (record m { failures = m.failures + count_by (is_late m) m.records }) (is_expired m m.latest) None) (dropped_by m (is_expired m m.latest)))) e
+
+-- too many have failed
+pub tick_fails : (m : State) (late failures expired : ℕ) → late ≡ count_by (is_late m) m.records → failures ≡ m.failures + late → expired ≡ dropped_by m (is_expired m m.latest) → 0 < late → m.opening.config.tolerable < failures →
+    tick m ≡ (record (failed_over m) { failures = failures }, ticked expired ends.Failed)
+unfolding failed_over drop
+tick_fails m late failures expired l f e some many =
+    let all : failures ≡ m.failures + count_by (is_late m) m.records = f ∙ ap (λ n. m.failures + n) l in
+    tick_if m true (and_true_both (ltb 0 (count_by (is_late m) m.records)) (ltb m.opening.config.tolerable (m.failures + count_by (is_late m) m.records)) (ap (ltb 0) (sym l) ∙ lt-ltb 0 late some) (ap (ltb m.opening.config.tolerable) (sym all) ∙ lt-ltb m.opening.config.tolerable failures many))
+    ∙ ap (λ n. stepped (record (failed_over m) { failures = n }) (ticked (dropped_by m (is_expired m m.latest)) ends.Failed)) (sym all)
+    ∙ ap (λ n. stepped (record (failed_over m) { failures = failures }) (ticked n ends.Failed)) (sym e)
+  where
+    and_true_both : (a b : Bool) → a ≡ true → b ≡ true → (a && b) ≡ true
+    and_true_both a b e f = ap (λ x. x && b) e ∙ f
+
+-- few have failed
+pub tick_goes : (m : State) (late failures expired pending : ℕ) → late ≡ count_by (is_late m) m.records → failures ≡ m.failures + late → expired ≡ dropped_by m (is_expired m m.latest) → pending + late ≡ pending_checkpoints m →
+    (late ≡ 0) ⊎ (failures ≤ m.opening.config.tolerable) → tick m ≡ start_or_hold (drop (record m { failures = failures }) (is_expired m m.latest) None) expired (held_at m pending)
+unfolding after_expiry drop
+tick_goes m late failures expired pending l f e p few =
+    let all : failures ≡ m.failures + count_by (is_late m) m.records = f ∙ ap (λ n. m.failures + n) l in
+    let test : (ltb 0 (count_by (is_late m) m.records) && ltb m.opening.config.tolerable (m.failures + count_by (is_late m) m.records)) ≡ false =
+    ap (λ n. ltb 0 n && ltb m.opening.config.tolerable (m.failures + count_by (is_late m) m.records)) (sym l) ∙ ap (λ n. ltb 0 late && ltb m.opening.config.tolerable n) (sym all) ∙ not_both late failures m.opening.config.tolerable few in
+    let left : pending_checkpoints (drop (record m { failures = failures }) (is_expired m m.latest) None) ≡ pending = let total = pending_left m failures in omega (arith, total, l, p) in
+    tick_if m false test
+    ∙ ap (λ n. after_expiry (drop (record m { failures = n }) (is_expired m m.latest) None) (dropped_by m (is_expired m m.latest))) (sym all)
+    ∙ ap (after_expiry (drop (record m { failures = failures }) (is_expired m m.latest) None)) (sym e)
+    ∙ ap (λ n. start_or_hold (drop (record m { failures = failures }) (is_expired m m.latest) None) expired (held_at m n)) left
+  where
+    not_both : (late failures tolerable : ℕ) → (late ≡ 0) ⊎ (failures ≤ tolerable) → (ltb 0 late && ltb tolerable failures) ≡ false
+    not_both late failures tolerable (inl e) = ap (λ n. ltb 0 n && ltb tolerable failures) e
+    not_both late failures tolerable (inr h) = fails (ltb 0 late && ltb tolerable failures) (λ k. let lt = ltb-true tolerable failures (and_parts (ltb 0 late) (ltb tolerable failures) k).1 in omega arith)
+
+-- with what the start left
+pub tick_starts : (m after : State) (late failures expired pending : ℕ) (b : Record → Bool) (end : TickEnd) → IsSound m → late ≡ count_by (is_late m) m.records → failures ≡ m.failures + late → expired ≡ dropped_by m (is_expired m m.latest) →
+    pending + late ≡ pending_checkpoints m → (late ≡ 0) ⊎ (failures ≤ m.opening.config.tolerable) → ((r : Record) → IsIn r m.records → is_expired m m.latest r ≡ b r) → b (new_record m kind.Checkpoint) ≡ false → Starts m pending after end →
+    tick m ≡ (record (drop after b None) { failures = failures }, ticked expired end)
+tick_starts m after late failures expired pending b end s l f e p few agree stays starts =
+    let spared : (r : Record) → IsIn r m.records → r.done ≡ true → b r ≡ false = λ r h d. sym (agree r h) ∙ ap (λ x. not x && leb (r.started + m.opening.config.timeout) m.latest) d in
+    tick_goes m late failures expired pending l f e p few ∙ start_then_drop m (held_at m pending) failures expired (is_expired m m.latest) b after end s agree spared stays (starts expired)

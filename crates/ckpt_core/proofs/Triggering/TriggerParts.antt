@@ -1,0 +1,224 @@
+-- What a trigger does to the parts is what it does to the state.
+use Rattle.std.proofs.Common.{◌≡◌, ℕ, ◌+◌, ◌<◌, ◌≤◌, Bool, true, false, not, ◌&&◌, cond, ltb, eqb, List, [], ◌∷◌, ◌++◌, map, length, refl, sym, ap, subst, ◌∙◌, ⊎_elim, arith, Option, Some, None, unwrap_or, max}
+use Rattle.std.specs.Prelude.{count_by}
+use Rattle.std.specs.List.{filter}
+use Rattle.std.specs.Vec.{vec_capacity}
+use Rattle.std.specs.Global.{Vec}
+use Rattle.ckpt_ids.specs.declared.numbers.CheckpointId.{CheckpointId}
+use Rattle.std.proofs.lemmas.List.{append-nil, length-append}
+use Rattle.std.proofs.lemmas.List.Elements.{filter-append}
+use Rattle.std.proofs.lemmas.Bool.{cases_Bool, ne_eqb, eq-eqb, not_from_false, not_from_true}
+use Rattle.ckpt_ids.specs.declared.numbers.Kind.{Kind}
+use Rattle.ckpt_ids.specs.declared.reply.Choice.{Choice}
+use Rattle.ckpt_ids.specs.declared.reply.Choice.TheVariants as choice
+use Rattle.ckpt_ids.specs.Ascending.{IsAscendingSet, ascending_set}
+use Rattle.ckpt_ids.specs.Ordered.{IsIn, IsInOrder, in_order_once}
+use Rattle.ckpt_ids.specs.Records.{Record, Use, Pin, use_before, uses, uses_of, is_present}
+use Rattle.ckpt_ids.proofs.OrderedLemmas.{IsIn-append_cases, IsIn-append_left, IsIn-map, IsIn-from_map, IsIn-flat_map, IsIn-from_flat_map, IsIn-in_order, IsIn-in_order_once, IsIn-from_in_order_once, IsInOrder-in_order_once, same_from_members, filter-all}
+use Rattle.ckpt_ids.proofs.AscendingLemmas.{numbers_in_order}
+use Rattle.ckpt_core.specs.declared.parts.Parts.{Parts}
+use Rattle.ckpt_ids.specs.Configuration.{Configuration, IsWithinLimits}
+use Rattle.ckpt_rules.specs.Trigger.{limit}
+use Rattle.ckpt_core.specs.State.{State, is_pending, is_checkpoint, is_done_checkpoint, pins_now, files_of, chosen, choice_of}
+use Rattle.ckpt_core.specs.Soundness.{IsSound, id_before}
+use Rattle.ckpt_core.specs.Steps.{triggered}
+use Rattle.ckpt_core.specs.Inside.Grouped.{with_pins, grouped, records_of}
+use Rattle.ckpt_core.specs.Inside.Parts.{state_of, records_in, present_in, AreTied}
+use Rattle.ckpt_ids.proofs.CountLemmas.{count_by-cons}
+use Rattle.ckpt_core.proofs.Records.Counts.{IsIn-from_find}
+use Rattle.ckpt_core.proofs.Ending.HandOut.{present-from_use}
+use Rattle.ckpt_core.proofs.Using.Order.{holds, from_holds, use_of_record}
+use Rattle.ckpt_core.proofs.Records.GroupMoves.{filter_none, trigger_groups, trigger_uses, uses_of-triggered}
+use Rattle.ckpt_core.proofs.Soundness.Triggers.{ascending-pins}
+
+-- every use is of a record with an earlier number
+pub older_uses : (p : Parts) → AreTied p → IsSound (state_of p) → (u : Use) → IsIn u p.registry → u.id < p.next
+unfolding state_of
+older_uses p tied sound u h =
+    let P : List Use → Type 0 = λ us. IsIn u us in
+    let q = IsIn-from_flat_map uses_of u (records_in p) (subst P tied.uses_are h) in
+    let e : u.id ≡ q.0.id = use_of_record q.0 u q.2 in
+    let lt : q.0.id < p.next = sound.below_next q.0 q.1 in
+    omega arith
+
+pub older_records : (p : Parts) → IsSound (state_of p) → (r : Record) → IsIn r (grouped p.registry p.pending p.store.checkpoints p.store.savepoints) → r.id < p.next
+unfolding state_of
+older_records p sound r h = sound.below_next r (IsIn-in_order id_before r (grouped p.registry p.pending p.store.checkpoints p.store.savepoints) h)
+
+pub older_pending : (p : Parts) → IsSound (state_of p) → (r : Record) → IsIn r p.pending → r.id < p.next
+older_pending p sound r h =
+    older_records p sound (with_pins p.registry r) (IsIn-append_left (with_pins p.registry r) (map (with_pins p.registry) p.pending) (p.store.checkpoints ++ p.store.savepoints) (IsIn-map (with_pins p.registry) r p.pending h))
+
+chosen_in : (m : State) (c : Choice) (r : Record) → chosen c m ≡ Some r → IsIn r m.records
+chosen_in m (choice.Checkpoint id) r e = (IsIn-from_find (λ q. eqb q.id id) r m.records e).0
+chosen_in m (choice.Savepoint id) r e = (IsIn-from_find (λ q. eqb q.id id) r m.records e).0
+chosen_in m choice.Fresh r e = absurd (cc)
+
+-- a file of the choice is a use of a live record
+pub pin_used : (m : State) (f : ℕ) → IsIn f (pins_now m) → (u : Use) × IsIn u (uses m.records) × (u.file ≡ f)
+unfolding pins_now
+pin_used m f h =
+    let file : Use → ℕ = λ u. u.file in
+    let Goal : Type 0 = (u : Use) × IsIn u (uses m.records) × (u.file ≡ f) in
+    let some : (r : Record) → chosen (choice_of m) m ≡ Some r → Goal = λ r e.
+    let P : Option Record → Type 0 = λ o. IsIn f (files_of o) in
+    let q = IsIn-from_map file f (uses (r ∷ [])) (IsIn-from_in_order_once ltb f (map file (uses (r ∷ []))) (subst P e h)) in
+    let own : IsIn q.0 (uses_of r) = ⊎_elim (λ (k : IsIn q.0 (uses_of r)). k) (λ (k : IsIn q.0 []). absurd k) (IsIn-append_cases q.0 (uses_of r) [] q.1) in
+    (q.0, IsIn-flat_map uses_of r q.0 m.records (chosen_in m (choice_of m) r e) own, sym q.2) in
+    let none : chosen (choice_of m) m ≡ None → Goal = λ e.
+    let P : Option Record → Type 0 = λ o. IsIn f (files_of o) in absurd (subst P e h) in
+    elim (chosen (choice_of m) m) as (λ o. (chosen (choice_of m) m ≡ o → Goal)) [ None ↦ none | Some r ↦ some r ] refl
+
+pub pins_used : (p : Parts) → AreTied p → (f : ℕ) → IsIn f (pins_now (state_of p)) → (u : Use) × IsIn u p.registry × (u.file ≡ f)
+unfolding state_of
+pins_used p tied f h =
+    let q = pin_used (state_of p) f h in
+    let P : List Use → Type 0 = λ us. IsIn q.0 us in
+    (q.0, subst P (sym tied.uses_are) q.1, q.2)
+
+pub pins_present : (p : Parts) → AreTied p → (f : ℕ) → IsIn f (pins_now (state_of p)) → is_present p.registry f ≡ true
+pins_present p tied f h = let q = pins_used p tied f h in ap (is_present p.registry) (sym q.2) ∙ present-from_use q.0 p.registry q.1
+
+-- a file more for a file that is there does not make more files
+pub present_same : (us vs : List Use) → ((u : Use) → IsIn u us → IsIn u.file (map (λ v. v.file) vs)) → ((v : Use) → IsIn v vs → IsIn v.file (map (λ u. u.file) us)) → present_in us ≡ present_in vs
+present_same us vs forth back =
+    let file : Use → ℕ = λ u. u.file in
+    let to : (xs ys : List Use) → ((u : Use) → IsIn u xs → IsIn u.file (map file ys)) → (f : ℕ) → IsIn f (ascending_set (map file xs)) → IsIn f (ascending_set (map file ys)) = λ xs ys each f h.
+    let q = IsIn-from_map file f xs (IsIn-from_in_order_once ltb f (map file xs) h) in
+    let P : ℕ → Type 0 = λ g. IsIn g (map file ys) in
+    IsIn-in_order_once numbers_in_order f (map file ys) (subst P (sym q.2) (each q.0 q.1)) in
+    ap length (same_from_members numbers_in_order (ascending_set (map file us)) (ascending_set (map file vs))
+    (IsInOrder-in_order_once numbers_in_order (map file us)) (IsInOrder-in_order_once numbers_in_order (map file vs)) (to us vs forth) (to vs us back))
+
+-- the parts after a trigger
+abbrev pub with_record : Parts → List Use → Record → Parts
+with_record p us r = record p { pending = p.pending ++ r ∷ []; registry = us; next = p.next + 1 }
+
+abbrev pub new_record : Parts → Kind → Record
+new_record p kind = record { id = p.next; kind = kind; done = false; shape = unwrap_or p.reshaped p.opened.shape; started = p.clock.latest; acks = []; pins = [] }
+
+abbrev pub after_pin : Parts → List ℕ → List Use
+after_pin p files = in_order_once use_before (p.registry ++ holds p.next Pin files)
+
+trigger_registry : (p : Parts) → AreTied p → IsSound (state_of p) → IsInOrder use_before p.registry → after_pin p (pins_now (state_of p)) ≡ p.registry ++ holds p.next Pin (pins_now (state_of p))
+trigger_registry p tied sound order = trigger_uses p.registry p.next (pins_now (state_of p)) order (older_uses p tied sound) (ascending-pins (state_of p))
+
+trigger_records : (p : Parts) (kind : Kind) → AreTied p → IsSound (state_of p) → IsInOrder use_before p.registry →
+    records_in (with_record p (after_pin p (pins_now (state_of p))) (new_record p kind)) ≡ records_in p ++ record (new_record p kind) { pins = pins_now (state_of p) } ∷ []
+trigger_records p kind tied sound order =
+    ap (λ us. records_of us (p.pending ++ new_record p kind ∷ []) p.store.checkpoints p.store.savepoints) (trigger_registry p tied sound order)
+    ∙ trigger_groups p.registry p.pending p.store.checkpoints p.store.savepoints (new_record p kind) (pins_now (state_of p)) (older_uses p tied sound) (older_records p sound)
+
+pub trigger_state : (p : Parts) (kind : Kind) → AreTied p → IsSound (state_of p) → IsInOrder use_before p.registry →
+    state_of (with_record p (after_pin p (pins_now (state_of p))) (new_record p kind)) ≡ triggered (state_of p) kind
+unfolding state_of triggered
+trigger_state p kind tied sound order = ap (λ rs. record (state_of p) { records = rs; next = p.next + 1 }) (trigger_records p kind tied sound order)
+
+pub trigger_tied : (p : Parts) (kind : Kind) → AreTied p → IsSound (state_of p) → IsInOrder use_before p.registry → length (records_in p) + 1 ≤ vec_capacity p.ended →
+    AreTied (with_record p (after_pin p (pins_now (state_of p))) (new_record p kind))
+trigger_tied p kind tied sound order room =
+    let pins : List ℕ = pins_now (state_of p) in
+    let us' : List Use = after_pin p pins in
+    let x : Record = record (new_record p kind) { pins = pins } in
+    let records : records_in (with_record p us' (new_record p kind)) ≡ records_in p ++ x ∷ [] = trigger_records p kind tied sound order in
+    let added : us' ≡ p.registry ++ holds p.next Pin pins = trigger_registry p tied sound order in
+    let same : present_in (p.registry ++ holds p.next Pin pins) ≡ present_in p.registry =
+    present_same (p.registry ++ holds p.next Pin pins) p.registry
+    (λ u h. ⊎_elim
+    (λ (k : IsIn u p.registry). IsIn-map (λ (v : Use). v.file) u p.registry k)
+    (λ (k : IsIn u (holds p.next Pin pins)).
+    let q = pins_used p tied u.file (from_holds p.next Pin pins u k).2 in
+    let P : ℕ → Type 0 = λ g. IsIn g (map (λ v. v.file) p.registry) in
+    subst P q.2 (IsIn-map (λ (v : Use). v.file) q.0 p.registry q.1))
+    (IsIn-append_cases u p.registry (holds p.next Pin pins) h))
+    (λ u h. IsIn-map (λ (v : Use). v.file) u (p.registry ++ holds p.next Pin pins) (IsIn-append_left u p.registry (holds p.next Pin pins) h)) in
+    record {
+      uses_are = added ∙ ap (λ us. us ++ holds p.next Pin pins) tied.uses_are ∙ sym (uses_of-triggered (records_in p) x refl) ∙ ap uses (sym records);
+      retained = tied.retained;
+      tolerable = tied.tolerable;
+      spare = let e : present_in us' ≡ present_in p.registry = ap present_in added ∙ same in let s : present_in p.registry ≤ p.outbox.spare = tied.spare in omega arith;
+      room = let e : length (records_in (with_record p us' (new_record p kind))) ≡ length (records_in p) + 1 = ap length records ∙ length-append (records_in p) (x ∷ []) in omega arith;
+    }
+
+-- the record is taken back
+pub trigger_undone : (p : Parts) → IsSound (state_of p) → (x : Record) → x.id ≡ p.next → filter (λ r. not (eqb r.id p.next)) (p.pending ++ x ∷ []) ≡ p.pending
+trigger_undone p sound x e =
+    let other : Record → Bool = λ r. not (eqb r.id p.next) in
+    filter-append other p.pending (x ∷ [])
+    ∙ ap (λ rs. rs ++ filter other (x ∷ [])) (filter-all other p.pending (λ r h. let lt : r.id < p.next = older_pending p sound r h in not_from_false (eqb r.id p.next) (ne_eqb r.id p.next (λ k. omega arith))))
+    ∙ ap (λ rs. p.pending ++ rs) (filter_none other (x ∷ []) (λ r h. ⊎_elim (λ (k : r ≡ x). not_from_true (eqb r.id p.next) (eq-eqb r.id p.next (ap (λ w. w.id) k ∙ e))) (λ (k : IsIn r []). absurd k) h))
+    ∙ append-nil p.pending
+
+-- how many records live
+
+one_kind : (d c : Bool) → cond (not d && c) 1 0 + (cond (d && c) 1 0 + cond (not c) 1 0) ≡ 1
+one_kind true true = refl
+one_kind true false = refl
+one_kind false true = refl
+one_kind false false = refl
+
+three_kinds : (rs : List Record) → count_by (λ r. is_pending r && is_checkpoint r) rs + (count_by is_done_checkpoint rs + count_by (λ r. not (is_checkpoint r)) rs) ≡ length rs
+three_kinds [] = refl
+three_kinds (r ∷ rs) =
+    omega (arith, three_kinds rs, one_kind r.done (is_checkpoint r), count_by-cons (λ q. is_pending q && is_checkpoint q) r rs, count_by-cons is_done_checkpoint r rs, count_by-cons (λ q. not (is_checkpoint q)) r rs)
+
+pub limit_bound : (c : Configuration) → IsWithinLimits c → limit c ≤ 64
+limit_bound c within =
+    let P : Bool → Type 0 = λ b. cond b 1 c.at_once ≤ 64 in
+    ⊎_elim (λ (e : ltb 0 c.pause ≡ true). subst P (sym e) (omega arith)) (λ (e : ltb 0 c.pause ≡ false). subst P (sym e) within.at_once_to) (cases_Bool (ltb 0 c.pause))
+
+pub live_bound : (m : State) → IsSound m → length m.records ≤ 2064
+live_bound m sound = omega (arith, three_kinds m.records, sound.at_once, sound.retained, sound.savepoints_to, limit_bound m.opening.config sound.config)
+
+-- the same, from what the calls left
+
+pub triggered_state : (p : Parts) (kind : Kind) (pins : List ℕ) (x : Record) (pending : List Record) (us : List Use) → AreTied p → IsSound (state_of p) → IsInOrder use_before p.registry → pins ≡ pins_now (state_of p) → x ≡ new_record p kind →
+    pending ≡ p.pending ++ x ∷ [] → us ≡ in_order_once use_before (p.registry ++ holds p.next Pin pins) → state_of (record p { pending = pending; registry = us; next = p.next + 1 }) ≡ triggered (state_of p) kind
+triggered_state p kind pins x pending us tied sound order pinned new added uses_are =
+    ap (λ ps. state_of (record p { pending = ps; registry = us; next = p.next + 1 })) (added ∙ ap (λ y. p.pending ++ y ∷ []) new)
+    ∙ ap (λ vs. state_of (record p { pending = p.pending ++ new_record p kind ∷ []; registry = vs; next = p.next + 1 })) (uses_are ∙ ap (after_pin p) pinned)
+    ∙ trigger_state p kind tied sound order
+
+pub triggered_tied : (p : Parts) (kind : Kind) (pins : List ℕ) (x : Record) (pending : List Record) (us : List Use) → AreTied p → IsSound (state_of p) → IsInOrder use_before p.registry → pins ≡ pins_now (state_of p) → x ≡ new_record p kind →
+    pending ≡ p.pending ++ x ∷ [] → us ≡ in_order_once use_before (p.registry ++ holds p.next Pin pins) → length (records_in p) + 1 ≤ vec_capacity p.ended → AreTied (record p { pending = pending; registry = us; next = p.next + 1 })
+triggered_tied p kind pins x pending us tied sound order pinned new added uses_are room =
+    let P : List Record → Type 0 = λ ps. AreTied (record p { pending = ps; registry = us; next = p.next + 1 }) in
+    let Q : List Use → Type 0 = λ vs. AreTied (record p { pending = p.pending ++ new_record p kind ∷ []; registry = vs; next = p.next + 1 }) in
+    subst P (sym (added ∙ ap (λ y. p.pending ++ y ∷ []) new)) (subst Q (sym (uses_are ∙ ap (after_pin p) pinned)) (trigger_tied p kind tied sound order room))
+
+-- the parts with other room for numbers
+pub state-ended : (p : Parts) (ended : Vec CheckpointId) → state_of (record p { ended = ended }) ≡ state_of p
+unfolding state_of
+state-ended p ended = refl
+
+pub tied-ended : (p : Parts) (ended : Vec CheckpointId) → vec_capacity p.ended ≤ vec_capacity ended → AreTied p → AreTied (record p { ended = ended })
+tied-ended p ended more tied = record {
+  uses_are = tied.uses_are;
+  retained = tied.retained;
+  tolerable = tied.tolerable;
+  spare = tied.spare;
+  room = let r : length (records_in p) ≤ vec_capacity p.ended = tied.room in omega arith;
+}
+
+-- a record was added and taken out again
+pub undone_state : (p : Parts) (x : Record) (added pending : List Record) (us : List Use) → IsSound (state_of p) → x.id ≡ p.next → added ≡ p.pending ++ x ∷ [] → pending ≡ filter (λ r. not (eqb r.id p.next)) added → us ≡ p.registry → record p { pending = pending; registry = us } ≡ p
+undone_state p x added pending us sound new after removed same =
+    ap (λ ps. record p { pending = ps; registry = us }) (removed ∙ ap (filter (λ r. not (eqb r.id p.next))) after ∙ trigger_undone p sound x new)
+    ∙ ap (λ vs. record p { registry = vs }) same
+
+pub ended_state : (p q : Parts) → q ≡ record p { ended = q.ended } → state_of q ≡ state_of p
+ended_state p q e = ap state_of e ∙ state-ended p q.ended
+
+pub ended_tied : (p q : Parts) → q ≡ record p { ended = q.ended } → vec_capacity p.ended ≤ vec_capacity q.ended → AreTied p → AreTied q
+ended_tied p q e more tied = let P : Parts → Type 0 = λ w. AreTied w in subst P (sym e) (tied-ended p q.ended more tied)
+
+-- the record that a trigger makes
+pub made_record : (p : Parts) (kind : Kind) (shape : List ℕ) (started : ℕ) (x : Record) → x ≡ record { id = p.next; kind = kind; done = false; shape = shape; started = started; acks = []; pins = [] } → shape ≡ unwrap_or p.reshaped p.opened.shape → started ≡ max 0 p.clock.latest → x ≡ new_record p kind
+made_record p kind shape started x e s t =
+    let l : max 0 p.clock.latest ≡ p.clock.latest = omega arith in
+    e ∙ ap (λ w. record { id = p.next; kind = kind; done = false; shape = w; started = started; acks = []; pins = [] }) s
+    ∙ ap (λ w. record { id = p.next; kind = kind; done = false; shape = unwrap_or p.reshaped p.opened.shape; started = w; acks = []; pins = [] }) (t ∙ l)
+
+pub live_records : (p : Parts) → IsSound (state_of p) → length (records_in p) ≤ 2064
+unfolding state_of
+live_records p sound = live_bound (state_of p) sound

@@ -1,0 +1,122 @@
+-- A file's count is at most the number of holders, so far below what a counter holds.
+use Rattle.std.proofs.Common.{◌≡◌, ℕ, suc, ◌*◌, ◌<◌, ◌≤◌, Bool, true, false, ltb, eqb, List, [], ◌∷◌, map, length, refl, sym, ap, subst, ◌∙◌, inl, inr, ⊎_elim, arith}
+use Rattle.std.specs.Prelude.{sum}
+use Rattle.std.specs.List.{flat_map}
+use Rattle.std.proofs.lemmas.List.{length-map}
+use Rattle.std.proofs.lemmas.Bool.{cases_Bool, both_ways, ltb-true, eqb-true}
+use Rattle.ckpt_ids.specs.declared.ack.Acked.{Acked}
+use Rattle.ckpt_ids.specs.declared.subtask.SubtaskId.{SubtaskId}
+use Rattle.ckpt_ids.specs.Acknowledged.{is_before, acknowledges_before}
+use Rattle.ckpt_ids.specs.Ascending.{IsAscendingSet}
+use Rattle.ckpt_ids.specs.Ordered.{IsIn, ComesBefore, IsInOrder, IsStrictOrder}
+use Rattle.ckpt_ids.specs.Records.{Record, Use, Holder, Subtask, Pin, uses, uses_of, count}
+use Rattle.ckpt_ids.specs.Shapes.{subtasks}
+use Rattle.ckpt_ids.proofs.OrderedLemmas.{ComesBefore-at, IsIn-from_map, IsInOrder-map, in_tail}
+use Rattle.ckpt_ids.proofs.OrderLemmas.{subtasks_in_order}
+use Rattle.ckpt_ids.proofs.ShapeLemmas.{length-subtasks_from}
+use Rattle.ckpt_pending.proofs.SubtaskLemmas.{IsInOrder-subtasks, IsIn-subtasks}
+use Rattle.ckpt_core.specs.declared.parts.Parts.{Parts}
+use Rattle.ckpt_core.specs.Inside.Parts.{state_of, AreTied}
+use Rattle.ckpt_core.specs.State.{State}
+use Rattle.ckpt_core.specs.Soundness.{IsSound, IsRecord}
+use Rattle.ckpt_ids.proofs.CountLemmas.{count_by-append, count_by_no}
+use Rattle.ckpt_core.proofs.Records.Counts.{count_by_at_most_more}
+use Rattle.ckpt_core.proofs.Using.Order.{holds}
+use Rattle.ckpt_core.proofs.Triggering.TriggerParts.{live_bound}
+
+-- a list in strict order within another is no longer
+later_members : {X : Type 0} {before : X → X → Bool} (o : IsStrictOrder before) (y x z : X) (xs ys : List X) → ComesBefore before y ys → IsIn x ys → ComesBefore before x xs → IsIn z xs → IsIn z (y ∷ ys) → IsIn z ys
+later_members {X} {before} o y x z xs ys b there a h (inl e) =
+    let yx : before y x ≡ true = ComesBefore-at before y x ys b there in
+    let xz : before x z ≡ true = ComesBefore-at before x z xs a h in
+    absurd (both_ways (before y y) (o.irreflexive y) (o.transitive y x y yx (ap (before x) (sym e) ∙ xz)))
+later_members o y x z xs ys b there a h (inr k) = k
+
+pub length-within : {X : Type 0} {before : X → X → Bool} (o : IsStrictOrder before) (xs ys : List X) → IsInOrder before xs → IsInOrder before ys → ((z : X) → IsIn z xs → IsIn z ys) → length xs ≤ length ys
+length-within o [] ys a b within = omega arith
+length-within o (x ∷ xs) [] a b within = absurd (within x (inl refl))
+length-within {X} {before} o (x ∷ xs) (y ∷ ys) a b within =
+    let Goal : Type 0 = suc (length xs) ≤ suc (length ys) in
+    let same : x ≡ y → Goal = λ (e : x ≡ y).
+    let P : X → Type 0 = λ w. (z : X) → IsIn z xs → IsIn z (w ∷ ys) in
+    let from : P x = subst P (sym e) (λ z h. within z (inr h)) in
+    let rest : length xs ≤ length ys = length-within o xs ys a.1 b.1 (λ z h. in_tail o x z xs ys a.0 h (from z h)) in
+    omega arith in
+    let later : IsIn x ys → Goal = λ (k : IsIn x ys).
+    let all : (z : X) → IsIn z (x ∷ xs) → IsIn z ys = λ z h. ⊎_elim (λ (e : z ≡ x). let P : X → Type 0 = λ w. IsIn w ys in subst P (sym e) k) (λ (j : IsIn z xs). later_members o y x z xs ys b.0 k a.0 j (within z (inr j))) h in
+    let rest : length (x ∷ xs) ≤ length ys = length-within o (x ∷ xs) ys a b.1 all in
+    omega arith in
+    ⊎_elim same later (within x (inl refl))
+
+-- a holder names a file once
+count-absent : (id f : ℕ) (h : Holder) (files : List ℕ) → ComesBefore ltb f files → count (holds id h files) f ≡ 0
+count-absent id f h [] c = refl
+count-absent id f h (g ∷ files) c =
+    let lt : f < g = ltb-true f g c.0 in
+    let no : eqb g f ≡ false = ⊎_elim (λ (e : eqb g f ≡ true). absurd (omega (arith, eqb-true g f e))) (λ (e : eqb g f ≡ false). e) (cases_Bool (eqb g f)) in
+    count_by_no (λ u. eqb u.file f) (record { id = id; holder = h; file = g }) (holds id h files) no ∙ count-absent id f h files c.1
+
+count-holder : (id f : ℕ) (h : Holder) (files : List ℕ) → IsAscendingSet files → count (holds id h files) f ≤ 1
+count-holder id f h [] a = omega arith
+count-holder id f h (g ∷ files) a =
+    let first : Use = record { id = id; holder = h; file = g } in
+    ⊎_elim
+    (λ (e : eqb g f ≡ true).
+    let P : ℕ → Type 0 = λ w. ComesBefore ltb w files in
+    let none : count (holds id h files) f ≡ 0 = count-absent id f h files (subst P (eqb-true g f e) a.0) in
+    let more : count (first ∷ holds id h files) f ≤ suc (count (holds id h files) f) = count_by_at_most_more (λ u. eqb u.file f) first (holds id h files) in
+    omega arith)
+    (λ (e : eqb g f ≡ false).
+    let rest : count (holds id h files) f ≤ 1 = count-holder id f h files a.1 in
+    let same : count (first ∷ holds id h files) f ≡ count (holds id h files) f = count_by_no (λ u. eqb u.file f) first (holds id h files) e in
+    omega arith)
+    (cases_Bool (eqb g f))
+
+count-acks : (id f : ℕ) (acks : List Acked) → ((a : Acked) → IsIn a acks → IsAscendingSet a.files) → count (flat_map (λ a. holds id (Subtask a.subtask) a.files) acks) f ≤ length acks
+count-acks id f [] each = omega arith
+count-acks id f (a ∷ acks) each =
+    let own : count (holds id (Subtask a.subtask) a.files) f ≤ 1 = count-holder id f (Subtask a.subtask) a.files (each a (inl refl)) in
+    let rest : count (flat_map (λ b. holds id (Subtask b.subtask) b.files) acks) f ≤ length acks = count-acks id f acks (λ b h. each b (inr h)) in
+    let sum_is = count_by-append (λ (u : Use). eqb u.file f) (holds id (Subtask a.subtask) a.files) (flat_map (λ b. holds id (Subtask b.subtask) b.files) acks) in
+    omega arith
+
+acks_bound : (r : Record) → IsRecord r → length r.acks ≤ 4096
+acks_bound r sound =
+    let of : Acked → SubtaskId = λ a. a.subtask in
+    let order : IsInOrder is_before (map of r.acks) = IsInOrder-map acknowledges_before is_before of r.acks (λ a b h. h) sound.acks_in_order in
+    let within : (s : SubtaskId) → IsIn s (map of r.acks) → IsIn s (subtasks r.shape) = λ s h.
+    let q = IsIn-from_map of s r.acks h in
+    let P : SubtaskId → Type 0 = λ t. IsIn t (subtasks r.shape) in
+    subst P (sym q.2) (IsIn-subtasks r.shape q.0.subtask (sound.acks_of_subtasks q.0 q.1)) in
+    let le : length (map of r.acks) ≤ length (subtasks r.shape) = length-within subtasks_in_order (map of r.acks) (subtasks r.shape) order (IsInOrder-subtasks r.shape) within in
+    let size : length (subtasks r.shape) ≡ sum r.shape = length-subtasks_from 0 r.shape in
+    let fits : sum r.shape ≤ 4096 = sound.shape.size_to in
+    let same : length (map of r.acks) ≡ length r.acks = length-map r.acks of in
+    omega arith
+
+count-record : (f : ℕ) (r : Record) → IsRecord r → count (uses_of r) f ≤ 4097
+count-record f r sound =
+    let acked : count (flat_map (λ a. holds r.id (Subtask a.subtask) a.files) r.acks) f ≤ length r.acks = count-acks r.id f r.acks sound.files in
+    let pinned : count (holds r.id Pin r.pins) f ≤ 1 = count-holder r.id f Pin r.pins sound.pins in
+    let few : length r.acks ≤ 4096 = acks_bound r sound in
+    let sum_is = count_by-append (λ (u : Use). eqb u.file f) (flat_map (λ a. holds r.id (Subtask a.subtask) a.files) r.acks) (holds r.id Pin r.pins) in
+    omega arith
+
+pub count-records : (f : ℕ) (rs : List Record) → ((r : Record) → IsIn r rs → IsRecord r) → count (uses rs) f ≤ 4097 * length rs
+count-records f [] each = omega arith
+count-records f (r ∷ rs) each =
+    let own : count (uses_of r) f ≤ 4097 = count-record f r (each r (inl refl)) in
+    let rest : count (uses rs) f ≤ 4097 * length rs = count-records f rs (λ q h. each q (inr h)) in
+    let sum_is = count_by-append (λ (u : Use). eqb u.file f) (uses_of r) (uses rs) in
+    omega arith
+
+-- a counter of 32 bits has room for one use more of each file
+pub count_bound : (m : State) → IsSound m → (f : ℕ) → count (uses m.records) f < 4294967295
+count_bound m sound f =
+    let few : length m.records ≤ 2064 = live_bound m sound in
+    let le : count (uses m.records) f ≤ 4097 * length m.records = count-records f m.records sound.each in
+    omega arith
+
+pub registry_bound : (p : Parts) → AreTied p → IsSound (state_of p) → (f : ℕ) → count p.registry f < 4294967295
+unfolding state_of
+registry_bound p tied sound f = let P : List Use → Type 0 = λ us. count us f < 4294967295 in subst P (sym tied.uses_are) (count_bound (state_of p) sound f)

@@ -1,0 +1,7 @@
+-- What private functions say of the parts; no promise of a public function rests on believing it.
+pub mod Completing
+pub mod Grouped
+pub mod Moving
+pub mod Parts
+pub mod PendingRecords
+pub mod Starting

@@ -1,0 +1,103 @@
+-- The parts of a coordinator, seen as its state, and what ties them to one another.
+use Rattle.std.specs.Prelude.{◌≡◌, ℕ, ◌≤◌, Bool, ◌||◌, ◌==◌, List, [], map, length, unwrap_or, None, not, ◌∷◌, find, Option, Some}
+use Rattle.std.specs.List.{list_any}
+use Rattle.std.specs.Vec.{vec_capacity}
+use Rattle.ckpt_ids.specs.Ascending.{ascending_set}
+use Rattle.ckpt_ids.specs.declared.call.Call.{Call}
+use Rattle.ckpt_ids.specs.declared.reply.Reply.{Reply}
+use Rattle.ckpt_ids.specs.declared.reply.Answer.TheVariants.{Done}
+use Rattle.ckpt_ids.specs.Records.{Record, Use, uses, is_present}
+use Rattle.ckpt_outbox.specs.Queues.{is_known}
+use Rattle.ckpt_core.specs.declared.parts.Opened.{Opened}
+use Rattle.ckpt_core.specs.declared.parts.Parts.{Parts}
+use Rattle.ckpt_core.specs.State.{State, Opening, drop, released_by}
+use Rattle.ckpt_core.specs.Refusals.{refusal, first_some, is_foreign, is_repeat, named}
+use Rattle.ckpt_core.specs.Steps.{step}
+use Rattle.ckpt_core.specs.Soundness.{IsSound}
+use Rattle.ckpt_core.specs.Inside.Grouped.{records_of}
+use Rattle.ckpt_ids.specs.declared.subtask.SubtaskId.{SubtaskId}
+use Rattle.ckpt_ids.specs.declared.reply.Refusal.{Refusal}
+use Rattle.ckpt_ids.specs.declared.reply.Refusal.TheVariants.{NameTaken, FileGone}
+
+abbrev pub records_in : Parts → List Record
+records_in p = records_of p.registry p.pending p.store.checkpoints p.store.savepoints
+
+abbrev pub opening_of : Opened → Opening
+opening_of o = record { config = o.config; shape = o.shape; start = o.start; first = o.first }
+
+-- the state that the parts stand for
+unfoldable pub state_of : Parts → State
+state_of p = record {
+  opening = opening_of p.opened;
+  shape = unwrap_or p.reshaped p.opened.shape;
+  mode = p.mode;
+  latest = p.clock.latest;
+  due = p.clock.due;
+  completed = p.clock.completed;
+  failures = p.failures.number;
+  next = p.next;
+  base = p.store.base;
+  records = records_in p;
+  waiting = p.outbox.waiting;
+  taken = p.outbox.taken;
+}
+
+-- how many files are in use
+abbrev pub present_in : List Use → ℕ
+present_in us = length (ascending_set (map (λ u. u.file) us))
+
+-- what ties the parts together
+pub record AreTied (p : Parts) : Type 0 where
+  -- the registry has the uses, pins included, of all live records together
+  pub uses_are : p.registry ≡ uses (records_in p)
+  pub retained : p.store.retained ≡ p.opened.config.retained
+  pub tolerable : p.failures.tolerable ≡ p.opened.config.tolerable
+  -- each file that is in use has its place in the outbox reserved
+  pub spare : present_in p.registry ≤ p.outbox.spare
+  -- each live record has its place among the numbers that end
+  pub room : length (records_in p) ≤ vec_capacity p.ended
+
+-- the parts between two calls
+pub record AreSound (p : Parts) : Type 0 where
+  pub tied : AreTied p
+  pub sound : IsSound (state_of p)
+  pub none_ended : p.ended.items ≡ []
+
+-- whether the number of a record was noted
+abbrev pub is_noted : List ℕ → Record → Bool
+is_noted ids r = list_any (λ i. r.id == i) ids
+
+abbrev pub IsAccepted : Parts → Call → Type 0
+IsAccepted p call = refusal (state_of p) call ≡ None
+
+-- the call was accepted and answered so
+pub record Answers (old new : Parts) (call : Call) (reply : Reply) : Type 0 where
+  pub step_is : step (state_of old) call ≡ (state_of new, Done reply)
+  pub tied : AreTied new
+  pub none_ended : new.ended.items ≡ []
+
+-- nothing that the state tells has changed
+pub record Stays (old new : Parts) : Type 0 where
+  pub state_is : state_of new ≡ state_of old
+  pub tied : AreTied new
+  pub none_ended : new.ended.items ≡ []
+
+-- the records that pass the test were dropped, and so many files released
+pub record Drops (old new : Parts) (dropped : Record → Bool) (count : ℕ) : Type 0 where
+  pub state_is : state_of new ≡ drop (state_of old) dropped None
+  pub count_is : count ≡ length (released_by (state_of old) dropped None)
+  pub tied : AreTied new
+  pub none_ended : new.ended.items ≡ []
+
+-- whether a file is in use, waits for deletion or was fetched for it
+abbrev pub is_known_in : Parts → ℕ → Bool
+is_known_in p f = is_present p.registry f || is_known p.outbox f
+
+-- the rows on the part of a subtask in a pending record
+abbrev pub part_refusal : Parts → Record → SubtaskId → List ℕ → List ℕ → Option Refusal
+part_refusal p r subtask fresh reused = first_some (
+    is_foreign (Some r) subtask
+    ∷ is_repeat (Some r) subtask
+    ∷ named NameTaken (find (is_known_in p) fresh)
+    ∷ named FileGone (find (λ f. not (is_present p.registry f)) reused)
+    ∷ [])
