@@ -11,9 +11,7 @@ use Rattle.ckpt_ids.proofs.OrderLemmas.{same_subtask-Decides, subtasks_in_order}
 use Rattle.ckpt_ids.proofs.OrderedLemmas.{ComesBefore-at, IsIn-in_order}
 use Rattle.ckpt_core.specs.Laws.{Acknowledgements, one_if}
 use Rattle.ckpt_core.specs.Soundness.{IsSound}
-use Rattle.ckpt_ids.proofs.CountLemmas.{count_by-in_order}
-use Rattle.ckpt_core.proofs.CountLemmas.{count_by_no, count_by_yes}
-use Rattle.ckpt_core.proofs.Lookups.{count_none}
+use Rattle.ckpt_ids.proofs.CountLemmas.{count_by-in_order, count_by_no, count_by_yes, count_by-none}
 use Rattle.ckpt_locked.specs.Books.{History, calls_of, state_of_book}
 use Rattle.ckpt_locked.specs.Promises.{ExactlyOne, accepted_in, times_of}
 
@@ -34,7 +32,7 @@ times_of-in_order s (a ∷ acks) o =
     let rest : Bool = list_any (same_subtask s) (map (λ b. b.subtask) acks) in
     let Goal : Type 0 = times_of s (a ∷ acks) ≡ one_if (is_its a || rest) in
     let its : is_its a ≡ true → Goal = λ (e : is_its a ≡ true).
-    count_by_yes is_its a acks e ∙ ap suc (count_none is_its acks (λ b h. later_differs s a b acks o.0 h e)) ∙ sym (ap one_if (or_left (is_its a) rest e)) in
+    count_by_yes is_its a acks e ∙ ap suc (count_by-none is_its acks (λ b h. later_differs s a b acks o.0 h e)) ∙ sym (ap one_if (or_left (is_its a) rest e)) in
     let other : is_its a ≡ false → Goal = λ (e : is_its a ≡ false).
     count_by_no is_its a acks e ∙ times_of-in_order s acks o.1 ∙ sym (ap (λ b. one_if (b || rest)) e) in
     ⊎_elim its other (cases_Bool (is_its a))
