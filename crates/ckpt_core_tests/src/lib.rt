@@ -12,6 +12,8 @@ mod job;
 #[cfg(test)]
 mod limits;
 #[cfg(test)]
+mod queries;
+#[cfg(test)]
 mod records;
 #[cfg(test)]
 mod refused_memory;

@@ -77,26 +77,31 @@ found_is_first n xs (Some live) order first =
 -- of two lists it is the sooner one
 first_append : (n : ℕ) (xs ys : List Record) (a b : Option Live) → IsFirst n xs a → IsFirst n ys b → IsFirst n (xs ++ ys) (sooner a b)
 first_append n xs ys None None f g = λ r h. ⊎_elim (λ (k : IsIn r xs). f r k) (λ (k : IsIn r ys). g r k) (IsIn-append_cases r xs ys h)
-first_append n xs ys (Some a) None f g =
-    ((f.0.0, IsIn-append_left f.0.0 xs ys f.0.1, f.0.2, f.0.3),
-     λ s h t. ⊎_elim (λ (k : IsIn s xs). f.1 s k t) (λ (k : IsIn s ys). absurd (both_ways (is_from n s) (g s k) t)) (IsIn-append_cases s xs ys h))
-first_append n xs ys None (Some b) f g =
-    ((g.0.0, IsIn-append_right g.0.0 xs ys g.0.1, g.0.2, g.0.3),
-     λ s h t. ⊎_elim (λ (k : IsIn s xs). absurd (both_ways (is_from n s) (f s k) t)) (λ (k : IsIn s ys). g.1 s k t) (IsIn-append_cases s xs ys h))
+first_append n xs ys (Some a) None f g = (
+  (f.0.0, IsIn-append_left f.0.0 xs ys f.0.1, f.0.2, f.0.3),
+  λ s h t. ⊎_elim (λ (k : IsIn s xs). f.1 s k t) (λ (k : IsIn s ys). absurd (both_ways (is_from n s) (g s k) t)) (IsIn-append_cases s xs ys h),
+)
+first_append n xs ys None (Some b) f g = (
+  (g.0.0, IsIn-append_right g.0.0 xs ys g.0.1, g.0.2, g.0.3),
+  λ s h t. ⊎_elim (λ (k : IsIn s xs). absurd (both_ways (is_from n s) (f s k) t)) (λ (k : IsIn s ys). g.1 s k t) (IsIn-append_cases s xs ys h),
+)
 first_append n xs ys (Some a) (Some b) f g =
     cond_both (ltb a.id b.id) (Some a) (Some b) (IsFirst n (xs ++ ys))
-    (λ e. let below : a.id < b.id = ltb-true a.id b.id e in
-     ((f.0.0, IsIn-append_left f.0.0 xs ys f.0.1, f.0.2, f.0.3),
-      λ s h t. ⊎_elim (λ (k : IsIn s xs). f.1 s k t) (λ (k : IsIn s ys). let low : b.id ≤ s.id = g.1 s k t in let l : a.id ≤ s.id = omega arith in l) (IsIn-append_cases s xs ys h)))
-    (λ e. let below : b.id ≤ a.id = ltb-false a.id b.id e in
-     ((g.0.0, IsIn-append_right g.0.0 xs ys g.0.1, g.0.2, g.0.3),
-      λ s h t. ⊎_elim (λ (k : IsIn s xs). let low : a.id ≤ s.id = f.1 s k t in let l : b.id ≤ s.id = omega arith in l) (λ (k : IsIn s ys). g.1 s k t) (IsIn-append_cases s xs ys h)))
+    (λ e. let below : a.id < b.id = ltb-true a.id b.id e in (
+      (f.0.0, IsIn-append_left f.0.0 xs ys f.0.1, f.0.2, f.0.3),
+      λ s h t. ⊎_elim (λ (k : IsIn s xs). f.1 s k t) (λ (k : IsIn s ys). let low : b.id ≤ s.id = g.1 s k t in let l : a.id ≤ s.id = omega arith in l) (IsIn-append_cases s xs ys h),
+    ))
+    (λ e. let below : b.id ≤ a.id = ltb-false a.id b.id e in (
+      (g.0.0, IsIn-append_right g.0.0 xs ys g.0.1, g.0.2, g.0.3),
+      λ s h t. ⊎_elim (λ (k : IsIn s xs). let low : a.id ≤ s.id = f.1 s k t in let l : b.id ≤ s.id = omega arith in l) (λ (k : IsIn s ys). g.1 s k t) (IsIn-append_cases s xs ys h),
+    ))
 
 first_pinned : (n : ℕ) (us : List Use) (xs : List Record) (o : Option Live) → IsFirst n xs o → IsFirst n (map (with_pins us) xs) o
 first_pinned n us xs None f = λ r h. let q = IsIn-from_map (with_pins us) r xs h in ap (is_from n) q.2 ∙ f q.0 q.1
-first_pinned n us xs (Some live) f =
-    ((with_pins us f.0.0, IsIn-map (with_pins us) f.0.0 xs f.0.1, f.0.2, f.0.3),
-     λ s h t. let q = IsIn-from_map (with_pins us) s xs h in let low : live.id ≤ q.0.id = f.1 q.0 q.1 (ap (is_from n) (sym q.2) ∙ t) in let its : s.id ≡ q.0.id = ap (λ w. w.id) q.2 in let l : live.id ≤ s.id = omega arith in l)
+first_pinned n us xs (Some live) f = (
+  (with_pins us f.0.0, IsIn-map (with_pins us) f.0.0 xs f.0.1, f.0.2, f.0.3),
+  λ s h t. let q = IsIn-from_map (with_pins us) s xs h in let low : live.id ≤ q.0.id = f.1 q.0 q.1 (ap (is_from n) (sym q.2) ∙ t) in let its : s.id ≡ q.0.id = ap (λ w. w.id) q.2 in let l : live.id ≤ s.id = omega arith in l,
+)
 
 first_in_order : (n : ℕ) (xs : List Record) (o : Option Live) → IsFirst n xs o → IsFirst n (in_order id_before xs) o
 first_in_order n xs None f = λ r h. f r (IsIn-from_in_order id_before r xs h)
