@@ -18,13 +18,7 @@ fn main(rt: HostRuntime) -> ExitCode {
     let mut reader = rt.stdin();
     let mut writer = rt.stdout();
     let result = match secret(&rt) {
-        Ok(secret) => run_keyed(
-            rt.alloc(),
-            secret,
-            &mut reader,
-            &mut writer,
-            &mut InOrder,
-        ),
+        Ok(secret) => run_keyed(rt.alloc(), secret, &mut reader, &mut writer, &mut InOrder),
         Err(_) => Err(RunFault::Read),
     };
     match result {
