@@ -1,8 +1,9 @@
-/* scale acks SUBTASKS ROUNDS | files MOST | log FOLDER CALLS: what the coordinator costs, for docs/SCALE.md.
+/* scale acks SUBTASKS ROUNDS | files MOST | log FOLDER CALLS | replay SCRIPT: what the coordinator costs, for docs/SCALE.md.
  *
  * acks: acknowledgements a second of a job with so many subtasks, from one thread and under a lock from many.
  * files: the bytes that a coordinator has, and how long a trigger and a completion take, at 1000 live files and so on.
- * log: calls a second that are written to a log first, with a sync for each or for many; and their replay. */
+ * log: calls a second that are written to a log first, with a sync for each or for many; and their replay.
+ * replay: calls a second of a script. */
 #define _GNU_SOURCE
 #include "script.h"
 
@@ -255,8 +256,10 @@ int main(int argc, char **argv) {
         logged(path, 100 * calls, 0);
         replay(path);
         unlink(path);
+    } else if (argc == 3 && strcmp(argv[1], "replay") == 0) {
+        replay(argv[2]);
     } else {
-        fprintf(stderr, "scale acks SUBTASKS ROUNDS | files MOST | log FOLDER CALLS\n");
+        fprintf(stderr, "scale acks SUBTASKS ROUNDS | files MOST | log FOLDER CALLS | replay SCRIPT\n");
         return 2;
     }
     return 0;

@@ -4,7 +4,8 @@ import pathlib
 import subprocess
 import sys
 import tempfile
-from typing import List
+import time
+from typing import Any, Callable, List, Set
 
 import dask
 from distributed import Client, LocalCluster
@@ -15,19 +16,31 @@ WAIT = 120  # seconds for what takes one on a fast machine
 dask.config.set({"distributed.comm.timeouts.connect": "8s"})
 
 
+def wait_for(condition: Callable[[], Any]) -> None:
+    end = time.monotonic() + WAIT
+    while not condition():
+        assert time.monotonic() < end, "what is waited for does not come"
+        time.sleep(0.005)
+
+
+def addresses(client: Client) -> Set[str]:
+    """Of the workers that the scheduler knows."""
+    return set(client.scheduler_info()["workers"])
+
+
 class Worker:
     """A worker process, and its address."""
 
     def __init__(self, client: Client, scheduler: str, folder: str) -> None:
-        before = set(client.scheduler_info()["workers"])
+        before = addresses(client)
         command = ["-m", "distributed.cli.dask_worker", scheduler, "--no-nanny", "--no-dashboard", "--nthreads", "1"]
         command += ["--host", "127.0.0.1", "--memory-limit", "0", "--local-directory", folder, "--death-timeout", "60"]
         environment = {**os.environ, "PYTHONPATH": str(HERE)}
         self.process = subprocess.Popen(
             [sys.executable, *command], env=environment, stdout=subprocess.DEVNULL, stderr=subprocess.DEVNULL
         )
-        client.wait_for_workers(len(before) + 1, timeout=WAIT)
-        (self.address,) = set(client.scheduler_info()["workers"]) - before
+        wait_for(lambda: addresses(client) - before)
+        (self.address,) = addresses(client) - before
 
     def has_ended(self, within: float = 0) -> bool:
         """Whether the process has ended, or ends within so many seconds."""
@@ -61,7 +74,7 @@ class Cluster:
         """Kills it, and waits until the scheduler has seen its end."""
         worker.kill()
         self.workers.remove(worker)
-        self.client.wait_for_workers(len(self.workers), timeout=WAIT)
+        wait_for(lambda: worker.address not in addresses(self.client))
 
     def __enter__(self) -> "Cluster":
         return self

@@ -15,7 +15,7 @@ from collections import Counter
 from typing import Any, Callable, Dict, List, Optional, Sequence
 
 from channel import Channel
-from cluster import WAIT, Cluster
+from cluster import Cluster, wait_for
 from relkvanu import (
     AckCompleted, Coordinator, DeclineFailed, Failed, Refused, Reply, RestoredCheckpoint, RestoredFresh, Settings, Triggered,
 )
@@ -115,16 +115,10 @@ class Job:
         self.stop_tasks()
         self.start_tasks(tasks)
 
-    def wait_for(self, condition: Callable[[], Any]) -> None:
-        end = time.monotonic() + WAIT
-        while not condition():
-            assert time.monotonic() < end, "the job comes to no end"
-            time.sleep(0.005)
-
     def complete(self, tasks: int) -> None:
         """Waits until a checkpoint is complete since the tasks were started. Where the job failed, it is restored."""
         while not self.has_completed.is_set():
-            self.wait_for(lambda: self.has_completed.is_set() or self.has_failed.is_set())
+            wait_for(lambda: self.has_completed.is_set() or self.has_failed.is_set())
             if self.has_failed.is_set():
                 self.restart_tasks(tasks)
 
@@ -140,10 +134,10 @@ class Job:
         def has_written() -> bool:
             return victim.stops_in is not None and self.path(victim.stops_in).exists()
 
-        self.wait_for(lambda: self.has_failed.is_set() or has_written())
+        wait_for(lambda: self.has_failed.is_set() or has_written())
         self.kills += has_written()
         self.cluster.kill_worker(victim.worker)
-        self.wait_for(self.has_failed.is_set)
+        wait_for(self.has_failed.is_set)
 
     def run(self, seconds: float) -> None:
         """Until the time is over, and a lost task was declined once and expired once."""

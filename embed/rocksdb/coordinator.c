@@ -47,7 +47,9 @@ static void note_file(struct coordinator *c, uint64_t file) {
 }
 
 static void note_taken(struct coordinator *c, uint64_t len) {
-    if (c->taken_len + len > c->taken_room) {
+    if (len == 0) {
+        return;
+    } else if (c->taken_len + len > c->taken_room) {
         c->taken_room = 2 * (c->taken_len + len);
         c->taken = realloc(c->taken, c->taken_room * sizeof *c->taken);
         CHECK(c->taken != NULL, "no memory");
