@@ -1,6 +1,6 @@
 -- What a call leaves.
 use Rattle.std.proofs.Common.{◌≡◌, ℕ, zero, suc, ◌+◌, ◌^◌, ◌<◌, List, [], ◌∷◌, ◌++◌, length, drop, sym, refl, ap, ◌∙◌, subst, arith, length-append, append_assoc, All}
-use Rattle.std.proofs.lemmas.List.Elements.{All-push}
+use Rattle.std.proofs.lemmas.List.Elements.{All-nil, All-push}
 use Rattle.std.proofs.Math.Seq.{drop-append_seam}
 use Rattle.atomic_table.specs.Seated.{TableId}
 use Rattle.ckpt_ids.specs.declared.call.Call.{Call}
@@ -75,6 +75,10 @@ made pass id id' before at after call answer t book is same came e answered =
 pub length-newcomers : (lock : Lock) (n : ℕ) → length (newcomers lock n) ≡ n
 length-newcomers lock zero = refl
 length-newcomers lock (suc n) = let before = length-newcomers lock n in omega (arith, length-append (newcomers lock n) (newcomer lock n ∷ []))
+
+pub newcomers_are : (lock : Lock) (n : ℕ) → All (λ (h : Hand). h.lock ≡ lock) (newcomers lock n)
+newcomers_are lock zero = All-nil (λ (h : Hand). h.lock ≡ lock)
+newcomers_are lock (suc n) = All-push (λ (h : Hand). h.lock ≡ lock) (newcomers lock n) (newcomer lock n) (newcomers_are lock n) refl
 
 -- the lock's base is that of each of its passes
 agrees : (lock : Lock) (book : History) (found : List Entry) (h : Hand) → h.lock ≡ lock → book.entries ≡ lock.base.book.entries ++ found → later_in lock book ≡ found → SeenIn found h → Agrees lock book h
