@@ -1,22 +1,17 @@
 -- One call more, in the list and in the state.
 use Rattle.std.proofs.Common.{◌≡◌, ℕ, List, [], ◌∷◌, ◌++◌, refl, sym, ap, subst, ◌∙◌}
-use Rattle.std.specs.Prelude.{Some}
 use Rattle.std.proofs.lemmas.List.{map-append}
 use Rattle.ckpt_ids.specs.declared.call.Call.{Call}
 use Rattle.ckpt_ids.specs.declared.call.Call.TheVariants.{Count}
 use Rattle.ckpt_ids.specs.declared.reply.Answer.{Answer}
-use Rattle.ckpt_ids.specs.declared.reply.Answer.TheVariants.{Done, Refused}
-use Rattle.ckpt_ids.specs.declared.reply.Refusal.{Refusal}
-use Rattle.ckpt_ids.specs.declared.reply.Reply.TheVariants.{Counted}
-use Rattle.ckpt_ids.specs.Records.{count, uses}
 use Rattle.ckpt_core.specs.Histories.{replay}
 use Rattle.ckpt_core.specs.Laws.{CanOpen, AreCalls}
 use Rattle.ckpt_core.specs.Refusals.{refusal}
 use Rattle.ckpt_core.specs.Soundness.{IsCall}
 use Rattle.ckpt_core.specs.State.{State, Opening, opened}
-use Rattle.ckpt_core.specs.Steps.{effect, step, unless_refused}
+use Rattle.ckpt_core.specs.Steps.{effect, step}
 use Rattle.ckpt_locked.specs.declared.book.Entry.{Entry}
-use Rattle.ckpt_locked.specs.Books.{History, IsKept, calls_of, history_of, state_of_book, answer_to, entered}
+use Rattle.ckpt_locked.specs.Books.{History, IsKept, calls_of, counted, history_of, state_of_book, answer_to, entered}
 use Rattle.ckpt_locked.proofs.OpeningKept.{step_keeps_opening}
 
 replay-push : (m : State) (calls : List Call) (call : Call) → replay m (calls ++ call ∷ []) ≡ (step (replay m calls) call).0
@@ -83,12 +78,7 @@ answer_is core after entries keep call answer kept e =
     let here : (step core call).1 ≡ answer = ap (λ s. s.1) e in
     sym here ∙ ap (λ m. (step m call).1) kept.is_replay
 
--- a refused call
-pub step_refused : (m : State) (call : Call) (why : Refusal) → refusal m call ≡ Some why → step m call ≡ (m, Refused why)
-unfolding step
-step_refused m call why e = ap (unless_refused m call) e
-
 -- the answer to a Count
-pub count_answer : (h : History) (file : ℕ) → answer_to h (Count file) ≡ Done (Counted file (count (uses (state_of_book h).records) file))
+pub count_answer : (h : History) (file : ℕ) → answer_to h (Count file) ≡ counted h file
 unfolding answer_to step refusal effect
 count_answer h file = refl

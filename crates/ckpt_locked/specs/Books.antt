@@ -2,10 +2,14 @@
 use Rattle.std.specs.Prelude.{◌≡◌, ℕ, ◌+◌, if◌then◌else◌, nat_lt, List, [], ◌∷◌, ◌++◌, map, length, Option, None, slice_get}
 use Rattle.ckpt_ids.specs.declared.call.Call.{Call}
 use Rattle.ckpt_ids.specs.declared.reply.Answer.{Answer}
+use Rattle.ckpt_ids.specs.declared.reply.Answer.TheVariants.{Done}
+use Rattle.ckpt_ids.specs.declared.reply.Reply.TheVariants.{Counted}
+use Rattle.ckpt_ids.specs.Records.{count, uses}
 use Rattle.ckpt_core.specs.State.{State, Opening, opened}
 use Rattle.ckpt_core.specs.Steps.{step}
 use Rattle.ckpt_core.specs.Histories.{replay}
 use Rattle.ckpt_core.specs.Laws.{CanOpen, AreCalls}
+use Rattle.ckpt_recent.specs.Lists.{all}
 use Rattle.ckpt_locked.specs.declared.book.Entry.{Entry}
 
 -- what a book tells: the opening, each call with who made it, refused calls too, and how many of the last are in memory
@@ -13,6 +17,10 @@ pub record History : Type 0 where
   pub opening : Opening
   pub entries : List Entry
   pub keep : ℕ
+
+-- a book that was just opened, and keeps all entries
+abbrev pub newly_opened : Opening → History
+newly_opened o = record { opening = o; entries = []; keep = all }
 
 -- the entry at this place, where it is among the last `keep`
 abbrev pub entry_at : History → ℕ → Option Entry
@@ -32,6 +40,10 @@ entered h seat call = record h { entries = h.entries ++ record { seat = seat; ca
 -- what the call is answered after all of these
 unfoldable pub answer_to : History → Call → Answer
 answer_to h call = (step (state_of_book h) call).1
+
+-- the answer to a Count, which is the number of uses by live records
+abbrev pub counted : History → ℕ → Answer
+counted h file = Done (Counted file (count (uses (state_of_book h).records) file))
 
 -- a coordinator can be opened so, and each of the calls can be made
 pub record IsHistory (h : History) : Type 0 where

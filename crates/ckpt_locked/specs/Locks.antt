@@ -47,6 +47,10 @@ IsTurns id = (id.words ≡ 68) × (id.slots ≡ 1)
 abbrev pub IsOut : Sat → ℕ → Type 0
 IsOut m t = (t < 2 ^ 62) × (m ≡ (serving m.0.mine t m.0.found, (0, None) ∷ []))
 
+-- what the seat has found, and then this call of its own
+abbrev pub found_with : Sat → ℕ → Call → List Entry
+found_with m number call = m.0.found ++ entry number call ∷ []
+
 -- the book came to the seat, which had this claim
 abbrev pub CameTo : Claim → History → ℕ → Sat → Type 0
 CameTo c book t m =

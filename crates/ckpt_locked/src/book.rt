@@ -1,15 +1,6 @@
 ghost use Rattle.std.specs.Prelude.{◌≡◌, ◌↔◌, ℕ, [], length, min, IsTrue, IfOk, IfErr, OnOk, OnErr};
-ghost use Rattle.std.specs.Option.{option_copied};
-ghost use Rattle.std.specs.Result.{result_err};
-ghost use Rattle.ckpt_ids.specs.declared.call.Call.TheVariants.{Count};
-ghost use Rattle.ckpt_ids.specs.declared.reply.Answer.TheVariants.{Done};
-ghost use Rattle.ckpt_ids.specs.declared.reply.Reply.TheVariants.{Counted};
-ghost use Rattle.ckpt_ids.specs.Records.{count, uses};
-ghost use Rattle.ckpt_core.specs.Laws.{Accounted, Acknowledgements, Balance, ChoiceIsLive, Handed, Numbers, Outbox};
-ghost use Rattle.ckpt_core.specs.Opening.{open_fault};
 ghost use Rattle.ckpt_core.specs.Soundness.{IsCall, IsSound};
 ghost use Rattle.ckpt_core.specs.Steps.{step};
-ghost use Rattle.ckpt_recent.specs.Lists.{all};
 
 use ckpt_core::{Core, CoreFault, OpenFault, Secret, laws};
 use ckpt_ids::{Answer, Call, Config, Shape};
@@ -77,7 +68,12 @@ fn answer(core: &mut Core, call: &Call) -> Result<Answer, AllocError>
 }
 
 impl Book {
-    ghost use Rattle.ckpt_locked.specs.Books.{IsHistory, answer_to, calls_of, entered, entry_at, state_of_book};
+    ghost use Rattle.std.specs.Option.{option_copied};
+    ghost use Rattle.std.specs.Result.{result_err};
+    ghost use Rattle.ckpt_ids.specs.declared.call.Call.TheVariants.{Count};
+    ghost use Rattle.ckpt_core.specs.Laws.{Accounted, Acknowledgements, Balance, ChoiceIsLive, Handed, Numbers, Outbox};
+    ghost use Rattle.ckpt_core.specs.Opening.{open_fault};
+    ghost use Rattle.ckpt_locked.specs.Books.{IsHistory, answer_to, calls_of, counted, entered, entry_at, newly_opened, state_of_book};
     ghost use Rattle.ckpt_locked.specs.Promises.{AreDoneFull, AreHandedForGood, ExactlyOne, PinsHold, SavepointsStay};
 
     /// Opens a coordinator as [`Core::new`] does, with an empty list, which keeps all entries. Takes no
@@ -95,7 +91,7 @@ impl Book {
         first: u64,
     ) -> Result<Book, OpenFault>
         ensures fault { result_err result ≡ open_fault now first }
-        ensures value { IfOk result (λ book. book ≡ record { opening = record { config = config; shape = shape; start = now; first = first }; entries = []; keep = all }) }
+        ensures value { IfOk result (λ book. book ≡ newly_opened (record { config = config; shape = shape; start = now; first = first })) }
     {
         Book::keyed(alloc, config, shape, now, first, Secret::fixed())
     }
@@ -111,7 +107,7 @@ impl Book {
         secret: Secret,
     ) -> Result<Book, OpenFault>
         ensures fault { result_err result ≡ open_fault now first }
-        ensures value { IfOk result (λ book. book ≡ record { opening = record { config = config; shape = shape; start = now; first = first }; entries = []; keep = all }) }
+        ensures value { IfOk result (λ book. book ≡ newly_opened (record { config = config; shape = shape; start = now; first = first })) }
     {
         // Tells that both are within their limits.
         let _ = (config.interval(), shape.size());
@@ -133,7 +129,7 @@ impl Book {
         ensures answer { IfOk result (λ answer. answer ≡ answer_to self.old call) }
 
         // The answer to a Count is the number of uses by live records.
-        ensures count { (file : ℕ) → call ≡ Count file → IfOk result (λ answer. answer ≡ Done (Counted file (count (uses (state_of_book self.old).records) file))) }
+        ensures count { (file : ℕ) → call ≡ Count file → IfOk result (λ answer. answer ≡ counted self.old file) }
 
         // Want of memory.
         ensures returned { IfErr result (λ back. back ≡ call) }

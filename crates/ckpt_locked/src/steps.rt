@@ -5,9 +5,8 @@
 //! slot, makes its call, puts the book back, counts the entry, passes the turn on, and wakes whoever
 //! has the next ticket.
 ghost use Rattle.std.specs.Prelude.{◌≡◌, ◌+◌, ◌^◌, ◌<◌, ◌≤◌, ◌++◌, [], ◌∷◌, length};
-ghost use Rattle.ckpt_locked.specs.Seats.{calls_by, entry};
-ghost use Rattle.ckpt_locked.specs.Turns.{kept, claim, idle, waiting, Called};
-ghost use Rattle.ckpt_locked.specs.Locks.{IsTurns, IsOut, CameTo};
+ghost use Rattle.ckpt_locked.specs.Turns.{kept, grown, idle, waiting, Called};
+ghost use Rattle.ckpt_locked.specs.Locks.{IsTurns, IsOut, CameTo, found_with};
 
 use crate::book::Book;
 use crate::view::{Await, Commit, Draw, Key, Next, Stir, Turns, View};
@@ -138,9 +137,9 @@ pub fn commit(
     requires table { (seat.old.table_id ≡ shared.now.table_id) × IsTurns shared.now.table_id }
     requires out { IsOut seat.old.me ticket }
     requires number { _number ≡ seat.old.me.0.mine.number }
-    requires book { book ≡ kept seat.old.me.0.mine.base (seat.old.me.0.found ++ entry _number _call.now.value ∷ []) }
+    requires book { book ≡ kept seat.old.me.0.mine.base (found_with seat.old.me _number _call.now.value) }
     ensures same { seat.new.table_id ≡ seat.old.table_id }
-    ensures idle { let c = seat.old.me.0.mine in let log = seat.old.me.0.found ++ entry _number _call.now.value ∷ [] in seat.new.me ≡ (idle (claim c.base c.number log (calls_by c.number log)), []) }
+    ensures idle { seat.new.me ≡ (idle (grown seat.old.me.0.mine (found_with seat.old.me _number _call.now.value)), []) }
     ensures room { length seat.old.me.0.found + 1 < 2 ^ 64 }
 {
     let _len = book.len();

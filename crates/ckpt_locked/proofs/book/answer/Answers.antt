@@ -4,7 +4,7 @@ use Rattle.ckpt_ids.specs.declared.reply.Answer.TheVariants.{Refused}
 use Rattle.ckpt_core.specs.Refusals.{refusal}
 use Rattle.ckpt_core.specs.State.{State}
 use Rattle.ckpt_core.specs.Steps.{Stepped}
-use Rattle.ckpt_locked.proofs.Replays.{step_refused}
+use Rattle.ckpt_core.proofs.StepViews.{step_refused}
 use Rattle.ckpt_locked.proofs.book.answer.Goals as goal
 
 -- a refused call leaves the coordinator as it was
