@@ -13,6 +13,7 @@
 #include <dlfcn.h>
 #include <errno.h>
 #include <fcntl.h>
+#include <stdatomic.h>
 #include <stdio.h>
 #include <stdlib.h>
 #include <string.h>
@@ -26,7 +27,8 @@ struct stream {
 };
 
 static struct stream input = {.number = STDIN_FILENO}, output = {.number = STDOUT_FILENO};
-static long allocations, refuse_at, refuse_rest, random_zeros, random_fails;
+static long refuse_at, refuse_rest, random_zeros, random_fails;
+static atomic_long allocations; /* threads allocate side by side */
 static int is_ready;
 
 extern void *__libc_malloc(size_t);
@@ -59,7 +61,7 @@ __attribute__((destructor)) static void end(void) {
     is_ready = 0;
     if (file) {
         int at = open(file, O_WRONLY | O_CREAT | O_TRUNC, 0600);
-        int size = snprintf(text, sizeof text, "%ld %ld %ld %ld %ld\n", allocations, input.calls, output.calls, input.late, output.late);
+        int size = snprintf(text, sizeof text, "%ld %ld %ld %ld %ld\n", (long)allocations, input.calls, output.calls, input.late, output.late);
         ssize_t (*to)(int, const void *, size_t) = dlsym(RTLD_NEXT, "write");
         if (at >= 0 && to(at, text, (size_t)size) != size) {
             abort();
@@ -71,8 +73,8 @@ static int is_refused(void) {
     if (!is_ready) {
         return 0;
     }
-    allocations += 1;
-    if (refuse_at > 0 && (allocations == refuse_at || (refuse_rest && allocations > refuse_at))) {
+    long place = atomic_fetch_add(&allocations, 1) + 1;
+    if (refuse_at > 0 && (place == refuse_at || (refuse_rest && place > refuse_at))) {
         errno = ENOMEM;
         return 1;
     }

@@ -27,7 +27,7 @@ pub struct Live {
 
 impl Core {
     /// What the job is doing. It also tells a caller that the coordinator is sound.
-    #[tactic(auto, unfolding(crate::specs::Parts::state_of))]
+    #[tactic(auto, unfolding(crate::specs::Inside::Parts::state_of))]
     pub fn mode(&self) -> Mode
         ensures value { result ≡ self.now.mode }
         ensures sound { IsSound self.now }
@@ -63,7 +63,7 @@ impl Core {
 
     /// The live record at this place, where they stand in rising number, or `None` past the last.
     /// Takes a search by halves for each place before it, and looks at the pending records.
-    #[tactic(auto, unfolding(crate::specs::Parts::state_of))]
+    #[tactic(auto, unfolding(crate::specs::Inside::Parts::state_of))]
     pub fn live(&self, place: usize) -> Option<Live>
         ensures { result ≡ option_map live_of (slice_get self.now.records place) }
     {
@@ -78,7 +78,7 @@ impl Core {
     }
 
     /// How many files wait to be fetched for deletion.
-    #[tactic(auto, unfolding(crate::specs::Parts::state_of))]
+    #[tactic(auto, unfolding(crate::specs::Inside::Parts::state_of))]
     pub fn files_waiting(&self) -> u64
         ensures { result ≡ length self.now.waiting }
     {
@@ -86,7 +86,7 @@ impl Core {
     }
 
     /// How many files were fetched for deletion and are not yet reported.
-    #[tactic(auto, unfolding(crate::specs::Parts::state_of))]
+    #[tactic(auto, unfolding(crate::specs::Inside::Parts::state_of))]
     pub fn files_taken(&self) -> u64
         ensures { result ≡ length self.now.taken }
     {
@@ -95,7 +95,7 @@ impl Core {
 
     /// How many subtasks of this pending record have not acknowledged, or `None` where no record
     /// of this number is pending.
-    #[tactic(auto, unfolding(crate::specs::Parts::state_of))]
+    #[tactic(auto, unfolding(crate::specs::Inside::Parts::state_of))]
     pub fn missing(&self, id: CheckpointId) -> Option<u32>
         ensures { result ≡ option_map missing (pending_of self.now.records id) }
     {
