@@ -1,0 +1,80 @@
+//! Draws a job script: reads it on standard input, and writes a picture of it to standard output, as
+//! SVG.
+//!
+//! The script is run through a book, as `ckpt_job` runs it; what each record came to is asked of the
+//! coordinator. Ends with status 0; with 1 where a line had a fault, which standard error tells; with
+//! 2 where there is no picture, and then standard error says why.
+#![tactic(auto)]
+
+mod fault;
+mod files;
+mod history;
+mod lanes;
+mod panels;
+mod picture;
+mod player;
+mod records;
+mod scale;
+
+use crate::fault::ChartFault;
+use crate::picture::drawn;
+use crate::player::Player;
+use ckpt_lines::{LineFault, parse_line};
+use std::io::Read;
+use std::process::ExitCode;
+
+/// There is no picture.
+const NO_PICTURE: u8 = 2;
+
+/// Obeys a line, and answers whether it had a fault.
+fn obeyed(
+    rt: &HostRuntime,
+    player: &mut Player,
+    number: usize,
+    line: &[u8],
+) -> Result<bool, ChartFault> {
+    match parse_line(rt.alloc(), line) {
+        Ok(line) => {
+            player.obey(line)?;
+            Ok(false)
+        }
+        Err(LineFault::Memory) => Err(ChartFault::Memory),
+        Err(why) => {
+            // Where standard error fails too, the status alone tells.
+            let _ = eprintln!(rt; "line {number} fault: {why}");
+            Ok(true)
+        }
+    }
+}
+
+/// Draws the script, and answers how many lines had a fault.
+fn chart(rt: &HostRuntime) -> Result<u64, ChartFault> {
+    let mut script = Vec::new(rt.alloc());
+    let mut reader = rt.stdin();
+    reader
+        .read_to_end(&mut script)
+        .map_err(|_| ChartFault::Read)?;
+    let mut player = Player::new(rt.alloc());
+    let mut faults: u64 = 0;
+    for (place, line) in script.split(|byte| *byte == b'\n').enumerate() {
+        if obeyed(rt, &mut player, place.saturating_add(1), line)? {
+            faults = faults.saturating_add(1);
+        }
+    }
+    let Some(history) = player.end() else {
+        return Err(ChartFault::NotStarted);
+    };
+    let text = drawn(rt.alloc(), &history)?;
+    print!(rt; "{text}").map_err(|_| ChartFault::Write)?;
+    Ok(faults)
+}
+
+fn main(rt: HostRuntime) -> ExitCode {
+    match chart(&rt) {
+        Ok(faults) => ExitCode::from(u8::from(faults > 0)),
+        Err(fault) => {
+            let _ = eprintln!(&rt; "fault: {fault}");
+            ExitCode::from(NO_PICTURE)
+        }
+    }
+}
