@@ -1,0 +1,4 @@
+pub mod LineLemmas
+pub mod NumberWords
+pub mod PieceLemmas
+pub mod ReadBack

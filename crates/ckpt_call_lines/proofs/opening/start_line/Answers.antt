@@ -1,0 +1,10 @@
+use Rattle.std.proofs.Common.{rules}
+use Rattle.ckpt_call_lines.specs.CallTexts.{start_text}
+use Rattle.ckpt_call_lines.proofs.ReadBack.{start}
+use Rattle.ckpt_call_lines.proofs.opening.start_line.Goals as goal
+
+pub returns-clause-read : goal.returns-clause-read
+unfolding start_text
+returns-clause-read c =
+    let read = start c.args.now c.write_number.ensures.fits in
+    search (rules, read, c.write_number.ensures.text)

@@ -1,0 +1,118 @@
+-- How calls are written as lines of a script, and the lines that open a job.
+use Rattle.std.specs.Prelude.{ℕ, ⊤, ◌≤◌, ◌<◌, ◌^◌, All, Bool, true, false, List, [], ◌∷◌, ◌++◌, flat_map, codes, decimal, length, Option, Some, None, Ok, ◌≡◌}
+use Rattle.ckpt_ids.specs.declared.subtask.SubtaskId.{SubtaskId}
+use Rattle.ckpt_ids.specs.declared.call.Target.{Target}
+use Rattle.ckpt_ids.specs.declared.call.Target.TheVariants as target
+use Rattle.ckpt_ids.specs.declared.call.Call.{Call}
+use Rattle.ckpt_ids.specs.declared.call.Call.TheVariants as call
+use Rattle.ckpt_ids.specs.Ascending.{IsAscending}
+use Rattle.ckpt_ids.specs.Configuration.{Configuration}
+use Rattle.ckpt_lines.specs.declared.line.Line.{Line}
+use Rattle.ckpt_lines.specs.declared.line.Line.TheVariants as line
+use Rattle.ckpt_lines.specs.Reading.{reading}
+use Rattle.ckpt_texts.specs.Texts.{spaced}
+use Rattle.ckpt_texts.specs.MetadataTexts.{subtask_bytes}
+
+abbrev pub subtask_text : SubtaskId → List ℕ
+subtask_text s = codes " " ++ subtask_bytes s
+
+abbrev pub target_text : Target → List ℕ
+target_text target.Latest = codes " latest"
+target_text (target.Savepoint id) = spaced id
+
+abbrev pub fresh_text : ℕ → List ℕ
+fresh_text file = codes " +" ++ decimal file
+
+abbrev pub reused_text : ℕ → List ℕ
+reused_text file = codes " =" ++ decimal file
+
+-- the parallelisms, or none where the shape stays
+abbrev pub parallelisms : Option (List ℕ) → List ℕ
+parallelisms None = []
+parallelisms (Some shape) = shape
+
+-- the line of a call, without its newline
+unfoldable pub call_text : Call → List ℕ
+call_text (call.Tick now) = codes "tick" ++ spaced now
+call_text (call.Savepoint now) = codes "savepoint" ++ spaced now
+call_text (call.Ack now id s fresh reused) = codes "ack" ++ spaced now ++ spaced id ++ subtask_text s ++ flat_map fresh_text fresh ++ flat_map reused_text reused
+call_text (call.Decline now id s) = codes "decline" ++ spaced now ++ spaced id ++ subtask_text s
+call_text (call.Dispose id) = codes "dispose" ++ spaced id
+call_text (call.Restore now t shape) = codes "restore" ++ spaced now ++ target_text t ++ flat_map spaced (parallelisms shape)
+call_text (call.Cancel now) = codes "cancel" ++ spaced now
+call_text (call.Take most) = codes "take" ++ spaced most
+call_text (call.Deleted file) = codes "deleted" ++ spaced file
+call_text (call.Undeleted file) = codes "undeleted" ++ spaced file
+call_text (call.Show id) = codes "show" ++ spaced id
+call_text (call.Count file) = codes "count" ++ spaced file
+
+-- the line that says the call
+abbrev pub line_of_call : Call → Line
+line_of_call (call.Tick now) = line.Tick now
+line_of_call (call.Savepoint now) = line.Savepoint now
+line_of_call (call.Ack now id s fresh reused) = line.Ack now id s fresh reused
+line_of_call (call.Decline now id s) = line.Decline now id s
+line_of_call (call.Dispose id) = line.Dispose id
+line_of_call (call.Restore now t shape) = line.Restore now t (parallelisms shape)
+line_of_call (call.Cancel now) = line.Cancel now
+line_of_call (call.Take most) = line.Take most
+line_of_call (call.Deleted file) = line.Deleted file
+line_of_call (call.Undeleted file) = line.Undeleted file
+line_of_call (call.Show id) = line.Show id
+line_of_call (call.Count file) = line.Count file
+
+abbrev pub retention_text : Bool → List ℕ
+retention_text true = codes " keep"
+retention_text false = codes " delete"
+
+-- when checkpoints are triggered
+unfoldable pub triggers_text : Configuration → List ℕ
+triggers_text c = codes "config" ++ spaced c.interval ++ spaced c.pause ++ spaced c.at_once
+
+-- when they are given up, and which are kept
+unfoldable pub limits_text : Configuration → List ℕ
+limits_text c = spaced c.timeout ++ spaced c.tolerable ++ spaced c.retained ++ retention_text c.keep_on_cancel
+
+unfoldable pub config_text : Configuration → List ℕ
+config_text c = triggers_text c ++ limits_text c
+
+abbrev pub line_of_config : Configuration → Line
+line_of_config c = line.Config c.interval c.pause c.at_once c.timeout c.tolerable c.retained c.keep_on_cancel
+
+unfoldable pub job_text : List ℕ → List ℕ
+job_text shape = codes "job" ++ flat_map spaced shape
+
+unfoldable pub start_text : ℕ → List ℕ
+start_text now = codes "start" ++ spaced now
+
+-- what the types of the places allow: numbers of 64 bits, halves of a subtask of 16 bits
+abbrev pub Fits : ℕ → Type 0
+Fits n = n < 2 ^ 64
+
+abbrev pub FitsSubtask : SubtaskId → Type 0
+FitsSubtask s = (s.vertex < 2 ^ 16) × (s.index < 2 ^ 16)
+
+abbrev pub FitsTarget : Target → Type 0
+FitsTarget target.Latest = ⊤
+FitsTarget (target.Savepoint id) = Fits id
+
+abbrev pub FitsFiles : List ℕ → Type 0
+FitsFiles files = All Fits files × IsAscending files
+
+abbrev pub FitsCall : Call → Type 0
+FitsCall (call.Tick now) = Fits now
+FitsCall (call.Savepoint now) = Fits now
+FitsCall (call.Ack now id s fresh reused) = Fits now × Fits id × FitsSubtask s × FitsFiles fresh × FitsFiles reused
+FitsCall (call.Decline now id s) = Fits now × Fits id × FitsSubtask s
+FitsCall (call.Dispose id) = Fits id
+FitsCall (call.Restore now t shape) = Fits now × FitsTarget t × All Fits (parallelisms shape)
+FitsCall (call.Cancel now) = Fits now
+FitsCall (call.Take most) = Fits most
+FitsCall (call.Deleted file) = Fits file
+FitsCall (call.Undeleted file) = Fits file
+FitsCall (call.Show id) = Fits id
+FitsCall (call.Count file) = Fits file
+
+-- a text within the limit of lines is read as this line
+abbrev pub IsReadAs : Line → List ℕ → Type 0
+IsReadAs read text = length text ≤ 131072 → reading text ≡ Ok read
