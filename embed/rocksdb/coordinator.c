@@ -186,7 +186,7 @@ void coordinator_open(struct coordinator *c, const char *log, struct death death
     CHECK(ftruncate(c->log, whole) == 0, "%s can't be cut off after its last whole line", log);
     c->death = death;
     if (c->script.handle.state == NULL) {
-        coordinator_call(c, "config 100 0 2 5000 2 2 delete");
+        coordinator_call(c, "config 100 0 2 20000 2 2 delete");
         coordinator_call(c, "job %d", TASKS);
         coordinator_call(c, "start %" PRIu64, now());
     }
