@@ -6,14 +6,9 @@
 #[cfg(test)]
 mod desk;
 #[cfg(test)]
-mod embedding;
-#[cfg(test)]
 mod gates;
 #[cfg(test)]
 mod rounds;
-pub mod spreading;
-#[cfg(test)]
-mod spreads;
 #[cfg(test)]
 mod teams;
 #[cfg(test)]

@@ -4,7 +4,7 @@ ghost use Rattle.std.specs.Prelude.{◌<◌, ◌≤◌};
 use crate::desk::open;
 use ckpt_ids::{Call, CheckpointId, FileId, Files, SubtaskId};
 use ckpt_locked::Book;
-use ckpt_workers::{InOrder, Team, Threads};
+use ckpt_workers::{InOrder, Team};
 use std::alloc::Global;
 use std::process::Abort;
 use std::test::Fail;
@@ -48,10 +48,4 @@ fn completes(rt: &impl Abort, alloc: Global, team: &mut impl Team, threads: u32)
 fn in_order(rt: HostRuntime) -> Result<(), Fail> {
     completes(&rt, rt.alloc(), &mut InOrder, 1)?;
     completes(&rt, rt.alloc(), &mut InOrder, 2)
-}
-
-#[test]
-fn in_threads(rt: HostRuntime) -> Result<(), Fail> {
-    completes(&rt, rt.alloc(), &mut Threads::new(&rt, rt.alloc()), 1)?;
-    completes(&rt, rt.alloc(), &mut Threads::new(&rt, rt.alloc()), 2)
 }

@@ -1,14 +1,9 @@
 //! Timers, tasks and discarders over one lock: what they counted.
-ghost use Rattle.std.specs.Prelude.{◌≡◌, IfOk};
-
 use crate::desk::{Disk, Listed, open, order, orders, three, two};
 use crate::gates::Forgetful;
 use ckpt_ids::{Answer, Call, FileId, Handed, Reply, TickEnd};
-use ckpt_locked::{Locked, Pass};
 use ckpt_workers::{BadOrder, Tally, TimerTally, discard_round, task_worker, timer_worker};
 use std::alloc::Global;
-use std::process::Abort;
-use std::sync::Wait;
 use std::sync::atomic::AtomicU64;
 use std::test::Fail;
 
@@ -44,75 +39,27 @@ fn an_order_is_refused_for_its_moment(rt: HostRuntime) -> Result<(), Fail> {
     Ok(())
 }
 
-/// The timer gives these moments; each tick is accepted.
-fn ticks<R: Abort + Wait>(
-    rt: &R,
-    alloc: Global,
-    lock: &Locked,
-    pass: Pass,
-    moments: &[u64],
-) -> Result<Pass, Fail>
-    requires { pass.lock ≡ lock.now }
-    ensures { IfOk result (λ p. p.lock ≡ lock.now) }
-{
-    let (pass, tally) = timer_worker(rt, lock, pass, &mut at(alloc, moments)?);
-    assert_eq!(rt; tally, ticked(moments.len() as u64));
-    Ok(pass)
-}
-
-/// The task is given these orders, and so many are accepted and late.
-fn tasks<R: Abort + Wait>(
-    rt: &R,
-    alloc: Global,
-    lock: &Locked,
-    pass: Pass,
-    rows: &[(u64, u64, u16, u64)],
-    accepted: u64,
-    late: u64,
-) -> Result<Pass, Fail>
-    requires { pass.lock ≡ lock.now }
-    ensures { IfOk result (λ p. p.lock ≡ lock.now) }
-{
-    let (pass, tally) = task_worker(rt, lock, pass, orders(rt, alloc, rows)?);
-    assert_eq!(rt; tally, acknowledged(accepted, late, 0));
-    Ok(pass)
-}
-
-/// A round of the discarder, of which nothing is left.
-fn discards<'a, R: Abort + Wait>(
-    rt: &R,
-    alloc: Global,
-    lock: &Locked,
-    pass: Pass,
-    disk: &mut Disk<'a, R>,
-    counts: (u64, u64, u64),
-) -> Pass
-    requires { pass.lock ≡ lock.now }
-    ensures { result.lock ≡ lock.now }
-{
-    let (pass, round) = discard_round(rt, alloc, lock, pass, disk, 8);
-    assert_eq!(rt; (round.taken, round.deleted, round.failed), counts);
-    assert!(rt; round.left.is_empty() && !round.gone && !round.memory);
-    pass
-}
-
 /// A checkpoint is triggered, acknowledged and acknowledged again; the next one subsumes it, and its
 /// file is deleted at the second try.
 #[test]
 fn three_workers_share_a_lock(rt: HostRuntime) -> Result<(), Fail> {
     let alloc = rt.alloc();
-    let (lock, timer, task, discarder) = three(&rt, open(alloc, 600_000, 0, 1)?)?;
-    let timer = ticks(&rt, alloc, &lock, timer, &[999, 1000])?;
+    let book = open(alloc, 600_000, 0, 1)?;
+    let (lock, timer, task, discarder) = three(&rt, book)?;
+    let (timer, tally) = timer_worker(&rt, &lock, timer, &mut at(alloc, &[999, 1000])?);
+    assert_eq!(rt; tally, ticked(2));
     let rows = [(1000, 1, 0, 11), (1001, 1, 0, 11)];
-    let task = tasks(&rt, alloc, &lock, task, &rows, 1, 1)?;
-    ticks(&rt, alloc, &lock, timer, &[2000])?;
-    tasks(&rt, alloc, &lock, task, &[(2000, 2, 0, 12)], 1, 0)?;
+    let (task, tally) = task_worker(&rt, &lock, task, orders(&rt, alloc, &rows)?);
+    assert_eq!(rt; tally, acknowledged(1, 1, 0));
+    let (_timer, tally) = timer_worker(&rt, &lock, timer, &mut at(alloc, &[2000])?);
+    assert_eq!(rt; tally, ticked(1));
+    let (_task, tally) = task_worker(&rt, &lock, task, orders(&rt, alloc, &[(2000, 2, 0, 12)])?);
+    assert_eq!(rt; tally, acknowledged(1, 0, 0));
 
     let mut disk = Disk::new(&rt, alloc, Some(0));
-    let discarder = discards(&rt, alloc, &lock, discarder, &mut disk, (1, 0, 1));
-    let discarder = discards(&rt, alloc, &lock, discarder, &mut disk, (1, 1, 0));
-    assert!(rt; disk.deleted.as_slice() == [FileId(11)].as_slice());
-    discards(&rt, alloc, &lock, discarder, &mut disk, (0, 0, 0));
+    let (_discarder, round) = discard_round(&rt, alloc, &lock, discarder, &mut disk, 8);
+    assert_eq!(rt; (round.taken, round.deleted, round.failed), (1, 0, 1));
+    assert!(rt; round.left.is_empty() && !round.gone && !round.memory);
     Ok(())
 }
 

@@ -1,7 +1,0 @@
-use denote.Param.Send.{sendable}
-use Rattle.std.proofs.Crossing.{crosses}
-use Rattle.ckpt_locked.proofs.Crossings.{locked_sync}
-use Rattle.ckpt_workers_tests.proofs.spreading.over_lock.Goals as goal
-
-pub spread-requires-sync-G : goal.spread-requires-sync-G
-spread-requires-sync-G g c = search (locked_sync, sendable, crosses) depth 20
