@@ -229,7 +229,8 @@ fn is_done<R: Wait, G: Gate>(rt: &R, gate: &G, pass: Pass, id: Option<Checkpoint
 #[derive(Clone, Copy, PartialEq, Eq)]
 enum Act {
     Savepoint,
-    RollBack(CheckpointId),
+    /// To the savepoint with this number.
+    RollBack(u64),
     Rescale,
     Nothing,
 }
@@ -250,12 +251,12 @@ fn acted<R: Wait, G: Gate>(
         Act::Savepoint => {
             let (pass, reply) = asked(rt, gate, pass, Call::Savepoint { now });
             match reply {
-                Some(Reply::SavepointTriggered(id)) => (pass, Act::RollBack(id)),
+                Some(Reply::SavepointTriggered(id)) => (pass, Act::RollBack(id.0)),
                 _ => (pass, Act::Savepoint),
             }
         }
         Act::RollBack(id) => {
-            let target = Target::Savepoint(id);
+            let target = Target::Savepoint(CheckpointId(id));
             let (pass, _) = asked(
                 rt,
                 gate,
