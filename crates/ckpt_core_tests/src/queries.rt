@@ -11,27 +11,50 @@ fn opened(alloc: Global) -> Result<Core, Fail> {
     Ok(Core::new(alloc, config, shape, 0, 1)?)
 }
 
+/// The same job, with checkpoint 1 pending since 1000.
+fn ticked(alloc: Global) -> Result<Core, Fail> {
+    let mut core = opened(alloc)?;
+    core.apply(&Call::Tick { now: 1000 })?;
+    Ok(core)
+}
+
 #[test]
-fn a_coordinator_tells_what_waits(rt: HostRuntime) -> Result<(), Fail> {
-    let mut core = opened(rt.alloc())?;
+fn a_new_coordinator_waits_for_the_interval(rt: HostRuntime) -> Result<(), Fail> {
+    let core = opened(rt.alloc())?;
     assert_eq!(rt; core.mode(), Mode::Running);
     assert_eq!(rt; core.choice(), Choice::Fresh);
     assert_eq!(rt; core.due(), 1000);
     assert_eq!(rt; core.oldest_expiry(), None);
     assert_eq!(rt; core.live(0), None);
-    core.apply(&Call::Tick { now: 1000 })?;
-    core.apply(&Call::Savepoint { now: 1500 })?;
+    Ok(())
+}
+
+#[test]
+fn a_pending_record_expires_after_its_timeout(rt: HostRuntime) -> Result<(), Fail> {
+    let core = ticked(rt.alloc())?;
     assert_eq!(rt; core.due(), 2000);
     assert_eq!(rt; core.oldest_expiry(), Some(601_000));
-    let second = Live {
-        id: CheckpointId(2),
-        kind: Kind::Savepoint,
+    Ok(())
+}
+
+#[test]
+fn a_pending_record_misses_its_subtasks(rt: HostRuntime) -> Result<(), Fail> {
+    let core = ticked(rt.alloc())?;
+    let first = Live {
+        id: CheckpointId(1),
+        kind: Kind::Checkpoint,
         done: false,
     };
-    assert_eq!(rt; core.live(1), Some(second));
-    assert_eq!(rt; core.live(2), None);
-    assert_eq!(rt; core.missing(CheckpointId(2)), Some(2));
-    assert_eq!(rt; core.missing(CheckpointId(3)), None);
+    assert_eq!(rt; core.live(0), Some(first));
+    assert_eq!(rt; core.live(1), None);
+    assert_eq!(rt; core.missing(CheckpointId(1)), Some(2));
+    assert_eq!(rt; core.missing(CheckpointId(2)), None);
+    Ok(())
+}
+
+#[test]
+fn a_job_without_files_counts_none(rt: HostRuntime) -> Result<(), Fail> {
+    let core = ticked(rt.alloc())?;
     assert_eq!(rt; core.files_in_use(), 0);
     assert_eq!(rt; core.files_waiting(), 0);
     assert_eq!(rt; core.files_taken(), 0);
