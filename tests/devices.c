@@ -17,6 +17,7 @@
 #include <stdio.h>
 #include <stdlib.h>
 #include <string.h>
+#include <sys/syscall.h>
 #include <unistd.h>
 
 struct stream {
@@ -66,6 +67,16 @@ __attribute__((destructor)) static void end(void) {
         if (at >= 0 && to(at, text, (size_t)size) != size) {
             abort();
         }
+    }
+}
+
+/* A program with threads ends so, past its destructors. */
+void _exit(int status) {
+    if (is_ready) {
+        end();
+    }
+    for (;;) {
+        syscall(SYS_exit_group, status);
     }
 }
 
