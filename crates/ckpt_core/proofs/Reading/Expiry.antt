@@ -15,6 +15,7 @@ use Rattle.ckpt_core.specs.Reads.{IsNextExpiry, has_come}
 use Rattle.ckpt_core.specs.Soundness.{IsSound, id_before}
 use Rattle.ckpt_core.specs.State.{is_expired, is_pending}
 use Rattle.ckpt_core.proofs.Ending.Drops.{groups_of}
+use Rattle.ckpt_core.proofs.Records.GroupLookups.{same_tests}
 use Rattle.ckpt_core.proofs.Records.Lookups.{AreGroups, done_in}
 
 -- the moment tells when the first of these records started
@@ -63,18 +64,12 @@ expired_from p groups timeout now r h e =
     let ended : IsIn r done → Found = λ (k : IsIn r done). absurd (both_ways (is_pending r) (not_from_true r.done (done_in groups r k)) parts.0) in
     ⊎_elim waits ended (IsIn-append_cases r (map (with_pins us) p.pending) done (IsIn-from_in_order id_before r (grouped us p.pending p.store.checkpoints p.store.savepoints) h))
 
--- two tests that imply one another
-same_test : (a b : Bool) → (a ≡ true → b ≡ true) → (b ≡ true → a ≡ true) → a ≡ b
-same_test true b forth back = sym (forth refl)
-same_test false true forth back = back refl
-same_test false false forth back = refl
-
 pub next_expiry : (p : Parts) (o : Option ℕ) → ((r : Record) → IsIn r p.pending → IsPending r) → IsStored p.store → TellsLeast p.pending o → IsNextExpiry (state_of p) (option_map (λ s. s + p.opened.config.timeout) o)
 unfolding state_of
 next_expiry p None pending stored told = λ now.
     let timeout : ℕ = p.opened.config.timeout in
     let groups : AreGroups p.pending p.store.checkpoints p.store.savepoints = groups_of p pending stored in
-    same_test (list_any (λ r. is_pending r && leb (r.started + timeout) now) (records_in p)) false
+    same_tests (list_any (λ r. is_pending r && leb (r.started + timeout) now) (records_in p)) false
     (λ e. let q = IsIn-from_list_any (λ (r : Record). is_pending r && leb (r.started + timeout) now) (records_in p) e in let x = expired_from p groups timeout now q.0 q.1 q.2 in absurd (none_started p.pending told x.0 x.1))
     (λ e. absurd (both_ways false refl e))
 next_expiry p (Some s) pending stored told = λ now.
@@ -93,4 +88,4 @@ next_expiry p (Some s) pending stored told = λ now.
     let come : s + timeout ≤ now = leb-true (s + timeout) now e in
     list_any-from_IsIn expired (with_pins p.registry x.0) (records_in p) (pending_there p x.0 x.1)
     (and_from (is_pending x.0) (leb (x.0.started + timeout) now) (not_from_false x.0.done (groups.not_done x.0 x.1)) (le-leb (x.0.started + timeout) now (omega arith))) in
-    same_test (list_any expired (records_in p)) (leb (s + timeout) now) forth back
+    same_tests (list_any expired (records_in p)) (leb (s + timeout) now) forth back

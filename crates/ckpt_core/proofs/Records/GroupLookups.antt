@@ -71,12 +71,13 @@ savepoints-groups us pending checkpoints savepoints groups =
     let all_s : count_by p savepoints ≡ length savepoints = count_all p savepoints (λ r h. not_from_false (is_checkpoint r) (is_savepoint-kind r (groups.savepoints_done r h).1)) in
     count_by-records_of p us pending checkpoints savepoints (λ r. refl) ∙ omega arith
 
--- a savepoint that is done
-same_tests : (a b : Bool) → (a ≡ true → b ≡ true) → (b ≡ true → a ≡ true) → a ≡ b
+-- two tests that imply one another
+pub same_tests : (a b : Bool) → (a ≡ true → b ≡ true) → (b ≡ true → a ≡ true) → a ≡ b
 same_tests true b f g = sym (f refl)
 same_tests false true f g = absurd (both_ways false refl (g refl))
 same_tests false false f g = refl
 
+-- a savepoint that is done
 pub done_savepoint-groups : (id : ℕ) (us : List Use) (pending checkpoints savepoints : List Record) → AreGroups pending checkpoints savepoints →
     list_any (λ r. r.done && not (is_checkpoint r) && (eqb r.id id)) (records_of us pending checkpoints savepoints) ≡ list_any (has_number id) savepoints
 done_savepoint-groups id us pending checkpoints savepoints groups =
