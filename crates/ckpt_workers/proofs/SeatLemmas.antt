@@ -2,7 +2,7 @@
 use Rattle.std.proofs.Common.{◌≡◌, ℕ, ◌<◌, Bool, true, false, cond, eqb, List, [], ◌∷◌, ◌++◌, refl, sym, ap, ◌∙◌, append_assoc, append-nil}
 use Rattle.ckpt_locked.specs.declared.book.Entry.{Entry}
 use Rattle.ckpt_locked.specs.Books.{History, answer_to, entered}
-use Rattle.ckpt_locked.specs.Seats.{SeatsBelow, answers_by, calls_by}
+use Rattle.ckpt_locked.specs.Seats.{answers_by, calls_by}
 
 -- the history, and then these entries
 abbrev pub after : History → List Entry → History
@@ -33,10 +33,6 @@ answers_by-append k h (x ∷ xs) ys =
         ≡ cond b (answer_to h x.call ∷ answers_by k (entered h x.seat x.call) xs) (answers_by k (entered h x.seat x.call) xs) ++ answers_by k (after h (x ∷ xs)) ys
     by_test true rest = ap (λ l. answer_to h x.call ∷ l) rest
     by_test false rest = rest
-
-pub SeatsBelow-push : (n : ℕ) (xs : List Entry) (e : Entry) → SeatsBelow n xs → e.seat < n → SeatsBelow n (xs ++ e ∷ [])
-SeatsBelow-push n [] e all one = (one, tt)
-SeatsBelow-push n (x ∷ xs) e all one = (all.0, SeatsBelow-push n xs e all.1 one)
 
 -- where the seat makes no call, it gets no answer
 pub answers_by-none : (k : ℕ) (h : History) (es : List Entry) → calls_by k es ≡ [] → answers_by k h es ≡ []

@@ -9,11 +9,12 @@ use Rattle.ckpt_ids.specs.declared.reply.Answer.{Answer}
 use Rattle.ckpt_locked.specs.declared.book.Entry.{Entry}
 use Rattle.ckpt_locked.specs.Books.{History, answer_to, entered}
 use Rattle.ckpt_locked.specs.Seats.{answers_by, calls_by}
+use Rattle.ckpt_locked.proofs.SeatLists.{below-push}
 use Rattle.ckpt_workers.specs.declared.team.Made.{Made}
 use Rattle.ckpt_workers.specs.Teams.{IsOneMore, IsTally, IsTeamwork, dealt_to, is_accepted}
 use Rattle.ckpt_core.specs.Interleavings.{completed_by, first_completed}
 use Rattle.ckpt_workers.proofs.Dealing.{dealt_to-push, in_turn}
-use Rattle.ckpt_workers.proofs.SeatLemmas.{after, after-nil, after-append, answers_by-append, calls_by-append, SeatsBelow-push}
+use Rattle.ckpt_workers.proofs.SeatLemmas.{after, after-nil, after-append, answers_by-append, calls_by-append}
 
 -- new is old with one more answer
 pub record IsCounted (old new : Made) (answer : Answer) : Type 0 where
@@ -84,7 +85,7 @@ IsTeamwork-push old calls threads before made call seat some at h more =
     record {
       new = h.new ++ e ∷ [];
       book_is = more.book ∙ ap (λ k. entered before.book k call) at ∙ ap (λ (g : History). entered g (length calls % threads) call) here ∙ after-append old h.new (e ∷ []);
-      seats = SeatsBelow-push threads h.new e h.seats below;
+      seats = below-push threads h.new e h.seats below;
       calls_are = λ k small. calls_by-append k h.new (e ∷ []) ∙ ap (λ l. l ++ calls_by k (e ∷ [])) (h.calls_are k small) ∙ sym (dealt_to-push threads k calls call);
       answers = h.answers ++ answer ∷ [];
       one_each = omega (arith, length-append h.answers (answer ∷ []), length-append calls (call ∷ []));
