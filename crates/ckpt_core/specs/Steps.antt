@@ -15,9 +15,8 @@ use Rattle.ckpt_ids.specs.declared.reply.Answer.{Answer}
 use Rattle.ckpt_ids.specs.declared.reply.Answer.TheVariants.{Done, Refused}
 use Rattle.ckpt_ids.specs.declared.reply.Refusal.{Refusal}
 use Rattle.ckpt_ids.specs.declared.reply.Refusal.TheVariants.{NoSuchRecord}
-use Rattle.ckpt_ids.specs.Acknowledged.{put_ack}
 use Rattle.ckpt_ids.specs.Ascending.{ascending}
-use Rattle.ckpt_ids.specs.Records.{Record, uses, count, missing, metadata_of}
+use Rattle.ckpt_ids.specs.Records.{Record, acknowledged, uses, count, missing, metadata_of}
 use Rattle.ckpt_rules.specs.declared.hold.Hold.{Hold}
 use Rattle.ckpt_rules.specs.declared.hold.Hold.TheVariants.{Interval, AtOnce, Pause, Go}
 use Rattle.ckpt_rules.specs.Trigger.{gap, hold}
@@ -67,9 +66,6 @@ tick m =
     if nat_lt 0 late && nat_lt m.opening.config.tolerable (m.failures + late)
     then (failed_over counted, Done (reply.Ticked (dropped_by m expired) end.Failed))
     else after_expiry (drop counted expired None) (dropped_by m expired)
-
-abbrev pub acknowledged : Record → SubtaskId → List ℕ → Record
-acknowledged r subtask files = record r { acks = put_ack (record { subtask = subtask; files = files }) r.acks }
 
 abbrev pub replaced : List Record → Record → List Record
 replaced records r = map (λ old. if old.id == r.id then r else old) records

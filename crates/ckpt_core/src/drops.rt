@@ -9,7 +9,7 @@ ghost use Rattle.ckpt_store.specs.Storing.{IsStored, has_savepoint};
 ghost use Rattle.ckpt_core.specs.Inside.Parts.{AreSound, AreTied, Drops, is_noted, present_in, records_in, state_of};
 ghost use Rattle.ckpt_core.specs.Soundness.{id_before};
 ghost use Rattle.ckpt_core.specs.State.{is_done_checkpoint, is_pending};
-ghost use Rattle.ckpt_core.specs.Inside.Moving.{releasing};
+ghost use Rattle.ckpt_core.specs.Inside.Moving.{releasing, without_checkpoints};
 
 use crate::parts::Parts;
 use ckpt_ids::CheckpointId;
@@ -107,7 +107,7 @@ impl Parts {
     /// Takes all completed checkpoints out of the store and notes their numbers.
     fn note_and_pop_checkpoints(&mut self)
         requires room { vec_len self.old.ended + length self.old.store.checkpoints ≤ vec_capacity self.old.ended }
-        ensures parts { self.new ≡ record self.old { store = record self.old.store { checkpoints = []; spare = self.new.store.spare }; ended = self.new.ended } }
+        ensures parts { self.new ≡ without_checkpoints self.old self.new }
         ensures noted { self.new.ended.items ≡ self.old.ended.items ++ map (λ r. r.id) self.old.store.checkpoints }
         ensures capacity { vec_capacity self.new.ended ≡ vec_capacity self.old.ended }
     {

@@ -6,7 +6,7 @@ ghost use Rattle.ckpt_ids.specs.Ordered.{IsIn, IsInOrder};
 ghost use Rattle.ckpt_ids.specs.Records.{Record, has_acknowledged};
 ghost use Rattle.ckpt_ids.specs.Shapes.{is_subtask};
 ghost use Rattle.ckpt_pending.specs.Acknowledging.{IsPending};
-ghost use Rattle.ckpt_core.specs.Inside.PendingRecords.{acked, retracted};
+ghost use Rattle.ckpt_core.specs.Inside.PendingRecords.{Expects, acked, retracted};
 ghost use Rattle.ckpt_core.specs.Reads.{has_come, live_of};
 ghost use Rattle.ckpt_core.specs.Soundness.{id_before};
 ghost use Rattle.ckpt_core.specs.State.{is_checkpoint};
@@ -82,7 +82,7 @@ impl PendingRecords {
         files: Files,
     ) -> Result<(), AllocError>
         requires there { IsSome (find (λ r. r.id == id) self.old) }
-        requires expected { (r : Record) → find (λ r. r.id == id) self.old ≡ Some r → (is_subtask r.shape subtask ≡ true) × (has_acknowledged r subtask ≡ false) }
+        requires expected { (r : Record) → find (λ r. r.id == id) self.old ≡ Some r → Expects r subtask }
         ensures ok { OnOk result (self.new ≡ acked id subtask files self.old) }
         ensures err { OnErr result (self.new ≡ self.old) }
     {

@@ -14,6 +14,3 @@ pub mod secret;
 
 pub use hasher::NumberHasher;
 pub use secret::Secret;
-
-#[cfg(test)]
-mod tests;

@@ -5,7 +5,7 @@ use Rattle.ckpt_ids.specs.declared.subtask.SubtaskId.{SubtaskId}
 use Rattle.ckpt_ids.specs.declared.numbers.Kind.{Kind}
 use Rattle.ckpt_ids.specs.declared.ack.Acked.{Acked}
 use Rattle.ckpt_ids.specs.declared.ack.Metadata.{Metadata}
-use Rattle.ckpt_ids.specs.Acknowledged.{is_before}
+use Rattle.ckpt_ids.specs.Acknowledged.{is_before, put_ack}
 use Rattle.ckpt_ids.specs.Ascending.{ascending_set}
 use Rattle.ckpt_ids.specs.Shapes.{same_subtask, subtasks}
 
@@ -21,6 +21,10 @@ pub record Record : Type 0 where
   pub acks : List Acked
   -- the files that it holds until it ends, beside those of its acknowledgements
   pub pins : List ℕ
+
+-- the record with one acknowledgement more
+abbrev pub acknowledged : Record → SubtaskId → List ℕ → Record
+acknowledged r subtask files = record r { acks = put_ack (record { subtask = subtask; files = files }) r.acks }
 
 abbrev pub has_acknowledged : Record → SubtaskId → Bool
 has_acknowledged r s = list_any (λ a. same_subtask s a.subtask) r.acks

@@ -35,15 +35,23 @@ pub struct Config {
 }
 
 impl Model for Config {
-    ghost use Rattle.ckpt_ids.specs.Configuration.{Configuration, IsWithinLimits};
+    ghost use Rattle.ckpt_ids.specs.Configuration.{Configuration, IsWithinLimits, configured};
 
     ghost Value = { Configuration };
 
-    ghost view = { λ c. record { interval = c.interval; pause = c.pause; at_once = c.at_once; timeout = c.timeout; tolerable = c.tolerable; retained = c.retained; keep_on_cancel = c.keep_on_cancel } };
+    ghost view = { λ c. configured c.interval c.pause c.at_once c.timeout c.tolerable c.retained c.keep_on_cancel };
 
-    ghost invariant = { λ c. IsWithinLimits (record { interval = c.interval; pause = c.pause; at_once = c.at_once; timeout = c.timeout; tolerable = c.tolerable; retained = c.retained; keep_on_cancel = c.keep_on_cancel }) };
+    ghost invariant = { λ c. IsWithinLimits (configured c.interval c.pause c.at_once c.timeout c.tolerable c.retained c.keep_on_cancel) };
 
-    ghost inverse = { λ c. record { interval = c.interval; pause = c.pause; at_once = c.at_once; timeout = c.timeout; tolerable = c.tolerable; retained = c.retained; keep_on_cancel = c.keep_on_cancel } };
+    ghost inverse = { λ c. record {
+      interval = c.interval;
+      pause = c.pause;
+      at_once = c.at_once;
+      timeout = c.timeout;
+      tolerable = c.tolerable;
+      retained = c.retained;
+      keep_on_cancel = c.keep_on_cancel;
+    } };
 }
 
 impl Config {

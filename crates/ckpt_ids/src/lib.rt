@@ -27,6 +27,3 @@ pub use numbers::{CheckpointId, FileId, Kind};
 pub use reply::{Answer, Choice, Refusal, Reply, TickEnd};
 pub use shape::{Shape, ShapeFault};
 pub use subtask::SubtaskId;
-
-#[cfg(test)]
-mod tests;

@@ -221,6 +221,3 @@ impl Outbox {
         self.taken.files.len() as u64
     }
 }
-
-#[cfg(test)]
-mod tests;

@@ -10,6 +10,3 @@ pub mod pending;
 
 pub use done::Done;
 pub use pending::{AckFault, Pending};
-
-#[cfg(test)]
-mod tests;

@@ -2,7 +2,7 @@ ghost use Rattle.std.specs.Prelude.{◌≡◌, ◌+◌, ◌↔◌, ◌<◌, Bool
 ghost use Rattle.std.specs.List.{flat_map};
 ghost use Rattle.ckpt_ids.specs.Acknowledged.{put_ack};
 ghost use Rattle.ckpt_ids.specs.Ascending.{ascending_set};
-ghost use Rattle.ckpt_ids.specs.Records.{Record, has_acknowledged, missing, metadata_of};
+ghost use Rattle.ckpt_ids.specs.Records.{Record, acknowledged, has_acknowledged, missing, metadata_of};
 ghost use Rattle.ckpt_ids.specs.Shapes.{is_subtask, same_subtask};
 ghost use Rattle.ckpt_pending.specs.Acknowledging.{IsPending, acks_of, without_ack};
 
@@ -76,7 +76,7 @@ impl Pending {
     pub fn ack(&mut self, subtask: SubtaskId, files: Files) -> Result<(), AckFault>
         ensures unknown { (result ≡ Err AckFault.UnknownSubtask) ↔ (is_subtask self.old.shape subtask ≡ false) }
         ensures already { (result ≡ Err AckFault.AlreadyAcknowledged) ↔ ((is_subtask self.old.shape subtask ≡ true) × (has_acknowledged self.old subtask ≡ true)) }
-        ensures ok { OnOk result (self.new ≡ record self.old { acks = put_ack (record { subtask = subtask; files = files }) self.old.acks }) }
+        ensures ok { OnOk result (self.new ≡ acknowledged self.old subtask files) }
         ensures one_less { OnOk result (missing self.new + 1 ≡ missing self.old) }
         ensures undone_by_retract { OnOk result (without_ack subtask self.new ≡ self.old) }
         ensures err { OnErr result (self.new ≡ self.old) }

@@ -1,5 +1,4 @@
 pub mod Counters
-pub mod Earlier
 pub mod Ends
 pub mod Holdings
 pub mod Sound

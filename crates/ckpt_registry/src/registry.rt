@@ -186,6 +186,3 @@ impl Registry {
         self.counts.len() as u64
     }
 }
-
-#[cfg(test)]
-mod tests;

@@ -12,6 +12,3 @@ pub mod hold;
 pub use clock::Clock;
 pub use failures::Failures;
 pub use hold::Hold;
-
-#[cfg(test)]
-mod tests;

@@ -8,6 +8,3 @@ mod places;
 pub mod store;
 
 pub use store::{DisposeFault, Store};
-
-#[cfg(test)]
-mod tests;

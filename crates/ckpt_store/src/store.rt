@@ -43,9 +43,21 @@ impl Model for Store {
 
     ghost Value = { Stored };
 
-    ghost view = { λ s. record { retained = s.retained; checkpoints = s.checkpoints.items; savepoints = s.savepoints.items; base = s.base; spare = min (deque_capacity s.checkpoints - deque_len s.checkpoints) (vec_capacity s.savepoints - vec_len s.savepoints) } };
+    ghost view = { λ s. record {
+      retained = s.retained;
+      checkpoints = s.checkpoints.items;
+      savepoints = s.savepoints.items;
+      base = s.base;
+      spare = min (deque_capacity s.checkpoints - deque_len s.checkpoints) (vec_capacity s.savepoints - vec_len s.savepoints);
+    } };
 
-    ghost invariant = { λ s. IsStored (record { retained = s.retained; checkpoints = s.checkpoints.items; savepoints = s.savepoints.items; base = s.base; spare = min (deque_capacity s.checkpoints - deque_len s.checkpoints) (vec_capacity s.savepoints - vec_len s.savepoints) }) };
+    ghost invariant = { λ s. IsStored (record {
+      retained = s.retained;
+      checkpoints = s.checkpoints.items;
+      savepoints = s.savepoints.items;
+      base = s.base;
+      spare = min (deque_capacity s.checkpoints - deque_len s.checkpoints) (vec_capacity s.savepoints - vec_len s.savepoints);
+    }) };
 }
 
 impl Store {

@@ -6,13 +6,12 @@ use Rattle.ckpt_ids.specs.declared.ack.Acked.{Acked}
 use Rattle.ckpt_ids.specs.Ordered.{IsIn, IsInOrder, put, AreDistinct}
 use Rattle.ckpt_ids.specs.Acknowledged.{is_before, acknowledges_before, put_ack, AreInSubtaskOrder}
 use Rattle.ckpt_ids.specs.Ascending.{IsAscendingSet, ascending}
-use Rattle.ckpt_ids.specs.Records.{Record, missing, has_acknowledged, IsFull}
+use Rattle.ckpt_ids.specs.Records.{Record, missing, has_acknowledged, IsFull, acknowledged}
 use Rattle.ckpt_ids.specs.Shapes.{IsShape, subtasks, is_subtask, same_subtask}
 use Rattle.ckpt_ids.proofs.AscendingLemmas.{numbers_in_order}
 use Rattle.ckpt_ids.proofs.OrderLemmas.{subtasks_in_order, same_subtask-Decides}
 use Rattle.ckpt_ids.proofs.OrderedLemmas.{ComesBefore-at, ComesBefore-from, IsIn-put_cases, IsInOrder-put, IsIn-from_in_order, IsInOrder-map, IsIn-map, IsIn-from_map, IsIn-from_list_any, list_any-from_IsIn, same_from_members}
 use Rattle.ckpt_core.specs.Soundness.{IsRecord}
-use Rattle.ckpt_core.specs.Steps.{acknowledged}
 use Rattle.ckpt_pending.proofs.SubtaskLemmas.{IsInOrder-subtasks, IsIn-subtasks, none_counted}
 
 -- put in its place among those that are all before it or behind it

@@ -12,7 +12,7 @@ use Rattle.ckpt_ids.specs.declared.reply.Reply.TheVariants as reply
 use Rattle.ckpt_ids.specs.declared.subtask.SubtaskId.{SubtaskId}
 use Rattle.ckpt_ids.specs.Ascending.{ascending}
 use Rattle.ckpt_ids.specs.Ordered.{IsIn, IsInOrder, in_order_once}
-use Rattle.ckpt_ids.specs.Records.{Record, Use, Subtask, is_present, missing, use_before, uses, uses_of}
+use Rattle.ckpt_ids.specs.Records.{Record, Use, Subtask, is_present, missing, use_before, uses, uses_of, acknowledged}
 use Rattle.ckpt_ids.proofs.OrderedLemmas.{IsIn-append_cases, IsIn-append_left, IsIn-map, IsIn-in_order, IsIn-from_in_order, IsInOrder-map, IsIn-in_order_once, IsIn-from_in_order_once}
 use Rattle.ckpt_ids.proofs.OrderLemmas.{uses_in_order}
 use Rattle.ckpt_pending.specs.Acknowledging.{IsPending}
@@ -28,7 +28,7 @@ use Rattle.ckpt_core.specs.Inside.PendingRecords.{acked}
 use Rattle.ckpt_core.specs.Refusals.{pending_of, refusal}
 use Rattle.ckpt_core.specs.Soundness.{IsSound, id_before}
 use Rattle.ckpt_core.specs.State.{State}
-use Rattle.ckpt_core.specs.Steps.{Stepped, ack, acknowledged, acknowledged_in, completed_with, replaced, step, with_records}
+use Rattle.ckpt_core.specs.Steps.{Stepped, ack, acknowledged_in, completed_with, replaced, step, with_records}
 use Rattle.ckpt_core.proofs.Answering.Accepted.{accepted_ack}
 use Rattle.ckpt_core.proofs.Acknowledging.Late.{ack_step}
 use Rattle.ckpt_core.proofs.Acknowledging.Moves.{ack_groups, ack_uses, no_pin-holds, with_instead, id-with_instead, replaced_members}

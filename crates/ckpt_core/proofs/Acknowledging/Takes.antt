@@ -9,7 +9,7 @@ use Rattle.ckpt_ids.specs.declared.call.Call.TheVariants.{Ack}
 use Rattle.ckpt_ids.specs.declared.subtask.SubtaskId.{SubtaskId}
 use Rattle.ckpt_ids.specs.Acknowledged.{put_ack, acknowledges_before}
 use Rattle.ckpt_ids.specs.Ordered.{IsIn}
-use Rattle.ckpt_ids.specs.Records.{Record, Use, Subtask, Pin, count, is_present, uses, uses_of, has_acknowledged}
+use Rattle.ckpt_ids.specs.Records.{Record, Use, Subtask, Pin, count, is_present, uses, uses_of, has_acknowledged, acknowledged}
 use Rattle.ckpt_ids.specs.Shapes.{is_subtask, same_subtask}
 use Rattle.ckpt_ids.proofs.OrderedLemmas.{IsIn-append_cases, IsIn-from_flat_map, IsIn-put_itself, list_any-from_IsIn}
 use Rattle.ckpt_pending.proofs.SubtaskLemmas.{same_subtask-itself}
@@ -23,7 +23,6 @@ use Rattle.ckpt_core.specs.Inside.PendingRecords.{acked}
 use Rattle.ckpt_core.specs.Refusals.{pending_of}
 use Rattle.ckpt_core.specs.Soundness.{IsSound}
 use Rattle.ckpt_core.specs.State.{in_outbox}
-use Rattle.ckpt_core.specs.Steps.{acknowledged}
 use Rattle.ckpt_core.proofs.Answering.Accepted.{IsAcceptedAck, accepted_ack}
 use Rattle.ckpt_core.proofs.Acknowledging.Records.{new_subtask}
 use Rattle.ckpt_core.proofs.Records.Counts.{IsIn-from_find}

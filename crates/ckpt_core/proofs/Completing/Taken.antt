@@ -4,14 +4,13 @@ use Rattle.std.proofs.lemmas.Bool.{cases_Bool}
 use Rattle.ckpt_ids.specs.declared.subtask.SubtaskId.{SubtaskId}
 use Rattle.ckpt_ids.specs.Ascending.{ascending}
 use Rattle.ckpt_ids.specs.Ordered.{IsIn, IsInOrder, put}
-use Rattle.ckpt_ids.specs.Records.{Record, uses}
+use Rattle.ckpt_ids.specs.Records.{Record, uses, acknowledged}
 use Rattle.ckpt_ids.proofs.OrderedLemmas.{IsIn-append_cases, IsIn-append_left, IsIn-append_right, IsIn-map, IsIn-put, IsIn-put_itself, IsIn-put_cases}
 use Rattle.ckpt_store.specs.Storing.{by_id}
 use Rattle.ckpt_core.specs.declared.parts.Parts.{Parts}
 use Rattle.ckpt_core.specs.Inside.Grouped.{with_pins, grouped}
 use Rattle.ckpt_core.specs.Inside.Parts.{records_in, state_of}
 use Rattle.ckpt_core.specs.Soundness.{id_before}
-use Rattle.ckpt_core.specs.Steps.{acknowledged}
 use Rattle.ckpt_core.proofs.Acknowledging.Moves.{replaced_members}
 use Rattle.ckpt_core.proofs.Acknowledging.States.{IsTaking, acked_replaced, replaced_in_order, taken_records, taken_uses}
 use Rattle.ckpt_core.proofs.Acknowledging.Takes.{found_acked}

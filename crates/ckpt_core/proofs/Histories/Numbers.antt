@@ -10,13 +10,13 @@ use Rattle.ckpt_ids.specs.declared.reply.Refusal.{Refusal}
 use Rattle.ckpt_ids.specs.declared.call.Target.{Target}
 use Rattle.ckpt_ids.specs.declared.call.Target.TheVariants as target
 use Rattle.ckpt_ids.specs.Ascending.{ascending}
-use Rattle.ckpt_ids.specs.Records.{Record, missing}
+use Rattle.ckpt_ids.specs.Records.{Record, missing, acknowledged}
 use Rattle.ckpt_rules.specs.declared.hold.Hold.{Hold}
 use Rattle.ckpt_rules.specs.declared.hold.Hold.TheVariants.{Interval, AtOnce, Pause, Go}
 use Rattle.ckpt_rules.specs.Trigger.{hold}
 use Rattle.ckpt_core.specs.State.{State, Opening, opened, is_checkpoint, is_expired, record_of, drop}
 use Rattle.ckpt_core.specs.Refusals.{refusal, moment_of, pending_of}
-use Rattle.ckpt_core.specs.Steps.{Stepped, acknowledged, pending_checkpoints, dropped_by, with_records, replaced, superseded, triggered, failed_over, start_or_hold, after_expiry, tick, completed_with, acknowledged_in, ack, dropping, decline_pending, decline, dispose, restarted, restore, cancel, take_files, show, effect, at_moment, unless_refused, step}
+use Rattle.ckpt_core.specs.Steps.{Stepped, pending_checkpoints, dropped_by, with_records, replaced, superseded, triggered, failed_over, start_or_hold, after_expiry, tick, completed_with, acknowledged_in, ack, dropping, decline_pending, decline, dispose, restarted, restore, cancel, take_files, show, effect, at_moment, unless_refused, step}
 use Rattle.ckpt_core.specs.Laws.{along, given_as, given_by, Numbers}
 
 -- a call gives no number, or the next one

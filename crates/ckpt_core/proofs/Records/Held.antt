@@ -5,9 +5,8 @@ use Rattle.ckpt_ids.specs.declared.ack.Acked.{Acked}
 use Rattle.ckpt_ids.specs.declared.subtask.SubtaskId.{SubtaskId}
 use Rattle.ckpt_ids.specs.Ordered.{IsIn, IsInOrder}
 use Rattle.ckpt_ids.specs.Ascending.{ascending}
-use Rattle.ckpt_ids.specs.Records.{Record}
+use Rattle.ckpt_ids.specs.Records.{Record, acknowledged}
 use Rattle.ckpt_ids.proofs.OrderedLemmas.{IsIn-append_cases, IsIn-map, IsIn-from_map, IsIn-in_order, IsIn-from_in_order}
-use Rattle.ckpt_core.specs.Steps.{acknowledged}
 use Rattle.ckpt_core.specs.Soundness.{id_before}
 use Rattle.ckpt_core.proofs.Using.Present.{Holds, IsHeld, Holds-put_ack, Holds-put_ack_new, Holds-put_ack_old}
 use Rattle.ckpt_core.proofs.Records.Replacing.{put_in, IsReplacing, put_in_replaces}

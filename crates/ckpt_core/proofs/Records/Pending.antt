@@ -13,14 +13,13 @@ use Rattle.std.proofs.lemmas.Map.Entries.{sum_by-remove_entry}
 use Rattle.std.proofs.lemmas.List.Folds.{list_any-append}
 use Rattle.ckpt_ids.specs.declared.subtask.SubtaskId.{SubtaskId}
 use Rattle.ckpt_ids.specs.Ordered.{IsIn, IsInOrder}
-use Rattle.ckpt_ids.specs.Records.{Record, has_acknowledged}
+use Rattle.ckpt_ids.specs.Records.{Record, has_acknowledged, acknowledged}
 use Rattle.ckpt_ids.proofs.OrderedLemmas.{IsIn-from_map, IsIn-from_filter, IsIn-append_cases, IsInOrder-append, IsInOrder-filter, IsInOrder-map, ComesBefore-at, filter-all, filter-same}
 use Rattle.ckpt_pending.specs.Acknowledging.{IsPending, without_ack}
 use Rattle.ckpt_pending.proofs.PendingLemmas.{without-with_ack}
 use Rattle.ckpt_pending.proofs.SubtaskLemmas.{count_by_same}
 use Rattle.ckpt_core.specs.State.{is_checkpoint}
 use Rattle.ckpt_core.specs.Soundness.{id_before}
-use Rattle.ckpt_core.specs.Steps.{acknowledged}
 use Rattle.ckpt_core.specs.Inside.PendingRecords.{acked, retracted, records_in, by_number, AreKept}
 use Rattle.ckpt_ids.proofs.CountLemmas.{count_by-cons, count_by-append, count_by-map}
 use Rattle.ckpt_core.proofs.Records.Counts.{map_itself}

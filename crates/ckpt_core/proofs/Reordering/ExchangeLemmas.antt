@@ -6,13 +6,13 @@ use Rattle.ckpt_ids.specs.declared.subtask.SubtaskId.{SubtaskId}
 use Rattle.ckpt_ids.specs.declared.ack.Acked.{Acked}
 use Rattle.ckpt_ids.specs.Ordered.{IsIn, IsInOrder, put}
 use Rattle.ckpt_ids.specs.Acknowledged.{is_before, acknowledges_before, put_ack}
-use Rattle.ckpt_ids.specs.Records.{Record, missing, has_acknowledged}
+use Rattle.ckpt_ids.specs.Records.{Record, missing, has_acknowledged, acknowledged}
 use Rattle.ckpt_ids.specs.Shapes.{subtasks, is_subtask, same_subtask}
 use Rattle.ckpt_ids.proofs.OrderLemmas.{subtasks_in_order, same_subtask-Decides}
 use Rattle.ckpt_ids.proofs.OrderedLemmas.{IsIn-map, IsIn-from_map, IsIn-put, IsIn-put_itself, IsIn-put_cases, IsIn-from_list_any, list_any-from_IsIn}
 use Rattle.ckpt_core.specs.State.{is_pending}
 use Rattle.ckpt_core.specs.Refusals.{pending_of}
-use Rattle.ckpt_core.specs.Steps.{acknowledged, replaced}
+use Rattle.ckpt_core.specs.Steps.{replaced}
 use Rattle.ckpt_core.specs.Soundness.{id_before}
 use Rattle.ckpt_core.proofs.Records.Counts.{IsIn-from_find}
 use Rattle.ckpt_pending.proofs.SubtaskLemmas.{count_by_one_more, IsInOrder-subtasks, IsIn-subtasks, same_subtask-itself}

@@ -7,11 +7,11 @@ use Rattle.ckpt_ids.specs.declared.subtask.SubtaskId.{SubtaskId}
 use Rattle.ckpt_ids.specs.declared.ack.Acked.{Acked}
 use Rattle.ckpt_ids.specs.Ordered.{IsIn, IsInOrder, AreDistinct}
 use Rattle.ckpt_ids.specs.Ascending.{ascending}
-use Rattle.ckpt_ids.specs.Records.{Record, uses, is_present, missing, has_acknowledged}
+use Rattle.ckpt_ids.specs.Records.{Record, uses, is_present, missing, has_acknowledged, acknowledged}
 use Rattle.ckpt_ids.specs.Shapes.{is_subtask}
 use Rattle.ckpt_ids.proofs.OrderedLemmas.{IsIn-append_cases, IsIn-from_in_order, filter-all}
 use Rattle.ckpt_core.specs.State.{State, is_checkpoint, is_done_checkpoint, is_subsumed, is_surplus, is_known, in_outbox, kept, unpinned}
-use Rattle.ckpt_core.specs.Steps.{acknowledged, replaced, with_records, superseded}
+use Rattle.ckpt_core.specs.Steps.{replaced, with_records, superseded}
 use Rattle.ckpt_core.specs.Soundness.{IsSound, IsRecord, id_before}
 use Rattle.ckpt_core.proofs.Records.Counts.{count_by-changed, IsIn-from_changed}
 use Rattle.ckpt_core.proofs.Using.Present.{Holds, IsHeld, Holds-put_ack, absent-from_not_held, not_held}

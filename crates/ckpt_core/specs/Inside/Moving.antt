@@ -33,6 +33,10 @@ with_waiting p files spare = record p { outbox = record p.outbox { waiting = p.o
 abbrev pub releasing : Parts → List Use → Parts → Parts
 releasing p left after = record (with_waiting p (released p.registry left) (p.outbox.spare - length (released p.registry left))) { registry = left; ended = after.ended }
 
+-- the completed checkpoints are taken out of the store
+abbrev pub without_checkpoints : Parts → Parts → Parts
+without_checkpoints p after = record p { store = record p.store { checkpoints = []; spare = after.store.spare }; ended = after.ended }
+
 -- a completed checkpoint is kept
 abbrev pub with_checkpoint : Parts → Record → Parts → Parts
 with_checkpoint p done after = record p { store = completing p.store done after.store.spare; ended = after.ended }

@@ -1,10 +1,9 @@
 use Rattle.std.proofs.Common.{◌≡◌, ◌∙◌, ℕ, Option, Some, Result, Ok, Err, OnOk, OnErr, IsSome, find, refl, sym, ap, subst, rules}
 use Rattle.std.specs.Option.{option_copied_mut}
 use Rattle.std.specs.Map.{lookup}
-use Rattle.ckpt_ids.specs.Records.{Record}
+use Rattle.ckpt_ids.specs.Records.{Record, acknowledged}
 use Rattle.ckpt_pending.specs.Acknowledging.{IsPending}
 use Rattle.ckpt_pending.proofs.PendingLemmas.{IsPending-put}
-use Rattle.ckpt_core.specs.Steps.{acknowledged}
 use Rattle.ckpt_core.specs.Inside.PendingRecords.{records_in}
 use Rattle.ckpt_core.proofs.Records.Counts.{IsIn-from_find}
 use Rattle.ckpt_core.proofs.Records.Pending.{found, numbered, at_number, changed, changed-itself, entries-changed, records_in-from, AreKept-changed}

@@ -1,7 +1,0 @@
-use Rattle.std.proofs.Common.{List, sym, subst}
-use Rattle.ckpt_ids.specs.Records.{Use}
-use Rattle.ckpt_registry.specs.Earlier.{AreBefore}
-use Rattle.ckpt_registry.proofs.registry.tests.pin.Goals as goal
-
-pub pins-requires-then-not-pins-clause-before : goal.pins-requires-then-not-pins-clause-before
-pins-requires-then-not-pins-clause-before g c = let P : List Use → Type 0 = λ us. AreBefore us c.args.id in subst P (sym c.if-not-pins.ensures) c.requires
