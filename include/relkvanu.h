@@ -47,6 +47,13 @@ typedef struct {
     uint64_t a, b; /* its numbers, as said at its constant; else 0 */
 } relkvanu_answer;
 
+typedef struct {
+    uint32_t code;    /* RELKVANU_DONE, or RELKVANU_CLOSED and all numbers 0 */
+    uint64_t in_use;  /* files that live records use, each counted once */
+    uint64_t waiting; /* files that wait for deletion: what relkvanu_take can fetch */
+    uint64_t taken;   /* files that were fetched, and are not yet reported */
+} relkvanu_counts;
+
 /* code */
 #define RELKVANU_DONE 0u         /* the call was made: what is a reply */
 #define RELKVANU_REFUSED 1u      /* nothing has changed: what is a refusal */
@@ -79,6 +86,22 @@ typedef struct {
 #define RELKVANU_UNDELETED 20u           /* a: file */
 #define RELKVANU_SHOWN 21u               /* a: bytes at the buffer's front */
 #define RELKVANU_COUNTED 22u             /* a: file, b: uses */
+
+/* what, where a read is RELKVANU_DONE */
+#define RELKVANU_MODE_RUNNING 23u
+#define RELKVANU_MODE_FAILED 24u    /* too many checkpoints failed in a row: the job is to be restored */
+#define RELKVANU_MODE_CANCELLED 25u /* the job has ended for good */
+#define RELKVANU_DUE 26u            /* a: moment */
+#define RELKVANU_EXPIRES 27u        /* a: moment */
+#define RELKVANU_NONE_PENDING 28u
+#define RELKVANU_CHOICE_CHECKPOINT 29u /* a: number */
+#define RELKVANU_CHOICE_SAVEPOINT 30u  /* a: number */
+#define RELKVANU_CHOICE_FRESH 31u
+#define RELKVANU_LIVE_CHECKPOINT 32u /* a: number, b: 1 where it is done, 0 where it is pending */
+#define RELKVANU_LIVE_SAVEPOINT 33u  /* a: number, b: 1 where it is done, 0 where it is pending */
+#define RELKVANU_LIVE_NONE 34u       /* so many records are not live */
+#define RELKVANU_MISSING 35u         /* a: subtasks */
+#define RELKVANU_NOT_PENDING 36u
 
 /* what, where code is RELKVANU_REFUSED; they are tested in this order */
 #define RELKVANU_MOMENT_TOO_LARGE 1u
@@ -140,6 +163,34 @@ relkvanu_answer relkvanu_undeleted(relkvanu *handle, uint64_t file);
 relkvanu_answer relkvanu_show(relkvanu *handle, uint64_t id, uint8_t *json, size_t json_len);
 
 relkvanu_answer relkvanu_count(relkvanu *handle, uint64_t file);
+
+/* Reads. None takes memory or changes anything; on an open handle each is RELKVANU_DONE. */
+
+/* What the job is doing: RELKVANU_MODE_RUNNING and so on. */
+relkvanu_answer relkvanu_mode(relkvanu *handle);
+
+/* RELKVANU_DUE: the moment from which neither the interval nor the pause holds a checkpoint back. No
+ * tick before it triggers one; one at it or later does, unless the job does not run, or as many are
+ * pending as may be. A call that triggers, completes or restores moves it: ask again after a call. */
+relkvanu_answer relkvanu_due(relkvanu *handle);
+
+/* RELKVANU_EXPIRES: the moment from which a pending record is expired; a tick at it ends the record.
+ * RELKVANU_NONE_PENDING where there is none. Looks at each pending record. */
+relkvanu_answer relkvanu_oldest_expiry(relkvanu *handle);
+
+/* The record that a restore of the latest would begin from: RELKVANU_CHOICE_CHECKPOINT and so on. */
+relkvanu_answer relkvanu_choice(relkvanu *handle);
+
+/* The live record at this place, from 0, where they stand in rising number: RELKVANU_LIVE_CHECKPOINT or
+ * RELKVANU_LIVE_SAVEPOINT; RELKVANU_LIVE_NONE past the last. Searches for each record before it too. */
+relkvanu_answer relkvanu_live(relkvanu *handle, size_t place);
+
+/* RELKVANU_MISSING: how many subtasks of this record have not acknowledged. RELKVANU_NOT_PENDING where
+ * no record of this number is pending. */
+relkvanu_answer relkvanu_missing(relkvanu *handle, uint64_t id);
+
+/* How many files live records use, wait for deletion, and were fetched for it. */
+relkvanu_counts relkvanu_file_counts(relkvanu *handle);
 
 /* The name of the refusal with this number, as "NotRunning", without a zero at its end: its length,
  * which is 0 where no refusal has the number. It is written where text_len is at least that. */

@@ -2,9 +2,10 @@
  * with the lines of the file WANTED. The script has one config, job and start line, and then calls
  * (docs/SCRIPT.md).
  *
- * The script is run once with all memory, and then once for each request for memory, which is refused
- * once: the call that wants it says so, and is made again. */
+ * The script is run once with the reads compared after each line, once with all memory, and then once for each
+ * request for memory, which is refused once: the call that wants it says so, and is made again. */
 #include "heap.h"
+#include "reads.h"
 #include "script.h"
 
 #include <inttypes.h>
@@ -22,6 +23,20 @@ static void obey(struct script *script, char *line, FILE *told) {
     script_tell(script, told, answer);
 }
 
+/* The same with all memory, and whether the reads fit then. */
+static bool obey_and_read(struct script *script, struct reads *reads, char *line, FILE *told) {
+    static char again[SCRIPT_LINE];
+    strcpy(again, line);
+    reads_before(reads, script);
+    relkvanu_answer answer = script_call(script, line);
+    script_tell(script, told, answer);
+    if (reads_fit(reads, script, again, answer)) {
+        return true;
+    }
+    fprintf(stderr, "after the line %s\n", again);
+    return false;
+}
+
 static FILE *opened(const char *path) {
     FILE *from = fopen(path, "r");
     if (from == NULL) {
@@ -31,8 +46,8 @@ static FILE *opened(const char *path) {
     return from;
 }
 
-/* Runs the script, and says whether it told what is wanted. */
-static bool runs(const char *path, const char *wanted, size_t wanted_len, uint64_t refused, uint64_t *requests) {
+/* Runs the script, and says whether it told what is wanted, as did the reads where they are to be compared. */
+static bool runs(const char *path, const char *wanted, size_t wanted_len, struct reads *reads, uint64_t refused, uint64_t *requests) {
     static struct script script;
     static char line[SCRIPT_LINE];
     char *text = NULL;
@@ -45,16 +60,21 @@ static bool runs(const char *path, const char *wanted, size_t wanted_len, uint64
     }
     memset(&script, 0, sizeof script);
     relkvanu_refuse(refused);
-    while (fgets(line, sizeof line, from) != NULL) {
+    bool fit = true;
+    while (fit && fgets(line, sizeof line, from) != NULL) {
         line[strcspn(line, "\r\n")] = '\0';
-        obey(&script, line, told);
+        if (reads == NULL) {
+            obey(&script, line, told);
+        } else {
+            fit = obey_and_read(&script, reads, line, told);
+        }
     }
     *requests = relkvanu_requests();
     script_close(&script);
-    bool shut = script.handle.state == NULL && relkvanu_tick(&script.handle, 0).code == RELKVANU_CLOSED;
+    bool shut = script.handle.state == NULL && relkvanu_tick(&script.handle, 0).code == RELKVANU_CLOSED && reads_are_closed(&script.handle);
     fclose(from);
     fclose(told);
-    bool same = shut && len == wanted_len && memcmp(text, wanted, len) == 0;
+    bool same = fit && shut && len == wanted_len && memcmp(text, wanted, len) == 0;
     if (!same) {
         fprintf(stderr, "%s, request %" PRIu64 " refused, told:\n%s", path, refused, text);
     }
@@ -78,9 +98,10 @@ int main(int argc, char **argv) {
     size_t len;
     char *wanted = contents(argv[2], &len);
     uint64_t requests, ignored;
-    bool same = runs(argv[1], wanted, len, 0, &requests);
+    static struct reads reads;
+    bool same = runs(argv[1], wanted, len, &reads, 0, &ignored) && runs(argv[1], wanted, len, NULL, 0, &requests);
     for (uint64_t refused = 1; same && refused <= requests; refused++) {
-        same = runs(argv[1], wanted, len, refused, &ignored);
+        same = runs(argv[1], wanted, len, NULL, refused, &ignored);
     }
     free(wanted);
     return same ? 0 : 1;

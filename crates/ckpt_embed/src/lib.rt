@@ -2,7 +2,8 @@
 //!
 //! A [`Handle`] is what a C program holds: one pointer, null where it is closed. [`open`] gives it a
 //! coordinator, the calls go through it, and [`close`] lets the coordinator go. Each call answers an
-//! [`Answer`] by value, and no memory leaves the handle.
+//! [`Answer`] by value, and no memory leaves the handle. [`reads`] are answered alike, and neither take
+//! memory nor change anything.
 #![tactic(auto)]
 
 pub mod answer;
@@ -11,6 +12,7 @@ pub mod calls;
 pub mod handle;
 pub mod names;
 pub mod opening;
+pub mod reads;
 
 pub use answer::Answer;
 pub use buffers::{show, take};
@@ -18,3 +20,4 @@ pub use calls::{ack, call, restore};
 pub use handle::Handle;
 pub use names::refusal_text;
 pub use opening::{Settings, close, open};
+pub use reads::{FileCounts, choice, due, file_counts, live, missing, mode, oldest_expiry};

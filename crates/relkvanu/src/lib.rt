@@ -4,3 +4,4 @@
 #![tactic(auto)]
 
 mod exports;
+mod reads;

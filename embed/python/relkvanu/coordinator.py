@@ -7,6 +7,7 @@ import threading
 from dataclasses import dataclass
 from typing import Any, Optional, Sequence
 
+from relkvanu.reads import CHOSEN, EXPIRES, LIVE, MISSING, Chosen, FileCounts, Live, Mode
 from relkvanu.replies import MADE, Reply, Shown, Taken
 
 U16, U64, SIZE = ctypes.c_uint16, ctypes.c_uint64, ctypes.c_size_t
@@ -63,6 +64,10 @@ class _Answer(ctypes.Structure):
     _fields_ = [("code", ctypes.c_uint32), ("what", ctypes.c_uint32), ("a", U64), ("b", U64)]
 
 
+class _Counts(ctypes.Structure):
+    _fields_ = [("code", ctypes.c_uint32), ("in_use", U64), ("waiting", U64), ("taken", U64)]
+
+
 _HANDLE = ctypes.POINTER(ctypes.c_void_p)
 _WORDS = ctypes.POINTER(U64)
 _BYTES = ctypes.POINTER(ctypes.c_uint8)
@@ -80,6 +85,12 @@ _SIGNATURES = {
     "undeleted": [_HANDLE, U64],
     "show": [_HANDLE, U64, _BYTES, SIZE],
     "count": [_HANDLE, U64],
+    "mode": [_HANDLE],
+    "due": [_HANDLE],
+    "oldest_expiry": [_HANDLE],
+    "choice": [_HANDLE],
+    "live": [_HANDLE, SIZE],
+    "missing": [_HANDLE, U64],
 }
 
 
@@ -91,6 +102,7 @@ def _loaded() -> ctypes.CDLL:
         function = getattr(library, f"relkvanu_{name}")
         function.argtypes, function.restype = signature, _Answer
     library.relkvanu_close.argtypes, library.relkvanu_close.restype = [_HANDLE], None
+    library.relkvanu_file_counts.argtypes, library.relkvanu_file_counts.restype = [_HANDLE], _Counts
     library.relkvanu_refusal_text.argtypes = [ctypes.c_uint32, _BYTES, SIZE]
     library.relkvanu_refusal_text.restype = SIZE
     return library
@@ -159,7 +171,7 @@ class Coordinator:
         keys = secrets.randbits(64), secrets.randbits(64)
         _done(self._call("open", ctypes.byref(values), _words(shape), len(shape), _u64(now), _u64(first), *keys))
 
-    def _call(self, name: str, *arguments: Any) -> _Answer:
+    def _call(self, name: str, *arguments: Any) -> Any:
         function = getattr(_shared(), f"relkvanu_{name}")
         with self._lock:
             return function(ctypes.byref(self._handle), *arguments)
@@ -234,3 +246,38 @@ class Coordinator:
 
     def count(self, file: int) -> Reply:
         return self._replied("count", _u64(file))
+
+    # Reads: none takes memory or changes anything. Each raises Closed after close(), and nothing else.
+
+    def mode(self) -> Mode:
+        return Mode(_done(self._call("mode")).what)
+
+    def due(self) -> int:
+        """The moment before which no tick triggers a checkpoint: when to tick next. Calls move it."""
+        return _done(self._call("due")).a
+
+    def oldest_expiry(self) -> Optional[int]:
+        """The moment from which a pending record is expired, or None where none is pending."""
+        answer = _done(self._call("oldest_expiry"))
+        return answer.a if answer.what == EXPIRES else None
+
+    def choice(self) -> Optional[Chosen]:
+        """The record that a restore of the latest would begin from, or None: from nothing."""
+        answer = _done(self._call("choice"))
+        return Chosen(answer.a, CHOSEN[answer.what]) if answer.what in CHOSEN else None
+
+    def live(self, place: int) -> Optional[Live]:
+        """The live record at this place, from 0, in rising number, or None past the last. Searches for each before it."""
+        answer = _done(self._call("live", _u64(place)))
+        return Live(answer.a, LIVE[answer.what], answer.b == 1) if answer.what in LIVE else None
+
+    def missing(self, id: int) -> Optional[int]:
+        """How many subtasks of this record have not acknowledged, or None where no such record is pending."""
+        answer = _done(self._call("missing", _u64(id)))
+        return answer.a if answer.what == MISSING else None
+
+    def file_counts(self) -> FileCounts:
+        counts = self._call("file_counts")
+        if counts.code == CLOSED:
+            raise Closed
+        return FileCounts(counts.in_use, counts.waiting, counts.taken)

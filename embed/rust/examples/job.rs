@@ -39,7 +39,7 @@ impl Job {
     }
 }
 
-/// Ticks, and tells the tasks of each checkpoint.
+/// Ticks when a checkpoint is due, and tells the tasks of each one.
 fn timer(job: &Job, sources: Vec<Sender<u64>>) {
     while job.completed.load(SeqCst) < COMPLETED {
         if let Answer::Triggered { id, .. } = job.calls(|c, now| c.tick(now)).unwrap() {
@@ -47,7 +47,8 @@ fn timer(job: &Job, sources: Vec<Sender<u64>>) {
                 source.send(id).unwrap();
             }
         }
-        thread::sleep(Duration::from_millis(1));
+        let due = job.calls(|c, _| c.due());
+        thread::sleep(Duration::from_millis(due.saturating_sub(job.now()).max(1)));
     }
 }
 

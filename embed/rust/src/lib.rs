@@ -36,6 +36,15 @@ struct Told {
     b: u64,
 }
 
+#[repr(C)]
+#[derive(Clone, Copy)]
+struct Counts {
+    code: u32,
+    in_use: u64,
+    waiting: u64,
+    taken: u64,
+}
+
 extern "C" {
     fn relkvanu_open(
         handle: *mut Handle,
@@ -76,6 +85,13 @@ extern "C" {
     fn relkvanu_undeleted(handle: *mut Handle, file: u64) -> Told;
     fn relkvanu_show(handle: *mut Handle, id: u64, json: *mut u8, json_len: usize) -> Told;
     fn relkvanu_count(handle: *mut Handle, file: u64) -> Told;
+    fn relkvanu_mode(handle: *mut Handle) -> Told;
+    fn relkvanu_due(handle: *mut Handle) -> Told;
+    fn relkvanu_oldest_expiry(handle: *mut Handle) -> Told;
+    fn relkvanu_choice(handle: *mut Handle) -> Told;
+    fn relkvanu_live(handle: *mut Handle, place: usize) -> Told;
+    fn relkvanu_missing(handle: *mut Handle, id: u64) -> Told;
+    fn relkvanu_file_counts(handle: *mut Handle) -> Counts;
     fn relkvanu_refusal_text(what: u32, text: *mut u8, text_len: usize) -> usize;
 }
 
@@ -85,6 +101,39 @@ pub enum Choice {
     Checkpoint(u64),
     Savepoint(u64),
     Fresh,
+}
+
+/// What the job is doing.
+#[derive(Clone, Copy, Debug, PartialEq, Eq)]
+pub enum Mode {
+    Running,
+    /// Too many checkpoints failed in a row: a restore starts the job again.
+    Failed,
+    /// The job has ended for good.
+    Cancelled,
+}
+
+#[derive(Clone, Copy, Debug, PartialEq, Eq)]
+pub enum Kind {
+    Checkpoint,
+    Savepoint,
+}
+
+/// A live record: its number, its kind, and whether it is done or pending.
+#[derive(Clone, Copy, Debug, PartialEq, Eq)]
+pub struct Live {
+    pub id: u64,
+    pub kind: Kind,
+    pub done: bool,
+}
+
+/// How many files live records use, each counted once, wait for deletion, and were fetched for it and
+/// are not yet reported.
+#[derive(Clone, Copy, Debug, PartialEq, Eq)]
+pub struct FileCounts {
+    pub in_use: u64,
+    pub waiting: u64,
+    pub taken: u64,
 }
 
 /// What a call that was made answered.
@@ -326,6 +375,82 @@ impl Coordinator {
     pub fn count(&mut self, file: u64) -> Called {
         answer(unsafe { relkvanu_count(&mut self.handle, file) })
     }
+}
+
+/// Reads. None takes memory, changes anything or is refused.
+impl Coordinator {
+    /// What the job is doing.
+    pub fn mode(&mut self) -> Mode {
+        match read(unsafe { relkvanu_mode(&mut self.handle) }).what {
+            23 => Mode::Running,
+            24 => Mode::Failed,
+            25 => Mode::Cancelled,
+            other => unreachable!("mode {other}"),
+        }
+    }
+
+    /// The moment from which neither the interval nor the pause holds a checkpoint back: no tick before
+    /// it triggers one. So this is when to tick next. Calls move it.
+    pub fn due(&mut self) -> u64 {
+        read(unsafe { relkvanu_due(&mut self.handle) }).a
+    }
+
+    /// The moment from which a pending record is expired, or `None` where none is pending.
+    pub fn oldest_expiry(&mut self) -> Option<u64> {
+        let told = read(unsafe { relkvanu_oldest_expiry(&mut self.handle) });
+        (told.what == 27).then_some(told.a)
+    }
+
+    /// The record that a restore of the latest would begin from.
+    pub fn choice(&mut self) -> Choice {
+        let Told { what, a, .. } = read(unsafe { relkvanu_choice(&mut self.handle) });
+        match what {
+            29 => Choice::Checkpoint(a),
+            30 => Choice::Savepoint(a),
+            31 => Choice::Fresh,
+            other => unreachable!("choice {other}"),
+        }
+    }
+
+    /// The live record at this place, from 0, where they stand in rising number, or `None` past the
+    /// last. Searches for each record before it too.
+    pub fn live(&mut self, place: usize) -> Option<Live> {
+        let Told { what, a, b, .. } = read(unsafe { relkvanu_live(&mut self.handle, place) });
+        let kind = match what {
+            32 => Kind::Checkpoint,
+            33 => Kind::Savepoint,
+            34 => return None,
+            other => unreachable!("kind {other}"),
+        };
+        Some(Live {
+            id: a,
+            kind,
+            done: b == 1,
+        })
+    }
+
+    /// How many subtasks of this record have not acknowledged, or `None` where no record of this number
+    /// is pending.
+    pub fn missing(&mut self, id: u64) -> Option<u64> {
+        let told = read(unsafe { relkvanu_missing(&mut self.handle, id) });
+        (told.what == 35).then_some(told.a)
+    }
+
+    /// How many files live records use, wait for deletion, and were fetched for it.
+    pub fn file_counts(&mut self) -> FileCounts {
+        let told = unsafe { relkvanu_file_counts(&mut self.handle) };
+        assert_eq!(told.code, 0, "the handle is open");
+        FileCounts {
+            in_use: told.in_use,
+            waiting: told.waiting,
+            taken: told.taken,
+        }
+    }
+}
+
+fn read(told: Told) -> Told {
+    assert_eq!(told.code, 0, "the handle is open");
+    told
 }
 
 fn done(told: Told) -> Result<Told, Fault> {

@@ -1,0 +1,224 @@
+//! What a handle's coordinator tells without a call. None of it takes memory or changes anything.
+
+ghost use Rattle.std.specs.Prelude.{◌≡◌, None, Some, slice_get};
+ghost use Rattle.std.specs.Option.{option_map};
+ghost use Rattle.ckpt_ids.specs.Records.{missing};
+ghost use Rattle.ckpt_core.specs.Reads.{IsNextExpiry, NoneIsEarlyFrom, NoneTriggersBefore, live_of, next_due};
+ghost use Rattle.ckpt_core.specs.Refusals.{pending_of};
+ghost use Rattle.ckpt_core.specs.Soundness.{IsSound};
+ghost use Rattle.ckpt_core.specs.State.{State, choice_of};
+ghost use Rattle.ckpt_embed.specs.Calls.{StaysClosed};
+ghost use Rattle.ckpt_embed.specs.Reads.{choice_told, counts_of, due_told, expiry_in, expiry_told, live_told, missing_told, mode_told, no_counts};
+
+use crate::answer::{Answer, CLOSED, DONE};
+use crate::handle::Handle;
+use ckpt_core::{Live, Mode};
+use ckpt_ids::{CheckpointId, Choice, Kind};
+use std::alloc::Global;
+
+// what the answer is
+const MODE_RUNNING: u32 = 23;
+
+const MODE_FAILED: u32 = 24;
+
+const MODE_CANCELLED: u32 = 25;
+
+const DUE: u32 = 26;
+
+const EXPIRES: u32 = 27;
+
+const NONE_PENDING: u32 = 28;
+
+const CHOICE_CHECKPOINT: u32 = 29;
+
+const CHOICE_SAVEPOINT: u32 = 30;
+
+const CHOICE_FRESH: u32 = 31;
+
+const LIVE_CHECKPOINT: u32 = 32;
+
+const LIVE_SAVEPOINT: u32 = 33;
+
+const LIVE_NONE: u32 = 34;
+
+const MISSING: u32 = 35;
+
+const NOT_PENDING: u32 = 36;
+
+/// How many files live records use, how many wait for deletion, and how many were fetched for it and
+/// are not yet reported. The code is `DONE` or `CLOSED`.
+#[repr(C)]
+#[derive(Clone, Copy, Debug, PartialEq, Eq)]
+pub struct FileCounts {
+    pub code: u32,
+    pub in_use: u64,
+    pub waiting: u64,
+    pub taken: u64,
+}
+
+/// What the job is doing.
+pub fn mode(alloc: Global, handle: &mut Handle) -> Answer
+    ensures closed { StaysClosed handle.old.value handle.new.value result }
+    ensures answered { (m : State) → handle.old.value ≡ Some m → result ≡ mode_told m.mode }
+    ensures sound { (m : State) → handle.old.value ≡ Some m → IsSound m }
+    ensures unchanged { handle.new.value ≡ handle.old.value }
+{
+    let Some(core) = handle.take(alloc) else {
+        return Answer::closed();
+    };
+    let answer = of_mode(core.mode());
+    handle.put(alloc, core);
+    answer
+}
+
+/// The moment from which neither the interval nor the pause holds a checkpoint back, in
+/// milliseconds: when to tick next.
+pub fn due(alloc: Global, handle: &mut Handle) -> Answer
+    ensures closed { StaysClosed handle.old.value handle.new.value result }
+    ensures answered { (m : State) → handle.old.value ≡ Some m → result ≡ due_told (next_due m) }
+    ensures before { (m : State) → handle.old.value ≡ Some m → NoneTriggersBefore m result.a }
+    ensures from { (m : State) → handle.old.value ≡ Some m → NoneIsEarlyFrom m result.a }
+    ensures unchanged { handle.new.value ≡ handle.old.value }
+{
+    let Some(core) = handle.take(alloc) else {
+        return Answer::closed();
+    };
+    let answer = Answer::done(DUE, core.due(), 0);
+    handle.put(alloc, core);
+    answer
+}
+
+/// The moment at which the first of the pending records expires, in milliseconds, where one is
+/// pending. Looks at each pending record.
+pub fn oldest_expiry(alloc: Global, handle: &mut Handle) -> Answer
+    ensures closed { StaysClosed handle.old.value handle.new.value result }
+    ensures answered { (m : State) → handle.old.value ≡ Some m → result ≡ expiry_told (expiry_in result) }
+    ensures moment { (m : State) → handle.old.value ≡ Some m → IsNextExpiry m (expiry_in result) }
+    ensures unchanged { handle.new.value ≡ handle.old.value }
+{
+    let Some(core) = handle.take(alloc) else {
+        return Answer::closed();
+    };
+    let answer = of_expiry(core.oldest_expiry());
+    handle.put(alloc, core);
+    answer
+}
+
+/// The record that a restart begins from.
+pub fn choice(alloc: Global, handle: &mut Handle) -> Answer
+    ensures closed { StaysClosed handle.old.value handle.new.value result }
+    ensures answered { (m : State) → handle.old.value ≡ Some m → result ≡ choice_told (choice_of m) }
+    ensures unchanged { handle.new.value ≡ handle.old.value }
+{
+    let Some(core) = handle.take(alloc) else {
+        return Answer::closed();
+    };
+    let answer = of_choice(core.choice());
+    handle.put(alloc, core);
+    answer
+}
+
+/// The live record at this place, where they stand in rising number. Takes a search by halves for
+/// each place before it, and looks at the pending records.
+pub fn live(alloc: Global, handle: &mut Handle, place: usize) -> Answer
+    ensures closed { StaysClosed handle.old.value handle.new.value result }
+    ensures answered { (m : State) → handle.old.value ≡ Some m → result ≡ live_told (option_map live_of (slice_get m.records place)) }
+    ensures unchanged { handle.new.value ≡ handle.old.value }
+{
+    let Some(core) = handle.take(alloc) else {
+        return Answer::closed();
+    };
+    let answer = of_live(core.live(place));
+    handle.put(alloc, core);
+    answer
+}
+
+/// How many subtasks of this pending record have not acknowledged.
+pub fn missing(alloc: Global, handle: &mut Handle, id: u64) -> Answer
+    ensures closed { StaysClosed handle.old.value handle.new.value result }
+    ensures answered { (m : State) → handle.old.value ≡ Some m → result ≡ missing_told (option_map missing (pending_of m.records id)) }
+    ensures unchanged { handle.new.value ≡ handle.old.value }
+{
+    let Some(core) = handle.take(alloc) else {
+        return Answer::closed();
+    };
+    let answer = of_missing(core.missing(CheckpointId(id)));
+    handle.put(alloc, core);
+    answer
+}
+
+/// How many files live records use, wait for deletion, and were fetched for it.
+pub fn file_counts(alloc: Global, handle: &mut Handle) -> FileCounts
+    ensures closed { handle.old.value ≡ None → result ≡ no_counts }
+    ensures answered { (m : State) → handle.old.value ≡ Some m → result ≡ counts_of m }
+    ensures unchanged { handle.new.value ≡ handle.old.value }
+{
+    let Some(core) = handle.take(alloc) else {
+        return FileCounts {
+            code: CLOSED,
+            in_use: 0,
+            waiting: 0,
+            taken: 0,
+        };
+    };
+    let counts = FileCounts {
+        code: DONE,
+        in_use: core.files_in_use(),
+        waiting: core.files_waiting(),
+        taken: core.files_taken(),
+    };
+    handle.put(alloc, core);
+    counts
+}
+
+fn of_mode(mode: Mode) -> Answer
+    ensures { result ≡ mode_told mode }
+{
+    match mode {
+        Mode::Running => Answer::done(MODE_RUNNING, 0, 0),
+        Mode::Failed => Answer::done(MODE_FAILED, 0, 0),
+        Mode::Cancelled => Answer::done(MODE_CANCELLED, 0, 0),
+    }
+}
+
+fn of_expiry(moment: Option<u64>) -> Answer
+    ensures told { result ≡ expiry_told moment }
+    ensures moment { expiry_in result ≡ moment }
+{
+    match moment {
+        Some(moment) => Answer::done(EXPIRES, moment, 0),
+        None => Answer::done(NONE_PENDING, 0, 0),
+    }
+}
+
+fn of_choice(choice: Choice) -> Answer
+    ensures { result ≡ choice_told choice }
+{
+    match choice {
+        Choice::Checkpoint(id) => Answer::done(CHOICE_CHECKPOINT, id.0, 0),
+        Choice::Savepoint(id) => Answer::done(CHOICE_SAVEPOINT, id.0, 0),
+        Choice::Fresh => Answer::done(CHOICE_FRESH, 0, 0),
+    }
+}
+
+fn of_live(live: Option<Live>) -> Answer
+    ensures { result ≡ live_told live }
+{
+    let Some(live) = live else {
+        return Answer::done(LIVE_NONE, 0, 0);
+    };
+    let done = u64::from(live.done);
+    match live.kind {
+        Kind::Checkpoint => Answer::done(LIVE_CHECKPOINT, live.id.0, done),
+        Kind::Savepoint => Answer::done(LIVE_SAVEPOINT, live.id.0, done),
+    }
+}
+
+fn of_missing(subtasks: Option<u32>) -> Answer
+    ensures { result ≡ missing_told subtasks }
+{
+    match subtasks {
+        Some(subtasks) => Answer::done(MISSING, u64::from(subtasks), 0),
+        None => Answer::done(NOT_PENDING, 0, 0),
+    }
+}

@@ -1,0 +1,104 @@
+"""The reads after calls, with values that are worked out from the rules (docs/RULES.md)."""
+import dataclasses
+import unittest
+
+from relkvanu import (
+    Chosen, Closed, Coordinator, FileCounts, HeldInterval, HeldPause, Kind, Live, Mode, Settings, Triggered,
+)
+
+SETTINGS = Settings(interval=1000, at_once=2, timeout=5000)
+
+
+def with_checkpoint_3():
+    """Checkpoint 1 is completed, savepoint 2 is pending, and checkpoint 3 replaces checkpoint 1."""
+    job = Coordinator(SETTINGS, [2], 0)
+    job.tick(1000)
+    job.ack(1100, 1, 0, 0, [1, 2])
+    job.savepoint(1200)
+    job.ack(1300, 1, 0, 1, [3])
+    job.tick(2000)
+    job.ack(2100, 3, 0, 0, [4], [1])
+    job.ack(2100, 3, 0, 1, [5])
+    return job
+
+
+def records(job):
+    found = []
+    while job.live(len(found)) is not None:
+        found.append(job.live(len(found)))
+    return found
+
+
+class Reads(unittest.TestCase):
+    def test_a_new_coordinator_is_due_after_its_interval(self):
+        with Coordinator(SETTINGS, [2], 0) as job:
+            self.assertEqual((job.mode(), job.due(), job.oldest_expiry()), (Mode.RUNNING, 1000, None))
+            self.assertEqual((job.choice(), job.live(0), job.missing(1)), (None, None, None))
+            self.assertEqual(job.file_counts(), FileCounts(0, 0, 0))
+
+    def test_a_pending_record_expires_and_misses_subtasks(self):
+        with Coordinator(SETTINGS, [2], 0) as job:
+            job.tick(1000)
+            self.assertEqual((job.due(), job.oldest_expiry(), job.missing(1)), (2000, 6000, 2))
+            job.ack(1100, 1, 0, 0, [1, 2])
+            self.assertEqual((job.missing(1), job.file_counts()), (1, FileCounts(2, 0, 0)))
+            job.savepoint(1200)
+            self.assertEqual(records(job), [Live(1, Kind.CHECKPOINT, False), Live(2, Kind.SAVEPOINT, False)])
+
+    def test_a_completed_checkpoint_is_the_choice(self):
+        with with_checkpoint_3() as job:
+            self.assertEqual(job.choice(), Chosen(3, Kind.CHECKPOINT))
+            self.assertEqual(records(job), [Live(2, Kind.SAVEPOINT, False), Live(3, Kind.CHECKPOINT, True)])
+            self.assertEqual((job.missing(3), job.oldest_expiry()), (None, 6200))
+
+    def test_files_are_in_use_then_wait_then_are_taken(self):
+        with with_checkpoint_3() as job:
+            self.assertEqual(job.file_counts(), FileCounts(in_use=3, waiting=2, taken=0))
+            job.take(1)
+            self.assertEqual(job.file_counts(), FileCounts(3, 1, 1))
+            job.deleted(2)
+            self.assertEqual(job.file_counts(), FileCounts(3, 1, 0))
+
+    def test_a_tick_at_the_expiry_ends_the_record(self):
+        with with_checkpoint_3() as job:
+            self.assertEqual(job.tick(6199), Triggered(expired=0, id=4))
+            self.assertEqual(job.tick(6200), HeldInterval(expired=1))
+            self.assertEqual((job.oldest_expiry(), job.missing(2)), (11_199, None))
+
+    def test_a_job_fails_is_restored_and_is_cancelled(self):
+        with with_checkpoint_3() as job:
+            job.tick(6199)
+            job.decline(6300, 4, 0, 0)
+            self.assertEqual((job.mode(), job.oldest_expiry()), (Mode.FAILED, None))
+            job.restore(6400)
+            self.assertEqual((job.mode(), job.due()), (Mode.RUNNING, 7400))
+            job.cancel(6500)
+            self.assertEqual((job.mode(), job.choice()), (Mode.CANCELLED, None))
+            self.assertEqual(job.file_counts(), FileCounts(0, 5, 0))
+
+    def test_a_pause_after_a_completion_is_due_later(self):
+        with Coordinator(dataclasses.replace(SETTINGS, pause=500), [2], 0) as job:
+            job.tick(1000)
+            job.ack(1900, 1, 0, 0, [])
+            job.ack(1900, 1, 0, 1, [])
+            self.assertEqual(job.due(), 2400)
+            self.assertEqual(job.tick(2399), HeldPause(expired=0))
+            self.assertEqual(job.tick(2400), Triggered(expired=0, id=2))
+
+    def test_a_job_rolled_back_to_a_savepoint_begins_from_it(self):
+        with with_checkpoint_3() as job:
+            job.ack(2200, 2, 0, 0, [6])
+            job.ack(2200, 2, 0, 1, [])
+            job.restore(2300, 2)
+            self.assertEqual(job.choice(), Chosen(2, Kind.SAVEPOINT))
+            self.assertEqual(records(job), [Live(2, Kind.SAVEPOINT, True)])
+
+    def test_a_closed_one_tells_nothing(self):
+        job = Coordinator(SETTINGS, [1], 0)
+        job.close()
+        for read in (job.mode, job.due, job.oldest_expiry, job.choice, lambda: job.live(0), lambda: job.missing(1), job.file_counts):
+            self.assertRaises(Closed, read)
+
+
+if __name__ == "__main__":
+    unittest.main()

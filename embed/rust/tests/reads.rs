@@ -1,0 +1,157 @@
+//! The reads after calls, with values that are worked out from the rules (`docs/RULES.md`).
+use relkvanu::{Answer, Choice, Coordinator, FileCounts, Kind, Live, Mode, Settings};
+
+const SETTINGS: Settings = Settings {
+    interval: 1000,
+    pause: 0,
+    at_once: 2,
+    timeout: 5000,
+    tolerable: 0,
+    retained: 1,
+    keep_on_cancel: false,
+};
+
+fn opened(settings: &Settings) -> Coordinator {
+    Coordinator::open(settings, &[2], 0, 1).unwrap()
+}
+
+fn live(id: u64, kind: Kind, done: bool) -> Live {
+    Live { id, kind, done }
+}
+
+fn records(job: &mut Coordinator) -> Vec<Live> {
+    (0..).map_while(|place| job.live(place)).collect()
+}
+
+fn counts(in_use: u64, waiting: u64, taken: u64) -> FileCounts {
+    FileCounts {
+        in_use,
+        waiting,
+        taken,
+    }
+}
+
+/// Checkpoint 1 is completed, savepoint 2 is pending, and checkpoint 3 replaces checkpoint 1.
+fn with_checkpoint_3() -> Coordinator {
+    let mut job = opened(&SETTINGS);
+    job.tick(1000).unwrap();
+    job.ack(1100, 1, (0, 0), &[1, 2], &[]).unwrap();
+    job.savepoint(1200).unwrap();
+    job.ack(1300, 1, (0, 1), &[3], &[]).unwrap();
+    job.tick(2000).unwrap();
+    job.ack(2100, 3, (0, 0), &[4], &[1]).unwrap();
+    job.ack(2100, 3, (0, 1), &[5], &[]).unwrap();
+    job
+}
+
+#[test]
+fn a_new_coordinator_is_due_after_its_interval() {
+    let mut job = opened(&SETTINGS);
+    assert_eq!(job.mode(), Mode::Running);
+    assert_eq!(job.due(), 1000);
+    assert_eq!(job.oldest_expiry(), None);
+    assert_eq!(job.choice(), Choice::Fresh);
+    assert_eq!(job.live(0), None);
+    assert_eq!(job.missing(1), None);
+    assert_eq!(job.file_counts(), counts(0, 0, 0));
+}
+
+#[test]
+fn a_pending_record_expires_and_misses_subtasks() {
+    let mut job = opened(&SETTINGS);
+    job.tick(1000).unwrap();
+    assert_eq!(job.due(), 2000);
+    assert_eq!(job.oldest_expiry(), Some(6000));
+    assert_eq!(job.missing(1), Some(2));
+    job.ack(1100, 1, (0, 0), &[1, 2], &[]).unwrap();
+    assert_eq!(job.missing(1), Some(1));
+    assert_eq!(job.file_counts(), counts(2, 0, 0));
+    job.savepoint(1200).unwrap();
+    assert_eq!(
+        records(&mut job),
+        [
+            live(1, Kind::Checkpoint, false),
+            live(2, Kind::Savepoint, false)
+        ]
+    );
+}
+
+#[test]
+fn a_completed_checkpoint_is_the_choice() {
+    let mut job = with_checkpoint_3();
+    assert_eq!(job.choice(), Choice::Checkpoint(3));
+    assert_eq!(
+        records(&mut job),
+        [
+            live(2, Kind::Savepoint, false),
+            live(3, Kind::Checkpoint, true)
+        ]
+    );
+    assert_eq!(job.missing(3), None);
+    assert_eq!(job.oldest_expiry(), Some(6200));
+}
+
+#[test]
+fn files_are_in_use_then_wait_then_are_taken() {
+    let mut job = with_checkpoint_3();
+    assert_eq!(job.file_counts(), counts(3, 2, 0));
+    assert_eq!(job.take(&mut [0]).unwrap(), [2]);
+    assert_eq!(job.file_counts(), counts(3, 1, 1));
+    job.undeleted(2).unwrap();
+    assert_eq!(job.file_counts(), counts(3, 2, 0));
+    job.take(&mut [0, 0]).unwrap();
+    job.deleted(3).unwrap();
+    assert_eq!(job.file_counts(), counts(3, 0, 1));
+}
+
+#[test]
+fn a_tick_at_the_expiry_ends_the_record() {
+    let mut job = with_checkpoint_3();
+    let answer = job.tick(6199).unwrap();
+    assert_eq!(answer, Answer::Triggered { expired: 0, id: 4 });
+    assert_eq!(job.tick(6200).unwrap(), Answer::HeldInterval { expired: 1 });
+    assert_eq!(job.oldest_expiry(), Some(11_199));
+    assert_eq!(job.missing(2), None);
+}
+
+#[test]
+fn a_job_fails_is_restored_and_is_cancelled() {
+    let mut job = with_checkpoint_3();
+    job.tick(6199).unwrap();
+    job.decline(6300, 4, (0, 0)).unwrap();
+    assert_eq!(job.mode(), Mode::Failed);
+    assert_eq!(job.oldest_expiry(), None);
+    job.restore(6400, None, None).unwrap();
+    assert_eq!((job.mode(), job.due()), (Mode::Running, 7400));
+    job.cancel(6500).unwrap();
+    assert_eq!((job.mode(), job.choice()), (Mode::Cancelled, Choice::Fresh));
+    assert_eq!(job.file_counts(), counts(0, 5, 0));
+}
+
+#[test]
+fn a_pause_after_a_completion_is_due_later() {
+    let mut job = opened(&Settings {
+        pause: 500,
+        ..SETTINGS
+    });
+    job.tick(1000).unwrap();
+    job.ack(1900, 1, (0, 0), &[], &[]).unwrap();
+    job.ack(1900, 1, (0, 1), &[], &[]).unwrap();
+    assert_eq!(job.due(), 2400);
+    assert_eq!(job.tick(2399).unwrap(), Answer::HeldPause { expired: 0 });
+    assert_eq!(
+        job.tick(2400).unwrap(),
+        Answer::Triggered { expired: 0, id: 2 }
+    );
+}
+
+#[test]
+fn a_job_rolled_back_to_a_savepoint_begins_from_it() {
+    let mut job = with_checkpoint_3();
+    job.ack(2200, 2, (0, 0), &[6], &[]).unwrap();
+    job.ack(2200, 2, (0, 1), &[], &[]).unwrap();
+    job.restore(2300, std::num::NonZeroU64::new(2), None)
+        .unwrap();
+    assert_eq!(job.choice(), Choice::Savepoint(2));
+    assert_eq!(records(&mut job), [live(2, Kind::Savepoint, true)]);
+}
