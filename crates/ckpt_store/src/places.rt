@@ -1,26 +1,35 @@
-ghost use Rattle.std.specs.Prelude.{◌≡◌, ◌<◌, false, length, IfOk, OnErr};
+ghost use Rattle.std.specs.Prelude.{◌≡◌, ◌<◌, ◌≤◌, ◌+◌, false, length, IfOk, OnOk, OnErr};
 ghost use Rattle.std.specs.List.{list_any};
+ghost use Rattle.std.specs.VecDeque.{deque_len, deque_capacity};
 ghost use Rattle.ckpt_store.specs.Places.{IsPlaceOf};
 ghost use Rattle.ckpt_store.specs.Storing.{AreRising, has_id};
 
 use ckpt_ids::CheckpointId;
 use ckpt_pending::Done;
+use std::alloc::AllocError;
 use std::collections::VecDeque;
 
-/// Where the record of this number is, or an `Err` where there is none.
-pub(crate) fn place_in_row(row: &[Done], id: CheckpointId) -> Result<usize, usize>
-    requires { AreRising row.now }
-    ensures found { IfOk result (λ place. (place < length row.now) × IsPlaceOf id row.now place) }
-    ensures absent { OnErr result (list_any (has_id id) row.now ≡ false) }
-{
-    row.binary_search_by_key(&id, |done| done.id())
-}
+/// The room of a queue that grows for the first time.
+const FIRST_ROOM: usize = 4;
 
-/// The same in a queue.
-pub(crate) fn place_in_queue(queue: &VecDeque<Done>, id: CheckpointId) -> Result<usize, usize>
+/// Where the record of this number is, or an `Err` where there is none.
+pub(crate) fn place_of(queue: &VecDeque<Done>, id: CheckpointId) -> Result<usize, usize>
     requires { AreRising queue.now.items }
     ensures found { IfOk result (λ place. (place < length queue.now.items) × IsPlaceOf id queue.now.items place) }
     ensures absent { OnErr result (list_any (has_id id) queue.now.items ≡ false) }
 {
     queue.binary_search_by_key(&id, |done| done.id())
+}
+
+/// Makes room for one more record. A growth at least doubles the room.
+pub(crate) fn make_room(queue: &mut VecDeque<Done>) -> Result<(), AllocError>
+    ensures items { queue.new.items ≡ queue.old.items }
+    ensures len { deque_len queue.new ≡ deque_len queue.old }
+    ensures ok { OnOk result (deque_len queue.new + 1 ≤ deque_capacity queue.new) }
+    ensures capacity { deque_capacity queue.old ≤ deque_capacity queue.new }
+{
+    if queue.len() < queue.capacity() {
+        return Ok(());
+    }
+    queue.reserve(queue.capacity().max(FIRST_ROOM))
 }

@@ -5,7 +5,7 @@ ghost use Rattle.ckpt_ids.specs.declared.numbers.Kind.TheVariants as kind;
 ghost use Rattle.ckpt_ids.specs.Ordered.{put};
 ghost use Rattle.ckpt_store.specs.Storing.{Stored, IsStored, IsAbove, by_id, has_id, has_savepoint, completing, past_retained, lowest, choice_of, record_of};
 
-use crate::places::{place_in_queue, place_in_row};
+use crate::places::{make_room, place_of};
 use ckpt_ids::{CheckpointId, Choice, Kind};
 use ckpt_pending::Done;
 use std::alloc::{AllocError, Global};
@@ -31,13 +31,12 @@ pub enum DisposeFault {
 pub struct Store {
     retained: u32,
     checkpoints: VecDeque<Done>,
-    savepoints: Vec<Done>,
+    savepoints: VecDeque<Done>,
     base: Option<CheckpointId>,
 }
 
 impl Model for Store {
     ghost use Rattle.std.specs.Prelude.{◌-◌, min};
-    ghost use Rattle.std.specs.Vec.{vec_len, vec_capacity};
     ghost use Rattle.std.specs.VecDeque.{deque_len, deque_capacity};
     ghost use Rattle.ckpt_store.specs.Storing.{Stored, IsStored};
 
@@ -48,7 +47,7 @@ impl Model for Store {
       checkpoints = s.checkpoints.items;
       savepoints = s.savepoints.items;
       base = s.base;
-      spare = min (deque_capacity s.checkpoints - deque_len s.checkpoints) (vec_capacity s.savepoints - vec_len s.savepoints);
+      spare = min (deque_capacity s.checkpoints - deque_len s.checkpoints) (deque_capacity s.savepoints - deque_len s.savepoints);
     } };
 
     ghost invariant = { λ s. IsStored (record {
@@ -56,7 +55,7 @@ impl Model for Store {
       checkpoints = s.checkpoints.items;
       savepoints = s.savepoints.items;
       base = s.base;
-      spare = min (deque_capacity s.checkpoints - deque_len s.checkpoints) (vec_capacity s.savepoints - vec_len s.savepoints);
+      spare = min (deque_capacity s.checkpoints - deque_len s.checkpoints) (deque_capacity s.savepoints - deque_len s.savepoints);
     }) };
 }
 
@@ -69,7 +68,7 @@ impl Store {
         Store {
             retained,
             checkpoints: VecDeque::new(alloc),
-            savepoints: Vec::new(alloc),
+            savepoints: VecDeque::new(alloc),
             base: None,
         }
     }
@@ -80,8 +79,8 @@ impl Store {
         ensures kept { self.new ≡ record self.old { spare = self.new.spare } }
         ensures room { self.old.spare ≤ self.new.spare }
     {
-        self.checkpoints.reserve(1)?;
-        self.savepoints.reserve(1)
+        make_room(&mut self.checkpoints)?;
+        make_room(&mut self.savepoints)
     }
 
     /// Takes a completed checkpoint, whose number is above those of all others. There is no base
@@ -133,7 +132,7 @@ impl Store {
         ensures err { OnErr result (self.new ≡ self.old) }
         ensures room { self.old.spare ≤ self.new.spare }
     {
-        let Ok(place) = place_in_row(&self.savepoints, id) else {
+        let Ok(place) = place_of(&self.savepoints, id) else {
             return Err(DisposeFault::NoSuchSavepoint);
         };
         if self.base == Some(id) {
@@ -147,7 +146,7 @@ impl Store {
     pub fn has_savepoint(&self, id: CheckpointId) -> bool
         ensures { result ≡ has_savepoint self.now id }
     {
-        place_in_row(&self.savepoints, id).is_ok()
+        place_of(&self.savepoints, id).is_ok()
     }
 
     /// How many completed savepoints there are.
@@ -238,10 +237,10 @@ impl Store {
         ensures value { option_copied result ≡ record_of self.now id }
         ensures stored { IsStored self.now }
     {
-        if let Ok(place) = place_in_queue(&self.checkpoints, id) {
+        if let Ok(place) = place_of(&self.checkpoints, id) {
             return self.checkpoints.get(place);
         }
-        match place_in_row(&self.savepoints, id) {
+        match place_of(&self.savepoints, id) {
             Ok(place) => self.savepoints.get(place),
             Err(_) => None,
         }

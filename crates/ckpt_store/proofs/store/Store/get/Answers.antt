@@ -15,18 +15,17 @@ returns-in-Ok-clause-value c =
     let got : option_copied c.get.result ≡ slice_get c.self.inside.checkpoints.items c.in-Ok.place = copied_from_get c.get.result c.self.inside.checkpoints.items c.in-Ok.place c.get.ensures.item.0 c.get.ensures.lookup in
     got ∙ record_of_place s c.args.id c.in-Ok.place c.self.invariant.checkpoints_rise c.in-Ok.ensures.found.1 ∙ same
 
-pub returns-in-Ok-place_in_row-clause-value : goal.returns-in-Ok-place_in_row-clause-value
-returns-in-Ok-place_in_row-clause-value c =
+pub returns-in-Ok-place_of-clause-value : goal.returns-in-Ok-place_of-clause-value
+returns-in-Ok-place_of-clause-value c =
     let s : Stored = record { retained = c.self.inside.retained; checkpoints = c.self.inside.checkpoints.items; savepoints = c.self.inside.savepoints.items; base = c.self.inside.base; spare = 0 } in
     let same : record_of s c.args.id ≡ record_of c.args.self.now c.args.id = ap (λ q. record_of q c.args.id) c.self.view_is in
-    let at = c.in-Ok-place_in_row in
-    let got : option_copied c.get-in-Ok-place_in_row.result ≡ slice_get c.self.inside.savepoints.items c.in-Ok-place_in_row.place = rw (← c.deref-in-Ok-place_in_row.ensures.value) (copied_from_get c.get-in-Ok-place_in_row.result c.deref-in-Ok-place_in_row.result.now c.in-Ok-place_in_row.place c.get-in-Ok-place_in_row.ensures.lookup.0 c.get-in-Ok-place_in_row.ensures.lookup.1) in
-    let placed : IsPlaceOf c.args.id c.self.inside.savepoints.items c.in-Ok-place_in_row.place = rw (← c.deref.ensures.value) c.in-Ok-place_in_row.ensures.found.1 in
-    got ∙ find-place c.args.id c.self.inside.savepoints.items c.in-Ok-place_in_row.place c.self.invariant.savepoints_rise placed ∙ record_of_later s c.args.id c.in_default.ensures.absent ∙ same
+    let got : option_copied c.get-in-Ok-place_of.result ≡ slice_get c.self.inside.savepoints.items c.in-Ok-place_of.place = copied_from_get c.get-in-Ok-place_of.result c.self.inside.savepoints.items c.in-Ok-place_of.place c.get-in-Ok-place_of.ensures.item.0 c.get-in-Ok-place_of.ensures.lookup in
+    let placed : IsPlaceOf c.args.id c.self.inside.savepoints.items c.in-Ok-place_of.place = c.in-Ok-place_of.ensures.found.1 in
+    got ∙ find-place c.args.id c.self.inside.savepoints.items c.in-Ok-place_of.place c.self.invariant.savepoints_rise placed ∙ record_of_later s c.args.id c.in_default.ensures.absent ∙ same
 
 pub returns-in-Err-clause-value : goal.returns-in-Err-clause-value
 returns-in-Err-clause-value c =
     let s : Stored = record { retained = c.self.inside.retained; checkpoints = c.self.inside.checkpoints.items; savepoints = c.self.inside.savepoints.items; base = c.self.inside.base; spare = 0 } in
     let same : record_of s c.args.id ≡ record_of c.args.self.now c.args.id = ap (λ q. record_of q c.args.id) c.self.view_is in
-    let absent : list_any (has_id c.args.id) c.self.inside.savepoints.items ≡ false = ap (list_any (has_id c.args.id)) (sym c.deref.ensures.value) ∙ c.in-Err.ensures.absent in
+    let absent : list_any (has_id c.args.id) c.self.inside.savepoints.items ≡ false = c.in-Err.ensures.absent in
     sym (find_none (has_id c.args.id) c.self.inside.savepoints.items absent) ∙ record_of_later s c.args.id c.in_default.ensures.absent ∙ same

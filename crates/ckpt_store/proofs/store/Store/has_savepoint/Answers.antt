@@ -13,4 +13,4 @@ found_or_absent id row (Err place) h k = sym k
 
 pub returns : goal.returns
 returns c =
-    c.is_ok.ensures.value ∙ found_or_absent c.args.id c.deref.result.now c.place_in_row.result c.place_in_row.ensures.found c.place_in_row.ensures.absent ∙ ap (list_any (has_id c.args.id)) c.deref.ensures.value ∙ ap (λ s. has_savepoint s c.args.id) c.self.view_is
+    c.is_ok.ensures.value ∙ found_or_absent c.args.id c.self.inside.savepoints.items c.place_of.result c.place_of.ensures.found c.place_of.ensures.absent ∙ ap (λ s. has_savepoint s c.args.id) c.self.view_is

@@ -1,16 +1,16 @@
 use Rattle.std.proofs.Common.{rules}
 use Rattle.std.proofs.lemmas.List.Sorted.{answers_always}
 use Rattle.ckpt_store.proofs.RowLemmas.{search_found, search_absent}
-use Rattle.ckpt_store.proofs.places.place_in_row.Goals as goal
+use Rattle.ckpt_store.proofs.places.place_of.Goals as goal
 
 pub returns-clause-found : goal.returns-clause-found
 returns-clause-found c =
     let facts = c.binary_search_by_key.ensures in
     let by_id = facts.position (λ r. r.id) (answers_always _ _ _ (λ f a r g called. search rules)) in
-    search_found c.args.id c.args.row.now c.binary_search_by_key.result facts.bound by_id
+    search_found c.args.id c.args.queue.now.items c.binary_search_by_key.result (rw (← c.args.queue.now.ok.0) facts.bound) by_id
 
 pub returns-clause-absent : goal.returns-clause-absent
 returns-clause-absent c =
     let facts = c.binary_search_by_key.ensures in
     let by_id = facts.position (λ r. r.id) (answers_always _ _ _ (λ f a r g called. search rules)) in
-    search_absent c.args.id c.args.row.now c.binary_search_by_key.result c.requires by_id
+    search_absent c.args.id c.args.queue.now.items c.binary_search_by_key.result c.requires by_id
