@@ -1,6 +1,7 @@
 //! Tests of workers and teams: rows of what they did over a lock.
 //!
-//! `docs/DECISIONS.md` says why they stand apart from the crate that they test.
+//! `docs/DECISIONS.md` says why they stand apart from the crate that they test, and which wrong bodies
+//! they alone refuse.
 #![tactic(auto)]
 
 #[cfg(test)]
@@ -9,6 +10,8 @@ mod desk;
 mod gates;
 #[cfg(test)]
 mod rounds;
+#[cfg(test)]
+mod spreads;
 #[cfg(test)]
 mod teams;
 #[cfg(test)]
