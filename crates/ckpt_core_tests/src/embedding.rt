@@ -10,7 +10,8 @@ fn first_checkpoint(alloc: Global) -> Result<Option<u64>, Fail> {
     let config = Config::new(60_000, 0, 1, 600_000, 0, 1, false)?; // milliseconds
     let shape = Shape::new(alloc, &[2, 1])?; // the parallelism of each vertex
     let mut core = Core::new(alloc, config, shape, 0, 1)?; // opens at the moment 0
-    let reply = core.apply(&Call::Tick { now: 60_000 })?;
+    let due = core.due(); // when the timer is to tick
+    let reply = core.apply(&Call::Tick { now: due })?;
     match &reply {
         Reply::Ticked {
             end: TickEnd::Triggered(id),
