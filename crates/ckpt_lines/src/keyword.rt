@@ -3,7 +3,7 @@ ghost use Rattle.ckpt_lines.specs.Keywords.{keyword_of, spelling};
 
 /// The first word of a line, which says what kind of line it is.
 #[derive(Clone, Copy, Debug, PartialEq, Eq)]
-pub enum Keyword {
+pub(crate) enum Keyword {
     Config,
     Job,
     Start,
@@ -66,7 +66,7 @@ fn spelling(keyword: Keyword) -> &'static [u8]
 }
 
 /// The keyword that is spelled so, or `None`.
-pub fn keyword_of(word: &[u8]) -> Option<Keyword>
+pub(crate) fn keyword_of(word: &[u8]) -> Option<Keyword>
     ensures { result ≡ keyword_of word.now }
 {
     KEYWORDS

@@ -9,7 +9,7 @@ use ckpt_ids::{FileId, Files};
 use std::alloc::Global;
 
 /// The numbers up to the line's end.
-pub fn numbers(alloc: Global, words: &mut Words<'_>) -> Result<Numbers, LineFault>
+pub(crate) fn numbers(alloc: Global, words: &mut Words<'_>) -> Result<Numbers, LineFault>
     ensures { Reads result (each number words.old) }
 {
     let mut list = Vec::new(alloc);
@@ -21,7 +21,7 @@ pub fn numbers(alloc: Global, words: &mut Words<'_>) -> Result<Numbers, LineFaul
 }
 
 /// The file words up to the line's end: the new files and the reused ones.
-pub fn files(alloc: Global, words: &mut Words<'_>) -> Result<(Files, Files), LineFault>
+pub(crate) fn files(alloc: Global, words: &mut Words<'_>) -> Result<(Files, Files), LineFault>
     ensures { Reads result (file_places words.old) }
 {
     let mut fresh = Vec::new(alloc);

@@ -6,7 +6,7 @@ use crate::words::Words;
 use ckpt_ids::{SubtaskId, Target};
 
 #[tactic(auto, unfolding(crate::specs::Reading::number_place))]
-pub fn number(words: &mut Words<'_>) -> Result<u64, LineFault>
+pub(crate) fn number(words: &mut Words<'_>) -> Result<u64, LineFault>
     ensures { Gives result words.new (number_place words.old) }
 {
     let word = words.next().ok_or(LineFault::Missing)?;
@@ -14,7 +14,7 @@ pub fn number(words: &mut Words<'_>) -> Result<u64, LineFault>
 }
 
 #[tactic(auto, unfolding(crate::specs::Reading::subtask_place))]
-pub fn subtask(words: &mut Words<'_>) -> Result<SubtaskId, LineFault>
+pub(crate) fn subtask(words: &mut Words<'_>) -> Result<SubtaskId, LineFault>
     ensures { Gives result words.new (subtask_place words.old) }
 {
     let word = words.next().ok_or(LineFault::Missing)?;
@@ -23,7 +23,7 @@ pub fn subtask(words: &mut Words<'_>) -> Result<SubtaskId, LineFault>
 
 /// Whether completed checkpoints are kept when the job is cancelled.
 #[tactic(auto, unfolding(crate::specs::Reading::retention_place))]
-pub fn keep_or_delete(words: &mut Words<'_>) -> Result<bool, LineFault>
+pub(crate) fn keep_or_delete(words: &mut Words<'_>) -> Result<bool, LineFault>
     ensures { Gives result words.new (retention_place words.old) }
 {
     let word = words.next().ok_or(LineFault::Missing)?;
@@ -31,7 +31,7 @@ pub fn keep_or_delete(words: &mut Words<'_>) -> Result<bool, LineFault>
 }
 
 #[tactic(auto, unfolding(crate::specs::Reading::target_place))]
-pub fn target(words: &mut Words<'_>) -> Result<Target, LineFault>
+pub(crate) fn target(words: &mut Words<'_>) -> Result<Target, LineFault>
     ensures { Gives result words.new (target_place words.old) }
 {
     let word = words.next().ok_or(LineFault::Missing)?;

@@ -207,7 +207,7 @@ fn count(words: &mut Words<'_>) -> Result<Line, LineFault>
 
 /// The line of this kind, from the words after the first.
 #[tactic(auto, unfolding(crate::specs::Reading::row))]
-pub fn row(alloc: Global, keyword: Keyword, words: &mut Words<'_>) -> Result<Line, LineFault>
+pub(crate) fn row(alloc: Global, keyword: Keyword, words: &mut Words<'_>) -> Result<Line, LineFault>
     ensures line { Reads result (row keyword words.old) }
     ensures memory { result ≡ Err LineFault.Memory → takes_memory keyword ≡ true }
 {

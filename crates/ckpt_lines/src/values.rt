@@ -15,7 +15,7 @@ pub enum FileWord {
 }
 
 /// The number of at most 2^64 - 1 that the digits spell. A sign is no digit.
-pub fn number_of(word: &[u8]) -> Option<u64>
+pub(crate) fn number_of(word: &[u8]) -> Option<u64>
     ensures { result ≡ number_of word.now }
 {
     if word.is_empty() {
@@ -48,7 +48,7 @@ fn part_of(word: &[u8]) -> Option<u16>
 
 /// The subtask that the word names: its vertex, a dot and its index.
 #[tactic(auto, unfolding(crate::specs::Values::subtask_of))]
-pub fn subtask_of(word: &[u8]) -> Option<SubtaskId>
+pub(crate) fn subtask_of(word: &[u8]) -> Option<SubtaskId>
     ensures { result ≡ subtask_of word.now }
 {
     let dot = word.iter().position(|byte| *byte == b'.')?;
@@ -58,7 +58,7 @@ pub fn subtask_of(word: &[u8]) -> Option<SubtaskId>
 }
 
 /// Whether completed checkpoints are kept when the job is cancelled.
-pub fn retention(word: &[u8]) -> Result<bool, LineFault>
+pub(crate) fn retention(word: &[u8]) -> Result<bool, LineFault>
     ensures { IsExact result (retention word.now) }
 {
     if word == b"keep".as_slice() {
@@ -72,7 +72,7 @@ pub fn retention(word: &[u8]) -> Result<bool, LineFault>
 
 /// What a job is restored from.
 #[tactic(auto, unfolding(crate::specs::Values::target_of))]
-pub fn target_of(word: &[u8]) -> Result<Target, LineFault>
+pub(crate) fn target_of(word: &[u8]) -> Result<Target, LineFault>
     ensures { IsExact result (target_of word.now) }
 {
     if word == b"latest".as_slice() {
@@ -84,7 +84,7 @@ pub fn target_of(word: &[u8]) -> Result<Target, LineFault>
 
 /// A new or a reused file.
 #[tactic(auto, unfolding(crate::specs::Values::file_word))]
-pub fn file_word(word: &[u8]) -> Result<FileWord, LineFault>
+pub(crate) fn file_word(word: &[u8]) -> Result<FileWord, LineFault>
     ensures { result ≡ file_word word.now }
 {
     match word {

@@ -5,7 +5,7 @@ use std::marker::Model;
 
 /// The words of a line that are still to be read. One or more spaces stand between two words.
 #[derive(Drop)]
-pub struct Words<'a> {
+pub(crate) struct Words<'a> {
     rest: &'a [u8],
 }
 
@@ -32,14 +32,14 @@ fn without_spaces(text: &[u8]) -> &[u8]
 
 impl<'a> Words<'a> {
     /// The words of this text.
-    pub fn of(text: &'a [u8]) -> Words<'a>
+    pub(crate) fn of(text: &'a [u8]) -> Words<'a>
         ensures { result ≡ words_of text.now }
     {
         Words { rest: text }
     }
 
     /// The next word, or `None` where there is none.
-    pub fn next(&mut self) -> Option<&'a [u8]>
+    pub(crate) fn next(&mut self) -> Option<&'a [u8]>
         ensures { MatchOption result (self.old ≡ []) (λ word. self.old ≡ word.now ∷ self.new) }
     {
         let text = without_spaces(self.rest);
