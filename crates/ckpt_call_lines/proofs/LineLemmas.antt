@@ -3,7 +3,7 @@ use Rattle.std.proofs.Common.{◌≡◌, ℕ, zero, suc, ◌+◌, ◌-◌, ◌<�
 use Rattle.std.specs.Prelude.{map, flat_map, slice_index, ◌==◌}
 use Rattle.std.specs.List.{list_all, slice_split}
 use Rattle.std.specs.Str.Lines.{strip_carriage_return}
-use Rattle.std.proofs.lemmas.Bool.{le-ltb}
+use Rattle.std.proofs.lemmas.Bool.{and_parts, le-ltb}
 use Rattle.std.proofs.lemmas.Bool.Decides.{nat_tests}
 use Rattle.std.specs.List.{All}
 use Rattle.std.proofs.lemmas.List.Elements.{All-nil, All-head, All-tail, All-cons}
@@ -31,10 +31,6 @@ each_append P (x ∷ xs) ys each others = (each.0, each_append P xs ys each.1 ot
 -- a word without spaces and control characters
 abbrev pub IsPlain : List ℕ → Type 0
 IsPlain word = Each (λ b. 32 < b) word × (0 < length word)
-
-pub and_parts : (a b : Bool) → (a && b) ≡ true → (a ≡ true) × (b ≡ true)
-and_parts true b e = (refl, e)
-and_parts false b e = absurd (cc)
 
 all_above : (word : List ℕ) → list_all (λ b. ltb 32 b) word ≡ true → Each (λ b. 32 < b) word
 all_above [] e = tt

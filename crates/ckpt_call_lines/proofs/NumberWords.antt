@@ -5,6 +5,7 @@ use Rattle.std.specs.List.{filter_map, position_or_len}
 use Rattle.std.specs.Char.{is_ascii_digit}
 use Rattle.std.specs.Str.{all_ascii_digits, bytes_eq}
 use Rattle.std.specs.Str.Parse.{digits_value}
+use Rattle.std.proofs.lemmas.Bool.{and_parts}
 use Rattle.std.proofs.lemmas.Bool.Decides.{nat_tests}
 use Rattle.std.proofs.lemmas.Fmt.{digits_decimal, digits_value-decimal, decimal_nonempty}
 use Rattle.std.proofs.lemmas.Str.Parse.{IsNumeralModel, numerals_by_value, tells_all_ascii_digits}
@@ -17,7 +18,7 @@ use Rattle.ckpt_lines.specs.declared.values.FileWord.TheVariants.{Fresh, Reused}
 use Rattle.ckpt_lines.specs.Reading.{number_place, subtask_place, target_place, each, file_places}
 use Rattle.ckpt_lines.specs.Values.{is_dot, is_number, number, number_of, part_of, subtask_of, target_of, file_word, fresh_file, reused_file}
 use Rattle.ckpt_call_lines.specs.CallTexts.{Fits, FitsSubtask}
-use Rattle.ckpt_call_lines.proofs.LineLemmas.{IsPlain, Each, each_append, and_parts}
+use Rattle.ckpt_call_lines.proofs.LineLemmas.{IsPlain, Each, each_append}
 
 own : IsNumeralModel (λ ds. all_ascii_digits ds ≡ true) (digits_value 10)
 own = numerals_by_value (λ ds. all_ascii_digits ds ≡ true) tells_all_ascii_digits
