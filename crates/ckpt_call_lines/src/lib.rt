@@ -10,6 +10,3 @@ mod pieces;
 
 pub use calls::call_line;
 pub use opening::{config_line, job_line, start_line};
-
-#[cfg(test)]
-mod tests;

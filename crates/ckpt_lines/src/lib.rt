@@ -20,6 +20,3 @@ pub use fault::LineFault;
 pub use line::Line;
 pub use numbers::Numbers;
 pub use parse::parse_line;
-
-#[cfg(test)]
-mod tests;

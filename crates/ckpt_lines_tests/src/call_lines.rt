@@ -1,4 +1,5 @@
-use crate::{call_line, config_line, job_line, start_line};
+//! Calls, and the lines that are written for them.
+use ckpt_call_lines::{call_line, config_line, job_line, start_line};
 use ckpt_ids::{Call, CheckpointId, Config, FileId, Files, Shape, SubtaskId, Target};
 use std::alloc::Global;
 use std::test::Fail;

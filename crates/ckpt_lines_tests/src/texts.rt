@@ -1,28 +1,25 @@
+//! Answers, and the texts that are printed for them.
 ghost use Rattle.std.specs.Prelude.{◌≡◌, IfOk};
 
-use crate::{answer_text, metadata_text};
 use ckpt_ids::{
     Acked, Acks, Answer, CheckpointId, Choice, FileId, Files, Handed, Kind, Metadata, Refusal,
     Reply, Shape, SubtaskId, TickEnd,
 };
+use ckpt_texts::{answer_text, metadata_text};
 use std::alloc::{AllocError, Global};
 use std::process::Abort;
 use std::test::Fail;
 
-/// Whether the reply is printed so.
-fn prints(alloc: Global, reply: Reply, expected: &str) -> bool {
-    match answer_text(alloc, &Answer::Done(reply)) {
-        Ok(text) => text.as_str() == expected,
-        Err(_) => false,
-    }
+/// Whether the reply is printed so. Fails only for want of memory.
+fn prints(alloc: Global, reply: Reply, expected: &str) -> Result<bool, AllocError> {
+    let text = answer_text(alloc, &Answer::Done(reply))?;
+    Ok(text.as_str() == expected)
 }
 
-/// Whether the refusal is printed so.
-fn refuses(alloc: Global, refusal: Refusal, expected: &str) -> bool {
-    match answer_text(alloc, &Answer::Refused(refusal)) {
-        Ok(text) => text.as_str() == expected,
-        Err(_) => false,
-    }
+/// Whether the refusal is printed so. Fails only for want of memory.
+fn refuses(alloc: Global, refusal: Refusal, expected: &str) -> Result<bool, AllocError> {
+    let text = answer_text(alloc, &Answer::Refused(refusal))?;
+    Ok(text.as_str() == expected)
 }
 
 fn ticked(expired: u32, end: TickEnd) -> Reply {
@@ -39,72 +36,76 @@ fn taken(alloc: Global, numbers: &[u64]) -> Result<Reply, AllocError> {
 }
 
 #[test]
-fn a_tick(rt: HostRuntime) {
+fn a_tick(rt: HostRuntime) -> Result<(), Fail> {
     let alloc = rt.alloc();
     let triggered = ticked(0, TickEnd::Triggered(CheckpointId(1)));
-    assert!(rt; prints(alloc, triggered, "tick expired 0 triggered 1\n"));
+    assert!(rt; prints(alloc, triggered, "tick expired 0 triggered 1\n")?);
     let interval = ticked(1, TickEnd::HeldInterval);
-    assert!(rt; prints(alloc, interval, "tick expired 1 held interval\n"));
+    assert!(rt; prints(alloc, interval, "tick expired 1 held interval\n")?);
     let at_once = ticked(0, TickEnd::HeldAtOnce);
-    assert!(rt; prints(alloc, at_once, "tick expired 0 held at-once\n"));
+    assert!(rt; prints(alloc, at_once, "tick expired 0 held at-once\n")?);
     let pause = ticked(0, TickEnd::HeldPause);
-    assert!(rt; prints(alloc, pause, "tick expired 0 held pause\n"));
+    assert!(rt; prints(alloc, pause, "tick expired 0 held pause\n")?);
     let failed = ticked(1, TickEnd::Failed);
-    assert!(rt; prints(alloc, failed, "tick expired 1 failed\n"));
+    assert!(rt; prints(alloc, failed, "tick expired 1 failed\n")?);
+    Ok(())
 }
 
 #[test]
-fn a_savepoint_and_acknowledgements(rt: HostRuntime) {
+fn a_savepoint_and_acknowledgements(rt: HostRuntime) -> Result<(), Fail> {
     let alloc = rt.alloc();
     let savepoint = Reply::SavepointTriggered(CheckpointId(2));
-    assert!(rt; prints(alloc, savepoint, "savepoint triggered 2\n"));
-    assert!(rt; prints(alloc, Reply::AckPending(2), "ack pending 2\n"));
+    assert!(rt; prints(alloc, savepoint, "savepoint triggered 2\n")?);
+    assert!(rt; prints(alloc, Reply::AckPending(2), "ack pending 2\n")?);
     let completed = Reply::AckCompleted {
         dropped: 1,
         released: 3,
     };
-    assert!(rt; prints(alloc, completed, "ack completed 1 3\n"));
-    assert!(rt; prints(alloc, Reply::AckLate(1), "ack late 1\n"));
+    assert!(rt; prints(alloc, completed, "ack completed 1 3\n")?);
+    assert!(rt; prints(alloc, Reply::AckLate(1), "ack late 1\n")?);
+    Ok(())
 }
 
 #[test]
-fn endings(rt: HostRuntime) {
+fn endings(rt: HostRuntime) -> Result<(), Fail> {
     let alloc = rt.alloc();
-    assert!(rt; prints(alloc, Reply::DeclineAborted(4), "decline aborted 4\n"));
-    assert!(rt; prints(alloc, Reply::DeclineFailed(5), "decline failed 5\n"));
-    assert!(rt; prints(alloc, Reply::DeclineLate, "decline late\n"));
-    assert!(rt; prints(alloc, Reply::Disposed(2), "disposed 2\n"));
+    assert!(rt; prints(alloc, Reply::DeclineAborted(4), "decline aborted 4\n")?);
+    assert!(rt; prints(alloc, Reply::DeclineFailed(5), "decline failed 5\n")?);
+    assert!(rt; prints(alloc, Reply::DeclineLate, "decline late\n")?);
+    assert!(rt; prints(alloc, Reply::Disposed(2), "disposed 2\n")?);
     let cancelled = Reply::Cancelled {
         dropped: 1,
         released: 0,
     };
-    assert!(rt; prints(alloc, cancelled, "cancelled 1 0\n"));
+    assert!(rt; prints(alloc, cancelled, "cancelled 1 0\n")?);
+    Ok(())
 }
 
 #[test]
-fn restores(rt: HostRuntime) {
+fn restores(rt: HostRuntime) -> Result<(), Fail> {
     let alloc = rt.alloc();
     let checkpoint = restored(Choice::Checkpoint(CheckpointId(3)), 0);
-    assert!(rt; prints(alloc, checkpoint, "restored checkpoint 3 0\n"));
+    assert!(rt; prints(alloc, checkpoint, "restored checkpoint 3 0\n")?);
     let savepoint = restored(Choice::Savepoint(CheckpointId(2)), 1);
-    assert!(rt; prints(alloc, savepoint, "restored savepoint 2 1\n"));
-    assert!(rt; prints(alloc, restored(Choice::Fresh, 0), "restored fresh 0\n"));
+    assert!(rt; prints(alloc, savepoint, "restored savepoint 2 1\n")?);
+    assert!(rt; prints(alloc, restored(Choice::Fresh, 0), "restored fresh 0\n")?);
+    Ok(())
 }
 
 #[test]
 fn files(rt: HostRuntime) -> Result<(), Fail> {
     let alloc = rt.alloc();
-    assert!(rt; prints(alloc, taken(alloc, &[1, 3, 2])?, "take 1 3 2\n"));
-    assert!(rt; prints(alloc, taken(alloc, &[])?, "take none\n"));
-    assert!(rt; prints(alloc, Reply::Deleted(FileId(1)), "deleted 1\n"));
+    assert!(rt; prints(alloc, taken(alloc, &[1, 3, 2])?, "take 1 3 2\n")?);
+    assert!(rt; prints(alloc, taken(alloc, &[])?, "take none\n")?);
+    assert!(rt; prints(alloc, Reply::Deleted(FileId(1)), "deleted 1\n")?);
     let most = Reply::Undeleted(FileId(18446744073709551615));
-    assert!(rt; prints(alloc, most, "undeleted 18446744073709551615\n"));
-    assert!(rt; prints(alloc, Reply::Counted(FileId(123), 2), "count 123 2\n"));
+    assert!(rt; prints(alloc, most, "undeleted 18446744073709551615\n")?);
+    assert!(rt; prints(alloc, Reply::Counted(FileId(123), 2), "count 123 2\n")?);
     Ok(())
 }
 
 #[test]
-fn refusals(rt: HostRuntime) {
+fn refusals(rt: HostRuntime) -> Result<(), Fail> {
     let cases = [
         (Refusal::MomentTooLarge, "refused MomentTooLarge\n"),
         (Refusal::NotRunning, "refused NotRunning\n"),
@@ -126,8 +127,9 @@ fn refusals(rt: HostRuntime) {
         (Refusal::IdsUsedUp, "refused IdsUsedUp\n"),
     ];
     for (refusal, expected) in cases {
-        assert!(rt; refuses(rt.alloc(), refusal, expected), "{expected}");
+        assert!(rt; refuses(rt.alloc(), refusal, expected)?, "{expected}");
     }
+    Ok(())
 }
 
 /// The metadata of record 1, which is a checkpoint.
@@ -189,7 +191,7 @@ fn metadata_of_a_record_without_acknowledgements(rt: HostRuntime) -> Result<(), 
     let metadata = checkpoint(Shape::new(alloc, &[1])?, 2000, false, none);
     let expected =
         "{\"acks\":[],\"id\":1,\"kind\":\"checkpoint\",\"missing\":1,\"shape\":[1],\"started\":2000,\"state\":\"pending\"}\n";
-    assert!(rt; prints(alloc, Reply::Shown(metadata), expected));
+    assert!(rt; prints(alloc, Reply::Shown(metadata), expected)?);
     Ok(())
 }
 

@@ -12,6 +12,3 @@ mod replies;
 
 pub use answers::answer_text;
 pub use metadata::metadata_text;
-
-#[cfg(test)]
-mod tests;
