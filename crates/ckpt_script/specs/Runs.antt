@@ -23,8 +23,8 @@ GoesOn old left_old shown_old new left_new shown_new =
     (text before : Option (List ℕ)) → IsAt old left_old shown_old text before → IsAt new left_new shown_new text before
 
 -- whatever the text, the run stops by this fault
-abbrev pub StopsBy : Runner → Option (List ℕ) → Option (List ℕ) → Runner → Option (List ℕ) → Option (List ℕ) → RunFault → Type 0
-StopsBy old left_old shown_old new left_new shown_new why =
+abbrev pub Stops : Runner → Option (List ℕ) → Option (List ℕ) → Runner → Option (List ℕ) → Option (List ℕ) → RunFault → Type 0
+Stops old left_old shown_old new left_new shown_new why =
     (text before : Option (List ℕ)) → IsAt old left_old shown_old text before → Stopped text left_new before shown_new new.printed why
 
 -- whatever the text, a run that stops by the first fault, with so much waiting, ends by the second

@@ -4,7 +4,7 @@ ghost use Rattle.ckpt_lines.specs.Reading.{reading};
 ghost use Rattle.ckpt_script.specs.Devices.{Asked, IsCounted, IsCaused, SinkCauses, IsReadThrough, never_asked};
 ghost use Rattle.ckpt_script.specs.Known.{Passes};
 ghost use Rattle.ckpt_script.specs.Outputs.{Ran, most_lines};
-ghost use Rattle.ckpt_script.specs.Runs.{said_next, GoesOn, StopsBy, EndsBy};
+ghost use Rattle.ckpt_script.specs.Runs.{said_next, GoesOn, Stops, EndsBy};
 ghost use Rattle.ckpt_script.specs.Telling.{keeps_lines};
 ghost use Rattle.ckpt_session.specs.Sessions.{opening_scene};
 
@@ -83,7 +83,7 @@ impl Runner {
         ensures more { IfOk result (λ more. more ≡ true → self.new.summary.lines ≡ self.old.summary.lines + 1) }
         ensures end { IfOk result (λ more. more ≡ false → (self.new.ahead.bytes ≡ []) × (self.new.ahead.is_ended ≡ true)) }
         ensures so_far { OnOk result (GoesOn self.old (S.remaining source.old) (K.contents sink.old) self.new (S.remaining source.new) (K.contents sink.new)) }
-        ensures stopped { IfErr result (StopsBy self.old (S.remaining source.old) (K.contents sink.old) self.new (S.remaining source.new) (K.contents sink.new)) }
+        ensures stopped { IfErr result (Stops self.old (S.remaining source.old) (K.contents sink.old) self.new (S.remaining source.new) (K.contents sink.new)) }
         ensures counted { OnOk result (IsCounted (S.asked source.new) self.new.ahead) }
         ensures going_on { OnOk result (K.failures sink.new ≡ 0) }
         ensures cause { IfErr result (IsCaused (S.asked source.new) (K.failures sink.new)) }
@@ -140,7 +140,7 @@ impl Runner {
         ensures faults { OnOk result (self.new.summary.faults ≤ self.new.summary.lines) }
         ensures end { OnOk result ((self.new.ahead.bytes ≡ []) × IsAtEnd (S.remaining source.new)) }
         ensures so_far { OnOk result (GoesOn self.old (S.remaining source.old) (K.contents sink.old) self.new (S.remaining source.new) (K.contents sink.new)) }
-        ensures stopped { IfErr result (StopsBy self.old (S.remaining source.old) (K.contents sink.old) self.new (S.remaining source.new) (K.contents sink.new)) }
+        ensures stopped { IfErr result (Stops self.old (S.remaining source.old) (K.contents sink.old) self.new (S.remaining source.new) (K.contents sink.new)) }
         ensures read { OnOk result (IsReadThrough (S.asked source.new)) }
         ensures going_on { OnOk result (K.failures sink.new ≡ 0) }
         ensures cause { IfErr result (IsCaused (S.asked source.new) (K.failures sink.new)) }

@@ -61,6 +61,10 @@ unfoldable pub told : State → AllLine → ℕ → ℕ → Option (ℕ × ℕ) 
 told m line accepted refused (Some (dropped, released)) = completed_bytes accepted refused dropped released
 told m line accepted refused None = pending_bytes accepted refused (missing_now m line.id)
 
+-- what is printed once a team has made the calls
+abbrev pub told_of : AllLine → Made → List ℕ
+told_of line made = told (state_of_book made.book) line made.accepted made.refused made.completed
+
 abbrev pub acknowledged : State → AllLine → List Call → Obeyed
 acknowledged m line calls =
     let after : State = replay m calls in

@@ -6,7 +6,7 @@ ghost use Rattle.ckpt_ids.specs.Acknowledged.{is_before};
 ghost use Rattle.ckpt_core.specs.Interleavings.{ack_with};
 ghost use Rattle.ckpt_locked.specs.Books.{state_of_book};
 ghost use Rattle.ckpt_texts.specs.MetadataTexts.{missing_subtasks};
-ghost use Rattle.ckpt_session.specs.AllLines.{missing_now, pending_metadata, acks_for, counts_bytes, completed_bytes, pending_bytes, told, all_of, all_obeyed};
+ghost use Rattle.ckpt_session.specs.AllLines.{missing_now, pending_metadata, acks_for, counts_bytes, completed_bytes, pending_bytes, told_of, all_of, all_obeyed};
 
 use crate::calls::pending_metadata;
 use crate::said::{ScriptRefusal, refusal_text};
@@ -111,7 +111,7 @@ impl AllLine {
     #[tactic(auto, unfolding(crate::specs::AllLines::told))]
     fn tell(&self, alloc: Global, made: &mut Made) -> Result<String, AllocError>
         ensures state { OnOk result (state_of_book made.new.book ≡ state_of_book made.old.book) }
-        ensures text { IfOk result (λ text. string_bytes text ≡ told (state_of_book made.old.book) self.now made.old.accepted made.old.refused made.old.completed) }
+        ensures text { IfOk result (λ text. string_bytes text ≡ told_of self.now made.old) }
     {
         let (accepted, refused) = (made.accepted, made.refused);
         match made.completed {
