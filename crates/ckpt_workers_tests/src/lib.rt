@@ -8,6 +8,8 @@ mod desk;
 #[cfg(test)]
 mod gates;
 #[cfg(test)]
+mod refused_memory;
+#[cfg(test)]
 mod rounds;
 #[cfg(test)]
 mod teams;
