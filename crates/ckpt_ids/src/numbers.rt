@@ -33,6 +33,8 @@ impl Model for FileId {
 /// Source of the rule: the Flink documentation, "Checkpoints vs. Savepoints".
 #[derive(Clone, Copy, Debug, PartialEq, Eq)]
 pub enum Kind {
+    /// Triggered by a tick, dropped when later ones replace it.
     Checkpoint,
+    /// Asked for by a user, kept until it is disposed of.
     Savepoint,
 }

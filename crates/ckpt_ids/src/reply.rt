@@ -5,8 +5,11 @@ use crate::numbers::{CheckpointId, FileId};
 /// What the job would restart from now.
 #[derive(Clone, Copy, Debug, PartialEq, Eq)]
 pub enum Choice {
+    /// From this completed checkpoint, the newest that is retained.
     Checkpoint(CheckpointId),
+    /// From this savepoint, which the job was rolled back to.
     Savepoint(CheckpointId),
+    /// From nothing.
     Fresh,
 }
 
@@ -31,6 +34,7 @@ pub enum TickEnd {
 pub enum Reply {
     /// `expired` pending records were too old.
     Ticked { expired: u32, end: TickEnd },
+    /// A savepoint was triggered, with this number.
     SavepointTriggered(CheckpointId),
     /// So many subtasks have not acknowledged yet.
     AckPending(u32),
@@ -42,14 +46,23 @@ pub enum Reply {
     DeclineAborted(u64),
     /// The record was aborted and the job fails over; so many files were released.
     DeclineFailed(u64),
+    /// The record had ended before.
     DeclineLate,
+    /// The savepoint is gone, and so many files were released.
     Disposed(u64),
+    /// The job restarts from there, and `released` files wait for deletion now.
     Restored { from: Choice, released: u64 },
+    /// The job has ended for good: `dropped` records went, and `released` files wait for deletion.
     Cancelled { dropped: u32, released: u64 },
+    /// These files were fetched for deletion, in the order in which they waited.
     Taken(Handed),
+    /// The file was reported as deleted, and is forgotten.
     Deleted(FileId),
+    /// The file was reported as not deleted, and waits again.
     Undeleted(FileId),
+    /// The metadata of the record.
     Shown(Metadata),
+    /// How often live records use the file.
     Counted(FileId, u32),
 }
 
@@ -74,6 +87,7 @@ pub enum Refusal {
     NameTaken(FileId),
     /// The least reused file that no live record uses.
     FileGone(FileId),
+    /// No completed savepoint has this number.
     NoSuchSavepoint,
     /// The job was rolled back to this savepoint, and no checkpoint has completed since.
     InUse,
@@ -81,6 +95,7 @@ pub enum Refusal {
     TooManySavepoints,
     /// The file was not fetched for deletion, or is reported already.
     NotTaken,
+    /// No live record has this number.
     NoSuchRecord,
     /// All numbers up to 2^62 - 1 were given.
     IdsUsedUp,
@@ -89,6 +104,8 @@ pub enum Refusal {
 /// The answer to a call.
 #[derive(Debug, Drop, PartialEq, Eq)]
 pub enum Answer {
+    /// The call was accepted.
     Done(Reply),
+    /// The call was refused, and changed nothing.
     Refused(Refusal),
 }
