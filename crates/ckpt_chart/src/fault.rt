@@ -3,7 +3,7 @@ use thiserror::Error;
 
 /// Why there is no picture.
 #[derive(Clone, Copy, Debug, PartialEq, Eq, Error)]
-pub enum ChartFault {
+pub(crate) enum ChartFault {
     #[error("reading failed")]
     Read,
     #[error("writing failed")]

@@ -6,15 +6,15 @@ use std::alloc::{AllocError, Global};
 
 /// The files of a job, as far as a picture tells them.
 #[derive(Drop)]
-pub struct Stock {
+pub(crate) struct Stock {
     alloc: Global,
     present: Vec<FileId>,
-    pub waiting: u64,
-    pub taken: u64,
+    pub(crate) waiting: u64,
+    pub(crate) taken: u64,
 }
 
 impl Stock {
-    pub fn new(alloc: Global) -> Stock {
+    pub(crate) fn new(alloc: Global) -> Stock {
         Stock {
             alloc,
             present: Vec::new(alloc),
@@ -23,12 +23,12 @@ impl Stock {
         }
     }
 
-    pub fn in_use(&self) -> u64 {
+    pub(crate) fn in_use(&self) -> u64 {
         self.present.len() as u64
     }
 
     /// New files are in use.
-    pub fn register(&mut self, files: &Files) -> Result<(), AllocError> {
+    pub(crate) fn register(&mut self, files: &Files) -> Result<(), AllocError> {
         for file in files.as_slice() {
             self.present.push(*file)?;
         }
@@ -36,7 +36,7 @@ impl Stock {
     }
 
     /// Asks the book which files are still in use; the others wait for deletion.
-    pub fn release(&mut self, book: &mut Book) -> Result<(), AllocError> {
+    pub(crate) fn release(&mut self, book: &mut Book) -> Result<(), AllocError> {
         let mut kept = Vec::new(self.alloc);
         for file in &self.present {
             if is_used(book, *file)? {
@@ -50,20 +50,20 @@ impl Stock {
     }
 
     /// So many files wait for deletion that no record ever used.
-    pub fn hand_out(&mut self, count: u64) {
+    pub(crate) fn hand_out(&mut self, count: u64) {
         self.waiting = self.waiting.saturating_add(count);
     }
 
-    pub fn take(&mut self, count: u64) {
+    pub(crate) fn take(&mut self, count: u64) {
         self.waiting = self.waiting.saturating_sub(count);
         self.taken = self.taken.saturating_add(count);
     }
 
-    pub fn delete(&mut self) {
+    pub(crate) fn delete(&mut self) {
         self.taken = self.taken.saturating_sub(1);
     }
 
-    pub fn put_back(&mut self) {
+    pub(crate) fn put_back(&mut self) {
         self.delete();
         self.hand_out(1);
     }

@@ -3,7 +3,7 @@ use ckpt_ids::{CheckpointId, Choice, Kind};
 
 /// What a record came to.
 #[derive(Clone, Copy, Debug, PartialEq, Eq)]
-pub enum Ending {
+pub(crate) enum Ending {
     /// It still waits at the end of the script.
     Pending,
     /// It is done, and kept at the end of the script.
@@ -22,22 +22,22 @@ pub enum Ending {
 
 /// A checkpoint or savepoint.
 #[derive(Drop)]
-pub struct Record {
-    pub id: CheckpointId,
-    pub kind: Kind,
-    pub triggered: u64,
+pub(crate) struct Record {
+    pub(crate) id: CheckpointId,
+    pub(crate) kind: Kind,
+    pub(crate) triggered: u64,
     /// When the last acknowledgement came.
-    pub completed: Option<u64>,
+    pub(crate) completed: Option<u64>,
     /// When it was dropped.
-    pub ended: Option<u64>,
-    pub ending: Ending,
+    pub(crate) ended: Option<u64>,
+    pub(crate) ending: Ending,
     /// When its acknowledgements came, late ones too.
-    pub acks: Vec<u64>,
+    pub(crate) acks: Vec<u64>,
 }
 
 /// What goes through all records.
 #[derive(Clone, Copy)]
-pub enum Event {
+pub(crate) enum Event {
     FailedOver,
     Restored(Choice),
     Cancelled,
@@ -45,37 +45,37 @@ pub enum Event {
 
 /// An event and its moment.
 #[derive(Clone, Copy)]
-pub struct Mark {
-    pub moment: u64,
-    pub event: Event,
+pub(crate) struct Mark {
+    pub(crate) moment: u64,
+    pub(crate) event: Event,
 }
 
 /// How many files there are from this moment on.
 #[derive(Clone, Copy, PartialEq, Eq)]
-pub struct Sample {
-    pub moment: u64,
-    pub in_use: u64,
-    pub waiting: u64,
-    pub taken: u64,
+pub(crate) struct Sample {
+    pub(crate) moment: u64,
+    pub(crate) in_use: u64,
+    pub(crate) waiting: u64,
+    pub(crate) taken: u64,
 }
 
 /// A run of a job.
 #[derive(Drop)]
-pub struct History {
-    pub start: u64,
+pub(crate) struct History {
+    pub(crate) start: u64,
     /// The greatest moment that the coordinator has seen.
-    pub now: u64,
+    pub(crate) now: u64,
     /// How many lines made a call that was accepted, and that was refused.
-    pub accepted: u64,
-    pub refused: u64,
-    pub records: Vec<Record>,
-    pub marks: Vec<Mark>,
-    pub samples: Vec<Sample>,
+    pub(crate) accepted: u64,
+    pub(crate) refused: u64,
+    pub(crate) records: Vec<Record>,
+    pub(crate) marks: Vec<Mark>,
+    pub(crate) samples: Vec<Sample>,
 }
 
 impl Record {
     /// The moment from which on the row of the record is free.
-    pub fn last(&self, end: u64) -> u64 {
+    pub(crate) fn last(&self, end: u64) -> u64 {
         let mut last = self.ended.unwrap_or(end);
         for ack in &self.acks {
             last = last.max(*ack);
@@ -86,7 +86,7 @@ impl Record {
 
 impl History {
     /// How many records came to this.
-    pub fn count(&self, ending: Ending) -> usize {
+    pub(crate) fn count(&self, ending: Ending) -> usize {
         self.records
             .iter()
             .filter(|record| record.ending == ending)

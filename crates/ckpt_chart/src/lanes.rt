@@ -7,15 +7,15 @@ const MOST_NAMED: usize = 30;
 
 /// The rows of all records, in their order.
 #[derive(Drop)]
-pub struct Lanes {
-    pub rows: Vec<usize>,
-    pub count: usize,
+pub(crate) struct Lanes {
+    pub(crate) rows: Vec<usize>,
+    pub(crate) count: usize,
     /// Whether each record has a row of its own.
-    pub named: bool,
+    pub(crate) named: bool,
 }
 
 /// Places the records.
-pub fn laid_in_rows(alloc: Global, history: &History) -> Result<Lanes, AllocError> {
+pub(crate) fn laid_in_rows(alloc: Global, history: &History) -> Result<Lanes, AllocError> {
     let named = history.records.len() <= MOST_NAMED;
     let mut rows = Vec::new(alloc);
     let mut free = Vec::new(alloc);

@@ -36,7 +36,7 @@ impl Count {
 const COUNTS: [Count; 3] = [Count::InUse, Count::Waiting, Count::Taken];
 
 /// The bar of one record: pale until it is complete, and full from then on.
-pub fn bars(
+pub(crate) fn bars(
     out: &mut String,
     layout: &Layout,
     record: &Record,
@@ -117,7 +117,11 @@ fn name(
 }
 
 /// The numbers of files over time.
-pub fn file_panel(out: &mut String, layout: &Layout, history: &History) -> Result<(), AllocError> {
+pub(crate) fn file_panel(
+    out: &mut String,
+    layout: &Layout,
+    history: &History,
+) -> Result<(), AllocError> {
     let most = greatest(history);
     let step = step(most, 5);
     let count = Scale {

@@ -20,16 +20,16 @@ const FILES_HEIGHT: u64 = 1500;
 
 /// Where things lie.
 #[derive(Clone, Copy)]
-pub struct Layout {
-    pub time: Scale,
-    pub rows_top: u64,
-    pub row: u64,
+pub(crate) struct Layout {
+    pub(crate) time: Scale,
+    pub(crate) rows_top: u64,
+    pub(crate) row: u64,
     /// Where the rows end.
-    pub axis: u64,
+    pub(crate) axis: u64,
     /// Where the panel of files begins and ends.
-    pub files_top: u64,
-    pub files_bottom: u64,
-    pub height: u64,
+    pub(crate) files_top: u64,
+    pub(crate) files_bottom: u64,
+    pub(crate) height: u64,
 }
 
 fn laid_out(history: &History, rows: usize) -> Layout {
@@ -58,7 +58,7 @@ fn laid_out(history: &History, rows: usize) -> Layout {
 }
 
 /// What is told of an ending: its name and its colour.
-pub fn style(ending: Ending) -> (&'static str, &'static str) {
+pub(crate) fn style(ending: Ending) -> (&'static str, &'static str) {
     match ending {
         Ending::Retained => ("retained", "#009e73"),
         Ending::Subsumed => ("subsumed", "#56b4e9"),
@@ -81,7 +81,7 @@ const ENDINGS: [Ending; 7] = [
 ];
 
 /// The picture of a run, as SVG.
-pub fn drawn(alloc: Global, history: &History) -> Result<String, AllocError> {
+pub(crate) fn drawn(alloc: Global, history: &History) -> Result<String, AllocError> {
     let lanes = laid_in_rows(alloc, history)?;
     let layout = laid_out(history, lanes.count);
     let mut out = String::new(alloc);
@@ -114,7 +114,7 @@ fn head(out: &mut String, layout: &Layout) -> Result<(), AllocError> {
 }
 
 /// Writes words, whose line begins here, ends here (`end`) or is centred here (`middle`).
-pub fn words(
+pub(crate) fn words(
     out: &mut String,
     x: u64,
     y: u64,
@@ -129,7 +129,7 @@ pub fn words(
 }
 
 /// A box of one colour.
-pub fn swatch(
+pub(crate) fn swatch(
     out: &mut String,
     x: u64,
     y: u64,
@@ -144,7 +144,7 @@ pub fn swatch(
 }
 
 /// A straight line.
-pub fn stroke(
+pub(crate) fn stroke(
     out: &mut String,
     from: (u64, u64),
     to: (u64, u64),

@@ -22,7 +22,7 @@ struct Job {
 
 /// A script that is being run.
 #[derive(Drop)]
-pub struct Player {
+pub(crate) struct Player {
     alloc: Global,
     config: Option<Config>,
     shape: Option<Shape>,
@@ -30,7 +30,7 @@ pub struct Player {
 }
 
 impl Player {
-    pub fn new(alloc: Global) -> Player {
+    pub(crate) fn new(alloc: Global) -> Player {
         Player {
             alloc,
             config: None,
@@ -40,12 +40,12 @@ impl Player {
     }
 
     /// What happened, or `None` where no job was started.
-    pub fn end(self) -> Option<History> {
+    pub(crate) fn end(self) -> Option<History> {
         Some(self.job?.history)
     }
 
     /// Obeys a line, as a session of scripts does: what the script itself refuses changes nothing.
-    pub fn obey(&mut self, line: Line) -> Result<(), AllocError> {
+    pub(crate) fn obey(&mut self, line: Line) -> Result<(), AllocError> {
         match line {
             Line::Skip => Ok(()),
             Line::Config {

@@ -9,7 +9,7 @@ const LINE_SEAT: u32 = 64;
 
 /// Why records end, by the call that ended them.
 #[derive(Clone, Copy)]
-pub enum Cause {
+pub(crate) enum Cause {
     /// Time has passed: records of at least this age have expired.
     Time { timeout: u64 },
     Completion,
@@ -20,7 +20,7 @@ pub enum Cause {
 }
 
 /// Makes a call. Fails only for want of memory.
-pub fn asked(book: &mut Book, call: Call) -> Result<Answer, AllocError> {
+pub(crate) fn asked(book: &mut Book, call: Call) -> Result<Answer, AllocError> {
     match book.apply(LINE_SEAT, call) {
         Ok(answer) => Ok(answer),
         Err(_) => Err(AllocError),
@@ -28,7 +28,7 @@ pub fn asked(book: &mut Book, call: Call) -> Result<Answer, AllocError> {
 }
 
 /// Ends the records that the book no longer knows.
-pub fn close(
+pub(crate) fn close(
     book: &mut Book,
     records: &mut Vec<Record>,
     now: u64,
@@ -73,7 +73,7 @@ fn ending(record: &Record, now: u64, cause: Cause) -> Ending {
 }
 
 /// An acknowledgement of the record came, which may have completed it.
-pub fn acknowledge(
+pub(crate) fn acknowledge(
     records: &mut Vec<Record>,
     id: CheckpointId,
     now: u64,

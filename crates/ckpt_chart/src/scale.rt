@@ -2,11 +2,11 @@
 
 /// A straight axis: `from` lies at `begin`, and `to` lies `length` further on.
 #[derive(Clone, Copy)]
-pub struct Scale {
-    pub from: u64,
-    pub to: u64,
-    pub begin: u64,
-    pub length: u64,
+pub(crate) struct Scale {
+    pub(crate) from: u64,
+    pub(crate) to: u64,
+    pub(crate) begin: u64,
+    pub(crate) length: u64,
 }
 
 /// Spans above are measured in coarser steps, so that products stay small.
@@ -14,12 +14,12 @@ const FINEST: u64 = 1_000_000_000;
 
 impl Scale {
     /// How far the axis goes.
-    pub fn span(&self) -> u64 {
+    pub(crate) fn span(&self) -> u64 {
         self.to.saturating_sub(self.from)
     }
 
     /// How far from `begin` the value lies. A value outside the axis lies at its end.
-    pub fn distance(&self, value: u64) -> u64 {
+    pub(crate) fn distance(&self, value: u64) -> u64 {
         let unit = (self.span() / FINEST).saturating_add(1);
         let whole = self.span().checked_div(unit).unwrap_or(1);
         let part = value
@@ -34,18 +34,18 @@ impl Scale {
     }
 
     /// Where the value lies, counted from the left.
-    pub fn right(&self, value: u64) -> u64 {
+    pub(crate) fn right(&self, value: u64) -> u64 {
         self.begin.saturating_add(self.distance(value))
     }
 
     /// Where the value lies, counted from above, on an axis that goes up.
-    pub fn up(&self, value: u64) -> u64 {
+    pub(crate) fn up(&self, value: u64) -> u64 {
         self.begin.saturating_sub(self.distance(value))
     }
 }
 
 /// One, two or five of a power of ten: the least that divides the span into at most so many parts.
-pub fn step(span: u64, most: u64) -> u64 {
+pub(crate) fn step(span: u64, most: u64) -> u64 {
     let mut step: u64 = 1;
     for place in 0..60u32 {
         if span.checked_div(step).unwrap_or(0) <= most {
@@ -61,7 +61,7 @@ pub fn step(span: u64, most: u64) -> u64 {
 }
 
 /// The least multiple of the step that is not below the value.
-pub fn first_multiple(value: u64, step: u64) -> u64 {
+pub(crate) fn first_multiple(value: u64, step: u64) -> u64 {
     let below = value.checked_div(step).unwrap_or(0).saturating_mul(step);
     if below < value {
         below.saturating_add(step)

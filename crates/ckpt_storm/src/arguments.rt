@@ -3,20 +3,20 @@ use std::env;
 
 /// What the command line asks for.
 #[derive(Clone, Copy)]
-pub struct Plan {
-    pub threads: u32,
+pub(crate) struct Plan {
+    pub(crate) threads: u32,
     /// How many calls each thread makes.
-    pub calls: u64,
-    pub seed: u64,
+    pub(crate) calls: u64,
+    pub(crate) seed: u64,
     /// How many entries the book keeps, where it does not keep all.
-    pub last: Option<u64>,
+    pub(crate) last: Option<u64>,
 }
 
 fn number(word: &str) -> Result<u64, StormFault> {
     word.parse().map_err(|_| StormFault::Usage)
 }
 
-pub fn read_plan(rt: &HostRuntime) -> Result<Plan, StormFault> {
+pub(crate) fn read_plan(rt: &HostRuntime) -> Result<Plan, StormFault> {
     let mut words = env::args(rt).map_err(|_| StormFault::Memory)?.skip(1);
     let (Some(threads), Some(calls), Some(seed)) = (words.next(), words.next(), words.next()) else {
         return Err(StormFault::Usage);

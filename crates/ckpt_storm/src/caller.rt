@@ -6,7 +6,7 @@ use ckpt_ids::{
 use std::alloc::{AllocError, Global};
 
 /// The parallelism of the job's one vertex.
-pub const PARALLELISM: u64 = 4;
+pub(crate) const PARALLELISM: u64 = 4;
 
 /// The most files that one call fetches.
 const MOST_TAKEN: u64 = 4;
@@ -19,7 +19,7 @@ const NO_FILE: FileId = FileId(u64::MAX);
 
 /// What a thread knows of an answer before it comes.
 #[derive(Clone, Copy)]
-pub enum Expected {
+pub(crate) enum Expected {
     Any,
     /// Nobody uses a file that was fetched and not reported.
     Unused(FileId),
@@ -31,7 +31,7 @@ pub enum Expected {
 }
 
 impl Expected {
-    pub fn is_met(&self, answer: &Answer) -> bool {
+    pub(crate) fn is_met(&self, answer: &Answer) -> bool {
         match self {
             Expected::Any => true,
             Expected::Unused(file) => *answer == Answer::Done(Reply::Counted(*file, 0)),
@@ -44,9 +44,9 @@ impl Expected {
 
 /// A call, and what is known of its answer.
 #[derive(Drop)]
-pub struct Asked {
-    pub call: Call,
-    pub expected: Expected,
+pub(crate) struct Asked {
+    pub(crate) call: Call,
+    pub(crate) expected: Expected,
 }
 
 /// A call of which nothing is known before.
@@ -59,7 +59,7 @@ fn unruled(call: Call) -> Asked {
 
 /// What a thread goes by when it chooses its calls: its own answers, and chance.
 #[derive(Drop)]
-pub struct Caller {
+pub(crate) struct Caller {
     alloc: Global,
     random: Random,
     seat: u32,
@@ -73,7 +73,7 @@ pub struct Caller {
 }
 
 impl Caller {
-    pub fn new(alloc: Global, seed: u64, seat: u32) -> Result<Caller, AllocError> {
+    pub(crate) fn new(alloc: Global, seed: u64, seat: u32) -> Result<Caller, AllocError> {
         let own = u64::from(seat).wrapping_mul(0x2545_f491_4f6c_dd1d);
         Ok(Caller {
             alloc,
@@ -87,12 +87,12 @@ impl Caller {
     }
 
     /// The greatest number of a record that it was told.
-    pub fn newest(&self) -> u64 {
+    pub(crate) fn newest(&self) -> u64 {
         self.newest
     }
 
     /// The next call, where the newest record that any thread was told of has this number.
-    pub fn ask(&mut self, newest: u64) -> Result<Asked, AllocError> {
+    pub(crate) fn ask(&mut self, newest: u64) -> Result<Asked, AllocError> {
         self.now = self.now.saturating_add(self.random.below(2));
         let now = self.now;
         let id = CheckpointId(newest.saturating_sub(self.random.below(4)));
@@ -115,13 +115,13 @@ impl Caller {
     }
 
     /// The call that ends the job.
-    pub fn cancel(&self) -> Asked {
+    pub(crate) fn cancel(&self) -> Asked {
         unruled(Call::Cancel { now: self.now })
     }
 
     /// Learns from an answer. Tells whether it may come after those before: the numbers of records
     /// rise.
-    pub fn learn(&mut self, answer: &Answer) -> bool {
+    pub(crate) fn learn(&mut self, answer: &Answer) -> bool {
         match answer {
             Answer::Done(
                 Reply::Ticked {

@@ -4,7 +4,7 @@ use thiserror::Error;
 
 /// Why a storm did not pass.
 #[derive(Clone, Copy, Debug, PartialEq, Eq, Error)]
-pub enum StormFault {
+pub(crate) enum StormFault {
     #[error("usage: ckpt_storm THREADS CALLS SEED [LAST]")]
     Usage,
     #[error("a lock has 1 to 64 threads")]

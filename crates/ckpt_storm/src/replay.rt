@@ -19,7 +19,7 @@ fn opening(alloc: Global) -> Result<(Config, Shape), StormFault> {
     Ok((config, shape))
 }
 
-pub fn open(alloc: Global) -> Result<Book, StormFault> {
+pub(crate) fn open(alloc: Global) -> Result<Book, StormFault> {
     let (config, shape) = opening(alloc)?;
     Book::new(alloc, config, shape, 0, 1).map_err(|_| StormFault::Open)
 }
@@ -43,7 +43,12 @@ fn answer(core: &mut Core, call: &Call) -> Result<Answer, StormFault> {
 
 /// Checks what the threads were answered against the book. Tells how many calls came back for want
 /// of memory.
-pub fn check(alloc: Global, plan: &Plan, book: &Book, told: &[Told]) -> Result<u64, StormFault> {
+pub(crate) fn check(
+    alloc: Global,
+    plan: &Plan,
+    book: &Book,
+    told: &[Told],
+) -> Result<u64, StormFault> {
     let calls = u64::from(plan.threads).saturating_mul(plan.calls);
     let returned = check_each(plan, told)?;
     let entries = book.len();

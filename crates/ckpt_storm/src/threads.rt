@@ -13,13 +13,13 @@ use std::thread::Threads;
 
 /// A pass after its thread's calls, and what they were answered.
 #[derive(Drop)]
-pub struct Report {
+pub(crate) struct Report {
     pass: Pass,
     told: Result<Told, AllocError>,
 }
 
 /// What is done with each pass of a lock, by a thread of its own.
-pub trait Work {
+pub(crate) trait Work {
     ghost lock: { Self → Lock };
 
     fn work<R: Wait>(&self, rt: &R, pass: Pass) -> Report
@@ -29,11 +29,11 @@ pub trait Work {
 
 /// What the threads of a storm share.
 #[derive(Drop)]
-pub struct Ground {
-    pub lock: Locked,
-    pub board: Board,
-    pub alloc: Global,
-    pub plan: Plan,
+pub(crate) struct Ground {
+    pub(crate) lock: Locked,
+    pub(crate) board: Board,
+    pub(crate) alloc: Global,
+    pub(crate) plan: Plan,
 }
 
 impl Work for Ground {
@@ -46,7 +46,7 @@ impl Work for Ground {
 }
 
 /// Runs a thread for each pass, closes the lock, and gives the book and what each was answered.
-pub fn run<R: Threads + Wait + Sync>(
+pub(crate) fn run<R: Threads + Wait + Sync>(
     rt: &R,
     ground: Ground,
     passes: Vec<Pass>,

@@ -15,12 +15,12 @@ const TRIES: u32 = 1000;
 
 /// What the threads share beside the lock: the greatest number of a record of which one was told.
 #[derive(Drop)]
-pub struct Board {
+pub(crate) struct Board {
     newest: AtomicU64,
 }
 
 impl Board {
-    pub fn new() -> Board {
+    pub(crate) fn new() -> Board {
         Board {
             newest: AtomicU64::new(0),
         }
@@ -29,16 +29,16 @@ impl Board {
 
 /// What a thread was answered.
 #[derive(Drop)]
-pub struct Told {
-    pub seat: u32,
+pub(crate) struct Told {
+    pub(crate) seat: u32,
     /// How many calls its pass counts.
-    pub calls: u64,
+    pub(crate) calls: u64,
     /// The answers in order, where they are kept.
-    pub answers: Vec<Answer>,
+    pub(crate) answers: Vec<Answer>,
     /// How many calls came back for want of memory.
-    pub returned: u64,
+    pub(crate) returned: u64,
     /// What was not so, where the thread ended early.
-    pub fault: Option<StormFault>,
+    pub(crate) fault: Option<StormFault>,
 }
 
 /// A thread: how it chooses its calls, and what it was answered.
@@ -164,7 +164,7 @@ fn insist<R: Wait>(
 }
 
 /// Makes the calls of one thread, in order, until something is not so.
-pub fn work<R: Wait>(
+pub(crate) fn work<R: Wait>(
     rt: &R,
     alloc: Global,
     lock: &Locked,
