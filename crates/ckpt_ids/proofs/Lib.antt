@@ -2,4 +2,5 @@ pub mod AscendingLemmas
 pub mod CountLemmas
 pub mod OrderLemmas
 pub mod OrderedLemmas
+pub mod ResultLemmas
 pub mod ShapeLemmas

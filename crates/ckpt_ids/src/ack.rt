@@ -1,11 +1,14 @@
 ghost use Rattle.std.specs.Prelude.{◌≡◌, ◌↔◌, [], IsTrue, length, slice_get};
 ghost use Rattle.std.specs.Option.{option_copied};
+ghost use Rattle.std.specs.Iterator.Adapters.{IterYieldsInOrder, IterYieldsInReverse};
+ghost use Rattle.std.specs.Slice.Iter.{iter_rest};
 
 use crate::files::Files;
 use crate::numbers::{CheckpointId, Kind};
 use crate::shape::Shape;
 use crate::subtask::SubtaskId;
 use std::marker::Model;
+use std::slice::Iter;
 
 /// The acknowledgement of one subtask: all files of its part, fresh and reused together.
 #[derive(Debug, Drop, PartialEq, Eq)]
@@ -71,6 +74,32 @@ impl Acks {
         ensures order { AreInSubtaskOrder self.now }
     {
         self.list.as_slice()
+    }
+
+    /// The acknowledgements one after the other, in the order of their subtasks.
+    pub fn iter(&self) -> Iter<'_, Acked>
+        ensures rest { iter_rest result ≡ self.now }
+        ensures runs { IterYieldsInOrder Acked }
+        ensures runs_back { IterYieldsInReverse Acked }
+    {
+        self.list.iter()
+    }
+}
+
+impl<'a> IntoIterator for &'a Acks {
+    ghost use Rattle.std.specs.Prelude.{◌≡◌};
+    ghost use Rattle.std.specs.Iterator.Adapters.{IterYieldsInOrder};
+    ghost use Rattle.std.specs.Slice.Iter.{iter_rest};
+    ghost use Rattle.ckpt_ids.specs.declared.ack.Acked.{Acked};
+
+    type Item = &'a Acked;
+
+    type IntoIter = Iter<'a, Acked>;
+
+    ghost into_iter_gives = { λ all it. (iter_rest it ≡ all.now) × IterYieldsInOrder Acked };
+
+    fn into_iter(self) -> Iter<'a, Acked> {
+        self.iter()
     }
 }
 

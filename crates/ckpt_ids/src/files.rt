@@ -1,9 +1,12 @@
 ghost use Rattle.std.specs.Prelude.{◌≡◌, ◌↔◌, [], IsTrue, IfOk, length, slice_get};
+ghost use Rattle.std.specs.Iterator.Adapters.{IterYieldsInOrder, IterYieldsInReverse};
+ghost use Rattle.std.specs.Slice.Iter.{iter_rest};
 ghost use Rattle.ckpt_ids.specs.Ascending.{IsAscending, ascending};
 
 use crate::numbers::FileId;
 use std::alloc::AllocError;
 use std::marker::Model;
+use std::slice::Iter;
 
 /// The files of an acknowledgement, in ascending order. One that was named twice stands twice.
 #[derive(Debug, Drop)]
@@ -61,6 +64,15 @@ impl Files {
         self.numbers.as_slice()
     }
 
+    /// The files one after the other, in ascending order.
+    pub fn iter(&self) -> Iter<'_, FileId>
+        ensures rest { iter_rest result ≡ self.now }
+        ensures runs { IterYieldsInOrder FileId }
+        ensures runs_back { IterYieldsInReverse FileId }
+    {
+        self.numbers.iter()
+    }
+
     /// An equal list. Fails only for want of memory.
     pub fn copy(&self) -> Result<Files, AllocError>
         ensures { IfOk result (λ files. files ≡ self.now) }
@@ -68,6 +80,23 @@ impl Files {
         Ok(Files {
             numbers: self.numbers.clone()?,
         })
+    }
+}
+
+impl<'a> IntoIterator for &'a Files {
+    ghost use Rattle.std.specs.Prelude.{◌≡◌};
+    ghost use Rattle.std.specs.Iterator.Adapters.{IterYieldsInOrder};
+    ghost use Rattle.std.specs.Slice.Iter.{iter_rest};
+    ghost use Rattle.ckpt_ids.specs.declared.numbers.FileId.{FileId};
+
+    type Item = &'a FileId;
+
+    type IntoIter = Iter<'a, FileId>;
+
+    ghost into_iter_gives = { λ all it. (iter_rest it ≡ all.now) × IterYieldsInOrder FileId };
+
+    fn into_iter(self) -> Iter<'a, FileId> {
+        self.iter()
     }
 }
 

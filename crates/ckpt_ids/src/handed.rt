@@ -1,7 +1,10 @@
 ghost use Rattle.std.specs.Prelude.{◌≡◌, ◌≤◌, ◌↔◌, [], IsTrue, length, drop, slice_get};
+ghost use Rattle.std.specs.Iterator.Adapters.{IterYieldsInOrder, IterYieldsInReverse};
+ghost use Rattle.std.specs.Slice.Iter.{iter_rest};
 
 use crate::numbers::FileId;
 use std::marker::Model;
+use std::slice::Iter;
 
 /// Files in the order in which they were handed out.
 #[derive(Debug, Drop)]
@@ -53,6 +56,15 @@ impl Handed {
         self.numbers.as_slice()
     }
 
+    /// The files one after the other, in the order in which they were handed out.
+    pub fn iter(&self) -> Iter<'_, FileId>
+        ensures rest { iter_rest result ≡ self.now }
+        ensures runs { IterYieldsInOrder FileId }
+        ensures runs_back { IterYieldsInReverse FileId }
+    {
+        self.numbers.iter()
+    }
+
     /// The files without the first `count`. Works in place, and takes no memory.
     pub fn rest(self, count: usize) -> Handed
         requires { count ≤ length self }
@@ -63,6 +75,23 @@ impl Handed {
         numbers.rotate_left(count);
         numbers.truncate(kept);
         Handed::of(numbers)
+    }
+}
+
+impl<'a> IntoIterator for &'a Handed {
+    ghost use Rattle.std.specs.Prelude.{◌≡◌};
+    ghost use Rattle.std.specs.Iterator.Adapters.{IterYieldsInOrder};
+    ghost use Rattle.std.specs.Slice.Iter.{iter_rest};
+    ghost use Rattle.ckpt_ids.specs.declared.numbers.FileId.{FileId};
+
+    type Item = &'a FileId;
+
+    type IntoIter = Iter<'a, FileId>;
+
+    ghost into_iter_gives = { λ all it. (iter_rest it ≡ all.now) × IterYieldsInOrder FileId };
+
+    fn into_iter(self) -> Iter<'a, FileId> {
+        self.iter()
     }
 }
 

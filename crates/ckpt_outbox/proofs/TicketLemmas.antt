@@ -2,8 +2,6 @@
 use Rattle.std.proofs.Common.{◌≡◌, ℕ, ◌+◌, ◌<◌, ◌≤◌, Bool, true, false, not, cond, ◌||◌, ◌==◌, nat_lt, List, [], ◌∷◌, ◌++◌, length, take, Option, Some, None, is_some, unwrap_or, refl, sym, ap, subst, ◌∙◌, ⊎_elim, arith, append-nil, length-append, ◌↔◌, IsSome, IfSome}
 use Rattle.std.proofs.Math.Seq.{take-append_seam}
 use Rattle.std.proofs.lemmas.Map.Entries.{length-values_of}
-use Rattle.std.specs.Prelude.{Result, Ok, Err, OnOk}
-use Rattle.std.specs.Result.{is_err}
 use Rattle.std.specs.List.{list_any, AllByRecursion}
 use Rattle.std.specs.List.Sorted.{IsStrictlySortedBy}
 use Rattle.std.specs.Map.{values_of, keys_of, remove_entry}
@@ -284,7 +282,3 @@ none_before (Some p) b h = h
 pub index_again : (a f g : Option Place) → g ≡ option_or a f → option_or a g ≡ g
 index_again None f g e = refl
 index_again (Some p) f g e = sym e
-
-pub on_ok : {T E : Type 0} (r : Result T E) (P : Type 0) → is_err r ≡ false → OnOk r P → P
-on_ok (Ok x) P e h = h
-on_ok {T} {E} (Err y) P e h = absurd (both_ways (is_err {T = T} (Err y)) e refl)

@@ -154,6 +154,10 @@ fn acknowledgements_are_listed(rt: HostRuntime) -> Result<(), Fail> {
     assert!(rt; acks.get(0).is_some_and(|acked| acked.subtask == subtask));
     assert!(rt; acks.get(1).is_none());
     assert_eq!(rt; acks.as_slice().len(), 1);
+    assert_eq!(rt; acks.iter().count(), 1);
+    for acked in &acks {
+        assert_eq!(rt; acked.subtask, subtask);
+    }
     let metadata = Metadata {
         id: CheckpointId(1),
         kind: Kind::Checkpoint,
@@ -163,6 +167,32 @@ fn acknowledgements_are_listed(rt: HostRuntime) -> Result<(), Fail> {
         acks,
     };
     assert_eq!(rt; metadata.acks.len(), 1);
+    Ok(())
+}
+
+#[test]
+fn a_loop_over_files_begins_with_the_least(rt: HostRuntime) -> Result<(), Fail> {
+    let list = Files::of(files(rt.alloc(), &[5, 3])?);
+    let mut met = Vec::new(rt.alloc());
+    for file in &list {
+        met.push(*file)?;
+    }
+    assert_eq!(rt; met.as_slice(), [FileId(3), FileId(5)].as_slice());
+    let back: Vec<FileId> = list.iter().rev().copied().collect(rt.alloc())?;
+    assert_eq!(rt; back.as_slice(), [FileId(5), FileId(3)].as_slice());
+    Ok(())
+}
+
+#[test]
+fn a_loop_over_handed_files_keeps_their_order(rt: HostRuntime) -> Result<(), Fail> {
+    let list = Handed::of(files(rt.alloc(), &[5, 3])?);
+    let mut met = Vec::new(rt.alloc());
+    for file in &list {
+        met.push(*file)?;
+    }
+    assert_eq!(rt; met.as_slice(), [FileId(5), FileId(3)].as_slice());
+    let back: Vec<FileId> = list.iter().rev().copied().collect(rt.alloc())?;
+    assert_eq!(rt; back.as_slice(), [FileId(3), FileId(5)].as_slice());
     Ok(())
 }
 

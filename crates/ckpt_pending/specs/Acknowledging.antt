@@ -5,7 +5,7 @@ use Rattle.ckpt_ids.specs.declared.numbers.Kind.{Kind}
 use Rattle.ckpt_ids.specs.declared.ack.Acked.{Acked}
 use Rattle.ckpt_ids.specs.Ordered.{IsIn}
 use Rattle.ckpt_ids.specs.Acknowledged.{AreInSubtaskOrder}
-use Rattle.ckpt_ids.specs.Records.{Record, missing, IsFull}
+use Rattle.ckpt_ids.specs.Records.{Record, has_acknowledged, missing, IsFull}
 use Rattle.ckpt_ids.specs.Shapes.{IsShape, is_subtask, same_subtask}
 
 -- a map from subtasks to their files, as acknowledgements
@@ -19,6 +19,10 @@ pending_record id kind shape started entries = record { id = id; kind = kind; do
 -- the record without the acknowledgement of a subtask
 abbrev pub without_ack : SubtaskId → Record → Record
 without_ack s r = record r { acks = filter (λ a. not (same_subtask s a.subtask)) r.acks }
+
+-- the record expects the subtask, and has its acknowledgement
+abbrev pub HasAlready : Record → SubtaskId → Type 0
+HasAlready r subtask = (is_subtask r.shape subtask ≡ true) × (has_acknowledged r subtask ≡ true)
 
 -- what holds of each record that waits for acknowledgements
 pub record IsPending (r : Record) : Type 0 where

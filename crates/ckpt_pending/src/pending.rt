@@ -4,7 +4,7 @@ ghost use Rattle.ckpt_ids.specs.Acknowledged.{put_ack};
 ghost use Rattle.ckpt_ids.specs.Ascending.{ascending_set};
 ghost use Rattle.ckpt_ids.specs.Records.{Record, acknowledged, has_acknowledged, missing, metadata_of};
 ghost use Rattle.ckpt_ids.specs.Shapes.{is_subtask, same_subtask};
-ghost use Rattle.ckpt_pending.specs.Acknowledging.{IsPending, acks_of, without_ack};
+ghost use Rattle.ckpt_pending.specs.Acknowledging.{HasAlready, IsPending, acks_of, without_ack};
 
 use crate::done::Done;
 use ckpt_ids::{Acked, Acks, CheckpointId, FileId, Files, Kind, Metadata, Shape, SubtaskId};
@@ -75,7 +75,7 @@ impl Pending {
     /// [`AckFault::Memory`] where memory runs out. After an error the record is as before.
     pub fn ack(&mut self, subtask: SubtaskId, files: Files) -> Result<(), AckFault>
         ensures unknown { (result ≡ Err AckFault.UnknownSubtask) ↔ (is_subtask self.old.shape subtask ≡ false) }
-        ensures already { (result ≡ Err AckFault.AlreadyAcknowledged) ↔ ((is_subtask self.old.shape subtask ≡ true) × (has_acknowledged self.old subtask ≡ true)) }
+        ensures already { (result ≡ Err AckFault.AlreadyAcknowledged) ↔ HasAlready self.old subtask }
         ensures ok { OnOk result (self.new ≡ acknowledged self.old subtask files) }
         ensures one_less { OnOk result (missing self.new + 1 ≡ missing self.old) }
         ensures undone_by_retract { OnOk result (without_ack subtask self.new ≡ self.old) }

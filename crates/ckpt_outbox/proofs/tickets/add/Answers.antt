@@ -3,8 +3,9 @@ use Rattle.std.specs.BTreeMap.{insert_entry}
 use Rattle.std.specs.Ordering.{nat_cmp}
 use Rattle.std.proofs.lemmas.List.{take_more}
 use Rattle.std.proofs.lemmas.Grind.{common_steps}
+use Rattle.ckpt_ids.proofs.ResultLemmas.{on_ok}
 use Rattle.ckpt_outbox.specs.Places.{ticketed, AreBelow}
-use Rattle.ckpt_outbox.proofs.TicketLemmas.{on_ok, insert_entry-above, ticketed-push, AreBelow-append, AreBelow-more, AreBelow-ticketed}
+use Rattle.ckpt_outbox.proofs.TicketLemmas.{insert_entry-above, ticketed-push, AreBelow-append, AreBelow-more, AreBelow-ticketed}
 use Rattle.ckpt_outbox.proofs.tickets.add.Goals as goal
 
 pub loop-file-preserved : goal.loop-file-preserved

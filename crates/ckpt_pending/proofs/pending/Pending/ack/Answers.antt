@@ -1,18 +1,13 @@
-use Rattle.std.proofs.Common.{Result, Ok, Err, OnOk, ◌≡◌, ◌∙◌, ◌+◌, ◌-◌, true, false, sym, ap, subst, refl, List, arith}
+use Rattle.std.proofs.Common.{◌≡◌, ◌∙◌, ◌+◌, ◌-◌, true, false, sym, ap, subst, refl, List, arith}
 use Rattle.std.proofs.lemmas.Bool.{both_ways}
-use Rattle.std.specs.Result.{is_err}
 use Rattle.ckpt_ids.specs.declared.ack.Acked.{Acked}
 use Rattle.ckpt_ids.specs.Records.{Record, missing, has_acknowledged}
 use Rattle.ckpt_ids.specs.Shapes.{is_subtask}
+use Rattle.ckpt_ids.proofs.ResultLemmas.{on_ok}
 use Rattle.ckpt_pending.specs.Acknowledging.{acks_of, pending_record, without_ack, IsCounted}
 use Rattle.ckpt_pending.proofs.AckLemmas.{acked-entries, acks_of-insert}
 use Rattle.ckpt_pending.proofs.PendingLemmas.{with_ack, IsCounted-put, missing-with_ack, without-with_ack}
 use Rattle.ckpt_pending.proofs.pending.Pending.ack.Goals as goal
-
--- what holds of an `Ok` holds where there is no error
-on_ok : {T E : Type 0} (r : Result T E) (P : Type 0) → is_err r ≡ false → OnOk r P → P
-on_ok (Ok x) P e h = h
-on_ok (Err x) P e h = absurd (both_ways true e refl)
 
 pub returns-then-contains_key-clause-already : goal.returns-then-contains_key-clause-already
 returns-then-contains_key-clause-already c =

@@ -1,0 +1,9 @@
+-- What follows of a result from a test of it.
+use Rattle.std.proofs.Common.{Result, Ok, Err, OnOk, ◌≡◌, true, false, refl}
+use Rattle.std.proofs.lemmas.Bool.{both_ways}
+use Rattle.std.specs.Result.{is_err}
+
+-- what holds of an `Ok` holds where there is no error
+pub on_ok : {T E : Type 0} (r : Result T E) (P : Type 0) → is_err r ≡ false → OnOk r P → P
+on_ok (Ok x) P e h = h
+on_ok (Err x) P e h = absurd (both_ways true e refl)
