@@ -1,28 +1,125 @@
 //! The lines that docs/EMBEDDING.md shows for Rattle.
 use ckpt_core::Core;
-use ckpt_ids::{Call, Config, Reply, Shape, TickEnd};
+use ckpt_ids::{
+    Call, CheckpointId, Choice, Config, FileId, Files, Reply, Shape, SubtaskId, Target, TickEnd,
+};
 use std::alloc::Global;
 use std::process::Abort;
 use std::test::Fail;
 
-/// Opens a job, and answers the number of the checkpoint that its first tick triggers.
-fn first_checkpoint(alloc: Global) -> Result<Option<u64>, Fail> {
+/// Opens a job of three subtasks at the moment 0.
+fn opened(alloc: Global) -> Result<Core, Fail> {
     let config = Config::new(60_000, 0, 1, 600_000, 0, 1, false)?; // milliseconds
     let shape = Shape::new(alloc, &[2, 1])?; // the parallelism of each vertex
-    let mut core = Core::new(alloc, config, shape, 0, 1)?; // opens at the moment 0
-    let due = core.due(); // when the timer is to tick
-    let reply = core.apply(&Call::Tick { now: due })?;
-    match &reply {
+    let core = Core::new(alloc, config, shape, 0, 1)?;
+    Ok(core)
+}
+
+/// The timer: the number of the checkpoint that the tick triggers, which the sources are to be told.
+fn tick(core: &mut Core, now: u64) -> Result<Option<CheckpointId>, Fail> {
+    match &core.apply(&Call::Tick { now })? {
         Reply::Ticked {
             end: TickEnd::Triggered(id),
             ..
-        } => Ok(Some(id.0)), // to be told to the sources
+        } => Ok(Some(*id)),
         _ => Ok(None),
     }
 }
 
+/// A task has taken its part, and wrote these files: whether the checkpoint is complete with it.
+fn acknowledge(
+    alloc: Global,
+    core: &mut Core,
+    now: u64,
+    id: CheckpointId,
+    subtask: SubtaskId,
+    fresh: Files,
+) -> Result<bool, Fail> {
+    let call = Call::Ack {
+        now,
+        id,
+        subtask,
+        fresh,
+        reused: Files::of(Vec::new(alloc)),
+    };
+    let reply = core.apply(&call)?;
+    Ok(is_completed(&reply))
+}
+
+fn is_completed(reply: &Reply) -> bool {
+    match reply {
+        Reply::AckCompleted { .. } => true,
+        _ => false,
+    }
+}
+
+/// The discarder: fetches files that no record uses, deletes them, and tells how it went.
+fn discard(core: &mut Core) -> Result<usize, Fail> {
+    let reply = core.apply(&Call::Take { most: 64 })?;
+    let Reply::Taken(files) = &reply else {
+        return Ok(0);
+    };
+    for file in files.as_slice() {
+        let report = match delete(*file) {
+            true => Call::Deleted { file: *file },
+            false => Call::Undeleted { file: *file },
+        };
+        core.apply(&report)?;
+    }
+    Ok(files.len())
+}
+
+/// The storage deletes a file, or can't.
+fn delete(_file: FileId) -> bool {
+    true
+}
+
+/// Failover: what the job begins again from.
+fn restart(core: &mut Core, now: u64) -> Result<Choice, Fail> {
+    let call = Call::Restore {
+        now,
+        target: Target::Latest,
+        shape: None,
+    };
+    match &core.apply(&call)? {
+        Reply::Restored { from, .. } => Ok(*from),
+        _ => Ok(core.choice()),
+    }
+}
+
+/// The three subtasks take their parts of a checkpoint, each with one file.
+fn acknowledge_all(
+    rt: &impl Abort,
+    alloc: Global,
+    core: &mut Core,
+    now: u64,
+    id: CheckpointId,
+    files: [u64; 3],
+) -> Result<(), Fail> {
+    let subtasks = [(0, 0, files[0]), (0, 1, files[1]), (1, 0, files[2])];
+    for (vertex, index, file) in subtasks {
+        let fresh = Files::of(vec![in alloc; FileId(file)]?);
+        let last = vertex == 1;
+        let completed = acknowledge(alloc, core, now, id, SubtaskId { vertex, index }, fresh)?;
+        assert_eq!(rt; completed, last);
+    }
+    Ok(())
+}
+
+/// The first checkpoint goes when the second is complete, and its files with it.
 #[test]
-fn a_job_is_opened_and_told_the_time(rt: HostRuntime) -> Result<(), Fail> {
-    assert_eq!(rt; first_checkpoint(rt.alloc())?, Some(1));
+fn a_job_runs_and_fails_over(rt: HostRuntime) -> Result<(), Fail> {
+    let alloc = rt.alloc();
+    let mut core = opened(alloc)?;
+    for (moment, number, files) in [(60_000, 1, [11, 12, 13]), (120_000, 2, [21, 22, 23])] {
+        assert_eq!(rt; core.due(), moment);
+        let id = CheckpointId(number);
+        assert_eq!(rt; tick(&mut core, moment)?, Some(id));
+        acknowledge_all(&rt, alloc, &mut core, moment + 10, id, files)?;
+    }
+    assert_eq!(rt; discard(&mut core)?, 3);
+    assert_eq!(rt; discard(&mut core)?, 0);
+    let from = restart(&mut core, 130_000)?;
+    assert_eq!(rt; from, Choice::Checkpoint(CheckpointId(2)));
     Ok(())
 }
