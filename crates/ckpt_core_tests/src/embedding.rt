@@ -106,20 +106,42 @@ fn acknowledge_all(
     Ok(())
 }
 
-/// The first checkpoint goes when the second is complete, and its files with it.
-#[test]
-fn a_job_runs_and_fails_over(rt: HostRuntime) -> Result<(), Fail> {
-    let alloc = rt.alloc();
-    let mut core = opened(alloc)?;
-    for (moment, number, files) in [(60_000, 1, [11, 12, 13]), (120_000, 2, [21, 22, 23])] {
-        assert_eq!(rt; core.due(), moment);
-        let id = CheckpointId(number);
-        assert_eq!(rt; tick(&mut core, moment)?, Some(id));
-        acknowledge_all(&rt, alloc, &mut core, moment + 10, id, files)?;
-    }
-    assert_eq!(rt; discard(&mut core)?, 3);
-    assert_eq!(rt; discard(&mut core)?, 0);
-    let from = restart(&mut core, 130_000)?;
+/// The checkpoint of this number is triggered when it is due, and all acknowledge it.
+fn completes(
+    rt: &impl Abort,
+    alloc: Global,
+    core: &mut Core,
+    number: u64,
+    files: [u64; 3],
+) -> Result<(), Fail> {
+    let (due, id) = (core.due(), CheckpointId(number));
+    assert_eq!(rt; tick(core, due)?, Some(id));
+    acknowledge_all(rt, alloc, core, due, id, files)
+}
+
+fn completes_two(rt: &impl Abort, alloc: Global, core: &mut Core) -> Result<(), Fail> {
+    completes(rt, alloc, core, 1, [11, 12, 13])?;
+    completes(rt, alloc, core, 2, [21, 22, 23])
+}
+
+/// The first checkpoint went when the second was complete, and its files with it.
+fn deletes_the_first(rt: &impl Abort, core: &mut Core) -> Result<(), Fail> {
+    assert_eq!(rt; discard(core)?, 3);
+    assert_eq!(rt; discard(core)?, 0);
+    Ok(())
+}
+
+/// The job begins again from the second.
+fn fails_over(rt: &impl Abort, core: &mut Core) -> Result<(), Fail> {
+    let from = restart(core, 130_000)?;
     assert_eq!(rt; from, Choice::Checkpoint(CheckpointId(2)));
     Ok(())
+}
+
+#[test]
+fn a_job_runs_and_fails_over(rt: HostRuntime) -> Result<(), Fail> {
+    let mut core = opened(rt.alloc())?;
+    completes_two(&rt, rt.alloc(), &mut core)?;
+    deletes_the_first(&rt, &mut core)?;
+    fails_over(&rt, &mut core)
 }
