@@ -1,18 +1,10 @@
+use crate::desk::{held, is_by, open, opened, triggered};
 use ckpt_core::OpenFault;
-use ckpt_ids::{
-    Answer, Call, CheckpointId, Config, FileId, Files, Refusal, Reply, Shape, SubtaskId, TickEnd,
-};
+use ckpt_ids::{Answer, Call, CheckpointId, FileId, Files, Refusal, Reply, SubtaskId};
 use ckpt_locked::Book;
 use std::alloc::{AllocError, Global};
 use std::process::Abort;
 use std::test::Fail;
-
-/// A job of one subtask with a checkpoint each second, of which one is kept.
-fn opened(alloc: Global, now: u64, first: u64) -> Result<Result<Book, OpenFault>, Fail> {
-    let config = Config::new(1000, 0, 1, 600_000, 0, 1, false)?;
-    let shape = Shape::new(alloc, &[1])?;
-    Ok(Book::new(alloc, config, shape, now, first))
-}
 
 /// The acknowledgement of the subtask, with one new file.
 fn ack(alloc: Global, now: u64, id: u64, file: u64) -> Result<Call, AllocError> {
@@ -36,20 +28,6 @@ fn show(id: u64) -> Call {
     }
 }
 
-fn held() -> Answer {
-    Answer::Done(Reply::Ticked {
-        expired: 0,
-        end: TickEnd::HeldInterval,
-    })
-}
-
-fn triggered(id: u64) -> Answer {
-    Answer::Done(Reply::Ticked {
-        expired: 0,
-        end: TickEnd::Triggered(CheckpointId(id)),
-    })
-}
-
 fn completed(dropped: u32, released: u64) -> Answer {
     Answer::Done(Reply::AckCompleted { dropped, released })
 }
@@ -62,21 +40,13 @@ fn says(book: &mut Book, seat: u32, call: Call, expected: &Answer) -> bool {
     }
 }
 
-/// Whether the call of this entry was made by this seat.
-fn is_by(book: &Book, place: u64, seat: u32) -> bool {
-    match book.entry(place) {
-        Some(entry) => entry.seat == seat,
-        None => false,
-    }
-}
-
 #[test]
 fn opens_within_the_limits(rt: HostRuntime) -> Result<(), Fail> {
     let too_late = opened(rt.alloc(), 1 << 62, 0)?;
     assert_eq!(rt; too_late.err(), Some(OpenFault::MomentTooLarge));
     let without_a_number = opened(rt.alloc(), 0, 0)?;
     assert_eq!(rt; without_a_number.err(), Some(OpenFault::BadFirst));
-    let book = opened(rt.alloc(), 0, 1)??;
+    let book = open(rt.alloc())?;
     assert!(rt; book.is_empty());
     assert_eq!(rt; book.len(), 0);
     Ok(())
@@ -84,7 +54,7 @@ fn opens_within_the_limits(rt: HostRuntime) -> Result<(), Fail> {
 
 #[test]
 fn enters_each_call(rt: HostRuntime) -> Result<(), Fail> {
-    let mut book = opened(rt.alloc(), 0, 1)??;
+    let mut book = open(rt.alloc())?;
     let refused = Answer::Refused(Refusal::NoSuchRecord);
     assert!(rt; says(&mut book, 7, Call::Tick { now: 999 }, &held()));
     assert_eq!(rt; book.len(), 1);
@@ -98,7 +68,7 @@ fn enters_each_call(rt: HostRuntime) -> Result<(), Fail> {
 
 #[test]
 fn completes_a_checkpoint(rt: HostRuntime) -> Result<(), Fail> {
-    let mut book = opened(rt.alloc(), 0, 1)??;
+    let mut book = open(rt.alloc())?;
     let file = FileId(11);
     let once = Answer::Done(Reply::Counted(file, 1));
     let last = ack(rt.alloc(), 1000, 1, 11)?;

@@ -1,18 +1,10 @@
 //! A book that keeps its last entries alone.
-use ckpt_ids::{
-    Answer, Call, CheckpointId, Config, FileId, Files, Reply, Shape, SubtaskId, TickEnd,
-};
+use crate::desk::{open, triggered};
+use ckpt_ids::{Answer, Call, CheckpointId, FileId, Files, Reply, SubtaskId};
 use ckpt_locked::Book;
 use std::alloc::{AllocError, Global};
 use std::process::Abort;
 use std::test::Fail;
-
-/// A job of one subtask with a checkpoint each second.
-fn opened(alloc: Global) -> Result<Book, Fail> {
-    let config = Config::new(1000, 0, 1, 600_000, 0, 1, false)?;
-    let shape = Shape::new(alloc, &[1])?;
-    Ok(Book::new(alloc, config, shape, 0, 1)?)
-}
 
 /// The acknowledgement of checkpoint 1, with the new file 11.
 fn ack(alloc: Global) -> Result<Call, AllocError> {
@@ -67,16 +59,12 @@ fn count(book: &mut Book, seat: u32, times: u32) -> bool {
 
 /// Triggers checkpoint 1 by seat 7, and completes it by seat 8.
 fn complete(alloc: Global, book: &mut Book) -> Result<bool, Fail> {
-    let triggered = Answer::Done(Reply::Ticked {
-        expired: 0,
-        end: TickEnd::Triggered(CheckpointId(1)),
-    });
     let completed = Answer::Done(Reply::AckCompleted {
         dropped: 0,
         released: 0,
     });
     let last = ack(alloc)?;
-    if !says(book, 7, Call::Tick { now: 1000 }, &triggered) {
+    if !says(book, 7, Call::Tick { now: 1000 }, &triggered(1)) {
         return Ok(false);
     }
     Ok(says(book, 8, last, &completed))
@@ -88,7 +76,7 @@ fn seat_at(book: &Book, place: u64) -> Option<u32> {
 
 #[test]
 fn keeps_all_unless_told(rt: HostRuntime) -> Result<(), Fail> {
-    let mut book = opened(rt.alloc())?;
+    let mut book = open(rt.alloc())?;
     assert!(rt; complete(rt.alloc(), &mut book)?);
     assert!(rt; count(&mut book, 1, 100));
     assert_eq!(rt; (book.len(), book.held()), (102, 102));
@@ -99,7 +87,7 @@ fn keeps_all_unless_told(rt: HostRuntime) -> Result<(), Fail> {
 
 #[test]
 fn keeps_the_last_entries(rt: HostRuntime) -> Result<(), Fail> {
-    let mut book = opened(rt.alloc())?;
+    let mut book = open(rt.alloc())?;
     book.keep_last(2);
     assert!(rt; complete(rt.alloc(), &mut book)?);
     assert_eq!(rt; (book.len(), book.held()), (2, 2));
@@ -112,7 +100,7 @@ fn keeps_the_last_entries(rt: HostRuntime) -> Result<(), Fail> {
 
 #[test]
 fn forgets_what_it_has(rt: HostRuntime) -> Result<(), Fail> {
-    let mut book = opened(rt.alloc())?;
+    let mut book = open(rt.alloc())?;
     assert!(rt; complete(rt.alloc(), &mut book)?);
     assert!(rt; count(&mut book, 3, 3));
     book.keep_last(1);
