@@ -1,4 +1,4 @@
-//! Tests of the book: rows of calls of [`ckpt_locked::Book`] with their answers.
+//! Tests of the book and the lock: rows of calls with their answers, and threads that share a lock.
 //!
 //! `docs/DECISIONS.md` says why they stand apart from the crate that they test.
 #![tactic(auto)]
@@ -6,6 +6,18 @@
 #[cfg(test)]
 mod book;
 #[cfg(test)]
+mod deeds;
+#[cfg(test)]
+mod desk;
+#[cfg(test)]
 mod forgetting;
 #[cfg(test)]
+mod lock;
+#[cfg(test)]
 mod rows;
+#[cfg(test)]
+mod savepoints;
+#[cfg(test)]
+mod threads;
+#[cfg(test)]
+mod turns;
