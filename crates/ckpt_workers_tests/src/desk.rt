@@ -50,21 +50,21 @@ pub(crate) fn three<R: Wait>(rt: &R, book: Book) -> Result<(Locked, Pass, Pass, 
 
 /// Gives the moments of a list, in order.
 #[derive(Drop)]
-pub(crate) struct Listed {
-    moments: Vec<u64>,
+pub(crate) struct Listed<'a> {
+    moments: &'a [u64],
     next: usize,
 }
 
-impl Listed {
-    pub(crate) fn new(moments: Vec<u64>) -> Listed {
+impl<'a> Listed<'a> {
+    pub(crate) fn new(moments: &'a [u64]) -> Listed<'a> {
         Listed { moments, next: 0 }
     }
 }
 
-impl Moments for Listed {
-    ghost given = { λ l. take l.next l.moments.items };
+impl<'a> Moments for Listed<'a> {
+    ghost given = { λ l. take l.next l.moments.now };
 
-    ghost left = { λ l. length l.moments.items - l.next };
+    ghost left = { λ l. length l.moments.now - l.next };
 
     fn next(&mut self) -> Option<u64> {
         if self.next >= self.moments.len() {

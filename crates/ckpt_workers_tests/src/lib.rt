@@ -5,7 +5,11 @@
 #![tactic(auto)]
 
 #[cfg(test)]
+mod deeds;
+#[cfg(test)]
 mod desk;
+#[cfg(test)]
+mod embedding;
 #[cfg(test)]
 mod gates;
 #[cfg(test)]

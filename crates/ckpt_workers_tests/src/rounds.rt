@@ -1,17 +1,18 @@
 //! Rounds of the discarder that end early, and go on.
-ghost use Rattle.std.specs.Prelude.{◌≡◌, IfOk};
+ghost use Rattle.std.specs.Prelude.{◌≡◌, ◌≢◌, [], IfOk};
 
+use crate::deeds::{are, discards, has_taken, told};
 use crate::desk::{Disk, open, two};
 use crate::gates::Forgetful;
-use ckpt_ids::{Answer, Call, CheckpointId, FileId, Files, Handed, Reply, SubtaskId};
-use ckpt_locked::{Locked, Pass};
-use ckpt_workers::{discard_round, resume_round};
-use std::alloc::Global;
+use ckpt_ids::{Call, CheckpointId, FileId, Files, Handed, SubtaskId};
+use ckpt_locked::{Book, Locked, Pass};
+use ckpt_workers::{Gate, discard_round, resume_round};
+use std::alloc::{AllocError, Global};
+use std::process::Abort;
 use std::sync::Wait;
-use std::sync::atomic::AtomicU64;
 use std::test::Fail;
 
-fn ack(alloc: Global, now: u64, id: u64, files: &[u64]) -> Result<Call, Fail> {
+fn ack(alloc: Global, now: u64, id: u64, files: &[u64]) -> Result<Call, AllocError> {
     let mut fresh = Vec::new(alloc);
     for file in files {
         fresh.push(FileId(*file))?;
@@ -28,61 +29,93 @@ fn ack(alloc: Global, now: u64, id: u64, files: &[u64]) -> Result<Call, Fail> {
     })
 }
 
-/// A lock over a job whose second checkpoint has released the files 1, 2 and 3 of the first.
-fn with_three_files<R: Wait>(rt: &R, alloc: Global) -> Result<(Locked, Pass), Fail>
+fn enter(book: &mut Book, call: Call) -> Result<(), Fail> {
+    match book.apply(0, call) {
+        Ok(_) => Ok(()),
+        Err(_) => Err(Fail::new("no memory")),
+    }
+}
+
+/// Triggers a checkpoint and completes it with new files.
+fn complete(alloc: Global, book: &mut Book, now: u64, id: u64, files: &[u64]) -> Result<(), Fail> {
+    enter(book, Call::Tick { now })?;
+    enter(book, ack(alloc, now, id, files)?)
+}
+
+/// A job whose second checkpoint has released the files 1, 2 and 3 of the first.
+fn with_three_files(alloc: Global) -> Result<Book, Fail> {
+    let mut book = open(alloc, 600_000, 0, 1)?;
+    complete(alloc, &mut book, 1000, 1, &[1, 2, 3])?;
+    complete(alloc, &mut book, 2000, 2, &[4])?;
+    Ok(book)
+}
+
+/// A lock over that job.
+fn lock_with_three_files<R: Wait>(rt: &R, alloc: Global) -> Result<(Locked, Pass), Fail>
     ensures { IfOk result (λ made. made.1.lock ≡ made.0) }
 {
-    let mut book = open(alloc, 600_000, 0, 1)?;
-    book.apply(0, Call::Tick { now: 1000 })
-        .map_err(|_| Fail::new("no memory"))?;
-    book.apply(0, ack(alloc, 1000, 1, &[1, 2, 3])?)
-        .map_err(|_| Fail::new("no memory"))?;
-    book.apply(0, Call::Tick { now: 2000 })
-        .map_err(|_| Fail::new("no memory"))?;
-    book.apply(0, ack(alloc, 2000, 2, &[4])?)
-        .map_err(|_| Fail::new("no memory"))?;
-    let (lock, pass, _) = two(rt, book)?;
+    let (lock, pass, _) = two(rt, with_three_files(alloc)?)?;
     Ok((lock, pass))
 }
 
 #[test]
 fn a_file_that_storage_keeps_waits_again(rt: HostRuntime) -> Result<(), Fail> {
     let alloc = rt.alloc();
-    let (lock, pass) = with_three_files(&rt, alloc)?;
+    let (lock, pass) = lock_with_three_files(&rt, alloc)?;
     let mut disk = Disk::new(&rt, alloc, Some(1));
-    let (pass, round) = discard_round(&rt, alloc, &lock, pass, &mut disk, 8);
-    assert_eq!(rt; (round.taken, round.deleted, round.failed), (3, 2, 1));
-    let (_pass, round) = discard_round(&rt, alloc, &lock, pass, &mut disk, 8);
-    assert_eq!(rt; (round.taken, round.deleted, round.failed), (1, 1, 0));
+    let pass = discards(&rt, alloc, &lock, pass, &mut disk, [3, 2, 1]);
+    discards(&rt, alloc, &lock, pass, &mut disk, [1, 1, 0]);
     assert!(rt; disk.deleted.as_slice() == [FileId(1), FileId(3), FileId(2)].as_slice());
     Ok(())
+}
+
+/// A round whose second report finds no memory, and what it leaves.
+fn is_cut_short<'a, R: Abort + Wait, G: Gate>(
+    rt: &R,
+    alloc: Global,
+    gate: &G,
+    pass: Pass,
+    disk: &mut Disk<'a, R>,
+) -> (Pass, Handed)
+    requires { pass.lock ≡ G.lock gate.now }
+    ensures pass { result.0.lock ≡ G.lock gate.now }
+    ensures left { result.1 ≢ [] }
+{
+    let (pass, round) = discard_round(rt, alloc, gate, pass, disk, 8);
+    assert_eq!(rt; [round.taken, round.deleted, round.failed], [3, 1, 0]);
+    assert!(rt; round.gone && round.memory && !round.left.is_empty());
+    (pass, round.left)
+}
+
+/// The rest of the round, whose first file is gone.
+fn goes_on<'a, R: Abort + Wait, G: Gate>(
+    rt: &R,
+    gate: &G,
+    pass: Pass,
+    disk: &mut Disk<'a, R>,
+    left: Handed,
+) -> Pass
+    requires pass { pass.lock ≡ G.lock gate.now }
+    requires left { left ≢ [] }
+    ensures { result.lock ≡ G.lock gate.now }
+{
+    let (pass, round) = resume_round(rt, gate, pass, disk, left, true);
+    assert_eq!(rt; [round.taken, round.deleted, round.failed], [2, 2, 0]);
+    assert!(rt; round.left.is_empty() && !round.gone && !round.memory);
+    pass
 }
 
 #[test]
 fn a_round_without_memory_goes_on(rt: HostRuntime) -> Result<(), Fail> {
     let alloc = rt.alloc();
-    let (lock, pass) = with_three_files(&rt, alloc)?;
-    let gate = Forgetful {
-        locked: lock,
-        calls: AtomicU64::new(0),
-        forgets: 2,
-    };
+    let (lock, pass) = lock_with_three_files(&rt, alloc)?;
+    let gate = Forgetful::new(lock, 2);
     let mut disk = Disk::new(&rt, alloc, None);
-    let (pass, round) = discard_round(&rt, alloc, &gate, pass, &mut disk, 8);
-    assert_eq!(rt; (round.taken, round.deleted, round.failed), (3, 1, 0));
-    assert!(rt; round.gone && round.memory);
-    assert_eq!(rt;
-        (round.left.get(0), round.left.get(1)),
-        (Some(FileId(2)), Some(FileId(3)))
-    );
-    assert_eq!(rt; round.left.len(), 2);
-    let (pass, round) = resume_round(&rt, &gate, pass, &mut disk, round.left, round.gone);
-    assert_eq!(rt; (round.taken, round.deleted, round.failed), (2, 2, 0));
-    assert!(rt; round.left.is_empty() && !round.gone && !round.memory);
+    let (pass, left) = is_cut_short(&rt, alloc, &gate, pass, &mut disk);
+    assert!(rt; are(&left, &[FileId(2), FileId(3)]));
+    let pass = goes_on(&rt, &gate, pass, &mut disk, left);
     assert!(rt; disk.deleted.as_slice() == [FileId(1), FileId(2), FileId(3)].as_slice());
-    let Ok((_pass, answer)) = gate.locked.call(&rt, pass, Call::Take { most: 8 }) else {
-        return Err(Fail::new("not so"));
-    };
-    assert!(rt; answer == Answer::Done(Reply::Taken(Handed::of(Vec::new(alloc)))));
+    let (_pass, answer) = told(&rt, &gate, pass, Call::Take { most: 8 })?;
+    assert!(rt; has_taken(&answer, &[]));
     Ok(())
 }
