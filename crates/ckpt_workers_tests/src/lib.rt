@@ -13,6 +13,8 @@ mod embedding;
 #[cfg(test)]
 mod gates;
 #[cfg(test)]
+mod refused_memory;
+#[cfg(test)]
 mod rounds;
 #[cfg(test)]
 mod spreads;

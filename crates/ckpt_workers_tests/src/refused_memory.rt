@@ -1,0 +1,177 @@
+//! A lock, its calls and a round of the discarder where one allocation is refused: what was there stays, and the
+//! same call made again does what it would have done.
+ghost use Rattle.std.specs.Prelude.{◌≡◌, IfOk};
+
+use ckpt_ids::{
+    Answer, Call, CheckpointId, Config, FileId, Files, Reply, Shape, SubtaskId, TickEnd,
+};
+use ckpt_locked::{Book, LockFault, Locked, Pass};
+use ckpt_workers::{Storage, StorageFault, discard_round, resume_round};
+use std::alloc::{AllocError, Global};
+use std::process::Abort;
+use std::sync::Wait;
+use std::test::Fail;
+
+/// A job of one subtask with a checkpoint each second, of which one is kept.
+fn open(alloc: Global) -> Result<Book, Fail> {
+    let config = Config::new(1000, 0, 1, 600_000, 0, 1, false)?;
+    let shape = match Shape::new(alloc, &[1]) {
+        Ok(shape) => shape,
+        Err(_) => Shape::new(alloc, &[1])?,
+    };
+    Ok(Book::new(alloc, config, shape, 0, 1)?)
+}
+
+fn listed(alloc: Global, numbers: &[u64]) -> Result<Vec<FileId>, AllocError> {
+    let mut files = Vec::with_capacity(alloc, numbers.len())?;
+    for number in numbers {
+        files.push(FileId(*number))?;
+    }
+    Ok(files)
+}
+
+fn listed_again(alloc: Global, numbers: &[u64]) -> Result<Vec<FileId>, AllocError> {
+    match listed(alloc, numbers) {
+        Ok(files) => Ok(files),
+        Err(_) => listed(alloc, numbers),
+    }
+}
+
+/// The acknowledgement of the subtask, with new files.
+fn ack(alloc: Global, now: u64, id: u64, files: &[u64]) -> Result<Call, AllocError> {
+    Ok(Call::Ack {
+        now,
+        id: CheckpointId(id),
+        subtask: SubtaskId {
+            vertex: 0,
+            index: 0,
+        },
+        fresh: Files::of(listed_again(alloc, files)?),
+        reused: Files::of(Vec::new(alloc)),
+    })
+}
+
+fn triggered(id: u64) -> Answer {
+    Answer::Done(Reply::Ticked {
+        expired: 0,
+        end: TickEnd::Triggered(CheckpointId(id)),
+    })
+}
+
+fn completed(dropped: u32, released: u64) -> Answer {
+    Answer::Done(Reply::AckCompleted { dropped, released })
+}
+
+/// A lock over the book, and its one pass. Where it finds no memory, the book comes back as it was.
+fn lock<R: Wait + Abort>(rt: &R, book: Book) -> Result<(Locked, Pass), Fail>
+    ensures { IfOk result (λ made. made.1.lock ≡ made.0) }
+{
+    let entries = book.len();
+    let made = match Locked::new(rt, book, 1) {
+        Ok(made) => Ok(made),
+        Err((back, fault)) => {
+            assert_eq!(rt; fault, LockFault::Memory);
+            assert_eq!(rt; back.len(), entries);
+            Locked::new(rt, back, 1)
+        }
+    };
+    let Ok((lock, mut passes)) = made else {
+        return Err(Fail::new("no lock"));
+    };
+    match passes.pop() {
+        Some(pass) => Ok((lock, pass)),
+        None => Err(Fail::new("no pass")),
+    }
+}
+
+/// Makes a call, which is answered so. Where it finds no memory, it comes back with the pass as it was.
+fn tell<R: Wait + Abort>(
+    rt: &R,
+    lock: &Locked,
+    pass: Pass,
+    call: Call,
+    expected: &Answer,
+) -> Result<Pass, Fail>
+    requires { pass.lock ≡ lock.now }
+    ensures { IfOk result (λ pass. pass.lock ≡ lock.now) }
+{
+    let calls = pass.calls();
+    let done = match lock.call(rt, pass, call) {
+        Ok(done) => Ok(done),
+        Err((pass, call)) => {
+            assert_eq!(rt; pass.calls(), calls);
+            lock.call(rt, pass, call)
+        }
+    };
+    let Ok((pass, answer)) = done else {
+        return Err(Fail::new("no answer"));
+    };
+    assert!(rt; answer == *expected);
+    Ok(pass)
+}
+
+/// A checkpoint is triggered and completed, and a second one, which releases the files 1, 2 and 3 of the first.
+fn release_three_files<R: Wait + Abort>(
+    rt: &R,
+    alloc: Global,
+    lock: &Locked,
+    pass: Pass,
+) -> Result<Pass, Fail>
+    requires { pass.lock ≡ lock.now }
+    ensures { IfOk result (λ pass. pass.lock ≡ lock.now) }
+{
+    let pass = tell(rt, lock, pass, Call::Tick { now: 1000 }, &triggered(1))?;
+    let first = ack(alloc, 1000, 1, &[1, 2, 3])?;
+    let pass = tell(rt, lock, pass, first, &completed(0, 0))?;
+    let pass = tell(rt, lock, pass, Call::Tick { now: 2000 }, &triggered(2))?;
+    let second = ack(alloc, 2000, 2, &[4])?;
+    tell(rt, lock, pass, second, &completed(1, 3))
+}
+
+/// Deletes files by listing them, for which it has room.
+#[derive(Drop)]
+struct Disk<'a, R: Abort> {
+    rt: &'a R,
+    deleted: Vec<FileId>,
+}
+
+impl<'a, R: Abort> Storage for Disk<'a, R> {
+    ghost stored = { λ d. record { deleted = d.deleted.items; failures = 0 } };
+
+    fn delete(&mut self, file: FileId) -> Result<(), StorageFault> {
+        self.deleted.push(file).expect(self.rt, "room");
+        Ok(())
+    }
+}
+
+#[test]
+fn refused_memory_in_a_lock(rt: HostRuntime) -> Result<(), Fail> {
+    let alloc = rt.alloc();
+    let (lock, pass) = lock(&rt, open(alloc)?)?;
+    let pass = release_three_files(&rt, alloc, &lock, pass)?;
+    assert_eq!(rt; pass.calls(), 4);
+    Ok(())
+}
+
+#[test]
+fn refused_memory_in_a_round(rt: HostRuntime) -> Result<(), Fail> {
+    let alloc = rt.alloc();
+    let (lock, pass) = lock(&rt, open(alloc)?)?;
+    let pass = release_three_files(&rt, alloc, &lock, pass)?;
+    let mut disk = Disk {
+        rt: &rt,
+        deleted: listed_again(alloc, &[0; 8])?,
+    };
+    disk.deleted.clear();
+    let (pass, round) = discard_round(&rt, alloc, &lock, pass, &mut disk, 8);
+    let taken = round.taken;
+    let (pass, round) = resume_round(&rt, &lock, pass, &mut disk, round.left, round.gone);
+    assert!(rt; !round.memory);
+    // Where the first call found no memory, nothing was taken, and the files wait still.
+    if taken == 0 {
+        let (_pass, round) = discard_round(&rt, alloc, &lock, pass, &mut disk, 8);
+        assert!(rt; !round.memory);
+    }
+    assert!(rt; disk.deleted.as_slice() == [FileId(1), FileId(2), FileId(3)].as_slice());
+    Ok(())
+}
