@@ -1,7 +1,7 @@
-//! A job under a lock, moments, orders and a storage, for the tests.
-ghost use Rattle.std.specs.Prelude.{◌≡◌, ◌-◌, IfOk, length, take};
+//! A lock and its passes, moments, orders and a storage, for the tests.
+ghost use Rattle.std.specs.Prelude.{◌≡◌, ◌-◌, All, IfOk, length, take};
 
-use ckpt_ids::{CheckpointId, Config, FileId, Files, Shape, SubtaskId};
+use ckpt_ids::{CheckpointId, FileId, Files, SubtaskId};
 use ckpt_locked::{Book, Locked, Pass};
 use ckpt_workers::{BadOrder, Moments, Order, Storage, StorageFault};
 use crossbeam_channel::{Receiver, unbounded};
@@ -9,18 +9,6 @@ use std::alloc::{AllocError, Global};
 use std::process::Abort;
 use std::sync::Wait;
 use std::test::Fail;
-
-/// A job with a checkpoint each second, of which one is kept, opened at the moment 0.
-pub(crate) fn open(
-    alloc: Global,
-    timeout: u64,
-    tolerable: u64,
-    parallelism: u64,
-) -> Result<Book, Fail> {
-    let config = Config::new(1000, 0, 1, timeout, tolerable, 1, false)?;
-    let shape = Shape::new(alloc, &[parallelism])?;
-    Ok(Book::new(alloc, config, shape, 0, 1)?)
-}
 
 /// A lock over the book with two passes.
 pub(crate) fn two<R: Wait>(rt: &R, book: Book) -> Result<(Locked, Pass, Pass), Fail>
@@ -46,6 +34,16 @@ pub(crate) fn three<R: Wait>(rt: &R, book: Book) -> Result<(Locked, Pass, Pass, 
         return Err(Fail::new("no passes"));
     };
     Ok((lock, first, second, third))
+}
+
+/// Closes the lock with all its passes, and gives the book.
+pub(crate) fn closed<R: Wait>(rt: &R, lock: Locked, passes: Vec<Pass>) -> Result<Book, Fail>
+    requires { All (λ p. p.lock ≡ lock) passes.items }
+{
+    match lock.close(rt, passes) {
+        Ok(book) => Ok(book),
+        Err(_) => Err(Fail::new("a pass is missing")),
+    }
 }
 
 /// Gives the moments of a list, in order.

@@ -1,173 +1,190 @@
 //! How workers are used: a lock, a timer and two tasks in threads of their own, a discarder, and the
 //! book at the end.
-ghost use Rattle.std.specs.Prelude.{◌≡◌, [], ◌∷◌, All, IfOk, map};
+ghost use Rattle.std.specs.Prelude.{◌≡◌};
 
-use crate::deeds::discards;
-use crate::desk::{Disk, Listed, open, order, three};
+use crate::books::{ack, enter, open};
+use crate::desk::{Disk, Listed, closed, order, three};
+use ckpt_ids::{Call, FileId};
 use ckpt_locked::{Book, Locked, Pass};
-use ckpt_workers::{Gate, Order, task_worker, timer_worker};
+use ckpt_workers::{Order, Storage, discard_round, task_worker, timer_worker};
 use crossbeam_channel::{Receiver, Sender, unbounded};
-use std::alloc::{AllocError, Global};
+use std::alloc::Global;
 use std::sync::Wait;
 use std::test::Fail;
-use std::thread;
-use std::thread::Threads;
+use std::thread::{Threads, join};
 
-/// What a thread does with its pass.
+/// A timer, and what it tells each task.
 #[derive(Drop)]
-enum Deed {
-    /// Ticks at the moment 1000, and then tells each task what to acknowledge.
-    Trigger(Vec<(Sender<Order>, Order)>),
-    /// Acknowledges what it is told, until the channel is closed.
-    Acknowledge(Receiver<Order>),
-}
-
-/// A pass and what is done with it.
-#[derive(Drop)]
-struct Job {
-    pass: Pass,
-    deed: Deed,
-}
-
-impl Job {
-    fn new(pass: Pass, deed: Deed) -> Job
-        ensures { result.pass ≡ pass }
-    {
-        Job { pass, deed }
-    }
-}
-
-/// A pass after its job, and how many of its calls were accepted.
-#[derive(Drop)]
-struct Done {
-    pass: Pass,
-    accepted: u64,
-}
-
-fn trigger<R: Wait, G: Gate>(
-    rt: &R,
-    gate: &G,
+struct Timer {
     pass: Pass,
     orders: Vec<(Sender<Order>, Order)>,
-) -> Done
-    requires { pass.lock ≡ G.lock gate.now }
-    ensures { result.pass.lock ≡ G.lock gate.now }
-{
-    let (pass, tally) = timer_worker(rt, gate, pass, &mut Listed::new(&[1000]));
+}
+
+/// A task, and the channel by which it is told what to acknowledge.
+#[derive(Drop)]
+struct Task {
+    pass: Pass,
+    orders: Receiver<Order>,
+}
+
+/// Tells each task what to acknowledge. One that has ended is told nothing.
+fn tell<R: Wait>(rt: &R, orders: Vec<(Sender<Order>, Order)>) {
     for (task, order) in orders {
-        // A task that has ended is told nothing.
         let _ = task.send(rt, order);
     }
-    Done {
-        pass,
-        accepted: tally.ticks,
-    }
 }
 
-fn acknowledge<R: Wait, G: Gate>(rt: &R, gate: &G, pass: Pass, orders: Receiver<Order>) -> Done
-    requires { pass.lock ≡ G.lock gate.now }
-    ensures { result.pass.lock ≡ G.lock gate.now }
+/// Triggers a checkpoint at the moment 2000, and tells each task of it.
+fn trigger<R: Wait>(rt: &R, lock: &Locked, timer: Timer) -> (Pass, u64)
+    requires { timer.pass.lock ≡ lock.now }
+    ensures { result.0.lock ≡ lock.now }
 {
-    let (pass, tally) = task_worker(rt, gate, pass, orders);
-    Done {
-        pass,
-        accepted: tally.accepted,
-    }
+    let (pass, tally) = timer_worker(rt, lock, timer.pass, &mut Listed::new(&[2000]));
+    tell(rt, timer.orders);
+    (pass, tally.ticks)
 }
 
-fn work<R: Wait, G: Gate>(rt: &R, gate: &G, job: Job) -> Done
-    requires { job.pass.lock ≡ G.lock gate.now }
-    ensures { result.pass.lock ≡ G.lock gate.now }
+/// Acknowledges what the task is told, until the channel is closed.
+fn acknowledge<R: Wait>(rt: &R, lock: &Locked, task: Task) -> (Pass, u64)
+    requires { task.pass.lock ≡ lock.now }
+    ensures { result.0.lock ≡ lock.now }
 {
-    match job.deed {
-        Deed::Trigger(orders) => trigger(rt, gate, job.pass, orders),
-        Deed::Acknowledge(orders) => acknowledge(rt, gate, job.pass, orders),
-    }
+    let (pass, tally) = task_worker(rt, lock, task.pass, task.orders);
+    (pass, tally.accepted)
 }
 
-/// Does each job in a thread of its own.
-fn at_once<R: Threads + Wait + Sync, G: Gate + Sync>(
+/// Each task in a thread of its own.
+fn two_tasks<R: Threads + Wait + Sync>(
     rt: &R,
-    gate: &G,
-    jobs: Vec<Job>,
-) -> Result<Vec<Done>, AllocError>
-    requires { All (λ j. j.pass.lock ≡ G.lock gate.now) jobs.items }
-    ensures { IfOk result (λ done. All (λ d. d.pass.lock ≡ G.lock gate.now) done.items) }
+    lock: &Locked,
+    left: Task,
+    right: Task,
+) -> ((Pass, u64), (Pass, u64))
+    requires left { left.pass.lock ≡ lock.now }
+    requires right { right.pass.lock ≡ lock.now }
+    ensures left { result.0.0.lock ≡ lock.now }
+    ensures right { result.1.0.lock ≡ lock.now }
 {
-    thread::map_vec(
+    join(
         rt,
-        jobs,
-        &|job: Job| -> Done
-            requires { job.pass.lock ≡ G.lock gate.now }
-            ensures { result.pass.lock ≡ G.lock gate.entry.now }
-        { work(rt, gate, job) },
+        || -> (Pass, u64)
+            requires { left.pass.lock ≡ lock.now }
+            ensures { result.0.lock ≡ lock.entry.now }
+        { acknowledge(rt, lock, left) },
+        || -> (Pass, u64)
+            requires { right.pass.lock ≡ lock.now }
+            ensures { result.0.lock ≡ lock.entry.now }
+        { acknowledge(rt, lock, right) },
     )
 }
 
-/// Over a lock.
-fn over_lock<R: Threads + Wait + Sync>(
+/// The tasks beside the timer, which comes first where no thread can be started.
+fn all_three<R: Threads + Wait + Sync>(
     rt: &R,
     lock: &Locked,
-    jobs: Vec<Job>,
-) -> Result<Vec<Done>, AllocError>
-    requires { All (λ j. j.pass.lock ≡ lock.now) jobs.items }
-    ensures { IfOk result (λ done. All (λ d. d.pass.lock ≡ lock.now) done.items) }
+    timer: Timer,
+    left: Task,
+    right: Task,
+) -> (((Pass, u64), (Pass, u64)), (Pass, u64))
+    requires timer { timer.pass.lock ≡ lock.now }
+    requires left { left.pass.lock ≡ lock.now }
+    requires right { right.pass.lock ≡ lock.now }
+    ensures left { result.0.0.0.lock ≡ lock.now }
+    ensures right { result.0.1.0.lock ≡ lock.now }
+    ensures timer { result.1.0.lock ≡ lock.now }
 {
-    at_once(rt, lock, jobs)
+    join(
+        rt,
+        || -> ((Pass, u64), (Pass, u64))
+            requires { (left.pass.lock ≡ lock.now) × (right.pass.lock ≡ lock.now) }
+            ensures { (result.0.0.lock ≡ lock.entry.now) × (result.1.0.lock ≡ lock.entry.now) }
+        { two_tasks(rt, lock, left, right) },
+        || -> (Pass, u64)
+            requires { timer.pass.lock ≡ lock.now }
+            ensures { result.0.lock ≡ lock.entry.now }
+        { trigger(rt, lock, timer) },
+    )
 }
 
-/// Parts the passes from the numbers of calls that were accepted.
-fn parted(alloc: Global, done: Vec<Done>) -> Result<(Vec<Pass>, Vec<u64>), AllocError>
-    ensures { IfOk result (λ parts. map (λ d. d.pass) done.items ≡ parts.0.items) }
-{
-    let mut passes = Vec::with_capacity(alloc, done.len())?;
-    let mut accepted = Vec::with_capacity(alloc, done.len())?;
-    for each in done {
-        passes.push(each.pass)?;
-        accepted.push(each.accepted)?;
-    }
-    Ok((passes, accepted))
-}
-
-/// Each task is told by a channel what to acknowledge, and works until the channel is closed.
-fn jobs(alloc: Global, timer: Pass, left: Pass, right: Pass) -> Result<Vec<Job>, Fail>
-    ensures { IfOk result (λ jobs. map (λ j. j.pass) jobs.items ≡ timer ∷ left ∷ right ∷ []) }
-{
+/// The two ends of each task's channel. Checkpoint 2 gives the left task file 3, and the right one file 4.
+fn told(
+    alloc: Global,
+) -> Result<
+    (
+        Vec<(Sender<Order>, Order)>,
+        Receiver<Order>,
+        Receiver<Order>,
+    ),
+    Fail,
+> {
     let (to_left, for_left) = unbounded(alloc)?;
     let (to_right, for_right) = unbounded(alloc)?;
-    let mut orders = Vec::with_capacity(alloc, 2)?;
-    orders.push((to_left, order(alloc, 1000, 1, 0, 11)??))?;
-    orders.push((to_right, order(alloc, 1000, 1, 1, 12)??))?;
-    let mut jobs = Vec::with_capacity(alloc, 3)?;
-    jobs.push(Job::new(timer, Deed::Trigger(orders)))?;
-    jobs.push(Job::new(left, Deed::Acknowledge(for_left)))?;
-    jobs.push(Job::new(right, Deed::Acknowledge(for_right)))?;
-    Ok(jobs)
+    let left = order(alloc, 2000, 2, 0, 3)??;
+    let right = order(alloc, 2000, 2, 1, 4)??;
+    let orders = vec![in alloc; (to_left, left), (to_right, right)]?;
+    Ok((orders, for_left, for_right))
 }
 
-/// The lock is closed with all passes, and gives the book.
-fn book_of<R: Wait>(rt: &R, lock: Locked, passes: Vec<Pass>) -> Result<Book, Fail>
-    requires { All (λ p. p.lock ≡ lock) passes.items }
+/// Deletes the files that no checkpoint has any more.
+fn discard<R: Wait, S: Storage>(
+    rt: &R,
+    alloc: Global,
+    lock: &Locked,
+    pass: Pass,
+    storage: &mut S,
+) -> Pass
+    requires { pass.lock ≡ lock.now }
+    ensures { result.lock ≡ lock.now }
 {
-    match lock.close(rt, passes) {
-        Ok(book) => Ok(book),
-        Err(_) => Err(Fail::new("a pass is missing")),
-    }
+    let (pass, _round) = discard_round(rt, alloc, lock, pass, storage, 8);
+    pass
 }
 
-/// The calls of a timer and two tasks, each in a thread of its own, and the book of all passes.
-fn taken<R: Threads + Wait + Sync>(rt: &R, alloc: Global) -> Result<(Book, Vec<u64>), Fail> {
-    let (lock, timer, left, right) = three(rt, open(alloc, 600_000, 0, 2)?)?;
-    let jobs = jobs(alloc, timer, left, right)?;
-    let done = over_lock(rt, &lock, jobs)?;
-    let (passes, accepted) = parted(alloc, done)?;
-    Ok((book_of(rt, lock, passes)?, accepted))
+/// A job of two subtasks whose checkpoint 1 is complete, with the files 1 and 2.
+fn with_checkpoint_one(alloc: Global) -> Result<Book, Fail> {
+    let mut book = open(alloc, 600_000, 0, 2)?;
+    enter(&mut book, Call::Tick { now: 1000 })?;
+    enter(&mut book, ack(alloc, 1000, 1, 0, &[1])?)?;
+    enter(&mut book, ack(alloc, 1000, 1, 1, &[2])?)?;
+    Ok(book)
+}
+
+/// Takes checkpoint 2, and deletes what checkpoint 1 alone had. Gives the book, and how many calls of the
+/// timer and of each task were accepted.
+fn take_checkpoint_two<R: Threads + Wait + Sync, S: Storage>(
+    rt: &R,
+    alloc: Global,
+    storage: &mut S,
+) -> Result<(Book, [u64; 3]), Fail> {
+    // A lock over the book, with a pass for each thread.
+    let (lock, timer, left, right) = three(rt, with_checkpoint_one(alloc)?)?;
+    let (orders, for_left, for_right) = told(alloc)?;
+    let timer = Timer {
+        pass: timer,
+        orders,
+    };
+    let left = Task {
+        pass: left,
+        orders: for_left,
+    };
+    let right = Task {
+        pass: right,
+        orders: for_right,
+    };
+    let (((left, one), (right, other)), (timer, ticks)) = all_three(rt, &lock, timer, left, right);
+    let discarder = discard(rt, alloc, &lock, timer, storage);
+    // All passes close the lock, which gives the book.
+    let passes = vec![in alloc; discarder, left, right]?;
+    Ok((closed(rt, lock, passes)?, [ticks, one, other]))
 }
 
 #[test]
 fn a_checkpoint_is_taken_by_two_tasks(rt: HostRuntime) -> Result<(), Fail> {
-    let (book, accepted) = taken(&rt, rt.alloc())?;
-    assert!(rt; accepted.as_slice() == [1, 1, 1].as_slice());
-    assert_eq!(rt; book.len(), 3);
+    let mut disk = Disk::new(&rt, rt.alloc(), None);
+    let (book, accepted) = take_checkpoint_two(&rt, rt.alloc(), &mut disk)?;
+    assert!(rt; accepted == [1, 1, 1]);
+    assert!(rt; disk.deleted.as_slice() == [FileId(1), FileId(2)].as_slice());
+    // Three calls of checkpoint 1 and three of checkpoint 2, a take, and two reports.
+    assert_eq!(rt; book.len(), 9);
     Ok(())
 }

@@ -1,12 +1,14 @@
 //! A lock, its calls and a round of the discarder where one allocation is refused: what was there stays, and the
 //! same call made again does what it would have done.
 ghost use Rattle.std.specs.Prelude.{◌≡◌, IfOk};
+ghost use Rattle.ckpt_locked.specs.Locks.{newcomers};
 
+use crate::deeds::{rest_of, round_of, told};
 use ckpt_ids::{
     Answer, Call, CheckpointId, Config, FileId, Files, Reply, Shape, SubtaskId, TickEnd,
 };
 use ckpt_locked::{Book, LockFault, Locked, Pass};
-use ckpt_workers::{Storage, StorageFault, discard_round, resume_round};
+use ckpt_workers::{Storage, StorageFault};
 use std::alloc::{AllocError, Global};
 use std::process::Abort;
 use std::sync::Wait;
@@ -62,29 +64,56 @@ fn completed(dropped: u32, released: u64) -> Answer {
     Answer::Done(Reply::AckCompleted { dropped, released })
 }
 
-/// A lock over the book, and its one pass. Where it finds no memory, the book comes back as it was.
-fn lock<R: Wait + Abort>(rt: &R, book: Book) -> Result<(Locked, Pass), Fail>
+/// A lock and its one pass.
+fn with_pass(made: (Locked, Vec<Pass>)) -> Result<(Locked, Pass), Fail>
+    requires { made.1.items ≡ newcomers made.0 1 }
     ensures { IfOk result (λ made. made.1.lock ≡ made.0) }
 {
-    let entries = book.len();
-    let made = match Locked::new(rt, book, 1) {
-        Ok(made) => Ok(made),
-        Err((back, fault)) => {
-            assert_eq!(rt; fault, LockFault::Memory);
-            assert_eq!(rt; back.len(), entries);
-            Locked::new(rt, back, 1)
-        }
-    };
-    let Ok((lock, mut passes)) = made else {
-        return Err(Fail::new("no lock"));
-    };
+    let (lock, mut passes) = made;
     match passes.pop() {
         Some(pass) => Ok((lock, pass)),
         None => Err(Fail::new("no pass")),
     }
 }
 
-/// Makes a call, which is answered so. Where it finds no memory, it comes back with the pass as it was.
+/// A lock over the book, and its one pass. Where it finds no memory, the book comes back as it was.
+fn lock<R: Wait + Abort>(rt: &R, book: Book) -> Result<(Locked, Pass), Fail>
+    ensures { IfOk result (λ made. made.1.lock ≡ made.0) }
+{
+    let entries = book.len();
+    match Locked::new(rt, book, 1) {
+        Ok(made) => with_pass(made),
+        Err((back, fault)) => {
+            assert!(rt; fault == LockFault::Memory && back.len() == entries);
+            match Locked::new(rt, back, 1) {
+                Ok(made) => with_pass(made),
+                Err(_) => Err(Fail::new("no lock")),
+            }
+        }
+    }
+}
+
+/// The answer to a call. Where it finds no memory, it comes back with the pass as it was.
+fn told_again<R: Wait + Abort>(
+    rt: &R,
+    lock: &Locked,
+    pass: Pass,
+    call: Call,
+) -> Result<(Pass, Answer), Fail>
+    requires { pass.lock ≡ lock.now }
+    ensures { IfOk result (λ told. told.0.lock ≡ lock.now) }
+{
+    let calls = pass.calls();
+    match lock.call(rt, pass, call) {
+        Ok(told) => Ok(told),
+        Err((pass, call)) => {
+            assert!(rt; pass.calls() == calls);
+            told(rt, lock, pass, call)
+        }
+    }
+}
+
+/// The call is answered so.
 fn tell<R: Wait + Abort>(
     rt: &R,
     lock: &Locked,
@@ -95,17 +124,7 @@ fn tell<R: Wait + Abort>(
     requires { pass.lock ≡ lock.now }
     ensures { IfOk result (λ pass. pass.lock ≡ lock.now) }
 {
-    let calls = pass.calls();
-    let done = match lock.call(rt, pass, call) {
-        Ok(done) => Ok(done),
-        Err((pass, call)) => {
-            assert_eq!(rt; pass.calls(), calls);
-            lock.call(rt, pass, call)
-        }
-    };
-    let Ok((pass, answer)) = done else {
-        return Err(Fail::new("no answer"));
-    };
+    let (pass, answer) = told_again(rt, lock, pass, call)?;
     assert!(rt; answer == *expected);
     Ok(pass)
 }
@@ -153,24 +172,41 @@ fn refused_memory_in_a_lock(rt: HostRuntime) -> Result<(), Fail> {
     Ok(())
 }
 
+/// A storage with room for eight files.
+fn with_room<R: Abort>(rt: &R, alloc: Global) -> Result<Disk<'_, R>, AllocError> {
+    let mut deleted = listed_again(alloc, &[0; 8])?;
+    deleted.clear();
+    Ok(Disk { rt, deleted })
+}
+
+/// A round of the discarder, which goes on where it found no memory. Gives the number of files taken.
+fn clean<R: Wait + Abort, S: Storage>(
+    rt: &R,
+    alloc: Global,
+    lock: &Locked,
+    pass: Pass,
+    storage: &mut S,
+) -> (Pass, u64)
+    requires { pass.lock ≡ lock.now }
+    ensures { result.0.lock ≡ lock.now }
+{
+    let (pass, round) = round_of(rt, alloc, lock, pass, storage);
+    let taken = round.taken;
+    let (pass, round) = rest_of(rt, lock, pass, storage, round.left, round.gone);
+    assert!(rt; !round.memory);
+    (pass, taken)
+}
+
 #[test]
 fn refused_memory_in_a_round(rt: HostRuntime) -> Result<(), Fail> {
     let alloc = rt.alloc();
     let (lock, pass) = lock(&rt, open(alloc)?)?;
     let pass = release_three_files(&rt, alloc, &lock, pass)?;
-    let mut disk = Disk {
-        rt: &rt,
-        deleted: listed_again(alloc, &[0; 8])?,
-    };
-    disk.deleted.clear();
-    let (pass, round) = discard_round(&rt, alloc, &lock, pass, &mut disk, 8);
-    let taken = round.taken;
-    let (pass, round) = resume_round(&rt, &lock, pass, &mut disk, round.left, round.gone);
-    assert!(rt; !round.memory);
-    // Where the first call found no memory, nothing was taken, and the files wait still.
+    let mut disk = with_room(&rt, alloc)?;
+    let (pass, taken) = clean(&rt, alloc, &lock, pass, &mut disk);
+    // Where the take found no memory, the files wait still.
     if taken == 0 {
-        let (_pass, round) = discard_round(&rt, alloc, &lock, pass, &mut disk, 8);
-        assert!(rt; !round.memory);
+        clean(&rt, alloc, &lock, pass, &mut disk);
     }
     assert!(rt; disk.deleted.as_slice() == [FileId(1), FileId(2), FileId(3)].as_slice());
     Ok(())

@@ -1,45 +1,22 @@
 //! Rounds of the discarder that end early, and go on.
-ghost use Rattle.std.specs.Prelude.{◌≡◌, ◌≢◌, [], IfOk};
+ghost use Rattle.std.specs.Prelude.{◌≡◌, IfOk};
 
-use crate::deeds::{are, discards, has_taken, told};
-use crate::desk::{Disk, open, two};
+use crate::books::{ack, enter, open};
+use crate::deeds::{are, discards, has_taken, is_whole, rest_of, round_of, told};
+use crate::desk::{Disk, two};
 use crate::gates::Forgetful;
-use ckpt_ids::{Call, CheckpointId, FileId, Files, Handed, SubtaskId};
+use ckpt_ids::{Call, FileId, Handed};
 use ckpt_locked::{Book, Locked, Pass};
-use ckpt_workers::{Gate, discard_round, resume_round};
-use std::alloc::{AllocError, Global};
+use ckpt_workers::{Gate, Storage};
+use std::alloc::Global;
 use std::process::Abort;
 use std::sync::Wait;
 use std::test::Fail;
 
-fn ack(alloc: Global, now: u64, id: u64, files: &[u64]) -> Result<Call, AllocError> {
-    let mut fresh = Vec::new(alloc);
-    for file in files {
-        fresh.push(FileId(*file))?;
-    }
-    Ok(Call::Ack {
-        now,
-        id: CheckpointId(id),
-        subtask: SubtaskId {
-            vertex: 0,
-            index: 0,
-        },
-        fresh: Files::of(fresh),
-        reused: Files::of(Vec::new(alloc)),
-    })
-}
-
-fn enter(book: &mut Book, call: Call) -> Result<(), Fail> {
-    match book.apply(0, call) {
-        Ok(_) => Ok(()),
-        Err(_) => Err(Fail::new("no memory")),
-    }
-}
-
 /// Triggers a checkpoint and completes it with new files.
 fn complete(alloc: Global, book: &mut Book, now: u64, id: u64, files: &[u64]) -> Result<(), Fail> {
     enter(book, Call::Tick { now })?;
-    enter(book, ack(alloc, now, id, files)?)
+    enter(book, ack(alloc, now, id, 0, files)?)
 }
 
 /// A job whose second checkpoint has released the files 1, 2 and 3 of the first.
@@ -70,38 +47,36 @@ fn a_file_that_storage_keeps_waits_again(rt: HostRuntime) -> Result<(), Fail> {
 }
 
 /// A round whose second report finds no memory, and what it leaves.
-fn is_cut_short<'a, R: Abort + Wait, G: Gate>(
+fn is_cut_short<R: Abort + Wait, G: Gate, S: Storage>(
     rt: &R,
     alloc: Global,
     gate: &G,
     pass: Pass,
-    disk: &mut Disk<'a, R>,
+    storage: &mut S,
 ) -> (Pass, Handed)
     requires { pass.lock ≡ G.lock gate.now }
-    ensures pass { result.0.lock ≡ G.lock gate.now }
-    ensures left { result.1 ≢ [] }
+    ensures { result.0.lock ≡ G.lock gate.now }
 {
-    let (pass, round) = discard_round(rt, alloc, gate, pass, disk, 8);
-    assert_eq!(rt; [round.taken, round.deleted, round.failed], [3, 1, 0]);
-    assert!(rt; round.gone && round.memory && !round.left.is_empty());
+    let (pass, round) = round_of(rt, alloc, gate, pass, storage);
+    assert!(rt; [round.taken, round.deleted, round.failed] == [3, 1, 0]);
+    assert!(rt; round.gone && round.memory);
     (pass, round.left)
 }
 
 /// The rest of the round, whose first file is gone.
-fn goes_on<'a, R: Abort + Wait, G: Gate>(
+fn goes_on<R: Abort + Wait, G: Gate, S: Storage>(
     rt: &R,
     gate: &G,
     pass: Pass,
-    disk: &mut Disk<'a, R>,
+    storage: &mut S,
     left: Handed,
 ) -> Pass
-    requires pass { pass.lock ≡ G.lock gate.now }
-    requires left { left ≢ [] }
+    requires { pass.lock ≡ G.lock gate.now }
     ensures { result.lock ≡ G.lock gate.now }
 {
-    let (pass, round) = resume_round(rt, gate, pass, disk, left, true);
-    assert_eq!(rt; [round.taken, round.deleted, round.failed], [2, 2, 0]);
-    assert!(rt; round.left.is_empty() && !round.gone && !round.memory);
+    let (pass, round) = rest_of(rt, gate, pass, storage, left, true);
+    assert!(rt; [round.taken, round.deleted, round.failed] == [2, 2, 0]);
+    assert!(rt; is_whole(&round));
     pass
 }
 

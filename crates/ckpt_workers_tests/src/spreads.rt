@@ -1,7 +1,8 @@
 //! Shares of calls in threads of their own.
 ghost use Rattle.std.specs.Prelude.{◌≡◌, [], ◌∷◌, All, IfOk, map};
 
-use crate::desk::{open, two};
+use crate::books::open;
+use crate::desk::{closed, two};
 use crate::gates::Meeting;
 use ckpt_ids::{Answer, Call, FileId, Reply, TickEnd};
 use ckpt_locked::{Book, Entry, Locked, Pass};
@@ -169,10 +170,7 @@ fn book_of<R: Wait>(rt: &R, alloc: Global, lock: Locked, reports: Vec<Report>) -
     requires { All (λ r. r.pass.lock ≡ lock) reports.items }
 {
     let passes = passes_of(alloc, reports)?;
-    match lock.close(rt, passes) {
-        Ok(book) => Ok(book),
-        Err(_) => Err(Fail::new("a pass is missing")),
-    }
+    closed(rt, lock, passes)
 }
 
 fn passes_of(alloc: Global, reports: Vec<Report>) -> Result<Vec<Pass>, AllocError>

@@ -1,6 +1,7 @@
 //! Timers, tasks and discarders over one lock: what they counted.
+use crate::books::open;
 use crate::deeds::{discards, has_taken, tasks, ticks, told};
-use crate::desk::{Disk, open, order, three, two};
+use crate::desk::{Disk, order, three, two};
 use crate::gates::Forgetful;
 use ckpt_ids::{Answer, Call, FileId, Reply, TickEnd};
 use ckpt_workers::BadOrder;
