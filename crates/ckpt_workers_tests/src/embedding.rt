@@ -1,6 +1,6 @@
 //! How workers are used: a lock, a timer and two tasks in threads of their own, a discarder, and the
 //! book at the end.
-ghost use Rattle.std.specs.Prelude.{◌≡◌};
+ghost use Rattle.std.specs.Prelude.{◌≡◌, All, IfOk};
 
 use crate::books::{ack, enter, open};
 use crate::desk::{Disk, Listed, closed, order, three};
@@ -8,7 +8,7 @@ use ckpt_ids::{Call, FileId};
 use ckpt_locked::{Book, Locked, Pass};
 use ckpt_workers::{Order, Storage, discard_round, task_worker, timer_worker};
 use crossbeam_channel::{Receiver, Sender, unbounded};
-use std::alloc::Global;
+use std::alloc::{AllocError, Global};
 use std::sync::Wait;
 use std::test::Fail;
 use std::thread::{Threads, join};
@@ -35,22 +35,22 @@ fn tell<R: Wait>(rt: &R, orders: Vec<(Sender<Order>, Order)>) {
 }
 
 /// Triggers a checkpoint at the moment 2000, and tells each task of it.
-fn trigger<R: Wait>(rt: &R, lock: &Locked, timer: Timer) -> (Pass, u64)
+fn trigger<R: Wait>(rt: &R, lock: &Locked, timer: Timer) -> Pass
     requires { timer.pass.lock ≡ lock.now }
-    ensures { result.0.lock ≡ lock.now }
+    ensures { result.lock ≡ lock.now }
 {
-    let (pass, tally) = timer_worker(rt, lock, timer.pass, &mut Listed::new(&[2000]));
+    let (pass, _tally) = timer_worker(rt, lock, timer.pass, &mut Listed::new(&[2000]));
     tell(rt, timer.orders);
-    (pass, tally.ticks)
+    pass
 }
 
 /// Acknowledges what the task is told, until the channel is closed.
-fn acknowledge<R: Wait>(rt: &R, lock: &Locked, task: Task) -> (Pass, u64)
+fn acknowledge<R: Wait>(rt: &R, lock: &Locked, task: Task) -> Pass
     requires { task.pass.lock ≡ lock.now }
-    ensures { result.0.lock ≡ lock.now }
+    ensures { result.lock ≡ lock.now }
 {
-    let (pass, tally) = task_worker(rt, lock, task.pass, task.orders);
-    (pass, tally.accepted)
+    let (pass, _tally) = task_worker(rt, lock, task.pass, task.orders);
+    pass
 }
 
 /// Each task in a thread of its own.
@@ -59,21 +59,21 @@ fn two_tasks<R: Threads + Wait + Sync>(
     lock: &Locked,
     left: Task,
     right: Task,
-) -> ((Pass, u64), (Pass, u64))
+) -> (Pass, Pass)
     requires left { left.pass.lock ≡ lock.now }
     requires right { right.pass.lock ≡ lock.now }
-    ensures left { result.0.0.lock ≡ lock.now }
-    ensures right { result.1.0.lock ≡ lock.now }
+    ensures left { result.0.lock ≡ lock.now }
+    ensures right { result.1.lock ≡ lock.now }
 {
     join(
         rt,
-        || -> (Pass, u64)
+        || -> Pass
             requires { left.pass.lock ≡ lock.now }
-            ensures { result.0.lock ≡ lock.entry.now }
+            ensures { result.lock ≡ lock.entry.now }
         { acknowledge(rt, lock, left) },
-        || -> (Pass, u64)
+        || -> Pass
             requires { right.pass.lock ≡ lock.now }
-            ensures { result.0.lock ≡ lock.entry.now }
+            ensures { result.lock ≡ lock.entry.now }
         { acknowledge(rt, lock, right) },
     )
 }
@@ -85,44 +85,25 @@ fn all_three<R: Threads + Wait + Sync>(
     timer: Timer,
     left: Task,
     right: Task,
-) -> (((Pass, u64), (Pass, u64)), (Pass, u64))
+) -> ((Pass, Pass), Pass)
     requires timer { timer.pass.lock ≡ lock.now }
     requires left { left.pass.lock ≡ lock.now }
     requires right { right.pass.lock ≡ lock.now }
-    ensures left { result.0.0.0.lock ≡ lock.now }
-    ensures right { result.0.1.0.lock ≡ lock.now }
-    ensures timer { result.1.0.lock ≡ lock.now }
+    ensures left { result.0.0.lock ≡ lock.now }
+    ensures right { result.0.1.lock ≡ lock.now }
+    ensures timer { result.1.lock ≡ lock.now }
 {
     join(
         rt,
-        || -> ((Pass, u64), (Pass, u64))
+        || -> (Pass, Pass)
             requires { (left.pass.lock ≡ lock.now) × (right.pass.lock ≡ lock.now) }
-            ensures { (result.0.0.lock ≡ lock.entry.now) × (result.1.0.lock ≡ lock.entry.now) }
+            ensures { (result.0.lock ≡ lock.entry.now) × (result.1.lock ≡ lock.entry.now) }
         { two_tasks(rt, lock, left, right) },
-        || -> (Pass, u64)
+        || -> Pass
             requires { timer.pass.lock ≡ lock.now }
-            ensures { result.0.lock ≡ lock.entry.now }
+            ensures { result.lock ≡ lock.entry.now }
         { trigger(rt, lock, timer) },
     )
-}
-
-/// The two ends of each task's channel. Checkpoint 2 gives the left task file 3, and the right one file 4.
-fn told(
-    alloc: Global,
-) -> Result<
-    (
-        Vec<(Sender<Order>, Order)>,
-        Receiver<Order>,
-        Receiver<Order>,
-    ),
-    Fail,
-> {
-    let (to_left, for_left) = unbounded(alloc)?;
-    let (to_right, for_right) = unbounded(alloc)?;
-    let left = order(alloc, 2000, 2, 0, 3)??;
-    let right = order(alloc, 2000, 2, 1, 4)??;
-    let orders = vec![in alloc; (to_left, left), (to_right, right)]?;
-    Ok((orders, for_left, for_right))
 }
 
 /// Deletes the files that no checkpoint has any more.
@@ -140,51 +121,87 @@ fn discard<R: Wait, S: Storage>(
     pass
 }
 
-/// A job of two subtasks whose checkpoint 1 is complete, with the files 1 and 2.
+/// Checkpoint 1 is triggered, and completed with the files 1 and 2.
+fn complete(alloc: Global, book: &mut Book) -> Result<(), Fail> {
+    let left = ack(alloc, 1000, 1, 0, &[1])?;
+    let right = ack(alloc, 1000, 1, 1, &[2])?;
+    enter(book, Call::Tick { now: 1000 })?;
+    enter(book, left)?;
+    enter(book, right)
+}
+
+/// A job of two subtasks whose checkpoint 1 is complete.
 fn with_checkpoint_one(alloc: Global) -> Result<Book, Fail> {
     let mut book = open(alloc, 600_000, 0, 2)?;
-    enter(&mut book, Call::Tick { now: 1000 })?;
-    enter(&mut book, ack(alloc, 1000, 1, 0, &[1])?)?;
-    enter(&mut book, ack(alloc, 1000, 1, 1, &[2])?)?;
+    complete(alloc, &mut book)?;
     Ok(book)
 }
 
-/// Takes checkpoint 2, and deletes what checkpoint 1 alone had. Gives the book, and how many calls of the
-/// timer and of each task were accepted.
+/// A task, and the end of its channel by which it is told.
+fn open_task(alloc: Global, pass: Pass) -> Result<(Sender<Order>, Task), AllocError>
+    ensures { IfOk result (λ made. made.1.pass ≡ pass) }
+{
+    let (sender, orders) = unbounded(alloc)?;
+    Ok((sender, Task { pass, orders }))
+}
+
+/// A timer that tells the left task to give checkpoint 2 the file 3, and the right one the file 4.
+fn open_timer(
+    alloc: Global,
+    pass: Pass,
+    to_left: Sender<Order>,
+    to_right: Sender<Order>,
+) -> Result<Timer, Fail>
+    ensures { IfOk result (λ timer. timer.pass ≡ pass) }
+{
+    let left = order(alloc, 2000, 2, 0, 3)??;
+    let right = order(alloc, 2000, 2, 1, 4)??;
+    let orders = vec![in alloc; (to_left, left), (to_right, right)]?;
+    Ok(Timer { pass, orders })
+}
+
+/// Takes checkpoint 2, deletes what checkpoint 1 alone had, and gives all passes back.
 fn take_checkpoint_two<R: Threads + Wait + Sync, S: Storage>(
     rt: &R,
     alloc: Global,
+    lock: &Locked,
+    passes: (Pass, Pass, Pass),
     storage: &mut S,
-) -> Result<(Book, [u64; 3]), Fail> {
-    // A lock over the book, with a pass for each thread.
-    let (lock, timer, left, right) = three(rt, with_checkpoint_one(alloc)?)?;
-    let (orders, for_left, for_right) = told(alloc)?;
-    let timer = Timer {
-        pass: timer,
-        orders,
-    };
-    let left = Task {
-        pass: left,
-        orders: for_left,
-    };
-    let right = Task {
-        pass: right,
-        orders: for_right,
-    };
-    let (((left, one), (right, other)), (timer, ticks)) = all_three(rt, &lock, timer, left, right);
-    let discarder = discard(rt, alloc, &lock, timer, storage);
-    // All passes close the lock, which gives the book.
+) -> Result<Vec<Pass>, Fail>
+    requires first { passes.0.lock ≡ lock.now }
+    requires second { passes.1.lock ≡ lock.now }
+    requires third { passes.2.lock ≡ lock.now }
+    ensures { IfOk result (λ passes. All (λ p. p.lock ≡ lock.now) passes.items) }
+{
+    let (first, second, third) = passes;
+    let (to_left, left) = open_task(alloc, second)?;
+    let (to_right, right) = open_task(alloc, third)?;
+    let timer = open_timer(alloc, first, to_left, to_right)?;
+    let ((left, right), timer) = all_three(rt, lock, timer, left, right);
+    let discarder = discard(rt, alloc, lock, timer, storage);
     let passes = vec![in alloc; discarder, left, right]?;
-    Ok((closed(rt, lock, passes)?, [ticks, one, other]))
+    Ok(passes)
+}
+
+/// A lock over a book has a pass for each thread, and gives the book back for all of them.
+fn under_a_lock<R: Threads + Wait + Sync, S: Storage>(
+    rt: &R,
+    alloc: Global,
+    book: Book,
+    storage: &mut S,
+) -> Result<Book, Fail> {
+    let (lock, first, second, third) = three(rt, book)?;
+    let passes = take_checkpoint_two(rt, alloc, &lock, (first, second, third), storage)?;
+    closed(rt, lock, passes)
 }
 
 #[test]
 fn a_checkpoint_is_taken_by_two_tasks(rt: HostRuntime) -> Result<(), Fail> {
-    let mut disk = Disk::new(&rt, rt.alloc(), None);
-    let (book, accepted) = take_checkpoint_two(&rt, rt.alloc(), &mut disk)?;
-    assert!(rt; accepted == [1, 1, 1]);
+    let alloc = rt.alloc();
+    let mut disk = Disk::new(&rt, alloc, None);
+    let book = under_a_lock(&rt, alloc, with_checkpoint_one(alloc)?, &mut disk)?;
     assert!(rt; disk.deleted.as_slice() == [FileId(1), FileId(2)].as_slice());
     // Three calls of checkpoint 1 and three of checkpoint 2, a take, and two reports.
-    assert_eq!(rt; book.len(), 9);
+    assert!(rt; book.len() == 9);
     Ok(())
 }

@@ -53,15 +53,25 @@ fn ack(alloc: Global, now: u64, id: u64, files: &[u64]) -> Result<Call, AllocErr
     })
 }
 
-fn triggered(id: u64) -> Answer {
-    Answer::Done(Reply::Ticked {
-        expired: 0,
-        end: TickEnd::Triggered(CheckpointId(id)),
-    })
+/// Whether the answer is that this checkpoint was triggered, and none expired.
+fn has_triggered(answer: &Answer, id: u64) -> bool {
+    match answer {
+        Answer::Done(
+            Reply::Ticked {
+                expired: 0,
+                end: TickEnd::Triggered(triggered),
+            },
+        ) => triggered.0 == id,
+        _ => false,
+    }
 }
 
-fn completed(dropped: u32, released: u64) -> Answer {
-    Answer::Done(Reply::AckCompleted { dropped, released })
+/// How many records a completed checkpoint dropped, and how many files it released.
+fn completed(answer: &Answer) -> Option<(u32, u64)> {
+    match answer {
+        Answer::Done(Reply::AckCompleted { dropped, released }) => Some((*dropped, *released)),
+        _ => None,
+    }
 }
 
 /// A lock and its one pass.
@@ -113,24 +123,41 @@ fn told_again<R: Wait + Abort>(
     }
 }
 
-/// The call is answered so.
-fn tell<R: Wait + Abort>(
+/// A tick triggers this checkpoint.
+fn trigger<R: Wait + Abort>(
     rt: &R,
     lock: &Locked,
     pass: Pass,
-    call: Call,
-    expected: &Answer,
+    now: u64,
+    id: u64,
 ) -> Result<Pass, Fail>
     requires { pass.lock ≡ lock.now }
     ensures { IfOk result (λ pass. pass.lock ≡ lock.now) }
 {
-    let (pass, answer) = told_again(rt, lock, pass, call)?;
-    assert!(rt; answer == *expected);
+    let (pass, answer) = told_again(rt, lock, pass, Call::Tick { now })?;
+    assert!(rt; has_triggered(&answer, id));
     Ok(pass)
 }
 
-/// A checkpoint is triggered and completed, and a second one, which releases the files 1, 2 and 3 of the first.
-fn release_three_files<R: Wait + Abort>(
+/// An acknowledgement completes its checkpoint, drops so many records and releases so many files.
+fn complete<R: Wait + Abort>(
+    rt: &R,
+    lock: &Locked,
+    pass: Pass,
+    ack: Call,
+    dropped: u32,
+    released: u64,
+) -> Result<Pass, Fail>
+    requires { pass.lock ≡ lock.now }
+    ensures { IfOk result (λ pass. pass.lock ≡ lock.now) }
+{
+    let (pass, answer) = told_again(rt, lock, pass, ack)?;
+    assert!(rt; completed(&answer) == Some((dropped, released)));
+    Ok(pass)
+}
+
+/// A checkpoint with the files 1, 2 and 3.
+fn first_checkpoint<R: Wait + Abort>(
     rt: &R,
     alloc: Global,
     lock: &Locked,
@@ -139,12 +166,24 @@ fn release_three_files<R: Wait + Abort>(
     requires { pass.lock ≡ lock.now }
     ensures { IfOk result (λ pass. pass.lock ≡ lock.now) }
 {
-    let pass = tell(rt, lock, pass, Call::Tick { now: 1000 }, &triggered(1))?;
-    let first = ack(alloc, 1000, 1, &[1, 2, 3])?;
-    let pass = tell(rt, lock, pass, first, &completed(0, 0))?;
-    let pass = tell(rt, lock, pass, Call::Tick { now: 2000 }, &triggered(2))?;
-    let second = ack(alloc, 2000, 2, &[4])?;
-    tell(rt, lock, pass, second, &completed(1, 3))
+    let pass = trigger(rt, lock, pass, 1000, 1)?;
+    let ack = ack(alloc, 1000, 1, &[1, 2, 3])?;
+    complete(rt, lock, pass, ack, 0, 0)
+}
+
+/// A second checkpoint, which releases the files of the first.
+fn second_checkpoint<R: Wait + Abort>(
+    rt: &R,
+    alloc: Global,
+    lock: &Locked,
+    pass: Pass,
+) -> Result<Pass, Fail>
+    requires { pass.lock ≡ lock.now }
+    ensures { IfOk result (λ pass. pass.lock ≡ lock.now) }
+{
+    let pass = trigger(rt, lock, pass, 2000, 2)?;
+    let ack = ack(alloc, 2000, 2, &[4])?;
+    complete(rt, lock, pass, ack, 1, 3)
 }
 
 /// Deletes files by listing them, for which it has room.
@@ -167,7 +206,8 @@ impl<'a, R: Abort> Storage for Disk<'a, R> {
 fn refused_memory_in_a_lock(rt: HostRuntime) -> Result<(), Fail> {
     let alloc = rt.alloc();
     let (lock, pass) = lock(&rt, open(alloc)?)?;
-    let pass = release_three_files(&rt, alloc, &lock, pass)?;
+    let pass = first_checkpoint(&rt, alloc, &lock, pass)?;
+    let pass = second_checkpoint(&rt, alloc, &lock, pass)?;
     assert_eq!(rt; pass.calls(), 4);
     Ok(())
 }
@@ -201,7 +241,8 @@ fn clean<R: Wait + Abort, S: Storage>(
 fn refused_memory_in_a_round(rt: HostRuntime) -> Result<(), Fail> {
     let alloc = rt.alloc();
     let (lock, pass) = lock(&rt, open(alloc)?)?;
-    let pass = release_three_files(&rt, alloc, &lock, pass)?;
+    let pass = first_checkpoint(&rt, alloc, &lock, pass)?;
+    let pass = second_checkpoint(&rt, alloc, &lock, pass)?;
     let mut disk = with_room(&rt, alloc)?;
     let (pass, taken) = clean(&rt, alloc, &lock, pass, &mut disk);
     // Where the take found no memory, the files wait still.

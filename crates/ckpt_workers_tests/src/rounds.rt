@@ -15,14 +15,21 @@ use std::test::Fail;
 
 /// Triggers a checkpoint and completes it with new files.
 fn complete(alloc: Global, book: &mut Book, now: u64, id: u64, files: &[u64]) -> Result<(), Fail> {
+    let call = ack(alloc, now, id, 0, files)?;
     enter(book, Call::Tick { now })?;
-    enter(book, ack(alloc, now, id, 0, files)?)
+    enter(book, call)
 }
 
-/// A job whose second checkpoint has released the files 1, 2 and 3 of the first.
-fn with_three_files(alloc: Global) -> Result<Book, Fail> {
+/// A job whose first checkpoint has the files 1, 2 and 3.
+fn with_one_checkpoint(alloc: Global) -> Result<Book, Fail> {
     let mut book = open(alloc, 600_000, 0, 1)?;
     complete(alloc, &mut book, 1000, 1, &[1, 2, 3])?;
+    Ok(book)
+}
+
+/// The same job after the second checkpoint, which has released those files.
+fn with_three_files(alloc: Global) -> Result<Book, Fail> {
+    let mut book = with_one_checkpoint(alloc)?;
     complete(alloc, &mut book, 2000, 2, &[4])?;
     Ok(book)
 }

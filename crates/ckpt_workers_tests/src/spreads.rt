@@ -165,6 +165,11 @@ fn turns_of(book: &Book, seat: u32) -> Option<u64> {
     Some(made)
 }
 
+/// Whether the book has the thousand calls of each of the two seats, and no others.
+fn has_both(book: &Book) -> bool {
+    book.len() == 2000 && turns_of(book, 0) == Some(1000) && turns_of(book, 1) == Some(1000)
+}
+
 /// The book of a lock whose passes come back with the reports.
 fn book_of<R: Wait>(rt: &R, alloc: Global, lock: Locked, reports: Vec<Report>) -> Result<Book, Fail>
     requires { All (λ r. r.pass.lock ≡ lock) reports.items }
@@ -192,7 +197,6 @@ fn two_threads_make_a_thousand_calls_each(rt: HostRuntime) -> Result<(), Fail> {
     let reports = over_lock(&rt, alloc, &lock, first, second)?;
     assert!(rt; reports.iter().all(|report| report.pass.calls() == 1000));
     let book = book_of(&rt, alloc, lock, reports)?;
-    assert!(rt; book.len() == 2000);
-    assert!(rt; turns_of(&book, 0) == Some(1000) && turns_of(&book, 1) == Some(1000));
+    assert!(rt; has_both(&book));
     Ok(())
 }

@@ -20,7 +20,8 @@ fn pending(alloc: Global) -> Result<Book, Fail> {
 fn acks(alloc: Global) -> Result<Vec<Call>, AllocError> {
     let mut calls = Vec::with_capacity(alloc, 3)?;
     for index in 0..3 {
-        calls.push(ack(alloc, 1000, 1, index, &[50 + u64::from(index)])?)?;
+        let call = ack(alloc, 1000, 1, index, &[50 + u64::from(index)])?;
+        calls.push(call)?;
     }
     Ok(calls)
 }
@@ -39,7 +40,7 @@ fn subtasks_of(alloc: Global, book: &Book, seat: u32) -> Result<Vec<u16>, AllocE
     Ok(subtasks)
 }
 
-/// Whether these are the subtasks.
+/// Whether the seat has acknowledged these subtasks, in this order.
 fn has_acknowledged(
     alloc: Global,
     book: &Book,
@@ -66,7 +67,22 @@ fn made_by(alloc: Global, team: &mut impl Team, threads: u32) -> Result<Made, Fa
     Ok(team.make(book, calls, threads)?)
 }
 
-/// The team completes the checkpoint, and the calls of the first two seats are of these subtasks.
+/// The checkpoint is completed, and the calls of the first two seats are of these subtasks.
+fn is_complete(
+    rt: &impl Abort,
+    alloc: Global,
+    made: &Made,
+    first: &[u16],
+    second: &[u16],
+) -> Result<(), AllocError> {
+    assert!(rt; has_completed(made));
+    let are_first = has_acknowledged(alloc, &made.book, 0, first)?;
+    let are_second = has_acknowledged(alloc, &made.book, 1, second)?;
+    assert!(rt; are_first && are_second);
+    Ok(())
+}
+
+/// So many threads of the team complete the checkpoint, each of the first two by these calls.
 fn completes(
     rt: &impl Abort,
     alloc: Global,
@@ -78,10 +94,7 @@ fn completes(
     requires { (0 < threads) × (threads ≤ 64) }
 {
     let made = made_by(alloc, team, threads)?;
-    assert!(rt; has_completed(&made));
-    assert!(rt; has_acknowledged(alloc, &made.book, 0, first)?);
-    assert!(rt; has_acknowledged(alloc, &made.book, 1, second)?);
-    Ok(())
+    Ok(is_complete(rt, alloc, &made, first, second)?)
 }
 
 #[test]
