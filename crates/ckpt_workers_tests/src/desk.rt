@@ -1,7 +1,7 @@
-//! A job under a lock, moments, orders and a storage, for the tests.
-ghost use Rattle.std.specs.Prelude.{◌≡◌, ◌-◌, IfOk, length, take};
+//! A lock and its passes, moments, orders and a storage, for the tests.
+ghost use Rattle.std.specs.Prelude.{◌≡◌, ◌-◌, All, IfOk, length, take};
 
-use ckpt_ids::{CheckpointId, Config, FileId, Files, Shape, SubtaskId};
+use ckpt_ids::{CheckpointId, FileId, Files, SubtaskId};
 use ckpt_locked::{Book, Locked, Pass};
 use ckpt_workers::{BadOrder, Moments, Order, Storage, StorageFault};
 use crossbeam_channel::{Receiver, unbounded};
@@ -9,18 +9,6 @@ use std::alloc::{AllocError, Global};
 use std::process::Abort;
 use std::sync::Wait;
 use std::test::Fail;
-
-/// A job with a checkpoint each second, of which one is kept, opened at the moment 0.
-pub(crate) fn open(
-    alloc: Global,
-    timeout: u64,
-    tolerable: u64,
-    parallelism: u64,
-) -> Result<Book, Fail> {
-    let config = Config::new(1000, 0, 1, timeout, tolerable, 1, false)?;
-    let shape = Shape::new(alloc, &[parallelism])?;
-    Ok(Book::new(alloc, config, shape, 0, 1)?)
-}
 
 /// A lock over the book with two passes.
 pub(crate) fn two<R: Wait>(rt: &R, book: Book) -> Result<(Locked, Pass, Pass), Fail>
@@ -48,23 +36,33 @@ pub(crate) fn three<R: Wait>(rt: &R, book: Book) -> Result<(Locked, Pass, Pass, 
     Ok((lock, first, second, third))
 }
 
+/// Closes the lock with all its passes, and gives the book.
+pub(crate) fn closed<R: Wait>(rt: &R, lock: Locked, passes: Vec<Pass>) -> Result<Book, Fail>
+    requires { All (λ p. p.lock ≡ lock) passes.items }
+{
+    match lock.close(rt, passes) {
+        Ok(book) => Ok(book),
+        Err(_) => Err(Fail::new("a pass is missing")),
+    }
+}
+
 /// Gives the moments of a list, in order.
 #[derive(Drop)]
-pub(crate) struct Listed {
-    moments: Vec<u64>,
+pub(crate) struct Listed<'a> {
+    moments: &'a [u64],
     next: usize,
 }
 
-impl Listed {
-    pub(crate) fn new(moments: Vec<u64>) -> Listed {
+impl<'a> Listed<'a> {
+    pub(crate) fn new(moments: &'a [u64]) -> Listed<'a> {
         Listed { moments, next: 0 }
     }
 }
 
-impl Moments for Listed {
-    ghost given = { λ l. take l.next l.moments.items };
+impl<'a> Moments for Listed<'a> {
+    ghost given = { λ l. take l.next l.moments.now };
 
-    ghost left = { λ l. length l.moments.items - l.next };
+    ghost left = { λ l. length l.moments.now - l.next };
 
     fn next(&mut self) -> Option<u64> {
         if self.next >= self.moments.len() {

@@ -12,8 +12,20 @@ use std::thread::yield_now;
 #[derive(Drop)]
 pub(crate) struct Forgetful {
     pub(crate) locked: Locked,
-    pub(crate) calls: AtomicU64,
-    pub(crate) forgets: u64,
+    calls: AtomicU64,
+    forgets: u64,
+}
+
+impl Forgetful {
+    pub(crate) fn new(locked: Locked, forgets: u64) -> Forgetful
+        ensures { result.locked ≡ locked }
+    {
+        Forgetful {
+            locked,
+            calls: AtomicU64::new(0),
+            forgets,
+        }
+    }
 }
 
 impl Gate for Forgetful {

@@ -5,9 +5,17 @@
 #![tactic(auto)]
 
 #[cfg(test)]
+mod books;
+#[cfg(test)]
+mod deeds;
+#[cfg(test)]
 mod desk;
 #[cfg(test)]
+mod embedding;
+#[cfg(test)]
 mod gates;
+#[cfg(test)]
+mod refused_memory;
 #[cfg(test)]
 mod rounds;
 #[cfg(test)]

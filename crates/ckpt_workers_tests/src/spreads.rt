@@ -1,7 +1,8 @@
 //! Shares of calls in threads of their own.
 ghost use Rattle.std.specs.Prelude.{◌≡◌, [], ◌∷◌, All, IfOk, map};
 
-use crate::desk::{open, two};
+use crate::books::open;
+use crate::desk::{closed, two};
 use crate::gates::Meeting;
 use ckpt_ids::{Answer, Call, FileId, Reply, TickEnd};
 use ckpt_locked::{Book, Entry, Locked, Pass};
@@ -164,15 +165,17 @@ fn turns_of(book: &Book, seat: u32) -> Option<u64> {
     Some(made)
 }
 
+/// Whether the book has the thousand calls of each of the two seats, and no others.
+fn has_both(book: &Book) -> bool {
+    book.len() == 2000 && turns_of(book, 0) == Some(1000) && turns_of(book, 1) == Some(1000)
+}
+
 /// The book of a lock whose passes come back with the reports.
 fn book_of<R: Wait>(rt: &R, alloc: Global, lock: Locked, reports: Vec<Report>) -> Result<Book, Fail>
     requires { All (λ r. r.pass.lock ≡ lock) reports.items }
 {
     let passes = passes_of(alloc, reports)?;
-    match lock.close(rt, passes) {
-        Ok(book) => Ok(book),
-        Err(_) => Err(Fail::new("a pass is missing")),
-    }
+    closed(rt, lock, passes)
 }
 
 fn passes_of(alloc: Global, reports: Vec<Report>) -> Result<Vec<Pass>, AllocError>
@@ -194,7 +197,6 @@ fn two_threads_make_a_thousand_calls_each(rt: HostRuntime) -> Result<(), Fail> {
     let reports = over_lock(&rt, alloc, &lock, first, second)?;
     assert!(rt; reports.iter().all(|report| report.pass.calls() == 1000));
     let book = book_of(&rt, alloc, lock, reports)?;
-    assert!(rt; book.len() == 2000);
-    assert!(rt; turns_of(&book, 0) == Some(1000) && turns_of(&book, 1) == Some(1000));
+    assert!(rt; has_both(&book));
     Ok(())
 }

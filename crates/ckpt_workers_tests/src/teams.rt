@@ -1,10 +1,10 @@
 //! Teams that make the same list of calls.
 ghost use Rattle.std.specs.Prelude.{◌<◌, ◌≤◌};
 
-use crate::desk::open;
-use ckpt_ids::{Call, CheckpointId, FileId, Files, SubtaskId};
+use crate::books::{ack, enter, open};
+use ckpt_ids::Call;
 use ckpt_locked::Book;
-use ckpt_workers::{InOrder, Team, Threads};
+use ckpt_workers::{InOrder, Made, Team, Threads};
 use std::alloc::{AllocError, Global};
 use std::process::Abort;
 use std::test::Fail;
@@ -12,29 +12,16 @@ use std::test::Fail;
 /// A job of three subtasks whose first checkpoint is pending.
 fn pending(alloc: Global) -> Result<Book, Fail> {
     let mut book = open(alloc, 600_000, 0, 3)?;
-    match book.apply(64, Call::Tick { now: 1000 }) {
-        Ok(_) => Ok(book),
-        Err(_) => Err(Fail::new("no memory")),
-    }
+    enter(&mut book, Call::Tick { now: 1000 })?;
+    Ok(book)
 }
 
-/// The acknowledgement of a subtask, with one new file: 50, 51, .. in the order of subtasks.
-fn ack(alloc: Global, index: u16) -> Result<Call, AllocError> {
-    let fresh = vec![in alloc; FileId(50 + u64::from(index))]?;
-    Ok(Call::Ack {
-        now: 1000,
-        id: CheckpointId(1),
-        subtask: SubtaskId { vertex: 0, index },
-        fresh: Files::of(fresh),
-        reused: Files::of(Vec::new(alloc)),
-    })
-}
-
-/// The acknowledgements of the three subtasks.
+/// The acknowledgements of the three subtasks, each with one new file.
 fn acks(alloc: Global) -> Result<Vec<Call>, AllocError> {
     let mut calls = Vec::with_capacity(alloc, 3)?;
     for index in 0..3 {
-        calls.push(ack(alloc, index)?)?;
+        let call = ack(alloc, 1000, 1, index, &[50 + u64::from(index)])?;
+        calls.push(call)?;
     }
     Ok(calls)
 }
@@ -53,7 +40,49 @@ fn subtasks_of(alloc: Global, book: &Book, seat: u32) -> Result<Vec<u16>, AllocE
     Ok(subtasks)
 }
 
-/// The team completes the checkpoint, and the calls of the first two seats are of these subtasks.
+/// Whether the seat has acknowledged these subtasks, in this order.
+fn has_acknowledged(
+    alloc: Global,
+    book: &Book,
+    seat: u32,
+    subtasks: &[u16],
+) -> Result<bool, AllocError> {
+    Ok(subtasks_of(alloc, book, seat)?.as_slice() == subtasks)
+}
+
+/// Whether all three were accepted, and the last of them completed the checkpoint.
+fn has_completed(made: &Made) -> bool {
+    made.accepted == 3
+        && made.refused == 0
+        && made.book.len() == 4
+        && matches!(made.completed, Some((0, 0)))
+}
+
+/// What the team makes of the acknowledgements.
+fn made_by(alloc: Global, team: &mut impl Team, threads: u32) -> Result<Made, Fail>
+    requires { (0 < threads) × (threads ≤ 64) }
+{
+    let book = pending(alloc)?;
+    let calls = acks(alloc)?;
+    Ok(team.make(book, calls, threads)?)
+}
+
+/// The checkpoint is completed, and the calls of the first two seats are of these subtasks.
+fn is_complete(
+    rt: &impl Abort,
+    alloc: Global,
+    made: &Made,
+    first: &[u16],
+    second: &[u16],
+) -> Result<(), AllocError> {
+    assert!(rt; has_completed(made));
+    let are_first = has_acknowledged(alloc, &made.book, 0, first)?;
+    let are_second = has_acknowledged(alloc, &made.book, 1, second)?;
+    assert!(rt; are_first && are_second);
+    Ok(())
+}
+
+/// So many threads of the team complete the checkpoint, each of the first two by these calls.
 fn completes(
     rt: &impl Abort,
     alloc: Global,
@@ -64,12 +93,8 @@ fn completes(
 ) -> Result<(), Fail>
     requires { (0 < threads) × (threads ≤ 64) }
 {
-    let made = team.make(pending(alloc)?, acks(alloc)?, threads)?;
-    assert!(rt; made.accepted == 3 && made.refused == 0 && made.book.len() == 4);
-    assert!(rt; made.completed == Some((0, 0)));
-    assert!(rt; subtasks_of(alloc, &made.book, 0)?.as_slice() == first);
-    assert!(rt; subtasks_of(alloc, &made.book, 1)?.as_slice() == second);
-    Ok(())
+    let made = made_by(alloc, team, threads)?;
+    Ok(is_complete(rt, alloc, &made, first, second)?)
 }
 
 #[test]

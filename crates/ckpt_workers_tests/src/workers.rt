@@ -1,41 +1,22 @@
 //! Timers, tasks and discarders over one lock: what they counted.
-use crate::desk::{Disk, Listed, open, order, orders, three, two};
+ghost use Rattle.std.specs.Prelude.{◌≡◌, IfOk};
+
+use crate::books::open;
+use crate::deeds::{discards, has_taken, tasks, ticks, told};
+use crate::desk::{Disk, order, three, two};
 use crate::gates::Forgetful;
-use ckpt_ids::{Answer, Call, FileId, Handed, Reply, TickEnd};
-use ckpt_workers::{BadOrder, Tally, TimerTally, discard_round, task_worker, timer_worker};
+use ckpt_ids::{Answer, Call, FileId, Reply, TickEnd};
+use ckpt_locked::Pass;
+use ckpt_workers::{BadOrder, Gate};
 use std::alloc::Global;
-use std::sync::atomic::AtomicU64;
+use std::process::Abort;
+use std::sync::Wait;
 use std::test::Fail;
-
-fn at(alloc: Global, moments: &[u64]) -> Result<Listed, Fail> {
-    let mut list = Vec::new(alloc);
-    for now in moments {
-        list.push(*now)?;
-    }
-    Ok(Listed::new(list))
-}
-
-fn ticked(ticks: u64) -> TimerTally {
-    TimerTally {
-        ticks,
-        refused: 0,
-        unanswered: 0,
-    }
-}
-
-fn acknowledged(accepted: u64, late: u64, unanswered: u64) -> Tally {
-    Tally {
-        accepted,
-        late,
-        refused: 0,
-        unanswered,
-    }
-}
 
 #[test]
 fn an_order_is_refused_for_its_moment(rt: HostRuntime) -> Result<(), Fail> {
     let late = order(rt.alloc(), 1 << 62, 1, 0, 11)?;
-    assert_eq!(rt; late.err(), Some(BadOrder));
+    assert!(rt; matches!(late, Err(BadOrder)));
     Ok(())
 }
 
@@ -44,60 +25,77 @@ fn an_order_is_refused_for_its_moment(rt: HostRuntime) -> Result<(), Fail> {
 #[test]
 fn three_workers_share_a_lock(rt: HostRuntime) -> Result<(), Fail> {
     let alloc = rt.alloc();
-    let book = open(alloc, 600_000, 0, 1)?;
-    let (lock, timer, task, discarder) = three(&rt, book)?;
-    let (timer, tally) = timer_worker(&rt, &lock, timer, &mut at(alloc, &[999, 1000])?);
-    assert_eq!(rt; tally, ticked(2));
+    let (lock, timer, task, discarder) = three(&rt, open(alloc, 600_000, 0, 1)?)?;
+    let timer = ticks(&rt, &lock, timer, &[999, 1000], [2, 0, 0]);
     let rows = [(1000, 1, 0, 11), (1001, 1, 0, 11)];
-    let (task, tally) = task_worker(&rt, &lock, task, orders(&rt, alloc, &rows)?);
-    assert_eq!(rt; tally, acknowledged(1, 1, 0));
-    let (_timer, tally) = timer_worker(&rt, &lock, timer, &mut at(alloc, &[2000])?);
-    assert_eq!(rt; tally, ticked(1));
-    let (_task, tally) = task_worker(&rt, &lock, task, orders(&rt, alloc, &[(2000, 2, 0, 12)])?);
-    assert_eq!(rt; tally, acknowledged(1, 0, 0));
+    let task = tasks(&rt, alloc, &lock, task, &rows, [1, 1, 0, 0])?;
+    ticks(&rt, &lock, timer, &[2000], [1, 0, 0]);
+    tasks(&rt, alloc, &lock, task, &[(2000, 2, 0, 12)], [1, 0, 0, 0])?;
 
     let mut disk = Disk::new(&rt, alloc, Some(0));
-    let (_discarder, round) = discard_round(&rt, alloc, &lock, discarder, &mut disk, 8);
-    assert_eq!(rt; (round.taken, round.deleted, round.failed), (1, 0, 1));
-    assert!(rt; round.left.is_empty() && !round.gone && !round.memory);
+    let discarder = discards(&rt, alloc, &lock, discarder, &mut disk, [1, 0, 1]);
+    let discarder = discards(&rt, alloc, &lock, discarder, &mut disk, [1, 1, 0]);
+    assert!(rt; disk.deleted.as_slice() == [FileId(11)].as_slice());
+    discards(&rt, alloc, &lock, discarder, &mut disk, [0, 0, 0]);
     Ok(())
+}
+
+fn has_expired(answer: &Answer) -> bool {
+    matches!(
+        answer,
+        Answer::Done(Reply::Ticked {
+            expired: 1,
+            end: TickEnd::HeldInterval
+        })
+    )
+}
+
+/// A checkpoint expires after one of its two subtasks has acknowledged it.
+fn expires<R: Abort + Wait, G: Gate>(
+    rt: &R,
+    alloc: Global,
+    gate: &G,
+    task: Pass,
+    other: Pass,
+) -> Result<(Pass, Pass), Fail>
+    requires task { task.lock ≡ G.lock gate.now }
+    requires other { other.lock ≡ G.lock gate.now }
+    ensures { IfOk result (λ passes. (passes.0.lock ≡ G.lock gate.now) × (passes.1.lock ≡ G.lock gate.now)) }
+{
+    let other = ticks(rt, gate, other, &[1000], [1, 0, 0]);
+    let task = tasks(rt, alloc, gate, task, &[(1000, 1, 0, 11)], [1, 0, 0, 0])?;
+    let (other, answer) = told(rt, gate, other, Call::Tick { now: 1500 })?;
+    assert!(rt; has_expired(&answer));
+    Ok((task, other))
+}
+
+/// Its later acknowledgements are late, and their files are taken with the first.
+fn are_late<R: Abort + Wait, G: Gate>(
+    rt: &R,
+    alloc: Global,
+    gate: &G,
+    task: Pass,
+    other: Pass,
+) -> Result<Pass, Fail>
+    requires task { task.lock ≡ G.lock gate.now }
+    requires other { other.lock ≡ G.lock gate.now }
+    ensures { IfOk result (λ task. task.lock ≡ G.lock gate.now) }
+{
+    let rows = [(1500, 1, 0, 11), (1501, 1, 1, 12)];
+    let task = tasks(rt, alloc, gate, task, &rows, [0, 2, 0, 0])?;
+    let (_other, answer) = told(rt, gate, other, Call::Take { most: 9 })?;
+    assert!(rt; has_taken(&answer, &[FileId(11), FileId(12)]));
+    Ok(task)
 }
 
 /// Acknowledgements of a checkpoint that expired leave their files to be deleted.
 #[test]
 fn lost_orders_are_late(rt: HostRuntime) -> Result<(), Fail> {
     let alloc = rt.alloc();
-    let book = open(alloc, 500, 1, 2)?;
-    let (lock, task, other) = two(&rt, book)?;
-    let (other, tally) = timer_worker(&rt, &lock, other, &mut at(alloc, &[1000])?);
-    assert_eq!(rt; tally, ticked(1));
-    let (task, tally) = task_worker(&rt, &lock, task, orders(&rt, alloc, &[(1000, 1, 0, 11)])?);
-    assert_eq!(rt; tally, acknowledged(1, 0, 0));
-    let Ok((other, answer)) = lock.call(&rt, other, Call::Tick { now: 1500 }) else {
-        return Err(Fail::new("not so"));
-    };
-    let expired = Answer::Done(Reply::Ticked {
-        expired: 1,
-        end: TickEnd::HeldInterval,
-    });
-    assert!(rt; answer == expired);
-    let rows = [(1500, 1, 0, 11), (1501, 1, 1, 12)];
-    let (task, tally) = task_worker(&rt, &lock, task, orders(&rt, alloc, &rows)?);
-    assert_eq!(rt; tally, acknowledged(0, 2, 0));
-    let Ok((_other, answer)) = lock.call(&rt, other, Call::Take { most: 9 }) else {
-        return Err(Fail::new("not so"));
-    };
-    let mut files = Vec::new(alloc);
-    files.push(FileId(11))?;
-    files.push(FileId(12))?;
-    assert!(rt; answer == Answer::Done(Reply::Taken(Handed::of(files))));
-
-    let gate = Forgetful {
-        locked: lock,
-        calls: AtomicU64::new(0),
-        forgets: 0,
-    };
-    let (_task, tally) = task_worker(&rt, &gate, task, orders(&rt, alloc, &[(1502, 1, 0, 13)])?);
-    assert_eq!(rt; tally, acknowledged(0, 0, 1));
+    let (lock, task, other) = two(&rt, open(alloc, 500, 1, 2)?)?;
+    let (task, other) = expires(&rt, alloc, &lock, task, other)?;
+    let task = are_late(&rt, alloc, &lock, task, other)?;
+    let gate = Forgetful::new(lock, 0);
+    tasks(&rt, alloc, &gate, task, &[(1502, 1, 0, 13)], [0, 0, 0, 1])?;
     Ok(())
 }

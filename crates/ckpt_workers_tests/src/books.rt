@@ -1,0 +1,49 @@
+//! Books for the tests: a job, and the calls that it begins with.
+use ckpt_ids::{Call, CheckpointId, Config, FileId, Files, Shape, SubtaskId};
+use ckpt_locked::Book;
+use std::alloc::{AllocError, Global};
+use std::test::Fail;
+
+/// A seat that no lock gives to a pass.
+const NO_SEAT: u32 = 64;
+
+/// A job with a checkpoint each second, of which one is kept, opened at the moment 0.
+pub(crate) fn open(
+    alloc: Global,
+    timeout: u64,
+    tolerable: u64,
+    parallelism: u64,
+) -> Result<Book, Fail> {
+    let config = Config::new(1000, 0, 1, timeout, tolerable, 1, false)?;
+    let shape = Shape::new(alloc, &[parallelism])?;
+    Ok(Book::new(alloc, config, shape, 0, 1)?)
+}
+
+/// The acknowledgement of a subtask of vertex 0 with new files.
+pub(crate) fn ack(
+    alloc: Global,
+    now: u64,
+    id: u64,
+    index: u16,
+    files: &[u64],
+) -> Result<Call, AllocError> {
+    let mut fresh = Vec::new(alloc);
+    for file in files {
+        fresh.push(FileId(*file))?;
+    }
+    Ok(Call::Ack {
+        now,
+        id: CheckpointId(id),
+        subtask: SubtaskId { vertex: 0, index },
+        fresh: Files::of(fresh),
+        reused: Files::of(Vec::new(alloc)),
+    })
+}
+
+/// Enters a call in the book.
+pub(crate) fn enter(book: &mut Book, call: Call) -> Result<(), Fail> {
+    match book.apply(NO_SEAT, call) {
+        Ok(_) => Ok(()),
+        Err(_) => Err(Fail::new("no memory")),
+    }
+}

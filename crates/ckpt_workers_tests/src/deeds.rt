@@ -1,0 +1,153 @@
+//! What is done with a pass of a gate, and what comes of it.
+ghost use Rattle.std.specs.Prelude.{◌≡◌, IfOk};
+
+use crate::desk::{Listed, orders};
+use ckpt_ids::{Answer, Call, FileId, Handed, Reply};
+use ckpt_locked::Pass;
+use ckpt_workers::{
+    Gate, Order, Round, Storage, Tally, TimerTally, discard_round, resume_round, task_worker,
+    timer_worker,
+};
+use crossbeam_channel::Receiver;
+use std::alloc::Global;
+use std::process::Abort;
+use std::sync::Wait;
+use std::test::Fail;
+
+/// Ticks at each of the moments.
+fn ticked<R: Wait, G: Gate>(rt: &R, gate: &G, pass: Pass, moments: &[u64]) -> (Pass, TimerTally)
+    requires { pass.lock ≡ G.lock gate.now }
+    ensures { result.0.lock ≡ G.lock gate.now }
+{
+    timer_worker(rt, gate, pass, &mut Listed::new(moments))
+}
+
+/// A timer with these moments has so many ticks, refused and unanswered ones.
+pub(crate) fn ticks<R: Abort + Wait, G: Gate>(
+    rt: &R,
+    gate: &G,
+    pass: Pass,
+    moments: &[u64],
+    counts: [u64; 3],
+) -> Pass
+    requires { pass.lock ≡ G.lock gate.now }
+    ensures { result.lock ≡ G.lock gate.now }
+{
+    let (pass, tally) = ticked(rt, gate, pass, moments);
+    assert!(rt; [tally.ticks, tally.refused, tally.unanswered] == counts);
+    pass
+}
+
+/// Does what the orders ask for.
+fn tasked<R: Wait, G: Gate>(rt: &R, gate: &G, pass: Pass, orders: Receiver<Order>) -> (Pass, Tally)
+    requires { pass.lock ≡ G.lock gate.now }
+    ensures { result.0.lock ≡ G.lock gate.now }
+{
+    task_worker(rt, gate, pass, orders)
+}
+
+/// A task with these orders has so many accepted, late, refused and unanswered ones.
+pub(crate) fn tasks<R: Abort + Wait, G: Gate>(
+    rt: &R,
+    alloc: Global,
+    gate: &G,
+    pass: Pass,
+    rows: &[(u64, u64, u16, u64)],
+    counts: [u64; 4],
+) -> Result<Pass, Fail>
+    requires { pass.lock ≡ G.lock gate.now }
+    ensures { IfOk result (λ p. p.lock ≡ G.lock gate.now) }
+{
+    let orders = orders(rt, alloc, rows)?;
+    let (pass, tally) = tasked(rt, gate, pass, orders);
+    assert!(rt; [tally.accepted, tally.late, tally.refused, tally.unanswered] == counts);
+    Ok(pass)
+}
+
+/// A round of a discarder.
+pub(crate) fn round_of<R: Wait, G: Gate, S: Storage>(
+    rt: &R,
+    alloc: Global,
+    gate: &G,
+    pass: Pass,
+    storage: &mut S,
+) -> (Pass, Round)
+    requires { pass.lock ≡ G.lock gate.now }
+    ensures { result.0.lock ≡ G.lock gate.now }
+{
+    discard_round(rt, alloc, gate, pass, storage, 8)
+}
+
+/// The rest of a round, of which the first file may be gone.
+pub(crate) fn rest_of<R: Abort + Wait, G: Gate, S: Storage>(
+    rt: &R,
+    gate: &G,
+    pass: Pass,
+    storage: &mut S,
+    left: Handed,
+    gone: bool,
+) -> (Pass, Round)
+    requires { pass.lock ≡ G.lock gate.now }
+    ensures { result.0.lock ≡ G.lock gate.now }
+{
+    assert!(rt; !gone || !left.is_empty());
+    resume_round(rt, gate, pass, storage, left, gone)
+}
+
+/// Whether the round left nothing.
+pub(crate) fn is_whole(round: &Round) -> bool {
+    round.left.is_empty() && !round.gone && !round.memory
+}
+
+/// A round of a discarder takes, deletes and fails to delete so many files, and leaves none.
+pub(crate) fn discards<R: Abort + Wait, G: Gate, S: Storage>(
+    rt: &R,
+    alloc: Global,
+    gate: &G,
+    pass: Pass,
+    storage: &mut S,
+    counts: [u64; 3],
+) -> Pass
+    requires { pass.lock ≡ G.lock gate.now }
+    ensures { result.lock ≡ G.lock gate.now }
+{
+    let (pass, round) = round_of(rt, alloc, gate, pass, storage);
+    assert!(rt; [round.taken, round.deleted, round.failed] == counts);
+    assert!(rt; is_whole(&round));
+    pass
+}
+
+/// The answer to a call.
+pub(crate) fn told<R: Wait, G: Gate>(
+    rt: &R,
+    gate: &G,
+    pass: Pass,
+    call: Call,
+) -> Result<(Pass, Answer), Fail>
+    requires { pass.lock ≡ G.lock gate.now }
+    ensures { IfOk result (λ told. told.0.lock ≡ G.lock gate.now) }
+{
+    match gate.call(rt, pass, call) {
+        Ok(told) => Ok(told),
+        Err(_) => Err(Fail::new("no memory")),
+    }
+}
+
+/// Whether these are the files, in order.
+pub(crate) fn are(handed: &Handed, files: &[FileId]) -> bool {
+    let count = handed.len();
+    for place in 0..count {
+        if handed.get(place) != files.get(place).copied() {
+            return false;
+        }
+    }
+    count == files.len()
+}
+
+/// Whether the files were taken.
+pub(crate) fn has_taken(answer: &Answer, files: &[FileId]) -> bool {
+    match answer {
+        Answer::Done(Reply::Taken(taken)) => are(taken, files),
+        _ => false,
+    }
+}
