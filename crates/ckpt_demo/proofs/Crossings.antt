@@ -1,7 +1,6 @@
 -- Threads may share what they go by.
 use denote.Param.Send.{IsSync, sendable}
 use Rattle.std.proofs.Crossing.{crosses}
-use Rattle.std.proofs.MapsCrossing as maps
 use Rattle.ckpt_locked.proofs.Crossings.{locked_sync}
 use Rattle.ckpt_demo.specs.contracts.clock.Watch as Watch
 use Rattle.ckpt_demo.specs.contracts.ground.Board as Board
@@ -12,7 +11,7 @@ board_sync : IsSync Board.the_row
 board_sync = search (sendable, crosses) depth 80 fits 20000
 
 settings_sync : IsSync Settings.the_row
-settings_sync = search (sendable, crosses, maps.crosses) depth 80 fits 20000
+settings_sync = search (sendable, crosses) depth 80 fits 20000
 
 watch_sync : IsSync Watch.the_row
 watch_sync = search (sendable, crosses) depth 80 fits 20000

@@ -7,7 +7,7 @@ use crate::threads::Ended;
 use ckpt_core::Core;
 use ckpt_ids::{Call, FileId};
 use ckpt_locked::Book;
-use std::alloc::Global;
+use std::alloc::{AllocError, Global};
 
 /// The seat of the calls that the checks make.
 const CHECKER: u32 = 64;
@@ -95,72 +95,111 @@ fn are_files_same(book: &mut Book, replay: &mut Replay) -> Result<bool, DemoFaul
     is_same(book, &mut replay.core, Call::Take { most: u64::MAX })
 }
 
-/// The files of this sort.
-fn placed(alloc: Global, replay: &Replay, sort: Place) -> Result<Vec<u64>, DemoFault> {
+/// The files of refused acknowledgements.
+fn refused(alloc: Global, replay: &Replay) -> Result<Vec<u64>, AllocError> {
     let mut files = Vec::new(alloc);
     for (file, place) in replay.places.iter() {
-        if *place == sort {
+        if *place == Place::Refused {
             files.push(*file)?;
         }
     }
     Ok(files)
 }
 
-/// Those of the files that are in none of the lists, which are in rising order.
-fn others(alloc: Global, files: &[u64], lists: [&[u64]; 3]) -> Result<Vec<u64>, DemoFault> {
-    let mut others = Vec::new(alloc);
-    for file in files {
-        if lists.iter().all(|list| list.binary_search(file).is_err()) {
-            others.push(*file)?;
+/// The files that the folder should have: those that the coordinator knows, those of refused acknowledgements, and
+/// those that it had before.
+fn expected(alloc: Global, replay: &Replay, before: &[u64]) -> Result<Vec<u64>, AllocError> {
+    let mut files = Vec::new(alloc);
+    files.extend_from_slice(before)?;
+    for (file, place) in replay.places.iter() {
+        if *place != Place::Deleted {
+            files.push(*file)?;
         }
     }
-    Ok(others)
+    files.sort_unstable();
+    Ok(files)
 }
 
-/// Whether the folder has the files that it should have: those that the coordinator knows, those of refused
-/// acknowledgements, and those that it had before. Names the others.
+/// Those of the files that are not among the others, which are in rising order.
+fn without(alloc: Global, files: &[u64], others: &[u64]) -> Result<Vec<u64>, AllocError> {
+    let mut left = Vec::new(alloc);
+    for file in files {
+        if others.binary_search(file).is_err() {
+            left.push(*file)?;
+        }
+    }
+    Ok(left)
+}
+
+/// Tells of the files that are on one side alone. Answers whether there is none.
+fn compare(rt: &HostRuntime, there: &[u64], expected: &[u64]) -> Result<bool, AllocError> {
+    let missing = without(rt.alloc(), expected, there)?;
+    let more = without(rt.alloc(), there, expected)?;
+    tell_files(rt, "files that are missing", missing.as_slice());
+    tell_files(rt, "files that should not be there", more.as_slice());
+    Ok(missing.is_empty() && more.is_empty())
+}
+
+/// Whether the folder has the files that it should have. Names the others, and those of refused acknowledgements.
 fn is_folder_right(
     rt: &HostRuntime,
     folder: &str,
     replay: &Replay,
     strangers: &Strangers,
 ) -> Result<bool, DemoFault> {
-    let alloc = rt.alloc();
     let there = listed(rt, folder)?;
-    let known = placed(alloc, replay, Place::Known)?;
-    let refused = placed(alloc, replay, Place::Refused)?;
-    let (there, known, refused) = (there.as_slice(), known.as_slice(), refused.as_slice());
-    let missing = others(alloc, known, [there, &[], &[]])?;
-    let more = others(alloc, there, [known, refused, strangers.numbers.as_slice()])?;
-    tell_files(rt, "files of refused acknowledgements", refused);
-    tell_files(rt, "files that are missing", missing.as_slice());
-    tell_files(rt, "files that should not be there", more.as_slice());
-    let core = &replay.core;
-    let away = core.files_waiting().saturating_add(core.files_taken());
-    let counted = core.files_in_use().saturating_add(away);
-    Ok(missing.is_empty() && more.is_empty() && counted == known.len() as u64)
+    let refused = refused(rt.alloc(), replay)?;
+    tell_files(rt, "files of refused acknowledgements", refused.as_slice());
+    let expected = expected(rt.alloc(), replay, strangers.numbers.as_slice())?;
+    let same = compare(rt, there.as_slice(), expected.as_slice())?;
+    Ok(same && is_count_right(replay))
 }
 
-fn tell_verdict(rt: &HostRuntime, text: &str, holds: bool) -> Result<bool, DemoFault> {
-    let word = if holds { "yes" } else { "no" };
-    println!(rt; "{text}: {word}").map_err(|_| DemoFault::Output)?;
-    Ok(holds)
+/// Whether the coordinator counts as many files as it was told of and not told that they are deleted.
+fn is_count_right(replay: &Replay) -> bool {
+    let mut known = 0u64;
+    for (_, place) in replay.places.iter() {
+        if *place == Place::Known {
+            known = known.saturating_add(1);
+        }
+    }
+    let core = &replay.core;
+    let away = core.files_waiting().saturating_add(core.files_taken());
+    known == core.files_in_use().saturating_add(away)
+}
+
+/// Whether the replay is the coordinator of the book. Writes the script, which then ends with a `show` of each live
+/// record.
+fn is_replay_same(
+    rt: &HostRuntime,
+    ended: &mut Ended,
+    replay: &mut Replay,
+) -> Result<bool, DemoFault> {
+    let told = tell_the_same(ended.book.core(), &replay.core);
+    let shown = show_all(&mut ended.book, &mut replay.core)?;
+    write_script(rt, &ended.settings, &ended.book)?;
+    let counted = are_files_same(&mut ended.book, replay)?;
+    Ok(told && shown && counted)
+}
+
+fn word(holds: bool) -> &'static str {
+    if holds { "yes" } else { "no" }
 }
 
 /// Checks the run, and tells what was found. Answers whether all is as it should be.
 pub fn check(rt: &HostRuntime, mut ended: Ended, strangers: &Strangers) -> Result<bool, DemoFault> {
-    let alloc = rt.alloc();
-    let mut replay = Replay::of(alloc, &ended.settings, &ended.book)?;
+    let mut replay = Replay::of(rt.alloc(), &ended.settings, &ended.book)?;
     tell_calls(rt, ended.calls.as_slice());
     tell_counts(rt, &replay, ended.written);
     let listed = sum(ended.calls.as_slice()) == ended.book.len();
     let folder = is_folder_right(rt, ended.settings.folder.as_str(), &replay, strangers)?;
-    let mut same = tell_the_same(ended.book.core(), &replay.core)
-        && show_all(&mut ended.book, &mut replay.core)?;
-    write_script(rt, alloc, &ended.settings, &ended.book)?;
-    same = are_files_same(&mut ended.book, &mut replay)? && same;
-    let listed = tell_verdict(rt, "each call is in the list", listed)?;
-    let folder = tell_verdict(rt, "the folder has the files that it should have", folder)?;
-    let same = tell_verdict(rt, "a replay of the list is the coordinator", same)?;
+    let same = is_replay_same(rt, &mut ended, &mut replay)?;
+    let told = println!(rt;
+        "each call is in the list: {}\nthe folder has the files that it should have: {}\na replay of the list is the coordinator: {}",
+        word(listed),
+        word(folder),
+        word(same)
+    );
+    told.map_err(|_| DemoFault::Output)?;
     Ok(listed && folder && same)
 }

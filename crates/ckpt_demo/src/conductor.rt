@@ -2,7 +2,8 @@
 ghost use Rattle.std.specs.Prelude.{◌≡◌};
 
 use crate::ground::Ground;
-use ckpt_ids::{Call, CheckpointId, Metadata, Reply, Target};
+use crate::settings::Settings;
+use ckpt_ids::{Call, CheckpointId, Metadata, Reply, Shape, Target};
 use ckpt_locked::Pass;
 use std::alloc::Global;
 use std::collections::BTreeSet;
@@ -12,13 +13,46 @@ use std::sync::Wait;
 const PAUSE: u64 = 5;
 
 /// What the user does, in this order.
-#[derive(Clone, Copy, PartialEq, Eq)]
+#[derive(Clone, Copy)]
 enum Act {
     Savepoint,
-    /// To the savepoint with this number.
-    RollBack(u64),
+    /// To this savepoint.
+    RollBack(CheckpointId),
     Rescale,
     Nothing,
+}
+
+impl Act {
+    /// What follows on the answer, where there is one that was not refused.
+    fn next(self, reply: Option<Reply>) -> Act {
+        let done = reply.is_some();
+        match self {
+            Act::Savepoint => saved(reply),
+            // It was not completed.
+            Act::RollBack(_) if !done => Act::Savepoint,
+            Act::RollBack(_) => Act::Rescale,
+            Act::Rescale if !done => Act::Rescale,
+            _ => Act::Nothing,
+        }
+    }
+
+    /// From when on it is done, in a run of this duration.
+    fn start(self, duration: u64) -> u64 {
+        match self {
+            Act::Savepoint => duration / 3,
+            Act::RollBack(_) => duration / 2,
+            Act::Rescale => duration / 4 * 3,
+            Act::Nothing => u64::MAX,
+        }
+    }
+}
+
+/// What follows on a savepoint.
+fn saved(reply: Option<Reply>) -> Act {
+    match reply {
+        Some(Reply::SavepointTriggered(id)) => Act::RollBack(id),
+        _ => Act::Savepoint,
+    }
 }
 
 /// What the conductor has before it.
@@ -47,57 +81,35 @@ impl Desk {
             newest: 0,
             live: Vec::new(alloc),
             act: Act::Savepoint,
-            act_at: duration / 3,
+            act_at: Act::Savepoint.start(duration),
             seconds: 0,
         }
     }
 
-    /// Does what is next, and says what follows and when.
+    /// Does what is next, and says what follows and when: records that were triggered have ended by then.
     fn act<R: Wait>(&mut self, rt: &R, ground: &Ground, now: u64, pass: Pass) -> Pass
         requires { pass.lock ≡ ground.now.lock }
         ensures { result.lock ≡ ground.now.lock }
     {
-        let duration = ground.settings.duration;
-        let (pass, reply) = match self.call(ground, now) {
-            Some(call) => ground.ask(rt, pass, call),
-            None => (pass, None),
+        let Some(call) = self.call(&ground.settings, now) else {
+            return pass;
         };
-        let (act, at) = match (self.act, reply) {
-            (Act::Savepoint, Some(Reply::SavepointTriggered(id))) => {
-                let soon = now.saturating_add(ground.settings.timeout);
-                (Act::RollBack(id.0), soon.max(duration / 2))
-            }
-            (Act::RollBack(_), Some(_)) => (Act::Rescale, now.max(duration / 4 * 3)),
-            // It was not completed.
-            (Act::RollBack(_), None) => (Act::Savepoint, now),
-            (Act::Rescale, Some(_)) => (Act::Nothing, u64::MAX),
-            (same, _) => (same, now.saturating_add(ground.settings.interval)),
-        };
-        self.act = act;
-        self.act_at = at;
+        let (pass, reply) = ground.ask(rt, pass, call);
+        self.act = self.act.next(reply);
+        let soon = now.saturating_add(ground.settings.timeout);
+        self.act_at = self.act.start(ground.settings.duration).max(soon);
         pass
     }
 
     /// The call of what is next.
-    fn call(&self, ground: &Ground, now: u64) -> Option<Call> {
+    fn call(&self, settings: &Settings, now: u64) -> Option<Call> {
         match self.act {
             Act::Savepoint => Some(Call::Savepoint { now }),
-            Act::RollBack(id) => {
-                let target = Target::Savepoint(CheckpointId(id));
-                Some(Call::Restore {
-                    now,
-                    target,
-                    shape: None,
-                })
-            }
+            Act::RollBack(id) => Some(restore(now, Target::Savepoint(id), None)),
             Act::Rescale => {
-                let counters = (ground.settings.counters / 2).max(1);
-                let shape = ground.settings.shape(self.alloc, counters).ok()?;
-                Some(Call::Restore {
-                    now,
-                    target: Target::Latest,
-                    shape: Some(shape),
-                })
+                let counters = (settings.counters / 2).max(1);
+                let shape = settings.shape(self.alloc, counters).ok()?;
+                Some(restore(now, Target::Latest, Some(shape)))
             }
             Act::Nothing => None,
         }
@@ -149,6 +161,10 @@ impl Desk {
         }
         self.newest = newest;
     }
+}
+
+fn restore(now: u64, target: Target, shape: Option<Shape>) -> Call {
+    Call::Restore { now, target, shape }
 }
 
 /// Takes in the files of a record. Without memory some are missing in the line of progress.

@@ -78,16 +78,25 @@ impl Replay {
 
     fn make(&mut self, call: &Call) -> Result<(), DemoFault> {
         let answer = answer(&mut self.core, call)?;
-        match (call, &answer) {
-            (Call::Ack { fresh, .. }, Answer::Done(_)) => self.place_all(fresh, Place::Known)?,
-            (Call::Ack { fresh, .. }, _) => self.place_all(fresh, Place::Refused)?,
-            (Call::Deleted { file }, Answer::Done(_)) => self.place(file.0, Place::Deleted)?,
-            _ => {}
+        if let Call::Ack { fresh, .. } = call {
+            let place = match &answer {
+                Answer::Done(_) => Place::Known,
+                Answer::Refused(_) => Place::Refused,
+            };
+            self.place_all(fresh, place)?;
         }
-        if let Answer::Done(reply) = &answer {
-            self.counts.count(reply);
+        match &answer {
+            Answer::Done(reply) => self.note(reply),
+            Answer::Refused(_) => Ok(()),
         }
-        Ok(())
+    }
+
+    fn note(&mut self, reply: &Reply) -> Result<(), DemoFault> {
+        self.counts.count(reply);
+        match reply {
+            Reply::Deleted(file) => self.place(file.0, Place::Deleted),
+            _ => Ok(()),
+        }
     }
 
     fn place_all(&mut self, files: &Files, place: Place) -> Result<(), DemoFault> {

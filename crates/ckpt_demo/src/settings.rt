@@ -14,8 +14,6 @@ pub enum DemoFault {
     Limits,
     #[error("the folder, a file in it or the script can't be read or written")]
     Files,
-    #[error("the clock can't be read")]
-    Clock,
     #[error("nothing can be printed")]
     Output,
     #[error("out of memory")]

@@ -11,7 +11,7 @@ use crate::task::work;
 use crate::timer::Beats;
 use ckpt_locked::{Book, Locked, Pass};
 use ckpt_workers::timer_worker;
-use std::alloc::AllocError;
+use std::alloc::{AllocError, Global};
 use std::sync::Wait;
 use std::thread;
 use std::thread::Threads;
@@ -65,6 +65,13 @@ pub struct Ended {
     pub written: u64,
 }
 
+/// The book of the job.
+fn open(alloc: Global, settings: &Settings) -> Result<Book, DemoFault> {
+    let config = settings.config()?;
+    let shape = settings.shape(alloc, settings.counters)?;
+    Book::new(alloc, config, shape, 0, 1).map_err(|_| DemoFault::Limits)
+}
+
 /// Runs the job to its end: joins every thread, and closes the lock.
 pub fn run<R: Threads + Wait + Sync>(
     rt: &R,
@@ -73,20 +80,17 @@ pub fn run<R: Threads + Wait + Sync>(
     greatest: u64,
 ) -> Result<Ended, DemoFault> {
     let alloc = host.alloc();
-    let watch = Watch::started(&host).ok_or(DemoFault::Clock)?;
-    let shape = settings.shape(alloc, settings.counters)?;
-    let tasks = shape.size();
-    let book = Book::new(alloc, settings.config()?, shape, 0, 1).map_err(|_| DemoFault::Limits)?;
+    let tasks = settings.shape(alloc, settings.counters)?.size();
+    let book = open(alloc, &settings)?;
     let Ok((lock, passes)) = Locked::new(rt, book, tasks.saturating_add(OTHERS)) else {
         return Err(DemoFault::Limits);
     };
-    let board = Board::new(settings.interval, greatest);
     let ground = Ground {
         host,
         lock,
-        board,
+        board: Board::new(settings.interval, greatest),
         settings,
-        watch,
+        watch: Watch::started(&host),
         alloc,
         tasks,
     };
