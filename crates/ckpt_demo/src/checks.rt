@@ -1,6 +1,6 @@
 //! What is checked after a run, and told.
-use crate::folder::{Strangers, listed, tell_files};
-use crate::replay::{Place, Replay, answer};
+use crate::folder::{listed, tell_files};
+use crate::replay::{Counts, Place, Replay, answer};
 use crate::script::write_script;
 use crate::settings::DemoFault;
 use crate::threads::Ended;
@@ -8,6 +8,7 @@ use ckpt_core::Core;
 use ckpt_ids::{Call, FileId};
 use ckpt_locked::Book;
 use std::alloc::{AllocError, Global};
+use std::io;
 
 /// The seat of the calls that the checks make.
 const CHECKER: u32 = 64;
@@ -31,19 +32,23 @@ fn tell_calls(rt: &HostRuntime, calls: &[u64]) {
     let _ = eprintln!(rt; "");
 }
 
-fn tell_counts(rt: &HostRuntime, replay: &Replay, written: u64) {
-    let (counts, core) = (replay.counts, &replay.core);
+fn tell_records(rt: &HostRuntime, counts: Counts) {
     let _ = eprintln!(rt;
         "records: {} completed, {} dropped, {} expired, {} declined; {} late acknowledgements",
         counts.completed, counts.dropped, counts.expired, counts.declined, counts.late
     );
+}
+
+fn tell_counts(rt: &HostRuntime, replay: &Replay, written: u64) {
+    let (counts, core) = (replay.counts, &replay.core);
     let _ = eprintln!(rt;
-        "files: {written} written, {} deleted, {} in use, {} waiting, {} taken; {} deletions failed",
-        counts.deleted,
-        core.files_in_use(),
-        core.files_waiting(),
-        core.files_taken(),
-        counts.failed
+        "files: {written} written, {} deleted, {} deletions failed",
+        counts.deleted, counts.failed
+    );
+    let (used, waiting) = (core.files_in_use(), core.files_waiting());
+    let _ = eprintln!(rt;
+        "files left: {used} in use, {waiting} waiting, {} taken",
+        core.files_taken()
     );
 }
 
@@ -140,17 +145,23 @@ fn compare(rt: &HostRuntime, there: &[u64], expected: &[u64]) -> Result<bool, Al
     Ok(missing.is_empty() && more.is_empty())
 }
 
+/// Names the files of refused acknowledgements.
+fn tell_refused(rt: &HostRuntime, replay: &Replay) -> Result<(), AllocError> {
+    let files = refused(rt.alloc(), replay)?;
+    tell_files(rt, "files of refused acknowledgements", files.as_slice());
+    Ok(())
+}
+
 /// Whether the folder has the files that it should have. Names the others, and those of refused acknowledgements.
 fn is_folder_right(
     rt: &HostRuntime,
     folder: &str,
     replay: &Replay,
-    strangers: &Strangers,
+    before: &[u64],
 ) -> Result<bool, DemoFault> {
+    tell_refused(rt, replay)?;
     let there = listed(rt, folder)?;
-    let refused = refused(rt.alloc(), replay)?;
-    tell_files(rt, "files of refused acknowledgements", refused.as_slice());
-    let expected = expected(rt.alloc(), replay, strangers.numbers.as_slice())?;
+    let expected = expected(rt.alloc(), replay, before)?;
     let same = compare(rt, there.as_slice(), expected.as_slice())?;
     Ok(same && is_count_right(replay))
 }
@@ -186,20 +197,35 @@ fn word(holds: bool) -> &'static str {
     if holds { "yes" } else { "no" }
 }
 
-/// Checks the run, and tells what was found. Answers whether all is as it should be.
-pub fn check(rt: &HostRuntime, mut ended: Ended, strangers: &Strangers) -> Result<bool, DemoFault> {
-    let mut replay = Replay::of(rt.alloc(), &ended.settings, &ended.book)?;
+fn tell_verdicts(rt: &HostRuntime, listed: bool, folder: bool, same: bool) -> io::Result<()> {
+    println!(rt; "each call is in the list: {}", word(listed))?;
+    println!(rt;
+        "the folder has the files that it should have: {}",
+        word(folder)
+    )?;
+    println!(rt; "a replay of the list is the coordinator: {}", word(same))
+}
+
+/// Checks the run against its replay. Answers whether all is as it should be.
+fn judge(
+    rt: &HostRuntime,
+    ended: &mut Ended,
+    replay: &mut Replay,
+    before: &[u64],
+) -> Result<bool, DemoFault> {
     tell_calls(rt, ended.calls.as_slice());
-    tell_counts(rt, &replay, ended.written);
+    tell_records(rt, replay.counts);
+    tell_counts(rt, replay, ended.written);
     let listed = sum(ended.calls.as_slice()) == ended.book.len();
-    let folder = is_folder_right(rt, ended.settings.folder.as_str(), &replay, strangers)?;
-    let same = is_replay_same(rt, &mut ended, &mut replay)?;
-    let told = println!(rt;
-        "each call is in the list: {}\nthe folder has the files that it should have: {}\na replay of the list is the coordinator: {}",
-        word(listed),
-        word(folder),
-        word(same)
-    );
-    told.map_err(|_| DemoFault::Output)?;
+    let folder = is_folder_right(rt, ended.settings.folder.as_str(), replay, before)?;
+    let same = is_replay_same(rt, ended, replay)?;
+    tell_verdicts(rt, listed, folder, same).map_err(|_| DemoFault::Output)?;
     Ok(listed && folder && same)
+}
+
+/// Checks the run in a folder that had these files before, and tells what was found. Answers whether all is as it
+/// should be.
+pub fn check(rt: &HostRuntime, ended: &mut Ended, before: &[u64]) -> Result<bool, DemoFault> {
+    let mut replay = Replay::of(rt.alloc(), &ended.settings, &ended.book)?;
+    judge(rt, ended, &mut replay, before)
 }

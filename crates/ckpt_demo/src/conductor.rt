@@ -3,7 +3,7 @@ ghost use Rattle.std.specs.Prelude.{◌≡◌};
 
 use crate::ground::Ground;
 use crate::settings::Settings;
-use ckpt_ids::{Call, CheckpointId, Metadata, Reply, Shape, Target};
+use ckpt_ids::{Call, CheckpointId, FileId, Metadata, Reply, Shape, Target};
 use ckpt_locked::Pass;
 use std::alloc::Global;
 use std::collections::BTreeSet;
@@ -16,23 +16,27 @@ const PAUSE: u64 = 5;
 #[derive(Clone, Copy)]
 enum Act {
     Savepoint,
-    /// To this savepoint.
-    RollBack(CheckpointId),
+    /// To the savepoint with this number.
+    RollBack(u64),
     Rescale,
     Nothing,
 }
 
 impl Act {
-    /// What follows on the answer, where there is one that was not refused.
-    fn next(self, reply: Option<Reply>) -> Act {
-        let done = reply.is_some();
+    /// What follows on the answer.
+    fn next(self, reply: &Reply) -> Act {
         match self {
             Act::Savepoint => saved(reply),
-            // It was not completed.
-            Act::RollBack(_) if !done => Act::Savepoint,
             Act::RollBack(_) => Act::Rescale,
-            Act::Rescale if !done => Act::Rescale,
-            _ => Act::Nothing,
+            Act::Rescale | Act::Nothing => Act::Nothing,
+        }
+    }
+
+    /// What follows where there is none, or the call was refused: a savepoint that is not complete is taken again.
+    fn again(self) -> Act {
+        match self {
+            Act::RollBack(_) => Act::Savepoint,
+            _ => self,
         }
     }
 
@@ -48,9 +52,9 @@ impl Act {
 }
 
 /// What follows on a savepoint.
-fn saved(reply: Option<Reply>) -> Act {
+fn saved(reply: &Reply) -> Act {
     match reply {
-        Some(Reply::SavepointTriggered(id)) => Act::RollBack(id),
+        Reply::SavepointTriggered(id) => Act::RollBack(id.0),
         _ => Act::Savepoint,
     }
 }
@@ -68,10 +72,29 @@ struct Desk {
     seconds: u64,
 }
 
-/// What stands in a line of progress.
+/// What the live records are, for a line of progress. Without memory some are missing.
+#[derive(Drop)]
 struct Census {
+    live: Vec<u64>,
     pending: u64,
-    used: u64,
+    used: BTreeSet<u64>,
+}
+
+impl Census {
+    /// Takes in a live record.
+    fn note(&mut self, id: u64, metadata: &Metadata) {
+        let _ = self.live.push(id);
+        self.pending = self.pending.saturating_add(u64::from(!metadata.done));
+        for acked in metadata.acks.as_slice() {
+            self.note_files(acked.files.as_slice());
+        }
+    }
+
+    fn note_files(&mut self, files: &[FileId]) {
+        for file in files {
+            let _ = self.used.insert(file.0);
+        }
+    }
 }
 
 impl Desk {
@@ -95,7 +118,10 @@ impl Desk {
             return pass;
         };
         let (pass, reply) = ground.ask(rt, pass, call);
-        self.act = self.act.next(reply);
+        self.act = match reply {
+            Some(reply) => self.act.next(&reply),
+            None => self.act.again(),
+        };
         let soon = now.saturating_add(ground.settings.timeout);
         self.act_at = self.act.start(ground.settings.duration).max(soon);
         pass
@@ -105,7 +131,7 @@ impl Desk {
     fn call(&self, settings: &Settings, now: u64) -> Option<Call> {
         match self.act {
             Act::Savepoint => Some(Call::Savepoint { now }),
-            Act::RollBack(id) => Some(restore(now, Target::Savepoint(id), None)),
+            Act::RollBack(id) => Some(restore(now, Target::Savepoint(CheckpointId(id)), None)),
             Act::Rescale => {
                 let counters = (settings.counters / 2).max(1);
                 let shape = settings.shape(self.alloc, counters).ok()?;
@@ -120,38 +146,18 @@ impl Desk {
         requires { pass.lock ≡ ground.now.lock }
         ensures { result.lock ≡ ground.now.lock }
     {
-        let known = ground.board.known();
-        let (pass, Census { pending, used }) = self.count(rt, ground, pass);
-        let (done, waiting) = (ground.board.completed(), known.saturating_sub(used));
-        // Where standard error fails, the run goes on.
-        let _ = eprintln!(&ground.host;
-            "checkpoints {done} done, {pending} pending; files {used} in use, {waiting} waiting"
-        );
-        pass
-    }
-
-    /// Counts the records that are pending and the files that live records use.
-    fn count<R: Wait>(&mut self, rt: &R, ground: &Ground, mut pass: Pass) -> (Pass, Census)
-        requires { pass.lock ≡ ground.now.lock }
-        ensures { result.0.lock ≡ ground.now.lock }
-    {
         self.note_new(ground.board.newest());
-        let mut used = BTreeSet::new(self.alloc);
-        let mut live = Vec::new(self.alloc);
-        let mut pending = 0u64;
-        for id in self.live.iter() {
-            let (next, metadata) = ground.show(rt, pass, CheckpointId(*id));
-            pass = next;
-            if let Some(metadata) = metadata {
-                // Without memory it is missing in the lines of progress.
-                let _ = live.push(*id);
-                pending = pending.saturating_add(u64::from(!metadata.done));
-                note_files(&mut used, &metadata);
-            }
-        }
-        self.live = live;
-        let used = used.len() as u64;
-        (pass, Census { pending, used })
+        let mut census = Census {
+            live: Vec::new(self.alloc),
+            pending: 0,
+            used: BTreeSet::new(self.alloc),
+        };
+        let known = ground.board.known();
+        let pass = count(rt, ground, pass, self.live.as_slice(), &mut census);
+        let (used, pending) = (census.used.len() as u64, census.pending);
+        tell_progress(ground, known, used, pending);
+        self.live = census.live;
+        pass
     }
 
     /// Takes in the records that are new.
@@ -167,13 +173,33 @@ fn restore(now: u64, target: Target, shape: Option<Shape>) -> Call {
     Call::Restore { now, target, shape }
 }
 
-/// Takes in the files of a record. Without memory some are missing in the line of progress.
-fn note_files(used: &mut BTreeSet<u64>, metadata: &Metadata) {
-    for acked in metadata.acks.as_slice() {
-        for file in acked.files.as_slice() {
-            let _ = used.insert(file.0);
+/// Takes in those of the records that are live.
+fn count<R: Wait>(
+    rt: &R,
+    ground: &Ground,
+    mut pass: Pass,
+    records: &[u64],
+    census: &mut Census,
+) -> Pass
+    requires { pass.lock ≡ ground.now.lock }
+    ensures { result.lock ≡ ground.now.lock }
+{
+    for id in records {
+        let (next, metadata) = ground.show(rt, pass, CheckpointId(*id));
+        pass = next;
+        if let Some(metadata) = metadata {
+            census.note(*id, &metadata);
         }
     }
+    pass
+}
+
+/// Prints a line of progress. Where standard error fails, the run goes on.
+fn tell_progress(ground: &Ground, known: u64, used: u64, pending: u64) {
+    let (done, waiting) = (ground.board.completed(), known.saturating_sub(used));
+    let _ = eprintln!(&ground.host;
+        "checkpoints {done} done, {pending} pending; files {used} in use, {waiting} waiting"
+    );
 }
 
 /// Conducts the run to its end, when the job is cancelled.

@@ -30,33 +30,16 @@ pub fn listed(rt: &HostRuntime, folder: &str) -> Result<Vec<u64>, DemoFault> {
     Ok(numbers)
 }
 
-/// Files that the folder has before the run, of which the coordinator will not know.
-#[derive(Drop)]
-pub struct Strangers {
-    pub numbers: Vec<u64>,
-}
-
-impl Strangers {
-    /// Makes the folder where there is none, and looks through it.
-    pub fn in_folder(rt: &HostRuntime, folder: &str) -> Result<Strangers, DemoFault> {
-        fs::create_dir_all(rt, folder).map_err(|_| DemoFault::Files)?;
-        let numbers = listed(rt, folder)?;
-        Ok(Strangers { numbers })
-    }
-
-    /// The greatest number, or 0.
-    pub fn greatest(&self) -> u64 {
-        self.numbers.last().copied().unwrap_or(0)
-    }
-
-    /// Says which files are not known.
-    pub fn tell(&self, rt: &HostRuntime) {
-        tell_files(
-            rt,
-            "files in the folder that are not known",
-            self.numbers.as_slice(),
-        );
-    }
+/// Makes the folder where there is none, and tells which files it has: the coordinator will not know them.
+pub fn strangers(rt: &HostRuntime, folder: &str) -> Result<Vec<u64>, DemoFault> {
+    fs::create_dir_all(rt, folder).map_err(|_| DemoFault::Files)?;
+    let numbers = listed(rt, folder)?;
+    tell_files(
+        rt,
+        "files in the folder that are not known",
+        numbers.as_slice(),
+    );
+    Ok(numbers)
 }
 
 /// Tells how many files there are of a sort, and names the first ones. Where standard error fails, the run goes on.

@@ -22,8 +22,7 @@ mod threads;
 mod timer;
 
 use crate::checks::check;
-use crate::folder::Strangers;
-use crate::ground::Ground;
+use crate::folder::strangers;
 use crate::settings::{DemoFault, Settings};
 use crate::threads::run;
 use std::io::Read;
@@ -44,10 +43,10 @@ fn read_settings(rt: &HostRuntime) -> Result<Settings, DemoFault> {
 /// Runs the job and checks it. Answers whether all is as it should be.
 fn demo<R: Threads + Wait + Sync>(rt: &R, host: &HostRuntime) -> Result<bool, DemoFault> {
     let settings = read_settings(host)?;
-    let strangers = Strangers::in_folder(host, settings.folder.as_str())?;
-    strangers.tell(host);
-    let ended = run(rt, *host, settings, strangers.greatest())?;
-    check(host, ended, &strangers)
+    let before = strangers(host, settings.folder.as_str())?;
+    let greatest = before.last().copied().unwrap_or(0);
+    let mut ended = run(rt, *host, settings, greatest)?;
+    check(host, &mut ended, before.as_slice())
 }
 
 fn main(rt: HostRuntime) -> ExitCode {

@@ -53,15 +53,7 @@ impl Replay {
         Ok(Replay {
             core: core.map_err(|_| DemoFault::Limits)?,
             places: BTreeMap::new(alloc),
-            counts: Counts {
-                completed: 0,
-                dropped: 0,
-                expired: 0,
-                declined: 0,
-                late: 0,
-                deleted: 0,
-                failed: 0,
-            },
+            counts: Counts::none(),
         })
     }
 
@@ -113,6 +105,18 @@ impl Replay {
 }
 
 impl Counts {
+    fn none() -> Counts {
+        Counts {
+            completed: 0,
+            dropped: 0,
+            expired: 0,
+            declined: 0,
+            late: 0,
+            deleted: 0,
+            failed: 0,
+        }
+    }
+
     fn count(&mut self, reply: &Reply) {
         match reply {
             Reply::Ticked { expired, .. } => add(&mut self.expired, *expired),

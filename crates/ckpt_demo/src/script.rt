@@ -6,25 +6,30 @@ use ckpt_locked::Book;
 use std::alloc::{AllocError, Global};
 use std::fs;
 
-fn push_line(text: &mut String, line: &str) -> Result<(), AllocError> {
-    text.push_str(line)?;
+/// Adds a line that was made, where there was memory for it.
+fn push_line(text: &mut String, line: Result<String, AllocError>) -> Result<(), AllocError> {
+    let line = line?;
+    text.push_str(line.as_str())?;
     text.push_str("\n")
 }
 
-/// The lines that open the job.
-fn opening(alloc: Global, config: &Config, shape: &Shape) -> Result<String, AllocError> {
-    let mut text = config_line(alloc, config)?;
-    text.push_str("\n")?;
-    push_line(&mut text, job_line(alloc, shape)?.as_str())?;
-    push_line(&mut text, start_line(alloc, 0)?.as_str())?;
-    Ok(text)
+/// Adds the lines that open the job.
+fn push_opening(
+    alloc: Global,
+    text: &mut String,
+    config: &Config,
+    shape: &Shape,
+) -> Result<(), AllocError> {
+    push_line(text, config_line(alloc, config))?;
+    push_line(text, job_line(alloc, shape))?;
+    push_line(text, start_line(alloc, 0))
 }
 
 /// Adds the lines of the calls.
 fn push_calls(alloc: Global, text: &mut String, book: &Book) -> Result<(), AllocError> {
     for place in 0..book.len() {
         if let Some(entry) = book.entry(place) {
-            push_line(text, call_line(alloc, &entry.call)?.as_str())?;
+            push_line(text, call_line(alloc, &entry.call))?;
         }
     }
     Ok(())
@@ -33,7 +38,8 @@ fn push_calls(alloc: Global, text: &mut String, book: &Book) -> Result<(), Alloc
 fn script(alloc: Global, settings: &Settings, book: &Book) -> Result<String, DemoFault> {
     let config = settings.config()?;
     let shape = settings.shape(alloc, settings.counters)?;
-    let mut text = opening(alloc, &config, &shape)?;
+    let mut text = String::new(alloc);
+    push_opening(alloc, &mut text, &config, &shape)?;
     push_calls(alloc, &mut text, book)?;
     Ok(text)
 }

@@ -120,6 +120,12 @@ impl Settings {
         Some(())
     }
 
+    /// How many tasks the job has at first.
+    pub fn tasks(&self) -> u32 {
+        let tasks = self.sources.saturating_add(self.counters);
+        u32::try_from(tasks).unwrap_or(u32::MAX)
+    }
+
     /// The configuration of the job.
     pub fn config(&self) -> Result<Config, DemoFault> {
         Config::new(

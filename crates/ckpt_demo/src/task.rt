@@ -8,7 +8,7 @@ use ckpt_ids::{Call, CheckpointId, FileId, Files, SubtaskId};
 use ckpt_locked::Pass;
 use ckpt_workers::{Order, task_worker};
 use crossbeam_channel::unbounded;
-use std::alloc::AllocError;
+use std::alloc::{AllocError, Global};
 use std::fs;
 use std::sync::Wait;
 
@@ -36,6 +36,13 @@ struct Task {
 }
 
 impl Task {
+    fn new(ground: &Ground, seat: u32) -> Task {
+        Task {
+            dice: Dice::new(ground.settings.seed.wrapping_add(u64::from(seat))),
+            kept: Vec::new(ground.alloc),
+        }
+    }
+
     /// The part of a record: writes new files, and reuses one of the base. Answers nothing where the task declines, where a
     /// file can't be written and for want of memory.
     fn part(&mut self, ground: &Ground, demand: &Demand) -> Option<Order> {
@@ -43,10 +50,7 @@ impl Task {
             return None;
         }
         let reused = self.reused(ground).ok()?;
-        let mut fresh = Vec::new(ground.alloc);
-        for _ in 0..ground.settings.files {
-            fresh.push(written(ground, demand)?).ok()?;
-        }
+        let fresh = written_files(ground, demand)?;
         if let Some(file) = fresh.last().copied() {
             let id = demand.id.0;
             self.kept.push(Kept { id, file }).ok()?;
@@ -112,12 +116,26 @@ fn acknowledge<R: Wait>(rt: &R, ground: &Ground, pass: Pass, order: Order) -> Pa
     pass
 }
 
+/// Writes the new files of a record.
+fn written_files(ground: &Ground, demand: &Demand) -> Option<Vec<FileId>> {
+    let mut files = Vec::new(ground.alloc);
+    for _ in 0..ground.settings.files {
+        files.push(written(ground, demand)?).ok()?;
+    }
+    Some(files)
+}
+
+/// What a state file says.
+fn state(alloc: Global, demand: &Demand) -> Result<String, AllocError> {
+    let SubtaskId { vertex, index } = demand.subtask;
+    format!(in alloc; "record {}, subtask {vertex}.{index}\n", demand.id.0)
+}
+
 /// Writes a new state file.
 fn written(ground: &Ground, demand: &Demand) -> Option<FileId> {
     let file = ground.board.new_file();
     let path = path_of(ground.alloc, ground.settings.folder.as_str(), file).ok()?;
-    let SubtaskId { vertex, index } = demand.subtask;
-    let text = format!(in ground.alloc; "record {}, subtask {vertex}.{index}\n", demand.id.0).ok()?;
+    let text = state(ground.alloc, demand).ok()?;
     fs::write(&ground.host, path.as_str(), text.as_str()).ok()?;
     ground.board.note_written();
     Some(file)
@@ -139,10 +157,7 @@ pub fn work<R: Wait>(rt: &R, ground: &Ground, mut pass: Pass) -> Pass
     requires { pass.lock ≡ ground.now.lock }
     ensures { result.lock ≡ ground.now.lock }
 {
-    let mut task = Task {
-        dice: Dice::new(ground.settings.seed.wrapping_add(u64::from(pass.seat()))),
-        kept: Vec::new(ground.alloc),
-    };
+    let mut task = Task::new(ground, pass.seat());
     let mut seen = 0u64;
     for _ in rt.forever() {
         if ground.board.has_ended() {

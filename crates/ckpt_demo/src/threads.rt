@@ -79,10 +79,10 @@ pub fn run<R: Threads + Wait + Sync>(
     settings: Settings,
     greatest: u64,
 ) -> Result<Ended, DemoFault> {
-    let alloc = host.alloc();
-    let tasks = settings.shape(alloc, settings.counters)?.size();
-    let book = open(alloc, &settings)?;
-    let Ok((lock, passes)) = Locked::new(rt, book, tasks.saturating_add(OTHERS)) else {
+    let book = open(host.alloc(), &settings)?;
+    let tasks = settings.tasks();
+    let seats = tasks.saturating_add(OTHERS);
+    let Ok((lock, passes)) = Locked::new(rt, book, seats) else {
         return Err(DemoFault::Limits);
     };
     let ground = Ground {
@@ -91,21 +91,27 @@ pub fn run<R: Threads + Wait + Sync>(
         board: Board::new(settings.interval, greatest),
         settings,
         watch: Watch::started(&host),
-        alloc,
+        alloc: host.alloc(),
         tasks,
     };
     let passes = scatter(rt, &ground, passes)?;
     close(rt, ground, passes)
 }
 
+/// How many calls were made with each pass.
+fn calls_with(alloc: Global, passes: &[Pass]) -> Result<Vec<u64>, AllocError> {
+    let mut calls = Vec::with_capacity(alloc, passes.len())?;
+    for pass in passes {
+        calls.push(pass.calls())?;
+    }
+    Ok(calls)
+}
+
 /// Closes the lock.
 fn close<R: Wait>(rt: &R, ground: Ground, passes: Vec<Pass>) -> Result<Ended, DemoFault>
     requires { All (λ p. p.lock ≡ ground.lock) passes.items }
 {
-    let mut calls = Vec::with_capacity(ground.alloc, passes.len())?;
-    for pass in passes.iter() {
-        calls.push(pass.calls())?;
-    }
+    let calls = calls_with(ground.alloc, passes.as_slice())?;
     let written = ground.board.written();
     match ground.lock.close(rt, passes) {
         Ok(book) => Ok(Ended {
