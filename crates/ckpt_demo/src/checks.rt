@@ -140,6 +140,7 @@ fn without(alloc: Global, files: &[u64], others: &[u64]) -> Result<Vec<u64>, All
 fn compare(rt: &HostRuntime, there: &[u64], expected: &[u64]) -> Result<bool, AllocError> {
     let missing = without(rt.alloc(), expected, there)?;
     let more = without(rt.alloc(), there, expected)?;
+    let _ = eprintln!(rt; "files in the folder: {}", there.len());
     tell_files(rt, "files that are missing", missing.as_slice());
     tell_files(rt, "files that should not be there", more.as_slice());
     Ok(missing.is_empty() && more.is_empty())

@@ -81,11 +81,11 @@ impl Settings {
             sources: 2,
             counters: 4,
             files: 2,
-            declines: 1,
+            declines: 3,
             failures: 10,
             seed: 7,
-            folder: String::from_str(alloc, "demo-files")?,
-            script: String::from_str(alloc, "demo.script")?,
+            folder: String::from_str(alloc, "/tmp/ckpt_demo")?,
+            script: String::from_str(alloc, "/tmp/ckpt_demo.script")?,
         })
     }
 
