@@ -1,0 +1,232 @@
+//! What is checked after a run, and told.
+use crate::folder::{listed, tell_files};
+use crate::replay::{Counts, Place, Replay, answer};
+use crate::script::write_script;
+use crate::settings::DemoFault;
+use crate::threads::Ended;
+use ckpt_core::Core;
+use ckpt_ids::{Call, FileId};
+use ckpt_locked::Book;
+use std::alloc::{AllocError, Global};
+use std::io;
+
+/// The seat of the calls that the checks make.
+const CHECKER: u32 = 64;
+
+/// Whose the last seats are.
+const OTHERS: [&str; 3] = ["timer", "discarder", "conductor"];
+
+fn sum(calls: &[u64]) -> u64 {
+    calls
+        .iter()
+        .fold(0, |sum, calls| sum.saturating_add(*calls))
+}
+
+/// Tells how many calls were made by whom. Where standard error fails, the checks go on.
+fn tell_calls(rt: &HostRuntime, calls: &[u64]) {
+    let (tasks, others) = calls.split_at(calls.len().saturating_sub(OTHERS.len()));
+    let _ = eprint!(rt; "calls: tasks {}", sum(tasks));
+    for (who, calls) in OTHERS.iter().zip(others.iter()) {
+        let _ = eprint!(rt; ", {who} {calls}");
+    }
+    let _ = eprintln!(rt; "");
+}
+
+fn tell_records(rt: &HostRuntime, counts: Counts) {
+    let _ = eprintln!(rt;
+        "records: {} completed, {} dropped, {} expired, {} declined; {} late acknowledgements",
+        counts.completed, counts.dropped, counts.expired, counts.declined, counts.late
+    );
+}
+
+fn tell_counts(rt: &HostRuntime, replay: &Replay, written: u64) {
+    let (counts, core) = (replay.counts, &replay.core);
+    let _ = eprintln!(rt;
+        "files: {written} written, {} deleted, {} deletions failed",
+        counts.deleted, counts.failed
+    );
+    let (used, waiting) = (core.files_in_use(), core.files_waiting());
+    let _ = eprintln!(rt;
+        "files left: {used} in use, {waiting} waiting, {} taken",
+        core.files_taken()
+    );
+}
+
+/// Whether both coordinators answer a call in the same way. The book's is entered.
+fn is_same(book: &mut Book, core: &mut Core, call: Call) -> Result<bool, DemoFault> {
+    let theirs = answer(core, &call)?;
+    match book.apply(CHECKER, call) {
+        Ok(ours) => Ok(ours == theirs),
+        Err(_) => Err(DemoFault::Memory),
+    }
+}
+
+/// Whether both tell the same.
+fn tell_the_same(left: &Core, right: &Core) -> bool {
+    left.mode() == right.mode()
+        && left.due() == right.due()
+        && left.oldest_expiry() == right.oldest_expiry()
+        && left.choice() == right.choice()
+        && left.files_in_use() == right.files_in_use()
+        && left.files_waiting() == right.files_waiting()
+        && left.files_taken() == right.files_taken()
+}
+
+/// Whether both show the same of each live record.
+fn show_all(book: &mut Book, core: &mut Core) -> Result<bool, DemoFault> {
+    for place in 0..usize::MAX {
+        let live = core.live(place);
+        if book.core().live(place) != live {
+            return Ok(false);
+        }
+        let Some(live) = live else {
+            return Ok(true);
+        };
+        if !is_same(book, core, Call::Show { id: live.id })? {
+            return Ok(false);
+        }
+    }
+    Ok(false)
+}
+
+/// Whether both count the same uses of each file, and hand out the same ones.
+fn are_files_same(book: &mut Book, replay: &mut Replay) -> Result<bool, DemoFault> {
+    for (file, _) in replay.places.iter() {
+        let file = FileId(*file);
+        if !is_same(book, &mut replay.core, Call::Count { file })? {
+            return Ok(false);
+        }
+    }
+    is_same(book, &mut replay.core, Call::Take { most: u64::MAX })
+}
+
+/// The files of refused acknowledgements.
+fn refused(alloc: Global, replay: &Replay) -> Result<Vec<u64>, AllocError> {
+    let mut files = Vec::new(alloc);
+    for (file, place) in replay.places.iter() {
+        if *place == Place::Refused {
+            files.push(*file)?;
+        }
+    }
+    Ok(files)
+}
+
+/// The files that the folder should have: those that the coordinator knows, those of refused acknowledgements, and
+/// those that it had before.
+fn expected(alloc: Global, replay: &Replay, before: &[u64]) -> Result<Vec<u64>, AllocError> {
+    let mut files = Vec::new(alloc);
+    files.extend_from_slice(before)?;
+    for (file, place) in replay.places.iter() {
+        if *place != Place::Deleted {
+            files.push(*file)?;
+        }
+    }
+    files.sort_unstable();
+    Ok(files)
+}
+
+/// Those of the files that are not among the others, which are in rising order.
+fn without(alloc: Global, files: &[u64], others: &[u64]) -> Result<Vec<u64>, AllocError> {
+    let mut left = Vec::new(alloc);
+    for file in files {
+        if others.binary_search(file).is_err() {
+            left.push(*file)?;
+        }
+    }
+    Ok(left)
+}
+
+/// Tells of the files that are on one side alone. Answers whether there is none.
+fn compare(rt: &HostRuntime, there: &[u64], expected: &[u64]) -> Result<bool, AllocError> {
+    let missing = without(rt.alloc(), expected, there)?;
+    let more = without(rt.alloc(), there, expected)?;
+    let _ = eprintln!(rt; "files in the folder: {}", there.len());
+    tell_files(rt, "files that are missing", missing.as_slice());
+    tell_files(rt, "files that should not be there", more.as_slice());
+    Ok(missing.is_empty() && more.is_empty())
+}
+
+/// Names the files of refused acknowledgements.
+fn tell_refused(rt: &HostRuntime, replay: &Replay) -> Result<(), AllocError> {
+    let files = refused(rt.alloc(), replay)?;
+    tell_files(rt, "files of refused acknowledgements", files.as_slice());
+    Ok(())
+}
+
+/// Whether the folder has the files that it should have. Names the others, and those of refused acknowledgements.
+fn is_folder_right(
+    rt: &HostRuntime,
+    folder: &str,
+    replay: &Replay,
+    before: &[u64],
+) -> Result<bool, DemoFault> {
+    tell_refused(rt, replay)?;
+    let there = listed(rt, folder)?;
+    let expected = expected(rt.alloc(), replay, before)?;
+    let same = compare(rt, there.as_slice(), expected.as_slice())?;
+    Ok(same && is_count_right(replay))
+}
+
+/// Whether the coordinator counts as many files as it was told of and not told that they are deleted.
+fn is_count_right(replay: &Replay) -> bool {
+    let mut known = 0u64;
+    for (_, place) in replay.places.iter() {
+        if *place == Place::Known {
+            known = known.saturating_add(1);
+        }
+    }
+    let core = &replay.core;
+    let away = core.files_waiting().saturating_add(core.files_taken());
+    known == core.files_in_use().saturating_add(away)
+}
+
+/// Whether the replay is the coordinator of the book. Writes the script, which then ends with a `show` of each live
+/// record.
+fn is_replay_same(
+    rt: &HostRuntime,
+    ended: &mut Ended,
+    replay: &mut Replay,
+) -> Result<bool, DemoFault> {
+    let told = tell_the_same(ended.book.core(), &replay.core);
+    let shown = show_all(&mut ended.book, &mut replay.core)?;
+    write_script(rt, &ended.settings, &ended.book)?;
+    let counted = are_files_same(&mut ended.book, replay)?;
+    Ok(told && shown && counted)
+}
+
+fn word(holds: bool) -> &'static str {
+    if holds { "yes" } else { "no" }
+}
+
+fn tell_verdicts(rt: &HostRuntime, listed: bool, folder: bool, same: bool) -> io::Result<()> {
+    println!(rt; "each call is in the list: {}", word(listed))?;
+    println!(rt;
+        "the folder has the files that it should have: {}",
+        word(folder)
+    )?;
+    println!(rt; "a replay of the list is the coordinator: {}", word(same))
+}
+
+/// Checks the run against its replay. Answers whether all is as it should be.
+fn judge(
+    rt: &HostRuntime,
+    ended: &mut Ended,
+    replay: &mut Replay,
+    before: &[u64],
+) -> Result<bool, DemoFault> {
+    tell_calls(rt, ended.calls.as_slice());
+    tell_records(rt, replay.counts);
+    tell_counts(rt, replay, ended.written);
+    let listed = sum(ended.calls.as_slice()) == ended.book.len();
+    let folder = is_folder_right(rt, ended.settings.folder.as_str(), replay, before)?;
+    let same = is_replay_same(rt, ended, replay)?;
+    tell_verdicts(rt, listed, folder, same).map_err(|_| DemoFault::Output)?;
+    Ok(listed && folder && same)
+}
+
+/// Checks the run in a folder that had these files before, and tells what was found. Answers whether all is as it
+/// should be.
+pub fn check(rt: &HostRuntime, ended: &mut Ended, before: &[u64]) -> Result<bool, DemoFault> {
+    let mut replay = Replay::of(rt.alloc(), &ended.settings, &ended.book)?;
+    judge(rt, ended, &mut replay, before)
+}

@@ -1,0 +1,228 @@
+//! The thread that conducts: does what a user of the job does, and says how the run stands.
+ghost use Rattle.std.specs.Prelude.{◌≡◌};
+
+use crate::ground::Ground;
+use crate::settings::Settings;
+use ckpt_ids::{Call, CheckpointId, FileId, Metadata, Reply, Shape, Target};
+use ckpt_locked::Pass;
+use std::alloc::Global;
+use std::collections::BTreeSet;
+use std::sync::Wait;
+
+/// The time between two looks at the clock, in milliseconds.
+const PAUSE: u64 = 5;
+
+/// What the user does, in this order.
+#[derive(Clone, Copy)]
+enum Act {
+    Savepoint,
+    /// To the savepoint with this number.
+    RollBack(u64),
+    Rescale,
+    Nothing,
+}
+
+impl Act {
+    /// What follows on the answer.
+    fn next(self, reply: &Reply) -> Act {
+        match self {
+            Act::Savepoint => saved(reply),
+            Act::RollBack(_) => Act::Rescale,
+            Act::Rescale | Act::Nothing => Act::Nothing,
+        }
+    }
+
+    /// What follows where there is none, or the call was refused: a savepoint that is not complete is taken again.
+    fn again(self) -> Act {
+        match self {
+            Act::RollBack(_) => Act::Savepoint,
+            _ => self,
+        }
+    }
+
+    /// From when on it is done, in a run of this duration.
+    fn start(self, duration: u64) -> u64 {
+        match self {
+            Act::Savepoint => duration / 3,
+            Act::RollBack(_) => duration / 2,
+            Act::Rescale => duration / 4 * 3,
+            Act::Nothing => u64::MAX,
+        }
+    }
+}
+
+/// What follows on a savepoint.
+fn saved(reply: &Reply) -> Act {
+    match reply {
+        Reply::SavepointTriggered(id) => Act::RollBack(id.0),
+        _ => Act::Savepoint,
+    }
+}
+
+/// What the conductor has before it.
+#[derive(Drop)]
+struct Desk {
+    alloc: Global,
+    /// The newest record when it looked last, and those that were live then.
+    newest: u64,
+    live: Vec<u64>,
+    act: Act,
+    /// Not to be done before this moment.
+    act_at: u64,
+    seconds: u64,
+}
+
+/// What the live records are, for a line of progress. Without memory some are missing.
+#[derive(Drop)]
+struct Census {
+    live: Vec<u64>,
+    pending: u64,
+    used: BTreeSet<u64>,
+}
+
+impl Census {
+    /// Takes in a live record.
+    fn note(&mut self, id: u64, metadata: &Metadata) {
+        let _ = self.live.push(id);
+        self.pending = self.pending.saturating_add(u64::from(!metadata.done));
+        for acked in metadata.acks.as_slice() {
+            self.note_files(acked.files.as_slice());
+        }
+    }
+
+    fn note_files(&mut self, files: &[FileId]) {
+        for file in files {
+            let _ = self.used.insert(file.0);
+        }
+    }
+}
+
+impl Desk {
+    fn new(alloc: Global, duration: u64) -> Desk {
+        Desk {
+            alloc,
+            newest: 0,
+            live: Vec::new(alloc),
+            act: Act::Savepoint,
+            act_at: Act::Savepoint.start(duration),
+            seconds: 0,
+        }
+    }
+
+    /// Does what is next, and says what follows and when: records that were triggered have ended by then.
+    fn act<R: Wait>(&mut self, rt: &R, ground: &Ground, now: u64, pass: Pass) -> Pass
+        requires { pass.lock ≡ ground.now.lock }
+        ensures { result.lock ≡ ground.now.lock }
+    {
+        let Some(call) = self.call(&ground.settings, now) else {
+            return pass;
+        };
+        let (pass, reply) = ground.ask(rt, pass, call);
+        self.act = match reply {
+            Some(reply) => self.act.next(&reply),
+            None => self.act.again(),
+        };
+        let soon = now.saturating_add(ground.settings.timeout);
+        self.act_at = self.act.start(ground.settings.duration).max(soon);
+        pass
+    }
+
+    /// The call of what is next.
+    fn call(&self, settings: &Settings, now: u64) -> Option<Call> {
+        match self.act {
+            Act::Savepoint => Some(Call::Savepoint { now }),
+            Act::RollBack(id) => Some(restore(now, Target::Savepoint(CheckpointId(id)), None)),
+            Act::Rescale => {
+                let counters = (settings.counters / 2).max(1);
+                let shape = settings.shape(self.alloc, counters).ok()?;
+                Some(restore(now, Target::Latest, Some(shape)))
+            }
+            Act::Nothing => None,
+        }
+    }
+
+    /// Says how the run stands.
+    fn tell<R: Wait>(&mut self, rt: &R, ground: &Ground, pass: Pass) -> Pass
+        requires { pass.lock ≡ ground.now.lock }
+        ensures { result.lock ≡ ground.now.lock }
+    {
+        self.note_new(ground.board.newest());
+        let mut census = Census {
+            live: Vec::new(self.alloc),
+            pending: 0,
+            used: BTreeSet::new(self.alloc),
+        };
+        let known = ground.board.known();
+        let pass = count(rt, ground, pass, self.live.as_slice(), &mut census);
+        let (used, pending) = (census.used.len() as u64, census.pending);
+        tell_progress(ground, known, used, pending);
+        self.live = census.live;
+        pass
+    }
+
+    /// Takes in the records that are new.
+    fn note_new(&mut self, newest: u64) {
+        for id in self.newest.saturating_add(1)..newest.saturating_add(1) {
+            let _ = self.live.push(id);
+        }
+        self.newest = newest;
+    }
+}
+
+fn restore(now: u64, target: Target, shape: Option<Shape>) -> Call {
+    Call::Restore { now, target, shape }
+}
+
+/// Takes in those of the records that are live.
+fn count<R: Wait>(
+    rt: &R,
+    ground: &Ground,
+    mut pass: Pass,
+    records: &[u64],
+    census: &mut Census,
+) -> Pass
+    requires { pass.lock ≡ ground.now.lock }
+    ensures { result.lock ≡ ground.now.lock }
+{
+    for id in records {
+        let (next, metadata) = ground.show(rt, pass, CheckpointId(*id));
+        pass = next;
+        if let Some(metadata) = metadata {
+            census.note(*id, &metadata);
+        }
+    }
+    pass
+}
+
+/// Prints a line of progress. Where standard error fails, the run goes on.
+fn tell_progress(ground: &Ground, known: u64, used: u64, pending: u64) {
+    let (done, waiting) = (ground.board.completed(), known.saturating_sub(used));
+    let _ = eprintln!(&ground.host;
+        "checkpoints {done} done, {pending} pending; files {used} in use, {waiting} waiting"
+    );
+}
+
+/// Conducts the run to its end, when the job is cancelled.
+pub fn conduct<R: Wait>(rt: &R, ground: &Ground, mut pass: Pass) -> Pass
+    requires { pass.lock ≡ ground.now.lock }
+    ensures { result.lock ≡ ground.now.lock }
+{
+    let mut desk = Desk::new(ground.alloc, ground.settings.duration);
+    for _ in rt.forever() {
+        let now = ground.now();
+        if now >= ground.settings.duration {
+            let (pass, _) = ground.ask(rt, pass, Call::Cancel { now });
+            ground.board.end();
+            return pass;
+        }
+        if now >= desk.act_at {
+            pass = desk.act(rt, ground, now, pass);
+        }
+        if now / 1000 > desk.seconds {
+            desk.seconds = now / 1000;
+            pass = desk.tell(rt, ground, pass);
+        }
+        ground.wait(PAUSE);
+    }
+    unreachable!()
+}

@@ -1,0 +1,109 @@
+//! State files in a folder.
+ghost use Rattle.std.specs.Prelude.{◌≡◌};
+
+use crate::ground::Ground;
+use crate::settings::{DemoFault, Dice};
+use ckpt_ids::FileId;
+use ckpt_workers::{Storage, StorageFault};
+use std::alloc::{AllocError, Global};
+use std::fs;
+use std::sync::Wait;
+
+/// How many files are named in a line.
+const MOST_NAMED: usize = 10;
+
+/// The path of a file.
+pub fn path_of(alloc: Global, folder: &str, file: FileId) -> Result<String, AllocError> {
+    format!(in alloc; "{folder}/{}", file.0)
+}
+
+/// The numbers that the names in a folder are, in rising order. Other names are passed over.
+pub fn listed(rt: &HostRuntime, folder: &str) -> Result<Vec<u64>, DemoFault> {
+    let mut numbers = Vec::new(rt.alloc());
+    for entry in fs::read_dir(rt, folder).map_err(|_| DemoFault::Files)? {
+        let entry = entry.map_err(|_| DemoFault::Files)?;
+        if let Ok(number) = entry.file_name().parse::<u64>() {
+            numbers.push(number)?;
+        }
+    }
+    numbers.sort_unstable();
+    Ok(numbers)
+}
+
+/// Makes the folder where there is none, and tells which files it has: the coordinator will not know them.
+pub fn strangers(rt: &HostRuntime, folder: &str) -> Result<Vec<u64>, DemoFault> {
+    fs::create_dir_all(rt, folder).map_err(|_| DemoFault::Files)?;
+    let numbers = listed(rt, folder)?;
+    tell_files(
+        rt,
+        "files in the folder that are not known",
+        numbers.as_slice(),
+    );
+    Ok(numbers)
+}
+
+/// Tells how many files there are of a sort, and names the first ones. Where standard error fails, the run goes on.
+pub fn tell_files(rt: &HostRuntime, sort: &str, numbers: &[u64]) {
+    let _ = eprint!(rt; "{sort}: {}", numbers.len());
+    for number in numbers.iter().take(MOST_NAMED) {
+        let _ = eprint!(rt; " {number}");
+    }
+    let more = if numbers.len() > MOST_NAMED {
+        " .."
+    } else {
+        ""
+    };
+    let _ = eprintln!(rt; "{more}");
+}
+
+/// Deletes files of the folder, and fails now and then.
+#[derive(Drop)]
+pub struct Disk<'a, R: Wait> {
+    rt: &'a R,
+    ground: &'a Ground,
+    dice: Dice,
+    deleted: Vec<FileId>,
+    failures: u64,
+}
+
+impl<'a, R: Wait> Disk<'a, R> {
+    pub fn new(rt: &'a R, ground: &'a Ground) -> Disk<'a, R> {
+        Disk {
+            rt,
+            ground,
+            dice: Dice::new(ground.settings.seed),
+            deleted: Vec::new(ground.alloc),
+            failures: 0,
+        }
+    }
+}
+
+/// Removes the file, but now and then.
+fn is_removed(ground: &Ground, dice: &mut Dice, file: FileId) -> bool {
+    if dice.falls(ground.settings.failures) {
+        return false;
+    }
+    match path_of(ground.alloc, ground.settings.folder.as_str(), file) {
+        Ok(path) => fs::remove_file(&ground.host, path.as_str()).is_ok(),
+        Err(_) => false,
+    }
+}
+
+impl<'a, R: Wait> Storage for Disk<'a, R> {
+    ghost stored = { λ d. record { deleted = d.deleted.items; failures = d.failures } };
+
+    fn delete(&mut self, file: FileId) -> Result<(), StorageFault> {
+        // First the room to note it.
+        if self.deleted.reserve(1).is_ok() && is_removed(self.ground, &mut self.dice, file) {
+            self.deleted.push_reserved(file);
+            return Ok(());
+        }
+        if self.failures == u64::MAX {
+            // Nobody sees so many failures; a count that stands still would be wrong.
+            for _ in self.rt.forever() {}
+            unreachable!()
+        }
+        self.failures += 1;
+        Err(StorageFault)
+    }
+}

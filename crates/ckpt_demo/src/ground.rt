@@ -1,0 +1,234 @@
+//! What the threads of a run share.
+ghost use Rattle.std.specs.Prelude.{◌≡◌};
+
+use crate::clock::{Watch, wait};
+use crate::settings::Settings;
+use ckpt_ids::{Answer, Call, CheckpointId, Choice, FileId, Metadata, Reply, TickEnd};
+use ckpt_locked::{Locked, Pass};
+use ckpt_workers::Gate;
+use std::alloc::Global;
+use std::sync::Wait;
+use std::sync::atomic::{AtomicU64, Ordering};
+
+/// What the answers so far told. Threads take it up without a call.
+#[derive(Drop)]
+pub struct Board {
+    interval: u64,
+    newest: AtomicU64,
+    base: AtomicU64,
+    due: AtomicU64,
+    completed: AtomicU64,
+    registered: AtomicU64,
+    deleted: AtomicU64,
+    /// The greatest number of a file.
+    named: AtomicU64,
+    written: AtomicU64,
+    ended: AtomicU64,
+}
+
+/// What a call says that its answer does not.
+#[derive(Clone, Copy)]
+struct Asked {
+    now: u64,
+    id: u64,
+    fresh: u64,
+}
+
+impl Asked {
+    fn of(call: &Call) -> Asked {
+        let (now, id, fresh) = match call {
+            Call::Tick { now } => (*now, 0, 0),
+            Call::Ack { now, id, fresh, .. } => (*now, id.0, fresh.len() as u64),
+            _ => (0, 0, 0),
+        };
+        Asked { now, id, fresh }
+    }
+}
+
+impl Board {
+    /// Before the first call. Files get numbers above the greatest one that the folder has.
+    pub fn new(interval: u64, greatest: u64) -> Board {
+        Board {
+            interval,
+            newest: AtomicU64::new(0),
+            base: AtomicU64::new(0),
+            due: AtomicU64::new(interval),
+            completed: AtomicU64::new(0),
+            registered: AtomicU64::new(0),
+            deleted: AtomicU64::new(0),
+            named: AtomicU64::new(greatest),
+            written: AtomicU64::new(0),
+            ended: AtomicU64::new(0),
+        }
+    }
+
+    fn hear(&self, asked: Asked, reply: &Reply) {
+        match reply {
+            Reply::Ticked {
+                end: TickEnd::Triggered(id),
+                ..
+            } => {
+                self.newest.fetch_max(id.0, Ordering::SeqCst);
+                let due = asked.now.saturating_add(self.interval);
+                self.due.store(due, Ordering::SeqCst);
+            }
+            Reply::SavepointTriggered(id) => {
+                self.newest.fetch_max(id.0, Ordering::SeqCst);
+            }
+            Reply::AckPending(_) => {
+                self.registered.fetch_add(asked.fresh, Ordering::SeqCst);
+            }
+            Reply::AckCompleted { .. } => {
+                self.registered.fetch_add(asked.fresh, Ordering::SeqCst);
+                self.completed.fetch_add(1, Ordering::SeqCst);
+                self.base.fetch_max(asked.id, Ordering::SeqCst);
+            }
+            Reply::AckLate(files) => {
+                self.registered.fetch_add(*files, Ordering::SeqCst);
+            }
+            Reply::Restored { from, .. } => self.base.store(number_of(*from), Ordering::SeqCst),
+            Reply::Deleted(_) => {
+                self.deleted.fetch_add(1, Ordering::SeqCst);
+            }
+            _ => {}
+        }
+    }
+
+    /// The number of the newest record, or 0.
+    pub fn newest(&self) -> u64 {
+        self.newest.load(Ordering::SeqCst)
+    }
+
+    /// The number of the newest record that is complete, or that the job was rolled back to; 0 where there is none.
+    pub fn base(&self) -> u64 {
+        self.base.load(Ordering::SeqCst)
+    }
+
+    /// The moment from which the next checkpoint may start.
+    pub fn due(&self) -> u64 {
+        self.due.load(Ordering::SeqCst)
+    }
+
+    /// How many records were completed.
+    pub fn completed(&self) -> u64 {
+        self.completed.load(Ordering::SeqCst)
+    }
+
+    /// How many files the coordinator knows of: those registered and not reported as deleted.
+    pub fn known(&self) -> u64 {
+        let deleted = self.deleted.load(Ordering::SeqCst);
+        self.registered
+            .load(Ordering::SeqCst)
+            .saturating_sub(deleted)
+    }
+
+    /// A number that no file has.
+    pub fn new_file(&self) -> FileId {
+        let before = self.named.fetch_add(1, Ordering::SeqCst);
+        FileId(before.wrapping_add(1))
+    }
+
+    /// Notes a file that was written.
+    pub fn note_written(&self) {
+        self.written.fetch_add(1, Ordering::SeqCst);
+    }
+
+    /// How many files were written.
+    pub fn written(&self) -> u64 {
+        self.written.load(Ordering::SeqCst)
+    }
+
+    /// Ends the run for the threads that look.
+    pub fn end(&self) {
+        self.ended.store(1, Ordering::SeqCst);
+    }
+
+    pub fn has_ended(&self) -> bool {
+        self.ended.load(Ordering::SeqCst) > 0
+    }
+}
+
+fn reply_of(answer: Answer) -> Option<Reply> {
+    match answer {
+        Answer::Done(reply) => Some(reply),
+        Answer::Refused(_) => None,
+    }
+}
+
+/// The number of the record, or 0.
+fn number_of(choice: Choice) -> u64 {
+    match choice {
+        Choice::Checkpoint(CheckpointId(id)) | Choice::Savepoint(CheckpointId(id)) => id,
+        Choice::Fresh => 0,
+    }
+}
+
+/// What the threads of a run share: the lock, and a board on which stands what the answers told.
+#[derive(Drop)]
+pub struct Ground {
+    pub host: HostRuntime,
+    pub lock: Locked,
+    pub board: Board,
+    pub settings: Settings,
+    pub watch: Watch,
+    pub alloc: Global,
+    /// How many tasks the job has at first.
+    pub tasks: u32,
+}
+
+impl Gate for Ground {
+    ghost lock = { λ g. g.lock };
+
+    fn call<R: Wait>(
+        &self,
+        rt: &R,
+        pass: Pass,
+        call: Call,
+    ) -> Result<(Pass, Answer), (Pass, Call)> {
+        let asked = Asked::of(&call);
+        match self.lock.call(rt, pass, call) {
+            Ok((pass, answer)) => {
+                if let Answer::Done(reply) = &answer {
+                    self.board.hear(asked, reply);
+                }
+                Ok((pass, answer))
+            }
+            Err(back) => Err(back),
+        }
+    }
+}
+
+impl Ground {
+    /// Makes a call, and answers nothing where it was refused or found no memory.
+    pub fn ask<R: Wait>(&self, rt: &R, pass: Pass, call: Call) -> (Pass, Option<Reply>)
+        requires { pass.lock ≡ self.now.lock }
+        ensures { result.0.lock ≡ self.now.lock }
+    {
+        match self.call(rt, pass, call) {
+            Ok((pass, answer)) => (pass, reply_of(answer)),
+            Err((pass, _call)) => (pass, None),
+        }
+    }
+
+    /// The metadata of a live record.
+    pub fn show<R: Wait>(&self, rt: &R, pass: Pass, id: CheckpointId) -> (Pass, Option<Metadata>)
+        requires { pass.lock ≡ self.now.lock }
+        ensures { result.0.lock ≡ self.now.lock }
+    {
+        let (pass, reply) = self.ask(rt, pass, Call::Show { id });
+        match reply {
+            Some(Reply::Shown(metadata)) => (pass, Some(metadata)),
+            _ => (pass, None),
+        }
+    }
+
+    /// Milliseconds since the run began.
+    pub fn now(&self) -> u64 {
+        self.watch.now(&self.host)
+    }
+
+    /// Waits some milliseconds.
+    pub fn wait(&self, milliseconds: u64) {
+        wait(&self.host, milliseconds);
+    }
+}

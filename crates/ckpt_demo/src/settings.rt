@@ -1,0 +1,175 @@
+//! What a run goes by, and why there is none.
+use ckpt_ids::{Config, Shape};
+use std::alloc::{AllocError, AllocFailed, Global};
+use thiserror::Error;
+
+/// Why there was no run, or none to its end.
+#[derive(Clone, Copy, Debug, Error)]
+pub enum DemoFault {
+    #[error("the settings can't be read")]
+    Input,
+    #[error("line {line} is no setting")]
+    Setting { line: usize },
+    #[error("the settings are outside their limits")]
+    Limits,
+    #[error("the folder, a file in it or the script can't be read or written")]
+    Files,
+    #[error("nothing can be printed")]
+    Output,
+    #[error("out of memory")]
+    Memory,
+    #[error("the lock does not close")]
+    Open,
+}
+
+impl From<AllocError> for DemoFault {
+    fn from(_error: AllocError) -> DemoFault {
+        DemoFault::Memory
+    }
+}
+
+impl<T: Drop> From<AllocFailed<T>> for DemoFault {
+    fn from(_error: AllocFailed<T>) -> DemoFault {
+        DemoFault::Memory
+    }
+}
+
+/// What is run. Times are milliseconds, shares percent.
+#[derive(Drop)]
+pub struct Settings {
+    pub duration: u64,
+    pub interval: u64,
+    pub timeout: u64,
+    pub retained: u64,
+    pub sources: u64,
+    pub counters: u64,
+    /// How many files a task writes for a record.
+    pub files: u64,
+    /// How often a task declines.
+    pub declines: u64,
+    /// How often a deletion fails.
+    pub failures: u64,
+    pub seed: u64,
+    pub folder: String,
+    /// Where the script of the run is written.
+    pub script: String,
+}
+
+impl Settings {
+    /// Reads lines of a name and a value. Blank ones are skipped, and those that begin with `#`. What no line says is
+    /// as in `demo/SETTINGS`.
+    pub fn read(alloc: Global, text: &[u8]) -> Result<Settings, DemoFault> {
+        let mut settings = Settings::usual(alloc)?;
+        let text = str::from_utf8(text).map_err(|_| DemoFault::Input)?;
+        for (place, line) in text.lines().enumerate() {
+            if !line.is_empty() && !line.starts_with("#") {
+                let set = settings.set(alloc, line)?;
+                set.ok_or(DemoFault::Setting {
+                    line: place.saturating_add(1),
+                })?;
+            }
+        }
+        Ok(settings)
+    }
+
+    fn usual(alloc: Global) -> Result<Settings, AllocError> {
+        Ok(Settings {
+            duration: 2000,
+            interval: 100,
+            timeout: 400,
+            retained: 2,
+            sources: 2,
+            counters: 4,
+            files: 2,
+            declines: 3,
+            failures: 10,
+            seed: 7,
+            folder: String::from_str(alloc, "/tmp/ckpt_demo")?,
+            script: String::from_str(alloc, "/tmp/ckpt_demo.script")?,
+        })
+    }
+
+    /// Takes in a line, or answers nothing where it is no setting.
+    fn set(&mut self, alloc: Global, line: &str) -> Result<Option<()>, AllocError> {
+        let Some((name, value)) = line.split_once(" ") else {
+            return Ok(None);
+        };
+        match name {
+            "folder" => self.folder = String::from_str(alloc, value)?,
+            "script" => self.script = String::from_str(alloc, value)?,
+            _ => return Ok(self.set_number(name, value)),
+        }
+        Ok(Some(()))
+    }
+
+    fn set_number(&mut self, name: &str, value: &str) -> Option<()> {
+        let number = value.parse().ok()?;
+        match name {
+            "duration" => self.duration = number,
+            "interval" => self.interval = number,
+            "timeout" => self.timeout = number,
+            "retained" => self.retained = number,
+            "sources" => self.sources = number,
+            "counters" => self.counters = number,
+            "files" => self.files = number,
+            "declines" => self.declines = number,
+            "failures" => self.failures = number,
+            "seed" => self.seed = number,
+            _ => return None,
+        }
+        Some(())
+    }
+
+    /// How many tasks the job has at first.
+    pub fn tasks(&self) -> u32 {
+        let tasks = self.sources.saturating_add(self.counters);
+        u32::try_from(tasks).unwrap_or(u32::MAX)
+    }
+
+    /// The configuration of the job.
+    pub fn config(&self) -> Result<Config, DemoFault> {
+        Config::new(
+            self.interval,
+            0,
+            4,
+            self.timeout,
+            1000,
+            self.retained,
+            false,
+        )
+        .map_err(|_| DemoFault::Limits)
+    }
+
+    /// The shape of a job with so many counters.
+    pub fn shape(&self, alloc: Global, counters: u64) -> Result<Shape, DemoFault> {
+        Shape::new(alloc, &[self.sources, counters]).map_err(|_| DemoFault::Limits)
+    }
+}
+
+/// Numbers that look random, the same ones for the same seed.
+#[derive(Clone, Copy)]
+pub struct Dice {
+    state: u64,
+}
+
+impl Dice {
+    pub fn new(seed: u64) -> Dice {
+        let mut dice = Dice { state: seed };
+        dice.turn();
+        dice
+    }
+
+    /// Source: Knuth, "MMIX".
+    fn turn(&mut self) {
+        self.state = self
+            .state
+            .wrapping_mul(6364136223846793005)
+            .wrapping_add(1442695040888963407);
+    }
+
+    /// Whether something that happens so often, in percent, happens now.
+    pub fn falls(&mut self, percent: u64) -> bool {
+        self.turn();
+        (self.state >> 33) % 100 < percent
+    }
+}
