@@ -226,7 +226,11 @@ fn judge(
 
 /// Checks the run in a folder that had these files before, and tells what was found. Answers whether all is as it
 /// should be.
-pub fn check(rt: &HostRuntime, ended: &mut Ended, before: &[u64]) -> Result<bool, DemoFault> {
+pub(crate) fn check(
+    rt: &HostRuntime,
+    ended: &mut Ended,
+    before: &[u64],
+) -> Result<bool, DemoFault> {
     let mut replay = Replay::of(rt.alloc(), &ended.settings, &ended.book)?;
     judge(rt, ended, &mut replay, before)
 }

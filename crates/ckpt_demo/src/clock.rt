@@ -7,7 +7,7 @@ const LAST: u64 = (1 << 62) - 1;
 
 /// A clock that began with the run, by what the host's clock said then, in milliseconds.
 #[derive(Clone, Copy)]
-pub struct Watch {
+pub(crate) struct Watch {
     start: u64,
 }
 
@@ -20,17 +20,17 @@ fn read(host: &HostRuntime) -> u64 {
 }
 
 impl Watch {
-    pub fn started(host: &HostRuntime) -> Watch {
+    pub(crate) fn started(host: &HostRuntime) -> Watch {
         Watch { start: read(host) }
     }
 
     /// Milliseconds since the run began.
-    pub fn now(&self, host: &HostRuntime) -> u64 {
+    pub(crate) fn now(&self, host: &HostRuntime) -> u64 {
         read(host).saturating_sub(self.start)
     }
 }
 
 /// Waits some milliseconds.
-pub fn wait(host: &HostRuntime, milliseconds: u64) {
+pub(crate) fn wait(host: &HostRuntime, milliseconds: u64) {
     thread::sleep(host, Duration::from_millis(milliseconds));
 }

@@ -203,7 +203,7 @@ fn tell_progress(ground: &Ground, known: u64, used: u64, pending: u64) {
 }
 
 /// Conducts the run to its end, when the job is cancelled.
-pub fn conduct<R: Wait>(rt: &R, ground: &Ground, mut pass: Pass) -> Pass
+pub(crate) fn conduct<R: Wait>(rt: &R, ground: &Ground, mut pass: Pass) -> Pass
     requires { pass.lock ≡ ground.now.lock }
     ensures { result.lock ≡ ground.now.lock }
 {

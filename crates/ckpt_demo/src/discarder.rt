@@ -36,7 +36,7 @@ fn round<R: Wait>(rt: &R, ground: &Ground, pass: Pass, disk: &mut Disk<'_, R>) -
 }
 
 /// Goes on until the run has ended and no file waits.
-pub fn discard<R: Wait>(rt: &R, ground: &Ground, mut pass: Pass) -> Pass
+pub(crate) fn discard<R: Wait>(rt: &R, ground: &Ground, mut pass: Pass) -> Pass
     requires { pass.lock ≡ ground.now.lock }
     ensures { result.lock ≡ ground.now.lock }
 {

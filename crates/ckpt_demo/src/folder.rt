@@ -13,12 +13,12 @@ use std::sync::Wait;
 const MOST_NAMED: usize = 10;
 
 /// The path of a file.
-pub fn path_of(alloc: Global, folder: &str, file: FileId) -> Result<String, AllocError> {
+pub(crate) fn path_of(alloc: Global, folder: &str, file: FileId) -> Result<String, AllocError> {
     format!(in alloc; "{folder}/{}", file.0)
 }
 
 /// The numbers that the names in a folder are, in rising order. Other names are passed over.
-pub fn listed(rt: &HostRuntime, folder: &str) -> Result<Vec<u64>, DemoFault> {
+pub(crate) fn listed(rt: &HostRuntime, folder: &str) -> Result<Vec<u64>, DemoFault> {
     let mut numbers = Vec::new(rt.alloc());
     for entry in fs::read_dir(rt, folder).map_err(|_| DemoFault::Files)? {
         let entry = entry.map_err(|_| DemoFault::Files)?;
@@ -31,7 +31,7 @@ pub fn listed(rt: &HostRuntime, folder: &str) -> Result<Vec<u64>, DemoFault> {
 }
 
 /// Makes the folder where there is none, and tells which files it has: the coordinator will not know them.
-pub fn strangers(rt: &HostRuntime, folder: &str) -> Result<Vec<u64>, DemoFault> {
+pub(crate) fn strangers(rt: &HostRuntime, folder: &str) -> Result<Vec<u64>, DemoFault> {
     fs::create_dir_all(rt, folder).map_err(|_| DemoFault::Files)?;
     let numbers = listed(rt, folder)?;
     tell_files(
@@ -43,7 +43,7 @@ pub fn strangers(rt: &HostRuntime, folder: &str) -> Result<Vec<u64>, DemoFault> 
 }
 
 /// Tells how many files there are of a sort, and names the first ones. Where standard error fails, the run goes on.
-pub fn tell_files(rt: &HostRuntime, sort: &str, numbers: &[u64]) {
+pub(crate) fn tell_files(rt: &HostRuntime, sort: &str, numbers: &[u64]) {
     let _ = eprint!(rt; "{sort}: {}", numbers.len());
     for number in numbers.iter().take(MOST_NAMED) {
         let _ = eprint!(rt; " {number}");
@@ -58,7 +58,7 @@ pub fn tell_files(rt: &HostRuntime, sort: &str, numbers: &[u64]) {
 
 /// Deletes files of the folder, and fails now and then.
 #[derive(Drop)]
-pub struct Disk<'a, R: Wait> {
+pub(crate) struct Disk<'a, R: Wait> {
     rt: &'a R,
     ground: &'a Ground,
     dice: Dice,
@@ -67,7 +67,7 @@ pub struct Disk<'a, R: Wait> {
 }
 
 impl<'a, R: Wait> Disk<'a, R> {
-    pub fn new(rt: &'a R, ground: &'a Ground) -> Disk<'a, R> {
+    pub(crate) fn new(rt: &'a R, ground: &'a Ground) -> Disk<'a, R> {
         Disk {
             rt,
             ground,

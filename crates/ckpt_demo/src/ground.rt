@@ -12,7 +12,7 @@ use std::sync::atomic::{AtomicU64, Ordering};
 
 /// What the answers so far told. Threads take it up without a call.
 #[derive(Drop)]
-pub struct Board {
+pub(crate) struct Board {
     interval: u64,
     newest: AtomicU64,
     base: AtomicU64,
@@ -47,7 +47,7 @@ impl Asked {
 
 impl Board {
     /// Before the first call. Files get numbers above the greatest one that the folder has.
-    pub fn new(interval: u64, greatest: u64) -> Board {
+    pub(crate) fn new(interval: u64, greatest: u64) -> Board {
         Board {
             interval,
             newest: AtomicU64::new(0),
@@ -95,27 +95,27 @@ impl Board {
     }
 
     /// The number of the newest record, or 0.
-    pub fn newest(&self) -> u64 {
+    pub(crate) fn newest(&self) -> u64 {
         self.newest.load(Ordering::SeqCst)
     }
 
     /// The number of the newest record that is complete, or that the job was rolled back to; 0 where there is none.
-    pub fn base(&self) -> u64 {
+    pub(crate) fn base(&self) -> u64 {
         self.base.load(Ordering::SeqCst)
     }
 
     /// The moment from which the next checkpoint may start.
-    pub fn due(&self) -> u64 {
+    pub(crate) fn due(&self) -> u64 {
         self.due.load(Ordering::SeqCst)
     }
 
     /// How many records were completed.
-    pub fn completed(&self) -> u64 {
+    pub(crate) fn completed(&self) -> u64 {
         self.completed.load(Ordering::SeqCst)
     }
 
     /// How many files the coordinator knows of: those registered and not reported as deleted.
-    pub fn known(&self) -> u64 {
+    pub(crate) fn known(&self) -> u64 {
         let deleted = self.deleted.load(Ordering::SeqCst);
         self.registered
             .load(Ordering::SeqCst)
@@ -123,27 +123,27 @@ impl Board {
     }
 
     /// A number that no file has.
-    pub fn new_file(&self) -> FileId {
+    pub(crate) fn new_file(&self) -> FileId {
         let before = self.named.fetch_add(1, Ordering::SeqCst);
         FileId(before.wrapping_add(1))
     }
 
     /// Notes a file that was written.
-    pub fn note_written(&self) {
+    pub(crate) fn note_written(&self) {
         self.written.fetch_add(1, Ordering::SeqCst);
     }
 
     /// How many files were written.
-    pub fn written(&self) -> u64 {
+    pub(crate) fn written(&self) -> u64 {
         self.written.load(Ordering::SeqCst)
     }
 
     /// Ends the run for the threads that look.
-    pub fn end(&self) {
+    pub(crate) fn end(&self) {
         self.ended.store(1, Ordering::SeqCst);
     }
 
-    pub fn has_ended(&self) -> bool {
+    pub(crate) fn has_ended(&self) -> bool {
         self.ended.load(Ordering::SeqCst) > 0
     }
 }
@@ -165,15 +165,15 @@ fn number_of(choice: Choice) -> u64 {
 
 /// What the threads of a run share: the lock, and a board on which stands what the answers told.
 #[derive(Drop)]
-pub struct Ground {
-    pub host: HostRuntime,
-    pub lock: Locked,
-    pub board: Board,
-    pub settings: Settings,
-    pub watch: Watch,
-    pub alloc: Global,
+pub(crate) struct Ground {
+    pub(crate) host: HostRuntime,
+    pub(crate) lock: Locked,
+    pub(crate) board: Board,
+    pub(crate) settings: Settings,
+    pub(crate) watch: Watch,
+    pub(crate) alloc: Global,
     /// How many tasks the job has at first.
-    pub tasks: u32,
+    pub(crate) tasks: u32,
 }
 
 impl Gate for Ground {
@@ -200,7 +200,7 @@ impl Gate for Ground {
 
 impl Ground {
     /// Makes a call, and answers nothing where it was refused or found no memory.
-    pub fn ask<R: Wait>(&self, rt: &R, pass: Pass, call: Call) -> (Pass, Option<Reply>)
+    pub(crate) fn ask<R: Wait>(&self, rt: &R, pass: Pass, call: Call) -> (Pass, Option<Reply>)
         requires { pass.lock ≡ self.now.lock }
         ensures { result.0.lock ≡ self.now.lock }
     {
@@ -211,7 +211,12 @@ impl Ground {
     }
 
     /// The metadata of a live record.
-    pub fn show<R: Wait>(&self, rt: &R, pass: Pass, id: CheckpointId) -> (Pass, Option<Metadata>)
+    pub(crate) fn show<R: Wait>(
+        &self,
+        rt: &R,
+        pass: Pass,
+        id: CheckpointId,
+    ) -> (Pass, Option<Metadata>)
         requires { pass.lock ≡ self.now.lock }
         ensures { result.0.lock ≡ self.now.lock }
     {
@@ -223,12 +228,12 @@ impl Ground {
     }
 
     /// Milliseconds since the run began.
-    pub fn now(&self) -> u64 {
+    pub(crate) fn now(&self) -> u64 {
         self.watch.now(&self.host)
     }
 
     /// Waits some milliseconds.
-    pub fn wait(&self, milliseconds: u64) {
+    pub(crate) fn wait(&self, milliseconds: u64) {
         wait(&self.host, milliseconds);
     }
 }

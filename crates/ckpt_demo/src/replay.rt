@@ -8,7 +8,7 @@ use std::collections::BTreeMap;
 
 /// Where a file should be.
 #[derive(Clone, Copy, PartialEq, Eq)]
-pub enum Place {
+pub(crate) enum Place {
     /// Its acknowledgement was refused, so it lies in the folder for good.
     Refused,
     /// The coordinator knows it: a record uses it, or it waits or is taken.
@@ -18,26 +18,26 @@ pub enum Place {
 
 /// What became of records and files, as the answers say.
 #[derive(Clone, Copy)]
-pub struct Counts {
-    pub completed: u64,
-    pub dropped: u64,
-    pub expired: u64,
-    pub declined: u64,
-    pub late: u64,
-    pub deleted: u64,
-    pub failed: u64,
+pub(crate) struct Counts {
+    pub(crate) completed: u64,
+    pub(crate) dropped: u64,
+    pub(crate) expired: u64,
+    pub(crate) declined: u64,
+    pub(crate) late: u64,
+    pub(crate) deleted: u64,
+    pub(crate) failed: u64,
 }
 
 /// A coordinator that made the calls of a list, and what their answers say.
 #[derive(Drop)]
-pub struct Replay {
-    pub core: Core,
-    pub places: BTreeMap<u64, Place>,
-    pub counts: Counts,
+pub(crate) struct Replay {
+    pub(crate) core: Core,
+    pub(crate) places: BTreeMap<u64, Place>,
+    pub(crate) counts: Counts,
 }
 
 /// Makes a call, and answers it also where it is refused.
-pub fn answer(core: &mut Core, call: &Call) -> Result<Answer, DemoFault> {
+pub(crate) fn answer(core: &mut Core, call: &Call) -> Result<Answer, DemoFault> {
     match core.apply(call) {
         Ok(reply) => Ok(Answer::Done(reply)),
         Err(CoreFault::Refused(why)) => Ok(Answer::Refused(why)),
@@ -58,7 +58,7 @@ impl Replay {
     }
 
     /// Makes the calls of the book.
-    pub fn of(alloc: Global, settings: &Settings, book: &Book) -> Result<Replay, DemoFault> {
+    pub(crate) fn of(alloc: Global, settings: &Settings, book: &Book) -> Result<Replay, DemoFault> {
         let mut replay = Replay::open(alloc, settings)?;
         for place in 0..book.len() {
             if let Some(entry) = book.entry(place) {

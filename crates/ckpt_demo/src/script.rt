@@ -45,7 +45,11 @@ fn script(alloc: Global, settings: &Settings, book: &Book) -> Result<String, Dem
 }
 
 /// Writes the script to its file: `ckpt_job` runs it, and `ckpt_chart` draws it.
-pub fn write_script(rt: &HostRuntime, settings: &Settings, book: &Book) -> Result<(), DemoFault> {
+pub(crate) fn write_script(
+    rt: &HostRuntime,
+    settings: &Settings,
+    book: &Book,
+) -> Result<(), DemoFault> {
     let text = script(rt.alloc(), settings, book)?;
     fs::write(rt, settings.script.as_str(), text.as_str()).map_err(|_| DemoFault::Files)
 }

@@ -5,7 +5,7 @@ use thiserror::Error;
 
 /// Why there was no run, or none to its end.
 #[derive(Clone, Copy, Debug, Error)]
-pub enum DemoFault {
+pub(crate) enum DemoFault {
     #[error("the settings can't be read")]
     Input,
     #[error("line {line} is no setting")]
@@ -36,29 +36,29 @@ impl<T: Drop> From<AllocFailed<T>> for DemoFault {
 
 /// What is run. Times are milliseconds, shares percent.
 #[derive(Drop)]
-pub struct Settings {
-    pub duration: u64,
-    pub interval: u64,
-    pub timeout: u64,
-    pub retained: u64,
-    pub sources: u64,
-    pub counters: u64,
+pub(crate) struct Settings {
+    pub(crate) duration: u64,
+    pub(crate) interval: u64,
+    pub(crate) timeout: u64,
+    pub(crate) retained: u64,
+    pub(crate) sources: u64,
+    pub(crate) counters: u64,
     /// How many files a task writes for a record.
-    pub files: u64,
+    pub(crate) files: u64,
     /// How often a task declines.
-    pub declines: u64,
+    pub(crate) declines: u64,
     /// How often a deletion fails.
-    pub failures: u64,
-    pub seed: u64,
-    pub folder: String,
+    pub(crate) failures: u64,
+    pub(crate) seed: u64,
+    pub(crate) folder: String,
     /// Where the script of the run is written.
-    pub script: String,
+    pub(crate) script: String,
 }
 
 impl Settings {
     /// Reads lines of a name and a value. Blank ones are skipped, and those that begin with `#`. What no line says is
     /// as in `demo/SETTINGS`.
-    pub fn read(alloc: Global, text: &[u8]) -> Result<Settings, DemoFault> {
+    pub(crate) fn read(alloc: Global, text: &[u8]) -> Result<Settings, DemoFault> {
         let mut settings = Settings::usual(alloc)?;
         let text = str::from_utf8(text).map_err(|_| DemoFault::Input)?;
         for (place, line) in text.lines().enumerate() {
@@ -121,13 +121,13 @@ impl Settings {
     }
 
     /// How many tasks the job has at first.
-    pub fn tasks(&self) -> u32 {
+    pub(crate) fn tasks(&self) -> u32 {
         let tasks = self.sources.saturating_add(self.counters);
         u32::try_from(tasks).unwrap_or(u32::MAX)
     }
 
     /// The configuration of the job.
-    pub fn config(&self) -> Result<Config, DemoFault> {
+    pub(crate) fn config(&self) -> Result<Config, DemoFault> {
         Config::new(
             self.interval,
             0,
@@ -141,19 +141,19 @@ impl Settings {
     }
 
     /// The shape of a job with so many counters.
-    pub fn shape(&self, alloc: Global, counters: u64) -> Result<Shape, DemoFault> {
+    pub(crate) fn shape(&self, alloc: Global, counters: u64) -> Result<Shape, DemoFault> {
         Shape::new(alloc, &[self.sources, counters]).map_err(|_| DemoFault::Limits)
     }
 }
 
 /// Numbers that look random, the same ones for the same seed.
 #[derive(Clone, Copy)]
-pub struct Dice {
+pub(crate) struct Dice {
     state: u64,
 }
 
 impl Dice {
-    pub fn new(seed: u64) -> Dice {
+    pub(crate) fn new(seed: u64) -> Dice {
         let mut dice = Dice { state: seed };
         dice.turn();
         dice
@@ -168,7 +168,7 @@ impl Dice {
     }
 
     /// Whether something that happens so often, in percent, happens now.
-    pub fn falls(&mut self, percent: u64) -> bool {
+    pub(crate) fn falls(&mut self, percent: u64) -> bool {
         self.turn();
         (self.state >> 33) % 100 < percent
     }

@@ -153,7 +153,7 @@ fn look_up<R: Wait>(rt: &R, ground: &Ground, pass: Pass, id: CheckpointId) -> (P
 }
 
 /// Takes its part of each new record, until the run has ended.
-pub fn work<R: Wait>(rt: &R, ground: &Ground, mut pass: Pass) -> Pass
+pub(crate) fn work<R: Wait>(rt: &R, ground: &Ground, mut pass: Pass) -> Pass
     requires { pass.lock ≡ ground.now.lock }
     ensures { result.lock ≡ ground.now.lock }
 {

@@ -20,7 +20,7 @@ use std::thread::Threads;
 const OTHERS: u32 = 3;
 
 /// What is done with each pass, by a thread of its own.
-pub trait Work {
+pub(crate) trait Work {
     ghost lock: { Self → Lock };
 
     fn work<R: Wait>(&self, rt: &R, pass: Pass) -> Pass
@@ -56,13 +56,13 @@ fn tick<R: Wait>(rt: &R, ground: &Ground, pass: Pass) -> Pass
 
 /// What is left of a run.
 #[derive(Drop)]
-pub struct Ended {
-    pub book: Book,
-    pub settings: Settings,
+pub(crate) struct Ended {
+    pub(crate) book: Book,
+    pub(crate) settings: Settings,
     /// How many calls were made with each seat: those of the tasks, the timer, the discarder and the conductor.
-    pub calls: Vec<u64>,
+    pub(crate) calls: Vec<u64>,
     /// How many files the tasks wrote.
-    pub written: u64,
+    pub(crate) written: u64,
 }
 
 /// The book of the job.
@@ -73,7 +73,7 @@ fn open(alloc: Global, settings: &Settings) -> Result<Book, DemoFault> {
 }
 
 /// Runs the job to its end: joins every thread, and closes the lock.
-pub fn run<R: Threads + Wait + Sync>(
+pub(crate) fn run<R: Threads + Wait + Sync>(
     rt: &R,
     host: HostRuntime,
     settings: Settings,

@@ -11,14 +11,14 @@ const MOST: u64 = 50;
 
 /// Waits for the moment at which the next checkpoint is due, but not longer than records need that expire.
 #[derive(Drop)]
-pub struct Beats<'a> {
+pub(crate) struct Beats<'a> {
     ground: &'a Ground,
     given: Vec<u64>,
     left: u64,
 }
 
 impl<'a> Beats<'a> {
-    pub fn new(ground: &'a Ground) -> Beats<'a> {
+    pub(crate) fn new(ground: &'a Ground) -> Beats<'a> {
         Beats {
             ground,
             given: Vec::new(ground.alloc),

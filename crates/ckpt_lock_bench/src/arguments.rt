@@ -3,21 +3,21 @@ use std::env;
 
 /// What the calls go through.
 #[derive(Clone, Copy)]
-pub enum Way {
+pub(crate) enum Way {
     Locked,
     Mutex,
 }
 
 /// What the command line asks for.
 #[derive(Clone, Copy)]
-pub struct Plan {
-    pub way: Way,
-    pub threads: u32,
+pub(crate) struct Plan {
+    pub(crate) way: Way,
+    pub(crate) threads: u32,
     /// How many calls each thread makes.
-    pub calls: u64,
+    pub(crate) calls: u64,
 }
 
-pub fn read_plan(rt: &HostRuntime) -> Result<Plan> {
+pub(crate) fn read_plan(rt: &HostRuntime) -> Result<Plan> {
     let mut words = env::args(rt)?.skip(1);
     let (Some(way), Some(threads), Some(calls)) = (words.next(), words.next(), words.next()) else {
         bail!("usage: ckpt_lock_bench locked|mutex THREADS CALLS");

@@ -58,7 +58,12 @@ fn make<R: Wait>(rt: &R, lock: &Locked, pass: Pass, calls: u64) -> u64
 
 /// Lets so many threads make so many calls each through a lock over the book. Gives the number of
 /// calls that were made.
-pub fn run<R: Threads + Wait + Sync>(rt: &R, book: Book, threads: u32, calls: u64) -> Result<u64> {
+pub(crate) fn run<R: Threads + Wait + Sync>(
+    rt: &R,
+    book: Book,
+    threads: u32,
+    calls: u64,
+) -> Result<u64> {
     let Ok((lock, passes)) = Locked::new(rt, book, threads) else {
         bail!("no lock: it has 1 to 64 seats, or there is no memory");
     };

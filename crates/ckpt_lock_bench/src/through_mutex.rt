@@ -30,7 +30,7 @@ impl Work for Desk {
 
 /// Lets so many threads make so many calls each through a mutex round the book. Gives the number of
 /// calls that were made.
-pub fn run<R: Threads + Wait + Sync>(
+pub(crate) fn run<R: Threads + Wait + Sync>(
     rt: &R,
     alloc: Global,
     book: Book,
