@@ -1,30 +1,46 @@
 //! A job, its coordinator, and what the tests compare.
+//!
+//! A test lets go of its book by `drop`: one that goes at the end of a function makes the proof of that
+//! function several times as long.
 use ckpt_core::{Core, OpenFault};
-use ckpt_ids::{Answer, CheckpointId, Config, Reply, Shape, TickEnd};
-use ckpt_locked::Book;
-use std::alloc::Global;
+use ckpt_ids::{
+    Answer, Call, CheckpointId, Config, FileId, Files, Refusal, Reply, Shape, SubtaskId, TickEnd,
+};
+use ckpt_locked::{Book, Entry};
+use std::alloc::{AllocError, Global};
 use std::test::Fail;
 
-/// A job of one subtask with a checkpoint each second, of which one is kept.
-fn opening(alloc: Global) -> Result<(Config, Shape), Fail> {
-    let config = Config::new(1000, 0, 1, 600_000, 0, 1, false)?;
-    Ok((config, Shape::new(alloc, &[1])?))
+/// A job of one subtask with a checkpoint each second, of which so many are kept.
+fn opening(alloc: Global, retained: u64) -> Result<(Config, Shape), Fail> {
+    let config = Config::new(1000, 0, 1, 600_000, 0, retained, false)?;
+    let shape = match Shape::new(alloc, &[1]) {
+        Ok(shape) => shape,
+        Err(_) => Shape::new(alloc, &[1])?,
+    };
+    Ok((config, shape))
 }
 
-/// Opens that job's book, where the moment and the first number are within their limits.
+/// Opens the book of that job with one checkpoint kept, where the moment and the first number are
+/// within their limits.
 pub(crate) fn opened(alloc: Global, now: u64, first: u64) -> Result<Result<Book, OpenFault>, Fail> {
-    let (config, shape) = opening(alloc)?;
+    let (config, shape) = opening(alloc, 1)?;
     Ok(Book::new(alloc, config, shape, now, first))
 }
 
-/// That job's book, opened at the moment 0.
+/// The book of that job, opened at the moment 0.
+pub(crate) fn open_retaining(alloc: Global, retained: u64) -> Result<Book, Fail> {
+    let (config, shape) = opening(alloc, retained)?;
+    Ok(Book::new(alloc, config, shape, 0, 1)?)
+}
+
+/// That book with one checkpoint kept.
 pub(crate) fn open(alloc: Global) -> Result<Book, Fail> {
-    Ok(opened(alloc, 0, 1)??)
+    open_retaining(alloc, 1)
 }
 
 /// The coordinator of that job, opened at the moment 0.
 pub(crate) fn open_core(alloc: Global) -> Result<Core, Fail> {
-    let (config, shape) = opening(alloc)?;
+    let (config, shape) = opening(alloc, 1)?;
     Ok(Core::new(alloc, config, shape, 0, 1)?)
 }
 
@@ -40,6 +56,85 @@ pub(crate) fn triggered(id: u64) -> Answer {
         expired: 0,
         end: TickEnd::Triggered(CheckpointId(id)),
     })
+}
+
+/// The acknowledgement of checkpoint 1 at the moment 1000, with the new file 11.
+pub(crate) fn last_ack(alloc: Global) -> Result<Call, AllocError> {
+    let mut fresh = Vec::new(alloc);
+    fresh.push(FileId(11))?;
+    Ok(Call::Ack {
+        now: 1000,
+        id: CheckpointId(1),
+        subtask: SubtaskId {
+            vertex: 0,
+            index: 0,
+        },
+        fresh: Files::of(fresh),
+        reused: Files::of(Vec::new(alloc)),
+    })
+}
+
+/// The answer to that acknowledgement, which completes checkpoint 1.
+fn completed() -> Answer {
+    Answer::Done(Reply::AckCompleted {
+        dropped: 0,
+        released: 0,
+    })
+}
+
+/// Whether the call finds memory and is answered so.
+fn answers(book: &mut Book, seat: u32, call: Call, expected: &Answer) -> bool {
+    match book.apply(seat, call) {
+        Ok(answer) => answer == *expected,
+        Err(_) => false,
+    }
+}
+
+/// Whether the call is answered so; where it finds no memory, whether nothing was entered and the
+/// call that came back is answered so.
+pub(crate) fn says(book: &mut Book, seat: u32, call: Call, expected: &Answer) -> bool {
+    let entries = book.len();
+    match book.apply(seat, call) {
+        Ok(answer) => answer == *expected,
+        Err(back) => book.len() == entries && answers(book, seat, back, expected),
+    }
+}
+
+/// Whether a tick of seat 7 comes too early, and seat 1 finds no record.
+pub(crate) fn begins(book: &mut Book) -> bool {
+    let (early, refused) = (held(), Answer::Refused(Refusal::NoSuchRecord));
+    let id = CheckpointId(1);
+    says(book, 7, Call::Tick { now: 999 }, &early) && says(book, 1, Call::Show { id }, &refused)
+}
+
+/// Whether seat 7 triggers checkpoint 1, and seat 8 completes it by this acknowledgement.
+pub(crate) fn completes(book: &mut Book, last: Call) -> bool {
+    let (triggered, completed) = (triggered(1), completed());
+    says(book, 7, Call::Tick { now: 1000 }, &triggered) && says(book, 8, last, &completed)
+}
+
+/// Whether so many calls of the file of checkpoint 1 are answered that it is used once.
+pub(crate) fn counts(book: &mut Book, seat: u32, times: u32) -> bool {
+    let file = FileId(11);
+    let once = Answer::Done(Reply::Counted(file, 1));
+    for _ in 0..times {
+        if !says(book, seat, Call::Count { file }, &once) {
+            return false;
+        }
+    }
+    true
+}
+
+pub(crate) fn number_of(id: CheckpointId) -> u64 {
+    id.0
+}
+
+/// The entry at this place, counted from 0.
+pub(crate) fn entry(book: &Book, place: u64) -> Result<&Entry, Fail> {
+    match book.entry(place) {
+        Some(entry) => Ok(entry),
+        None => Err(Fail::new("no entry")),
+    }
 }
 
 /// Whether the call of this entry was made by this seat.

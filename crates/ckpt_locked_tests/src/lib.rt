@@ -6,6 +6,8 @@
 #[cfg(test)]
 mod book;
 #[cfg(test)]
+mod deeds;
+#[cfg(test)]
 mod desk;
 #[cfg(test)]
 mod forgetting;
@@ -13,6 +15,8 @@ mod forgetting;
 mod lock;
 #[cfg(test)]
 mod rows;
+#[cfg(test)]
+mod savepoints;
 #[cfg(test)]
 mod threads;
 #[cfg(test)]

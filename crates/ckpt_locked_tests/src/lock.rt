@@ -1,7 +1,7 @@
 //! Rows of calls through a lock, by one thread.
 ghost use Rattle.std.specs.Prelude.{◌≡◌, IfOk};
 
-use crate::desk::{held, is_by, open, triggered};
+use crate::desk::{begins, is_by, open, triggered};
 use ckpt_ids::{Answer, Call, CheckpointId, Kind, Metadata, Refusal, Reply, Shape};
 use ckpt_locked::{Book, LockFault, Locked, Pass};
 use std::alloc::Global;
@@ -73,41 +73,48 @@ fn ask<R: Wait>(rt: &R, lock: &Locked, pass: Pass, call: Call) -> Result<(Pass, 
     }
 }
 
-/// A book with two entries, of the seats 7 and 1.
-fn with_two_entries(rt: &impl Abort, alloc: Global) -> Result<Book, Fail> {
-    let mut book = open(alloc)?;
-    let id = CheckpointId(1);
-    let refused = Answer::Refused(Refusal::NoSuchRecord);
-    assert!(rt; book.apply(7, Call::Tick { now: 999 }).ok() == Some(held()));
-    assert!(rt; book.apply(1, Call::Show { id }).ok() == Some(refused));
-    Ok(book)
+/// Tries to make a lock with so many seats, which are too many or none, and gives the book back.
+fn refuse<R: Wait>(rt: &R, book: Book, seats: u32) -> Result<Book, Fail> {
+    match Locked::new(rt, book, seats) {
+        Err((book, LockFault::BadSeats)) => Ok(book),
+        Err((_, LockFault::Memory)) => Err(Fail::new("no memory")),
+        Ok(_) => Err(Fail::new("a lock")),
+    }
 }
 
-/// Tries to make a lock with so many seats, which are too many or none.
-fn refuse<R: Wait + Abort>(rt: &R, book: Book, seats: u32) -> Result<Book, Fail> {
-    match Locked::new(rt, book, seats) {
-        Ok(_) => Err(Fail::new("a lock")),
-        Err((book, fault)) => {
-            assert_eq!(rt; fault, LockFault::BadSeats);
-            Ok(book)
-        }
+/// Triggers checkpoint 1 with a pass that made no call yet.
+fn trigger<R: Wait>(rt: &R, lock: &Locked, pass: Pass) -> Result<Pass, Fail>
+    requires { pass.lock ≡ lock.now }
+    ensures { IfOk result (λ pass. pass.lock ≡ lock.now) }
+{
+    let (pass, answer) = ask(rt, lock, pass, Call::Tick { now: 1000 })?;
+    if answer == triggered(1) && pass.calls() == 1 {
+        Ok(pass)
+    } else {
+        Err(Fail::new("another answer"))
     }
+}
+
+/// A book with two entries, of the seats 7 and 1, that was given back twice.
+fn with_two_entries(rt: &(impl Wait + Abort), alloc: Global) -> Result<Book, Fail> {
+    let mut book = open(alloc)?;
+    assert!(rt; begins(&mut book));
+    refuse(rt, refuse(rt, book, 0)?, 65)
+}
+
+/// Whether the pass has this seat, and made so many calls.
+fn has(pass: &Pass, seat: u32, calls: u64) -> bool {
+    pass.seat() == seat && pass.calls() == calls
 }
 
 #[test]
 fn a_lock_over_a_book_with_entries(rt: HostRuntime) -> Result<(), Fail> {
-    let book = refuse(&rt, with_two_entries(&rt, rt.alloc())?, 0)?;
-    let book = refuse(&rt, book, 65)?;
-    assert_eq!(rt; book.len(), 2);
-    let (lock, first, second) = two(&rt, book)?;
-    assert_eq!(rt; (first.seat(), first.calls()), (0, 0));
-    assert_eq!(rt; (second.seat(), second.calls()), (1, 0));
-    let (first, answer) = ask(&rt, &lock, first, Call::Tick { now: 1000 })?;
-    assert!(rt; answer == triggered(1));
-    assert_eq!(rt; first.calls(), 1);
+    let (lock, first, second) = two(&rt, with_two_entries(&rt, rt.alloc())?)?;
+    assert!(rt; has(&first, 0, 0) && has(&second, 1, 0));
+    let first = trigger(&rt, &lock, first)?;
     let book = close(&rt, rt.alloc(), lock, first, second)?;
-    assert_eq!(rt; book.len(), 3);
-    assert!(rt; is_by(&book, 0, 7) && is_by(&book, 2, 0));
+    assert!(rt; book.len() == 3 && is_by(&book, 0, 7) && is_by(&book, 2, 0));
+    drop(book);
     Ok(())
 }
 
@@ -118,22 +125,32 @@ fn is_pending(alloc: Global, metadata: &Metadata) -> Result<bool, Fail> {
     Ok(is_first && is_new && metadata.shape == Shape::new(alloc, &[1])?)
 }
 
-#[test]
-fn a_lock_over_a_new_book(rt: HostRuntime) -> Result<(), Fail> {
-    let (lock, first, second) = two(&rt, open(rt.alloc())?)?;
-    let (first, answer) = ask(&rt, &lock, first, Call::Tick { now: 1000 })?;
-    assert!(rt; answer == triggered(1));
+/// Shows checkpoint 1, which is pending.
+fn show<R: Wait>(rt: &R, alloc: Global, lock: &Locked, pass: Pass) -> Result<Pass, Fail>
+    requires { pass.lock ≡ lock.now }
+    ensures { IfOk result (λ pass. pass.lock ≡ lock.now) }
+{
     let id = CheckpointId(1);
-    let (second, answer) = ask(&rt, &lock, second, Call::Show { id })?;
+    let (pass, answer) = ask(rt, lock, pass, Call::Show { id })?;
     let Answer::Done(Reply::Shown(metadata)) = answer else {
         return Err(Fail::new("not shown"));
     };
-    assert!(rt; is_pending(rt.alloc(), &metadata)?);
-    assert_eq!(rt; (first.calls(), second.calls()), (1, 1));
+    if is_pending(alloc, &metadata)? {
+        Ok(pass)
+    } else {
+        Err(Fail::new("not pending"))
+    }
+}
+
+#[test]
+fn a_lock_over_a_new_book(rt: HostRuntime) -> Result<(), Fail> {
+    let (lock, first, second) = two(&rt, open(rt.alloc())?)?;
+    let first = trigger(&rt, &lock, first)?;
+    let second = show(&rt, rt.alloc(), &lock, second)?;
     let (lock, first) = close_with_one(&rt, rt.alloc(), lock, first)?;
-    assert_eq!(rt; (first.seat(), first.calls()), (0, 1));
+    assert!(rt; has(&first, 0, 1) && has(&second, 1, 1));
     let book = close(&rt, rt.alloc(), lock, first, second)?;
-    assert_eq!(rt; book.len(), 2);
-    assert!(rt; is_by(&book, 0, 0) && is_by(&book, 1, 1));
+    assert!(rt; book.len() == 2 && is_by(&book, 0, 0) && is_by(&book, 1, 1));
+    drop(book);
     Ok(())
 }

@@ -1,161 +1,39 @@
 //! Rows of calls with their answers, each call made again where it finds no memory: what it left
 //! then is what it found.
-use ckpt_ids::{
-    Answer, Call, CheckpointId, Choice, Config, FileId, Files, Handed, Refusal, Reply, Shape,
-    SubtaskId, Target, TickEnd,
-};
+use crate::deeds::{Deed, Says, call_again, reply_again};
+use crate::desk::{open_retaining, says};
+use ckpt_ids::{CheckpointId, Choice, Refusal, Target};
 use ckpt_locked::Book;
 use std::alloc::{AllocError, Global};
 use std::process::Abort;
 use std::test::Fail;
 
-/// A call. Files have numbers above 0, and 0 stands for none.
-#[derive(Drop)]
-enum Deed {
-    Tick(u64),
-    Savepoint(u64),
-    Ack(u64, u64, [u64; 2], [u64; 2]),
-    Restore(u64, Target),
-    Dispose(u64),
-    Take(u64),
-    Count(u64),
+/// Whether the book answers as it should.
+fn answers(alloc: Global, book: &mut Book, deed: &Deed, reply: &Says) -> Result<bool, AllocError> {
+    let expected = reply_again(alloc, reply)?;
+    let call = call_again(alloc, deed)?;
+    Ok(says(book, 5, call, &expected))
 }
 
-/// What it is answered.
-#[derive(Drop)]
-enum Says {
-    Triggered(u64),
-    SavepointTriggered(u64),
-    Completed(u32, u64),
-    Restored(Choice, u64),
-    Disposed(u64),
-    Taken([u64; 4]),
-    Counted(u64, u32),
-    Refused(Refusal),
-}
-
-/// A job of one subtask with a checkpoint each second, of which so many are kept.
-fn open(alloc: Global, retained: u64) -> Result<Book, Fail> {
-    let config = Config::new(1000, 0, 1, 600_000, 0, retained, false)?;
-    let shape = match Shape::new(alloc, &[1]) {
-        Ok(shape) => shape,
-        Err(_) => Shape::new(alloc, &[1])?,
-    };
-    Ok(Book::new(alloc, config, shape, 0, 1)?)
-}
-
-fn listed(alloc: Global, numbers: &[u64]) -> Result<Vec<FileId>, AllocError> {
-    let mut files = Vec::new(alloc);
-    for number in numbers {
-        if *number > 0 {
-            files.push(FileId(*number))?;
+/// Makes the calls of a row, one after the other, up to one that isn't answered as it should be. Tells
+/// how many were entered before it.
+fn play_on(alloc: Global, book: &mut Book, row: &[(Deed, Says)]) -> u64 {
+    let mut played = 0;
+    for (deed, reply) in row {
+        if answers(alloc, book, deed, reply) != Ok(true) {
+            break;
         }
+        played = book.len();
     }
-    Ok(files)
+    played
 }
 
-fn ack(
-    alloc: Global,
-    now: u64,
-    id: u64,
-    fresh: &[u64; 2],
-    reused: &[u64; 2],
-) -> Result<Call, AllocError> {
-    Ok(Call::Ack {
-        now,
-        id: CheckpointId(id),
-        subtask: SubtaskId {
-            vertex: 0,
-            index: 0,
-        },
-        fresh: Files::of(listed(alloc, fresh)?),
-        reused: Files::of(listed(alloc, reused)?),
-    })
-}
-
-fn call(alloc: Global, deed: &Deed) -> Result<Call, AllocError> {
-    Ok(match deed {
-        Deed::Tick(now) => Call::Tick { now: *now },
-        Deed::Savepoint(now) => Call::Savepoint { now: *now },
-        Deed::Ack(now, id, fresh, reused) => return ack(alloc, *now, *id, fresh, reused),
-        Deed::Restore(now, target) => Call::Restore {
-            now: *now,
-            target: *target,
-            shape: None,
-        },
-        Deed::Dispose(id) => Call::Dispose {
-            id: CheckpointId(*id),
-        },
-        Deed::Take(most) => Call::Take { most: *most },
-        Deed::Count(file) => Call::Count {
-            file: FileId(*file),
-        },
-    })
-}
-
-fn reply(alloc: Global, says: &Says) -> Result<Answer, AllocError> {
-    Ok(Answer::Done(match says {
-        Says::Triggered(id) => Reply::Ticked {
-            expired: 0,
-            end: TickEnd::Triggered(CheckpointId(*id)),
-        },
-        Says::SavepointTriggered(id) => Reply::SavepointTriggered(CheckpointId(*id)),
-        Says::Completed(dropped, released) => Reply::AckCompleted {
-            dropped: *dropped,
-            released: *released,
-        },
-        Says::Restored(from, released) => Reply::Restored {
-            from: *from,
-            released: *released,
-        },
-        Says::Disposed(released) => Reply::Disposed(*released),
-        Says::Taken(files) => Reply::Taken(Handed::of(listed(alloc, files)?)),
-        Says::Counted(file, count) => Reply::Counted(FileId(*file), *count),
-        Says::Refused(why) => return Ok(Answer::Refused(*why)),
-    }))
-}
-
-/// The call, tried a second time where the first finds no memory.
-fn call_again(alloc: Global, deed: &Deed) -> Result<Call, AllocError> {
-    match call(alloc, deed) {
-        Ok(made) => Ok(made),
-        Err(_) => call(alloc, deed),
-    }
-}
-
-fn reply_again(alloc: Global, says: &Says) -> Result<Answer, AllocError> {
-    match reply(alloc, says) {
-        Ok(made) => Ok(made),
-        Err(_) => reply(alloc, says),
-    }
-}
-
-fn is_answered(book: &mut Book, call: Call, expected: &Answer) -> bool {
-    match book.apply(5, call) {
-        Ok(answer) => answer == *expected,
-        Err(_) => false,
-    }
-}
-
-/// Whether the call is answered so; where it finds no memory, whether no entry was made and the
-/// call that came back is answered so.
-fn insists(book: &mut Book, call: Call, expected: &Answer) -> bool {
-    let entries = book.len();
-    match book.apply(5, call) {
-        Ok(answer) => answer == *expected,
-        Err(back) => book.len() == entries && is_answered(book, back, expected),
-    }
-}
-
-/// Makes the calls of a row, one after the other.
+/// Makes the calls of a row on a new book, with so many checkpoints kept.
 fn play(rt: &impl Abort, alloc: Global, retained: u64, row: &[(Deed, Says)]) -> Result<(), Fail> {
-    let mut book = open(alloc, retained)?;
-    for (deed, says) in row {
-        let expected = reply_again(alloc, says)?;
-        let call = call_again(alloc, deed)?;
-        assert!(rt; insists(&mut book, call, &expected));
-    }
-    assert_eq!(rt; book.len(), row.len() as u64);
+    let mut book = open_retaining(alloc, retained)?;
+    let played = play_on(alloc, &mut book, row);
+    drop(book);
+    assert_eq!(rt; played, row.len() as u64);
     Ok(())
 }
 

@@ -7,4 +7,4 @@ pub map_vec-requires-send-J : goal.map_vec-requires-send-J
 map_vec-requires-send-J g c = search (pass_send, sendable, crosses) depth 20
 
 pub map_vec-requires-send-X : goal.map_vec-requires-send-X
-map_vec-requires-send-X g c = search (pass_send, sendable, crosses) depth 80 fits 20000
+map_vec-requires-send-X g c = search (pass_send, sendable, crosses) depth 40
