@@ -9,11 +9,13 @@ mod arguments;
 mod through_lock;
 mod through_mutex;
 
-use crate::arguments::{Way, read_plan};
+use crate::arguments::{Plan, Way, read_plan};
 use anyhow::Result;
 use ckpt_ids::{Call, Config, FileId, Shape};
 use ckpt_locked::Book;
 use std::alloc::Global;
+use std::sync::Wait;
+use std::thread::Threads;
 use std::time::Instant;
 
 /// How many entries the book keeps.
@@ -38,16 +40,20 @@ fn call_at(place: u64) -> Call {
     }
 }
 
+/// Makes the calls of a plan, and gives their number.
+fn make<R: Threads + Wait + Sync + AllocGlobal>(rt: &R, plan: &Plan) -> Result<u64> {
+    let book = opened(rt.alloc())?;
+    match plan.way {
+        Way::Locked => through_lock::run(rt, book, plan.threads, plan.calls),
+        Way::Mutex => through_mutex::run(rt, rt.alloc(), book, plan.threads, plan.calls),
+    }
+}
+
 fn main(rt: HostRuntime) -> Result<()> {
     let plan = read_plan(&rt)?;
-    let book = opened(rt.alloc())?;
     let begun = Instant::now(&rt)?;
-    let made = match plan.way {
-        Way::Locked => through_lock::run(&rt, book, plan.threads, plan.calls)?,
-        Way::Mutex => through_mutex::run(&rt, rt.alloc(), book, plan.threads, plan.calls)?,
-    };
-    let taken = begun.elapsed(&rt)?;
-    let each = taken.as_nanos() / u128::from(made.max(1));
+    let made = make(&rt, &plan)?;
+    let each = begun.elapsed(&rt)?.as_nanos() / u128::from(made.max(1));
     println!(rt; "{} threads, {made} calls", plan.threads)?;
     eprintln!(rt; "{each} ns a call")?;
     Ok(())

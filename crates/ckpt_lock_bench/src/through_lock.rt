@@ -3,6 +3,7 @@ ghost use Rattle.ckpt_locked.specs.Locks.{Lock};
 
 use crate::call_at;
 use anyhow::{Result, bail};
+use ckpt_ids::Call;
 use ckpt_locked::{Book, Locked, Pass};
 use std::alloc::AllocError;
 use std::sync::Wait;
@@ -33,16 +34,24 @@ impl Work for Desk {
     }
 }
 
+/// Makes a call with the pass, and gives the pass back.
+fn ask<R: Wait>(rt: &R, lock: &Locked, pass: Pass, call: Call) -> Pass
+    requires { pass.lock ≡ lock.now }
+    ensures { result.lock ≡ lock.now }
+{
+    match lock.call(rt, pass, call) {
+        Ok((pass, _)) => pass,
+        Err((pass, _)) => pass,
+    }
+}
+
 /// Makes so many calls with the pass, in order. Tells how many found memory.
 fn make<R: Wait>(rt: &R, lock: &Locked, pass: Pass, calls: u64) -> u64
     requires { pass.lock ≡ lock.now }
 {
     let mut pass = pass;
     for place in 0..calls {
-        pass = match lock.call(rt, pass, call_at(place)) {
-            Ok((next, _)) => next,
-            Err((same, _)) => same,
-        };
+        pass = ask(rt, lock, pass, call_at(place));
     }
     pass.calls()
 }
@@ -51,7 +60,7 @@ fn make<R: Wait>(rt: &R, lock: &Locked, pass: Pass, calls: u64) -> u64
 /// calls that were made.
 pub fn run<R: Threads + Wait + Sync>(rt: &R, book: Book, threads: u32, calls: u64) -> Result<u64> {
     let Ok((lock, passes)) = Locked::new(rt, book, threads) else {
-        bail!("no lock");
+        bail!("no lock: it has 1 to 64 seats, or there is no memory");
     };
     let made = scatter(rt, &Desk { lock, calls }, passes)?;
     Ok(
