@@ -14,7 +14,7 @@ fn two<R: Wait>(rt: &R, book: Book) -> Result<(Locked, Pass, Pass), Fail>
     ensures { IfOk result (λ made. (made.1.lock ≡ made.0) × (made.2.lock ≡ made.0)) }
 {
     let Ok((lock, mut passes)) = Locked::new(rt, book, 2) else {
-        return Err(Fail::new("no lock"));
+        return Err(Fail::new("no memory for a lock"));
     };
     let (Some(second), Some(first)) = (passes.pop(), passes.pop()) else {
         return Err(Fail::new("no passes"));
