@@ -5,7 +5,7 @@ ghost use Rattle.std.specs.Prelude.{◌≡◌, All, IfOk};
 use crate::books::{ack, enter, open};
 use crate::desk::{Disk, Listed, closed, order, three};
 use ckpt_ids::{Call, FileId};
-use ckpt_locked::{Book, Locked, Pass};
+use ckpt_locked::{Book, Entry, Locked, Pass};
 use ckpt_workers::{Order, Storage, discard_round, task_worker, timer_worker};
 use crossbeam_channel::{Receiver, Sender, unbounded};
 use std::alloc::{AllocError, Global};
@@ -27,7 +27,7 @@ struct Task {
     orders: Receiver<Order>,
 }
 
-/// Tells each task what to acknowledge. One that has ended is told nothing.
+/// Tells each task what to acknowledge, and closes its channel. One that has ended is told nothing.
 fn tell<R: Wait>(rt: &R, orders: Vec<(Sender<Order>, Order)>) {
     for (task, order) in orders {
         let _ = task.send(rt, order);
@@ -44,7 +44,7 @@ fn trigger<R: Wait>(rt: &R, lock: &Locked, timer: Timer) -> Pass
     pass
 }
 
-/// Acknowledges what the task is told, until the channel is closed.
+/// Acknowledges what the task is told, until its channel is closed.
 fn acknowledge<R: Wait>(rt: &R, lock: &Locked, task: Task) -> Pass
     requires { task.pass.lock ≡ lock.now }
     ensures { result.lock ≡ lock.now }
@@ -187,21 +187,33 @@ fn take_checkpoint_two<R: Threads + Wait + Sync, S: Storage>(
 fn under_a_lock<R: Threads + Wait + Sync, S: Storage>(
     rt: &R,
     alloc: Global,
-    book: Book,
     storage: &mut S,
 ) -> Result<Book, Fail> {
-    let (lock, first, second, third) = three(rt, book)?;
+    let (lock, first, second, third) = three(rt, with_checkpoint_one(alloc)?)?;
     let passes = take_checkpoint_two(rt, alloc, &lock, (first, second, third), storage)?;
     closed(rt, lock, passes)
+}
+
+/// Whether the entry is a tick of the first seat.
+fn is_timer_tick(entry: &Entry) -> bool {
+    entry.seat == 0 && matches!(entry.call, Call::Tick { now: 2000 })
+}
+
+/// Whether the book has such a tick at this place.
+fn has_tick_at(book: &Book, place: u64) -> bool {
+    match book.entry(place) {
+        Some(entry) => is_timer_tick(entry),
+        None => false,
+    }
 }
 
 #[test]
 fn a_checkpoint_is_taken_by_two_tasks(rt: HostRuntime) -> Result<(), Fail> {
     let alloc = rt.alloc();
     let mut disk = Disk::new(&rt, alloc, None);
-    let book = under_a_lock(&rt, alloc, with_checkpoint_one(alloc)?, &mut disk)?;
+    let book = under_a_lock(&rt, alloc, &mut disk)?;
     assert!(rt; disk.deleted.as_slice() == [FileId(1), FileId(2)].as_slice());
     // Three calls of checkpoint 1 and three of checkpoint 2, a take, and two reports.
-    assert!(rt; book.len() == 9);
+    assert!(rt; book.len() == 9 && has_tick_at(&book, 3));
     Ok(())
 }

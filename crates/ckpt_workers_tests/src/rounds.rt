@@ -60,44 +60,63 @@ fn is_cut_short<R: Abort + Wait, G: Gate, S: Storage>(
     gate: &G,
     pass: Pass,
     storage: &mut S,
+    gone: bool,
 ) -> (Pass, Handed)
     requires { pass.lock ≡ G.lock gate.now }
     ensures { result.0.lock ≡ G.lock gate.now }
 {
     let (pass, round) = round_of(rt, alloc, gate, pass, storage);
     assert!(rt; [round.taken, round.deleted, round.failed] == [3, 1, 0]);
-    assert!(rt; round.gone && round.memory);
+    assert!(rt; round.gone == gone && round.memory);
     (pass, round.left)
 }
 
-/// The rest of the round, whose first file is gone.
+/// The rest of the round, which deletes and reports two files.
 fn goes_on<R: Abort + Wait, G: Gate, S: Storage>(
     rt: &R,
     gate: &G,
     pass: Pass,
     storage: &mut S,
     left: Handed,
+    gone: bool,
 ) -> Pass
     requires { pass.lock ≡ G.lock gate.now }
     ensures { result.lock ≡ G.lock gate.now }
 {
-    let (pass, round) = rest_of(rt, gate, pass, storage, left, true);
+    let (pass, round) = rest_of(rt, gate, pass, storage, left, gone);
     assert!(rt; [round.taken, round.deleted, round.failed] == [2, 2, 0]);
     assert!(rt; is_whole(&round));
     pass
 }
 
-#[test]
-fn a_round_without_memory_goes_on(rt: HostRuntime) -> Result<(), Fail> {
-    let alloc = rt.alloc();
-    let (lock, pass) = lock_with_three_files(&rt, alloc)?;
+/// A round of three files whose second report finds no memory, and what is left of it. Each file is
+/// deleted once, and none waits any more.
+fn is_done_in_two<R: Abort + Wait>(
+    rt: &R,
+    alloc: Global,
+    fails_at: Option<u64>,
+    gone: bool,
+) -> Result<(), Fail> {
+    let (lock, pass) = lock_with_three_files(rt, alloc)?;
     let gate = Forgetful::new(lock, 2);
-    let mut disk = Disk::new(&rt, alloc, None);
-    let (pass, left) = is_cut_short(&rt, alloc, &gate, pass, &mut disk);
+    let mut disk = Disk::new(rt, alloc, fails_at);
+    let (pass, left) = is_cut_short(rt, alloc, &gate, pass, &mut disk, gone);
     assert!(rt; are(&left, &[FileId(2), FileId(3)]));
-    let pass = goes_on(&rt, &gate, pass, &mut disk, left);
+    let pass = goes_on(rt, &gate, pass, &mut disk, left, gone);
     assert!(rt; disk.deleted.as_slice() == [FileId(1), FileId(2), FileId(3)].as_slice());
-    let (_pass, answer) = told(&rt, &gate, pass, Call::Take { most: 8 })?;
+    let (_pass, answer) = told(rt, &gate, pass, Call::Take { most: 8 })?;
     assert!(rt; has_taken(&answer, &[]));
     Ok(())
+}
+
+/// The second file is gone: it is reported, and not deleted again.
+#[test]
+fn a_round_without_memory_goes_on(rt: HostRuntime) -> Result<(), Fail> {
+    is_done_in_two(&rt, rt.alloc(), None, true)
+}
+
+/// Storage failed on the second file: it is tried again.
+#[test]
+fn a_round_without_memory_tries_again(rt: HostRuntime) -> Result<(), Fail> {
+    is_done_in_two(&rt, rt.alloc(), Some(1), false)
 }

@@ -8,6 +8,7 @@ use ckpt_ids::{Answer, Call, FileId, Reply, TickEnd};
 use ckpt_locked::{Book, Entry, Locked, Pass};
 use ckpt_workers::{Gate, Report, Share, spread};
 use std::alloc::{AllocError, Global};
+use std::process::Abort;
 use std::sync::Wait;
 use std::test::Fail;
 use std::thread::Threads;
@@ -188,15 +189,22 @@ fn passes_of(alloc: Global, reports: Vec<Report>) -> Result<Vec<Pass>, AllocErro
     Ok(passes)
 }
 
-#[test]
-fn two_threads_make_a_thousand_calls_each(rt: HostRuntime) -> Result<(), Fail> {
-    let alloc = rt.alloc();
-    let (lock, first, second) = two(&rt, open(alloc, 600_000, 0, 1)?)?;
+/// The book after a thousand calls of each of two threads.
+fn after_two_thousand<R: Threads + Wait + Abort + Sync>(
+    rt: &R,
+    alloc: Global,
+) -> Result<Book, Fail> {
+    let (lock, first, second) = two(rt, open(alloc, 600_000, 0, 1)?)?;
     let first = thousand(alloc, first)?;
     let second = thousand(alloc, second)?;
-    let reports = over_lock(&rt, alloc, &lock, first, second)?;
+    let reports = over_lock(rt, alloc, &lock, first, second)?;
     assert!(rt; reports.iter().all(|report| report.pass.calls() == 1000));
-    let book = book_of(&rt, alloc, lock, reports)?;
+    book_of(rt, alloc, lock, reports)
+}
+
+#[test]
+fn two_threads_make_a_thousand_calls_each(rt: HostRuntime) -> Result<(), Fail> {
+    let book = after_two_thousand(&rt, rt.alloc())?;
     assert!(rt; has_both(&book));
     Ok(())
 }
