@@ -41,9 +41,9 @@ pub(crate) fn ack(
 }
 
 /// Enters a call in the book.
-pub(crate) fn enter(book: &mut Book, call: Call) -> Result<(), Fail> {
+pub(crate) fn enter(book: &mut Book, call: Call) -> Result<(), AllocError> {
     match book.apply(NO_SEAT, call) {
         Ok(_) => Ok(()),
-        Err(_) => Err(Fail::new("no memory")),
+        Err(_) => Err(AllocError),
     }
 }

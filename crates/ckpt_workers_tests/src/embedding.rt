@@ -122,7 +122,7 @@ fn discard<R: Wait, S: Storage>(
 }
 
 /// Checkpoint 1 is triggered, and completed with the files 1 and 2.
-fn complete(alloc: Global, book: &mut Book) -> Result<(), Fail> {
+fn complete(alloc: Global, book: &mut Book) -> Result<(), AllocError> {
     let left = ack(alloc, 1000, 1, 0, &[1])?;
     let right = ack(alloc, 1000, 1, 1, &[2])?;
     enter(book, Call::Tick { now: 1000 })?;

@@ -8,13 +8,19 @@ use crate::gates::Forgetful;
 use ckpt_ids::{Call, FileId, Handed};
 use ckpt_locked::{Book, Locked, Pass};
 use ckpt_workers::{Gate, Storage};
-use std::alloc::Global;
+use std::alloc::{AllocError, Global};
 use std::process::Abort;
 use std::sync::Wait;
 use std::test::Fail;
 
 /// Triggers a checkpoint and completes it with new files.
-fn complete(alloc: Global, book: &mut Book, now: u64, id: u64, files: &[u64]) -> Result<(), Fail> {
+fn complete(
+    alloc: Global,
+    book: &mut Book,
+    now: u64,
+    id: u64,
+    files: &[u64],
+) -> Result<(), AllocError> {
     let call = ack(alloc, now, id, 0, files)?;
     enter(book, Call::Tick { now })?;
     enter(book, call)
