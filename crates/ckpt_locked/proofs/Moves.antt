@@ -1,5 +1,5 @@
 -- The steps at a seat that is known by an equation, and what they tell.
-use Rattle.std.proofs.Common.{◌≡◌, ℕ, ◌+◌, ◌%◌, ◌^◌, ◌<◌, eqb, List, [], ◌∷◌, ◌++◌, length, drop, sym, ap, ◌∙◌, subst, arith, length-append, Option, Some}
+use Rattle.std.proofs.Common.{◌≡◌, ℕ, ◌+◌, ◌%◌, ◌^◌, ◌<◌, eqb, List, [], ◌∷◌, ◌++◌, length, drop, sym, ap, ◌∙◌, subst, arith, length-append, append_assoc, get_or, refl, Option, Some}
 use mathlib.Core.Option.{none}
 use prog.Atomic.{either}
 use Rattle.std.proofs.Math.Seq.{drop-append_seam}
@@ -8,7 +8,11 @@ use Rattle.ckpt_locked.specs.declared.book.Entry.{Entry}
 use Rattle.ckpt_locked.specs.declared.view.Base.{Base}
 use Rattle.ckpt_locked.specs.declared.view.Claim.{Claim}
 use Rattle.ckpt_locked.specs.declared.view.View.{View}
-use Rattle.ckpt_locked.specs.Books.{History}
+use Rattle.ckpt_ids.specs.declared.call.Call.{Call}
+use Rattle.ckpt_ids.specs.declared.reply.Answer.{Answer}
+use Rattle.ckpt_locked.specs.Books.{History, entered}
+use Rattle.ckpt_locked.specs.Seats.{entry}
+use Rattle.ckpt_locked.specs.Locks.{HasBook, Asked, Entered}
 use Rattle.ckpt_locked.specs.Turns.{kept, fresh, idle, waiting, serving, showing, spent, Orderly, Sat, grown, numbered, drawn, awaited, committed, passed, compared}
 use Rattle.ckpt_locked.proofs.Keeps.{draws, awaits, commits, passes, splits, numbers, joins, compares}
 
@@ -40,14 +44,28 @@ passes_as base n id m c t log b one at is early =
     let at' : m ≡ (serving c t log, (0, Some (kept c.base log)) ∷ []) = at ∙ ap (λ (k : History). (serving c t log, (0, Some k) ∷ [])) is in
     subst (λ (x : ℕ × Sat). Allows (Orderly base) x.0 id x.1 2 (λ k. (k + 1) % 2 ^ 64) (passed (step x.0 2 1 0 none) x.1)) (λ i. (sym one i, sym at' i)) (passes base id c t log early)
 
--- the book's length fits a word, so the number of entries does
-pub room : (c : Claim) (was : List Entry) (e : Entry) (b : History) (n : ℕ) → b ≡ kept c.base (was ++ e ∷ []) → n ≡ length b.entries → n < 2 ^ 64 → length was + 1 < 2 ^ 64
-room c was e b n is long fits =
-    let whole = ap (λ (k : History). length k.entries) is in
-    omega (arith, length-append c.base.book.entries (was ++ e ∷ []), length-append was (e ∷ []))
-
 pub held : (m : Sat) (v : View) (y : Option History) → m ≡ (v, (0, y) ∷ []) → m.1 ≡ (0, y) ∷ rest m.1
 held m v y e = ap (λ (x : Sat). x.1) e ∙ ap (λ (x : Sat). (0, y) ∷ rest x.1) (sym e)
+
+-- the slot that the seat took
+pub slot_is : (m : Sat) (v : View) (y z : Option History) → m ≡ (v, (0, y) ∷ []) → m.1 ≡ (0, z) ∷ rest m.1 → z ≡ y
+slot_is m v y z e is = ap (λ (l : List (ℕ × Option History)). (get_or l 0 (0, y)).1) (sym is ∙ ap (λ (x : Sat). x.1) e)
+
+-- a call that the book in the slot has entered
+pub asked : (m : Sat) (t number : ℕ) (call : Call) (slot : Option History) (answer : Answer) → HasBook m t (kept m.0.mine.base m.0.found)
+    → Entered (kept m.0.mine.base m.0.found) number call slot answer → Asked m t number call (m.0, (0, slot) ∷ rest m.1) answer
+asked m t number call slot answer has told =
+    let v = m.0 in
+    let b = v.mine.base.book in
+    let e = entry number call in
+    let more : entered (kept v.mine.base v.found) number call ≡ kept v.mine.base (v.found ++ e ∷ []) = ap (λ (l : List Entry). record b { entries = l }) (append_assoc b.entries v.found (e ∷ [])) in
+    let small : length (b.entries ++ v.found) + 1 < 2 ^ 64 = told.2 in
+    (
+      refl,
+      told.1,
+      (has.0, ap (λ (x : Sat × Option History). (v, (0, x.1) ∷ rest x.0.1)) (λ i. (has.1 i, (told.0 ∙ ap Some more) i)) ∙ ap (λ (x : Sat). (x.0, (0, Some (kept v.mine.base (v.found ++ e ∷ []))) ∷ [])) has.1),
+      omega (arith, length-append b.entries v.found),
+    )
 
 pub numbers_as : (base : Base) (n id : ℕ) (m : Sat) (b : Base) (k new : ℕ) → m ≡ (fresh b, []) → k < b.seats → new ≡ k + 1 → Allows (Orderly base) n id m 3 (λ y. either (eqb y k) new y) (numbered (step n 3 k new none) m)
 numbers_as base n id m b k new e room next =

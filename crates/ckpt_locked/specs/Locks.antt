@@ -1,12 +1,12 @@
 -- What contracts see of a lock and its passes.
-use Rattle.std.specs.Prelude.{◌≡◌, ℕ, zero, suc, ◌^◌, ◌<◌, List, [], ◌∷◌, ◌++◌, length, drop, None, All}
+use Rattle.std.specs.Prelude.{◌≡◌, ℕ, zero, suc, ◌+◌, ◌^◌, ◌<◌, List, [], ◌∷◌, ◌++◌, length, drop, Option, None, Some, All}
 use Rattle.atomic_table.specs.Seated.{TableId}
 use Rattle.ckpt_ids.specs.declared.call.Call.{Call}
 use Rattle.ckpt_ids.specs.declared.reply.Answer.{Answer}
 use Rattle.ckpt_locked.specs.declared.book.Entry.{Entry}
 use Rattle.ckpt_locked.specs.declared.view.Base.{Base}
 use Rattle.ckpt_locked.specs.declared.view.Claim.{Claim}
-use Rattle.ckpt_locked.specs.Books.{History, answer_to}
+use Rattle.ckpt_locked.specs.Books.{History, entered, answer_to}
 use Rattle.ckpt_locked.specs.Seats.{entry, calls_by, StartsWith, SeatsBelow}
 use Rattle.ckpt_locked.specs.Turns.{Sat, kept, idle, serving}
 
@@ -47,15 +47,30 @@ IsTurns id = (id.words ≡ 68) × (id.slots ≡ 1)
 abbrev pub IsOut : Sat → ℕ → Type 0
 IsOut m t = (t < 2 ^ 62) × (m ≡ (serving m.0.mine t m.0.found, (0, None) ∷ []))
 
+-- the seat has its turn with this ticket, and this is the book in its slot
+abbrev pub HasBook : Sat → ℕ → History → Type 0
+HasBook m t book = (t < 2 ^ 62) × (m ≡ (serving m.0.mine t m.0.found, (0, Some book) ∷ []))
+
 -- what the seat has found, and then this call of its own
 abbrev pub found_with : Sat → ℕ → Call → List Entry
 found_with m number call = m.0.found ++ entry number call ∷ []
 
--- the book came to the seat, which had this claim
-abbrev pub CameTo : Claim → History → ℕ → Sat → Type 0
-CameTo c book t m =
-    IsOut m t × (m.0.mine ≡ c) × (book ≡ kept c.base m.0.found)
+-- its turn came to the seat, which had this claim
+abbrev pub CameTo : Claim → ℕ → Sat → Type 0
+CameTo c t m =
+    HasBook m t (kept m.0.mine.base m.0.found) × (m.0.mine ≡ c)
     × StartsWith m.0.found c.later × (calls_by c.number m.0.found ≡ c.own) × SeatsBelow c.base.seats m.0.found
+
+-- the slot has the book with this call, which was answered so
+abbrev pub Entered : History → ℕ → Call → Option History → Answer → Type 0
+Entered book number call slot answer =
+    (slot ≡ Some (entered book number call)) × (answer ≡ answer_to book call) × (length book.entries + 1 < 2 ^ 64)
+
+-- the seat made this call on the book, and was answered so
+abbrev pub Asked : Sat → ℕ → ℕ → Call → Sat → Answer → Type 0
+Asked before t number call after answer =
+    (after.0 ≡ before.0) × (answer ≡ answer_to (kept before.0.mine.base before.0.found) call)
+    × HasBook after t (kept after.0.mine.base (found_with after number call)) × (length after.0.found + 1 < 2 ^ 64)
 
 -- a new pass
 abbrev pub newcomer : Lock → ℕ → Hand

@@ -5,7 +5,7 @@ ghost use Rattle.ckpt_locked.specs.Turns.{fresh, idle, claim};
 ghost use Rattle.ckpt_locked.specs.Locks.{IsTurns, IsOut, newcomer, newcomers, lock_of, Made, SeenIn, GivenBack};
 
 use crate::book::Book;
-use crate::steps::{ENTRIES, SEATS, Seat, Shared, WORDS, commit, enter, leave};
+use crate::steps::{ENTRIES, SEATS, Seat, Shared, WORDS, ask, commit, enter, leave, take};
 use crate::view::{Compare, Key, Number, Same, Take, Turns, View};
 use atomic_table::{Refused, Table};
 use ckpt_ids::{Answer, Call};
@@ -155,11 +155,11 @@ impl Locked {
             calls,
         } = pass;
         let shared = &self.table.shared;
-        let (mut book, ticket) = enter(rt, shared, &mut seat);
+        let ticket = enter(rt, shared, &mut seat);
         let told = Snapshot::of(&call);
-        match book.apply(number, call) {
+        match ask(shared, &mut seat, number, call, ticket) {
             Ok(answer) => {
-                commit(shared, &mut seat, book, ticket, number, &told);
+                commit(shared, &mut seat, ticket, number, &told);
                 let calls = calls + 1;
                 Ok((
                     Pass {
@@ -171,7 +171,7 @@ impl Locked {
                 ))
             }
             Err(call) => {
-                leave(shared, &mut seat, book, ticket);
+                leave(shared, &mut seat, ticket);
                 Err((
                     Pass {
                         seat,
@@ -209,7 +209,8 @@ impl Locked {
             number: _,
             calls: _,
         } = pass;
-        let (book, ticket) = enter(rt, &self.table.shared, &mut seat);
+        let ticket = enter(rt, &self.table.shared, &mut seat);
+        let book = take(&self.table.shared, &mut seat, ticket);
         compare_all(&self.table.shared, &mut seat, passes, ticket);
         Ok(book)
     }

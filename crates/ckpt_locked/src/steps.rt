@@ -1,16 +1,17 @@
 //! The steps of a call on the lock's table.
 //!
 //! A thread draws a ticket and waits until the ticket is served: it looks for a while where few are
-//! before it, and else sleeps on a word of its own, its perch. Then it takes the book out of the
-//! slot, makes its call, puts the book back, counts the entry, passes the turn on, and wakes whoever
-//! has the next ticket.
-ghost use Rattle.std.specs.Prelude.{◌≡◌, ◌+◌, ◌^◌, ◌<◌, ◌≤◌, ◌++◌, [], ◌∷◌, length};
+//! before it, and else sleeps on a word of its own, its perch. Then it makes its call on the book,
+//! which stays in its slot, counts the entry, passes the turn on, and wakes whoever has the next
+//! ticket, and whoever is to have it soon, if they sleep.
+ghost use Rattle.std.specs.Prelude.{◌≡◌, ◌+◌, ◌^◌, ◌<◌, ◌≤◌, [], ◌∷◌, length, Some, IfErr, IfOk};
+ghost use Rattle.ckpt_locked.specs.Books.{History};
 ghost use Rattle.ckpt_locked.specs.Turns.{kept, grown, idle, waiting, Called};
-ghost use Rattle.ckpt_locked.specs.Locks.{IsTurns, IsOut, CameTo, found_with};
+ghost use Rattle.ckpt_locked.specs.Locks.{IsTurns, IsOut, HasBook, CameTo, Asked, Entered, found_with};
 
 use crate::book::Book;
 use crate::view::{Await, Commit, Draw, Key, Next, Stir, Turns, View};
-use ckpt_ids::Call;
+use ckpt_ids::{Answer, Call};
 use std::hint::spin_loop;
 use std::snapshot::Snapshot;
 use std::sync::Wait;
@@ -44,6 +45,9 @@ pub const WORDS: usize = 68;
 const LOOKS: u32 = 1000;
 
 const NEAR: u64 = 3;
+
+/// Who is so far behind the ticket that was served is woken before its turn.
+const AHEAD: u64 = 3;
 
 /// A ticket from here on waits for good, so that the tickets never wrap. At a call each nanosecond
 /// that is after 146 years.
@@ -98,66 +102,105 @@ fn perch_of(ticket: u64) -> usize
     PERCHES + (ticket % 64) as usize
 }
 
-/// Wakes the seat with the next ticket, where its perch is marked.
+/// Wakes the seat with this ticket, where its perch is marked.
 fn rouse(shared: &Shared, seat: &mut Seat, ticket: u64)
     requires table { (seat.old.table_id ≡ shared.now.table_id) × IsTurns shared.now.table_id }
     ensures same { (seat.new.table_id ≡ seat.old.table_id) × (seat.new.me ≡ seat.old.me) }
 {
-    let perch = perch_of(ticket.wrapping_add(1));
-    if shared.swap::<Stir>(seat, perch, 0) != 0 {
+    let perch = perch_of(ticket);
+    // Nearly always nobody sleeps there, and to look costs less than to write.
+    if shared.peek(perch) != 0 && shared.swap::<Stir>(seat, perch, 0) != 0 {
         shared.wake_one(perch);
     }
 }
 
-/// Draws a ticket, waits for its turn, and takes the book out.
-pub fn enter<R: Wait>(rt: &R, shared: &Shared, seat: &mut Seat) -> (Book, u64)
+/// Wakes the seat whose turn it is after this ticket, and the one that is to be awake when its turn
+/// comes.
+fn rouse_next(shared: &Shared, seat: &mut Seat, ticket: u64)
+    requires table { (seat.old.table_id ≡ shared.now.table_id) × IsTurns shared.now.table_id }
+    ensures same { (seat.new.table_id ≡ seat.old.table_id) × (seat.new.me ≡ seat.old.me) }
+{
+    rouse(shared, seat, ticket.wrapping_add(1));
+    rouse(shared, seat, ticket.wrapping_add(AHEAD));
+}
+
+/// Draws a ticket and waits for its turn. Then the seat has the book.
+pub fn enter<R: Wait>(rt: &R, shared: &Shared, seat: &mut Seat) -> u64
     requires table { (seat.old.table_id ≡ shared.now.table_id) × IsTurns shared.now.table_id }
     requires idle { seat.old.me ≡ (idle seat.old.me.0.mine, []) }
     ensures same { seat.new.table_id ≡ seat.old.table_id }
-    ensures turn { CameTo seat.old.me.0.mine result.0 result.1 seat.new.me }
+    ensures turn { CameTo seat.old.me.0.mine result seat.new.me }
 {
     let ticket = shared.fetch_add::<Draw>(seat, TICKETS, 1);
     wait(rt, shared, seat, ticket);
-    let Some(book) = shared.exchange(seat, 0, None) else {
-        unreachable!()
-    };
-    (book, ticket)
+    ticket
 }
 
-/// Puts the book back, which has one more entry, and passes the turn on. The last two arguments are
-/// for the clauses alone.
-pub fn commit(
+/// Makes a call on the book that a slot has.
+fn apply_in(slot: &mut Option<Book>, number: u32, call: Call) -> Result<Answer, Call>
+    requires { (book : History) × (slot.old ≡ Some book) }
+    ensures made { (book : History) → slot.old ≡ Some book → IfOk result (λ answer. Entered book number call slot.new answer) }
+    ensures returned { IfErr result (λ back. (back ≡ call) × (slot.new ≡ slot.old)) }
+{
+    let Some(book) = slot else { unreachable!() };
+    let answer = book.apply(number, call)?;
+    let _len = book.len();
+    Ok(answer)
+}
+
+/// Makes a call on the book, which stays where it is. The ticket is for the clauses alone.
+pub fn ask(
     shared: &Shared,
     seat: &mut Seat,
-    book: Book,
-    ticket: u64,
-    _number: u32,
-    _call: &Snapshot<Call>,
-)
+    number: u32,
+    call: Call,
+    _ticket: u64,
+) -> Result<Answer, Call>
     requires table { (seat.old.table_id ≡ shared.now.table_id) × IsTurns shared.now.table_id }
-    requires out { IsOut seat.old.me ticket }
-    requires number { _number ≡ seat.old.me.0.mine.number }
-    requires book { book ≡ kept seat.old.me.0.mine.base (found_with seat.old.me _number _call.now.value) }
+    requires book { HasBook seat.old.me _ticket (kept seat.old.me.0.mine.base seat.old.me.0.found) }
     ensures same { seat.new.table_id ≡ seat.old.table_id }
-    ensures idle { seat.new.me ≡ (idle (grown seat.old.me.0.mine (found_with seat.old.me _number _call.now.value)), []) }
-    ensures room { length seat.old.me.0.found + 1 < 2 ^ 64 }
+    ensures made { IfOk result (λ answer. Asked seat.old.me _ticket number call seat.new.me answer) }
+    ensures returned { IfErr result (λ back. (back ≡ call) × (seat.new.me ≡ seat.old.me)) }
 {
-    let _len = book.len();
-    drop(shared.exchange(seat, 0, Some(book)));
-    shared.fetch_add::<Commit>(seat, ENTRIES, 1);
-    shared.fetch_add::<Next>(seat, SERVED, 1);
-    rouse(shared, seat, ticket);
+    apply_in(seat.slot_mut(shared, 0), number, call)
 }
 
-/// Puts the book back as it was, and passes the turn on.
-pub fn leave(shared: &Shared, seat: &mut Seat, book: Book, ticket: u64)
+/// Counts the entry that the book has more, and passes the turn on. The last two arguments are for
+/// the clauses alone.
+pub fn commit(shared: &Shared, seat: &mut Seat, ticket: u64, _number: u32, _call: &Snapshot<Call>)
     requires table { (seat.old.table_id ≡ shared.now.table_id) × IsTurns shared.now.table_id }
-    requires out { IsOut seat.old.me ticket }
-    requires book { book ≡ kept seat.old.me.0.mine.base seat.old.me.0.found }
+    requires number { _number ≡ seat.old.me.0.mine.number }
+    requires book { HasBook seat.old.me ticket (kept seat.old.me.0.mine.base (found_with seat.old.me _number _call.now.value)) }
+    requires room { length seat.old.me.0.found + 1 < 2 ^ 64 }
+    ensures same { seat.new.table_id ≡ seat.old.table_id }
+    ensures idle { seat.new.me ≡ (idle (grown seat.old.me.0.mine (found_with seat.old.me _number _call.now.value)), []) }
+{
+    shared.fetch_add::<Commit>(seat, ENTRIES, 1);
+    shared.fetch_add::<Next>(seat, SERVED, 1);
+    rouse_next(shared, seat, ticket);
+}
+
+/// Passes the turn on. The book is as it was.
+pub fn leave(shared: &Shared, seat: &mut Seat, ticket: u64)
+    requires table { (seat.old.table_id ≡ shared.now.table_id) × IsTurns shared.now.table_id }
+    requires book { HasBook seat.old.me ticket (kept seat.old.me.0.mine.base seat.old.me.0.found) }
     ensures same { seat.new.table_id ≡ seat.old.table_id }
     ensures idle { seat.new.me ≡ (idle seat.old.me.0.mine, []) }
 {
-    drop(shared.exchange(seat, 0, Some(book)));
     shared.fetch_add::<Next>(seat, SERVED, 1);
-    rouse(shared, seat, ticket);
+    rouse_next(shared, seat, ticket);
+}
+
+/// Takes the book for good. The ticket is for the clauses alone.
+pub fn take(shared: &Shared, seat: &mut Seat, _ticket: u64) -> Book
+    requires table { (seat.old.table_id ≡ shared.now.table_id) × IsTurns shared.now.table_id }
+    requires book { HasBook seat.old.me _ticket (kept seat.old.me.0.mine.base seat.old.me.0.found) }
+    ensures same { (seat.new.table_id ≡ seat.old.table_id) × (seat.new.me.0 ≡ seat.old.me.0) }
+    ensures out { IsOut seat.new.me _ticket }
+    ensures book { result ≡ kept seat.old.me.0.mine.base seat.old.me.0.found }
+{
+    let Some(book) = shared.exchange(seat, 0, None) else {
+        unreachable!()
+    };
+    book
 }

@@ -1,5 +1,6 @@
 use Rattle.std.proofs.Common.{◌≡◌, [], ◌∷◌, subst, sym, ap, ◌∙◌, arith, All}
-use Rattle.ckpt_locked.specs.Locks.{Hand, Lock, GivenBack}
+use Rattle.ckpt_locked.specs.declared.view.View.{View}
+use Rattle.ckpt_locked.specs.Locks.{Hand, Lock, SeenIn, GivenBack}
 use Rattle.ckpt_locked.proofs.SeatLists.{all_front, all_last}
 use Rattle.ckpt_locked.proofs.LockCalls.{given_back}
 use Rattle.ckpt_locked.proofs.lock.Locked.close.Goals as goal
@@ -10,7 +11,7 @@ compare_all-requires-clause-others g c =
     let Mine = λ (h : Hand). h.lock ≡ c.args.self in
     let all = subst (All Mine) items c.requires.passes in
     let pass = all_last Mine c.pop.new.self.items c.in-Some.pass all in
-    let id = c.enter-book.ensures.same ∙ (ap (λ (h : Hand). h.lock.table_id) c.pass.view_is ∙ ap (λ (k : Lock). k.table_id) pass) in
+    let id = c.take-book.ensures.same.0 ∙ c.enter-ticket.ensures.same ∙ (ap (λ (h : Hand). h.lock.table_id) c.pass.view_is ∙ ap (λ (k : Lock). k.table_id) pass) in
     λ k d lt. ap (λ (l : Lock). l.table_id) (all_front Mine c.pop.new.self.items (c.in-Some.pass ∷ []) all k d lt) ∙ sym id
 
 pub returns-clause-all : goal.returns-clause-all
@@ -26,5 +27,7 @@ returns-clause-book g c =
     let items = c.in-Some.ensures.items in
     let Mine = λ (h : Hand). h.lock ≡ c.args.self in
     let all = subst (All Mine) items c.requires.passes in
-    subst (GivenBack c.args.self c.enter-book.result.0) (sym items)
-    (given_back c.args.self c.enter-book.result.0 c.pop.new.self.items c.in-Some.pass _ c.pass.inside.seat.me _ _ c.pass.view_is c.enter-book.ensures.turn all c.compare_all.ensures)
+    let others = c.pop.new.self.items in
+    let seen_in = subst (λ (v : View). All (SeenIn v.found) others) c.take-book.ensures.same.1 c.compare_all.ensures in
+    subst (GivenBack c.args.self c.take-book.result) (sym items)
+    (given_back c.args.self c.take-book.result others c.in-Some.pass _ c.pass.inside.seat.me _ _ c.pass.view_is c.enter-ticket.ensures.turn c.take-book.ensures.book all seen_in)
