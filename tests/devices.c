@@ -1,18 +1,21 @@
-/* Stands between a program and the C library, to make memory, streams and random numbers fail as the environment says. It is loaded
-   with LD_PRELOAD, by the tests beside it.
+/* Stands between a program and the C library, to make memory, streams, threads and random numbers fail as the environment says. It is
+   loaded with LD_PRELOAD, by the tests beside it.
 
    REFUSE_AT=N      the Nth allocation is refused; with REFUSE_REST=1 all after it too
    READ_MOST=N      a read of standard input gives N bytes at most
    READ_FAILS=N     the Nth read of standard input fails, with the error READ_ERROR (a number); the next would succeed
    WRITE_MOST=N     a write to standard output takes N bytes at most
    WRITE_FAILS=N    the Nth write to standard output fails, with the error WRITE_ERROR; where that is 0 it takes nothing
+   THREAD_FAILS=N   the Nth start of a thread fails, as where the system has no more; with THREADS_REST=1 all after it too
    RANDOM_ZEROS=1   the system's random bytes are all 0; with RANDOM_FAILS=1 it gives none
    COUNTS=FILE      at the end, the file gets how many allocations were asked for, how many reads and writes there
-                    were, and how many of them came after the one that failed or that told the end of the input */
+                    were, how many of them came after the one that failed or that told the end of the input, and how
+                    many threads were asked for */
 #define _GNU_SOURCE
 #include <dlfcn.h>
 #include <errno.h>
 #include <fcntl.h>
+#include <pthread.h>
 #include <stdatomic.h>
 #include <stdio.h>
 #include <stdlib.h>
@@ -28,8 +31,8 @@ struct stream {
 };
 
 static struct stream input = {.number = STDIN_FILENO}, output = {.number = STDOUT_FILENO};
-static long refuse_at, refuse_rest, random_zeros, random_fails;
-static atomic_long allocations; /* threads allocate side by side */
+static long refuse_at, refuse_rest, thread_fails, threads_rest, random_zeros, random_fails;
+static atomic_long allocations, threads; /* threads allocate, and start others, side by side */
 static int is_ready;
 
 extern void *__libc_malloc(size_t);
@@ -45,6 +48,8 @@ static long number(const char *name) {
 __attribute__((constructor)) static void begin(void) {
     refuse_at = number("REFUSE_AT");
     refuse_rest = number("REFUSE_REST");
+    thread_fails = number("THREAD_FAILS");
+    threads_rest = number("THREADS_REST");
     random_zeros = number("RANDOM_ZEROS");
     random_fails = number("RANDOM_FAILS");
     input.most = number("READ_MOST");
@@ -62,7 +67,7 @@ __attribute__((destructor)) static void end(void) {
     is_ready = 0;
     if (file) {
         int at = open(file, O_WRONLY | O_CREAT | O_TRUNC, 0600);
-        int size = snprintf(text, sizeof text, "%ld %ld %ld %ld %ld\n", (long)allocations, input.calls, output.calls, input.late, output.late);
+        int size = snprintf(text, sizeof text, "%ld %ld %ld %ld %ld %ld\n", (long)allocations, input.calls, output.calls, input.late, output.late, (long)threads);
         ssize_t (*to)(int, const void *, size_t) = dlsym(RTLD_NEXT, "write");
         if (at >= 0 && to(at, text, (size_t)size) != size) {
             abort();
@@ -80,12 +85,17 @@ void _exit(int status) {
     }
 }
 
+/* Whether the call of this place is to fail, where that one is, and all after it where `rest` says so. */
+static int is_met(long place, long fails, long rest) {
+    return fails > 0 && (place == fails || (rest && place > fails));
+}
+
 static int is_refused(void) {
     if (!is_ready) {
         return 0;
     }
     long place = atomic_fetch_add(&allocations, 1) + 1;
-    if (refuse_at > 0 && (place == refuse_at || (refuse_rest && place > refuse_at))) {
+    if (is_met(place, refuse_at, refuse_rest)) {
         errno = ENOMEM;
         return 1;
     }
@@ -104,6 +114,12 @@ int posix_memalign(void **made, size_t by, size_t size) {
     }
     *made = __libc_memalign(by, size);
     return *made ? 0 : ENOMEM;
+}
+
+int pthread_create(pthread_t *made, const pthread_attr_t *kind, void *(*run)(void *), void *given) {
+    int (*next)(pthread_t *, const pthread_attr_t *, void *(*)(void *), void *) = dlsym(RTLD_NEXT, "pthread_create");
+    long place = atomic_fetch_add(&threads, 1) + 1;
+    return is_met(place, thread_fails, threads_rest) ? EAGAIN : next(made, kind, run, given);
 }
 
 /* Counts a call, and tells whether it is the one that fails. */

@@ -42,10 +42,10 @@ def bytes_of(path):
 
 
 class Counts:
-    """What the program asked of its devices: allocations, reads and writes, and those after the one that failed or ended."""
+    """What the program asked of its devices: allocations, reads, writes, those of both after the one that failed or ended, threads."""
 
     def __init__(self, text):
-        self.allocations, self.reads, self.writes, self.reads_late, self.writes_late = map(int, text.split())
+        self.allocations, self.reads, self.writes, self.reads_late, self.writes_late, self.threads = map(int, text.split())
 
 
 class Tests:

@@ -1,7 +1,9 @@
 -- What private functions say of the parts; no promise of a public function rests on believing it.
 pub mod Completing
+pub mod FileFacts
 pub mod Grouped
 pub mod Moving
 pub mod Parts
 pub mod PendingRecords
+pub mod RecordFacts
 pub mod Starting

@@ -1,3 +1,4 @@
+pub mod Coordinator
 pub mod FaultTexts
 pub mod Histories
 pub mod Inside

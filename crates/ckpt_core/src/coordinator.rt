@@ -1,14 +1,9 @@
-ghost use Rattle.std.specs.Prelude.{◌≡◌, ◌↔◌, ℕ, true, None, Some, Err, IfOk, OnErr};
+ghost use Rattle.std.specs.Prelude.{◌≡◌, ◌↔◌, true, None, Some, Err, IfOk, OnErr};
 ghost use Rattle.std.specs.Result.{result_err};
 ghost use Rattle.ckpt_ids.specs.declared.reply.Answer.TheVariants.{Done};
 ghost use Rattle.ckpt_ids.specs.declared.reply.Refusal.{Refusal};
-ghost use Rattle.ckpt_core.specs.Memory.{may_want_memory};
-ghost use Rattle.ckpt_core.specs.Opening.{open_fault};
+ghost use Rattle.ckpt_core.specs.Coordinator.{IsCall, may_want_memory, open_fault, opened, refusal, step};
 ghost use Rattle.ckpt_core.specs.Inside.Parts.{Answers, AreSound, IsAccepted, Stays, state_of};
-ghost use Rattle.ckpt_core.specs.Refusals.{refusal};
-ghost use Rattle.ckpt_core.specs.Soundness.{IsCall};
-ghost use Rattle.ckpt_core.specs.State.{opened};
-ghost use Rattle.ckpt_core.specs.Steps.{step};
 
 use crate::parts::Parts;
 use crate::refusals::{MOMENTS_END, NUMBERS_END};

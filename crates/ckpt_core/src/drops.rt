@@ -1,15 +1,8 @@
-ghost use Rattle.std.specs.Prelude.{◌≡◌, ◌-◌, ◌≤◌, ◌++◌, ◌||◌, ◌==◌, ◌≢◌, ◌+◌, ℕ, [], true, false, find, length, map, Some, IsSome, vec_len};
-ghost use Rattle.std.specs.Vec.{vec_capacity};
-ghost use Rattle.ckpt_ids.specs.Records.{Record, is_present, released};
-ghost use Rattle.ckpt_ids.specs.Ordered.{IsIn, IsInOrder};
-ghost use Rattle.ckpt_outbox.specs.Queues.{is_known};
-ghost use Rattle.ckpt_pending.specs.Acknowledging.{IsPending};
-ghost use Rattle.ckpt_registry.specs.Uses.{without, after_end};
-ghost use Rattle.ckpt_store.specs.Storing.{IsStored, has_savepoint};
-ghost use Rattle.ckpt_core.specs.Inside.Parts.{AreSound, AreTied, Drops, is_noted, present_in, records_in, state_of};
-ghost use Rattle.ckpt_core.specs.Soundness.{id_before};
-ghost use Rattle.ckpt_core.specs.State.{is_done_checkpoint, is_pending};
+ghost use Rattle.std.specs.Prelude.{◌≡◌, ◌-◌, ◌≤◌, ◌++◌, ◌||◌, ◌==◌, ◌≢◌, ◌+◌, ℕ, [], true, false, find, length, map, Some, IsSome, vec_capacity, vec_len};
+ghost use Rattle.ckpt_core.specs.Inside.FileFacts.{after_end, is_known, is_present, released, without};
 ghost use Rattle.ckpt_core.specs.Inside.Moving.{releasing, without_checkpoints};
+ghost use Rattle.ckpt_core.specs.Inside.Parts.{AreSound, AreTied, Drops, is_noted, present_in, records_in};
+ghost use Rattle.ckpt_core.specs.Inside.RecordFacts.{IsIn, IsInOrder, IsPending, IsStored, Record, has_savepoint, id_before, is_done_checkpoint, is_pending};
 
 use crate::parts::Parts;
 use ckpt_ids::CheckpointId;

@@ -1,11 +1,10 @@
 ghost use Rattle.std.specs.Prelude.{◌≡◌, ℕ, ◌||◌, true, [], length, Some, None, IfOk, OnErr};
-ghost use Rattle.ckpt_ids.specs.declared.call.Call.TheVariants as call;
 ghost use Rattle.ckpt_ids.specs.declared.call.Target.TheVariants.{Savepoint};
-ghost use Rattle.ckpt_ids.specs.Ordered.{IsInOrder};
+ghost use Rattle.ckpt_ids.specs.declared.call.Call.TheVariants as call;
 ghost use Rattle.ckpt_core.specs.Inside.Parts.{Answers, AreSound, AreTied, Drops, IsAccepted, Stays, records_in, state_of};
+ghost use Rattle.ckpt_core.specs.Inside.RecordFacts.{IsInOrder, id_before, is_done_checkpoint, is_pending};
 ghost use Rattle.ckpt_core.specs.Refusals.{is_done_savepoint};
-ghost use Rattle.ckpt_core.specs.Soundness.{id_before};
-ghost use Rattle.ckpt_core.specs.State.{choice_of, drop, is_done_checkpoint, is_pending, released_by};
+ghost use Rattle.ckpt_core.specs.State.{choice_of, drop, released_by};
 ghost use Rattle.ckpt_core.specs.Steps.{cancelled, dropped_by, failed_over, rolled_back, with_base};
 
 use crate::mode::Mode;

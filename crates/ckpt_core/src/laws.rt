@@ -5,8 +5,8 @@ ghost use Rattle.ckpt_ids.specs.declared.call.Call.{Call};
 ghost use Rattle.ckpt_ids.specs.Records.{Record};
 ghost use Rattle.ckpt_core.specs.State.{State, Opening, opened};
 ghost use Rattle.ckpt_core.specs.Histories.{replay};
-ghost use Rattle.ckpt_core.specs.Soundness.{IsSound, IsCall};
-ghost use Rattle.ckpt_core.specs.Laws.{Exchange, Part, CanOpen, AreCalls, Balance, Handed, Accounted, UsedNoMore, Outbox, Acknowledgements, Numbers, Savepoints, ChoiceIsLive, Pinned, PinsStay};
+ghost use Rattle.ckpt_core.specs.Soundness.{IsSound};
+ghost use Rattle.ckpt_core.specs.Laws.{Exchange, Part, CanOpen, AreCalls, Balance, Handed, Accounted, UsedNoMore, Outbox, Acknowledgements, Numbers, Savepoints, ChoiceIsLive, PinsStay};
 ghost use Rattle.ckpt_core.specs.Interleavings.{NewFile, AnyOrder};
 
 /// Two acknowledgements of different subtasks of one record, one right after the other, go in

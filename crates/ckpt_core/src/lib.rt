@@ -8,9 +8,11 @@
 #![tactic(auto)]
 
 mod acks;
+mod completions;
 mod coordinator;
 mod drops;
 mod endings;
+mod late_acks;
 pub mod laws;
 pub mod mode;
 mod opening;

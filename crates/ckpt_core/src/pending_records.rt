@@ -1,15 +1,8 @@
-ghost use Rattle.std.specs.Prelude.{◌≡◌, ℕ, ◌+◌, ◌<◌, ◌≤◌, Bool, true, false, not, ◌&&◌, ◌||◌, nat_lt, nat_le, ◌==◌, List, [], ◌∷◌, ◌++◌, map, filter, find, length, count_by, Some, IsSome, OnOk, OnErr, vec_len};
+ghost use Rattle.std.specs.Prelude.{◌≡◌, ℕ, ◌+◌, ◌<◌, ◌≤◌, true, false, not, ◌&&◌, ◌||◌, nat_lt, nat_le, ◌==◌, [], ◌∷◌, ◌++◌, map, filter, find, length, count_by, Some, IsSome, OnOk, OnErr, option_copied, option_map, vec_capacity, vec_len};
 ghost use Rattle.std.specs.List.{list_any};
-ghost use Rattle.std.specs.Option.{option_copied, option_map};
-ghost use Rattle.std.specs.Vec.{vec_capacity};
-ghost use Rattle.ckpt_ids.specs.Ordered.{IsIn, IsInOrder};
-ghost use Rattle.ckpt_ids.specs.Records.{Record, has_acknowledged};
-ghost use Rattle.ckpt_ids.specs.Shapes.{is_subtask};
-ghost use Rattle.ckpt_pending.specs.Acknowledging.{IsPending};
 ghost use Rattle.ckpt_core.specs.Inside.PendingRecords.{Expects, acked, retracted};
+ghost use Rattle.ckpt_core.specs.Inside.RecordFacts.{IsIn, IsInOrder, IsPending, Record, has_acknowledged, id_before, is_checkpoint};
 ghost use Rattle.ckpt_core.specs.Reads.{has_come, live_of};
-ghost use Rattle.ckpt_core.specs.Soundness.{id_before};
-ghost use Rattle.ckpt_core.specs.State.{is_checkpoint};
 
 use crate::queries::{Live, live_pending};
 use ckpt_ids::{CheckpointId, Files, Kind, SubtaskId};

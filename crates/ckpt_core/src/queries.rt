@@ -1,14 +1,11 @@
 //! What a coordinator tells without a call. None of it takes memory or changes anything.
 
-ghost use Rattle.std.specs.Prelude.{◌≡◌, length, find, nat_le, slice_get};
-ghost use Rattle.std.specs.Option.{option_map};
+ghost use Rattle.std.specs.Prelude.{◌≡◌, length, find, nat_le, option_map, slice_get};
 ghost use Rattle.ckpt_ids.specs.Records.{missing, uses};
-ghost use Rattle.ckpt_store.specs.Storing.{IsStored};
+ghost use Rattle.ckpt_core.specs.Coordinator.{IsSound, choice_of, pending_of};
 ghost use Rattle.ckpt_core.specs.Inside.Parts.{AreSound, present_in, records_in, state_of};
+ghost use Rattle.ckpt_core.specs.Inside.RecordFacts.{IsStored};
 ghost use Rattle.ckpt_core.specs.Reads.{IsNextExpiry, NoneIsEarlyFrom, NoneTriggersBefore, live_of, next_due, sooner};
-ghost use Rattle.ckpt_core.specs.Refusals.{pending_of};
-ghost use Rattle.ckpt_core.specs.Soundness.{IsSound};
-ghost use Rattle.ckpt_core.specs.State.{choice_of};
 
 use crate::coordinator::Core;
 use crate::mode::Mode;

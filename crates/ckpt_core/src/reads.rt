@@ -1,10 +1,8 @@
-ghost use Rattle.std.specs.Prelude.{◌≡◌, Some, IsSome, IfOk, OnErr};
-ghost use Rattle.std.specs.Option.{option_map};
-ghost use Rattle.ckpt_ids.specs.declared.call.Call.TheVariants as call;
-ghost use Rattle.ckpt_ids.specs.Ordered.{IsInOrder};
+ghost use Rattle.std.specs.Prelude.{◌≡◌, Some, IsSome, IfOk, OnErr, option_map};
 ghost use Rattle.ckpt_ids.specs.Records.{metadata_of};
+ghost use Rattle.ckpt_ids.specs.declared.call.Call.TheVariants as call;
 ghost use Rattle.ckpt_core.specs.Inside.Parts.{Answers, AreSound, IsAccepted, Stays, records_in, state_of};
-ghost use Rattle.ckpt_core.specs.Soundness.{id_before};
+ghost use Rattle.ckpt_core.specs.Inside.RecordFacts.{IsInOrder, id_before};
 ghost use Rattle.ckpt_core.specs.State.{record_of};
 
 use crate::parts::Parts;

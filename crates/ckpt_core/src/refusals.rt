@@ -1,14 +1,11 @@
-ghost use Rattle.std.specs.Prelude.{◌≡◌, ◌++◌, ◌∷◌, ◌+◌, ◌^◌, ◌==◌, ℕ, List, [], length, find, not, nat_le, nat_lt, Option, Some};
+ghost use Rattle.std.specs.Prelude.{◌≡◌, ◌++◌, ◌+◌, ◌^◌, ◌==◌, ℕ, List, find, not, nat_le, option_copied, option_map, Option, Some};
 ghost use Rattle.std.specs.List.{list_any};
-ghost use Rattle.std.specs.Option.{option_copied, option_map};
 ghost use Rattle.std.specs.Result.{result_err};
-ghost use Rattle.ckpt_ids.specs.Ascending.{IsAscending};
-ghost use Rattle.ckpt_ids.specs.Records.{is_present};
 ghost use Rattle.ckpt_ids.specs.declared.call.Call.TheVariants.{Tick, Savepoint, Ack, Decline, Dispose, Restore, Cancel, Deleted, Show};
 ghost use Rattle.ckpt_ids.specs.declared.reply.Refusal.TheVariants.{NotRunning, TooManyFiles, RepeatedFile, UnknownCheckpoint, NameTaken, FileGone, IdsUsedUp};
-ghost use Rattle.ckpt_core.specs.Inside.Grouped.{with_pins};
-ghost use Rattle.ckpt_core.specs.Inside.Parts.{AreSound, state_of, records_in, is_known_in, part_refusal};
-ghost use Rattle.ckpt_core.specs.Refusals.{first_some, has_repeats, is_cancelled, is_done_savepoint, is_foreign, is_repeat, is_running, moment_too_large, named, pending_of, refusal, refuse_if, savepoints, was_not_given, files_refusal};
+ghost use Rattle.ckpt_core.specs.Inside.FileFacts.{IsAscending, is_present};
+ghost use Rattle.ckpt_core.specs.Inside.Parts.{AreSound, is_known_in, part_refusal, records_in, state_of, with_pins};
+ghost use Rattle.ckpt_core.specs.Refusals.{files_refusal, has_repeats, is_cancelled, is_done_savepoint, is_foreign, is_running, moment_too_large, named, pending_of, refusal, refuse_if, savepoints, was_not_given};
 
 use crate::mode::Mode;
 use crate::parts::Parts;

@@ -1,19 +1,11 @@
-ghost use Rattle.std.specs.Prelude.{◌≡◌, ℕ, ◌<◌, ◌^◌, ◌≤◌, ◌+◌, List, [], ◌++◌, length, vec_len, OnOk, unwrap_or, IfOk, OnErr, Some, None, true, false};
-ghost use Rattle.std.specs.Option.{option_copied};
-ghost use Rattle.std.specs.Vec.{vec_capacity};
+ghost use Rattle.std.specs.Prelude.{◌≡◌, ◌<◌, ◌^◌, ◌≤◌, ◌+◌, [], length, OnOk, unwrap_or, IfOk, OnErr, Some, None, true, option_copied, vec_capacity};
 ghost use Rattle.ckpt_ids.specs.declared.call.Call.TheVariants as call;
 ghost use Rattle.ckpt_ids.specs.declared.reply.Answer.TheVariants as answer;
-ghost use Rattle.ckpt_ids.specs.Ordered.{IsIn, IsInOrder};
-ghost use Rattle.ckpt_ids.specs.Records.{Record, is_present};
-ghost use Rattle.ckpt_outbox.specs.Queues.{is_known};
 ghost use Rattle.ckpt_rules.specs.declared.hold.Hold.TheVariants as hold;
 ghost use Rattle.ckpt_core.specs.declared.mode.Mode.TheVariants.{Running};
-ghost use Rattle.ckpt_core.specs.Memory.{answer_wants, may_want_memory};
-ghost use Rattle.ckpt_core.specs.Inside.Parts.{Answers, AreSound, AreTied, IsAccepted, Stays, is_noted, records_in, state_of};
-ghost use Rattle.ckpt_core.specs.Soundness.{IsSound, id_before};
-ghost use Rattle.ckpt_core.specs.Inside.Starting.{Starts, held_at};
-ghost use Rattle.ckpt_core.specs.State.{choice_of, chosen, drop, pins_now};
-ghost use Rattle.ckpt_core.specs.Steps.{tick, triggered};
+ghost use Rattle.ckpt_core.specs.Coordinator.{IsSound, answer_wants, choice_of, may_want_memory};
+ghost use Rattle.ckpt_core.specs.Inside.Parts.{Answers, AreSound, AreTied, IsAccepted, Stays, records_in, state_of};
+ghost use Rattle.ckpt_core.specs.Inside.Starting.{Starts, chosen, held_at, pins_now, tick, triggered};
 
 use crate::parts::Parts;
 use ckpt_ids::{CheckpointId, Choice, Files, Kind, Reply, Shape, TickEnd};

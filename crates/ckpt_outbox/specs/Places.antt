@@ -4,7 +4,8 @@ use Rattle.std.specs.HashMap as hash
 use Rattle.std.specs.HashMap.{HashMap, spare}
 use Rattle.std.specs.Prelude.{nat_eq}
 use Rattle.std.specs.List.Sorted.{IsStrictlySortedBy}
-use Rattle.std.specs.Ordering.{nat_cmp}
+pub use Rattle.std.specs.BTreeMap.{IsOrdered}
+pub use Rattle.std.specs.Ordering.{nat_cmp}
 use Rattle.std.specs.Option.{option_or}
 use Rattle.std.specs.Map.{keys_of, values_of}
 use Rattle.ckpt_outbox.specs.declared.places.Place.{Place}

@@ -1,12 +1,10 @@
-ghost use Rattle.std.specs.Prelude.{◌≡◌, ◌<◌, ◌≤◌, ◌+◌, ◌^◌, ◌++◌, ℕ, [], length, take, true, nat_eq, OnOk, OnErr, IfOk, IsSome};
+ghost use Rattle.std.specs.Prelude.{◌≡◌, ◌<◌, ◌≤◌, ◌+◌, ◌^◌, ◌++◌, ℕ, length, take, true, nat_eq, OnOk, OnErr, IfOk, IsSome};
 ghost use Rattle.std.specs.Option.{option_or};
 ghost use Rattle.std.specs.Map.{values_of};
-ghost use Rattle.std.specs.BTreeMap.{IsOrdered};
-ghost use Rattle.std.specs.Ordering.{nat_cmp};
 ghost use Rattle.std.specs.HashMap as hash;
 ghost use Rattle.std.specs.HashMap.{spare};
 ghost use Rattle.ckpt_outbox.specs.Queues.{is_in};
-ghost use Rattle.ckpt_outbox.specs.Places.{taken_place, ticketed, AreBelow, HasTickets};
+ghost use Rattle.ckpt_outbox.specs.Places.{AreBelow, HasTickets, IsOrdered, nat_cmp, taken_place, ticketed};
 ghost use Rattle.ckpt_ids.specs.Ordered.{AreDistinct};
 
 use crate::places::{Index, note_taken};

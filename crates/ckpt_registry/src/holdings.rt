@@ -1,11 +1,8 @@
-ghost use Rattle.std.specs.Prelude.{◌≡◌, ℕ, ◌+◌, ◌≤◌, ◌==◌, ◌++◌, Bool, count_by, vec_len, OnOk, OnErr, List, length};
-ghost use Rattle.std.specs.Vec.{vec_capacity};
+ghost use Rattle.std.specs.Prelude.{◌≡◌, ℕ, ◌+◌, ◌≤◌, ◌++◌, vec_capacity, vec_len, OnOk, OnErr, length};
 ghost use Rattle.indexmap.specs.IndexMap.{index_map_len};
 ghost use Rattle.ckpt_registry.specs.Counters.{counter, counted_once, AreInRange};
-ghost use Rattle.std.specs.BTreeMap.{IsOrdered};
-ghost use Rattle.std.specs.Ordering.{nat_cmp};
-ghost use Rattle.ckpt_ids.specs.Records.{Use, count};
-ghost use Rattle.ckpt_registry.specs.Holdings.{Adds, holder_of, times_held, uses_in, with_holder};
+ghost use Rattle.ckpt_ids.specs.Records.{count};
+ghost use Rattle.ckpt_registry.specs.Holdings.{Adds, IsOrdered, holder_of, nat_cmp, times_held, uses_in, with_holder};
 ghost use Rattle.ckpt_registry.specs.Uses.{triples, without, without_record};
 ghost use Rattle.ckpt_ids.specs.Counting.{times};
 

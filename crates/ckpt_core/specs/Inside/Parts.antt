@@ -14,7 +14,7 @@ use Rattle.ckpt_core.specs.State.{State, Opening, drop, released_by}
 use Rattle.ckpt_core.specs.Refusals.{refusal, first_some, is_foreign, is_repeat, named}
 use Rattle.ckpt_core.specs.Steps.{step}
 use Rattle.ckpt_core.specs.Soundness.{IsSound}
-use Rattle.ckpt_core.specs.Inside.Grouped.{records_of}
+pub use Rattle.ckpt_core.specs.Inside.Grouped.{records_of, with_pins}
 use Rattle.ckpt_ids.specs.declared.subtask.SubtaskId.{SubtaskId}
 use Rattle.ckpt_ids.specs.declared.reply.Refusal.{Refusal}
 use Rattle.ckpt_ids.specs.declared.reply.Refusal.TheVariants.{NameTaken, FileGone}

@@ -1,4 +1,5 @@
--- The start of a checkpoint by a tick, told apart from the expiry that goes with it.
+-- The start of a checkpoint or savepoint: by a tick, told apart from the expiry that goes with it. The names of the step that this takes
+-- are passed on from here.
 use Rattle.std.specs.Prelude.{◌≡◌, ℕ}
 use Rattle.ckpt_ids.specs.declared.reply.TickEnd.{TickEnd}
 use Rattle.ckpt_ids.specs.declared.reply.Reply.TheVariants.{Ticked}
@@ -6,7 +7,9 @@ use Rattle.ckpt_ids.specs.declared.reply.Answer.TheVariants.{Done}
 use Rattle.ckpt_rules.specs.declared.hold.Hold.{Hold}
 use Rattle.ckpt_rules.specs.Trigger.{hold}
 use Rattle.ckpt_core.specs.State.{State}
+pub use Rattle.ckpt_core.specs.State.{chosen, pins_now}
 use Rattle.ckpt_core.specs.Steps.{start_or_hold}
+pub use Rattle.ckpt_core.specs.Steps.{tick, triggered}
 
 -- what holds a checkpoint back while so many are pending
 abbrev pub held_at : State → ℕ → Hold

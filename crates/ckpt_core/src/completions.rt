@@ -1,0 +1,118 @@
+//! The last acknowledgement of a record, which completes it.
+ghost use Rattle.std.specs.Prelude.{◌≡◌, ◌<◌, ◌≤◌, ◌+◌, ◌^◌, ◌++◌, ◌==◌, ℕ, not, filter, find, length, [], IfOk, OnErr, Some, true, false, vec_capacity, vec_len};
+ghost use Rattle.ckpt_ids.specs.declared.call.Call.TheVariants as call;
+ghost use Rattle.ckpt_ids.specs.declared.numbers.Kind.TheVariants as kind;
+ghost use Rattle.ckpt_core.specs.Inside.Completing.{IsMissing, superseded, surplus};
+ghost use Rattle.ckpt_core.specs.Inside.FileFacts.{is_known, is_present};
+ghost use Rattle.ckpt_core.specs.Inside.Moving.{checkpoint_completed, completion, savepoint_completed, with_checkpoint};
+ghost use Rattle.ckpt_core.specs.Inside.Parts.{Answers, AreSound, IsAccepted, Stays, present_in};
+ghost use Rattle.ckpt_core.specs.Inside.RecordFacts.{IsAbove, Record, has_savepoint};
+
+use crate::parts::Parts;
+use ckpt_ids::{CheckpointId, Files, Kind, Reply, SubtaskId};
+use ckpt_pending::Done;
+use std::alloc::AllocError;
+
+impl Parts {
+    /// The pending record has waited for this subtask only, and completes.
+    pub(crate) fn ack_last(
+        &mut self,
+        now: u64,
+        id: CheckpointId,
+        subtask: SubtaskId,
+        fresh: &Files,
+        reused: &Files,
+    ) -> Result<Reply, AllocError>
+        requires sound { AreSound self.old }
+        requires accepted { IsAccepted self.old (call.Ack now id subtask fresh.now reused.now) }
+        requires last { IsMissing self.old.pending id 1 }
+        ensures ok { IfOk result (Answers self.old self.new (call.Ack now id subtask fresh.now reused.now)) }
+        ensures err { OnErr result (Stays self.old self.new) }
+    {
+        self.make_room_for_files(fresh.len())?;
+        self.store.reserve()?;
+        self.take_ack(now, id, subtask, fresh, reused)?;
+        let done = self.finish(id);
+        match done.kind() {
+            Kind::Checkpoint => Ok(self.complete_checkpoint(done)),
+            Kind::Savepoint => Ok(self.complete_savepoint(done)),
+        }
+    }
+
+    /// Takes out the pending record of this number, which has all of its acknowledgements. Takes
+    /// no memory.
+    fn finish(&mut self, id: CheckpointId) -> Done
+        requires { IsMissing self.old.pending id 0 }
+        ensures value { (r : Record) → find (λ r. r.id == id) self.old.pending ≡ Some r → result ≡ record r { done = true } }
+        ensures rest { self.new ≡ record self.old { pending = filter (λ r. not (r.id == id)) self.old.pending } }
+    {
+        self.pending.remove(id).unwrap().finish().ok().unwrap()
+    }
+
+    /// Keeps a completed savepoint, and hands out what its end as a pending record releases. Takes
+    /// no memory.
+    fn complete_savepoint(&mut self, done: Done) -> Reply
+        requires room { 1 ≤ self.old.store.spare }
+        requires savepoint { done.kind ≡ kind.Savepoint }
+        requires new { has_savepoint self.old.store done.id ≡ false }
+        requires few { length self.old.store.savepoints + 1 < 2 ^ 32 }
+        requires unknown { (f : ℕ) → is_present self.old.registry f ≡ true → is_known self.old.outbox f ≡ false }
+        requires spare { present_in self.old.registry ≤ self.old.outbox.spare }
+        requires none_ended { self.old.ended.items ≡ [] }
+        ensures parts { self.new ≡ savepoint_completed self.old done self.new }
+        ensures none_ended { self.new.ended.items ≡ [] }
+        ensures capacity { vec_capacity self.new.ended ≡ vec_capacity self.old.ended }
+        ensures reply { result ≡ completion self.old done [] }
+    {
+        let id = done.id();
+        self.store.add_savepoint(done);
+        let released = self.hand_out_after(id);
+        Reply::AckCompleted {
+            dropped: 0,
+            released,
+        }
+    }
+
+    /// Keeps a completed checkpoint, drops what it supersedes, and hands out what this and its end
+    /// as a pending record release. Takes no memory.
+    fn complete_checkpoint(&mut self, done: Done) -> Reply
+        requires room { 1 ≤ self.old.store.spare }
+        requires checkpoint { done.kind ≡ kind.Checkpoint }
+        requires above { IsAbove self.old.store.checkpoints done.id }
+        requires unknown { (f : ℕ) → is_present self.old.registry f ≡ true → is_known self.old.outbox f ≡ false }
+        requires spare { present_in self.old.registry ≤ self.old.outbox.spare }
+        requires none_ended { self.old.ended.items ≡ [] }
+        requires places { length self.old.pending + 1 ≤ vec_capacity self.old.ended }
+        requires few { length self.old.pending + 1 < 2 ^ 32 }
+        ensures parts { self.new ≡ checkpoint_completed self.old done (superseded self.old.pending self.old.store done) self.new }
+        ensures none_ended { self.new.ended.items ≡ [] }
+        ensures capacity { vec_capacity self.new.ended ≡ vec_capacity self.old.ended }
+        ensures reply { result ≡ completion self.old done (superseded self.old.pending self.old.store done) }
+    {
+        let id = done.id();
+        self.pending.note_subsumed(id, &mut self.ended);
+        self.keep(done);
+        self.pending.remove_all(&self.ended);
+        let dropped = self.ended.len() as u32;
+        let released = self.hand_out_after(id);
+        self.failures.reset();
+        let moment = self.clock.read(0);
+        self.clock.completed(moment);
+        Reply::AckCompleted { dropped, released }
+    }
+
+    /// Keeps a completed checkpoint, and notes the one that is past the number retained.
+    fn keep(&mut self, done: Done)
+        requires room { 1 ≤ self.old.store.spare }
+        requires checkpoint { done.kind ≡ kind.Checkpoint }
+        requires above { IsAbove self.old.store.checkpoints done.id }
+        requires places { vec_len self.old.ended + 1 ≤ vec_capacity self.old.ended }
+        ensures parts { self.new ≡ with_checkpoint self.old done self.new }
+        ensures noted { self.new.ended.items ≡ self.old.ended.items ++ surplus self.old.store done }
+        ensures capacity { vec_capacity self.new.ended ≡ vec_capacity self.old.ended }
+    {
+        if let Some(id) = self.store.complete(done) {
+            self.ended.push_reserved(id);
+        }
+    }
+}

@@ -1,0 +1,69 @@
+//! Acknowledgements of records that have ended.
+ghost use Rattle.std.specs.Prelude.{◌≡◌, ◌<◌, ◌≤◌, ℕ, not, filter, length, count_by, IfOk, OnOk, OnErr, None, true, false};
+ghost use Rattle.ckpt_ids.specs.declared.call.Call.TheVariants as call;
+ghost use Rattle.ckpt_core.specs.Coordinator.{may_want_memory, pending_of};
+ghost use Rattle.ckpt_core.specs.Inside.FileFacts.{AreDistinct, is_in, is_known};
+ghost use Rattle.ckpt_core.specs.Inside.Moving.{with_waiting};
+ghost use Rattle.ckpt_core.specs.Inside.Parts.{Answers, AreSound, IsAccepted, Stays, is_known_in, present_in, state_of};
+
+use crate::parts::Parts;
+use ckpt_ids::{CheckpointId, FileId, Files, Reply, SubtaskId};
+use std::alloc::AllocError;
+
+impl Parts {
+    /// The record has ended: what is not known of its fresh files waits for deletion.
+    pub(crate) fn ack_late(
+        &mut self,
+        now: u64,
+        id: CheckpointId,
+        subtask: SubtaskId,
+        fresh: &Files,
+        reused: &Files,
+    ) -> Result<Reply, AllocError>
+        requires sound { AreSound self.old }
+        requires accepted { IsAccepted self.old (call.Ack now id subtask fresh.now reused.now) }
+        requires ended { pending_of (state_of self.old).records id ≡ None }
+        ensures ok { IfOk result (Answers self.old self.new (call.Ack now id subtask fresh.now reused.now)) }
+        ensures err { OnErr result (Stays self.old self.new) }
+        ensures memory { OnErr result (may_want_memory (state_of self.old) (call.Ack now id subtask fresh.now reused.now) ≡ true) }
+    {
+        let unknown = self.unknown_files(fresh)?;
+        self.put_unknown(&unknown)?;
+        self.clock.see(now);
+        Ok(Reply::AckLate(unknown.len() as u64))
+    }
+
+    /// Those of these files that are not known. Fails only where there are such, and memory runs
+    /// out.
+    fn unknown_files(&self, files: &Files) -> Result<Vec<FileId>, AllocError>
+        ensures ok { IfOk result (λ unknown. unknown.items ≡ filter (λ f. not (is_known_in self.now f)) files.now) }
+        ensures memory { OnErr result (0 < count_by (λ f. not (is_known_in self.now f)) files.now) }
+    {
+        let mut unknown = Vec::new(self.alloc);
+        for file in files.as_slice() {
+            if !self.knows(*file) {
+                unknown.push(*file)?;
+            }
+        }
+        Ok(unknown)
+    }
+
+    /// Hands out these files, which are in no use. Fails only where there are such, and memory
+    /// runs out, and then changes nothing.
+    fn put_unknown(&mut self, files: &[FileId]) -> Result<(), AllocError>
+        requires distinct { AreDistinct files.now }
+        requires unknown { (f : ℕ) → is_in f files.now ≡ true → is_known self.old.outbox f ≡ false }
+        requires spare { present_in self.old.registry ≤ self.old.outbox.spare }
+        ensures ok { OnOk result (self.new ≡ with_waiting self.old files.now self.new.outbox.spare) }
+        ensures spare { present_in self.old.registry ≤ self.new.outbox.spare }
+        ensures err { OnErr result (self.new ≡ self.old) }
+        ensures memory { OnErr result (0 < length files.now) }
+    {
+        if files.is_empty() {
+            return Ok(());
+        }
+        self.make_room_for_files(files.len())?;
+        self.outbox.put(files);
+        Ok(())
+    }
+}
