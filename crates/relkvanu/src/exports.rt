@@ -1,7 +1,6 @@
 ghost use Rattle.std.specs.Prelude.{◌≡◌, ◌≢◌, ◌<◌, ◌≤◌, None, Some, length};
 ghost use Rattle.ckpt_ids.specs.declared.call.Call.TheVariants as call;
-ghost use Rattle.ckpt_core.specs.State.{State};
-ghost use Rattle.ckpt_core.specs.Steps.{step};
+ghost use Rattle.ckpt_core.specs.Coordinator.{State, step};
 ghost use Rattle.ckpt_embed.specs.Buffers.{BringsFiles, BringsJson, IsShowRefused, NeedsPlaces, StandsInFront, json_in};
 ghost use Rattle.ckpt_embed.specs.Calls.{StaysClosed, IsAnswered, WantsMemory, StaysAsItWas, IsRefusedAs, IsBadShape, ack_of, restore_of};
 ghost use Rattle.ckpt_embed.specs.Names.{refusal_name};
