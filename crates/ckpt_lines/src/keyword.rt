@@ -65,12 +65,31 @@ fn spelling(keyword: Keyword) -> &'static [u8]
     }
 }
 
-/// The keyword that is spelled so, or `None`.
-pub(crate) fn keyword_of(word: &[u8]) -> Option<Keyword>
+/// As [`keyword_of`], by comparing the word with one keyword after the other.
+fn among_all(word: &[u8]) -> Option<Keyword>
     ensures { result ≡ keyword_of word.now }
 {
     KEYWORDS
         .iter()
         .find(|keyword| spelling(**keyword) == word)
         .copied()
+}
+
+/// The keyword that is spelled so, or `None`. Those that most lines begin with are told from their
+/// bytes at once: a long script has hundreds of thousands of them.
+#[tactic(auto, unfolding(crate::specs::Keywords::keyword_of))]
+pub(crate) fn keyword_of(word: &[u8]) -> Option<Keyword>
+    ensures { result ≡ keyword_of word.now }
+{
+    match word {
+        [b't', b'i', b'c', b'k'] => Some(Keyword::Tick),
+        [b's', b'a', b'v', b'e', b'p', b'o', b'i', b'n', b't'] => Some(Keyword::Savepoint),
+        [b'a', b'c', b'k'] => Some(Keyword::Ack),
+        [b'd', b'i', b's', b'p', b'o', b's', b'e'] => Some(Keyword::Dispose),
+        [b't', b'a', b'k', b'e'] => Some(Keyword::Take),
+        [b'd', b'e', b'l', b'e', b't', b'e', b'd'] => Some(Keyword::Deleted),
+        [b'u', b'n', b'd', b'e', b'l', b'e', b't', b'e', b'd'] => Some(Keyword::Undeleted),
+        [b'c', b'o', b'u', b'n', b't'] => Some(Keyword::Count),
+        _ => among_all(word),
+    }
 }

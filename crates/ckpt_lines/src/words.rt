@@ -1,5 +1,6 @@
-ghost use Rattle.std.specs.Prelude.{◌≡◌, false, [], ◌∷◌, MatchOption};
-ghost use Rattle.ckpt_lines.specs.Words.{begins_with_space, words_of};
+ghost use Rattle.std.specs.Prelude.{◌≡◌, ◌≤◌, false, [], ◌∷◌, length, MatchOption};
+ghost use Rattle.std.specs.List.{position_or_len};
+ghost use Rattle.ckpt_lines.specs.Words.{begins_with_space, is_space, words_of};
 
 use std::marker::Model;
 
@@ -30,6 +31,23 @@ fn without_spaces(text: &[u8]) -> &[u8]
     rest
 }
 
+/// How many bytes stand before the first space, all where there is none.
+fn word_length(text: &[u8]) -> usize
+    ensures length { result ≡ position_or_len is_space text.now }
+    ensures within { result ≤ length text.now }
+{
+    let mut count = 0;
+    let mut rest = text;
+    while let [byte, after @ ..] = rest {
+        if *byte == b' ' {
+            return count;
+        }
+        count += 1;
+        rest = after;
+    }
+    count
+}
+
 impl<'a> Words<'a> {
     /// The words of this text.
     pub(crate) fn of(text: &'a [u8]) -> Words<'a>
@@ -46,11 +64,7 @@ impl<'a> Words<'a> {
         if text.is_empty() {
             return None;
         }
-        let end = text
-            .iter()
-            .position(|byte| *byte == b' ')
-            .unwrap_or(text.len());
-        let (word, rest) = text.split_at(end);
+        let (word, rest) = text.split_at(word_length(text));
         self.rest = rest;
         Some(word)
     }

@@ -32,24 +32,17 @@ pub(crate) fn write_reply(alloc: Global, text: &mut String, reply: &Reply) -> Re
     }
 }
 
+#[tactic(auto, unfolding(crate::specs::Texts::tick_end_bytes))]
 fn write_tick(text: &mut String, expired: u32, end: TickEnd) -> Result<(), AllocError>
     ensures { OnOk result (string_bytes text.new ≡ string_bytes text.old
         ++ codes "tick expired" ++ spaced expired ++ codes " " ++ tick_end_bytes end) }
 {
-    write!(text, "tick expired {expired} ")?;
-    write_tick_end(text, end)
-}
-
-#[tactic(auto, unfolding(crate::specs::Texts::tick_end_bytes))]
-fn write_tick_end(text: &mut String, end: TickEnd) -> Result<(), AllocError>
-    ensures { OnOk result (string_bytes text.new ≡ string_bytes text.old ++ tick_end_bytes end) }
-{
     match end {
-        TickEnd::Triggered(id) => write!(text, "triggered {}", id.0),
-        TickEnd::HeldInterval => text.push_str("held interval"),
-        TickEnd::HeldAtOnce => text.push_str("held at-once"),
-        TickEnd::HeldPause => text.push_str("held pause"),
-        TickEnd::Failed => text.push_str("failed"),
+        TickEnd::Triggered(id) => write!(text, "tick expired {expired} triggered {}", id.0),
+        TickEnd::HeldInterval => write!(text, "tick expired {expired} held interval"),
+        TickEnd::HeldAtOnce => write!(text, "tick expired {expired} held at-once"),
+        TickEnd::HeldPause => write!(text, "tick expired {expired} held pause"),
+        TickEnd::Failed => write!(text, "tick expired {expired} failed"),
     }
 }
 
