@@ -1,8 +1,6 @@
-use crate::job::Deed::{Ack, Savepoint, Tick};
 use crate::job::Job;
-use crate::job::Said::{AckCompleted, Refused, Triggered};
 use ckpt_core::{Core, OpenFault};
-use ckpt_ids::{Config, Refusal, Shape};
+use ckpt_ids::{Config, Shape};
 use std::alloc::Global;
 use std::process::Abort;
 use std::test::Fail;
@@ -11,13 +9,13 @@ use std::test::Fail;
 fn numbers_are_used_up(rt: HostRuntime) -> Result<(), Fail> {
     let mut job = Job::open_from(rt.alloc(), 1, (1 << 62) - 1)?;
     let row = [
-        (Tick(1000), Triggered(4611686018427387903)),
         (
-            Ack(1000, 4611686018427387903, (0, 0), Some(1), None),
-            AckCompleted(0, 0),
+            "tick 1000",
+            "tick expired 0 triggered 4611686018427387903\n",
         ),
-        (Tick(2000), Refused(Refusal::IdsUsedUp)),
-        (Savepoint(2000), Refused(Refusal::IdsUsedUp)),
+        ("ack 1000 4611686018427387903 0.0 +1", "ack completed 0 0\n"),
+        ("tick 2000", "refused IdsUsedUp\n"),
+        ("savepoint 2000", "refused IdsUsedUp\n"),
     ];
     assert_eq!(rt; job.first_other(&row)?, None);
     Ok(())

@@ -1,9 +1,4 @@
-use crate::job::Deed::{Ack, Decline, Dispose, RestoreIn, Savepoint, Show, Take};
-use crate::job::Said::{
-    AckCompleted, AckLate, DeclineAborted, Disposed, Refused, Restored, SavepointTriggered, Taken,
-};
-use crate::job::{Deed, Job, Said};
-use ckpt_ids::{Choice, Refusal};
+use crate::job::Job;
 use std::process::Abort;
 use std::test::Fail;
 
@@ -11,11 +6,11 @@ use std::test::Fail;
 fn a_savepoint_stays_until_it_is_disposed_of(rt: HostRuntime) -> Result<(), Fail> {
     let mut job = Job::open(rt.alloc(), 1)?;
     let row = [
-        (Savepoint(100), SavepointTriggered(1)),
-        (Ack(200, 1, (0, 0), Some(11), None), AckCompleted(0, 0)),
-        (RestoreIn(300, [2, 1]), Restored(Choice::Fresh, 0)),
-        (Dispose(1), Disposed(1)),
-        (Show(1), Refused(Refusal::NoSuchRecord)),
+        ("savepoint 100", "savepoint triggered 1\n"),
+        ("ack 200 1 0.0 +11", "ack completed 0 0\n"),
+        ("restore 300 latest 2 1", "restored fresh 0\n"),
+        ("dispose 1", "disposed 1\n"),
+        ("show 1", "refused NoSuchRecord\n"),
     ];
     assert_eq!(rt; job.first_other(&row)?, None);
     Ok(())
@@ -25,11 +20,11 @@ fn a_savepoint_stays_until_it_is_disposed_of(rt: HostRuntime) -> Result<(), Fail
 fn a_late_acknowledgement_hands_its_file_out(rt: HostRuntime) -> Result<(), Fail> {
     let mut job = Job::open(rt.alloc(), 1)?;
     let row = [
-        (Savepoint(100), SavepointTriggered(1)),
-        (Decline(100, 1), DeclineAborted(0)),
-        (Ack(200, 1, (0, 0), Some(11), None), AckLate(1)),
-        (Take(1), Taken([11, 0, 0, 0])),
-        (Deed::Deleted(11), Said::Deleted(11)),
+        ("savepoint 100", "savepoint triggered 1\n"),
+        ("decline 100 1 0.0", "decline aborted 0\n"),
+        ("ack 200 1 0.0 +11", "ack late 1\n"),
+        ("take 1", "take 11\n"),
+        ("deleted 11", "deleted 11\n"),
     ];
     assert_eq!(rt; job.first_other(&row)?, None);
     Ok(())

@@ -1,42 +1,25 @@
 //! Rows with each kind of call that may want memory. `Job` makes such a call again where it finds
 //! none: what it left then is what it found.
-use crate::job::Deed::{Ack, Decline, RestoreIn, Savepoint, Show, Take, Tick};
-use crate::job::Said::{
-    AckCompleted, AckLate, AckPending, DeclineAborted, Restored, SavepointTriggered, Taken,
-    Triggered,
-};
-use crate::job::{Job, Said, Shown};
-use ckpt_ids::{CheckpointId, Choice, Kind};
+use crate::job::Job;
 use std::process::Abort;
 use std::test::Fail;
-
-/// The checkpoint of this number that no subtask of one vertex with two has acknowledged yet.
-fn unacknowledged(id: u64, started: u64) -> Shown {
-    Shown {
-        id,
-        kind: Kind::Checkpoint,
-        done: false,
-        started,
-        parallelisms: [2, 0],
-        acked: [None; 3],
-        files: [[0; 2]; 3],
-    }
-}
 
 #[test]
 fn refused_memory_in_records_that_pin_the_choice(rt: HostRuntime) -> Result<(), Fail> {
     let mut job = Job::open(rt.alloc(), 2)?;
+    let unacknowledged =
+        "{\"acks\":[],\"id\":2,\"kind\":\"checkpoint\",\"missing\":2,\"shape\":[2],\"started\":2000,\"state\":\"pending\"}\n";
     let row = [
-        (Tick(1000), Triggered(1)),
-        (Ack(1000, 1, (0, 0), Some(11), None), AckPending(1)),
-        (Ack(1000, 1, (0, 1), Some(12), None), AckCompleted(0, 0)),
-        (Tick(2000), Triggered(2)),
-        (Savepoint(2000), SavepointTriggered(3)),
-        (Ack(2100, 3, (0, 0), Some(13), Some(11)), AckPending(1)),
-        (Decline(2100, 3), DeclineAborted(1)),
-        (Ack(2200, 3, (0, 1), Some(14), None), AckLate(1)),
-        (Take(9), Taken([13, 14, 0, 0])),
-        (Show(2), Said::Shown(unacknowledged(2, 2000))),
+        ("tick 1000", "tick expired 0 triggered 1\n"),
+        ("ack 1000 1 0.0 +11", "ack pending 1\n"),
+        ("ack 1000 1 0.1 +12", "ack completed 0 0\n"),
+        ("tick 2000", "tick expired 0 triggered 2\n"),
+        ("savepoint 2000", "savepoint triggered 3\n"),
+        ("ack 2100 3 0.0 +13 =11", "ack pending 1\n"),
+        ("decline 2100 3 0.0", "decline aborted 1\n"),
+        ("ack 2200 3 0.1 +14", "ack late 1\n"),
+        ("take 9", "take 13 14\n"),
+        ("show 2", unacknowledged),
     ];
     assert_eq!(rt; job.first_other(&row)?, None);
     Ok(())
@@ -45,14 +28,13 @@ fn refused_memory_in_records_that_pin_the_choice(rt: HostRuntime) -> Result<(), 
 #[test]
 fn refused_memory_in_a_restore_with_a_shape(rt: HostRuntime) -> Result<(), Fail> {
     let mut job = Job::open(rt.alloc(), 1)?;
-    let choice = Choice::Checkpoint(CheckpointId(1));
     let row = [
-        (Tick(1000), Triggered(1)),
-        (Ack(1000, 1, (0, 0), Some(11), None), AckCompleted(0, 0)),
-        (Tick(2000), Triggered(2)),
-        (RestoreIn(2300, [1, 2]), Restored(choice, 0)),
-        (Tick(3300), Triggered(3)),
-        (Ack(3300, 3, (1, 1), Some(12), Some(11)), AckPending(2)),
+        ("tick 1000", "tick expired 0 triggered 1\n"),
+        ("ack 1000 1 0.0 +11", "ack completed 0 0\n"),
+        ("tick 2000", "tick expired 0 triggered 2\n"),
+        ("restore 2300 latest 1 2", "restored checkpoint 1 0\n"),
+        ("tick 3300", "tick expired 0 triggered 3\n"),
+        ("ack 3300 3 1.1 +12 =11", "ack pending 2\n"),
     ];
     assert_eq!(rt; job.first_other(&row)?, None);
     Ok(())

@@ -12,7 +12,8 @@ use Rattle.ckpt_ids.specs.Records.{metadata_of}
 use Rattle.ckpt_core.specs.State.{State}
 use Rattle.ckpt_core.specs.Refusals.{pending_of}
 use Rattle.ckpt_core.specs.Histories.{replay, answers}
-use Rattle.ckpt_core.specs.Interleavings.{NewFile, ack_with, first_completed}
+use Rattle.ckpt_core.specs.Interleavings.{NewFile, first_completed}
+pub use Rattle.ckpt_core.specs.Interleavings.{ack_with}
 use Rattle.ckpt_locked.specs.Books.{state_of_book}
 use Rattle.ckpt_texts.specs.MetadataTexts.{missing, missing_subtasks}
 use Rattle.ckpt_texts.specs.Texts.{spaced}

@@ -3,10 +3,9 @@ ghost use Rattle.std.specs.List.{list_any};
 ghost use Rattle.std.specs.Option.{option_map_or};
 ghost use Rattle.ckpt_ids.specs.Shapes.{same_subtask};
 ghost use Rattle.ckpt_ids.specs.Acknowledged.{is_before};
-ghost use Rattle.ckpt_core.specs.Interleavings.{ack_with};
 ghost use Rattle.ckpt_locked.specs.Books.{state_of_book};
 ghost use Rattle.ckpt_texts.specs.MetadataTexts.{missing_subtasks};
-ghost use Rattle.ckpt_session.specs.AllLines.{missing_now, pending_metadata, acks_for, counts_bytes, completed_bytes, pending_bytes, told_of, all_of, all_obeyed};
+ghost use Rattle.ckpt_session.specs.AllLines.{ack_with, missing_now, pending_metadata, acks_for, counts_bytes, completed_bytes, pending_bytes, told_of, all_of, all_obeyed};
 
 use crate::calls::pending_metadata;
 use crate::said::{ScriptRefusal, refusal_text};
