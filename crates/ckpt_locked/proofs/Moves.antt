@@ -59,8 +59,7 @@ asked m t number call slot answer has told =
     let b = v.mine.base.book in
     let e = entry number call in
     let more : entered (kept v.mine.base v.found) number call ≡ kept v.mine.base (v.found ++ e ∷ []) = ap (λ (l : List Entry). record b { entries = l }) (append_assoc b.entries v.found (e ∷ [])) in
-    let small : length (b.entries ++ v.found) + 1 < 2 ^ 64 = told.2 in
-    (
+    let small : length (b.entries ++ v.found) + 1 < 2 ^ 64 = told.2 in (
       refl,
       told.1,
       (has.0, ap (λ (x : Sat × Option History). (v, (0, x.1) ∷ rest x.0.1)) (λ i. (has.1 i, (told.0 ∙ ap Some more) i)) ∙ ap (λ (x : Sat). (x.0, (0, Some (kept v.mine.base (v.found ++ e ∷ []))) ∷ [])) has.1),
