@@ -145,6 +145,11 @@ pub OnOk-unless : {T E : Type 0} (r : Result T E) (P Q : Type 0) → (Q → ⊥)
 OnOk-unless (Ok x) P Q never q p = p
 OnOk-unless (Err e) P Q never q p = absurd (never q)
 
+-- what holds anyway holds after an error
+pub OnErr-anyway : {T E : Type 0} (r : Result T E) (P : Type 0) → P → OnErr r P
+OnErr-anyway (Ok x) P p = tt
+OnErr-anyway (Err e) P p = p
+
 -- a file that stands once is not among those before it
 pub times_before : (xs : List ℕ) (i k : ℕ) → times k xs ≤ 1 → i < length xs → k ≡ get_or xs i k → times k (take i xs) ≡ 0
 times_before xs i k once within at =
@@ -190,3 +195,6 @@ is_some-get m r f = by (get nat_eq m f) refl
 -- room that was made changes no counter
 pub counter-unchanged : (m n : Counts) → n.entries ≡ m.entries → (f : ℕ) → counter n f ≡ counter m f
 counter-unchanged m n same f = ap (λ es. unwrap_or (lookup (eqb f) es) 0) same
+
+pub AreInRange-unchanged : (m n : Counts) → n.entries ≡ m.entries → AreInRange m → AreInRange n
+AreInRange-unchanged m n same r = λ f v h. r f v (ap (λ es. lookup (eqb f) es) (sym same) ∙ h)

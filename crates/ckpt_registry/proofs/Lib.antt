@@ -1,4 +1,8 @@
 pub mod CounterLemmas
+pub mod FileLemmas
 pub mod HoldingLemmas
 pub mod ListLemmas
+pub mod PartLemmas
+pub mod PinLemmas
 pub mod RegistryLemmas
+pub mod SoundLemmas

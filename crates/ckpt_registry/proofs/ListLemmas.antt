@@ -1,9 +1,13 @@
 -- How often the elements of a list pass a test, and what a filter leaves.
-use Rattle.std.proofs.Common.{◌≡◌, ℕ, ◌+◌, ◌<◌, ◌≤◌, Bool, true, false, not, cond, ◌&&◌, List, [], ◌∷◌, ◌++◌, refl, sym, ap, subst, ◌∙◌, ◌⊎◌, inl, inr, ⊎_elim, arith, count_by}
+use Rattle.std.proofs.Common.{◌≡◌, ℕ, ◌+◌, ◌<◌, ◌≤◌, Bool, true, false, not, cond, eqb, ltb, ◌&&◌, List, [], ◌∷◌, ◌++◌, refl, sym, ap, subst, ◌∙◌, ◌⊎◌, inl, inr, ⊎_elim, arith, count_by}
 use Rattle.std.specs.List.{filter}
-use Rattle.std.proofs.lemmas.Bool.{cases_Bool, cases_lt, both_ways, cond-true, cond-false}
+use Rattle.std.proofs.lemmas.Bool.{cases_Bool, cases_lt, both_ways, cond-true, cond-false, eq-eqb, eqb-true, ltb-true, lt-ltb, le-ltb}
 use Rattle.ckpt_ids.specs.Ordered.{IsIn, IsInOrder, put_once, in_order_once, IsStrictOrder, AreDistinct}
-use Rattle.ckpt_ids.proofs.CountLemmas.{count_by-cons, count_by-append}
+use Rattle.ckpt_ids.specs.Ascending.{IsAscendingSet, ascending_set}
+use Rattle.ckpt_ids.specs.Counting.{times}
+use Rattle.ckpt_registry.specs.Uses.{IsEachOnce}
+use Rattle.ckpt_ids.proofs.AscendingLemmas.{numbers_in_order}
+use Rattle.ckpt_ids.proofs.CountLemmas.{count_by-cons, count_by-append, times-from_IsIn, IsIn-from_times}
 use Rattle.ckpt_ids.proofs.OrderedLemmas.{IsIn-append_left, IsIn-append_right, IsIn-append_cases, IsIn-filter, IsIn-from_filter, IsInOrder-filter, IsInOrder-in_order_once, IsIn-in_order_once, IsIn-from_in_order_once, ComesBefore-at, same_from_members, AreDistinct-append, AreDistinct-from_order}
 
 -- a test as a number
@@ -31,6 +35,15 @@ module _ {X : Type 0} where
       let here : count_by p (filter q (x ∷ xs)) ≡ count_by p (filter q xs) = ap (count_by p) (cond-false (q x) (x ∷ filter q xs) (filter q xs) e) in
       let same : one_if (q x && p x) ≡ 0 = ap (λ b. one_if (b && p x)) e in omega arith in
       ⊎_elim kept gone (cases_Bool (q x))
+
+  pub count_by-filter_le : (p q : X → Bool) (xs : List X) → count_by p (filter q xs) ≤ count_by p xs
+  count_by-filter_le p q [] = omega arith
+  count_by-filter_le p q (x ∷ xs) =
+      let rest = count_by-filter_le p q xs in
+      let Goal : Bool → Type 0 = λ b. count_by p (cond b (x ∷ filter q xs) (filter q xs)) ≤ count_by p (x ∷ xs) in
+      let kept : Goal true = omega (arith, rest, count_by-cons p x (filter q xs), count_by-cons p x xs) in
+      let gone : Goal false = omega (arith, rest, count_by-cons p x xs) in
+      ⊎_elim (λ (e : q x ≡ true). subst Goal (sym e) kept) (λ (e : q x ≡ false). subst Goal (sym e) gone) (cases_Bool (q x))
 
   pub filter-none : (q : X → Bool) (xs : List X) → ((x : X) → IsIn x xs → q x ≡ false) → filter q xs ≡ []
   filter-none q [] h = refl
@@ -143,3 +156,38 @@ module _ {X : Type 0} {before : X → X → Bool} (o : IsStrictOrder before) (xs
 pub count_by-filtered : {X : Type 0} {before : X → X → Bool} (o : IsStrictOrder before) (q : X → Bool) (xs : List X) → ((p : X → Bool) → count_by p xs ≡ count_by p (in_order_once before xs)) → (p : X → Bool) → count_by p (filter q xs) ≡ count_by p (in_order_once before (filter q xs))
 count_by-filtered {X} {before} o q xs once p =
     count_by-filter p q xs ∙ once (λ x. q x && p x) ∙ sym (count_by-filter p q (in_order_once before xs)) ∙ ap (count_by p) (sym (in_order_once-filter o q xs))
+
+-- numbers and how often they stand
+
+pub AreDistinct-from_times : (xs : List ℕ) → IsEachOnce xs → AreDistinct xs
+AreDistinct-from_times [] h = tt
+AreDistinct-from_times (x ∷ xs) h =
+    let one : one_if (eqb x x) ≡ 1 = one_if-true (eqb x x) (eq-eqb x x refl) in (
+      λ k. absurd (omega (arith, h x, count_by-cons (λ z. eqb z x) x xs, times-from_IsIn x xs k)),
+      AreDistinct-from_times xs (λ y. omega (arith, h y, count_by-cons (λ z. eqb z y) x xs)),
+    )
+
+pub IsEachOnce-from_ascending : (xs : List ℕ) → IsAscendingSet xs → IsEachOnce xs
+IsEachOnce-from_ascending [] a = λ y. omega arith
+IsEachOnce-from_ascending (x ∷ xs) a = λ y.
+    let rest : times y xs ≤ 1 = IsEachOnce-from_ascending xs a.1 y in
+    let here : eqb x y ≡ true → times y (x ∷ xs) ≤ 1 = λ (e : eqb x y ≡ true).
+    let one : one_if (eqb x y) ≡ 1 = one_if-true (eqb x y) e in
+    let none : 0 < times y xs → ⊥ = λ (k : 0 < times y xs). let below : x < y = ltb-true x y (ComesBefore-at ltb x y xs a.0 (IsIn-from_times y xs k)) in let same : x ≡ y = eqb-true x y e in absurd (omega arith) in
+    ⊎_elim (λ (k : 0 < times y xs). absurd (none k)) (λ (k : times y xs ≤ 0). omega (arith, count_by-cons (λ z. eqb z y) x xs)) (cases_lt 0 (times y xs)) in
+    let there : eqb x y ≡ false → times y (x ∷ xs) ≤ 1 = λ (e : eqb x y ≡ false).
+    let none : one_if (eqb x y) ≡ 0 = one_if-false (eqb x y) e in omega (arith, count_by-cons (λ z. eqb z y) x xs) in
+    ⊎_elim here there (cases_Bool (eqb x y))
+
+-- a number of a list stands once in its ascending set
+pub times-ascending_set : (f : ℕ) (xs : List ℕ) → times f (ascending_set xs) ≡ one_if (ltb 0 (times f xs))
+times-ascending_set f xs =
+    let once : times f (ascending_set xs) ≤ 1 = IsEachOnce-from_ascending (ascending_set xs) (IsInOrder-in_order_once numbers_in_order xs) f in
+    let some : 0 < times f xs → times f (ascending_set xs) ≡ one_if (ltb 0 (times f xs)) = λ (h : 0 < times f xs).
+    let stands : 0 < times f (ascending_set xs) = times-from_IsIn f (ascending_set xs) (IsIn-in_order_once numbers_in_order f xs (IsIn-from_times f xs h)) in
+    let one : one_if (ltb 0 (times f xs)) ≡ 1 = one_if-true (ltb 0 (times f xs)) (lt-ltb 0 (times f xs) h) in omega arith in
+    let none : times f xs ≤ 0 → times f (ascending_set xs) ≡ one_if (ltb 0 (times f xs)) = λ (h : times f xs ≤ 0).
+    let absent : 0 < times f (ascending_set xs) → ⊥ = λ (k : 0 < times f (ascending_set xs)). let stands : 0 < times f xs = times-from_IsIn f xs (IsIn-from_in_order_once ltb f xs (IsIn-from_times f (ascending_set xs) k)) in absurd (omega arith) in
+    let zero_if : one_if (ltb 0 (times f xs)) ≡ 0 = one_if-false (ltb 0 (times f xs)) (le-ltb 0 (times f xs) h) in
+    ⊎_elim (λ (k : 0 < times f (ascending_set xs)). absurd (absent k)) (λ (k : times f (ascending_set xs) ≤ 0). omega arith) (cases_lt 0 (times f (ascending_set xs))) in
+    ⊎_elim some none (cases_lt 0 (times f xs))

@@ -1,10 +1,10 @@
 -- How a change of the parts changes the uses that a registry stands for.
-use Rattle.std.proofs.Common.{◌≡◌, ℕ, ◌+◌, ◌<◌, ◌≤◌, Bool, true, false, not, eqb, ltb, leb, ◌&&◌, ◌||◌, List, [], ◌∷◌, ◌++◌, map, length, refl, sym, ap, subst, ◌∙◌, inl, inr, ⊎_elim, arith, count_by, Some, unwrap_or}
+use Rattle.std.proofs.Common.{◌≡◌, ℕ, ◌+◌, ◌-◌, ◌<◌, ◌≤◌, ◌^◌, Bool, true, false, not, eqb, ltb, leb, ◌&&◌, ◌||◌, List, [], ◌∷◌, ◌++◌, map, length, refl, sym, ap, subst, ◌∙◌, inl, inr, ⊎_elim, arith, count_by, Some, unwrap_or}
 use Rattle.std.specs.List.{filter, IsDistinct, AllByRecursion}
 use Rattle.std.proofs.lemmas.List.{length-map}
 use Rattle.std.proofs.lemmas.Option.{none-some}
 use Rattle.std.specs.BTreeMap.{IsOrdered}
-use Rattle.std.specs.List.Sorted.{IsPermutation, IsSorted}
+use Rattle.std.specs.List.Sorted.{IsPermutation, IsSorted, IsStrictlySortedBy}
 use Rattle.std.specs.Ordering.{nat_cmp}
 use Rattle.std.proofs.lemmas.List.Sorted.{sum_by-IsPermutation}
 use Rattle.std.specs.Map.{lookup, keys_of}
@@ -16,39 +16,24 @@ use Rattle.ckpt_ids.specs.Ordered.{IsIn, IsInOrder, in_order_once, AreDistinct}
 use Rattle.ckpt_ids.specs.Ascending.{IsAscending, IsAscendingSet, ascending_set}
 use Rattle.ckpt_ids.specs.declared.subtask.SubtaskId.{SubtaskId}
 use Rattle.ckpt_ids.specs.Records.{Use, Holder, Subtask, Pin, count, is_present, released, same_holder, use_before}
-use Rattle.ckpt_ids.proofs.OrderedLemmas.{IsIn-from_map, IsIn-filter, IsIn-from_filter, IsIn-in_order_once, IsIn-from_in_order_once, IsInOrder-in_order_once, IsInOrder-filter, ComesBefore-at, ComesBefore-from, same_from_members, filter-same}
+use Rattle.ckpt_ids.proofs.OrderedLemmas.{IsIn-append_left, IsIn-append_cases, IsIn-map, IsIn-from_map, IsIn-filter, IsIn-from_filter, IsIn-in_order_once, IsIn-from_in_order_once, IsInOrder-in_order_once, IsInOrder-filter, ComesBefore-at, ComesBefore-from, same_from_members, filter-same}
 use Rattle.ckpt_ids.proofs.AscendingLemmas.{numbers_in_order, IsAscending-from_sorted}
 use Rattle.ckpt_ids.proofs.OrderLemmas.{uses_in_order}
 use Rattle.ckpt_registry.specs.Counters.{Counts, counter, counted_once, AreInRange}
-use Rattle.ckpt_registry.specs.Holdings.{Holdings, uses_in}
-use Rattle.ckpt_registry.specs.Sound.{stored, in_use, StandsOnce, IsSound}
-use Rattle.ckpt_registry.specs.Uses.{IsEachOnce, HasNoUse, triples, is_owned, is_ended, without, without_record, after_end}
+use Rattle.ckpt_registry.specs.declared.pins.Pinner.{Pinner}
+use Rattle.ckpt_registry.specs.Holdings.{Acknowledged, Extends, files_in, parts_of, uses_in}
+use Rattle.ckpt_registry.specs.Pins.{IsKept, each_file, pinned_by, pins_in, pins_of_records}
+use Rattle.ckpt_registry.specs.Sound.{stored, in_use, AreCounted, StandsOnce, IsSound}
+use Rattle.ckpt_registry.specs.Uses.{IsEachOnce, HasNoUse, triples, files_by, is_owned, is_ended, without, after_end}
+use Rattle.ckpt_registry.proofs.PinLemmas.{pins_in-extended, pins_in-holder, pins_in-push, uses_in-holder}
+use Rattle.ckpt_registry.proofs.SoundLemmas.{AreCounted-acknowledged, AreCounted-pushed, count-stored, is_present-stored}
+use Rattle.ckpt_registry.proofs.HoldingLemmas.{count-used_by}
 use Rattle.ckpt_registry.proofs.CounterLemmas.{get-from_counter, counted_once-above, counted_once-zero, counted_once-le, above_from_counted_once, zero_from_counted_once}
-use Rattle.ckpt_ids.proofs.CountLemmas.{count_by-cons, count_by-append, count_by-map, times-from_IsIn, IsIn-from_times}
-use Rattle.ckpt_registry.proofs.ListLemmas.{one_if, one_if-true, one_if-false, count_by-in_order_once, in_order_once-filter, count_by-added, in_order_once-added, IsIn-from_added, count_by-filtered, filter-filter}
+use Rattle.ckpt_ids.proofs.CountLemmas.{count_by-cons, count_by-append, count_by-map, counted-from_IsIn, IsIn-from_counted, times-from_IsIn, IsIn-from_times}
+use Rattle.ckpt_registry.proofs.ListLemmas.{AreDistinct-from_times, IsEachOnce-from_ascending, one_if, one_if-true, one_if-false, count_by-in_order_once, in_order_once-filter, count_by-added, in_order_once-added, IsIn-from_added, count_by-filtered, filter-filter}
 use Rattle.ckpt_ids.specs.Counting.{times}
 
 -- numbers and how often they stand
-
-pub AreDistinct-from_times : (xs : List ℕ) → IsEachOnce xs → AreDistinct xs
-AreDistinct-from_times [] h = tt
-AreDistinct-from_times (x ∷ xs) h =
-    let one : one_if (eqb x x) ≡ 1 = one_if-true (eqb x x) (eq-eqb x x refl) in (
-      λ k. absurd (omega (arith, h x, count_by-cons (λ z. eqb z x) x xs, times-from_IsIn x xs k)),
-      AreDistinct-from_times xs (λ y. omega (arith, h y, count_by-cons (λ z. eqb z y) x xs)),
-    )
-
-pub IsEachOnce-from_ascending : (xs : List ℕ) → IsAscendingSet xs → IsEachOnce xs
-IsEachOnce-from_ascending [] a = λ y. omega arith
-IsEachOnce-from_ascending (x ∷ xs) a = λ y.
-    let rest : times y xs ≤ 1 = IsEachOnce-from_ascending xs a.1 y in
-    let here : eqb x y ≡ true → times y (x ∷ xs) ≤ 1 = λ (e : eqb x y ≡ true).
-    let one : one_if (eqb x y) ≡ 1 = one_if-true (eqb x y) e in
-    let none : 0 < times y xs → ⊥ = λ (k : 0 < times y xs). let below : x < y = ltb-true x y (ComesBefore-at ltb x y xs a.0 (IsIn-from_times y xs k)) in let same : x ≡ y = eqb-true x y e in absurd (omega arith) in
-    ⊎_elim (λ (k : 0 < times y xs). absurd (none k)) (λ (k : times y xs ≤ 0). omega (arith, count_by-cons (λ z. eqb z y) x xs)) (cases_lt 0 (times y xs)) in
-    let there : eqb x y ≡ false → times y (x ∷ xs) ≤ 1 = λ (e : eqb x y ≡ false).
-    let none : one_if (eqb x y) ≡ 0 = one_if-false (eqb x y) e in omega (arith, count_by-cons (λ z. eqb z y) x xs) in
-    ⊎_elim here there (cases_Bool (eqb x y))
 
 pub IsAscendingSet-from_once : (xs : List ℕ) → IsAscending xs → IsEachOnce xs → IsAscendingSet xs
 IsAscendingSet-from_once [] a h = tt
@@ -90,10 +75,20 @@ triples-holder id holder files u h =
 
 -- what is counted
 
-pub counter-in_use : (a p : Holdings) (counts : Counts) (room : ℕ) → IsSound a p counts room → (f : ℕ) → counter counts f ≡ count (in_use a p) f
-counter-in_use a p counts room s f = s.counted f ∙ s.once (λ (u : Use). eqb u.file f)
+module _ (a : Acknowledged) (p : List Pinner) (counts : Counts) (room : ℕ) (s : IsSound a p counts room) (f : ℕ) where
+  same_count : count (stored a p) f ≡ count (in_use a p) f
+  same_count = s.once (λ (u : Use). eqb u.file f)
 
-pub in_use-in_order : (a p : Holdings) → IsInOrder use_before (in_use a p)
+  pub count-in_use : counter counts f + pins_of_records a f p ≡ count (in_use a p) f
+  count-in_use = sym (count-stored a p counts s.parts f) ∙ same_count
+
+  pub is_present-in_use : ltb 0 (counter counts f) ≡ is_present (in_use a p) f
+  is_present-in_use = sym (is_present-stored a p counts s.parts f) ∙ ap (ltb 0) same_count
+
+  pub below-in_use : count (in_use a p) f < 2 ^ 32
+  below-in_use = omega (arith, same_count, s.parts.below f)
+
+pub in_use-in_order : (a : Acknowledged) (p : List Pinner) → IsInOrder use_before (in_use a p)
 in_use-in_order a p = IsInOrder-in_order_once uses_in_order (stored a p)
 
 -- the files that have a counter are the files in use
@@ -129,25 +124,26 @@ count_by-true : (xs : List ℕ) → count_by (λ x. true) xs ≡ length xs
 count_by-true [] = refl
 count_by-true (x ∷ xs) = omega (arith, count_by-cons (λ y. true) x xs, count_by-true xs)
 
-pub index_map_len-in_use : (a p : Holdings) (counts : Counts) (room : ℕ) → IsSound a p counts room → IsUnique eqb counts → index_map_len counts ≡ length (ascending_set (map (λ u. u.file) (in_use a p)))
+pub index_map_len-in_use : (a : Acknowledged) (p : List Pinner) (counts : Counts) (room : ℕ) → IsSound a p counts room → IsUnique eqb counts → index_map_len counts ≡ length (ascending_set (map (λ u. u.file) (in_use a p)))
 index_map_len-in_use a p counts room s unique =
     let keys : List ℕ = keys_of counts.entries in
     let files : List ℕ = map file_of (in_use a p) in
-    let counted : (f : ℕ) → counter counts f ≡ count (in_use a p) f = counter-in_use a p counts room s in
+    let counted : (f : ℕ) → ltb 0 (counter counts f) ≡ is_present (in_use a p) f = is_present-in_use a p counts room s in
     let forth : (z : ℕ) → IsIn z (ascending_set keys) → IsIn z (ascending_set files) = λ z h.
     let found = lookup_from_key z counts.entries (IsIn-from_in_order_once ltb z keys h) in
     let value : counter counts z ≡ found.0 = ap (λ o. unwrap_or o 0) found.1 in
-    IsIn-in_order_once numbers_in_order z files (file_from_count z (in_use a p) (omega (arith, (s.range z found.0 found.1).0, counted z))) in
+    let above : 0 < counter counts z = omega (arith, value, (s.parts.range z found.0 found.1).0) in
+    IsIn-in_order_once numbers_in_order z files (file_from_count z (in_use a p) (ltb-true 0 (count (in_use a p) z) (sym (counted z) ∙ lt-ltb 0 (counter counts z) above))) in
     let back : (z : ℕ) → IsIn z (ascending_set files) → IsIn z (ascending_set keys) = λ z h.
     let used : 0 < count (in_use a p) z = count-from_file z (in_use a p) (IsIn-from_in_order_once ltb z files h) in
-    IsIn-in_order_once numbers_in_order z keys (key_from_lookup z (counter counts z) counts.entries (get-from_counter counts z (omega (arith, counted z)))) in
+    IsIn-in_order_once numbers_in_order z keys (key_from_lookup z (counter counts z) counts.entries (get-from_counter counts z (ltb-true 0 (counter counts z) (counted z ∙ lt-ltb 0 (count (in_use a p) z) used)))) in
     let same : ascending_set keys ≡ ascending_set files = same_from_members numbers_in_order (ascending_set keys) (ascending_set files) (IsInOrder-in_order_once numbers_in_order keys) (IsInOrder-in_order_once numbers_in_order files) forth back in
     let whole : count_by (λ x. true) (ascending_set keys) ≡ count_by (λ x. true) keys = count_by-in_order_once numbers_in_order (λ x. true) keys (AreDistinct-from_distinct keys unique) in
     sym (length-map counts.entries (λ e. e.0)) ∙ sym (count_by-true keys) ∙ sym whole ∙ count_by-true (ascending_set keys) ∙ ap length same
 
 -- what is added
 
-module _ (a p b q : Holdings) (id : ℕ) (holder : Holder) (files : List ℕ) (adds : (t : Use → Bool) → count_by t (stored b q) ≡ count_by t (stored a p) + count_by t (triples id holder files)) where
+module _ (a : Acknowledged) (p : List Pinner) (b : Acknowledged) (q : List Pinner) (id : ℕ) (holder : Holder) (files : List ℕ) (adds : (t : Use → Bool) → count_by t (stored b q) ≡ count_by t (stored a p) + count_by t (triples id holder files)) where
   pub in_use-added : in_use b q ≡ in_order_once use_before (in_use a p ++ triples id holder files)
   in_use-added = in_order_once-added uses_in_order (stored a p) (stored b q) (triples id holder files) adds
 
@@ -157,11 +153,19 @@ module _ (a p b q : Holdings) (id : ℕ) (holder : Holder) (files : List ℕ) (a
       (AreDistinct-triples id holder files (AreDistinct-from_times files each))
       (λ u h k. let same = triples-holder id holder files u k in unused u h same.0 same.1)
 
+-- nothing is added where there is no file
+pub in_use-none : (a : Acknowledged) (p : List Pinner) (id : ℕ) (holder : Holder) (files : List ℕ) → files ≡ [] → in_use a p ≡ in_order_once use_before (in_use a p ++ triples id holder files)
+in_use-none a p id holder files none = in_use-added a p a p id holder files (λ t. let no : count_by t (triples id holder files) ≡ 0 = ap (λ fs. count_by t (triples id holder fs)) none in omega (arith, no))
+
 -- what is taken away
 
-pub stored-without : (a p b q : Holdings) (owners : List ℕ) → uses_in b.entries ≡ without owners (uses_in a.entries) → uses_in q.entries ≡ without owners (uses_in p.entries) → stored b q ≡ without owners (stored a p)
+pub stored-without : (a : Acknowledged) (p : List Pinner) (b : Acknowledged) (q : List Pinner) (owners : List ℕ) → uses_in b.entries ≡ without owners (uses_in a.entries) → pins_in b q ≡ without owners (pins_in a p) → stored b q ≡ without owners (stored a p)
 stored-without a p b q owners h k =
-    ap (λ us. us ++ uses_in q.entries) h ∙ ap (λ us. without owners (uses_in a.entries) ++ us) k ∙ sym (filter-append (λ u. not (is_owned owners u)) (uses_in a.entries) (uses_in p.entries))
+    ap (λ us. us ++ pins_in b q) h ∙ ap (λ us. without owners (uses_in a.entries) ++ us) k ∙ sym (filter-append (λ u. not (is_owned owners u)) (uses_in a.entries) (pins_in a p))
+
+or_none : (x : Bool) → (x || false) ≡ x
+or_none true = refl
+or_none false = refl
 
 stays_other : (x y z : Bool) → z ≡ false → not x ≡ not (x || (y && z))
 stays_other true y z e = refl
@@ -174,25 +178,29 @@ stays_pin true false z e = refl
 stays_pin false true z e = ap not (sym e)
 stays_pin false false z e = refl
 
-pub stored-after_end : (a p b q : Holdings) (id : ℕ) (owners : List ℕ) → ((u : Use) → IsIn u (uses_in a.entries) → same_holder u.holder Pin ≡ false) → ((u : Use) → IsIn u (uses_in p.entries) → same_holder u.holder Pin ≡ true)
-    → uses_in b.entries ≡ without owners (uses_in a.entries) → uses_in q.entries ≡ without owners (without_record id (uses_in p.entries)) → stored b q ≡ after_end id owners (stored a p)
-stored-after_end a p b q id owners others only h k =
-    let kept : uses_in b.entries ≡ after_end id owners (uses_in a.entries) =
-    h ∙ filter-same (λ u. not (is_owned owners u)) (λ u. not (is_ended id owners u)) (uses_in a.entries) (λ u m. stays_other (is_owned owners u) (eqb u.id id) (same_holder u.holder Pin) (others u m)) in
-    let ended : uses_in q.entries ≡ after_end id owners (uses_in p.entries) =
-    k ∙ filter-filter (λ u. not (is_owned owners u)) (λ u. not (eqb u.id id)) (uses_in p.entries)
-    ∙ filter-same (λ u. not (eqb u.id id) && not (is_owned owners u)) (λ u. not (is_ended id owners u)) (uses_in p.entries) (λ u m. stays_pin (is_owned owners u) (eqb u.id id) (same_holder u.holder Pin) (only u m)) in
-    ap (λ us. us ++ uses_in q.entries) kept ∙ ap (λ us. after_end id owners (uses_in a.entries) ++ us) ended ∙ sym (filter-append (λ u. not (is_ended id owners u)) (uses_in a.entries) (uses_in p.entries))
+is_owned-one : (id : ℕ) (u : Use) → is_owned (id ∷ []) u ≡ eqb u.id id
+is_owned-one id u = or_none (eqb u.id id)
 
-pub in_use-filtered : (a p b q : Holdings) (t : Use → Bool) → stored b q ≡ filter t (stored a p) → in_use b q ≡ filter t (in_use a p)
+pub stored-after_end : (a : Acknowledged) (p : List Pinner) (b : Acknowledged) (q : List Pinner) (id : ℕ) (owners : List ℕ)
+    → uses_in b.entries ≡ without owners (uses_in a.entries) → pins_in b q ≡ without owners (without (id ∷ []) (pins_in a p)) → stored b q ≡ after_end id owners (stored a p)
+stored-after_end a p b q id owners h k =
+    let kept : uses_in b.entries ≡ after_end id owners (uses_in a.entries) =
+    h ∙ filter-same (λ u. not (is_owned owners u)) (λ u. not (is_ended id owners u)) (uses_in a.entries) (λ u m. stays_other (is_owned owners u) (eqb u.id id) (same_holder u.holder Pin) (uses_in-holder a.entries u m)) in
+    let ended : pins_in b q ≡ after_end id owners (pins_in a p) =
+    k ∙ filter-filter (λ u. not (is_owned owners u)) (λ u. not (is_owned (id ∷ []) u)) (pins_in a p)
+    ∙ filter-same (λ u. not (is_owned (id ∷ []) u) && not (is_owned owners u)) (λ u. not (is_ended id owners u)) (pins_in a p)
+    (λ u m. ap (λ t. not t && not (is_owned owners u)) (is_owned-one id u) ∙ stays_pin (is_owned owners u) (eqb u.id id) (same_holder u.holder Pin) (pins_in-holder a p u m)) in
+    ap (λ us. us ++ pins_in b q) kept ∙ ap (λ us. after_end id owners (uses_in a.entries) ++ us) ended ∙ sym (filter-append (λ u. not (is_ended id owners u)) (uses_in a.entries) (pins_in a p))
+
+pub in_use-filtered : (a : Acknowledged) (p : List Pinner) (b : Acknowledged) (q : List Pinner) (t : Use → Bool) → stored b q ≡ filter t (stored a p) → in_use b q ≡ filter t (in_use a p)
 in_use-filtered a p b q t h = ap (in_order_once use_before) h ∙ in_order_once-filter uses_in_order t (stored a p)
 
-pub StandsOnce-filtered : (a p b q : Holdings) (t : Use → Bool) → stored b q ≡ filter t (stored a p) → StandsOnce (stored a p) → StandsOnce (stored b q)
+pub StandsOnce-filtered : (a : Acknowledged) (p : List Pinner) (b : Acknowledged) (q : List Pinner) (t : Use → Bool) → stored b q ≡ filter t (stored a p) → StandsOnce (stored a p) → StandsOnce (stored b q)
 StandsOnce-filtered a p b q t h once = subst StandsOnce (sym h) (count_by-filtered uses_in_order t (stored a p) once)
 
 -- what is released
 
-pub released-from_counts : (xs : List ℕ) (m n : Counts) (us vs : List Use) → IsAscending xs → ((f : ℕ) → times f xs + counted_once n f ≡ counted_once m f) → ((f : ℕ) → counter m f ≡ count us f) → ((f : ℕ) → counter n f ≡ count vs f) → xs ≡ released us vs
+pub released-from_counts : (xs : List ℕ) (m n : Counts) (us vs : List Use) → IsAscending xs → ((f : ℕ) → times f xs + counted_once n f ≡ counted_once m f) → ((f : ℕ) → ltb 0 (counter m f) ≡ is_present us f) → ((f : ℕ) → ltb 0 (counter n f) ≡ is_present vs f) → xs ≡ released us vs
 released-from_counts xs m n us vs up moved before after =
     let files : List ℕ = map file_of us in
     let gone : ℕ → Bool = λ f. not (is_present vs f) in
@@ -201,18 +209,19 @@ released-from_counts xs m n us vs up moved before after =
     let stands : 0 < times z xs = times-from_IsIn z xs h in
     let was : 0 < counter m z = above_from_counted_once m z (omega (arith, moved z)) in
     let is : counter n z ≡ 0 = zero_from_counted_once n z (omega (arith, moved z, counted_once-le m z)) in
-    let absent : is_present vs z ≡ false = le-ltb 0 (count vs z) (omega (arith, after z)) in
-    IsIn-filter gone z (ascending_set files) (IsIn-in_order_once numbers_in_order z files (file_from_count z us (omega (arith, before z)))) (ap not absent) in
+    let absent : is_present vs z ≡ false = sym (after z) ∙ le-ltb 0 (counter n z) (omega (arith, is)) in
+    IsIn-filter gone z (ascending_set files) (IsIn-in_order_once numbers_in_order z files (file_from_count z us (ltb-true 0 (count us z) (sym (before z) ∙ lt-ltb 0 (counter m z) was)))) (ap not absent) in
     let back : (z : ℕ) → IsIn z (released us vs) → IsIn z xs = λ z h.
     let k = IsIn-from_filter gone z (ascending_set files) h in
-    let was : 0 < count us z = count-from_file z us (IsIn-from_in_order_once ltb z files k.0) in
-    let is : count vs z ≤ 0 = ltb-false 0 (count vs z) (not-true (is_present vs z) k.1) in
-    let had : counted_once m z ≡ 1 = counted_once-above m z (omega (arith, before z)) in
-    let has : counted_once n z ≡ 0 = counted_once-zero n z (omega (arith, after z)) in
+    let was : 0 < counter m z = ltb-true 0 (counter m z) (before z ∙ lt-ltb 0 (count us z) (count-from_file z us (IsIn-from_in_order_once ltb z files k.0))) in
+    let is : counter n z ≤ 0 = ltb-false 0 (counter n z) (after z ∙ not-true (is_present vs z) k.1) in
+    let had : counted_once m z ≡ 1 = counted_once-above m z was in
+    let has : counted_once n z ≡ 0 = counted_once-zero n z (omega (arith, is)) in
     IsIn-from_times z xs (omega (arith, moved z)) in
     same_from_members numbers_in_order xs (released us vs) (IsAscendingSet-from_once xs up once) (IsInOrder-filter ltb gone (ascending_set files) (IsInOrder-in_order_once numbers_in_order files)) forth back
 
-pub released-sorted : (xs ys start : List ℕ) (m n : Counts) (us vs : List Use) → IsPermutation xs ys → IsSorted nat_cmp ys → start ≡ [] → ((f : ℕ) → times f xs + counted_once n f ≡ times f start + counted_once m f) → ((f : ℕ) → counter m f ≡ count us f) → ((f : ℕ) → counter n f ≡ count vs f) → ys ≡ released us vs
+pub released-sorted : (xs ys start : List ℕ) (m n : Counts) (us vs : List Use) → IsPermutation xs ys → IsSorted nat_cmp ys → start ≡ [] → ((f : ℕ) → times f xs + counted_once n f ≡ times f start + counted_once m f) → ((f : ℕ) → ltb 0 (counter m f) ≡ is_present us f)
+    → ((f : ℕ) → ltb 0 (counter n f) ≡ is_present vs f) → ys ≡ released us vs
 released-sorted xs ys start m n us vs same up none moved before after =
     let sorted : (f : ℕ) → times f ys + counted_once n f ≡ counted_once m f = λ f.
     let kept : times f ys ≡ times f xs = sum_by-IsPermutation (λ x. one_if (eqb x f)) xs ys same in
@@ -221,72 +230,92 @@ released-sorted xs ys start m n us vs same up none moved before after =
 
 -- the parts stay sound
 
-IsIn-kept : (t : Use → Bool) (us vs : List Use) → vs ≡ filter t us → (u : Use) → IsIn u vs → IsIn u us
-IsIn-kept t us vs h u k = let P : List Use → Type 0 = λ xs. IsIn u xs in (IsIn-from_filter t u us (subst P h k)).0
+pub IsSound-filtered : (a : Acknowledged) (p : List Pinner) (b : Acknowledged) (q : List Pinner) (m n : Counts) (room left : ℕ) (t : Use → Bool) → IsSound a p m room → AreCounted b q n → stored b q ≡ filter t (stored a p) → index_map_len n ≤ left → IsSound b q n left
+IsSound-filtered a p b q m n room left t s counted kept fits = record { parts = counted; once = StandsOnce-filtered a p b q t kept s.once; has_room = fits }
 
-pub IsSound-filtered : (a p b q : Holdings) (m n : Counts) (room left : ℕ) (t : Use → Bool) → IsSound a p m room → IsOrdered nat_cmp b → IsOrdered nat_cmp q
-    → ((u : Use) → IsIn u (uses_in b.entries) → IsIn u (uses_in a.entries)) → ((u : Use) → IsIn u (uses_in q.entries) → IsIn u (uses_in p.entries)) → stored b q ≡ filter t (stored a p)
-    → ((f : ℕ) → counter n f ≡ count (uses_in b.entries) f + count (uses_in q.entries) f) → AreInRange n → index_map_len n ≤ left → IsSound b q n left
-IsSound-filtered a p b q m n room left t s first second among within kept counted range fits = record {
-  acknowledged_ordered = first;
-  pinned_ordered = second;
-  no_pins = λ u h. s.no_pins u (among u h);
-  only_pins = λ u h. s.only_pins u (within u h);
-  once = StandsOnce-filtered a p b q t kept s.once;
-  counted = λ f. counted f ∙ sym (count_by-append (λ (u : Use). eqb u.file f) (uses_in b.entries) (uses_in q.entries));
-  range = range;
-  has_room = fits;
-}
+pub stored-acknowledged : (a : Acknowledged) (p : List Pinner) (b : Acknowledged) (us : List Use) → pins_in b p ≡ pins_in a p → ((t : Use → Bool) → count_by t (uses_in b.entries) ≡ count_by t (uses_in a.entries) + count_by t us) → (t : Use → Bool) → count_by t (stored b p) ≡ count_by t (stored a p) + count_by t us
+stored-acknowledged a p b us pins adds t =
+    let same : count_by t (pins_in b p) ≡ count_by t (pins_in a p) = ap (count_by t) pins in
+    omega (arith, adds t, same, count_by-append t (uses_in b.entries) (pins_in b p), count_by-append t (uses_in a.entries) (pins_in a p))
 
-pub IsIn-without : (owners : List ℕ) (us vs : List Use) → vs ≡ without owners us → (u : Use) → IsIn u vs → IsIn u us
-IsIn-without owners us vs h = IsIn-kept (λ u. not (is_owned owners u)) us vs h
+pub stored-pinned : (a : Acknowledged) (p q : List Pinner) (us : List Use) → pins_in a q ≡ pins_in a p ++ us → (t : Use → Bool) → count_by t (stored a q) ≡ count_by t (stored a p) + count_by t us
+stored-pinned a p q us pins t =
+    let same : count_by t (pins_in a q) ≡ count_by t (pins_in a p ++ us) = ap (count_by t) pins in
+    omega (arith, same, count_by-append t (pins_in a p) us, count_by-append t (uses_in a.entries) (pins_in a q), count_by-append t (uses_in a.entries) (pins_in a p))
 
-pub IsIn-after_pins : (owners : List ℕ) (id : ℕ) (us vs : List Use) → vs ≡ without owners (without_record id us) → (u : Use) → IsIn u vs → IsIn u us
-IsIn-after_pins owners id us vs h u k = IsIn-kept (λ v. not (eqb v.id id)) us (without_record id us) refl u (IsIn-without owners (without_record id us) vs h u k)
+-- each file is used once more at most, and there is a place for the count
+pub below_more : (us : List Use) (fresh reused : List ℕ) → ((f : ℕ) → count us f < 2 ^ 32) → IsEachOnce (fresh ++ reused) → ((f : ℕ) → IsIn f fresh → is_present us f ≡ false) → ((f : ℕ) → IsIn f reused → count us f < 2 ^ 32 - 1) → (f : ℕ) → count us f + times f (fresh ++ reused) < 2 ^ 32
+below_more us fresh reused below once absent small f =
+    let some : 0 < times f (fresh ++ reused) → count us f + times f (fresh ++ reused) < 2 ^ 32 = λ (h : 0 < times f (fresh ++ reused)).
+    ⊎_elim
+    (λ (k : IsIn f fresh). omega (arith, once f, ltb-false 0 (count us f) (absent f k)))
+    (λ (k : IsIn f reused). omega (arith, once f, small f k))
+    (IsIn-append_cases f fresh reused (IsIn-from_times f (fresh ++ reused) h)) in
+    ⊎_elim some (λ (h : times f (fresh ++ reused) ≤ 0). omega (arith, h, below f)) (cases_lt 0 (times f (fresh ++ reused)))
 
-pub stored-acknowledged : (a p b : Holdings) (us : List Use) → ((t : Use → Bool) → count_by t (uses_in b.entries) ≡ count_by t (uses_in a.entries) + count_by t us) → (t : Use → Bool) → count_by t (stored b p) ≡ count_by t (stored a p) + count_by t us
-stored-acknowledged a p b us adds t = omega (arith, adds t, count_by-append t (uses_in b.entries) (uses_in p.entries), count_by-append t (uses_in a.entries) (uses_in p.entries))
-
-pub stored-pinned : (a p q : Holdings) (us : List Use) → ((t : Use → Bool) → count_by t (uses_in q.entries) ≡ count_by t (uses_in p.entries) + count_by t us) → (t : Use → Bool) → count_by t (stored a q) ≡ count_by t (stored a p) + count_by t us
-stored-pinned a p q us adds t = omega (arith, adds t, count_by-append t (uses_in a.entries) (uses_in q.entries), count_by-append t (uses_in a.entries) (uses_in p.entries))
-
-counted-added : (us vs : List Use) (m n : Counts) (id : ℕ) (holder : Holder) (files : List ℕ) → ((t : Use → Bool) → count_by t vs ≡ count_by t us + count_by t (triples id holder files)) → ((f : ℕ) → counter m f ≡ count us f) → ((f : ℕ) → counter n f ≡ counter m f + times f files) → (f : ℕ) → counter n f ≡ count vs f
-counted-added us vs m n id holder files adds before raised f = omega (arith, adds (λ (u : Use). eqb u.file f), before f, raised f, count-triples id holder files f)
-
-pub IsSound-acknowledged : (a p b : Holdings) (m n : Counts) (room left id : ℕ) (subtask : SubtaskId) (files : List ℕ) → IsSound a p m room → IsOrdered nat_cmp b
+pub IsSound-acknowledged : (a : Acknowledged) (p : List Pinner) (b : Acknowledged) (m n : Counts) (room left id : ℕ) (subtask : SubtaskId) (files : List ℕ) → IsSound a p m room → IsOrdered nat_cmp b → Extends a b
     → ((t : Use → Bool) → count_by t (uses_in b.entries) ≡ count_by t (uses_in a.entries) + count_by t (triples id (Subtask subtask) files)) → IsEachOnce files → HasNoUse (in_use a p) id (Subtask subtask)
-    → ((f : ℕ) → counter n f ≡ counter m f + times f files) → AreInRange n → index_map_len n ≤ left → IsSound b p n left
-IsSound-acknowledged a p b m n room left id subtask files s first adds each unused raised range fits =
-    let added = stored-acknowledged a p b (triples id (Subtask subtask) files) adds in
+    → ((f : ℕ) → counter n f ≡ counter m f + times f files) → AreInRange n → index_map_len n ≤ left → ((f : ℕ) → count (in_use a p) f + times f files < 2 ^ 32) → IsSound b p n left
+IsSound-acknowledged a p b m n room left id subtask files s ordered more adds each unused raised range fits small =
+    let pins : pins_in b p ≡ pins_in a p = pins_in-extended a b p more s.parts.kept in
+    let added = stored-acknowledged a p b (triples id (Subtask subtask) files) pins adds in
+    let used : (f : ℕ) → count (uses_in b.entries) f ≡ count (uses_in a.entries) f + times f files = λ f. omega (arith, adds (λ (u : Use). eqb u.file f), count-triples id (Subtask subtask) files f) in
     record {
-      acknowledged_ordered = first;
-      pinned_ordered = s.pinned_ordered;
-      no_pins = λ u h. ⊎_elim
-          (λ (k : IsIn u (uses_in a.entries)). s.no_pins u k)
-          (λ (k : IsIn u (triples id (Subtask subtask) files)). ap (λ (o : Holder). same_holder o Pin) (triples-holder id (Subtask subtask) files u k).1)
-          (IsIn-from_added uses_in_order (uses_in a.entries) (uses_in b.entries) (triples id (Subtask subtask) files) adds u h);
-      only_pins = s.only_pins;
+      parts = AreCounted-acknowledged a b p m n files more ordered used raised range (λ f. omega (arith, small f, s.once (λ (u : Use). eqb u.file f))) s.parts;
       once = StandsOnce-added a p b p id (Subtask subtask) files added s.once each unused;
-      counted = counted-added (stored a p) (stored b p) m n id (Subtask subtask) files added s.counted raised;
-      range = range;
       has_room = fits;
     }
 
-pub IsSound-pinned : (a p q : Holdings) (m n : Counts) (room left id : ℕ) (files : List ℕ) → IsSound a p m room → IsOrdered nat_cmp q
-    → ((t : Use → Bool) → count_by t (uses_in q.entries) ≡ count_by t (uses_in p.entries) + count_by t (triples id Pin files)) → IsEachOnce files → HasNoUse (in_use a p) id Pin
-    → ((f : ℕ) → counter n f ≡ counter m f + times f files) → AreInRange n → index_map_len n ≤ left → IsSound a q n left
-IsSound-pinned a p q m n room left id files s second adds each unused raised range fits =
-    let added = stored-pinned a p q (triples id Pin files) adds in
-    record {
-      acknowledged_ordered = s.acknowledged_ordered;
-      pinned_ordered = second;
-      no_pins = s.no_pins;
-      only_pins = λ u h. ⊎_elim
-          (λ (k : IsIn u (uses_in p.entries)). s.only_pins u k)
-          (λ (k : IsIn u (triples id Pin files)). ap (λ (o : Holder). same_holder o Pin) (triples-holder id Pin files u k).1)
-          (IsIn-from_added uses_in_order (uses_in p.entries) (uses_in q.entries) (triples id Pin files) adds u h);
-      once = StandsOnce-added a p a q id Pin files added s.once each unused;
-      counted = counted-added (stored a p) (stored a q) m n id Pin files added s.counted raised;
-      range = range;
-      has_room = fits;
-    }
+module _ (a : Acknowledged) (p : List Pinner) (one : Pinner) (files : List ℕ) (pins : pinned_by a one ≡ files) where
+  added-pinned : (t : Use → Bool) → count_by t (stored a (p ++ one ∷ [])) ≡ count_by t (stored a p) + count_by t (triples one.id Pin files)
+  added-pinned = stored-pinned a p (p ++ one ∷ []) (triples one.id Pin files) (pins_in-push a p one ∙ ap (λ fs. pins_in a p ++ triples one.id Pin fs) pins)
+
+  pub in_use-pinned : in_use a (p ++ one ∷ []) ≡ in_order_once use_before (in_use a p ++ triples one.id Pin files)
+  in_use-pinned = in_use-added a p a (p ++ one ∷ []) one.id Pin files added-pinned
+
+  pub IsSound-pinned : (m n : Counts) (room left : ℕ) → IsSound a p m room → IsKept (parts_of a one.chosen) one → IsEachOnce files → HasNoUse (in_use a p) one.id Pin
+      → ((f : ℕ) → counter n f ≡ counter m f + times f one.files.items) → AreInRange n → index_map_len n ≤ left → ((f : ℕ) → count (in_use a p) f + times f files < 2 ^ 32) → IsSound a (p ++ one ∷ []) n left
+  IsSound-pinned m n room left s kept each unused raised range fits small = record {
+    parts = AreCounted-pushed a p one m n kept raised range (λ f. let same : times f (pinned_by a one) ≡ times f files = ap (times f) pins in omega (arith, same, small f, s.once (λ (u : Use). eqb u.file f))) s.parts;
+    once = StandsOnce-added a p a (p ++ one ∷ []) one.id Pin files added-pinned s.once each unused;
+    has_room = fits;
+  }
+
+-- the files of a record, as the uses tell them
+
+and_parts : (x y : Bool) → (x && y) ≡ true → (x ≡ true) × (y ≡ true)
+and_parts true y e = (refl, e)
+and_parts false y e = absurd (both_ways false refl e)
+
+pub files_by-in_use : (a : Acknowledged) (p : List Pinner) (id : ℕ) → IsStrictlySortedBy nat_cmp (keys_of a.entries) → files_by id (in_use a p) ≡ each_file (parts_of a id)
+files_by-in_use a p id ordered =
+    let test : Use → Bool = λ u. eqb u.id id && not (same_holder u.holder Pin) in
+    let named : List ℕ = map file_of (filter test (in_use a p)) in
+    let files : List ℕ = files_in (parts_of a id) in
+    let forth : (z : ℕ) → IsIn z named → IsIn z files = λ z h.
+    let q = IsIn-from_map file_of z (filter test (in_use a p)) h in
+    let u : Use = q.0 in
+    let k = IsIn-from_filter test u (in_use a p) q.1 in
+    let both = and_parts (eqb u.id id) (not (same_holder u.holder Pin)) k.1 in
+    let among : IsIn u (uses_in a.entries) = ⊎_elim
+    (λ (i : IsIn u (uses_in a.entries)). i)
+    (λ (i : IsIn u (pins_in a p)). absurd (both_ways (same_holder u.holder Pin) (not-true (same_holder u.holder Pin) both.1) (pins_in-holder a p u i)))
+    (IsIn-append_cases u (uses_in a.entries) (pins_in a p) (IsIn-from_in_order_once use_before u (stored a p) k.0)) in
+    let here : (eqb u.id id && eqb u.file z) ≡ true = ap (λ b. b && eqb u.file z) both.0 ∙ eq-eqb u.file z (sym q.2) in
+    let counts : 0 < count_by (λ (v : Use). eqb v.id id && eqb v.file z) (uses_in a.entries) = counted-from_IsIn (λ (v : Use). eqb v.id id && eqb v.file z) u (uses_in a.entries) among here in
+    IsIn-from_times z files (omega (arith, counts, count-used_by a id z ordered)) in
+    let back : (z : ℕ) → IsIn z files → IsIn z named = λ z h.
+    let counts : 0 < count_by (λ (v : Use). eqb v.id id && eqb v.file z) (uses_in a.entries) = omega (arith, times-from_IsIn z files h, count-used_by a id z ordered) in
+    let q = IsIn-from_counted (λ (v : Use). eqb v.id id && eqb v.file z) (uses_in a.entries) counts in
+    let u : Use = q.0 in
+    let both = and_parts (eqb u.id id) (eqb u.file z) q.2 in
+    let passes : test u ≡ true = ap (λ b. b && not (same_holder u.holder Pin)) both.0 ∙ ap not (uses_in-holder a.entries u q.1) in
+    let among : IsIn u (filter test (in_use a p)) = IsIn-filter test u (in_use a p) (IsIn-in_order_once uses_in_order u (stored a p) (IsIn-append_left u (uses_in a.entries) (pins_in a p) q.1)) passes in
+    let P : ℕ → Type 0 = λ y. IsIn y named in
+    subst P (eqb-true u.file z both.1) (IsIn-map file_of u (filter test (in_use a p)) among) in
+    same_from_members numbers_in_order (ascending_set named) (ascending_set files) (IsInOrder-in_order_once numbers_in_order named) (IsInOrder-in_order_once numbers_in_order files)
+    (λ z h. IsIn-in_order_once numbers_in_order z files (forth z (IsIn-from_in_order_once ltb z named h)))
+    (λ z h. IsIn-in_order_once numbers_in_order z named (back z (IsIn-from_in_order_once ltb z files h)))
+
+pub IsEachOnce-files_by : (id : ℕ) (us : List Use) → IsEachOnce (files_by id us)
+IsEachOnce-files_by id us = IsEachOnce-from_ascending (files_by id us) (IsInOrder-in_order_once numbers_in_order (map file_of (filter (λ u. eqb u.id id && not (same_holder u.holder Pin)) us)))

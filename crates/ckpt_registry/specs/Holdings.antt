@@ -1,46 +1,45 @@
--- The uses that the maps from a record's number to what it holds stand for.
-use Rattle.std.specs.Prelude.{◌≡◌, ℕ, ◌+◌, Bool, ◌==◌, List, map, count_by}
+-- The uses that the map from a record's number to its subtasks' parts stands for.
+use Rattle.std.specs.Prelude.{ℕ, ◌+◌, Bool, List, [], ◌++◌, count_by, unwrap_or, ◌≡◌}
 use Rattle.std.specs.List.{flat_map}
-use Rattle.std.specs.BTreeMap.{BTreeMap}
+use Rattle.std.specs.Option.{option_map}
+use Rattle.std.specs.BTreeMap.{BTreeMap, get}
 -- the order of a map's keys, which clauses on these maps name too
 pub use Rattle.std.specs.BTreeMap.{IsOrdered}
 pub use Rattle.std.specs.Ordering.{nat_cmp}
 use Rattle.std.specs.declared.vec.Vec.{Vec}
 use Rattle.std.specs.declared.alloc.Global.{Global}
-use Rattle.ckpt_ids.specs.Records as records
-use Rattle.ckpt_ids.specs.Records.{Use}
-use Rattle.ckpt_registry.specs.declared.holdings.Holder.{Holder}
-use Rattle.ckpt_registry.specs.declared.holdings.Holder.TheVariants.{Subtask, Pin}
-use Rattle.ckpt_registry.specs.declared.holdings.Held.{Held}
+use Rattle.ckpt_ids.specs.Records.{Use, Subtask}
+use Rattle.ckpt_registry.specs.declared.holdings.Part.{Part}
+use Rattle.ckpt_registry.specs.Uses.{triples}
 
--- what each record holds, by its number
-abbrev pub Holdings : Type 0
-Holdings = BTreeMap ℕ (Vec Held Global)
+-- what the subtasks of each record acknowledged, by the record's number
+abbrev pub Acknowledged : Type 0
+Acknowledged = BTreeMap ℕ (Vec Part Global)
 
-abbrev pub holder_of : Holder → records.Holder
-holder_of (Subtask subtask) = records.Subtask subtask
-holder_of Pin = records.Pin
+-- the files of one part
+abbrev pub files_of : Part → List ℕ
+files_of part = part.fresh ++ part.reused
 
--- a file that a record holds, as a use
-abbrev pub use_of : ℕ → Held → Use
-use_of id held = record { id = id; holder = holder_of held.holder; file = held.file }
+-- the files of a record; one that several subtasks use stands for each
+abbrev pub files_in : List Part → List ℕ
+files_in parts = flat_map files_of parts
 
--- what one record holds
-abbrev pub uses_by : ℕ → List Held → List Use
-uses_by id held = map (use_of id) held
+-- what one record uses
+abbrev pub uses_by : ℕ → List Part → List Use
+uses_by id parts = flat_map (λ part. triples id (Subtask part.subtask) (files_of part)) parts
 
--- what the records of a map hold
-abbrev pub uses_in : List (ℕ × Vec Held Global) → List Use
+-- what the records of a map use
+abbrev pub uses_in : List (ℕ × Vec Part Global) → List Use
 uses_in entries = flat_map (λ e. uses_by e.0 e.1.items) entries
 
--- how often a file is held
-abbrev pub times_held : ℕ → List Held → ℕ
-times_held f held = count_by (λ h. h.file == f) held
-
--- these files, as a holder holds them
-abbrev pub with_holder : Holder → List ℕ → List Held
-with_holder holder files = map (λ f. record { holder = holder; file = f }) files
+-- the parts of the record of this number
+abbrev pub parts_of : Acknowledged → ℕ → List Part
+parts_of m id = unwrap_or (option_map (λ v. v.items) (get nat_cmp m id)) []
 
 -- the uses after are those before and these, in any order
 abbrev pub Adds : List Use → List Use → List Use → Type 0
 Adds before more after = (p : Use → Bool) → count_by p after ≡ count_by p before + count_by p more
+
+-- each record keeps its parts, and may have got more
+abbrev pub Extends : Acknowledged → Acknowledged → Type 0
+Extends before after = (id : ℕ) → (more : List Part) × (parts_of after id ≡ parts_of before id ++ more)

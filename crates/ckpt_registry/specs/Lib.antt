@@ -1,5 +1,6 @@
 pub mod Counters
 pub mod Ends
 pub mod Holdings
+pub mod Pins
 pub mod Sound
 pub mod Uses

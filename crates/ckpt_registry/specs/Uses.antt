@@ -1,6 +1,7 @@
 -- What a change of the registry adds to its uses, and what it takes away.
 use Rattle.std.specs.Prelude.{◌≡◌, ℕ, ◌≤◌, Bool, not, ◌&&◌, ◌||◌, ◌==◌, List, map, filter, count_by}
 use Rattle.std.specs.List.{list_any}
+use Rattle.ckpt_ids.specs.Ascending.{ascending_set}
 use Rattle.ckpt_ids.specs.Ordered.{IsIn}
 use Rattle.ckpt_ids.specs.Records.{Use, Holder, Pin, same_holder}
 
@@ -15,6 +16,10 @@ triples id holder files = map (λ f. record { id = id; holder = holder; file = f
 -- this holder of this record uses no file
 abbrev pub HasNoUse : List Use → ℕ → Holder → Type 0
 HasNoUse us id holder = (u : Use) → IsIn u us → u.id ≡ id → u.holder ≡ holder → ⊥
+
+-- the files that the subtasks of a record use, ascending, each once
+abbrev pub files_by : ℕ → List Use → List ℕ
+files_by id us = ascending_set (map (λ u. u.file) (filter (λ u. (u.id == id) && not (same_holder u.holder Pin)) us))
 
 -- whether one of these records has the use
 abbrev pub is_owned : List ℕ → Use → Bool

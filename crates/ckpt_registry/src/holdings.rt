@@ -1,155 +1,130 @@
-ghost use Rattle.std.specs.Prelude.{◌≡◌, ℕ, ◌+◌, ◌≤◌, ◌++◌, vec_capacity, vec_len, OnOk, OnErr, length};
+ghost use Rattle.std.specs.Prelude.{◌≡◌, ℕ, ◌+◌, ◌≤◌, ◌<◌, ◌++◌, nat_lt, vec_capacity, vec_len, OnOk, OnErr, IfSome, length};
 ghost use Rattle.indexmap.specs.IndexMap.{index_map_len};
-ghost use Rattle.ckpt_registry.specs.Counters.{counter, counted_once, AreInRange};
-ghost use Rattle.ckpt_ids.specs.Records.{count};
-ghost use Rattle.ckpt_registry.specs.Holdings.{Adds, IsOrdered, holder_of, nat_cmp, times_held, uses_in, with_holder};
-ghost use Rattle.ckpt_registry.specs.Uses.{triples, without, without_record};
 ghost use Rattle.ckpt_ids.specs.Counting.{times};
+ghost use Rattle.ckpt_ids.specs.Records.{Subtask};
+ghost use Rattle.ckpt_registry.specs.Counters.{counter, counted_once, AreInRange};
+ghost use Rattle.ckpt_registry.specs.Holdings.{Adds, Extends, IsOrdered, files_in, files_of, nat_cmp, uses_in};
+ghost use Rattle.ckpt_registry.specs.Uses.{triples};
 
 use crate::counters::{Counts, lower};
-use ckpt_ids::{CheckpointId, FileId, SubtaskId};
+use ckpt_ids::{CheckpointId, FileId, Files, SubtaskId};
 use std::alloc::{AllocError, Global};
 use std::collections::BTreeMap;
 
-/// What holds a file: the acknowledgement of a subtask, or the record itself.
-#[derive(Clone, Copy, Debug)]
-pub(crate) enum Holder {
-    Subtask(SubtaskId),
-    Pin,
+/// What a subtask acknowledged: files that nobody used before, and such as were there.
+#[derive(Debug, Drop)]
+pub(crate) struct Part {
+    pub(crate) subtask: SubtaskId,
+    pub(crate) fresh: Files,
+    pub(crate) reused: Files,
 }
 
-/// A file that a record holds.
-#[derive(Clone, Copy, Debug)]
-pub(crate) struct Held {
-    pub(crate) holder: Holder,
-    pub(crate) file: FileId,
+/// What the subtasks of each record acknowledged, by the record's number.
+pub(crate) type Acknowledged = BTreeMap<CheckpointId, Vec<Part>>;
+
+impl Part {
+    /// Whether the subtask uses a file.
+    fn has(&self, file: FileId) -> bool
+        ensures { result ≡ nat_lt 0 (times file (files_of self.now)) }
+    {
+        self.fresh.as_slice().binary_search(&file).is_ok()
+            || self.reused.as_slice().binary_search(&file).is_ok()
+    }
 }
 
-/// What each record holds, by its number. A record that holds nothing has no entry.
-pub(crate) type Holdings = BTreeMap<CheckpointId, Vec<Held>>;
+/// Whether one of these parts has a file. Searches each, and visits no other file.
+pub(crate) fn has(parts: &[Part], file: FileId) -> bool
+    ensures { result ≡ nat_lt 0 (times file (files_in parts.now)) }
+{
+    for part in parts {
+        if part.has(file) {
+            return true;
+        }
+    }
+    false
+}
+
+/// How many files these parts name, where that is a number at all.
+pub(crate) fn named(parts: &[Part]) -> Option<usize>
+    ensures { IfSome result (λ n. n ≡ length (files_in parts.now)) }
+{
+    let mut files: usize = 0;
+    for part in parts {
+        files = files
+            .checked_add(part.fresh.len())?
+            .checked_add(part.reused.len())?;
+    }
+    Some(files)
+}
 
 /// Takes back one use of each of these files.
-fn lower_each(counts: &mut Counts, released: &mut Vec<FileId>, held: &[Held])
-    requires counted { (f : ℕ) → times_held f held.now ≤ counter counts.old f }
+pub(crate) fn lower_each(counts: &mut Counts, released: &mut Vec<FileId>, files: &[FileId])
+    requires counted { (f : ℕ) → times f files.now ≤ counter counts.old f }
     requires range { AreInRange counts.old }
     requires room { index_map_len counts.old + vec_len released.old ≤ vec_capacity released.old }
-    ensures lowered { (f : ℕ) → counter counts.new f + times_held f held.now ≡ counter counts.old f }
+    ensures lowered { (f : ℕ) → counter counts.new f + times f files.now ≡ counter counts.old f }
     ensures released { (f : ℕ) → times f released.new.items + counted_once counts.new f ≡ times f released.old.items + counted_once counts.old f }
     ensures len { index_map_len counts.new + vec_len released.new ≡ index_map_len counts.old + vec_len released.old }
     ensures capacity { vec_capacity released.new ≡ vec_capacity released.old }
     ensures range { AreInRange counts.new }
 {
-    for one in held {
-        lower(counts, released, one.file);
+    for file in files {
+        lower(counts, released, *file);
     }
 }
 
-/// Takes back all that one record holds, where it holds anything.
-pub(crate) fn release(
-    holdings: &mut Holdings,
-    counts: &mut Counts,
-    released: &mut Vec<FileId>,
-    id: CheckpointId,
-)
-    requires ordered { IsOrdered nat_cmp holdings.old }
-    requires counted { (f : ℕ) → count (uses_in holdings.old.entries) f ≤ counter counts.old f }
+/// Takes back the uses of these parts.
+pub(crate) fn lower_parts(counts: &mut Counts, released: &mut Vec<FileId>, parts: &[Part])
+    requires counted { (f : ℕ) → times f (files_in parts.now) ≤ counter counts.old f }
     requires range { AreInRange counts.old }
     requires room { index_map_len counts.old + vec_len released.old ≤ vec_capacity released.old }
-    ensures ordered { IsOrdered nat_cmp holdings.new }
-    ensures kept { uses_in holdings.new.entries ≡ without_record id (uses_in holdings.old.entries) }
-    ensures lowered { (f : ℕ) → counter counts.new f + count (uses_in holdings.old.entries) f ≡ counter counts.old f + count (uses_in holdings.new.entries) f }
+    ensures lowered { (f : ℕ) → counter counts.new f + times f (files_in parts.now) ≡ counter counts.old f }
     ensures released { (f : ℕ) → times f released.new.items + counted_once counts.new f ≡ times f released.old.items + counted_once counts.old f }
     ensures len { index_map_len counts.new + vec_len released.new ≡ index_map_len counts.old + vec_len released.old }
     ensures capacity { vec_capacity released.new ≡ vec_capacity released.old }
     ensures range { AreInRange counts.new }
 {
-    if let Some(held) = holdings.remove(&id) {
-        lower_each(counts, released, &held);
+    for part in parts {
+        lower_each(counts, released, part.fresh.as_slice());
+        lower_each(counts, released, part.reused.as_slice());
     }
 }
 
-/// Adds files that a record holds. Fails only for want of memory, and then adds none.
+/// Adds the part of a subtask to a record. Fails only for want of memory, and then adds nothing.
 pub(crate) fn hold(
-    holdings: &mut Holdings,
+    acknowledged: &mut Acknowledged,
     alloc: Global,
     id: CheckpointId,
-    holder: Holder,
-    fresh: &[FileId],
-    reused: &[FileId],
+    subtask: SubtaskId,
+    fresh: &Files,
+    reused: &Files,
 ) -> Result<(), AllocError>
-    requires { IsOrdered nat_cmp holdings.old }
-    ensures ordered { IsOrdered nat_cmp holdings.new }
-    ensures ok { OnOk result (Adds (uses_in holdings.old.entries) (triples id (holder_of holder) (fresh.now ++ reused.now)) (uses_in holdings.new.entries)) }
-    ensures err { OnErr result (uses_in holdings.new.entries ≡ uses_in holdings.old.entries) }
+    requires { IsOrdered nat_cmp acknowledged.old }
+    ensures ordered { IsOrdered nat_cmp acknowledged.new }
+    ensures extends { Extends acknowledged.old acknowledged.new }
+    ensures ok { OnOk result (Adds (uses_in acknowledged.old.entries) (triples id (Subtask subtask) (fresh.now ++ reused.now)) (uses_in acknowledged.new.entries)) }
+    ensures err { OnErr result (uses_in acknowledged.new.entries ≡ uses_in acknowledged.old.entries) }
 {
     if fresh.is_empty() && reused.is_empty() {
         return Ok(());
     }
-    match holdings.get_mut(&id) {
-        Some(held) => append(held, holder, fresh, reused),
-        None => {
-            let mut held = Vec::new(alloc);
-            append(&mut held, holder, fresh, reused)?;
-            holdings.insert(id, held)?;
+    let fresh = fresh.copy()?;
+    let reused = reused.copy()?;
+    let part = Part {
+        subtask,
+        fresh,
+        reused,
+    };
+    match acknowledged.get_mut(&id) {
+        Some(parts) => {
+            parts.push(part)?;
             Ok(())
         }
-    }
-}
-
-fn append(
-    held: &mut Vec<Held>,
-    holder: Holder,
-    fresh: &[FileId],
-    reused: &[FileId],
-) -> Result<(), AllocError>
-    ensures ok { OnOk result (held.new.items ≡ held.old.items ++ with_holder holder (fresh.now ++ reused.now)) }
-    ensures err { OnErr result (held.new.items ≡ held.old.items) }
-{
-    held.reserve(fresh.len().saturating_add(reused.len()))?;
-    append_each(held, holder, fresh);
-    append_each(held, holder, reused);
-    Ok(())
-}
-
-fn append_each(held: &mut Vec<Held>, holder: Holder, files: &[FileId])
-    requires { vec_len held.old + length files.now ≤ vec_capacity held.old }
-    ensures items { held.new.items ≡ held.old.items ++ with_holder holder files.now }
-    ensures len { vec_len held.new ≡ vec_len held.old + length files.now }
-    ensures capacity { vec_capacity held.new ≡ vec_capacity held.old }
-{
-    for file in files {
-        held.push_reserved(Held {
-            holder,
-            file: *file,
-        });
-    }
-}
-
-/// Takes back all that these records hold.
-pub(crate) fn release_each(
-    acknowledged: &mut Holdings,
-    pinned: &mut Holdings,
-    counts: &mut Counts,
-    released: &mut Vec<FileId>,
-    owners: &[CheckpointId],
-)
-    requires acknowledged_ordered { IsOrdered nat_cmp acknowledged.old }
-    requires pinned_ordered { IsOrdered nat_cmp pinned.old }
-    requires counted { (f : ℕ) → counter counts.old f ≡ count (uses_in acknowledged.old.entries) f + count (uses_in pinned.old.entries) f }
-    requires range { AreInRange counts.old }
-    requires room { index_map_len counts.old + vec_len released.old ≤ vec_capacity released.old }
-    ensures acknowledged_ordered { IsOrdered nat_cmp acknowledged.new }
-    ensures pinned_ordered { IsOrdered nat_cmp pinned.new }
-    ensures acknowledged_kept { uses_in acknowledged.new.entries ≡ without owners.now (uses_in acknowledged.old.entries) }
-    ensures pinned_kept { uses_in pinned.new.entries ≡ without owners.now (uses_in pinned.old.entries) }
-    ensures counted { (f : ℕ) → counter counts.new f ≡ count (uses_in acknowledged.new.entries) f + count (uses_in pinned.new.entries) f }
-    ensures released { (f : ℕ) → times f released.new.items + counted_once counts.new f ≡ times f released.old.items + counted_once counts.old f }
-    ensures len { index_map_len counts.new + vec_len released.new ≡ index_map_len counts.old + vec_len released.old }
-    ensures capacity { vec_capacity released.new ≡ vec_capacity released.old }
-    ensures range { AreInRange counts.new }
-{
-    for owner in owners {
-        release(acknowledged, counts, released, *owner);
-        release(pinned, counts, released, *owner);
+        None => {
+            let mut parts = Vec::new(alloc);
+            parts.push(part)?;
+            acknowledged.insert(id, parts)?;
+            Ok(())
+        }
     }
 }

@@ -12,6 +12,8 @@
 
 mod counters;
 mod holdings;
+mod pins;
 pub mod registry;
+mod releases;
 
 pub use registry::Registry;

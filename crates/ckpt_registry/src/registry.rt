@@ -3,10 +3,12 @@ ghost use Rattle.std.specs.Borrow.{sem};
 ghost use Rattle.ckpt_ids.specs.Ordered.{IsIn, IsInOrder, in_order_once};
 ghost use Rattle.ckpt_ids.specs.Ascending.{IsAscendingSet, ascending_set};
 ghost use Rattle.ckpt_ids.specs.Records.{Subtask, Pin, count, is_present, released, use_before};
-ghost use Rattle.ckpt_registry.specs.Uses.{IsEachOnce, HasNoUse, after_end, triples, without};
+ghost use Rattle.ckpt_registry.specs.Uses.{IsEachOnce, HasNoUse, after_end, files_by, triples, without};
 
 use crate::counters::{Counts, count_fresh, count_reused};
-use crate::holdings::{Holder, Holdings, hold, release, release_each};
+use crate::holdings::{Acknowledged, hold, named};
+use crate::pins::{Pinner, pins_of, unpin};
+use crate::releases::release_each;
 use ckpt_hash::Secret;
 use ckpt_ids::{CheckpointId, FileId, Files, SubtaskId};
 use indexmap::IndexMap;
@@ -16,14 +18,19 @@ use std::marker::Model;
 
 /// The uses of state files by live records, and how often each file is used.
 ///
-/// Calls cost what they name: `count` and `contains` are look-ups, `use_files` and `pin` visit
-/// their k files, and `release` and `end` what the named records hold, each by look-ups that take
-/// O(log n) steps among n. No call visits the other files.
+/// Calls cost what they name: `contains` is a look-up, `use_files` and `pin` visit their k files,
+/// `pin_record` the subtasks of the record that it pins, and `release` and `end` what the named
+/// records use, each by look-ups that take O(log n) steps among n. `count` searches, beside its
+/// look-up, the files of each subtask of the records that are pinned, by halves. No call visits
+/// the other files.
+///
+/// A record that is pinned has a use of each of its files, which are present while it is live. So
+/// nothing is counted for its pins until it goes.
 #[derive(Drop)]
 pub struct Registry {
     counts: Counts,
-    acknowledged: Holdings,
-    pinned: Holdings,
+    acknowledged: Acknowledged,
+    pinned: Vec<Pinner>,
     /// The answer of the last release, in room for all files that are present.
     released: Vec<FileId>,
 }
@@ -36,9 +43,9 @@ impl Model for Registry {
 
     ghost Value = { List Use };
 
-    ghost view = { λ r. in_use r.acknowledged r.pinned };
+    ghost view = { λ r. in_use r.acknowledged r.pinned.items };
 
-    ghost invariant = { λ r. IsSound r.acknowledged r.pinned r.counts (vec_capacity r.released) };
+    ghost invariant = { λ r. IsSound r.acknowledged r.pinned.items r.counts (vec_capacity r.released) };
 }
 
 impl Registry {
@@ -60,7 +67,7 @@ impl Registry {
         Registry {
             counts: IndexMap::with_hasher(alloc, secret),
             acknowledged: BTreeMap::new(alloc),
-            pinned: BTreeMap::new(alloc),
+            pinned: Vec::new(alloc),
             released: Vec::new(alloc),
         }
     }
@@ -91,10 +98,9 @@ impl Registry {
         self.released.clear();
         self.released.reserve(self.counts.capacity())?;
         let alloc = *self.released.allocator();
-        let holder = Holder::Subtask(subtask);
+        hold(&mut self.acknowledged, alloc, id, subtask, fresh, reused)?;
         let fresh = fresh.as_slice();
         let reused = reused.as_slice();
-        hold(&mut self.acknowledged, alloc, id, holder, fresh, reused)?;
         count_fresh(&mut self.counts, fresh);
         count_reused(&mut self.counts, reused);
         Ok(())
@@ -113,9 +119,50 @@ impl Registry {
         ensures err { OnErr result (self.new ≡ self.old) }
     {
         let alloc = *self.released.allocator();
+        if files.is_empty() {
+            return Ok(());
+        }
         let files = files.as_slice();
-        hold(&mut self.pinned, alloc, id, Holder::Pin, &[], files)?;
+        let own = Vec::from_slice(alloc, files)?;
+        self.pinned.push(Pinner {
+            id,
+            chosen: id,
+            parts: 0,
+            files: own,
+        })?;
         count_reused(&mut self.counts, files);
+        Ok(())
+    }
+
+    /// Pins the files of a live record, as it is now: one use for each, which keeps them present
+    /// until record `id` ends or goes, even where the other goes before. Does the same as
+    /// [`Registry::pin`] with these files, and visits none of them.
+    ///
+    /// Record `id` has no pins yet, and the other may have no use. Fails only for want of memory,
+    /// and then adds none.
+    pub fn pin_record(&mut self, id: CheckpointId, chosen: CheckpointId) -> Result<(), AllocError>
+        requires below { (f : ℕ) → IsIn f (files_by chosen self.old) → count self.old f < 2 ^ 32 - 1 }
+        requires unpinned { HasNoUse self.old id Pin }
+        ensures ok { OnOk result (self.new ≡ in_order_once use_before (self.old ++ triples id Pin (files_by chosen self.old))) }
+        ensures err { OnErr result (self.new ≡ self.old) }
+    {
+        let Some(parts) = self.acknowledged.get(&chosen) else {
+            return Ok(());
+        };
+        let Some(files) = named(parts) else {
+            return Err(AllocError);
+        };
+        let parts = parts.len();
+        let alloc = *self.released.allocator();
+        // Room for the files, which are written where the other record goes first: no memory may
+        // be asked for then. Until then it is not touched.
+        let files = Vec::with_capacity(alloc, files)?;
+        self.pinned.push(Pinner {
+            id,
+            chosen,
+            parts,
+            files,
+        })?;
         Ok(())
     }
 
@@ -150,7 +197,12 @@ impl Registry {
         ensures files { result.now ≡ released self.old (after_end id owners.now self.old) }
     {
         self.released.clear();
-        release(&mut self.pinned, &mut self.counts, &mut self.released, id);
+        unpin(
+            &mut self.pinned,
+            &mut self.counts,
+            &mut self.released,
+            &[id],
+        );
         release_each(
             &mut self.acknowledged,
             &mut self.pinned,
@@ -167,7 +219,8 @@ impl Registry {
         ensures value { result ≡ count self.now file }
         ensures in_order { IsInOrder use_before self.now }
     {
-        self.counts.get(&file).copied().unwrap_or(0)
+        let counted = self.counts.get(&file).copied().unwrap_or(0);
+        counted + pins_of(&self.acknowledged, &self.pinned, file)
     }
 
     /// Whether a file is present: whether it is used at all.

@@ -2,13 +2,12 @@ use Rattle.std.proofs.Common.{◌≡◌, ℕ, ◌+◌, take, vec_len}
 use Rattle.std.specs.Vec.{vec_capacity}
 use Rattle.indexmap.specs.IndexMap.{index_map_len}
 use Rattle.ckpt_registry.specs.Counters.{counter, counted_once, AreInRange}
-use Rattle.ckpt_registry.specs.Holdings.{times_held}
 use Rattle.ckpt_registry.proofs.holdings.lower_each.Given as goal
 use Rattle.ckpt_ids.specs.Counting.{times}
 
-abbrev pub invariant-loop-one : goal.invariant-loop-one
-invariant-loop-one l = record {
-  lowered : (f : ℕ) → counter l.counts f + times_held f (take l.one-index l.held) ≡ counter l.fn.counts f;
+abbrev pub invariant-loop-file : goal.invariant-loop-file
+invariant-loop-file l = record {
+  lowered : (f : ℕ) → counter l.counts f + times f (take l.file-index l.files) ≡ counter l.fn.counts f;
   released : (f : ℕ) → times f l.released.items + counted_once l.counts f ≡ times f l.fn.released.items + counted_once l.fn.counts f;
   len : index_map_len l.counts + vec_len l.released ≡ index_map_len l.fn.counts + vec_len l.fn.released;
   capacity : vec_capacity l.released ≡ vec_capacity l.fn.released;

@@ -1,23 +1,32 @@
-use Rattle.std.proofs.Common.{◌≡◌, ℕ, ◌+◌, ◌<◌, ◌++◌, Bool, List, sym, ap, subst, ◌∙◌, arith, count_by}
+use Rattle.std.proofs.Common.{◌≡◌, ℕ, ◌+◌, ◌<◌, ◌^◌, ◌++◌, List, [], ◌∷◌, true, sym, ap, subst, ◌∙◌, arith}
 use Rattle.std.specs.Vec.{vec_capacity}
 use Rattle.std.proofs.lemmas.Bool.{ltb-true}
-use Rattle.ckpt_ids.specs.Ordered.{IsIn, in_order_once}
-use Rattle.ckpt_ids.specs.Records.{Use, Pin, count, use_before}
-use Rattle.ckpt_registry.specs.Counters.{counter}
-use Rattle.ckpt_registry.specs.Holdings.{uses_in}
-use Rattle.ckpt_registry.specs.Sound.{in_use}
-use Rattle.ckpt_registry.specs.Uses.{HasNoUse, triples}
-use Rattle.ckpt_registry.proofs.RegistryLemmas.{counter-in_use, IsEachOnce-from_ascending, IsSound-pinned, in_use-added, stored-pinned}
-use Rattle.ckpt_registry.proofs.registry.Registry.pin.Goals as goal
 use Rattle.ckpt_ids.specs.Counting.{times}
+use Rattle.ckpt_ids.specs.Ordered.{IsIn, in_order_once}
+use Rattle.ckpt_ids.specs.Records.{Use, Pin, count, is_present, use_before}
+use Rattle.ckpt_registry.specs.declared.pins.Pinner.{Pinner}
+use Rattle.ckpt_registry.specs.Counters.{counter}
+use Rattle.ckpt_registry.specs.Holdings.{Acknowledged, parts_of}
+use Rattle.ckpt_registry.specs.Pins.{IsKept}
+use Rattle.ckpt_registry.specs.Sound.{IsSound, in_use}
+use Rattle.ckpt_registry.specs.Uses.{HasNoUse, IsEachOnce, triples}
+use Rattle.ckpt_registry.proofs.ListLemmas.{IsEachOnce-from_ascending}
+use Rattle.ckpt_registry.proofs.RegistryLemmas.{IsSound-pinned, below-in_use, below_more, count-in_use, in_use-none, in_use-pinned, is_present-in_use}
+use Rattle.ckpt_registry.proofs.registry.Registry.pin.Goals as goal
+
+pub returns-then-is_empty-clause-ok : goal.returns-then-is_empty-clause-ok
+returns-then-is_empty-clause-ok c =
+    let r = c.self.inside in
+    let none : c.args.files.now ≡ [] = c.is_empty.ensures.0 c.if-is_empty.true in
+    let P : List Use → Type 0 = λ us. us ≡ in_order_once use_before (us ++ triples c.args.id Pin c.args.files.now) in
+    subst P c.self.view_is (in_use-none r.acknowledged r.pinned.items c.args.id Pin c.args.files.now none)
 
 pub count_reused-requires-clause-present : goal.count_reused-requires-clause-present
 count_reused-requires-clause-present c = λ f h.
     let r = c.self.inside in
     let P : List ℕ → Type 0 = λ xs. IsIn f xs in
-    let used : 0 < count c.args.self.now f = ltb-true 0 (count c.args.self.now f) (c.requires.present f (subst P c.as_slice-files.ensures.files h)) in
-    let same : count (in_use r.acknowledged r.pinned) f ≡ count c.args.self.now f = ap (λ (us : List Use). count us f) c.self.view_is in
-    omega (arith, counter-in_use r.acknowledged r.pinned r.counts (vec_capacity r.released) c.self.invariant f)
+    let there : is_present c.args.self.now f ≡ true = c.requires.present f (subst P c.as_slice-files.ensures.files h) in
+    ltb-true 0 (counter r.counts f) (is_present-in_use r.acknowledged r.pinned.items r.counts (vec_capacity r.released) c.self.invariant f ∙ ap (λ (us : List Use). is_present us f) c.self.view_is ∙ there)
 
 pub count_reused-requires-clause-fits : goal.count_reused-requires-clause-fits
 count_reused-requires-clause-fits c = λ f h.
@@ -25,27 +34,34 @@ count_reused-requires-clause-fits c = λ f h.
     let P : List ℕ → Type 0 = λ xs. IsIn f xs in
     let small = c.requires.below f (subst P c.as_slice-files.ensures.files h) in
     let once : times f c.as_slice-files.result.now ≡ times f c.args.files.now = ap (times f) c.as_slice-files.ensures.files in
-    let same : count (in_use r.acknowledged r.pinned) f ≡ count c.args.self.now f = ap (λ (us : List Use). count us f) c.self.view_is in
-    omega (arith, small, IsEachOnce-from_ascending c.args.files.now c.requires.ascending f, counter-in_use r.acknowledged r.pinned r.counts (vec_capacity r.released) c.self.invariant f)
+    let same : count (in_use r.acknowledged r.pinned.items) f ≡ count c.args.self.now f = ap (λ (us : List Use). count us f) c.self.view_is in
+    omega (arith, small, once, same, IsEachOnce-from_ascending c.args.files.now c.requires.ascending f, count-in_use r.acknowledged r.pinned.items r.counts (vec_capacity r.released) c.self.invariant f)
 
 pub invariant_of-self-2 : goal.invariant_of-self-2
 invariant_of-self-2 c =
     let r = c.self.inside in
+    let a : Acknowledged = r.acknowledged in
+    let p : List Pinner = r.pinned.items in
     let files = c.args.files.now in
-    let pins = c.hold.new.holdings in
-    let adds : (t : Use → Bool) → count_by t (uses_in pins.entries) ≡ count_by t (uses_in r.pinned.entries) + count_by t (triples c.args.id Pin files) = λ t.
-    c.in_ok-hold.ensures.ok t ∙ ap (λ (xs : List ℕ). count_by t (uses_in r.pinned.entries) + count_by t (triples c.args.id Pin xs)) c.as_slice-files.ensures.files in
-    let P : List Use → Type 0 = λ us. HasNoUse us c.args.id Pin in
-    let raised : (f : ℕ) → counter c.count_reused.new.counts f ≡ counter r.counts f + times f files = λ f. c.count_reused.ensures.counted f ∙ ap (λ (xs : List ℕ). counter r.counts f + times f xs) c.as_slice-files.ensures.files in
-    IsSound-pinned r.acknowledged r.pinned pins r.counts c.count_reused.new.counts (vec_capacity r.released) (vec_capacity r.released) c.args.id files c.self.invariant c.in_ok-hold.ensures.ordered adds
-    (IsEachOnce-from_ascending files c.requires.ascending) (subst P (sym c.self.view_is) c.requires.unpinned) raised c.count_reused.ensures.range (omega (arith, c.self.invariant.has_room, c.count_reused.ensures.len))
+    let room = vec_capacity r.released in
+    let one : Pinner = record { id = c.args.id; chosen = c.args.id; parts = 0; files = c.in_ok-own.own } in
+    let own : c.in_ok-own.own.items ≡ files = c.in_ok-own.ensures.items ∙ c.as_slice-files.ensures.files in
+    let each : IsEachOnce files = IsEachOnce-from_ascending files c.requires.ascending in
+    let H : List Use → Type 0 = λ us. HasNoUse us c.args.id Pin in
+    let Q : List Use → Type 0 = λ us. (f : ℕ) → count us f + times f files < 2 ^ 32 in
+    let B : List Use → Type 0 = λ us. (f : ℕ) → count us f < 2 ^ 32 in
+    let was : B c.args.self.now = subst B c.self.view_is (below-in_use a p r.counts room c.self.invariant) in
+    let small : Q c.args.self.now = below_more c.args.self.now [] files was each (λ f h. absurd h) c.requires.below in
+    let raised : (f : ℕ) → counter c.count_reused.new.counts f ≡ counter r.counts f + times f c.in_ok-own.own.items = λ f. c.count_reused.ensures.counted f ∙ ap (λ xs. counter r.counts f + times f xs) (sym c.in_ok-own.ensures.items) in
+    let kept : IsKept (parts_of a c.args.id) one = record { within = omega arith; none_own = λ lt. absurd (omega (arith, lt)); room = λ lt. absurd (omega (arith, lt)) } in
+    let P : List Pinner → Type 0 = λ ps. IsSound a ps c.count_reused.new.counts room in
+    subst P (sym c.in_ok-push.ensures.items)
+    (IsSound-pinned a p one files own r.counts c.count_reused.new.counts room room c.self.invariant kept each (subst H (sym c.self.view_is) c.requires.unpinned) raised c.count_reused.ensures.range (omega (arith, c.self.invariant.has_room, c.count_reused.ensures.len)) (subst Q (sym c.self.view_is) small))
 
 pub returns-clause-ok : goal.returns-clause-ok
 returns-clause-ok c =
     let r = c.self.inside in
     let files = c.args.files.now in
-    let pins = c.hold.new.holdings in
-    let adds : (t : Use → Bool) → count_by t (uses_in pins.entries) ≡ count_by t (uses_in r.pinned.entries) + count_by t (triples c.args.id Pin files) = λ t.
-    c.in_ok-hold.ensures.ok t ∙ ap (λ (xs : List ℕ). count_by t (uses_in r.pinned.entries) + count_by t (triples c.args.id Pin xs)) c.as_slice-files.ensures.files in
-    in_use-added r.acknowledged r.pinned r.acknowledged pins c.args.id Pin files (stored-pinned r.acknowledged r.pinned pins (triples c.args.id Pin files) adds)
-    ∙ ap (λ (us : List Use). in_order_once use_before (us ++ triples c.args.id Pin files)) c.self.view_is
+    let one : Pinner = record { id = c.args.id; chosen = c.args.id; parts = 0; files = c.in_ok-own.own } in
+    let own : c.in_ok-own.own.items ≡ files = c.in_ok-own.ensures.items ∙ c.as_slice-files.ensures.files in
+    ap (in_use r.acknowledged) c.in_ok-push.ensures.items ∙ in_use-pinned r.acknowledged r.pinned.items one files own ∙ ap (λ (us : List Use). in_order_once use_before (us ++ triples c.args.id Pin files)) c.self.view_is

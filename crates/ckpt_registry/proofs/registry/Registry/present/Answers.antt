@@ -4,21 +4,20 @@ use Rattle.ckpt_ids.specs.Ascending.{ascending_set}
 use Rattle.ckpt_ids.specs.Ordered.{IsInOrder}
 use Rattle.ckpt_ids.specs.Records.{Use, count, use_before}
 use Rattle.ckpt_registry.specs.Sound.{in_use}
-use Rattle.ckpt_registry.proofs.CounterLemmas.{AreInRange-below}
-use Rattle.ckpt_registry.proofs.RegistryLemmas.{counter-in_use, in_use-in_order, index_map_len-in_use}
+use Rattle.ckpt_registry.proofs.RegistryLemmas.{below-in_use, in_use-in_order, index_map_len-in_use}
 use Rattle.ckpt_registry.proofs.registry.Registry.present.Goals as goal
 
 pub returns-clause-value : goal.returns-clause-value
 returns-clause-value c =
     let r = c.self.inside in
-    let files = index_map_len-in_use r.acknowledged r.pinned r.counts (vec_capacity r.released) c.self.invariant c.len.ensures.unique in
+    let files = index_map_len-in_use r.acknowledged r.pinned.items r.counts (vec_capacity r.released) c.self.invariant c.len.ensures.unique in
     c.len.ensures.len ∙ files ∙ ap (λ (us : List Use). length (ascending_set (map (λ u. u.file) us))) c.self.view_is
 
 pub returns-clause-in_order : goal.returns-clause-in_order
-returns-clause-in_order c = subst (IsInOrder use_before) c.self.view_is (in_use-in_order c.self.inside.acknowledged c.self.inside.pinned)
+returns-clause-in_order c = subst (IsInOrder use_before) c.self.view_is (in_use-in_order c.self.inside.acknowledged c.self.inside.pinned.items)
 
 pub returns-clause-below : goal.returns-clause-below
 returns-clause-below c = λ f.
     let r = c.self.inside in
-    let same : count (in_use r.acknowledged r.pinned) f ≡ count c.args.self.now f = ap (λ (us : List Use). count us f) c.self.view_is in
-    omega (arith, counter-in_use r.acknowledged r.pinned r.counts (vec_capacity r.released) c.self.invariant f, AreInRange-below r.counts c.self.invariant.range f)
+    let same : count (in_use r.acknowledged r.pinned.items) f ≡ count c.args.self.now f = ap (λ (us : List Use). count us f) c.self.view_is in
+    omega (arith, same, below-in_use r.acknowledged r.pinned.items r.counts (vec_capacity r.released) c.self.invariant f)

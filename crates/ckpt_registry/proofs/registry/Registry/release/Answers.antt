@@ -1,11 +1,12 @@
-use Rattle.std.proofs.Common.{◌≡◌, ℕ, ◌≤◌, List, not, refl, ap, ◌∙◌, arith}
+use Rattle.std.proofs.Common.{◌≡◌, ℕ, ◌≤◌, List, not, ltb, refl, ap, ◌∙◌, arith}
 use Rattle.std.specs.Vec.{vec_capacity}
 use Rattle.indexmap.specs.IndexMap.{index_map_len}
-use Rattle.ckpt_ids.specs.Records.{Use, count}
+use Rattle.ckpt_ids.specs.Records.{Use, is_present}
+use Rattle.ckpt_registry.specs.declared.pins.Pinner.{Pinner}
 use Rattle.ckpt_registry.specs.Counters.{counter}
 use Rattle.ckpt_registry.specs.Sound.{IsSound, in_use}
 use Rattle.ckpt_registry.specs.Uses.{is_owned, without}
-use Rattle.ckpt_registry.proofs.RegistryLemmas.{stored-without, in_use-filtered, counter-in_use, IsIn-without, IsSound-filtered, released-sorted}
+use Rattle.ckpt_registry.proofs.RegistryLemmas.{stored-without, in_use-filtered, is_present-in_use, IsSound-filtered, released-sorted}
 use Rattle.ckpt_registry.proofs.registry.Registry.release.Goals as goal
 
 pub invariant_of-self : goal.invariant_of-self
@@ -15,24 +16,25 @@ invariant_of-self c =
     let after = c.release_each.new in
     let owners = c.args.owners.now in
     let fits : index_map_len after.counts ≤ vec_capacity c.sort_unstable.new.self = omega (arith, c.self.invariant.has_room, e.len, e.capacity, c.sort_unstable.ensures.capacity, c.clear.ensures.len, c.clear.ensures.capacity) in
-    IsSound-filtered r.acknowledged r.pinned after.acknowledged after.pinned r.counts after.counts (vec_capacity r.released) (vec_capacity c.sort_unstable.new.self) (λ u. not (is_owned owners u)) c.self.invariant e.acknowledged_ordered e.pinned_ordered
-    (IsIn-without owners _ _ e.acknowledged_kept) (IsIn-without owners _ _ e.pinned_kept) (stored-without r.acknowledged r.pinned after.acknowledged after.pinned owners e.acknowledged_kept e.pinned_kept) e.counted e.range fits
+    IsSound-filtered r.acknowledged r.pinned.items after.acknowledged after.pinned.items r.counts after.counts (vec_capacity r.released) (vec_capacity c.sort_unstable.new.self) (λ u. not (is_owned owners u)) c.self.invariant e.counted
+    (stored-without r.acknowledged r.pinned.items after.acknowledged after.pinned.items owners e.uses e.pins) fits
 
 pub returns : goal.returns
 returns c =
     let r = c.self.inside in
     let e = c.release_each.ensures in
     let after = c.release_each.new in
+    let p : List Pinner = r.pinned.items in
+    let q : List Pinner = after.pinned.items in
     let owners = c.args.owners.now in
     let uses : List Use = c.args.self.now in
+    let room = vec_capacity c.sort_unstable.new.self in
     let fits : index_map_len after.counts ≤ vec_capacity c.sort_unstable.new.self = omega (arith, c.self.invariant.has_room, e.len, e.capacity, c.sort_unstable.ensures.capacity, c.clear.ensures.len, c.clear.ensures.capacity) in
-    let kept = stored-without r.acknowledged r.pinned after.acknowledged after.pinned owners e.acknowledged_kept e.pinned_kept in
-    let sound : IsSound after.acknowledged after.pinned after.counts (vec_capacity c.sort_unstable.new.self) =
-    IsSound-filtered r.acknowledged r.pinned after.acknowledged after.pinned r.counts after.counts (vec_capacity r.released) (vec_capacity c.sort_unstable.new.self) (λ u. not (is_owned owners u)) c.self.invariant e.acknowledged_ordered e.pinned_ordered
-    (IsIn-without owners _ _ e.acknowledged_kept) (IsIn-without owners _ _ e.pinned_kept) kept e.counted e.range fits in
-    let view : in_use after.acknowledged after.pinned ≡ without owners uses = in_use-filtered r.acknowledged r.pinned after.acknowledged after.pinned (λ u. not (is_owned owners u)) kept ∙ ap (without owners) c.self.view_is in
-    let had : (f : ℕ) → counter r.counts f ≡ count uses f = λ f. counter-in_use r.acknowledged r.pinned r.counts (vec_capacity r.released) c.self.invariant f ∙ ap (λ (us : List Use). count us f) c.self.view_is in
-    let has : (f : ℕ) → counter after.counts f ≡ count (without owners uses) f = λ f. counter-in_use after.acknowledged after.pinned after.counts (vec_capacity c.sort_unstable.new.self) sound f ∙ ap (λ (us : List Use). count us f) view in (
+    let kept = stored-without r.acknowledged p after.acknowledged q owners e.uses e.pins in
+    let sound : IsSound after.acknowledged q after.counts room = IsSound-filtered r.acknowledged p after.acknowledged q r.counts after.counts (vec_capacity r.released) room (λ u. not (is_owned owners u)) c.self.invariant e.counted kept fits in
+    let view : in_use after.acknowledged q ≡ without owners uses = in_use-filtered r.acknowledged p after.acknowledged q (λ u. not (is_owned owners u)) kept ∙ ap (without owners) c.self.view_is in
+    let had : (f : ℕ) → ltb 0 (counter r.counts f) ≡ is_present uses f = λ f. is_present-in_use r.acknowledged p r.counts (vec_capacity r.released) c.self.invariant f ∙ ap (λ (us : List Use). is_present us f) c.self.view_is in
+    let has : (f : ℕ) → ltb 0 (counter after.counts f) ≡ is_present (without owners uses) f = λ f. is_present-in_use after.acknowledged q after.counts room sound f ∙ ap (λ (us : List Use). is_present us f) view in (
       (refl, λ _. tt, view),
       record {
         after = tt;

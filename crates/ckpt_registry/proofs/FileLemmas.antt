@@ -1,0 +1,46 @@
+-- Numbers that were sorted, each kept once.
+use Rattle.std.proofs.Common.{◌≡◌, ℕ, suc, ◌<◌, true, ltb, eqb, List, [], ◌∷◌, length, get_or, sym, ap, subst, ◌∙◌, arith}
+use Rattle.std.specs.List.{AllPairs, Contains, dedup}
+use Rattle.std.specs.List.Sorted.{IsPermutation, IsSorted}
+use Rattle.std.specs.List.Retain.{IsFiltered, DiffersFromLast}
+use Rattle.std.specs.Ordering.{nat_cmp}
+use Rattle.std.proofs.lemmas.Bool.{lt-ltb}
+use Rattle.std.proofs.lemmas.List.Filters.{dedup_is}
+use Rattle.std.proofs.lemmas.List.Kept.{AllPairs-from_increasing, Contains-dedup_nat, Contains-from_dedup}
+use Rattle.std.proofs.lemmas.List.Sorted.{Contains-permutation, IsPermutation-sym}
+use Rattle.std.proofs.lemmas.Map.Keys.{IsStrictlyIncreasing-dedup}
+use Rattle.ckpt_ids.specs.Ordered.{IsIn}
+use Rattle.ckpt_ids.specs.Ascending.{IsAscendingSet, ascending_set}
+use Rattle.ckpt_ids.proofs.OrderedLemmas.{ComesBefore-from, IsIn-place, IsIn-get_or, same_from_members, IsInOrder-in_order_once, IsIn-in_order_once, IsIn-from_in_order_once}
+use Rattle.ckpt_ids.proofs.AscendingLemmas.{numbers_in_order}
+
+IsIn-contained : (x : ℕ) (xs : List ℕ) → Contains xs x → IsIn x xs
+IsIn-contained x xs h = let P : ℕ → Type 0 = λ y. IsIn y xs in subst P h.2 (IsIn-get_or xs h.0 x h.1)
+
+IsAscendingSet-from_pairs : (xs : List ℕ) → AllPairs (λ x y. x < y) xs → IsAscendingSet xs
+IsAscendingSet-from_pairs [] h = tt
+IsAscendingSet-from_pairs (x ∷ xs) h =
+    let first : (y : ℕ) → IsIn y xs → ltb x y ≡ true = λ y k.
+    let p = IsIn-place y xs k in
+    let within : p.0 < length xs = p.1 in
+    let at : get_or xs p.0 y ≡ y = p.2 in
+    let up : x < get_or xs p.0 y = h 0 (suc p.0) y (omega arith) (omega arith) in
+    lt-ltb x y (omega arith) in
+    let rest : AllPairs (λ x y. x < y) xs = λ i j d a b. h (suc i) (suc j) d (omega arith) (omega arith) in
+    (ComesBefore-from ltb x xs first, IsAscendingSet-from_pairs xs rest)
+
+-- what a sort and a `dedup` leave
+pub set-from_dedup : (all sorted kept : List ℕ) → IsPermutation all sorted → IsSorted nat_cmp sorted → IsFiltered (DiffersFromLast eqb) [] sorted kept → kept ≡ ascending_set all
+set-from_dedup all sorted kept moved s filtered =
+    let is : kept ≡ dedup eqb sorted = dedup_is eqb sorted kept filtered in
+    let P : List ℕ → Type 0 = IsAscendingSet in
+    let strict : IsAscendingSet kept = subst P (sym is) (IsAscendingSet-from_pairs (dedup eqb sorted) (AllPairs-from_increasing (dedup eqb sorted) (IsStrictlyIncreasing-dedup sorted s))) in
+    let forth : (z : ℕ) → IsIn z kept → IsIn z (ascending_set all) = λ z h.
+    let In : List ℕ → Type 0 = λ xs. IsIn z xs in
+    let k : Contains sorted z = Contains-from_dedup eqb sorted z (IsIn-place z (dedup eqb sorted) (subst In is h)) in
+    IsIn-in_order_once numbers_in_order z all (IsIn-contained z all (Contains-permutation sorted all z (IsPermutation-sym all sorted moved) k)) in
+    let back : (z : ℕ) → IsIn z (ascending_set all) → IsIn z kept = λ z h.
+    let In : List ℕ → Type 0 = λ xs. IsIn z xs in
+    let k : Contains sorted z = Contains-permutation all sorted z moved (IsIn-place z all (IsIn-from_in_order_once ltb z all h)) in
+    subst In (sym is) (IsIn-contained z (dedup eqb sorted) (Contains-dedup_nat sorted z k)) in
+    same_from_members numbers_in_order kept (ascending_set all) strict (IsInOrder-in_order_once numbers_in_order all) forth back

@@ -1,0 +1,37 @@
+use Rattle.std.proofs.Common.{◌≡◌, ℕ, ◌<◌, length, refl, sym, ap, ◌∙◌, arith}
+use Rattle.ckpt_registry.specs.Holdings.{uses_in}
+use Rattle.ckpt_registry.specs.Pins.{pins_in}
+use Rattle.ckpt_registry.proofs.HoldingLemmas.{without_more, without-none}
+use Rattle.ckpt_registry.proofs.PinLemmas.{pins_in-filter}
+use Rattle.ckpt_registry.proofs.SoundLemmas.{AreCounted-unpinned}
+use Rattle.ckpt_registry.proofs.releases.release_each.Goals as goal
+
+pub loop-owner-init : goal.loop-owner-init
+loop-owner-init c =
+    let m = c.args.acknowledged.now in
+    let e = c.unpin.ensures in
+    record {
+      counted = AreCounted-unpinned m c.args.pinned.now.items c.unpin.new.pinned.items c.args.owners.now c.args.counts.now c.unpin.new.counts c.requires.counted e.kept e.lowered e.range;
+      uses = sym (without-none (uses_in m.entries));
+      pins = ap (pins_in m) e.kept ∙ pins_in-filter m c.args.owners.now c.args.pinned.now.items;
+      released = e.released;
+      len = e.len;
+      capacity = e.capacity;
+    }
+
+pub loop-owner-preserved : goal.loop-owner-preserved
+loop-owner-preserved c =
+    let before = c.loop-owner.invariant in
+    let e = c.drop_uses.ensures in
+    let owners = c.args.owners.now in
+    let i = c.loop-owner.owner-index in
+    let owner : ℕ = c.owner-item.result in
+    let within : i < length owners = c.loop-owner-test.true in
+    record {
+      counted = e.counted;
+      uses = e.uses ∙ without_more owners i owner _ _ within c.owner-item.is before.uses;
+      pins = e.pins ∙ before.pins;
+      released = λ f. omega (arith, before.released f, e.released f);
+      len = omega (arith, before.len, e.len);
+      capacity = e.capacity ∙ before.capacity;
+    }

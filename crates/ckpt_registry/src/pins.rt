@@ -1,0 +1,146 @@
+ghost use Rattle.std.specs.Prelude.{◌≡◌, ℕ, ◌+◌, ◌<◌, ◌≤◌, ◌^◌, ◌&&◌, ◌==◌, nat_lt, take, filter, not, vec_len, length, ◌++◌};
+ghost use Rattle.std.specs.Vec.{vec_capacity};
+ghost use Rattle.indexmap.specs.IndexMap.{index_map_len};
+ghost use Rattle.ckpt_ids.specs.Counting.{times};
+ghost use Rattle.ckpt_ids.specs.Ordered.{IsIn};
+ghost use Rattle.ckpt_registry.specs.Counters.{counter, counted_once, AreInRange};
+ghost use Rattle.ckpt_registry.specs.Holdings.{files_in, parts_of};
+ghost use Rattle.ckpt_registry.specs.Pins.{AreKept, AreSettled, IsKept, IsTaken, each_file, is_named, own_in, parts_pinned, pins_of_records, pins_on};
+
+use crate::counters::{Counts, count_reused};
+use crate::holdings::{Acknowledged, Part, has, lower_each};
+use ckpt_ids::{CheckpointId, FileId};
+
+/// A record that pins files: all those of a live record, as it is now, or its own.
+#[derive(Debug, Drop)]
+pub(crate) struct Pinner {
+    pub(crate) id: CheckpointId,
+    /// The record whose files are pinned, which has a use of each while it is live.
+    pub(crate) chosen: CheckpointId,
+    /// How many parts that record had; 0 where it is gone, or no record was pinned.
+    pub(crate) parts: usize,
+    /// Files that are counted one by one, or room for those of the record that is pinned.
+    pub(crate) files: Vec<FileId>,
+}
+
+impl Pinner {
+    /// Whether a file is one of the live record that is pinned.
+    fn pins(&self, acknowledged: &Acknowledged, file: FileId) -> bool
+        requires { self.now.parts ≤ length (parts_of acknowledged.now self.now.chosen) }
+        ensures { result ≡ nat_lt 0 (times file (files_in (parts_pinned acknowledged.now self.now))) }
+    {
+        match acknowledged.get(&self.chosen) {
+            Some(parts) => has(&parts[..self.parts], file),
+            None => false,
+        }
+    }
+
+    /// The record that is pinned goes: its files are counted one by one from now on, in the room
+    /// that was kept for them. Takes no memory.
+    fn take(&mut self, counts: &mut Counts, parts: &[Part])
+        requires kept { IsKept parts.now self.old }
+        requires pins { 0 < self.old.parts }
+        requires present { (f : ℕ) → IsIn f (files_in parts.now) → 0 < counter counts.old f }
+        requires fits { (f : ℕ) → counter counts.old f + times f (each_file (take self.old.parts parts.now)) < 2 ^ 32 }
+        requires range { AreInRange counts.old }
+        ensures taken { IsTaken parts.now self.old self.new }
+        ensures counted { (f : ℕ) → counter counts.new f ≡ counter counts.old f + times f (each_file (take self.old.parts parts.now)) }
+        ensures len { index_map_len counts.new ≡ index_map_len counts.old }
+        ensures range { AreInRange counts.new }
+    {
+        fill(&mut self.files, &parts[..self.parts]);
+        self.files.sort_unstable();
+        self.files.dedup();
+        self.parts = 0;
+        count_reused(counts, &self.files);
+    }
+}
+
+/// Writes the files of these parts into room that was reserved.
+fn fill(files: &mut Vec<FileId>, parts: &[Part])
+    requires room { vec_len files.old + length (files_in parts.now) ≤ vec_capacity files.old }
+    ensures { files.new.items ≡ files.old.items ++ files_in parts.now }
+{
+    for part in parts {
+        write(files, part.fresh.as_slice());
+        write(files, part.reused.as_slice());
+    }
+}
+
+/// Writes files into room that was reserved.
+fn write(files: &mut Vec<FileId>, more: &[FileId])
+    requires room { vec_len files.old + length more.now ≤ vec_capacity files.old }
+    ensures items { files.new.items ≡ files.old.items ++ more.now }
+    ensures len { vec_len files.new ≡ vec_len files.old + length more.now }
+    ensures capacity { vec_capacity files.old ≤ vec_capacity files.new }
+{
+    let _ = files.extend_from_slice(more);
+}
+
+/// How many of these pin a live record that has a file.
+pub(crate) fn pins_of(acknowledged: &Acknowledged, pinned: &[Pinner], file: FileId) -> u32
+    requires kept { AreKept acknowledged.now pinned.now }
+    requires below { pins_of_records acknowledged.now file pinned.now < 2 ^ 32 }
+    ensures { result ≡ pins_of_records acknowledged.now file pinned.now }
+{
+    let mut pins: u32 = 0;
+    for one in pinned {
+        if one.pins(acknowledged, file) {
+            pins += 1;
+        }
+    }
+    pins
+}
+
+/// Counts the files of a record that goes once for each that pins it. Takes no memory.
+pub(crate) fn settle(
+    pinned: &mut Vec<Pinner>,
+    counts: &mut Counts,
+    chosen: CheckpointId,
+    parts: &[Part],
+)
+    requires kept { (one : Pinner) → IsIn one pinned.old.items → one.chosen ≡ chosen → IsKept parts.now one }
+    requires present { (f : ℕ) → IsIn f (files_in parts.now) → 0 < counter counts.old f }
+    requires fits { (f : ℕ) → counter counts.old f + pins_on chosen parts.now f pinned.old.items < 2 ^ 32 }
+    requires range { AreInRange counts.old }
+    ensures settled { AreSettled chosen parts.now pinned.old.items pinned.new.items }
+    ensures counted { (f : ℕ) → counter counts.new f ≡ counter counts.old f + pins_on chosen parts.now f pinned.old.items }
+    ensures len { index_map_len counts.new ≡ index_map_len counts.old }
+    ensures range { AreInRange counts.new }
+{
+    for one in pinned.iter_mut() {
+        if one.chosen == chosen && one.parts > 0 {
+            one.take(counts, parts);
+        }
+    }
+}
+
+/// Takes back what these records pin.
+pub(crate) fn unpin(
+    pinned: &mut Vec<Pinner>,
+    counts: &mut Counts,
+    released: &mut Vec<FileId>,
+    owners: &[CheckpointId],
+)
+    requires counted { (f : ℕ) → times f (own_in pinned.old.items) ≤ counter counts.old f }
+    requires range { AreInRange counts.old }
+    requires room { index_map_len counts.old + vec_len released.old ≤ vec_capacity released.old }
+    ensures kept { pinned.new.items ≡ filter (λ one. not (is_named owners.now one.id)) pinned.old.items }
+    ensures lowered { (f : ℕ) → counter counts.new f + times f (own_in pinned.old.items) ≡ counter counts.old f + times f (own_in pinned.new.items) }
+    ensures released { (f : ℕ) → times f released.new.items + counted_once counts.new f ≡ times f released.old.items + counted_once counts.old f }
+    ensures len { index_map_len counts.new + vec_len released.new ≡ index_map_len counts.old + vec_len released.old }
+    ensures capacity { vec_capacity released.new ≡ vec_capacity released.old }
+    ensures range { AreInRange counts.new }
+{
+    for one in pinned.iter() {
+        if owners.contains(&one.id) {
+            lower_each(counts, released, &one.files);
+        }
+    }
+    pinned.retain(
+        |one|
+            ensures value { result ≡ not (is_named owners.entry.now one.now.id) }
+            ensures same { owners.exit ≡ owners.entry }
+        { !owners.contains(&one.id) },
+    );
+}

@@ -1,0 +1,62 @@
+ghost use Rattle.std.specs.Prelude.{◌≡◌, ℕ, ◌+◌, ◌≤◌, vec_len};
+ghost use Rattle.std.specs.Vec.{vec_capacity};
+ghost use Rattle.indexmap.specs.IndexMap.{index_map_len};
+ghost use Rattle.ckpt_ids.specs.Counting.{times};
+ghost use Rattle.ckpt_registry.specs.Counters.{counted_once};
+ghost use Rattle.ckpt_registry.specs.Holdings.{uses_in};
+ghost use Rattle.ckpt_registry.specs.Pins.{pins_in};
+ghost use Rattle.ckpt_registry.specs.Sound.{AreCounted};
+ghost use Rattle.ckpt_registry.specs.Uses.{without, without_record};
+
+use crate::counters::Counts;
+use crate::holdings::{Acknowledged, lower_parts};
+use crate::pins::{Pinner, settle, unpin};
+use ckpt_ids::{CheckpointId, FileId};
+
+/// Takes back what the subtasks of one record use, where they use anything. Those who pin the
+/// record keep its files.
+fn drop_uses(
+    acknowledged: &mut Acknowledged,
+    pinned: &mut Vec<Pinner>,
+    counts: &mut Counts,
+    released: &mut Vec<FileId>,
+    id: CheckpointId,
+)
+    requires counted { AreCounted acknowledged.old pinned.old.items counts.old }
+    requires room { index_map_len counts.old + vec_len released.old ≤ vec_capacity released.old }
+    ensures counted { AreCounted acknowledged.new pinned.new.items counts.new }
+    ensures uses { uses_in acknowledged.new.entries ≡ without_record id (uses_in acknowledged.old.entries) }
+    ensures pins { pins_in acknowledged.new pinned.new.items ≡ pins_in acknowledged.old pinned.old.items }
+    ensures released { (f : ℕ) → times f released.new.items + counted_once counts.new f ≡ times f released.old.items + counted_once counts.old f }
+    ensures len { index_map_len counts.new + vec_len released.new ≡ index_map_len counts.old + vec_len released.old }
+    ensures capacity { vec_capacity released.new ≡ vec_capacity released.old }
+{
+    if let Some(parts) = acknowledged.remove(&id) {
+        settle(pinned, counts, id, &parts);
+        lower_parts(counts, released, &parts);
+    }
+}
+
+/// Takes back all that these records use and pin. The pins go first, so that what goes with the
+/// record that it pins is never counted for it.
+pub(crate) fn release_each(
+    acknowledged: &mut Acknowledged,
+    pinned: &mut Vec<Pinner>,
+    counts: &mut Counts,
+    released: &mut Vec<FileId>,
+    owners: &[CheckpointId],
+)
+    requires counted { AreCounted acknowledged.old pinned.old.items counts.old }
+    requires room { index_map_len counts.old + vec_len released.old ≤ vec_capacity released.old }
+    ensures counted { AreCounted acknowledged.new pinned.new.items counts.new }
+    ensures uses { uses_in acknowledged.new.entries ≡ without owners.now (uses_in acknowledged.old.entries) }
+    ensures pins { pins_in acknowledged.new pinned.new.items ≡ without owners.now (pins_in acknowledged.old pinned.old.items) }
+    ensures released { (f : ℕ) → times f released.new.items + counted_once counts.new f ≡ times f released.old.items + counted_once counts.old f }
+    ensures len { index_map_len counts.new + vec_len released.new ≡ index_map_len counts.old + vec_len released.old }
+    ensures capacity { vec_capacity released.new ≡ vec_capacity released.old }
+{
+    unpin(pinned, counts, released, owners);
+    for owner in owners {
+        drop_uses(acknowledged, pinned, counts, released, *owner);
+    }
+}
