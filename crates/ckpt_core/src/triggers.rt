@@ -1,15 +1,15 @@
-ghost use Rattle.std.specs.Prelude.{◌≡◌, ◌<◌, ◌^◌, ◌≤◌, ◌+◌, [], length, OnOk, unwrap_or, IfOk, OnErr, Some, None, true, option_copied, vec_capacity};
+ghost use Rattle.std.specs.Prelude.{◌≡◌, ℕ, ◌<◌, ◌^◌, ◌≤◌, ◌+◌, ◌-◌, [], length, OnOk, unwrap_or, IfOk, OnErr, true, vec_capacity};
 ghost use Rattle.ckpt_ids.specs.declared.call.Call.TheVariants as call;
 ghost use Rattle.ckpt_ids.specs.declared.reply.Answer.TheVariants as answer;
 ghost use Rattle.ckpt_rules.specs.declared.hold.Hold.TheVariants as hold;
 ghost use Rattle.ckpt_core.specs.declared.mode.Mode.TheVariants.{Running};
-ghost use Rattle.ckpt_core.specs.Coordinator.{IsSound, answer_wants, choice_of, may_want_memory};
+ghost use Rattle.ckpt_core.specs.Coordinator.{IsSound, answer_wants, may_want_memory};
 ghost use Rattle.ckpt_core.specs.Inside.Parts.{Answers, AreSound, AreTied, IsAccepted, Stays, records_in, state_of};
-ghost use Rattle.ckpt_core.specs.Inside.Starting.{Starts, chosen, held_at, pins_now, tick, triggered};
+ghost use Rattle.ckpt_core.specs.Inside.Starting.{HasNoUse, IsIn, IsInOrder, Pin, Starts, count, files_chosen, held_at, pinned, tick, triggered, use_before};
 
 use crate::parts::Parts;
-use ckpt_ids::{CheckpointId, Choice, Files, Kind, Reply, Shape, TickEnd};
-use ckpt_pending::{Done, Pending};
+use ckpt_ids::{CheckpointId, Choice, Kind, Reply, Shape, TickEnd};
+use ckpt_pending::Pending;
 use ckpt_rules::Hold;
 use std::alloc::AllocError;
 
@@ -21,33 +21,6 @@ impl Parts {
         match &self.reshaped {
             Some(shape) => shape,
             None => &self.opened.shape,
-        }
-    }
-
-    /// The record that the job would restart from.
-    fn record_of_choice(&self) -> Option<&Done>
-        requires tied { AreTied self.now }
-        requires sound { IsSound (state_of self.now) }
-        ensures { option_copied result ≡ chosen (choice_of (state_of self.now)) (state_of self.now) }
-    {
-        // Tells that the records of the map are pending.
-        let _ = self.pending.get(CheckpointId(0));
-        match self.store.choice() {
-            Choice::Checkpoint(id) => self.store.get(id),
-            Choice::Savepoint(id) => self.store.get(id),
-            Choice::Fresh => None,
-        }
-    }
-
-    /// The files of the record that the job would restart from, each once.
-    fn files_of_choice(&self) -> Result<Files, AllocError>
-        requires tied { AreTied self.now }
-        requires sound { IsSound (state_of self.now) }
-        ensures { IfOk result (λ files. files ≡ pins_now (state_of self.now)) }
-    {
-        match self.record_of_choice() {
-            Some(done) => done.files(),
-            None => Ok(Files::of(Vec::new(self.alloc))),
         }
     }
 
@@ -64,18 +37,16 @@ impl Parts {
         ensures noted { self.new.ended.items ≡ self.old.ended.items }
     {
         let shape = self.shape().copy()?;
-        let pins = self.files_of_choice()?;
         self.make_room()?;
-        self.add(kind, shape, &pins)
+        self.add(kind, shape)
     }
 
-    /// Adds a pending record with the next number, which holds these pins.
-    fn add(&mut self, kind: Kind, shape: Shape, pins: &Files) -> Result<CheckpointId, AllocError>
+    /// Adds a pending record with the next number, which pins the files of the choice.
+    fn add(&mut self, kind: Kind, shape: Shape) -> Result<CheckpointId, AllocError>
         requires tied { AreTied self.old }
         requires sound { IsSound (state_of self.old) }
         requires next { self.old.next < 2 ^ 62 }
         requires shape { shape ≡ unwrap_or self.old.reshaped self.old.opened.shape }
-        requires pins { pins.now ≡ pins_now (state_of self.old) }
         requires room { length (records_in self.old) + 1 ≤ vec_capacity self.old.ended }
         ensures id { IfOk result (λ id. id ≡ self.old.next) }
         ensures ok { OnOk result (state_of self.new ≡ triggered (state_of self.old) kind) }
@@ -85,16 +56,32 @@ impl Parts {
     {
         // Tells that the uses stand in order.
         let _ = self.registry.present();
+        let choice = self.choice();
         let id = CheckpointId(self.next);
         let started = self.clock.read(0);
         self.pending
             .add(Pending::new(self.alloc, id, kind, shape, started))?;
-        if let Err(error) = self.registry.pin(id, pins) {
+        if let Err(error) = self.pin(id, choice) {
             self.pending.remove(id);
             return Err(error);
         }
         self.next += 1;
         Ok(id)
+    }
+
+    /// Pins the files of the record that is chosen, where one is. Visits none of them.
+    fn pin(&mut self, id: CheckpointId, choice: Choice) -> Result<(), AllocError>
+        requires below { (f : ℕ) → IsIn f (files_chosen choice self.old.registry) → count self.old.registry f < 2 ^ 32 - 1 }
+        requires unpinned { HasNoUse self.old.registry id Pin }
+        requires in_order { IsInOrder use_before self.old.registry }
+        ensures ok { OnOk result (self.new ≡ pinned self.old id (files_chosen choice self.old.registry)) }
+        ensures err { OnErr result (self.new ≡ self.old) }
+    {
+        match choice {
+            Choice::Checkpoint(chosen) => self.registry.pin_record(id, chosen),
+            Choice::Savepoint(chosen) => self.registry.pin_record(id, chosen),
+            Choice::Fresh => Ok(()),
+        }
     }
 
     /// Makes room for the number of one more live record among those that end.

@@ -1,13 +1,21 @@
--- The start of a checkpoint or savepoint: by a tick, told apart from the expiry that goes with it. The names of the step that this takes
--- are passed on from here.
-use Rattle.std.specs.Prelude.{◌≡◌, ℕ}
+-- The start of a checkpoint or savepoint: by a tick, told apart from the expiry that goes with it, and what it pins. The names of the
+-- step that this takes are passed on from here.
+use Rattle.std.specs.Prelude.{◌≡◌, ℕ, List, [], ◌++◌}
 use Rattle.ckpt_ids.specs.declared.reply.TickEnd.{TickEnd}
 use Rattle.ckpt_ids.specs.declared.reply.Reply.TheVariants.{Ticked}
 use Rattle.ckpt_ids.specs.declared.reply.Answer.TheVariants.{Done}
 use Rattle.ckpt_rules.specs.declared.hold.Hold.{Hold}
 use Rattle.ckpt_rules.specs.Trigger.{hold}
+use Rattle.ckpt_ids.specs.declared.reply.Choice.{Choice}
+use Rattle.ckpt_ids.specs.declared.reply.Choice.TheVariants as choice
+use Rattle.ckpt_ids.specs.Ordered.{in_order_once}
+pub use Rattle.ckpt_ids.specs.Ordered.{IsIn, IsInOrder}
+use Rattle.ckpt_ids.specs.Records.{Use}
+pub use Rattle.ckpt_ids.specs.Records.{Pin, count, use_before}
+use Rattle.ckpt_registry.specs.Uses.{files_by, triples}
+pub use Rattle.ckpt_registry.specs.Uses.{HasNoUse}
+use Rattle.ckpt_core.specs.declared.parts.Parts.{Parts}
 use Rattle.ckpt_core.specs.State.{State}
-pub use Rattle.ckpt_core.specs.State.{chosen, pins_now}
 use Rattle.ckpt_core.specs.Steps.{start_or_hold}
 pub use Rattle.ckpt_core.specs.Steps.{tick, triggered}
 
@@ -18,3 +26,13 @@ held_at m pending = hold m.opening.config m.due m.completed m.latest pending
 -- a checkpoint was started, or held back, while so many were pending
 abbrev pub Starts : State → ℕ → State → TickEnd → Type 0
 Starts m pending after end = (expired : ℕ) → start_or_hold m expired (held_at m pending) ≡ (after, Done (Ticked expired end))
+
+-- the files of the record that is chosen, as the registry has them
+abbrev pub files_chosen : Choice → List Use → List ℕ
+files_chosen (choice.Checkpoint id) us = files_by id us
+files_chosen (choice.Savepoint id) us = files_by id us
+files_chosen choice.Fresh us = []
+
+-- the record of this number pins these files
+abbrev pub pinned : Parts → ℕ → List ℕ → Parts
+pinned p id files = record p { registry = in_order_once use_before (p.registry ++ triples id Pin files) }

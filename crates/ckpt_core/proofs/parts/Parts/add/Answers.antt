@@ -1,21 +1,17 @@
-use Rattle.std.proofs.Common.{ℕ, ◌<◌, List, sym, ap, subst, arith}
-use Rattle.ckpt_ids.specs.Ascending.{IsAscendingSet}
-use Rattle.ckpt_ids.specs.Ordered.{IsIn}
+use Rattle.std.proofs.Common.{◌≡◌, ℕ, ◌+◌, ◌<◌, not, eqb, List, [], ◌∷◌, ◌++◌, refl, sym, ap, subst, ◌∙◌, arith}
+use Rattle.std.specs.List.{filter}
+use Rattle.ckpt_ids.specs.Records.{Record}
 use Rattle.ckpt_core.specs.declared.parts.Parts.{Parts}
 use Rattle.ckpt_core.specs.Inside.Parts.{state_of, AreTied}
+use Rattle.ckpt_core.specs.Inside.Starting.{files_chosen, pinned}
+use Rattle.ckpt_core.specs.Soundness.{IsSound}
 use Rattle.ckpt_core.proofs.Using.CountBound.{registry_bound}
-use Rattle.ckpt_core.proofs.Triggering.TriggerParts.{made_record, pins_present, older_pending, older_uses, triggered_state, triggered_tied, undone_state}
+use Rattle.ckpt_core.proofs.Triggering.Chosen.{files_chosen-pins}
+use Rattle.ckpt_core.proofs.Triggering.TriggerParts.{made_record, older_pending, older_uses, triggered_state, triggered_tied, undone_state}
 use Rattle.ckpt_core.proofs.parts.Parts.add.Goals as goal
-use Rattle.ckpt_core.proofs.Soundness.Triggers.{ascending-pins}
 
 pub add-requires : goal.add-requires
 add-requires c = record { newest = λ r h. let lt : r.id < c.args.self.now.next = older_pending c.args.self.now c.requires.sound r h in let e = ap (λ q. q.id) c.new.ensures in omega arith }
-
-pub pin-requires-clause-ascending : goal.pin-requires-clause-ascending
-pin-requires-clause-ascending c = let P : List ℕ → Type 0 = λ fs. IsAscendingSet fs in subst P (sym c.requires.pins) (ascending-pins (state_of c.args.self.now))
-
-pub pin-requires-clause-present : goal.pin-requires-clause-present
-pin-requires-clause-present c = λ f h. let P : List ℕ → Type 0 = λ fs. IsIn f fs in pins_present c.args.self.now c.requires.tied f (subst P c.requires.pins h)
 
 pub pin-requires-clause-below : goal.pin-requires-clause-below
 pin-requires-clause-below c = λ f h. registry_bound c.args.self.now c.requires.tied c.requires.sound f
@@ -23,25 +19,36 @@ pin-requires-clause-below c = λ f h. registry_bound c.args.self.now c.requires.
 pub pin-requires-clause-unpinned : goal.pin-requires-clause-unpinned
 pin-requires-clause-unpinned c = λ u h e k. let lt : u.id < c.args.self.now.next = older_uses c.args.self.now c.requires.tied c.requires.sound u h in omega arith
 
+-- the pins were refused, and the record was taken out again
+undone : (p : Parts) (x : Record) (q : Parts) (added left : List Record) → IsSound (state_of p) → x.id ≡ p.next → added ≡ p.pending ++ x ∷ [] → q ≡ record p { pending = added } → left ≡ filter (λ r. not (eqb r.id p.next)) q.pending → record q { pending = left } ≡ p
+undone p x q added left sound new more same removed =
+    let gone : left ≡ filter (λ r. not (eqb r.id p.next)) added = removed ∙ ap (λ (w : Parts). filter (λ r. not (eqb r.id p.next)) w.pending) same in
+    ap (λ (w : Parts). record w { pending = left }) same ∙ undone_state p x added left p.registry sound new more gone refl
+
 pub returns-in-Err-clause-err : goal.returns-in-Err-clause-err
 returns-in-Err-clause-err c =
-    ap state_of (undone_state c.args.self.now c.new.result c.add.new.self c.remove.new.self c.pin.new.self c.requires.sound (ap (λ q. q.id) c.new.ensures) c.in_ok-add.ensures.ok c.remove.ensures.rest c.in-Err.ensures.err)
+    ap state_of (undone c.args.self.now c.new.result c.pin.new.self c.add.new.self c.remove.new.self c.requires.sound (ap (λ q. q.id) c.new.ensures) c.in_ok-add.ensures.ok c.in-Err.ensures.err c.remove.ensures.rest)
 
 pub returns-in-Err-clause-tied : goal.returns-in-Err-clause-tied
 returns-in-Err-clause-tied c =
     let P : Parts → Type 0 = λ p. AreTied p in
-    subst P (sym (undone_state c.args.self.now c.new.result c.add.new.self c.remove.new.self c.pin.new.self c.requires.sound (ap (λ q. q.id) c.new.ensures) c.in_ok-add.ensures.ok c.remove.ensures.rest c.in-Err.ensures.err)) c.requires.tied
+    subst P (sym (undone c.args.self.now c.new.result c.pin.new.self c.add.new.self c.remove.new.self c.requires.sound (ap (λ q. q.id) c.new.ensures) c.in_ok-add.ensures.ok c.in-Err.ensures.err c.remove.ensures.rest)) c.requires.tied
 
 pub returns-clause-ok : goal.returns-clause-ok
 returns-clause-ok c =
     let p = c.args.self.now in
-    triggered_state p c.args.kind c.args.pins.now c.new.result c.add.new.self c.pin.new.self c.requires.tied c.requires.sound c.present.ensures.in_order c.requires.pins
+    let files : List ℕ = files_chosen c.choice-choice.result p.registry in
+    ap (λ (q : Parts). state_of (record q { next = q.next + 1 })) c.in_default.ensures.ok
+    ∙ triggered_state p c.args.kind files c.new.result c.add.new.self (pinned p p.next files).registry c.requires.tied c.requires.sound c.present.ensures.in_order (files_chosen-pins p c.requires.tied c.requires.sound c.choice-choice.result c.choice-choice.ensures)
     (made_record p c.args.kind c.args.shape c.read-started.result c.new.result c.new.ensures c.requires.shape c.read-started.ensures.value)
-    c.in_ok-add.ensures.ok c.in_default.ensures.ok
+    c.in_ok-add.ensures.ok refl
 
 pub returns-clause-tied : goal.returns-clause-tied
 returns-clause-tied c =
     let p = c.args.self.now in
-    triggered_tied p c.args.kind c.args.pins.now c.new.result c.add.new.self c.pin.new.self c.requires.tied c.requires.sound c.present.ensures.in_order c.requires.pins
+    let files : List ℕ = files_chosen c.choice-choice.result p.registry in
+    let P : Parts → Type 0 = λ q. AreTied q in
+    subst P (sym (ap (λ (q : Parts). record q { next = q.next + 1 }) c.in_default.ensures.ok))
+    (triggered_tied p c.args.kind files c.new.result c.add.new.self (pinned p p.next files).registry c.requires.tied c.requires.sound c.present.ensures.in_order (files_chosen-pins p c.requires.tied c.requires.sound c.choice-choice.result c.choice-choice.ensures)
     (made_record p c.args.kind c.args.shape c.read-started.result c.new.result c.new.ensures c.requires.shape c.read-started.ensures.value)
-    c.in_ok-add.ensures.ok c.in_default.ensures.ok c.requires.room
+    c.in_ok-add.ensures.ok refl c.requires.room)

@@ -1,7 +1,7 @@
 use Rattle.std.proofs.Common.{◌∙◌, sym, ap, subst, arith}
 use Rattle.std.proofs.lemmas.Result.{on_ok_weaker, on_err_weaker}
 use Rattle.ckpt_core.specs.Soundness.{IsSound}
-use Rattle.ckpt_core.specs.State.{State, pins_now}
+use Rattle.ckpt_core.specs.State.{State}
 use Rattle.ckpt_core.specs.Steps.{triggered}
 use Rattle.ckpt_core.proofs.Triggering.TickParts.{on_err_from}
 use Rattle.ckpt_core.proofs.Triggering.TriggerParts.{ended_state, live_records}
@@ -18,9 +18,6 @@ pub add-requires-clause-sound : goal.add-requires-clause-sound
 add-requires-clause-sound c =
     let P : State → Type 0 = λ m. IsSound m in
     subst P (sym (ended_state c.args.self.now c.make_room.new.self c.make_room.ensures.parts)) c.requires.sound
-
-pub add-requires-clause-pins : goal.add-requires-clause-pins
-add-requires-clause-pins c = c.in_ok-pins.ensures ∙ ap pins_now (sym (ended_state c.args.self.now c.make_room.new.self c.make_room.ensures.parts))
 
 pub returns-clause-ok : goal.returns-clause-ok
 returns-clause-ok c =

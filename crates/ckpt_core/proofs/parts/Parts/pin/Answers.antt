@@ -1,0 +1,27 @@
+use Rattle.std.proofs.Common.{◌≡◌, ℕ, List, [], ◌++◌, refl, sym, ap, subst, ◌∙◌}
+use Rattle.std.proofs.lemmas.List.{append-nil}
+use Rattle.ckpt_ids.specs.declared.reply.Choice.{Choice}
+use Rattle.ckpt_ids.specs.Ordered.{IsIn, in_order_once}
+use Rattle.ckpt_ids.specs.Records.{Use, Pin, use_before}
+use Rattle.ckpt_registry.specs.Uses.{triples}
+use Rattle.ckpt_core.specs.Inside.Starting.{files_chosen}
+use Rattle.ckpt_core.proofs.Using.Order.{in_order_once-itself}
+use Rattle.ckpt_core.proofs.parts.Parts.pin.Goals as goal
+
+pub pin_record-requires-clause-below : goal.pin_record-requires-clause-below
+pin_record-requires-clause-below c = λ f h.
+    let P : Choice → Type 0 = λ d. IsIn f (files_chosen d c.args.self.now.registry) in
+    c.requires.below f (subst P (sym c.in-Checkpoint.is) h)
+
+pub pin_record-requires-in-Savepoint-clause-below : goal.pin_record-requires-in-Savepoint-clause-below
+pin_record-requires-in-Savepoint-clause-below c = λ f h.
+    let P : Choice → Type 0 = λ d. IsIn f (files_chosen d c.args.self.now.registry) in
+    c.requires.below f (subst P (sym c.in-Savepoint.is) h)
+
+pub returns-in-Fresh-clause-ok : goal.returns-in-Fresh-clause-ok
+returns-in-Fresh-clause-ok c =
+    let us : List Use = c.args.self.now.registry in
+    let none : files_chosen c.args.choice us ≡ [] = ap (λ d. files_chosen d us) c.in-Fresh.is in
+    let same : in_order_once use_before (us ++ triples c.args.id Pin (files_chosen c.args.choice us)) ≡ us =
+    ap (λ fs. in_order_once use_before (us ++ triples c.args.id Pin fs)) none ∙ ap (in_order_once use_before) (append-nil us) ∙ in_order_once-itself us c.requires.in_order in
+    ap (λ vs. record c.args.self.now { registry = vs }) (sym same)
