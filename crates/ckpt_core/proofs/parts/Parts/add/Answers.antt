@@ -10,6 +10,10 @@ use Rattle.ckpt_core.proofs.Triggering.Chosen.{files_chosen-pins}
 use Rattle.ckpt_core.proofs.Triggering.TriggerParts.{made_record, older_pending, older_uses, triggered_state, triggered_tied, undone_state}
 use Rattle.ckpt_core.proofs.parts.Parts.add.Goals as goal
 
+pub choice-choice-requires : goal.choice-choice-requires
+unfolding state_of
+choice-choice-requires c = c.requires.sound.in_order
+
 pub add-requires : goal.add-requires
 add-requires c = record { newest = λ r h. let lt : r.id < c.args.self.now.next = older_pending c.args.self.now c.requires.sound r h in let e = ap (λ q. q.id) c.new.ensures in omega arith }
 
