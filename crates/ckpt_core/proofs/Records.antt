@@ -6,6 +6,5 @@ pub mod Grouped
 pub mod Held
 pub mod Lists
 pub mod Lookups
-pub mod PartsFacts
 pub mod Pending
 pub mod Replacing

@@ -76,9 +76,6 @@ pins_used p tied f h =
     let P : List Use → Type 0 = λ us. IsIn q.0 us in
     (q.0, subst P (sym tied.uses_are) q.1, q.2)
 
-pub pins_present : (p : Parts) → AreTied p → (f : ℕ) → IsIn f (pins_now (state_of p)) → is_present p.registry f ≡ true
-pins_present p tied f h = let q = pins_used p tied f h in ap (is_present p.registry) (sym q.2) ∙ present-from_use q.0 p.registry q.1
-
 -- a file more for a file that is there does not make more files
 pub present_same : (us vs : List Use) → ((u : Use) → IsIn u us → IsIn u.file (map (λ v. v.file) vs)) → ((v : Use) → IsIn v vs → IsIn v.file (map (λ u. u.file) us)) → present_in us ≡ present_in vs
 present_same us vs forth back =
