@@ -1,4 +1,4 @@
-ghost use Rattle.std.specs.Prelude.{◌≡◌, ◌<◌, ◌+◌, ◌-◌, ◌^◌, ◌&&◌, ◌==◌, [], not, nat_lt, IsTrue, MatchBool};
+ghost use Rattle.std.specs.Prelude.{◌≡◌, ◌<◌, ◌+◌, ◌-◌, ◌^◌, ◌&&◌, ◌==◌, [], ◌++◌, false, length, not, nat_lt, IsTrue, MatchBool};
 ghost use Rattle.std.specs.List.{list_all};
 ghost use Rattle.ckpt_ids.specs.Records.{count, is_present};
 ghost use Rattle.ckpt_parts_tests.specs.Earlier.{AreBefore, IsPinnable, IsUsable};
@@ -129,6 +129,56 @@ fn pin(rt: &impl Abort, registry: &mut Registry, id: u64, files: &Files)
     }
 }
 
+fn pins_whole(registry: &mut Registry, id: u64, chosen: u64) -> bool
+    requires before { AreBefore registry.old id }
+    requires few { length registry.old < 100 }
+    ensures { MatchBool result (AreBefore registry.new (id + 1)) (registry.new ≡ registry.old) }
+{
+    registry
+        .pin_record(CheckpointId(id), CheckpointId(chosen))
+        .is_ok()
+}
+
+// The pins of a record of which another is pinned as a whole, in the same way.
+fn pin_whole(rt: &impl Abort, registry: &mut Registry, id: u64, chosen: u64)
+    requires before { AreBefore registry.old id }
+    requires few { length registry.old < 100 }
+    ensures { AreBefore registry.new (id + 1) }
+{
+    let present = registry.present();
+    if !pins_whole(registry, id, chosen) {
+        assert_eq!(rt; registry.present(), present);
+        assert!(rt; pins_whole(registry, id, chosen));
+    }
+}
+
+fn first_uses(registry: &mut Registry, fresh: &Files, none: &Files) -> bool
+    requires empty { registry.old ≡ [] }
+    requires usable { IsUsable registry.old fresh.now none.now }
+    requires few { length (fresh.now ++ none.now) < 100 }
+    ensures ok { IsTrue result → AreBefore registry.new 2 × (length registry.new < 100) }
+    ensures err { result ≡ false → registry.new ≡ [] }
+{
+    registry
+        .use_files(CheckpointId(1), SUBTASK, fresh, none)
+        .is_ok()
+}
+
+// A registry in which record 1 wrote these files.
+fn with_record(rt: &impl Abort, alloc: Global, fresh: &Files, none: &Files) -> Registry
+    ensures before { AreBefore result 2 }
+    ensures few { length result < 100 }
+{
+    let mut registry = Registry::new(alloc);
+    assert!(rt; fresh.len() < 50 && none.len() < 50);
+    assert!(rt; may_use(&registry, fresh, none));
+    if !first_uses(&mut registry, fresh, none) {
+        assert!(rt; may_use(&registry, fresh, none));
+        assert!(rt; first_uses(&mut registry, fresh, none));
+    }
+    registry
+}
+
 fn released(
     rt: &impl Abort,
     registry: &mut Registry,
@@ -199,6 +249,52 @@ fn keeps_pinned_files_until_the_end(rt: HostRuntime) -> Result<(), Fail> {
     assert_eq!(rt; registry.count(FileId(7)), 2);
     released(&rt, &mut registry, &[CheckpointId(1)], &[], 3);
     ended(&rt, &mut registry, CheckpointId(2), &[], &[FileId(7)], 3);
+    assert_eq!(rt; registry.present(), 0);
+    Ok(())
+}
+
+// The record that is pinned goes first: its files stay for the one that pins them.
+#[test]
+fn keeps_the_files_of_a_record_that_is_pinned_as_a_whole(rt: HostRuntime) -> Result<(), Fail> {
+    let alloc = rt.alloc();
+    let none = files(alloc, &[])?;
+    let written = files(alloc, &[8, 7])?;
+    let mut registry = with_record(&rt, alloc, &written, &none);
+    pin_whole(&rt, &mut registry, 2, 1);
+    assert_eq!(rt; registry.count(FileId(7)), 2);
+    assert_eq!(rt; registry.count(FileId(9)), 0);
+    assert_eq!(rt; registry.present(), 2);
+    released(&rt, &mut registry, &[CheckpointId(1)], &[], 3);
+    assert_eq!(rt; registry.count(FileId(8)), 1);
+    ended(
+        &rt,
+        &mut registry,
+        CheckpointId(2),
+        &[],
+        &[FileId(7), FileId(8)],
+        3,
+    );
+    assert_eq!(rt; registry.present(), 0);
+    Ok(())
+}
+
+// The one that pins ends first, and then a record without files is pinned.
+#[test]
+fn lets_go_of_a_record_that_was_pinned_as_a_whole(rt: HostRuntime) -> Result<(), Fail> {
+    let alloc = rt.alloc();
+    let none = files(alloc, &[])?;
+    let written = files(alloc, &[8, 7])?;
+    let mut registry = with_record(&rt, alloc, &written, &none);
+    pin_whole(&rt, &mut registry, 2, 1);
+    ended(&rt, &mut registry, CheckpointId(2), &[], &[], 3);
+    assert_eq!(rt; registry.count(FileId(7)), 1);
+    released(
+        &rt,
+        &mut registry,
+        &[CheckpointId(1)],
+        &[FileId(7), FileId(8)],
+        3,
+    );
     assert_eq!(rt; registry.present(), 0);
     Ok(())
 }

@@ -1,5 +1,5 @@
 -- The files that records pin: those of a live record, or their own.
-use Rattle.std.specs.Prelude.{◌≡◌, ℕ, ◌<◌, ◌≤◌, ◌==◌, Bool, List, [], ◌∷◌, ◌++◌, ◌⊎◌, take, length, if◌then◌else◌}
+use Rattle.std.specs.Prelude.{◌≡◌, ℕ, ◌<◌, ◌≤◌, ◌==◌, Bool, List, [], ◌∷◌, ◌++◌, ◌⊎◌, take, length, nat_lt, if◌then◌else◌}
 use Rattle.std.specs.List.{flat_map, list_any, sum_by}
 use Rattle.std.specs.Vec.{vec_capacity}
 use Rattle.ckpt_ids.specs.Ascending.{ascending_set}
@@ -7,6 +7,7 @@ use Rattle.ckpt_ids.specs.Counting.{times}
 use Rattle.ckpt_ids.specs.Ordered.{IsIn}
 use Rattle.ckpt_ids.specs.Records.{Use, Pin}
 use Rattle.ckpt_registry.specs.declared.holdings.Part.{Part}
+use Rattle.ckpt_registry.specs.declared.pins.Look.{Look}
 use Rattle.ckpt_registry.specs.declared.pins.Pinner.{Pinner}
 use Rattle.ckpt_registry.specs.Holdings.{Acknowledged, files_in, parts_of}
 use Rattle.ckpt_registry.specs.Uses.{triples}
@@ -21,6 +22,10 @@ parts_pinned m one = take one.parts (parts_of m one.chosen)
 
 abbrev pub pinned_by : Acknowledged → Pinner → List ℕ
 pinned_by m one = each_file (parts_pinned m one) ++ one.files.items
+
+-- it tells whether the file is in one of the first parts of the record
+abbrev pub IsLook : Acknowledged → ℕ → Look → Type 0
+IsLook m f look = look.found ≡ nat_lt 0 (times f (files_in (take look.parts (parts_of m look.chosen))))
 
 -- the pins as uses
 abbrev pub pins_in : Acknowledged → List Pinner → List Use

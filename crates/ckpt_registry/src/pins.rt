@@ -5,7 +5,7 @@ ghost use Rattle.ckpt_ids.specs.Counting.{times};
 ghost use Rattle.ckpt_ids.specs.Ordered.{IsIn};
 ghost use Rattle.ckpt_registry.specs.Counters.{counter, counted_once, AreInRange};
 ghost use Rattle.ckpt_registry.specs.Holdings.{files_in, parts_of};
-ghost use Rattle.ckpt_registry.specs.Pins.{AreKept, AreSettled, IsKept, IsTaken, each_file, is_named, own_in, parts_pinned, pins_of_records, pins_on};
+ghost use Rattle.ckpt_registry.specs.Pins.{AreKept, AreSettled, IsKept, IsLook, IsTaken, each_file, is_named, own_in, parts_pinned, pins_of_records, pins_on};
 
 use crate::counters::{Counts, count_reused};
 use crate::holdings::{Acknowledged, Part, has, lower_each};
@@ -77,6 +77,32 @@ fn write(files: &mut Vec<FileId>, more: &[FileId])
     let _ = files.extend_from_slice(more);
 }
 
+/// Whether a file is in one of the first parts of a live record.
+#[derive(Clone, Copy, Drop)]
+struct Look {
+    chosen: CheckpointId,
+    parts: usize,
+    found: bool,
+}
+
+/// Looks whether a file is one of the live record that is pinned. Where the last look was at the
+/// same record it serves again: many may pin it.
+fn looked(acknowledged: &Acknowledged, one: &Pinner, last: Look, file: FileId) -> Look
+    requires within { one.now.parts ≤ length (parts_of acknowledged.now one.now.chosen) }
+    requires last { IsLook acknowledged.now file last }
+    ensures look { IsLook acknowledged.now file result }
+    ensures found { result.found ≡ nat_lt 0 (times file (files_in (parts_pinned acknowledged.now one.now))) }
+{
+    if one.chosen == last.chosen && one.parts == last.parts {
+        return last;
+    }
+    Look {
+        chosen: one.chosen,
+        parts: one.parts,
+        found: one.pins(acknowledged, file),
+    }
+}
+
 /// How many of these pin a live record that has a file.
 pub(crate) fn pins_of(acknowledged: &Acknowledged, pinned: &[Pinner], file: FileId) -> u32
     requires kept { AreKept acknowledged.now pinned.now }
@@ -84,8 +110,15 @@ pub(crate) fn pins_of(acknowledged: &Acknowledged, pinned: &[Pinner], file: File
     ensures { result ≡ pins_of_records acknowledged.now file pinned.now }
 {
     let mut pins: u32 = 0;
+    // No part has no file.
+    let mut last = Look {
+        chosen: CheckpointId(0),
+        parts: 0,
+        found: false,
+    };
     for one in pinned {
-        if one.pins(acknowledged, file) {
+        last = looked(acknowledged, one, last, file);
+        if last.found {
             pins += 1;
         }
     }

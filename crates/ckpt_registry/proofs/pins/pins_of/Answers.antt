@@ -9,10 +9,10 @@ use Rattle.ckpt_registry.specs.Holdings.{files_in, parts_of}
 use Rattle.ckpt_registry.specs.Pins.{each_file, parts_pinned, pins_of_records}
 use Rattle.ckpt_registry.proofs.ListLemmas.{one_if, one_if-true, one_if-false, times-ascending_set}
 use Rattle.ckpt_registry.proofs.pins.pins_of.Goals as goal
-use Rattle.ckpt_registry.proofs.pins.pins_of.Goals.{then-pins, else-pins}
+use Rattle.ckpt_registry.proofs.pins.pins_of.Goals.{then-last, else-last}
 
-pub pins-requires : goal.pins-requires
-pins-requires c =
+pub looked-last-requires-clause-within : goal.looked-last-requires-clause-within
+looked-last-requires-clause-within c =
     let P : Pinner → Type 0 = λ one. IsIn one c.args.pinned.now in
     (c.requires.kept c.one-item.result (subst P (sym c.one-item.is) (IsIn-get_or c.args.pinned.now c.loop-one.one-index c.one-item.result c.loop-one-test.true))).within
 
@@ -22,9 +22,9 @@ overflow_add-pins c =
     let f = c.args.file in
     let one = c.one-item.result in
     let held : Pinner → ℕ = λ o. times f (each_file (parts_pinned m o)) in
-    let here : held one ≡ 1 = times-ascending_set f (files_in (parts_pinned m one)) ∙ one_if-true (ltb 0 (times f (files_in (parts_pinned m one)))) (sym c.pins.ensures ∙ c.if-pins.true) in
+    let here : held one ≡ 1 = times-ascending_set f (files_in (parts_pinned m one)) ∙ one_if-true (ltb 0 (times f (files_in (parts_pinned m one)))) (sym c.looked-last.ensures.found ∙ c.if-last.true) in
     let same : held one ≡ held (get_or c.args.pinned.now c.loop-one.one-index one) = ap held c.one-item.is in
-    let small : c.loop-one.pins + 1 < 2 ^ 32 = omega (arith, here, same, c.loop-one.invariant, c.requires.below, sum_by_more held c.args.pinned.now c.loop-one.one-index one c.loop-one-test.true, sum_by-take-le held c.args.pinned.now (c.loop-one.one-index + 1)) in
+    let small : c.loop-one.pins + 1 < 2 ^ 32 = omega (arith, here, same, c.loop-one.invariant.0, c.requires.below, sum_by_more held c.args.pinned.now c.loop-one.one-index one c.loop-one-test.true, sum_by-take-le held c.args.pinned.now (c.loop-one.one-index + 1)) in
     search rules
 
 pub loop-one-preserved : goal.loop-one-preserved
@@ -34,10 +34,10 @@ loop-one-preserved c =
     let one = c.one-item.result in
     let i = c.loop-one.one-index in
     let held : Pinner → ℕ = λ o. times f (each_file (parts_pinned m o)) in
-    let is : held one ≡ one_if c.pins.result = times-ascending_set f (files_in (parts_pinned m one)) ∙ ap one_if (sym c.pins.ensures) in
+    let is : held one ≡ one_if c.looked-last.result.found = times-ascending_set f (files_in (parts_pinned m one)) ∙ ap one_if (sym c.looked-last.ensures.found) in
     let same : held one ≡ held (get_or c.args.pinned.now i one) = ap held c.one-item.is in
     let more = sum_by_more held c.args.pinned.now i one c.loop-one-test.true in
-    elim c.if-pins.branch [
-      | then-pins w ↦ omega (arith, is, same, more, c.loop-one.invariant, one_if-true c.pins.result w.if-pins.true, w.pins-is)
-      | else-pins w ↦ omega (arith, is, same, more, c.loop-one.invariant, one_if-false c.pins.result w.if-pins.false, w.pins-is)
+    elim c.if-last.branch [
+      | then-last w ↦ (omega (arith, is, same, more, c.loop-one.invariant.0, one_if-true c.looked-last.result.found w.if-last.true, w.pins-is), c.looked-last.ensures.look)
+      | else-last w ↦ (omega (arith, is, same, more, c.loop-one.invariant.0, one_if-false c.looked-last.result.found w.if-last.false, w.pins-is), c.looked-last.ensures.look)
     ]
