@@ -1,14 +1,15 @@
 -- What the tests need: which records have uses after a call, and what their checks say.
-use Rattle.std.proofs.Common.{◌≡◌, ℕ, ◌+◌, ◌-◌, ◌<◌, ◌≤◌, ◌^◌, Bool, true, not, eqb, ltb, ◌&&◌, List, [], ◌∷◌, ◌++◌, Result, Ok, Err, sym, ap, subst, ◌∙◌, inl, inr, ⊎_elim, arith}
+use Rattle.std.proofs.Common.{◌≡◌, ℕ, suc, false, if◌then◌else◌, length, ◌+◌, ◌-◌, ◌<◌, ◌≤◌, ◌^◌, Bool, true, not, eqb, ltb, ◌&&◌, List, [], ◌∷◌, ◌++◌, Result, Ok, Err, sym, ap, subst, ◌∙◌, inl, inr, ⊎_elim, arith}
 use Rattle.std.specs.List.{list_all}
-use Rattle.std.proofs.lemmas.Bool.{and_parts, cases_lt, ltb-true, eqb-true, not-true}
-use Rattle.ckpt_ids.specs.Ordered.{IsIn, in_order_once}
+use Rattle.std.proofs.lemmas.List.{length-map}
+use Rattle.std.proofs.lemmas.Bool.{and_parts, cases_Bool, cond-true, cond-false, cases_lt, ltb-true, eqb-true, not-true}
+use Rattle.ckpt_ids.specs.Ordered.{IsIn, in_order_once, put_once}
 use Rattle.std.specs.Result.{OnOk, OnErr, is_ok}
 use Rattle.std.specs.Bool.{MatchBool}
 use Rattle.ckpt_ids.specs.Ascending.{IsAscending}
 use Rattle.ckpt_ids.specs.Records.{Use, Holder, count, is_present, use_before}
 use Rattle.ckpt_ids.proofs.OrderedLemmas.{IsIn-append_cases, IsIn-from_map, IsIn-from_in_order_once, IsIn-from_filter}
-use Rattle.ckpt_parts_tests.specs.Earlier.{AreBefore, IsPinnable, IsUsable}
+use Rattle.ckpt_parts_tests.specs.Earlier.{AreBefore, IsFirst, IsPinnable, IsUsable}
 use Rattle.ckpt_registry.specs.Uses.{HasNoUse, triples, is_owned, is_ended, without, after_end}
 use Rattle.ckpt_ids.proofs.CountLemmas.{count_by-append, IsIn-from_times}
 use Rattle.ckpt_registry.proofs.RegistryLemmas.{IsAscendingSet-from_once}
@@ -39,6 +40,24 @@ IsUsable-from_tests us fresh reused a b c d = record {
         omega (arith, eqb-true (times f reused) 1 p.0) in
         ⊎_elim first (λ (g : times f fresh ≤ 0). ⊎_elim (second g) (λ (h : times f reused ≤ 0). omega arith) (cases_lt 0 (times f reused))) (cases_lt 0 (times f fresh))
 
+-- putting lists in order makes none longer
+length-put_once : {X : Type 0} (before : X → X → Bool) (x : X) (ys : List X) → length (put_once before x ys) ≤ suc (length ys)
+length-put_once before x [] = omega arith
+length-put_once {X} before x (y ∷ ys) =
+    let rest : List X = if before x y then x ∷ y ∷ ys else (y ∷ ys) in
+    let Goal : List X → Type 0 = λ zs. length zs ≤ suc (length (y ∷ ys)) in
+    let later : before y x ≡ true → Goal (put_once before x (y ∷ ys)) = λ (e : before y x ≡ true).
+    subst Goal (sym (cond-true (before y x) (y ∷ put_once before x ys) rest e)) (omega (arith, length-put_once before x ys)) in
+    let first : before x y ≡ true → Goal rest = λ (e : before x y ≡ true). subst Goal (sym (cond-true (before x y) (x ∷ y ∷ ys) (y ∷ ys) e)) (omega arith) in
+    let there : before x y ≡ false → Goal rest = λ (e : before x y ≡ false). subst Goal (sym (cond-false (before x y) (x ∷ y ∷ ys) (y ∷ ys) e)) (omega arith) in
+    let here : before y x ≡ false → Goal (put_once before x (y ∷ ys)) = λ (e : before y x ≡ false).
+    subst Goal (sym (cond-false (before y x) (y ∷ put_once before x ys) rest e)) (⊎_elim first there (cases_Bool (before x y))) in
+    ⊎_elim later here (cases_Bool (before y x))
+
+pub length-in_order_once : {X : Type 0} (before : X → X → Bool) (xs : List X) → length (in_order_once before xs) ≤ length xs
+length-in_order_once before [] = omega arith
+length-in_order_once before (x ∷ xs) = omega (arith, length-put_once before x (in_order_once before xs), length-in_order_once before xs)
+
 pub HasNoUse-from_before : (us : List Use) (id : ℕ) (holder : Holder) → AreBefore us id → HasNoUse us id holder
 HasNoUse-from_before us id holder before u h e k = absurd (omega (arith, before u h))
 
@@ -48,6 +67,12 @@ AreBefore-added us id holder files before u h =
     let old : IsIn u us → u.id < id + 1 = λ (k : IsIn u us). omega (arith, before u k) in
     let new : IsIn u (triples id holder files) → u.id < id + 1 = λ (k : IsIn u (triples id holder files)). let e : u.id ≡ id = ap (λ v. v.id) (IsIn-from_map make u files k).2 in omega arith in
     ⊎_elim old new (IsIn-append_cases u us (triples id holder files) (IsIn-from_in_order_once use_before u (us ++ triples id holder files) h))
+
+pub IsFirst-added : (us : List Use) (holder : Holder) (files : List ℕ) → us ≡ [] → length files < 100 → IsFirst (in_order_once use_before (us ++ triples 1 holder files))
+IsFirst-added us holder files none few =
+    let P : List Use → Type 0 = λ vs. IsFirst (in_order_once use_before (vs ++ triples 1 holder files)) in
+    let make : ℕ → Use = λ f. record { id = 1; holder = holder; file = f } in
+    subst P (sym none) (AreBefore-added [] 1 holder files (λ u h. absurd h), omega (arith, length-in_order_once use_before (triples 1 holder files), length-map files make))
 
 pub AreBefore-without : (us : List Use) (owners : List ℕ) (id : ℕ) → AreBefore us id → AreBefore (without owners us) id
 AreBefore-without us owners id before u h = before u (IsIn-from_filter (λ v. not (is_owned owners v)) u us h).0

@@ -1,7 +1,7 @@
-ghost use Rattle.std.specs.Prelude.{◌≡◌, ◌<◌, ◌+◌, ◌-◌, ◌^◌, ◌&&◌, ◌==◌, [], ◌++◌, false, length, not, nat_lt, IsTrue, MatchBool};
+ghost use Rattle.std.specs.Prelude.{◌≡◌, ◌<◌, ◌+◌, ◌-◌, ◌^◌, ◌&&◌, ◌==◌, [], ◌++◌, length, not, nat_lt, IsTrue, MatchBool};
 ghost use Rattle.std.specs.List.{list_all};
 ghost use Rattle.ckpt_ids.specs.Records.{count, is_present};
-ghost use Rattle.ckpt_parts_tests.specs.Earlier.{AreBefore, IsPinnable, IsUsable};
+ghost use Rattle.ckpt_parts_tests.specs.Earlier.{AreBefore, IsFirst, IsPinnable, IsUsable};
 ghost use Rattle.ckpt_ids.specs.Counting.{times};
 
 use ckpt_ids::{CheckpointId, FileId, Files, SubtaskId};
@@ -156,8 +156,7 @@ fn first_uses(registry: &mut Registry, fresh: &Files, none: &Files) -> bool
     requires empty { registry.old ≡ [] }
     requires usable { IsUsable registry.old fresh.now none.now }
     requires few { length (fresh.now ++ none.now) < 100 }
-    ensures ok { IsTrue result → AreBefore registry.new 2 × (length registry.new < 100) }
-    ensures err { result ≡ false → registry.new ≡ [] }
+    ensures { MatchBool result (IsFirst registry.new) (registry.new ≡ registry.old) }
 {
     registry
         .use_files(CheckpointId(1), SUBTASK, fresh, none)
@@ -166,8 +165,7 @@ fn first_uses(registry: &mut Registry, fresh: &Files, none: &Files) -> bool
 
 // A registry in which record 1 wrote these files.
 fn with_record(rt: &impl Abort, alloc: Global, fresh: &Files, none: &Files) -> Registry
-    ensures before { AreBefore result 2 }
-    ensures few { length result < 100 }
+    ensures { IsFirst result }
 {
     let mut registry = Registry::new(alloc);
     assert!(rt; fresh.len() < 50 && none.len() < 50);
