@@ -1,6 +1,7 @@
 -- Laws of a coordinator: of two calls, and of every list of calls.
-use Rattle.std.specs.Prelude.{◌≡◌, ℕ, ◌+◌, ◌<◌, ◌≤◌, ◌^◌, Bool, true, false, not, ◌&&◌, ◌==◌, List, [], ◌∷◌, ◌++◌, filter, length, drop, count_by, if◌then◌else◌, ◌↔◌, Option, Some, None, ⊤}
+use Rattle.std.specs.Prelude.{◌≡◌, ℕ, ◌+◌, ◌<◌, ◌≤◌, Bool, true, false, not, ◌&&◌, ◌==◌, List, [], ◌∷◌, ◌++◌, filter, length, drop, if◌then◌else◌, ◌↔◌, Option, Some, None, ⊤}
 use Rattle.std.specs.List.{range_with_len}
+use Rattle.ckpt_ids.specs.declared.limits.TheConstants.{MOMENTS_END, NUMBERS_END}
 use Rattle.ckpt_ids.specs.declared.subtask.SubtaskId.{SubtaskId}
 use Rattle.ckpt_ids.specs.declared.ack.Acked.{Acked}
 use Rattle.ckpt_ids.specs.declared.call.Call.{Call}
@@ -68,9 +69,9 @@ Exchange m now id p q =
 pub record CanOpen (o : Opening) : Type 0 where
   pub config : IsWithinLimits o.config
   pub shape : IsShape o.shape
-  pub start : o.start < 2 ^ 62
+  pub start : o.start < MOMENTS_END
   pub first_from : 1 ≤ o.first
-  pub first_to : o.first < 2 ^ 62
+  pub first_to : o.first < NUMBERS_END
 
 abbrev pub AreCalls : List Call → Type 0
 AreCalls [] = ⊤

@@ -1,6 +1,7 @@
 -- Which calls are refused, as a table whose first row that holds decides. The table is this project's own rule.
-use Rattle.std.specs.Prelude.{ℕ, ◌+◌, ◌^◌, Bool, true, false, not, ◌&&◌, ◌||◌, nat_lt, nat_le, ◌==◌, List, [], ◌∷◌, ◌++◌, find, length, count_by, if◌then◌else◌, Option, Some, None}
+use Rattle.std.specs.Prelude.{ℕ, ◌+◌, Bool, true, false, not, ◌&&◌, ◌||◌, nat_lt, nat_le, ◌==◌, List, [], ◌∷◌, ◌++◌, find, length, count_by, if◌then◌else◌, Option, Some, None}
 use Rattle.std.specs.List.{list_any}
+use Rattle.ckpt_ids.specs.declared.limits.TheConstants.{MOMENTS_END, MOST_FILES, MOST_SAVEPOINTS, NUMBERS_END}
 use Rattle.ckpt_ids.specs.declared.subtask.SubtaskId.{SubtaskId}
 use Rattle.ckpt_ids.specs.declared.call.Target.TheVariants as target
 use Rattle.ckpt_ids.specs.declared.call.Call.{Call}
@@ -58,7 +59,7 @@ savepoints m = count_by (λ r. not (is_checkpoint r)) m.records
 -- the rows
 abbrev pub moment_too_large : Option ℕ → Option Refusal
 moment_too_large None = None
-moment_too_large (Some now) = refuse_if (nat_le (2 ^ 62) now) MomentTooLarge
+moment_too_large (Some now) = refuse_if (nat_le MOMENTS_END now) MomentTooLarge
 
 abbrev pub not_running : State → Call → Option Refusal
 not_running m (Tick now) = refuse_if (not (is_running m.mode)) NotRunning
@@ -68,7 +69,7 @@ not_running m (Cancel now) = refuse_if (is_cancelled m.mode) NotRunning
 not_running m call = None
 
 abbrev pub too_many_files : Call → Option Refusal
-too_many_files (Ack now id subtask fresh reused) = refuse_if (nat_lt 4096 (length fresh + length reused)) TooManyFiles
+too_many_files (Ack now id subtask fresh reused) = refuse_if (nat_lt MOST_FILES (length fresh + length reused)) TooManyFiles
 too_many_files call = None
 
 abbrev pub repeated_file : Call → Option Refusal
@@ -77,7 +78,7 @@ repeated_file call = None
 
 -- the two rows on the files of an acknowledgement
 abbrev pub files_refusal : List ℕ → List ℕ → Option Refusal
-files_refusal fresh reused = first_some (refuse_if (nat_lt 4096 (length fresh + length reused)) TooManyFiles ∷ refuse_if (has_repeats (fresh ++ reused)) RepeatedFile ∷ [])
+files_refusal fresh reused = first_some (refuse_if (nat_lt MOST_FILES (length fresh + length reused)) TooManyFiles ∷ refuse_if (has_repeats (fresh ++ reused)) RepeatedFile ∷ [])
 
 -- never given to a record
 abbrev pub was_not_given : State → ℕ → Bool
@@ -136,7 +137,7 @@ in_use m (Dispose id) = refuse_if (is_number m.base id) InUse
 in_use m call = None
 
 abbrev pub too_many_savepoints : State → Call → Option Refusal
-too_many_savepoints m (Savepoint now) = refuse_if (nat_le 1000 (savepoints m)) TooManySavepoints
+too_many_savepoints m (Savepoint now) = refuse_if (nat_le MOST_SAVEPOINTS (savepoints m)) TooManySavepoints
 too_many_savepoints m call = None
 
 abbrev pub not_taken : State → Call → Option Refusal
@@ -153,8 +154,8 @@ no_such_record m (Show id) = no_record (record_of m id)
 no_such_record m call = None
 
 abbrev pub ids_used_up : State → Call → Option Refusal
-ids_used_up m (Tick now) = refuse_if (nat_le (2 ^ 62) m.next) IdsUsedUp
-ids_used_up m (Savepoint now) = refuse_if (nat_le (2 ^ 62) m.next) IdsUsedUp
+ids_used_up m (Tick now) = refuse_if (nat_le NUMBERS_END m.next) IdsUsedUp
+ids_used_up m (Savepoint now) = refuse_if (nat_le NUMBERS_END m.next) IdsUsedUp
 ids_used_up m call = None
 
 unfoldable pub refusal : State → Call → Option Refusal

@@ -1,5 +1,6 @@
 -- What holds of a coordinator's state at each moment: of the opening, and after each call.
-use Rattle.std.specs.Prelude.{◌≡◌, ◌≢◌, ℕ, ◌<◌, ◌≤◌, ◌^◌, Bool, true, false, ◌&&◌, nat_lt, List, [], ◌∷◌, ◌++◌, count_by, Some, IfSome, ⊤}
+use Rattle.std.specs.Prelude.{◌≡◌, ◌≢◌, ℕ, ◌<◌, ◌≤◌, Bool, true, false, ◌&&◌, nat_lt, [], ◌++◌, count_by, Some, IfSome, ⊤}
+use Rattle.ckpt_ids.specs.declared.limits.TheConstants.{MOMENTS_END, MOST_SAVEPOINTS, NUMBERS_END}
 use Rattle.ckpt_ids.specs.declared.ack.Acked.{Acked}
 use Rattle.ckpt_ids.specs.declared.call.Call.{Call}
 use Rattle.ckpt_ids.specs.declared.call.Call.TheVariants.{Restore}
@@ -34,20 +35,20 @@ pub record IsRecord (r : Record) : Type 0 where
 pub record IsSound (m : State) : Type 0 where
   pub config : IsWithinLimits m.opening.config
   pub shape : IsShape m.shape
-  pub latest : m.latest < 2 ^ 62
+  pub latest : m.latest < MOMENTS_END
   -- numbers rise, and lie from the first to below the next
   pub first : 1 ≤ m.opening.first
   pub next_from : m.opening.first ≤ m.next
-  pub next_to : m.next ≤ 2 ^ 62
+  pub next_to : m.next ≤ NUMBERS_END
   pub in_order : IsInOrder id_before m.records
   pub from_first : (r : Record) → IsIn r m.records → m.opening.first ≤ r.id
   pub below_next : (r : Record) → IsIn r m.records → r.id < m.next
   pub each : (r : Record) → IsIn r m.records → IsRecord r
-  pub started : (r : Record) → IsIn r m.records → r.started < 2 ^ 62
+  pub started : (r : Record) → IsIn r m.records → r.started < MOMENTS_END
   -- how many there are
   pub retained : count_by is_done_checkpoint m.records ≤ m.opening.config.retained
   pub at_once : pending_checkpoints m ≤ limit m.opening.config
-  pub savepoints_to : savepoints m ≤ 1000
+  pub savepoints_to : savepoints m ≤ MOST_SAVEPOINTS
   -- each pending checkpoint is newer than all done ones
   pub newer : (r s : Record) → IsIn r m.records → IsIn s m.records → (is_pending r && is_checkpoint r) ≡ true → is_done_checkpoint s ≡ true → s.id < r.id
   pub base : (id : ℕ) → m.base ≡ Some id → is_done_savepoint m id ≡ true

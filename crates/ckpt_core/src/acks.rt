@@ -8,12 +8,12 @@ ghost use Rattle.ckpt_core.specs.Inside.Parts.{Answers, AreSound, IsAccepted, St
 ghost use Rattle.ckpt_core.specs.Inside.RecordFacts.{IsIn, IsInOrder, IsPending, IsStored, Record, id_before};
 
 use crate::parts::Parts;
-use ckpt_ids::{CheckpointId, FileId, Files, Reply, SubtaskId};
+use ckpt_ids::{CheckpointId, FileId, Files, MOST_FILES, Reply, SubtaskId};
 use std::alloc::{AllocError, Global};
 
 /// The files of an acknowledgement, fresh and reused together.
 fn joined(alloc: Global, fresh: &Files, reused: &Files) -> Result<Files, AllocError>
-    requires { length fresh.now + length reused.now ≤ 4096 }
+    requires { length fresh.now + length reused.now ≤ MOST_FILES }
     ensures { IfOk result (λ files. files ≡ ascending (fresh.now ++ reused.now)) }
 {
     let mut files = Vec::with_capacity(alloc, fresh.len() + reused.len())?;

@@ -6,9 +6,8 @@ ghost use Rattle.ckpt_core.specs.Coordinator.{IsCall, may_want_memory, open_faul
 ghost use Rattle.ckpt_core.specs.Inside.Parts.{Answers, AreSound, IsAccepted, Stays, state_of};
 
 use crate::parts::Parts;
-use crate::refusals::{MOMENTS_END, NUMBERS_END};
 use ckpt_hash::Secret;
-use ckpt_ids::{Call, Config, Refusal, Reply, Shape};
+use ckpt_ids::{Call, Config, MOMENTS_END, NUMBERS_END, Refusal, Reply, Shape};
 use std::alloc::{AllocError, Global};
 use std::fmt;
 use std::marker::Model;

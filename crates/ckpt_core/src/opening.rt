@@ -1,4 +1,5 @@
-ghost use Rattle.std.specs.Prelude.{◌≡◌, ◌<◌, ◌≤◌, ◌^◌};
+ghost use Rattle.std.specs.Prelude.{◌≡◌, ◌<◌, ◌≤◌};
+ghost use Rattle.ckpt_ids.specs.declared.limits.TheConstants.{MOMENTS_END, NUMBERS_END};
 ghost use Rattle.ckpt_core.specs.Inside.Parts.{AreSound, state_of};
 ghost use Rattle.ckpt_core.specs.State.{opened};
 
@@ -25,9 +26,9 @@ impl Parts {
         first: u64,
         secret: Secret,
     ) -> Parts
-        requires start { start < 2 ^ 62 }
+        requires start { start < MOMENTS_END }
         requires from { 1 ≤ first }
-        requires to { first < 2 ^ 62 }
+        requires to { first < NUMBERS_END }
         ensures sound { AreSound result }
         ensures state { state_of result ≡ opened (record { config = config; shape = shape; start = start; first = first }) }
     {

@@ -1,4 +1,4 @@
-ghost use Rattle.std.specs.Prelude.{◌≡◌, ◌++◌, ◌+◌, ◌^◌, ◌==◌, ℕ, List, find, not, nat_le, option_copied, option_map, Option, Some};
+ghost use Rattle.std.specs.Prelude.{◌≡◌, ◌++◌, ◌+◌, ◌==◌, ℕ, List, find, not, nat_le, option_copied, option_map, Option, Some};
 ghost use Rattle.std.specs.List.{list_any};
 ghost use Rattle.std.specs.Result.{result_err};
 ghost use Rattle.ckpt_ids.specs.declared.call.Call.TheVariants.{Tick, Savepoint, Ack, Decline, Dispose, Restore, Cancel, Deleted, Show};
@@ -9,20 +9,11 @@ ghost use Rattle.ckpt_core.specs.Refusals.{files_refusal, has_repeats, is_cancel
 
 use crate::mode::Mode;
 use crate::parts::Parts;
-use ckpt_ids::{Call, CheckpointId, FileId, Files, Refusal, SubtaskId, Target};
+use ckpt_ids::{
+    Call, CheckpointId, FileId, Files, MOMENTS_END, MOST_FILES, MOST_SAVEPOINTS, NUMBERS_END,
+    Refusal, SubtaskId, Target,
+};
 use ckpt_pending::Pending;
-
-// all moments are below, in milliseconds
-pub(crate) const MOMENTS_END: u64 = 1 << 62;
-
-// all numbers of records are below
-pub(crate) const NUMBERS_END: u64 = 1 << 62;
-
-// of one acknowledgement
-const MOST_FILES: usize = 4096;
-
-// pending and done together
-const MOST_SAVEPOINTS: usize = 1000;
 
 /// An `Err` with the refusal where the test holds.
 fn refuse_if(test: bool, why: Refusal) -> Result<(), Refusal>
@@ -46,7 +37,7 @@ fn test_subtask(pending: &Pending, subtask: SubtaskId) -> Result<(), Refusal>
 
 /// Tests the number of an acknowledgement's files, and that each is named once.
 ///
-/// Answers [`Refusal::TooManyFiles`] exactly where there are more than 4096, and else
+/// Answers [`Refusal::TooManyFiles`] exactly where there are more than [`MOST_FILES`], and else
 /// [`Refusal::RepeatedFile`] exactly where a file stands twice. A call that acknowledges with such
 /// files is refused so by every coordinator.
 pub fn test_files(fresh: &Files, reused: &Files) -> Result<(), Refusal>
@@ -248,7 +239,7 @@ impl Parts {
 
     /// Tests that a number is left.
     fn test_next(&self) -> Result<(), Refusal>
-        ensures { result_err result ≡ refuse_if (nat_le (2 ^ 62) self.now.next) IdsUsedUp }
+        ensures { result_err result ≡ refuse_if (nat_le NUMBERS_END self.now.next) IdsUsedUp }
     {
         refuse_if(self.next >= NUMBERS_END, Refusal::IdsUsedUp)
     }

@@ -1,16 +1,9 @@
 ghost use Rattle.std.specs.Prelude.{◌≡◌, ◌^◌, ◌≤◌, ◌↔◌, Bool, true, false, IsErr, IsTrue, OnOk, IfOk};
 ghost use Rattle.ckpt_ids.specs.Configuration.{Configuration, IsWithinLimits, configured, is_within_limits};
 
+use crate::limits::{LONGEST_DURATION, MOST_AT_ONCE, MOST_RETAINED, MOST_TOLERABLE};
 use std::marker::Model;
 use thiserror::Error;
-
-const LONGEST: u64 = 1 << 40;
-
-const MOST_AT_ONCE: u64 = 64;
-
-const MOST_TOLERABLE: u64 = 1000;
-
-const MOST_RETAINED: u64 = 1000;
 
 /// A value of the configuration is outside its limits.
 #[derive(Clone, Copy, Debug, PartialEq, Eq, Error)]
@@ -77,12 +70,12 @@ impl Config {
         ensures value { IfOk result (λ config. config ≡ configured interval pause at_once timeout tolerable retained keep_on_cancel) }
     {
         let good = 10 <= interval
-            && interval <= LONGEST
-            && pause <= LONGEST
+            && interval <= LONGEST_DURATION
+            && pause <= LONGEST_DURATION
             && 1 <= at_once
             && at_once <= MOST_AT_ONCE
             && 1 <= timeout
-            && timeout <= LONGEST
+            && timeout <= LONGEST_DURATION
             && tolerable <= MOST_TOLERABLE
             && 1 <= retained
             && retained <= MOST_RETAINED;

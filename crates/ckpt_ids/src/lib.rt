@@ -12,6 +12,7 @@ pub mod call;
 pub mod config;
 pub mod files;
 pub mod handed;
+pub mod limits;
 pub mod numbers;
 mod refusal_text;
 pub mod reply;
@@ -23,6 +24,10 @@ pub use call::{Call, Target};
 pub use config::{BadConfig, Config};
 pub use files::Files;
 pub use handed::Handed;
+pub use limits::{
+    LONGEST_DURATION, MOMENTS_END, MOST_AT_ONCE, MOST_FILES, MOST_RETAINED, MOST_SAVEPOINTS,
+    MOST_SUBTASKS, MOST_TOLERABLE, MOST_VERTICES, NUMBERS_END,
+};
 pub use numbers::{CheckpointId, FileId, Kind};
 pub use reply::{Answer, Choice, Refusal, Reply, TickEnd};
 pub use shape::{Shape, ShapeFault};

@@ -2,14 +2,11 @@ ghost use Rattle.std.specs.Prelude.{◌≡◌, ◌+◌, ◌≤◌, ◌^◌, ◌�
 ghost use Rattle.std.specs.List.{list_all};
 ghost use Rattle.ckpt_ids.specs.Shapes.{IsShape, is_shape, is_subtask, subtasks};
 
+use crate::limits::{MOST_SUBTASKS, MOST_VERTICES};
 use crate::subtask::SubtaskId;
 use std::alloc::{AllocError, Global};
 use std::marker::Model;
 use thiserror::Error;
-
-const MOST_VERTICES: usize = 256;
-
-const MOST_SUBTASKS: u64 = 4096;
 
 /// Why a shape was not made.
 #[derive(Clone, Copy, Debug, PartialEq, Eq, Error)]

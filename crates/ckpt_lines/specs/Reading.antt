@@ -9,6 +9,7 @@ use Rattle.ckpt_lines.specs.declared.fault.LineFault.{LineFault}
 use Rattle.ckpt_lines.specs.declared.fault.LineFault.TheVariants as fault
 use Rattle.ckpt_lines.specs.declared.keyword.Keyword.{Keyword}
 use Rattle.ckpt_lines.specs.declared.keyword.Keyword.TheVariants as keyword
+use Rattle.ckpt_lines.specs.declared.limits.TheConstants.{LONGEST_LINE}
 use Rattle.ckpt_lines.specs.declared.line.Line.{Line}
 use Rattle.ckpt_lines.specs.declared.line.Line.TheVariants.{Skip, Config, Job, Start, Tick, Savepoint, Ack, Decline, Dispose, Restore, Cancel, Take, Deleted, Undeleted, Show, Count, All}
 use Rattle.ckpt_lines.specs.Keywords.{keyword_of, takes_memory}
@@ -150,7 +151,7 @@ line_of (word ∷ words) = if is_comment word then Ok Skip else row_of (keyword_
 
 -- a carriage return at the end counts as a byte, and is no part of a word
 abbrev pub is_too_long : List ℕ → Bool
-is_too_long line = nat_lt 131072 (length line)
+is_too_long line = nat_lt LONGEST_LINE (length line)
 
 unfoldable pub reading : List ℕ → Result Line LineFault
 reading line = if is_too_long line then Err fault.TooLong else line_of (words_of (strip_carriage_return line))

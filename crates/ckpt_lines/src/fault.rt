@@ -18,7 +18,7 @@ pub enum LineFault {
     /// A word follows the last place.
     #[error("a word too many")]
     Extra,
-    /// The line has more than 131,072 bytes.
+    /// The line has more than [`LONGEST_LINE`](crate::LONGEST_LINE) bytes.
     #[error("the line is too long")]
     TooLong,
     /// Memory ran out.

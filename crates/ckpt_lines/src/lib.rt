@@ -7,6 +7,7 @@
 mod fault;
 mod keyword;
 pub mod laws;
+pub mod limits;
 mod line;
 mod lists;
 mod numbers;
@@ -17,6 +18,7 @@ mod values;
 mod words;
 
 pub use fault::LineFault;
+pub use limits::LONGEST_LINE;
 pub use line::Line;
 pub use numbers::Numbers;
 pub use parse::parse_line;

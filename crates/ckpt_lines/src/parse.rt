@@ -4,12 +4,11 @@ ghost use Rattle.ckpt_lines.specs.Reading.{begins_with_a_list, line_of, may_want
 
 use crate::fault::LineFault;
 use crate::keyword::keyword_of;
+use crate::limits::LONGEST_LINE;
 use crate::line::Line;
 use crate::rows::row;
 use crate::words::Words;
 use std::alloc::Global;
-
-const LONGEST: usize = 131_072;
 
 /// The text without the one carriage return at its end, if it has one.
 fn without_return(line: &[u8]) -> &[u8]
@@ -44,7 +43,7 @@ fn line_of(alloc: Global, words: &mut Words<'_>) -> Result<Line, LineFault>
 /// subtask is a number, a dot and a number, each at most 65535. A file word is `+` or `=` and a
 /// number; file words may be mixed.
 ///
-/// Answers [`LineFault::TooLong`] for more than 131,072 bytes, the carriage return among them; else
+/// Answers [`LineFault::TooLong`] for more than [`LONGEST_LINE`] bytes, the carriage return among them; else
 /// [`LineFault::Word`] where the first word is none of the known ones; else the first fault of the
 /// places from the left. [`LineFault::Memory`] is answered on `ack`, `job` and `restore` alone.
 #[tactic(auto, unfolding(crate::specs::Reading::reading, crate::specs::Reading::may_want_memory))]
@@ -55,7 +54,7 @@ pub fn parse_line(alloc: Global, line: &[u8]) -> Result<Line, LineFault>
     // The reading itself is a line or one of the other faults.
     ensures definite { reading line.now ≢ Err LineFault.Memory }
 {
-    if line.len() > LONGEST {
+    if line.len() > LONGEST_LINE {
         return Err(LineFault::TooLong);
     }
     line_of(alloc, &mut Words::of(without_return(line)))

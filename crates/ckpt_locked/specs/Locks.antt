@@ -4,6 +4,7 @@ use Rattle.atomic_table.specs.Seated.{TableId}
 use Rattle.ckpt_ids.specs.declared.call.Call.{Call}
 use Rattle.ckpt_ids.specs.declared.reply.Answer.{Answer}
 use Rattle.ckpt_locked.specs.declared.book.Entry.{Entry}
+use Rattle.ckpt_locked.specs.declared.limits.TheConstants.{TICKETS_END}
 use Rattle.ckpt_locked.specs.declared.view.Base.{Base}
 use Rattle.ckpt_locked.specs.declared.view.Claim.{Claim}
 use Rattle.ckpt_locked.specs.Books.{History, entered, answer_to}
@@ -45,11 +46,11 @@ IsTurns id = (id.words ≡ 68) × (id.slots ≡ 1)
 
 -- the seat has its turn with this ticket, and the book is out of its slot
 abbrev pub IsOut : Sat → ℕ → Type 0
-IsOut m t = (t < 2 ^ 62) × (m ≡ (serving m.0.mine t m.0.found, (0, None) ∷ []))
+IsOut m t = (t < TICKETS_END) × (m ≡ (serving m.0.mine t m.0.found, (0, None) ∷ []))
 
 -- the seat has its turn with this ticket, and this is the book in its slot
 abbrev pub HasBook : Sat → ℕ → History → Type 0
-HasBook m t book = (t < 2 ^ 62) × (m ≡ (serving m.0.mine t m.0.found, (0, Some book) ∷ []))
+HasBook m t book = (t < TICKETS_END) × (m ≡ (serving m.0.mine t m.0.found, (0, Some book) ∷ []))
 
 -- what the seat has found, and then this call of its own
 abbrev pub found_with : Sat → ℕ → Call → List Entry

@@ -1,11 +1,12 @@
 -- The rule of a lock's table. Word 0 is the number of entries since the lock was made, word 1 the next ticket, word 2 the
 -- ticket that is served, and word 3 the next seat. The rest are perches, on which those who wait sleep. The slot has the book.
-use Rattle.std.specs.Prelude.{◌≡◌, ◌≢◌, ℕ, ◌+◌, ◌^◌, ◌<◌, ◌≤◌, ◌⊎◌, true, false, if◌then◌else◌, List, [], ◌∷◌, ◌++◌, length, drop, Option, Some, None}
+use Rattle.std.specs.Prelude.{◌≡◌, ◌≢◌, ℕ, ◌+◌, ◌<◌, ◌≤◌, ◌⊎◌, true, false, if◌then◌else◌, List, [], ◌∷◌, ◌++◌, length, drop, Option, Some, None}
 use mathlib.Core.Option.{some}
 use lib.ListN.{get_elem?}
 use Rattle.atomic_table.specs.Table.{State, Me, Step}
 use Rattle.ckpt_ids.specs.declared.call.Call.{Call}
 use Rattle.ckpt_locked.specs.declared.book.Entry.{Entry}
+use Rattle.ckpt_locked.specs.declared.limits.TheConstants.{MOST_SEATS, TICKETS_END}
 use Rattle.ckpt_locked.specs.declared.view.Base.{Base}
 use Rattle.ckpt_locked.specs.declared.view.Claim.{Claim}
 use Rattle.ckpt_locked.specs.declared.view.Key.{Key}
@@ -96,8 +97,8 @@ pub record Orderly (base : Base) (s : State (Option History) View) : Type 0 wher
   pub owner : ℕ → ℕ
   pub holder : ℕ → ℕ
   pub words : s.words ≡ length log ∷ tickets ∷ served ∷ given ∷ perches
-  pub few : (given ≤ base.seats) × (base.seats ≤ 64)
-  pub early : served ≤ 2 ^ 62
+  pub few : (given ≤ base.seats) × (base.seats ≤ MOST_SEATS)
+  pub early : served ≤ TICKETS_END
   pub lines : total in_line s.views + served ≡ tickets
   pub numbers : total has_number s.views ≤ given
   pub seats : SeatsBelow given log

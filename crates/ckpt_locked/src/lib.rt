@@ -2,14 +2,16 @@
 //!
 //! [`Book`] is the coordinator and the list beside it, for one thread. `specs/Books.antt` says what
 //! a book tells, and `specs/Promises.antt` what is promised of every book, beside the laws of
-//! `ckpt_core`. [`Locked`] is a book that up to 64 threads share, each with a [`Pass`].
+//! `ckpt_core`. [`Locked`] is a book that up to [`MOST_SEATS`] threads share, each with a [`Pass`].
 //! `specs/Locks.antt` says what a pass knows.
 #![tactic(auto)]
 
 pub mod book;
+pub mod limits;
 mod lock;
 mod steps;
 mod view;
 
 pub use book::{Book, Entry};
+pub use limits::{MOST_SEATS, TICKETS_END};
 pub use lock::{LockFault, Locked, MissingPass, Pass};

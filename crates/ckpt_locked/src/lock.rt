@@ -5,6 +5,7 @@ ghost use Rattle.ckpt_locked.specs.Turns.{fresh, idle, claim};
 ghost use Rattle.ckpt_locked.specs.Locks.{IsTurns, IsOut, newcomer, newcomers, lock_of, Made, SeenIn, GivenBack};
 
 use crate::book::Book;
+use crate::limits::MOST_SEATS;
 use crate::steps::{ENTRIES, SEATS, Seat, Shared, WORDS, ask, commit, enter, leave, take};
 use crate::view::{Compare, Key, Number, Same, Take, Turns, View};
 use atomic_table::{Refused, Table};
@@ -14,9 +15,6 @@ use std::marker::Model;
 use std::snapshot::Snapshot;
 use std::sync::Wait;
 use thiserror::Error;
-
-/// The most seats that a lock has.
-const MOST_SEATS: u32 = 64;
 
 /// The right to make calls with one seat.
 ///
@@ -64,7 +62,7 @@ impl Model for Locked {
 /// Why there is no lock. They are tested in this order.
 #[derive(Clone, Copy, Debug, PartialEq, Eq, Error)]
 pub enum LockFault {
-    /// No seats, or more than 64.
+    /// No seats, or more than [`MOST_SEATS`].
     #[error("a lock has 1 to 64 seats")]
     BadSeats,
     #[error("out of memory")]
@@ -95,20 +93,20 @@ impl Pass {
 }
 
 impl Locked {
-    /// A lock over the book, with a pass for each of 1 to 64 seats, in order. Takes memory where the
-    /// book does.
+    /// A lock over the book, with a pass for each of 1 to [`MOST_SEATS`] seats, in order. Takes memory
+    /// where the book does.
     ///
     /// Gives the book back with [`LockFault::BadSeats`] exactly where there are 0 seats or more than
-    /// 64, and else with [`LockFault::Memory`] for want of memory alone.
+    /// [`MOST_SEATS`], and else with [`LockFault::Memory`] for want of memory alone.
     pub fn new<R: Wait>(
         rt: &R,
         book: Book,
         seats: u32,
     ) -> Result<(Locked, Vec<Pass>), (Book, LockFault)>
-        ensures seats { IfOk result (λ made. (0 < seats) × (seats ≤ 64)) }
+        ensures seats { IfOk result (λ made. (0 < seats) × (seats ≤ MOST_SEATS)) }
         ensures lock { IfOk result (λ made. made.0 ≡ lock_of book seats made.0.table_id) }
         ensures passes { IfOk result (λ made. made.1.items ≡ newcomers made.0 seats) }
-        ensures fault { IfErr result (λ back. back.1 ≡ BadSeats ↔ ((0 < seats) × (seats ≤ 64) → ⊥)) }
+        ensures fault { IfErr result (λ back. back.1 ≡ BadSeats ↔ ((0 < seats) × (seats ≤ MOST_SEATS) → ⊥)) }
         ensures returned { IfErr result (λ back. back.0 ≡ book) }
     {
         if seats == 0 || seats > MOST_SEATS {

@@ -10,6 +10,7 @@ ghost use Rattle.ckpt_locked.specs.Turns.{kept, grown, idle, waiting, Called};
 ghost use Rattle.ckpt_locked.specs.Locks.{IsTurns, IsOut, HasBook, CameTo, Asked, Entered, found_with};
 
 use crate::book::Book;
+use crate::limits::TICKETS_END;
 use crate::view::{Await, Commit, Draw, Key, Next, Stir, Turns, View};
 use ckpt_ids::{Answer, Call};
 use std::hint::spin_loop;
@@ -49,21 +50,17 @@ const NEAR: u64 = 3;
 /// Who is so far behind the ticket that was served is woken before its turn.
 const AHEAD: u64 = 3;
 
-/// A ticket from here on waits for good, so that the tickets never wrap. At a call each nanosecond
-/// that is after 146 years.
-const LAST: u64 = 1 << 62;
-
 /// Waits until the ticket is served.
 fn wait<R: Wait>(rt: &R, shared: &Shared, seat: &mut Seat, ticket: u64)
     requires table { (seat.old.table_id ≡ shared.now.table_id) × IsTurns shared.now.table_id }
     requires waiting { seat.old.me ≡ (waiting seat.old.me.0.mine ticket, []) }
     ensures same { seat.new.table_id ≡ seat.old.table_id }
-    ensures turn { Called seat.old.me.0.mine ticket seat.new.me × (ticket < 2 ^ 62) }
+    ensures turn { Called seat.old.me.0.mine ticket seat.new.me × (ticket < TICKETS_END) }
 {
     let perch = perch_of(ticket);
     let mut looks = 0;
     for _ in rt.forever() {
-        if ticket >= LAST {
+        if ticket >= TICKETS_END {
             yield_now();
             continue;
         }

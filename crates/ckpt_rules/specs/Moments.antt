@@ -1,5 +1,6 @@
 -- The moments that decide when the next checkpoint may start, in milliseconds.
-use Rattle.std.specs.Prelude.{ℕ, ◌+◌, ◌<◌, ◌^◌, nat_lt, IsTrue, Bool, true, Option, Some, None}
+use Rattle.std.specs.Prelude.{ℕ, ◌+◌, ◌*◌, ◌<◌, nat_lt, IsTrue, Bool, true, Option, Some, None}
+use Rattle.ckpt_ids.specs.declared.limits.TheConstants.{LONGEST_DURATION, MOMENTS_END}
 
 pub record Moments : Type 0 where
   -- the greatest moment seen
@@ -11,10 +12,10 @@ pub record Moments : Type 0 where
 
 abbrev pub is_moment : Option ℕ → Bool
 is_moment None = true
-is_moment (Some moment) = nat_lt moment (2 ^ 62)
+is_moment (Some moment) = nat_lt moment MOMENTS_END
 
 -- the limits are this project's own, and leave room for sums in 64 bits
 pub record IsInRange (m : Moments) : Type 0 where
-  pub latest_to : m.latest < 2 ^ 62
-  pub due_to : m.due < 2 ^ 62 + 2 ^ 41
+  pub latest_to : m.latest < MOMENTS_END
+  pub due_to : m.due < MOMENTS_END + 2 * LONGEST_DURATION
   pub completed_to : IsTrue (is_moment m.completed)

@@ -1,4 +1,5 @@
-ghost use Rattle.std.specs.Prelude.{◌≡◌, ◌+◌, ◌<◌, ◌^◌, max, Some, None};
+ghost use Rattle.std.specs.Prelude.{◌≡◌, ◌+◌, ◌*◌, ◌<◌, max, Some, None};
+ghost use Rattle.ckpt_ids.specs.declared.limits.TheConstants.{LONGEST_DURATION, MOMENTS_END};
 ghost use Rattle.ckpt_rules.specs.Moments.{Moments, IsInRange};
 ghost use Rattle.ckpt_rules.specs.Trigger.{gap, limit, hold, pause_ends};
 
@@ -8,7 +9,7 @@ use std::marker::Model;
 
 /// The moments that decide when the next checkpoint may start, in milliseconds.
 ///
-/// Each moment that is handed in is below 2^62. No call takes memory.
+/// Each moment that is handed in is below [`MOMENTS_END`](ckpt_ids::MOMENTS_END). No call takes memory.
 #[derive(Clone, Copy, Debug, PartialEq, Eq)]
 pub struct Clock {
     latest: u64,
@@ -31,7 +32,7 @@ impl Model for Clock {
 /// Milliseconds from a trigger to the next: a pause above the interval lifts it.
 fn gap_of(config: &Config) -> u64
     ensures value { result ≡ gap config.now }
-    ensures limit { result < 2 ^ 41 }
+    ensures limit { result < 2 * LONGEST_DURATION }
 {
     config.interval().max(config.pause())
 }
@@ -50,7 +51,7 @@ fn limit_of(config: &Config) -> u32
 impl Clock {
     /// The clock of a job that starts at this moment, with no completed checkpoint.
     pub fn new(config: &Config, start: u64) -> Clock
-        requires { start < 2 ^ 62 }
+        requires { start < MOMENTS_END }
         ensures { result ≡ record { latest = start; due = start + gap config.now; completed = None } }
     {
         Clock {
@@ -62,9 +63,9 @@ impl Clock {
 
     /// The greater of `now` and the greatest moment seen.
     pub fn read(&self, now: u64) -> u64
-        requires { now < 2 ^ 62 }
+        requires { now < MOMENTS_END }
         ensures value { result ≡ max now self.now.latest }
-        ensures limit { result < 2 ^ 62 }
+        ensures limit { result < MOMENTS_END }
         ensures moments { IsInRange self.now }
     {
         self.latest.max(now)
@@ -72,7 +73,7 @@ impl Clock {
 
     /// Sees this moment: the greatest one is kept.
     pub fn see(&mut self, now: u64)
-        requires { now < 2 ^ 62 }
+        requires { now < MOMENTS_END }
         ensures { self.new ≡ record self.old { latest = max now self.old.latest } }
     {
         self.latest = self.latest.max(now);
@@ -83,7 +84,7 @@ impl Clock {
     /// Source of the rule: the Flink documentation, "Configuration", and this project, as
     /// `specs/Trigger.antt` says.
     pub fn held(&self, config: &Config, now: u64, pending: u32) -> Hold
-        requires { now < 2 ^ 62 }
+        requires { now < MOMENTS_END }
         ensures { result ≡ hold config.now self.now.due self.now.completed now pending }
     {
         if now < self.due {
@@ -110,7 +111,7 @@ impl Clock {
 
     /// A checkpoint was triggered `now`: the next is due after the gap.
     pub fn triggered(&mut self, config: &Config, now: u64)
-        requires { now < 2 ^ 62 }
+        requires { now < MOMENTS_END }
         ensures { self.new ≡ record self.old { due = now + gap config.now } }
     {
         self.due = now + gap_of(config);
@@ -118,7 +119,7 @@ impl Clock {
 
     /// A checkpoint completed `now`: the pause begins.
     pub fn completed(&mut self, now: u64)
-        requires { now < 2 ^ 62 }
+        requires { now < MOMENTS_END }
         ensures { self.new ≡ record self.old { completed = Some now } }
     {
         self.completed = Some(now);
@@ -126,7 +127,7 @@ impl Clock {
 
     /// The job was restarted `now`: the next checkpoint is due after the gap, and no pause runs.
     pub fn restarted(&mut self, config: &Config, now: u64)
-        requires { now < 2 ^ 62 }
+        requires { now < MOMENTS_END }
         ensures { self.new ≡ record self.old { due = now + gap config.now; completed = None } }
     {
         self.triggered(config, now);

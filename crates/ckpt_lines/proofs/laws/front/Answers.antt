@@ -1,7 +1,8 @@
-use Rattle.std.proofs.Common.{◌≡◌, ℕ, ◌<◌, ◌≤◌, true, false, List, length, take, ap, sym, ◌∙◌, ⊎_elim, arith, min}
+use Rattle.std.proofs.Common.{◌≡◌, ℕ, ◌+◌, ◌<◌, ◌≤◌, true, false, List, length, take, ap, sym, ◌∙◌, ⊎_elim, arith, min}
 use Rattle.std.proofs.lemmas.Bool.{cases_Bool, ltb-true, ltb-false, lt-ltb, cond-true}
 use Rattle.std.proofs.lemmas.List.{take_all, length-take}
 use Rattle.std.specs.Prelude.{Err}
+use Rattle.ckpt_lines.specs.declared.limits.TheConstants.{LONGEST_LINE}
 use Rattle.ckpt_lines.specs.Reading.{reading, is_too_long}
 use Rattle.ckpt_lines.specs.declared.fault.LineFault.TheVariants as fault
 use Rattle.ckpt_lines.proofs.laws.front.Goals as goal
@@ -10,15 +11,15 @@ too_long : (line : List ℕ) → is_too_long line ≡ true → reading line ≡ 
 unfolding reading
 too_long line long = cond-true (is_too_long line) _ _ long
 
-front_is_long : (line : List ℕ) → 131072 < length line → is_too_long (take 131073 line) ≡ true
-front_is_long line long = lt-ltb 131072 (length (take 131073 line)) (shown (length (take 131073 line)) (length line) (length-take 131073 line) long)
+front_is_long : (line : List ℕ) → LONGEST_LINE < length line → is_too_long (take (LONGEST_LINE + 1) line) ≡ true
+front_is_long line long = lt-ltb LONGEST_LINE (length (take (LONGEST_LINE + 1) line)) (shown (length (take (LONGEST_LINE + 1) line)) (length line) (length-take (LONGEST_LINE + 1) line) long)
   where
-    shown : (n m : ℕ) → n ≡ min 131073 m → 131072 < m → 131072 < n
+    shown : (n m : ℕ) → n ≡ min (LONGEST_LINE + 1) m → LONGEST_LINE < m → LONGEST_LINE < n
     shown n m e lt = omega arith
 
 pub returns : goal.returns
 returns c = λ line.
     ⊎_elim
-    (λ (long : is_too_long line ≡ true). too_long (take 131073 line) (front_is_long line (ltb-true 131072 (length line) long)) ∙ sym (too_long line long))
-    (λ (short : is_too_long line ≡ false). ap reading (take_all 131073 line (let few : length line ≤ 131072 = ltb-false 131072 (length line) short in omega arith)))
+    (λ (long : is_too_long line ≡ true). too_long (take (LONGEST_LINE + 1) line) (front_is_long line (ltb-true LONGEST_LINE (length line) long)) ∙ sym (too_long line long))
+    (λ (short : is_too_long line ≡ false). ap reading (take_all (LONGEST_LINE + 1) line (let few : length line ≤ LONGEST_LINE = ltb-false LONGEST_LINE (length line) short in omega arith)))
     (cases_Bool (is_too_long line))
