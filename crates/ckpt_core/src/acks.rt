@@ -17,8 +17,9 @@ fn joined(alloc: Global, fresh: &Files, reused: &Files) -> Result<Files, AllocEr
     ensures { IfOk result (λ files. files ≡ ascending (fresh.now ++ reused.now)) }
 {
     let mut files = Vec::with_capacity(alloc, fresh.len() + reused.len())?;
-    files.extend_from_slice(fresh.as_slice())?;
+    // Files that were there before mostly have the smaller numbers, so this order leaves the least to sort.
     files.extend_from_slice(reused.as_slice())?;
+    files.extend_from_slice(fresh.as_slice())?;
     Ok(Files::of(files))
 }
 

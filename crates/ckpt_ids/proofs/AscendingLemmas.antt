@@ -1,5 +1,5 @@
 -- Numbers in ascending order: what sorting makes.
-use Rattle.std.proofs.Common.{◌≡◌, ℕ, suc, ◌+◌, ◌<◌, ◌≤◌, Bool, true, false, cond, ltb, leb, eqb, List, [], ◌∷◌, length, get_or, refl, sym, ap, subst, ◌∙◌, inl, inr, ⊎_elim, arith}
+use Rattle.std.proofs.Common.{◌≡◌, ℕ, suc, ◌+◌, ◌<◌, ◌≤◌, Bool, true, false, cond, ltb, leb, eqb, List, [], ◌∷◌, ◌++◌, length, get_or, refl, sym, ap, subst, ◌∙◌, inl, inr, ⊎_elim, arith}
 use Rattle.std.specs.List.Sorted.{IsPermutation, IsNonDecreasingBy, IsSorted}
 use Rattle.std.specs.Ordering.{nat_cmp}
 use Rattle.std.proofs.lemmas.Bool.{cases_Bool, ltb-true, ltb-false, leb-true, lt-ltb, le-ltb, le-leb, eq-eqb}
@@ -7,7 +7,7 @@ use Rattle.std.proofs.lemmas.List.Sorted.{IsNonDecreasingBy-from_sort, sum_by-Is
 use Rattle.ckpt_ids.specs.Ordered.{IsIn, put, IsStrictOrder}
 use Rattle.ckpt_ids.specs.Ascending.{IsAscending, ascending}
 use Rattle.ckpt_ids.specs.Counting.{times}
-use Rattle.ckpt_ids.proofs.CountLemmas.{count_by-cons, count_by_yes, IsIn-from_times}
+use Rattle.ckpt_ids.proofs.CountLemmas.{count_by-append, count_by-cons, count_by_yes, IsIn-from_times}
 use Rattle.ckpt_ids.proofs.OrderedLemmas.{ComesBefore-at, ComesBefore-from, IsIn-put_cases, IsIn-place}
 
 -- the order of numbers
@@ -95,3 +95,15 @@ pub ascending-from_sort : (xs ys : List ℕ) → IsPermutation xs ys → IsSorte
 ascending-from_sort xs ys p s =
     same_from_times ys (ascending xs) (IsAscending-from_sorted ys s) (IsAscending-ascending xs)
     (λ z. sum_by-IsPermutation (λ x. cond (eqb x z) 1 0) xs ys p ∙ sym (times-ascending z xs))
+
+-- a list that ascends is left as it is
+pub ascending-itself : (xs : List ℕ) → IsAscending xs → xs ≡ ascending xs
+ascending-itself xs up = same_from_times xs (ascending xs) up (IsAscending-ascending xs) (λ z. sym (times-ascending z xs))
+
+pub ascending-swapped : (xs ys : List ℕ) → ascending (xs ++ ys) ≡ ascending (ys ++ xs)
+ascending-swapped xs ys =
+    let each : (z : ℕ) → times z (ascending (xs ++ ys)) ≡ times z (ascending (ys ++ xs)) = λ z.
+    let first : times z (ascending (xs ++ ys)) ≡ times z xs + times z ys = times-ascending z (xs ++ ys) ∙ count_by-append (λ x. eqb x z) xs ys in
+    let second : times z (ascending (ys ++ xs)) ≡ times z ys + times z xs = times-ascending z (ys ++ xs) ∙ count_by-append (λ x. eqb x z) ys xs in
+    omega (arith, first, second) in
+    same_from_times (ascending (xs ++ ys)) (ascending (ys ++ xs)) (IsAscending-ascending (xs ++ ys)) (IsAscending-ascending (ys ++ xs)) each
