@@ -15,5 +15,6 @@ mod holdings;
 mod pins;
 pub mod registry;
 mod releases;
+mod sorting;
 
 pub use registry::Registry;

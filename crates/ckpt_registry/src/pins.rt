@@ -9,6 +9,7 @@ ghost use Rattle.ckpt_registry.specs.Pins.{AreKept, AreSettled, IsKept, IsLook, 
 
 use crate::counters::{Counts, count_reused};
 use crate::holdings::{Acknowledged, Part, has, lower_each};
+use crate::sorting::sort;
 use ckpt_ids::{CheckpointId, FileId};
 
 /// A record that pins files: all those of a live record, as it is now, or its own.
@@ -49,7 +50,7 @@ impl Pinner {
         ensures range { AreInRange counts.new }
     {
         fill(&mut self.files, &parts[..self.parts]);
-        self.files.sort_unstable();
+        sort(&mut self.files);
         self.files.dedup();
         self.parts = 0;
         count_reused(counts, &self.files);

@@ -9,6 +9,7 @@ use crate::counters::{Counts, count_fresh, count_reused};
 use crate::holdings::{Acknowledged, hold, named};
 use crate::pins::{Pinner, pins_of, unpin};
 use crate::releases::release_each;
+use crate::sorting::sort;
 use ckpt_hash::Secret;
 use ckpt_ids::{CheckpointId, FileId, Files, SubtaskId};
 use indexmap::IndexMap;
@@ -183,7 +184,7 @@ impl Registry {
             &mut self.released,
             owners,
         );
-        self.released.sort_unstable(); // as one list, however many records go
+        sort(&mut self.released); // as one list, however many records go
         self.released.as_slice()
     }
 
@@ -210,7 +211,7 @@ impl Registry {
             &mut self.released,
             owners,
         );
-        self.released.sort_unstable();
+        sort(&mut self.released);
         self.released.as_slice()
     }
 

@@ -28,8 +28,8 @@ invariant_of-self c =
     let q : List Pinner = after.pinned.items in
     let owners = c.args.owners.now in
     let pins : pins_in after.acknowledged q ≡ without owners (without (c.args.id ∷ []) (pins_in r.acknowledged p)) = e.pins ∙ ap (without owners) (ap (pins_in r.acknowledged) c.unpin.ensures.kept ∙ pins_in-filter r.acknowledged (c.args.id ∷ []) p) in
-    let fits : index_map_len after.counts ≤ vec_capacity c.sort_unstable.new.self = omega (arith, c.self.invariant.has_room, e.len, e.capacity, c.unpin.ensures.len, c.unpin.ensures.capacity, c.sort_unstable.ensures.capacity, c.clear.ensures.len, c.clear.ensures.capacity) in
-    IsSound-filtered r.acknowledged p after.acknowledged q r.counts after.counts (vec_capacity r.released) (vec_capacity c.sort_unstable.new.self) (λ u. not (is_ended c.args.id owners u)) c.self.invariant e.counted
+    let fits : index_map_len after.counts ≤ vec_capacity c.sort.new.files = omega (arith, c.self.invariant.has_room, e.len, e.capacity, c.unpin.ensures.len, c.unpin.ensures.capacity, c.sort.ensures.capacity, c.clear.ensures.len, c.clear.ensures.capacity) in
+    IsSound-filtered r.acknowledged p after.acknowledged q r.counts after.counts (vec_capacity r.released) (vec_capacity c.sort.new.files) (λ u. not (is_ended c.args.id owners u)) c.self.invariant e.counted
     (stored-after_end r.acknowledged p after.acknowledged q c.args.id owners e.uses pins) fits
 
 pub returns : goal.returns
@@ -42,9 +42,9 @@ returns c =
     let owners = c.args.owners.now in
     let uses : List Use = c.args.self.now in
     let left : List Use = after_end c.args.id owners uses in
-    let room = vec_capacity c.sort_unstable.new.self in
+    let room = vec_capacity c.sort.new.files in
     let pins : pins_in after.acknowledged q ≡ without owners (without (c.args.id ∷ []) (pins_in r.acknowledged p)) = e.pins ∙ ap (without owners) (ap (pins_in r.acknowledged) c.unpin.ensures.kept ∙ pins_in-filter r.acknowledged (c.args.id ∷ []) p) in
-    let fits : index_map_len after.counts ≤ vec_capacity c.sort_unstable.new.self = omega (arith, c.self.invariant.has_room, e.len, e.capacity, c.unpin.ensures.len, c.unpin.ensures.capacity, c.sort_unstable.ensures.capacity, c.clear.ensures.len, c.clear.ensures.capacity) in
+    let fits : index_map_len after.counts ≤ vec_capacity c.sort.new.files = omega (arith, c.self.invariant.has_room, e.len, e.capacity, c.unpin.ensures.len, c.unpin.ensures.capacity, c.sort.ensures.capacity, c.clear.ensures.len, c.clear.ensures.capacity) in
     let kept = stored-after_end r.acknowledged p after.acknowledged q c.args.id owners e.uses pins in
     let sound : IsSound after.acknowledged q after.counts room = IsSound-filtered r.acknowledged p after.acknowledged q r.counts after.counts (vec_capacity r.released) room (λ u. not (is_ended c.args.id owners u)) c.self.invariant e.counted kept fits in
     let view : in_use after.acknowledged q ≡ left = in_use-filtered r.acknowledged p after.acknowledged q (λ u. not (is_ended c.args.id owners u)) kept ∙ ap (after_end c.args.id owners) c.self.view_is in
@@ -54,6 +54,6 @@ returns c =
       (refl, λ _. tt, view),
       record {
         after = tt;
-        files = c.as_slice.ensures.value ∙ released-sorted _ _ _ r.counts after.counts uses left c.sort_unstable.ensures.permutation c.sort_unstable.ensures.sorted c.clear.ensures.items moved had has;
+        files = c.as_slice.ensures.value ∙ released-sorted _ _ _ r.counts after.counts uses left c.sort.ensures.permutation c.sort.ensures.sorted c.clear.ensures.items moved had has;
       },
     )

@@ -1,0 +1,16 @@
+ghost use Rattle.std.specs.Prelude.{◌≡◌, vec_capacity};
+ghost use Rattle.std.specs.List.Sorted.{IsPermutation, IsSorted};
+ghost use Rattle.ckpt_registry.specs.Holdings.{nat_cmp};
+
+use ckpt_ids::FileId;
+
+/// Sorts files. Those that stand in order already, as files of one record mostly do, cost one look.
+pub(crate) fn sort(files: &mut Vec<FileId>)
+    ensures permutation { IsPermutation files.old.items files.new.items }
+    ensures sorted { IsSorted nat_cmp files.new.items }
+    ensures capacity { vec_capacity files.new ≡ vec_capacity files.old }
+{
+    if !files.is_sorted() {
+        files.sort_unstable();
+    }
+}
