@@ -21,9 +21,10 @@ use std::marker::Model;
 ///
 /// Calls cost what they name: `contains` is a look-up, `use_files` and `pin` visit their k files,
 /// `pin_record` the subtasks of the record that it pins, and `release` and `end` what the named
-/// records use, each by look-ups that take O(log n) steps among n. `count` searches, beside its
-/// look-up, the files of each subtask of the records that are pinned, by halves. No call visits
-/// the other files.
+/// records use, each by look-ups that take O(log n) steps among n, and the number of each record
+/// that pins another. `count` searches, beside its look-up, the files of each subtask of a record
+/// that is pinned, by halves; once, however many pin that record one after the other. No call
+/// visits the other files.
 ///
 /// A record that is pinned has a use of each of its files, which are present while it is live. So
 /// nothing is counted for its pins until it goes.
