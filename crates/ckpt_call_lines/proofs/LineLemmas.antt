@@ -8,6 +8,7 @@ use Rattle.std.proofs.lemmas.Bool.Decides.{nat_tests}
 use Rattle.std.specs.List.{All}
 use Rattle.std.proofs.lemmas.List.Elements.{All-nil, All-head, All-tail, All-cons}
 use Rattle.std.proofs.lemmas.List.Splits.{slice_split_at, slice_split_none}
+use Rattle.ckpt_lines.specs.declared.limits.TheConstants.{LONGEST_LINE}
 use Rattle.ckpt_lines.specs.Reading.{reading, line_of}
 use Rattle.ckpt_lines.specs.Words.{is_space, is_word, words_of}
 
@@ -103,6 +104,6 @@ ends_otherwise (b ∷ bs) above =
 no_strip : (text : List ℕ) → Each (λ b. 13 < b) text → strip_carriage_return text ≡ text
 no_strip text above = rw (ends_otherwise text above) refl
 
-pub reading-written : (text : List ℕ) (words : List (List ℕ)) → IsWritten text words → length text ≤ 131072 → reading text ≡ line_of words
+pub reading-written : (text : List ℕ) (words : List (List ℕ)) → IsWritten text words → length text ≤ LONGEST_LINE → reading text ≡ line_of words
 unfolding reading
-reading-written text words written short = rw (le-ltb 131072 (length text) short, no_strip text written.1, written.0) refl
+reading-written text words written short = rw (le-ltb LONGEST_LINE (length text) short, no_strip text written.1, written.0) refl

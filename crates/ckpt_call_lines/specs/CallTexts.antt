@@ -7,6 +7,7 @@ use Rattle.ckpt_ids.specs.declared.call.Call.{Call}
 use Rattle.ckpt_ids.specs.declared.call.Call.TheVariants as call
 use Rattle.ckpt_ids.specs.Ascending.{IsAscending}
 use Rattle.ckpt_ids.specs.Configuration.{Configuration}
+use Rattle.ckpt_lines.specs.declared.limits.TheConstants.{LONGEST_LINE}
 use Rattle.ckpt_lines.specs.declared.line.Line.{Line}
 use Rattle.ckpt_lines.specs.declared.line.Line.TheVariants as line
 use Rattle.ckpt_lines.specs.Reading.{reading}
@@ -115,4 +116,4 @@ FitsCall (call.Count file) = Fits file
 
 -- a text within the limit of lines is read as this line
 abbrev pub IsReadAs : Line → List ℕ → Type 0
-IsReadAs read text = length text ≤ 131072 → reading text ≡ Ok read
+IsReadAs read text = length text ≤ LONGEST_LINE → reading text ≡ Ok read

@@ -82,21 +82,22 @@ fn completed() -> Answer {
     })
 }
 
-/// Whether the call finds memory and is answered so.
-fn answers(book: &mut Book, seat: u32, call: Call, expected: &Answer) -> bool {
+/// What the call is answered; where it finds no memory, what the call that came back is answered, if
+/// nothing was entered and it finds memory now.
+pub(crate) fn entered_by(book: &mut Book, seat: u32, call: Call) -> Option<Answer> {
+    let entries = book.len();
     match book.apply(seat, call) {
-        Ok(answer) => answer == *expected,
-        Err(_) => false,
+        Ok(answer) => Some(answer),
+        Err(back) if book.len() == entries => book.apply(seat, back).ok(),
+        Err(_) => None,
     }
 }
 
-/// Whether the call is answered so; where it finds no memory, whether nothing was entered and the
-/// call that came back is answered so.
+/// Whether the call is so answered, at once or made again.
 pub(crate) fn says(book: &mut Book, seat: u32, call: Call, expected: &Answer) -> bool {
-    let entries = book.len();
-    match book.apply(seat, call) {
-        Ok(answer) => answer == *expected,
-        Err(back) => book.len() == entries && answers(book, seat, back, expected),
+    match entered_by(book, seat, call) {
+        Some(answer) => answer == *expected,
+        None => false,
     }
 }
 

@@ -6,11 +6,11 @@
 #[cfg(test)]
 mod book;
 #[cfg(test)]
-mod deeds;
-#[cfg(test)]
 mod desk;
 #[cfg(test)]
 mod forgetting;
+#[cfg(test)]
+mod lines;
 #[cfg(test)]
 mod lock;
 #[cfg(test)]

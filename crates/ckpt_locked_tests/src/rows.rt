@@ -1,26 +1,27 @@
-//! Rows of calls with their answers, each call made again where it finds no memory: what it left
+//! Rows of lines with what they print, each call made again where it finds no memory: what it left
 //! then is what it found.
-use crate::deeds::{Deed, Says, call_again, reply_again};
-use crate::desk::{open_retaining, says};
-use ckpt_ids::{CheckpointId, Choice, Refusal, Target};
+use crate::desk::{entered_by, open_retaining};
+use crate::lines::{call_again, is_told_again};
 use ckpt_locked::Book;
 use std::alloc::{AllocError, Global};
 use std::process::Abort;
 use std::test::Fail;
 
-/// Whether the book answers as it should.
-fn answers(alloc: Global, book: &mut Book, deed: &Deed, reply: &Says) -> Result<bool, AllocError> {
-    let expected = reply_again(alloc, reply)?;
-    let call = call_again(alloc, deed)?;
-    Ok(says(book, 5, call, &expected))
+/// Whether the line prints the text.
+fn prints(alloc: Global, book: &mut Book, line: &str, text: &str) -> Result<bool, AllocError> {
+    let call = call_again(alloc, line)?;
+    match entered_by(book, 5, call) {
+        Some(answer) => is_told_again(alloc, &answer, text),
+        None => Ok(false),
+    }
 }
 
-/// Makes the calls of a row, one after the other, up to one that isn't answered as it should be. Tells
-/// how many were entered before it.
-fn play_on(alloc: Global, book: &mut Book, row: &[(Deed, Says)]) -> u64 {
+/// Makes the calls of a row, one after the other, up to one that does not print what it should.
+/// Tells how many were entered before it.
+fn play_on(alloc: Global, book: &mut Book, row: &[(&str, &str)]) -> u64 {
     let mut played = 0;
-    for (deed, reply) in row {
-        if answers(alloc, book, deed, reply) != Ok(true) {
+    for (line, text) in row {
+        if prints(alloc, book, line, text) != Ok(true) {
             break;
         }
         played = book.len();
@@ -29,7 +30,7 @@ fn play_on(alloc: Global, book: &mut Book, row: &[(Deed, Says)]) -> u64 {
 }
 
 /// Makes the calls of a row on a new book, with so many checkpoints kept.
-fn play(rt: &impl Abort, alloc: Global, retained: u64, row: &[(Deed, Says)]) -> Result<(), Fail> {
+fn play(rt: &impl Abort, alloc: Global, retained: u64, row: &[(&str, &str)]) -> Result<(), Fail> {
     let mut book = open_retaining(alloc, retained)?;
     let played = play_on(alloc, &mut book, row);
     drop(book);
@@ -37,34 +38,20 @@ fn play(rt: &impl Abort, alloc: Global, retained: u64, row: &[(Deed, Says)]) -> 
     Ok(())
 }
 
-const NONE: [u64; 2] = [0, 0];
-
-fn to_savepoint(now: u64) -> Deed {
-    Deed::Restore(now, Target::Savepoint(CheckpointId(2)))
-}
-
-/// A restore that leaves the job at savepoint 2.
-fn restored(released: u64) -> Says {
-    Says::Restored(Choice::Savepoint(CheckpointId(2)), released)
-}
-
 #[test]
 fn a_cascade_through_compaction(rt: HostRuntime) -> Result<(), Fail> {
     let row = [
-        (Deed::Tick(1000), Says::Triggered(1)),
-        (Deed::Ack(1000, 1, [1, 2], NONE), Says::Completed(0, 0)),
-        (Deed::Tick(2000), Says::Triggered(2)),
-        (Deed::Ack(2000, 2, [3, 4], [1, 2]), Says::Completed(0, 0)),
-        (Deed::Tick(3000), Says::Triggered(3)),
-        (Deed::Ack(3000, 3, [5, 123], [4, 0]), Says::Completed(1, 0)),
-        (Deed::Tick(4000), Says::Triggered(4)),
-        (
-            Deed::Ack(4000, 4, [456, 0], [123, 0]),
-            Says::Completed(1, 3),
-        ),
-        (Deed::Take(8), Says::Taken([1, 2, 3, 0])),
-        (Deed::Count(4), Says::Counted(4, 1)),
-        (Deed::Count(123), Says::Counted(123, 2)),
+        ("tick 1000", "tick expired 0 triggered 1\n"),
+        ("ack 1000 1 0.0 +1 +2", "ack completed 0 0\n"),
+        ("tick 2000", "tick expired 0 triggered 2\n"),
+        ("ack 2000 2 0.0 +3 +4 =1 =2", "ack completed 0 0\n"),
+        ("tick 3000", "tick expired 0 triggered 3\n"),
+        ("ack 3000 3 0.0 +5 +123 =4", "ack completed 1 0\n"),
+        ("tick 4000", "tick expired 0 triggered 4\n"),
+        ("ack 4000 4 0.0 +456 =123", "ack completed 1 3\n"),
+        ("take 8", "take 1 2 3\n"),
+        ("count 4", "count 4 1\n"),
+        ("count 123", "count 123 2\n"),
     ];
     play(&rt, rt.alloc(), 2, &row)
 }
@@ -72,21 +59,21 @@ fn a_cascade_through_compaction(rt: HostRuntime) -> Result<(), Fail> {
 #[test]
 fn a_savepoint_is_never_subsumed(rt: HostRuntime) -> Result<(), Fail> {
     let row = [
-        (Deed::Tick(1000), Says::Triggered(1)),
-        (Deed::Ack(1000, 1, [1, 0], NONE), Says::Completed(0, 0)),
-        (Deed::Savepoint(1500), Says::SavepointTriggered(2)),
-        (Deed::Tick(2000), Says::Triggered(3)),
-        (Deed::Ack(2000, 3, [3, 0], NONE), Says::Completed(1, 0)),
-        (Deed::Ack(2100, 2, [2, 0], NONE), Says::Completed(0, 1)),
-        (Deed::Tick(3000), Says::Triggered(4)),
-        (Deed::Ack(3000, 4, [4, 0], [2, 0]), Says::Completed(1, 1)),
-        (Deed::Count(2), Says::Counted(2, 2)),
-        (Deed::Dispose(2), Says::Disposed(0)),
-        (Deed::Count(2), Says::Counted(2, 1)),
-        (Deed::Tick(4000), Says::Triggered(5)),
-        (Deed::Ack(4000, 5, [5, 0], NONE), Says::Completed(1, 2)),
-        (Deed::Take(9), Says::Taken([1, 3, 2, 4])),
-        (Deed::Dispose(2), Says::Refused(Refusal::NoSuchSavepoint)),
+        ("tick 1000", "tick expired 0 triggered 1\n"),
+        ("ack 1000 1 0.0 +1", "ack completed 0 0\n"),
+        ("savepoint 1500", "savepoint triggered 2\n"),
+        ("tick 2000", "tick expired 0 triggered 3\n"),
+        ("ack 2000 3 0.0 +3", "ack completed 1 0\n"),
+        ("ack 2100 2 0.0 +2", "ack completed 0 1\n"),
+        ("tick 3000", "tick expired 0 triggered 4\n"),
+        ("ack 3000 4 0.0 +4 =2", "ack completed 1 1\n"),
+        ("count 2", "count 2 2\n"),
+        ("dispose 2", "disposed 0\n"),
+        ("count 2", "count 2 1\n"),
+        ("tick 4000", "tick expired 0 triggered 5\n"),
+        ("ack 4000 5 0.0 +5", "ack completed 1 2\n"),
+        ("take 9", "take 1 3 2 4\n"),
+        ("dispose 2", "refused NoSuchSavepoint\n"),
     ];
     play(&rt, rt.alloc(), 1, &row)
 }
@@ -94,20 +81,20 @@ fn a_savepoint_is_never_subsumed(rt: HostRuntime) -> Result<(), Fail> {
 #[test]
 fn a_rollback_abandons_later_checkpoints(rt: HostRuntime) -> Result<(), Fail> {
     let row = [
-        (Deed::Tick(1000), Says::Triggered(1)),
-        (Deed::Ack(1000, 1, [1, 0], NONE), Says::Completed(0, 0)),
-        (Deed::Savepoint(1500), Says::SavepointTriggered(2)),
-        (Deed::Ack(1500, 2, [2, 0], NONE), Says::Completed(0, 0)),
-        (Deed::Tick(2000), Says::Triggered(3)),
-        (Deed::Ack(2000, 3, [3, 0], NONE), Says::Completed(1, 1)),
-        (to_savepoint(2500), restored(1)),
-        (Deed::Restore(2600, Target::Latest), restored(0)),
-        (Deed::Dispose(2), Says::Refused(Refusal::InUse)),
-        (Deed::Tick(3600), Says::Triggered(4)),
-        (Deed::Ack(3600, 4, [4, 0], [2, 0]), Says::Completed(0, 0)),
-        (Deed::Dispose(2), Says::Disposed(0)),
-        (Deed::Count(2), Says::Counted(2, 1)),
-        (Deed::Take(9), Says::Taken([1, 3, 0, 0])),
+        ("tick 1000", "tick expired 0 triggered 1\n"),
+        ("ack 1000 1 0.0 +1", "ack completed 0 0\n"),
+        ("savepoint 1500", "savepoint triggered 2\n"),
+        ("ack 1500 2 0.0 +2", "ack completed 0 0\n"),
+        ("tick 2000", "tick expired 0 triggered 3\n"),
+        ("ack 2000 3 0.0 +3", "ack completed 1 1\n"),
+        ("restore 2500 2", "restored savepoint 2 1\n"),
+        ("restore 2600 latest", "restored savepoint 2 0\n"),
+        ("dispose 2", "refused InUse\n"),
+        ("tick 3600", "tick expired 0 triggered 4\n"),
+        ("ack 3600 4 0.0 +4 =2", "ack completed 0 0\n"),
+        ("dispose 2", "disposed 0\n"),
+        ("count 2", "count 2 1\n"),
+        ("take 9", "take 1 3\n"),
     ];
     play(&rt, rt.alloc(), 1, &row)
 }

@@ -14,6 +14,7 @@ use Rattle.ckpt_core.specs.Refusals.{pending_of}
 use Rattle.ckpt_core.specs.Histories.{replay, answers}
 use Rattle.ckpt_core.specs.Interleavings.{NewFile, first_completed}
 pub use Rattle.ckpt_core.specs.Interleavings.{ack_with}
+use Rattle.ckpt_locked.specs.declared.limits.TheConstants.{MOST_SEATS}
 use Rattle.ckpt_locked.specs.Books.{state_of_book}
 use Rattle.ckpt_texts.specs.MetadataTexts.{missing, missing_subtasks}
 use Rattle.ckpt_texts.specs.Texts.{spaced}
@@ -82,7 +83,7 @@ all_of m line (Some metadata) =
 -- the calls are made one after the other, in subtask order
 unfoldable pub all_obeyed : State → AllLine → Obeyed
 all_obeyed m line =
-    if nat_lt line.threads 1 || nat_lt 64 line.threads then (m, refusal_bytes BadThreads)
+    if nat_lt line.threads 1 || nat_lt MOST_SEATS line.threads then (m, refusal_bytes BadThreads)
     else all_of m line (pending_metadata m line.id)
 
 -- the team's book and its counts are those of the calls made one after the other

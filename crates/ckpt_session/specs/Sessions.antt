@@ -1,5 +1,6 @@
 -- What each line of a script does, and what it prints.
-use Rattle.std.specs.Prelude.{ℕ, Bool, ◌&&◌, ◌^◌, nat_le, not, true, if◌then◌else◌, List, [], ◌∷◌, Option, Some, None, is_some, Result, Ok, Err}
+use Rattle.std.specs.Prelude.{ℕ, Bool, ◌&&◌, nat_le, not, true, if◌then◌else◌, List, [], ◌∷◌, Option, Some, None, is_some, Result, Ok, Err}
+use Rattle.ckpt_ids.specs.declared.limits.TheConstants.{MOMENTS_END}
 use Rattle.ckpt_ids.specs.Configuration.{Configuration, is_within_limits}
 use Rattle.ckpt_ids.specs.Shapes.{is_shape}
 use Rattle.ckpt_ids.specs.declared.call.Target.{Target}
@@ -52,7 +53,7 @@ shaped scene shape = if is_shape shape then (record scene { shape = Some shape }
 
 abbrev pub opened_with : Scene → Opening → Said
 opened_with scene opening =
-    if nat_le (2 ^ 62) opening.start then refused scene MomentTooLarge else (record scene { core = Some (opened opening) }, [])
+    if nat_le MOMENTS_END opening.start then refused scene MomentTooLarge else (record scene { core = Some (opened opening) }, [])
 
 -- the coordinator opens with the configuration and the shape; its first record has number 1
 unfoldable pub started : Scene → ℕ → Option Configuration → Option (List ℕ) → Said

@@ -10,12 +10,12 @@ ghost use Rattle.ckpt_session.specs.AllLines.{ack_with, missing_now, pending_met
 use crate::calls::pending_metadata;
 use crate::said::{ScriptRefusal, refusal_text};
 use ckpt_ids::{Acks, Call, CheckpointId, FileId, Files, Metadata, SubtaskId};
-use ckpt_locked::Book;
+use ckpt_locked::{Book, MOST_SEATS};
 use ckpt_workers::{Made, Team};
 use std::alloc::{AllocError, Global};
 
-/// How many threads an `all` line may have.
-const MOST_THREADS: u64 = 64;
+/// How many threads an `all` line may have: each has a seat.
+const MOST_THREADS: u64 = MOST_SEATS as u64;
 
 /// An `all` line: each missing subtask of the pending record `id` acknowledges at `moment`, in
 /// milliseconds, with one new file each, numbered from `first` on. The calls are shared out to
@@ -59,7 +59,7 @@ impl AllLine {
         metadata: &Metadata,
         team: &mut T,
     ) -> Result<(Book, String), AllocError>
-        requires threads { (1 ≤ self.now.threads) × (self.now.threads ≤ 64) }
+        requires threads { (1 ≤ self.now.threads) × (self.now.threads ≤ MOST_SEATS) }
         requires pending { pending_metadata (state_of_book book) self.now.id ≡ Some metadata.now }
         ensures { IfOk result (λ said. (state_of_book said.0, string_bytes said.1) ≡ all_of (state_of_book book) self.now (Some metadata.now)) }
     {

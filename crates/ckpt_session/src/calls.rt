@@ -8,11 +8,11 @@ ghost use Rattle.ckpt_session.specs.AllLines.{pending_metadata, shown_pending};
 
 use ckpt_core::{OpenFault, Secret};
 use ckpt_ids::{Answer, Call, CheckpointId, Config, Metadata, Reply, Shape};
-use ckpt_locked::Book;
+use ckpt_locked::{Book, MOST_SEATS};
 use std::alloc::{AllocError, Global};
 
-/// The seat of the calls that lines make.
-const LINE_SEAT: u32 = 64;
+/// The seat of the calls that lines make: one that no lock gives.
+const LINE_SEAT: u32 = MOST_SEATS;
 
 /// The number of the first record of a job.
 const FIRST: u64 = 1;
@@ -35,7 +35,7 @@ pub(crate) fn open(
 ///
 /// Fails only for want of memory.
 pub(crate) fn call(book: &mut Book, call: Call) -> Result<Answer, AllocError>
-    ensures entered { OnOk result (book.new ≡ entered book.old 64 call) }
+    ensures entered { OnOk result (book.new ≡ entered book.old LINE_SEAT call) }
     ensures state { OnOk result (state_of_book book.new ≡ (step (state_of_book book.old) call).0) }
     ensures answer { IfOk result (λ answer. answer ≡ (step (state_of_book book.old) call).1) }
 {

@@ -3,12 +3,9 @@ ghost use Rattle.ckpt_ids.specs.declared.call.Call.TheVariants.{Ack};
 ghost use Rattle.ckpt_workers.specs.Orders.{IsOrder};
 
 use ckpt_core::test_files;
-use ckpt_ids::{Call, CheckpointId, Files, SubtaskId};
+use ckpt_ids::{Call, CheckpointId, Files, MOMENTS_END, SubtaskId};
 use std::marker::Model;
 use thiserror::Error;
-
-/// All moments are below, in milliseconds.
-const MOMENTS_END: u64 = 1 << 62;
 
 /// An acknowledgement that would be refused whatever the coordinator's state is.
 #[derive(Clone, Copy, Debug, PartialEq, Eq, Error)]
@@ -44,8 +41,8 @@ impl Model for Order {
 impl Order {
     /// `now` is in milliseconds. Takes no memory.
     ///
-    /// Answers [`BadOrder`] exactly where the moment is above 2^62 - 1, where there are more than
-    /// 4096 files, or where a file is named twice; what was given is then given up.
+    /// Answers [`BadOrder`] exactly where the moment is not below [`MOMENTS_END`], where there are
+    /// more than [`MOST_FILES`](ckpt_ids::MOST_FILES) files, or where a file is named twice; what was given is then given up.
     pub fn new(
         now: u64,
         id: CheckpointId,

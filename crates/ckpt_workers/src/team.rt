@@ -5,7 +5,7 @@ ghost use Rattle.ckpt_workers.specs.Teams.{IsOneMore, IsTeamwork, is_accepted};
 ghost use Rattle.ckpt_core.specs.Interleavings.{completed_by};
 
 use ckpt_ids::{Answer, Call, Reply};
-use ckpt_locked::Book;
+use ckpt_locked::{Book, MOST_SEATS};
 use std::alloc::AllocError;
 
 /// What a team made of a list of calls.
@@ -27,9 +27,9 @@ pub trait Team {
     /// Enters each call of the list in the book: the call at place i with seat i modulo the number
     /// of threads, each seat's calls in the order of the list.
     ///
-    /// There are 1 to 64 threads. Fails only for want of memory, and then the book is given up.
+    /// There are 1 to [`MOST_SEATS`] threads. Fails only for want of memory, and then the book is given up.
     fn make(&mut self, book: Book, calls: Vec<Call>, threads: u32) -> Result<Made, AllocError>
-        requires threads { (0 < threads) × (threads ≤ 64) }
+        requires threads { (0 < threads) × (threads ≤ MOST_SEATS) }
         ensures made { IfOk result (λ made. IsTeamwork book calls.items threads made) };
 }
 

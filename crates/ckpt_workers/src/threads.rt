@@ -6,7 +6,7 @@ ghost use Rattle.ckpt_workers.specs.Deals.{IsDeal, IsDealOf, IsTallied};
 use crate::shares::{Report, Share, spread};
 use crate::team::{Made, Team};
 use ckpt_ids::{Answer, Call};
-use ckpt_locked::{Book, Locked, Pass};
+use ckpt_locked::{Book, Locked, MOST_SEATS, Pass};
 use std::alloc::{AllocError, Global};
 use std::marker::PhantomData;
 use std::sync::Wait;
@@ -55,9 +55,9 @@ impl<R: thread::Threads + Wait + Sync> Team for Threads<R> {
     }
 }
 
-/// A lock over the book with 1 to 64 seats. Fails only for want of memory.
+/// A lock over the book with 1 to [`MOST_SEATS`] seats. Fails only for want of memory.
 fn lock_over<R: Wait>(rt: &R, book: Book, seats: u32) -> Result<(Locked, Vec<Pass>), AllocError>
-    requires seats { (0 < seats) × (seats ≤ 64) }
+    requires seats { (0 < seats) × (seats ≤ MOST_SEATS) }
     ensures lock { IfOk result (λ made. made.0 ≡ lock_of book seats made.0.table_id) }
     ensures passes { IfOk result (λ made. made.1.items ≡ newcomers made.0 seats) }
 {
