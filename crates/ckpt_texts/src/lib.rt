@@ -7,6 +7,7 @@
 
 pub mod answers;
 pub mod metadata;
+mod numbers;
 mod refusals;
 mod replies;
 
