@@ -87,8 +87,9 @@ impl Session {
         ensures said { IfOk result (λ text. (self.new, string_bytes text) ≡ obeyed self.old line) }
         ensures told { OnErr result ((self.new.config ≡ self.old.config) × (self.new.shape ≡ self.old.shape)) }
     {
-        match line {
-            Line::Skip => Ok(self.silence()),
+        // The call is made in one place: each place where one is made has a frame of its own to clear.
+        let made = match line {
+            Line::Skip => return Ok(self.silence()),
             Line::Config {
                 interval,
                 pause,
@@ -107,38 +108,38 @@ impl Session {
                     retained,
                     keep_on_cancel,
                 );
-                self.configure(config.ok())
+                return self.configure(config.ok());
             }
-            Line::Job { parallelisms } => self.reshape(&parallelisms),
-            Line::Start { now } => self.start(now),
-            Line::Tick { now } => self.call(Call::Tick { now }),
-            Line::Savepoint { now } => self.call(Call::Savepoint { now }),
+            Line::Job { parallelisms } => return self.reshape(&parallelisms),
+            Line::Start { now } => return self.start(now),
+            Line::Tick { now } => Call::Tick { now },
+            Line::Savepoint { now } => Call::Savepoint { now },
             Line::Ack {
                 now,
                 id,
                 subtask,
                 fresh,
                 reused,
-            } => self.call(Call::Ack {
+            } => Call::Ack {
                 now,
                 id,
                 subtask,
                 fresh,
                 reused,
-            }),
-            Line::Decline { now, id, subtask } => self.call(Call::Decline { now, id, subtask }),
-            Line::Dispose { id } => self.call(Call::Dispose { id }),
+            },
+            Line::Decline { now, id, subtask } => Call::Decline { now, id, subtask },
+            Line::Dispose { id } => Call::Dispose { id },
             Line::Restore {
                 now,
                 target,
                 parallelisms,
-            } => self.restore(now, target, &parallelisms),
-            Line::Cancel { now } => self.call(Call::Cancel { now }),
-            Line::Take { most } => self.call(Call::Take { most }),
-            Line::Deleted { file } => self.call(Call::Deleted { file }),
-            Line::Undeleted { file } => self.call(Call::Undeleted { file }),
-            Line::Show { id } => self.call(Call::Show { id }),
-            Line::Count { file } => self.call(Call::Count { file }),
+            } => return self.restore(now, target, &parallelisms),
+            Line::Cancel { now } => Call::Cancel { now },
+            Line::Take { most } => Call::Take { most },
+            Line::Deleted { file } => Call::Deleted { file },
+            Line::Undeleted { file } => Call::Undeleted { file },
+            Line::Show { id } => Call::Show { id },
+            Line::Count { file } => Call::Count { file },
             Line::All {
                 now,
                 id,
@@ -151,9 +152,10 @@ impl Session {
                     threads,
                     first,
                 };
-                self.call_all(&all, team)
+                return self.call_all(&all, team);
             }
-        }
+        };
+        self.call(made)
     }
 
     /// The text of a line that prints nothing. Takes no memory.
@@ -165,6 +167,7 @@ impl Session {
 
     /// Takes a configuration, unless it was outside its limits.
     #[tactic(auto, unfolding(crate::specs::Sessions::configured))]
+    #[inline(never)]
     fn configure(&mut self, config: Option<Config>) -> Result<String, AllocError>
         ensures said { IfOk result (λ text. (self.new, string_bytes text) ≡ before_start self.old (configured self.old config)) }
         ensures told { OnErr result ((self.new.config ≡ self.old.config) × (self.new.shape ≡ self.old.shape)) }
@@ -181,6 +184,7 @@ impl Session {
 
     /// Takes a shape.
     #[tactic(auto, unfolding(crate::specs::Sessions::shaped))]
+    #[inline(never)]
     fn reshape(&mut self, parallelisms: &Numbers) -> Result<String, AllocError>
         ensures said { IfOk result (λ text. (self.new, string_bytes text) ≡ before_start self.old (shaped self.old parallelisms.now)) }
         ensures told { OnErr result ((self.new.config ≡ self.old.config) × (self.new.shape ≡ self.old.shape)) }
@@ -200,6 +204,7 @@ impl Session {
 
     /// Opens the book.
     #[tactic(auto, unfolding(crate::specs::Sessions::started))]
+    #[inline(never)]
     fn start(&mut self, now: u64) -> Result<String, AllocError>
         ensures said { IfOk result (λ text. (self.new, string_bytes text) ≡ before_start self.old (started self.old now self.old.config self.old.shape)) }
         ensures told { OnErr result ((self.new.config ≡ self.old.config) × (self.new.shape ≡ self.old.shape)) }
@@ -233,6 +238,7 @@ impl Session {
 
     /// Restores the job, in a new shape where there are parallelisms.
     #[tactic(auto, unfolding(crate::specs::Sessions::restored, crate::specs::Sessions::called))]
+    #[inline(never)]
     fn restore(
         &mut self,
         now: u64,
@@ -254,6 +260,7 @@ impl Session {
 
     /// Makes the calls of an `all` line.
     #[tactic(auto, unfolding(crate::specs::Sessions::all_called))]
+    #[inline(never)]
     fn call_all<T: Team>(&mut self, line: &AllLine, team: &mut T) -> Result<String, AllocError>
         ensures said { IfOk result (λ text. (self.new, string_bytes text) ≡ all_called self.old self.old.core line.now) }
         ensures told { OnErr result ((self.new.config ≡ self.old.config) × (self.new.shape ≡ self.old.shape)) }

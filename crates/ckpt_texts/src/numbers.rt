@@ -4,6 +4,7 @@ use itoa::Buffer;
 use std::alloc::AllocError;
 
 /// Appends the words and the digits of the number.
+#[inline(never)]
 pub(crate) fn write_number(text: &mut String, words: &str, number: u64) -> Result<(), AllocError>
     ensures { OnOk result (string_bytes text.new ≡ string_bytes text.old ++ (words.now ++ decimal number)) }
 {
