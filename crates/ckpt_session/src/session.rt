@@ -1,4 +1,4 @@
-ghost use Rattle.std.specs.Prelude.{◌≡◌, ◌↔◌, [], false, true, None, Err, IfOk, OnErr, is_err, string_bytes};
+ghost use Rattle.std.specs.Prelude.{◌≡◌, ◌↔◌, [], false, true, None, Err, IfOk, OnOk, OnErr, is_err, string_bytes};
 ghost use Rattle.ckpt_session.specs.Sessions.{opening_scene, before_start, configured, shaped, started, called, restored, new_shape, is_new_shape, all_called, obeyed, said};
 
 use crate::all::AllLine;
@@ -8,7 +8,7 @@ use ckpt_core::Secret;
 use ckpt_ids::{Call, Config, Shape, ShapeFault, Target};
 use ckpt_lines::{Line, LineFault, Numbers};
 use ckpt_locked::Book;
-use ckpt_texts::answer_text;
+use ckpt_texts::write_answer;
 use ckpt_workers::Team;
 use std::alloc::{AllocError, Global};
 use std::marker::Model;
@@ -59,7 +59,6 @@ impl Session {
     /// Fails only for want of memory, also where the line could not be read for it, and then the
     /// coordinator is given up: the session is as it was before its `start`, with the configuration
     /// and the shape.
-    #[tactic(auto, unfolding(crate::specs::Sessions::said))]
     pub fn say<T: Team>(
         &mut self,
         number: u64,
@@ -70,26 +69,58 @@ impl Session {
         ensures given_up { OnErr result (self.new ≡ record self.old { core = None }) }
         ensures memory { line ≡ Err LineFault.Memory → is_err result ≡ true }
     {
+        let mut text = String::new(self.alloc);
+        self.say_into(&mut text, number, line, team)?;
+        Ok(text)
+    }
+
+    /// As [`Session::say`], and puts what the line prints into the text, in place of what it held: a
+    /// text that is used again takes memory seldom.
+    #[tactic(auto, unfolding(crate::specs::Sessions::said))]
+    pub fn say_into<T: Team>(
+        &mut self,
+        text: &mut String,
+        number: u64,
+        line: Result<Line, LineFault>,
+        team: &mut T,
+    ) -> Result<(), AllocError>
+        ensures said { OnOk result ((self.new, string_bytes text.new) ≡ said number self.old line) }
+        ensures given_up { OnErr result (self.new ≡ record self.old { core = None }) }
+        ensures memory { line ≡ Err LineFault.Memory → is_err result ≡ true }
+    {
         let answered = match line {
-            Ok(line) => self.obey(line, team),
+            Ok(line) => self.obey(text, line, team),
             Err(LineFault::Memory) => Err(AllocError),
-            Err(why) => fault_text(self.alloc, number, why),
+            Err(why) => put(text, fault_text(self.alloc, number, why)),
         };
         if answered.is_err() {
-            self.book = None;
+            self.give_up();
         }
         answered
     }
 
+    /// Gives the coordinator up. It stands apart, since a local of its size is long to clear.
+    #[inline(never)]
+    fn give_up(&mut self)
+        ensures { self.new ≡ record self.old { core = None } }
+    {
+        self.book = None;
+    }
+
     /// Obeys a line that could be read.
     #[tactic(auto, unfolding(crate::specs::Sessions::obeyed))]
-    fn obey<T: Team>(&mut self, line: Line, team: &mut T) -> Result<String, AllocError>
-        ensures said { IfOk result (λ text. (self.new, string_bytes text) ≡ obeyed self.old line) }
+    fn obey<T: Team>(
+        &mut self,
+        text: &mut String,
+        line: Line,
+        team: &mut T,
+    ) -> Result<(), AllocError>
+        ensures said { OnOk result ((self.new, string_bytes text.new) ≡ obeyed self.old line) }
         ensures told { OnErr result ((self.new.config ≡ self.old.config) × (self.new.shape ≡ self.old.shape)) }
     {
         // The call is made in one place: each place where one is made has a frame of its own to clear.
         let made = match line {
-            Line::Skip => return Ok(self.silence()),
+            Line::Skip => return put(text, Ok(self.silence())),
             Line::Config {
                 interval,
                 pause,
@@ -108,10 +139,10 @@ impl Session {
                     retained,
                     keep_on_cancel,
                 );
-                return self.configure(config.ok());
+                return put(text, self.configure(config.ok()));
             }
-            Line::Job { parallelisms } => return self.reshape(&parallelisms),
-            Line::Start { now } => return self.start(now),
+            Line::Job { parallelisms } => return put(text, self.reshape(&parallelisms)),
+            Line::Start { now } => return put(text, self.start(now)),
             Line::Tick { now } => Call::Tick { now },
             Line::Savepoint { now } => Call::Savepoint { now },
             Line::Ack {
@@ -133,7 +164,7 @@ impl Session {
                 now,
                 target,
                 parallelisms,
-            } => return self.restore(now, target, &parallelisms),
+            } => return self.restore(text, now, target, &parallelisms),
             Line::Cancel { now } => Call::Cancel { now },
             Line::Take { most } => Call::Take { most },
             Line::Deleted { file } => Call::Deleted { file },
@@ -152,10 +183,10 @@ impl Session {
                     threads,
                     first,
                 };
-                return self.call_all(&all, team);
+                return put(text, self.call_all(&all, team));
             }
         };
-        self.call(made)
+        self.call(text, made)
     }
 
     /// The text of a line that prints nothing. Takes no memory.
@@ -226,13 +257,17 @@ impl Session {
 
     /// Makes a call with the seat of the lines.
     #[tactic(auto, unfolding(crate::specs::Sessions::called))]
-    fn call(&mut self, made: Call) -> Result<String, AllocError>
-        ensures said { IfOk result (λ text. (self.new, string_bytes text) ≡ called self.old self.old.core made) }
+    fn call(&mut self, text: &mut String, made: Call) -> Result<(), AllocError>
+        ensures said { OnOk result ((self.new, string_bytes text.new) ≡ called self.old self.old.core made) }
         ensures told { OnErr result ((self.new.config ≡ self.old.config) × (self.new.shape ≡ self.old.shape)) }
     {
         match &mut self.book {
-            None => refusal_text(self.alloc, ScriptRefusal::NotStarted),
-            Some(book) => answer_text(self.alloc, &call(book, made)?),
+            None => put(text, refusal_text(self.alloc, ScriptRefusal::NotStarted)),
+            Some(book) => {
+                let answer = call(book, made)?;
+                text.clear();
+                write_answer(self.alloc, text, &answer)
+            }
         }
     }
 
@@ -241,19 +276,23 @@ impl Session {
     #[inline(never)]
     fn restore(
         &mut self,
+        text: &mut String,
         now: u64,
         target: Target,
         parallelisms: &Numbers,
-    ) -> Result<String, AllocError>
-        ensures said { IfOk result (λ text. (self.new, string_bytes text) ≡ restored self.old now target parallelisms.now) }
+    ) -> Result<(), AllocError>
+        ensures said { OnOk result ((self.new, string_bytes text.new) ≡ restored self.old now target parallelisms.now) }
         ensures told { OnErr result ((self.new.config ≡ self.old.config) × (self.new.shape ≡ self.old.shape)) }
     {
         if self.book.is_none() {
-            return refusal_text(self.alloc, ScriptRefusal::NotStarted);
+            return put(text, refusal_text(self.alloc, ScriptRefusal::NotStarted));
         }
         match new_shape(self.alloc, parallelisms) {
-            Ok(shape) => self.call(Call::Restore { now, target, shape }),
-            Err(ShapeFault::BadShape) => refusal_text(self.alloc, ScriptRefusal::BadShape),
+            Ok(shape) => self.call(text, Call::Restore { now, target, shape }),
+            Err(ShapeFault::BadShape) => put(
+                text,
+                refusal_text(self.alloc, ScriptRefusal::BadShape),
+            ),
             Err(ShapeFault::Memory) => Err(AllocError),
         }
     }
@@ -272,6 +311,15 @@ impl Session {
         self.book = Some(book);
         Ok(text)
     }
+}
+
+/// Puts what was made into the text, in place of what it held.
+fn put(text: &mut String, made: Result<String, AllocError>) -> Result<(), AllocError>
+    ensures made { OnOk result (IfOk made (λ now. string_bytes text.new ≡ string_bytes now)) }
+    ensures kept { is_err result ≡ is_err made }
+{
+    *text = made?;
+    Ok(())
 }
 
 /// The shape of these parallelisms, or `None` where there is none.

@@ -42,8 +42,9 @@ fn write_tick(text: &mut String, expired: u32, end: TickEnd) -> Result<(), Alloc
         ++ codes "tick expired" ++ spaced expired ++ codes " " ++ tick_end_bytes end) }
 {
     match end {
-        // Nearly all ticks of a long script are this one.
+        // Nearly all ticks of a long script are these.
         TickEnd::HeldInterval if expired == 0 => text.push_str("tick expired 0 held interval"),
+        TickEnd::HeldAtOnce if expired == 0 => text.push_str("tick expired 0 held at-once"),
         _ => {
             write_number(text, "tick expired ", expired as u64)?;
             write_end(text, end)

@@ -16,3 +16,7 @@ returns-in-HeldInterval c = rw (c.in-HeldInterval.is, c.if-expired-eq0.true, non
 
 pub returns-in_ok-write_number-in_default : goal.returns-in_ok-write_number-in_default
 returns-in_ok-write_number-in_default c = rw (joined _ c.args.expired (tick_end_bytes c.args.end), ← c.in_ok-write_number-in_default.ensures) c.write_end.ensures
+
+pub returns-in-HeldAtOnce : goal.returns-in-HeldAtOnce
+unfolding tick_end_bytes
+returns-in-HeldAtOnce c = rw (c.in-HeldAtOnce.is, c.if-expired-eq0-2.true, none) (search (append_assoc, rules))
