@@ -31,6 +31,7 @@ struct Runner {
     ahead: Ahead,
     line: Vec<u8>,
     session: Session,
+    text: String,
     printed: Printed,
     summary: Summary,
 }
@@ -58,8 +59,8 @@ impl Runner {
             return Err(RunFault::Memory);
         }
         let is_faulty = line.is_err();
-        let text = self.session.say(number, line, team)?;
-        self.printed.print(sink, text.as_bytes())?;
+        self.session.say_into(&mut self.text, number, line, team)?;
+        self.printed.print(sink, self.text.as_bytes())?;
         self.summary.lines = number;
         self.summary.faults += u64::from(is_faulty);
         Ok(())
@@ -116,6 +117,7 @@ impl Runner {
             ahead: Ahead::new(alloc)?,
             line: Vec::new(alloc),
             session: Session::keyed(alloc, secret),
+            text: String::new(alloc),
             printed: Printed::new(alloc)?,
             summary: Summary {
                 lines: 0,

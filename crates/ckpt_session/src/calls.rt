@@ -34,6 +34,7 @@ pub(crate) fn open(
 /// Makes a call with the seat of the lines.
 ///
 /// Fails only for want of memory.
+#[inline(always)]
 pub(crate) fn call(book: &mut Book, call: Call) -> Result<Answer, AllocError>
     ensures entered { OnOk result (book.new ≡ entered book.old LINE_SEAT call) }
     ensures state { OnOk result (state_of_book book.new ≡ (step (state_of_book book.old) call).0) }

@@ -1,4 +1,4 @@
-ghost use Rattle.std.specs.Prelude.{◌≡◌, ◌↔◌, [], false, true, None, Err, IfOk, OnErr, is_err, string_bytes};
+ghost use Rattle.std.specs.Prelude.{◌≡◌, ◌↔◌, [], false, true, None, Err, IfOk, OnOk, OnErr, is_err, string_bytes};
 ghost use Rattle.ckpt_session.specs.Sessions.{opening_scene, before_start, configured, shaped, started, called, restored, new_shape, is_new_shape, all_called, obeyed, said};
 
 use crate::all::AllLine;
@@ -8,7 +8,7 @@ use ckpt_core::Secret;
 use ckpt_ids::{Call, Config, Shape, ShapeFault, Target};
 use ckpt_lines::{Line, LineFault, Numbers};
 use ckpt_locked::Book;
-use ckpt_texts::answer_text;
+use ckpt_texts::write_answer;
 use ckpt_workers::Team;
 use std::alloc::{AllocError, Global};
 use std::marker::Model;
@@ -59,7 +59,6 @@ impl Session {
     /// Fails only for want of memory, also where the line could not be read for it, and then the
     /// coordinator is given up: the session is as it was before its `start`, with the configuration
     /// and the shape.
-    #[tactic(auto, unfolding(crate::specs::Sessions::said))]
     pub fn say<T: Team>(
         &mut self,
         number: u64,
@@ -70,25 +69,58 @@ impl Session {
         ensures given_up { OnErr result (self.new ≡ record self.old { core = None }) }
         ensures memory { line ≡ Err LineFault.Memory → is_err result ≡ true }
     {
+        let mut text = String::new(self.alloc);
+        self.say_into(&mut text, number, line, team)?;
+        Ok(text)
+    }
+
+    /// As [`Session::say`], and puts what the line prints into the text, in place of what it held: a
+    /// text that is used again takes memory seldom.
+    #[tactic(auto, unfolding(crate::specs::Sessions::said))]
+    pub fn say_into<T: Team>(
+        &mut self,
+        text: &mut String,
+        number: u64,
+        line: Result<Line, LineFault>,
+        team: &mut T,
+    ) -> Result<(), AllocError>
+        ensures said { OnOk result ((self.new, string_bytes text.new) ≡ said number self.old line) }
+        ensures given_up { OnErr result (self.new ≡ record self.old { core = None }) }
+        ensures memory { line ≡ Err LineFault.Memory → is_err result ≡ true }
+    {
         let answered = match line {
-            Ok(line) => self.obey(line, team),
+            Ok(line) => self.obey(text, line, team),
             Err(LineFault::Memory) => Err(AllocError),
-            Err(why) => fault_text(self.alloc, number, why),
+            Err(why) => put(text, fault_text(self.alloc, number, why)),
         };
         if answered.is_err() {
-            self.book = None;
+            self.give_up();
         }
         answered
     }
 
+    /// Gives the coordinator up. It stands apart, since a local of its size is long to clear.
+    #[inline(never)]
+    fn give_up(&mut self)
+        ensures { self.new ≡ record self.old { core = None } }
+    {
+        self.book = None;
+    }
+
     /// Obeys a line that could be read.
     #[tactic(auto, unfolding(crate::specs::Sessions::obeyed))]
-    fn obey<T: Team>(&mut self, line: Line, team: &mut T) -> Result<String, AllocError>
-        ensures said { IfOk result (λ text. (self.new, string_bytes text) ≡ obeyed self.old line) }
+    fn obey<T: Team>(
+        &mut self,
+        text: &mut String,
+        line: Line,
+        team: &mut T,
+    ) -> Result<(), AllocError>
+        ensures said { OnOk result ((self.new, string_bytes text.new) ≡ obeyed self.old line) }
         ensures told { OnErr result ((self.new.config ≡ self.old.config) × (self.new.shape ≡ self.old.shape)) }
     {
-        match line {
-            Line::Skip => Ok(self.silence()),
+        // The call is made in one place: each place where one is made has a frame of its own to clear.
+        let made = match line {
+            Line::Skip => return put(text, Ok(self.silence())),
             Line::Config {
                 interval,
                 pause,
@@ -107,38 +139,38 @@ impl Session {
                     retained,
                     keep_on_cancel,
                 );
-                self.configure(config.ok())
+                return put(text, self.configure(config.ok()));
             }
-            Line::Job { parallelisms } => self.reshape(&parallelisms),
-            Line::Start { now } => self.start(now),
-            Line::Tick { now } => self.call(Call::Tick { now }),
-            Line::Savepoint { now } => self.call(Call::Savepoint { now }),
+            Line::Job { parallelisms } => return put(text, self.reshape(&parallelisms)),
+            Line::Start { now } => return put(text, self.start(now)),
+            Line::Tick { now } => Call::Tick { now },
+            Line::Savepoint { now } => Call::Savepoint { now },
             Line::Ack {
                 now,
                 id,
                 subtask,
                 fresh,
                 reused,
-            } => self.call(Call::Ack {
+            } => Call::Ack {
                 now,
                 id,
                 subtask,
                 fresh,
                 reused,
-            }),
-            Line::Decline { now, id, subtask } => self.call(Call::Decline { now, id, subtask }),
-            Line::Dispose { id } => self.call(Call::Dispose { id }),
+            },
+            Line::Decline { now, id, subtask } => Call::Decline { now, id, subtask },
+            Line::Dispose { id } => Call::Dispose { id },
             Line::Restore {
                 now,
                 target,
                 parallelisms,
-            } => self.restore(now, target, &parallelisms),
-            Line::Cancel { now } => self.call(Call::Cancel { now }),
-            Line::Take { most } => self.call(Call::Take { most }),
-            Line::Deleted { file } => self.call(Call::Deleted { file }),
-            Line::Undeleted { file } => self.call(Call::Undeleted { file }),
-            Line::Show { id } => self.call(Call::Show { id }),
-            Line::Count { file } => self.call(Call::Count { file }),
+            } => return self.restore(text, now, target, &parallelisms),
+            Line::Cancel { now } => Call::Cancel { now },
+            Line::Take { most } => Call::Take { most },
+            Line::Deleted { file } => Call::Deleted { file },
+            Line::Undeleted { file } => Call::Undeleted { file },
+            Line::Show { id } => Call::Show { id },
+            Line::Count { file } => Call::Count { file },
             Line::All {
                 now,
                 id,
@@ -151,9 +183,10 @@ impl Session {
                     threads,
                     first,
                 };
-                self.call_all(&all, team)
+                return put(text, self.call_all(&all, team));
             }
-        }
+        };
+        self.call(text, made)
     }
 
     /// The text of a line that prints nothing. Takes no memory.
@@ -165,6 +198,7 @@ impl Session {
 
     /// Takes a configuration, unless it was outside its limits.
     #[tactic(auto, unfolding(crate::specs::Sessions::configured))]
+    #[inline(never)]
     fn configure(&mut self, config: Option<Config>) -> Result<String, AllocError>
         ensures said { IfOk result (λ text. (self.new, string_bytes text) ≡ before_start self.old (configured self.old config)) }
         ensures told { OnErr result ((self.new.config ≡ self.old.config) × (self.new.shape ≡ self.old.shape)) }
@@ -181,6 +215,7 @@ impl Session {
 
     /// Takes a shape.
     #[tactic(auto, unfolding(crate::specs::Sessions::shaped))]
+    #[inline(never)]
     fn reshape(&mut self, parallelisms: &Numbers) -> Result<String, AllocError>
         ensures said { IfOk result (λ text. (self.new, string_bytes text) ≡ before_start self.old (shaped self.old parallelisms.now)) }
         ensures told { OnErr result ((self.new.config ≡ self.old.config) × (self.new.shape ≡ self.old.shape)) }
@@ -200,6 +235,7 @@ impl Session {
 
     /// Opens the book.
     #[tactic(auto, unfolding(crate::specs::Sessions::started))]
+    #[inline(never)]
     fn start(&mut self, now: u64) -> Result<String, AllocError>
         ensures said { IfOk result (λ text. (self.new, string_bytes text) ≡ before_start self.old (started self.old now self.old.config self.old.shape)) }
         ensures told { OnErr result ((self.new.config ≡ self.old.config) × (self.new.shape ≡ self.old.shape)) }
@@ -221,39 +257,49 @@ impl Session {
 
     /// Makes a call with the seat of the lines.
     #[tactic(auto, unfolding(crate::specs::Sessions::called))]
-    fn call(&mut self, made: Call) -> Result<String, AllocError>
-        ensures said { IfOk result (λ text. (self.new, string_bytes text) ≡ called self.old self.old.core made) }
+    fn call(&mut self, text: &mut String, made: Call) -> Result<(), AllocError>
+        ensures said { OnOk result ((self.new, string_bytes text.new) ≡ called self.old self.old.core made) }
         ensures told { OnErr result ((self.new.config ≡ self.old.config) × (self.new.shape ≡ self.old.shape)) }
     {
         match &mut self.book {
-            None => refusal_text(self.alloc, ScriptRefusal::NotStarted),
-            Some(book) => answer_text(self.alloc, &call(book, made)?),
+            None => put(text, refusal_text(self.alloc, ScriptRefusal::NotStarted)),
+            Some(book) => {
+                let answer = call(book, made)?;
+                text.clear();
+                write_answer(self.alloc, text, &answer)
+            }
         }
     }
 
     /// Restores the job, in a new shape where there are parallelisms.
     #[tactic(auto, unfolding(crate::specs::Sessions::restored, crate::specs::Sessions::called))]
+    #[inline(never)]
     fn restore(
         &mut self,
+        text: &mut String,
         now: u64,
         target: Target,
         parallelisms: &Numbers,
-    ) -> Result<String, AllocError>
-        ensures said { IfOk result (λ text. (self.new, string_bytes text) ≡ restored self.old now target parallelisms.now) }
+    ) -> Result<(), AllocError>
+        ensures said { OnOk result ((self.new, string_bytes text.new) ≡ restored self.old now target parallelisms.now) }
         ensures told { OnErr result ((self.new.config ≡ self.old.config) × (self.new.shape ≡ self.old.shape)) }
     {
         if self.book.is_none() {
-            return refusal_text(self.alloc, ScriptRefusal::NotStarted);
+            return put(text, refusal_text(self.alloc, ScriptRefusal::NotStarted));
         }
         match new_shape(self.alloc, parallelisms) {
-            Ok(shape) => self.call(Call::Restore { now, target, shape }),
-            Err(ShapeFault::BadShape) => refusal_text(self.alloc, ScriptRefusal::BadShape),
+            Ok(shape) => self.call(text, Call::Restore { now, target, shape }),
+            Err(ShapeFault::BadShape) => put(
+                text,
+                refusal_text(self.alloc, ScriptRefusal::BadShape),
+            ),
             Err(ShapeFault::Memory) => Err(AllocError),
         }
     }
 
     /// Makes the calls of an `all` line.
     #[tactic(auto, unfolding(crate::specs::Sessions::all_called))]
+    #[inline(never)]
     fn call_all<T: Team>(&mut self, line: &AllLine, team: &mut T) -> Result<String, AllocError>
         ensures said { IfOk result (λ text. (self.new, string_bytes text) ≡ all_called self.old self.old.core line.now) }
         ensures told { OnErr result ((self.new.config ≡ self.old.config) × (self.new.shape ≡ self.old.shape)) }
@@ -265,6 +311,15 @@ impl Session {
         self.book = Some(book);
         Ok(text)
     }
+}
+
+/// Puts what was made into the text, in place of what it held.
+fn put(text: &mut String, made: Result<String, AllocError>) -> Result<(), AllocError>
+    ensures made { OnOk result (IfOk made (λ now. string_bytes text.new ≡ string_bytes now)) }
+    ensures kept { is_err result ≡ is_err made }
+{
+    *text = made?;
+    Ok(())
 }
 
 /// The shape of these parallelisms, or `None` where there is none.

@@ -1,4 +1,4 @@
-ghost use Rattle.std.specs.Prelude.{◌≡◌, IfOk, string_bytes};
+ghost use Rattle.std.specs.Prelude.{◌≡◌, ◌++◌, IfOk, OnOk, string_bytes};
 ghost use Rattle.ckpt_texts.specs.Texts.{answer_bytes};
 
 use crate::refusals::write_refusal;
@@ -12,15 +12,24 @@ const USUAL_LENGTH: usize = 64;
 /// The line that is printed for an answer, with its newline.
 ///
 /// Fails only for want of memory.
-#[tactic(auto, unfolding(crate::specs::Texts::answer_bytes))]
 pub fn answer_text(alloc: Global, answer: &Answer) -> Result<String, AllocError>
     ensures { IfOk result (λ text. string_bytes text ≡ answer_bytes answer.now) }
 {
     let mut text = String::with_capacity(alloc, USUAL_LENGTH)?;
-    match answer {
-        Answer::Done(reply) => write_reply(alloc, &mut text, reply)?,
-        Answer::Refused(refusal) => write_refusal(&mut text, *refusal)?,
-    }
-    text.push_str("\n")?;
+    write_answer(alloc, &mut text, answer)?;
     Ok(text)
+}
+
+/// Appends the line that is printed for an answer, with its newline.
+///
+/// Fails only for want of memory, and then a part of the line may stand in the text.
+#[tactic(auto, unfolding(crate::specs::Texts::answer_bytes))]
+pub fn write_answer(alloc: Global, text: &mut String, answer: &Answer) -> Result<(), AllocError>
+    ensures { OnOk result (string_bytes text.new ≡ string_bytes text.old ++ answer_bytes answer.now) }
+{
+    match answer {
+        Answer::Done(reply) => write_reply(alloc, text, reply)?,
+        Answer::Refused(refusal) => write_refusal(text, *refusal)?,
+    }
+    text.push_str("\n")
 }

@@ -14,6 +14,7 @@ use std::alloc::{AllocError, Global};
 /// The keys stand in the order of their bytes. `missing` is the number of subtasks that have not
 /// acknowledged. Fails only for want of memory.
 #[tactic(auto, unfolding(crate::specs::MetadataTexts::metadata_bytes))]
+#[inline(never)]
 pub fn metadata_text(alloc: Global, metadata: &Metadata) -> Result<String, AllocError>
     ensures { IfOk result (λ text. string_bytes text ≡ metadata_bytes metadata.now) }
 {

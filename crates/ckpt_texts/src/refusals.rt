@@ -1,6 +1,7 @@
 ghost use Rattle.std.specs.Prelude.{◌≡◌, ◌++◌, codes, OnOk, string_bytes};
 ghost use Rattle.ckpt_texts.specs.Texts.{refusal_bytes};
 
+use crate::numbers::write_number;
 use ckpt_ids::Refusal;
 use std::alloc::AllocError;
 
@@ -25,8 +26,8 @@ fn write_name(text: &mut String, refusal: Refusal) -> Result<(), AllocError>
         Refusal::UnknownCheckpoint => text.push_str("UnknownCheckpoint"),
         Refusal::UnknownSubtask => text.push_str("UnknownSubtask"),
         Refusal::AlreadyAcknowledged => text.push_str("AlreadyAcknowledged"),
-        Refusal::NameTaken(file) => write!(text, "NameTaken {}", file.0),
-        Refusal::FileGone(file) => write!(text, "FileGone {}", file.0),
+        Refusal::NameTaken(file) => write_number(text, "NameTaken ", file.0),
+        Refusal::FileGone(file) => write_number(text, "FileGone ", file.0),
         Refusal::NoSuchSavepoint => text.push_str("NoSuchSavepoint"),
         Refusal::InUse => text.push_str("InUse"),
         Refusal::TooManySavepoints => text.push_str("TooManySavepoints"),

@@ -2,12 +2,12 @@ use Rattle.std.proofs.Common.{sym, ◌∙◌, append_assoc, arith}
 use Rattle.ckpt_texts.specs.Texts.{spaced}
 use Rattle.ckpt_texts.proofs.ListLemmas.{flat_map-take-next, none_within-absurd}
 use Rattle.ckpt_texts.proofs.replies.write_files.Goals as goal
-use Rattle.ckpt_texts.proofs.replies.write_files.Goals.{in-Some+in_ok-write, in_default}
+use Rattle.ckpt_texts.proofs.replies.write_files.Goals.{in-Some+in_ok-write_number, in_default}
 
 pub loop-place-preserved : goal.loop-place-preserved
 loop-place-preserved c =
     elim c.match-get.branch [
-      | in-Some+in_ok-write w ↦
+      | in-Some+in_ok-write_number w ↦
           let next = flat_map-take-next spaced c.args.files.now c.loop-place.place _ (sym c.get.ensures ∙ w.in-Some.is) in
           grind (arith, append_assoc, next)
       | in_default w ↦

@@ -1,19 +1,22 @@
-use Rattle.std.proofs.Common.{◌≡◌, ◌++◌, List, ℕ, codes, decimal, append_assoc, rules}
+use Rattle.std.proofs.Common.{◌≡◌, ◌++◌, List, ℕ, codes, decimal, append_assoc, arith, rules}
+use Rattle.std.proofs.lemmas.Fmt.{decimal_digit}
 use Rattle.ckpt_texts.specs.Texts.{spaced, tick_end_bytes}
 use Rattle.ckpt_texts.proofs.replies.write_tick.Goals as goal
 
 -- a text before, a number, and a text after it
-joined : (before : List ℕ) (n : ℕ) (end : List ℕ) → before ++ codes "tick expired" ++ spaced n ++ codes " " ++ end ≡ before ++ (codes "tick expired " ++ (decimal n ++ (codes " " ++ end)))
+joined : (before : List ℕ) (n : ℕ) (end : List ℕ) → before ++ codes "tick expired" ++ spaced n ++ codes " " ++ end ≡ before ++ (codes "tick expired " ++ decimal n) ++ codes " " ++ end
 joined before n end = simp append_assoc
 
-pub returns-in-Triggered : goal.returns-in-Triggered
-unfolding tick_end_bytes
-returns-in-Triggered c = rw (c.in-Triggered.is, joined _ c.args.expired (codes "triggered" ++ spaced c.in-Triggered.id)) (search rules)
+none : decimal 0 ≡ codes "0"
+none = decimal_digit 0 (omega arith)
 
 pub returns-in-HeldInterval : goal.returns-in-HeldInterval
 unfolding tick_end_bytes
-returns-in-HeldInterval c = rw (c.in-HeldInterval.is, joined _ c.args.expired (codes "held interval")) c.write-in-HeldInterval.ensures.bytes
+returns-in-HeldInterval c = rw (c.in-HeldInterval.is, c.if-expired-eq0.true, none) (search (append_assoc, rules))
+
+pub returns-in_ok-write_number-in_default : goal.returns-in_ok-write_number-in_default
+returns-in_ok-write_number-in_default c = rw (joined _ c.args.expired (tick_end_bytes c.args.end), ← c.in_ok-write_number-in_default.ensures) c.write_end.ensures
 
 pub returns-in-HeldAtOnce : goal.returns-in-HeldAtOnce
 unfolding tick_end_bytes
-returns-in-HeldAtOnce c = rw (c.in-HeldAtOnce.is, joined _ c.args.expired (codes "held at-once")) c.write-in-HeldAtOnce.ensures.bytes
+returns-in-HeldAtOnce c = rw (c.in-HeldAtOnce.is, c.if-expired-eq0-2.true, none) (search (append_assoc, rules))
