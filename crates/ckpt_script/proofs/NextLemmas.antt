@@ -8,7 +8,8 @@ use Rattle.ckpt_script.specs.declared.fault.RunFault.TheVariants.{Read, Write, T
 use Rattle.ckpt_script.specs.declared.summary.Summary.{Summary}
 use Rattle.ckpt_script.specs.Known.{WhereKnown, Passes}
 use Rattle.ckpt_script.specs.Lines.{held, whole_lines, TakesPart, HoldsLine, HoldsPart}
-use Rattle.ckpt_script.specs.Outputs.{output, most_lines, IsCut}
+use Rattle.ckpt_script.specs.declared.limits.TheConstants.{MOST_LINES}
+use Rattle.ckpt_script.specs.Outputs.{output, IsCut}
 use Rattle.ckpt_session.specs.Sessions.{Scene, said}
 use Rattle.ckpt_script.specs.Telling.{HasRun, Shows, IsSoFar, Stopped}
 use Rattle.ckpt_script.proofs.KnownLemmas.{WhereKnown-keeps, WhereKnown-unread, WhereKnown-compose, WhereKnown-if, WhereKnown-map, WhereKnown-some}
@@ -74,7 +75,7 @@ module _ (text left before now : Option (List ℕ)) (was_ended : Bool) (summary 
   stopped_filling none going_on =
       WhereKnown-map text known _ _ (λ t rest run. read_stops t rest rest [] going_on (record { one_line = refl; split = refl }) run) (WhereKnown-unread text known bytes _ none filled)
 
-  pub stopped_full : bytes ≢ [] → summary.lines ≡ most_lines → Stopped text known before now waiting TooManyLines
+  pub stopped_full : bytes ≢ [] → summary.lines ≡ MOST_LINES → Stopped text known before now waiting TooManyLines
   stopped_full some full =
       WhereKnown-if text (prepend_known bytes known) _ _
       (λ t rest run.
@@ -102,7 +103,7 @@ module _ (text left before now : Option (List ℕ)) (was_ended : Bool) (summary 
     meant : (line : List ℕ) → held_line ≡ take held line → reading held_line ≡ reading line
     meant line e = ap reading e ∙ cuts line
 
-    pub cut_obeying : summary.lines < most_lines
+    pub cut_obeying : summary.lines < MOST_LINES
         → ((left' : List ℕ) × Passes now after waiting (said (summary.lines + 1) scene (reading held_line)).1 left')
         → IfSome text (λ t. IsCut before after (output t))
     cut_obeying few cut =
@@ -117,7 +118,7 @@ module _ (text left before now : Option (List ℕ)) (was_ended : Bool) (summary 
         let shows = Shows-passes before now after waiting told.0 (said (summary.lines + 1) scene (reading held_line)).1 cut.0 told.2 cut.1 in
         Shows-cut before after cut.0 _ more.0 _ shows (more.1 ∙ ap (λ (r : _). (told.0 ++ (said (summary.lines + 1) scene r).1) ++ more.0) (sym same))))
 
-    pub so_far_obeyed : (summary' : Summary) (scene' : Scene) (waiting' : List ℕ) → summary'.lines ≡ summary.lines + 1 → summary'.lines ≤ most_lines → summary'.faults ≡ summary.faults + cond (is_err (reading held_line)) 1 0
+    pub so_far_obeyed : (summary' : Summary) (scene' : Scene) (waiting' : List ℕ) → summary'.lines ≡ summary.lines + 1 → summary'.lines ≤ MOST_LINES → summary'.faults ≡ summary.faults + cond (is_err (reading held_line)) 1 0
         → scene' ≡ (said (summary.lines + 1) scene (reading held_line)).0
         → Passes now after waiting (said (summary.lines + 1) scene (reading held_line)).1 waiting'
         → IsSoFar text rest before after is_ended summary' scene' waiting'

@@ -4,7 +4,8 @@ use Rattle.std.proofs.lemmas.List.{take_all}
 use Rattle.std.proofs.Math.Seq.{take-append-add}
 use Rattle.ckpt_lines.specs.Reading.{reading}
 use Rattle.ckpt_script.specs.Lines.{lines_of}
-use Rattle.ckpt_script.specs.Outputs.{outputs, output, scene_after, most_lines}
+use Rattle.ckpt_script.specs.declared.limits.TheConstants.{MOST_LINES}
+use Rattle.ckpt_script.specs.Outputs.{outputs, output, scene_after}
 use Rattle.ckpt_session.specs.Sessions.{Scene, opening_scene, said}
 
 pub outputs-append : (number : ℕ) (scene : Scene) (lines more : List (List ℕ)) → outputs number scene (lines ++ more) ≡ outputs number scene lines ++ outputs (number + length lines) (scene_after number scene lines) more
@@ -28,13 +29,13 @@ pub outputs-more : (number : ℕ) (scene : Scene) (lines : List (List ℕ)) (lin
 outputs-more number scene lines line = outputs-append number scene lines (line ∷ []) ∙ ap (λ (xs : List ℕ). outputs number scene lines ++ xs) (append-nil _)
 
 -- few lines are all run
-pub output-few : (text : List ℕ) → length (lines_of text) ≤ most_lines → output text ≡ outputs 1 opening_scene (lines_of text)
-output-few text few = ap (outputs 1 opening_scene) (take_all most_lines (lines_of text) few)
+pub output-few : (text : List ℕ) → length (lines_of text) ≤ MOST_LINES → output text ≡ outputs 1 opening_scene (lines_of text)
+output-few text few = ap (outputs 1 opening_scene) (take_all MOST_LINES (lines_of text) few)
 
 -- what the first lines print is the front of the output
-pub output-front : (text : List ℕ) (lines more : List (List ℕ)) → lines_of text ≡ lines ++ more → length lines ≤ most_lines → output text ≡ outputs 1 opening_scene lines ++ outputs (1 + length lines) (scene_after 1 opening_scene lines) (take (most_lines - length lines) more)
+pub output-front : (text : List ℕ) (lines more : List (List ℕ)) → lines_of text ≡ lines ++ more → length lines ≤ MOST_LINES → output text ≡ outputs 1 opening_scene lines ++ outputs (1 + length lines) (scene_after 1 opening_scene lines) (take (MOST_LINES - length lines) more)
 output-front text lines more e few =
-    let n : most_lines ≡ length lines + (most_lines - length lines) = omega arith in
+    let n : MOST_LINES ≡ length lines + (MOST_LINES - length lines) = omega arith in
     ap (outputs 1 opening_scene)
-    (ap (take most_lines) e ∙ ap (λ (k : ℕ). take k (lines ++ more)) n ∙ take-append-add lines more (most_lines - length lines))
-    ∙ outputs-append 1 opening_scene lines (take (most_lines - length lines) more)
+    (ap (take MOST_LINES) e ∙ ap (λ (k : ℕ). take k (lines ++ more)) n ∙ take-append-add lines more (MOST_LINES - length lines))
+    ∙ outputs-append 1 opening_scene lines (take (MOST_LINES - length lines) more)

@@ -6,7 +6,8 @@ use Rattle.ckpt_lines.specs.Reading.{reading}
 use Rattle.ckpt_script.specs.declared.summary.Summary.{Summary}
 use Rattle.ckpt_script.specs.Known.{Passes}
 use Rattle.ckpt_script.specs.Lines.{newline, lines_of, whole_lines, TakesLine, TakesPart}
-use Rattle.ckpt_script.specs.Outputs.{outputs, output, scene_after, faults_in, most_lines, IsCut}
+use Rattle.ckpt_script.specs.declared.limits.TheConstants.{MOST_LINES}
+use Rattle.ckpt_script.specs.Outputs.{outputs, output, scene_after, faults_in, IsCut}
 use Rattle.ckpt_session.specs.Sessions.{Scene, opening_scene, said}
 use Rattle.ckpt_script.specs.Telling.{HasRun, Shows}
 use Rattle.ckpt_script.proofs.LineLemmas.{some_lines, lines_of-line, lines_of-last, lines_of-append, whole_lines-append, whole_lines-ends}
@@ -61,7 +62,7 @@ module _ (text bytes rest line : List ℕ) (was_ended is_ended : Bool) (before a
   pub said_here : said (1 + length (lines_of so_far.front)) (scene_after 1 opening_scene (lines_of so_far.front)) (reading line) ≡ said (before.lines + 1) scene (reading line)
   said_here = ap (λ (n : ℕ). said n (scene_after 1 opening_scene (lines_of so_far.front)) (reading line)) number ∙ ap (λ (s : Scene). said (before.lines + 1) s (reading line)) (sym so_far.scene_is)
 
-  pub run_on : after.lines ≡ before.lines + 1 → after.lines ≤ most_lines → after.faults ≡ before.faults + cond (is_err (reading line)) 1 0 → scene' ≡ (said (before.lines + 1) scene (reading line)).0 → HasRun text rest is_ended after scene' (shown ++ (said (before.lines + 1) scene (reading line)).1)
+  pub run_on : after.lines ≡ before.lines + 1 → after.lines ≤ MOST_LINES → after.faults ≡ before.faults + cond (is_err (reading line)) 1 0 → scene' ≡ (said (before.lines + 1) scene (reading line)).0 → HasRun text rest is_ended after scene' (shown ++ (said (before.lines + 1) scene (reading line)).1)
   run_on lines few faults scene_is =
       let more : Adds is_ended so_far.front bytes rest line = adds is_ended so_far.front bytes rest line (so_far.whole going_on) some takes in
       record {
@@ -82,12 +83,12 @@ module _ (text bytes rest line : List ℕ) (was_ended is_ended : Bool) (before a
       one_more l = omega arith
 
   -- what was shown, the text of the line, and what comes after
-  pub cut_here : before.lines < most_lines → (more : List ℕ) × (output text ≡ (shown ++ (said (before.lines + 1) scene (reading line)).1) ++ more)
+  pub cut_here : before.lines < MOST_LINES → (more : List ℕ) × (output text ≡ (shown ++ (said (before.lines + 1) scene (reading line)).1) ++ more)
   cut_here few =
       let lines : List (List ℕ) = lines_of so_far.front in
       let here : Scene × List ℕ = said (1 + length lines) (scene_after 1 opening_scene lines) (reading line) in
-      let later : ℕ = most_lines - length lines - 1 in
-      let left : most_lines - length lines ≡ suc later = omega (arith, so_far.lines) in
+      let later : ℕ = MOST_LINES - length lines - 1 in
+      let left : MOST_LINES - length lines ≡ suc later = omega (arith, so_far.lines) in
       let tail : List ℕ = outputs (1 + length lines + 1) here.0 (take later (lines_of rest)) in (
         tail,
         output-front text lines (line ∷ lines_of rest) all_lines (omega (arith, so_far.lines))
@@ -101,15 +102,15 @@ module _ (text bytes rest line : List ℕ) (was_ended is_ended : Bool) (before a
 pub shown_front : (text rest : List ℕ) (is_ended : Bool) (summary : Summary) (scene : Scene) (shown : List ℕ) → HasRun text rest is_ended summary scene shown → (more : List ℕ) × (output text ≡ shown ++ more)
 shown_front text rest is_ended summary scene shown so_far =
     let lines : List (List ℕ) = lines_of so_far.front in
-    let more : List ℕ = outputs (1 + length lines) (scene_after 1 opening_scene lines) (take (most_lines - length lines) (lines_of rest)) in
+    let more : List ℕ = outputs (1 + length lines) (scene_after 1 opening_scene lines) (take (MOST_LINES - length lines) (lines_of rest)) in
     (more, output-front text lines (lines_of rest) so_far.in_turn (omega (arith, so_far.lines, so_far.few)) ∙ ap (λ (xs : List ℕ). xs ++ more) (sym so_far.shown_is))
 
 -- at the end of the text all lines have been run
-pub all_run : (text rest : List ℕ) (is_ended : Bool) (summary : Summary) (scene : Scene) (shown : List ℕ) → HasRun text rest is_ended summary scene shown → rest ≡ [] → (shown ≡ output text) × (length (lines_of text) ≤ most_lines) × (summary ≡ record { lines = length (lines_of text); faults = faults_in (lines_of text) })
+pub all_run : (text rest : List ℕ) (is_ended : Bool) (summary : Summary) (scene : Scene) (shown : List ℕ) → HasRun text rest is_ended summary scene shown → rest ≡ [] → (shown ≡ output text) × (length (lines_of text) ≤ MOST_LINES) × (summary ≡ record { lines = length (lines_of text); faults = faults_in (lines_of text) })
 all_run text rest is_ended summary scene shown so_far none =
     let all : lines_of so_far.front ≡ lines_of text = sym (so_far.in_turn ∙ ap (λ (xs : List ℕ). lines_of so_far.front ++ lines_of xs) none ∙ append-nil (lines_of so_far.front)) in
     let lines : summary.lines ≡ length (lines_of text) = so_far.lines ∙ ap (length {A = List ℕ}) all in
-    let few : length (lines_of text) ≤ most_lines = omega (arith, lines, so_far.few) in
+    let few : length (lines_of text) ≤ MOST_LINES = omega (arith, lines, so_far.few) in
     (so_far.shown_is ∙ ap (outputs 1 opening_scene) all ∙ sym (output-few text few), few, same_summary summary _ _ lines (so_far.faults ∙ ap faults_in all))
   where
     same_summary : (s : Summary) (a b : ℕ) → s.lines ≡ a → s.faults ≡ b → s ≡ record { lines = a; faults = b }
@@ -125,11 +126,11 @@ run_part text bytes rest part is_ended summary scene shown so_far going_on takes
     )
 
 -- as many lines were run as are run at most, and more is left
-pub run_full : (text bytes : List ℕ) (is_ended : Bool) (summary : Summary) (scene : Scene) (shown : List ℕ) → HasRun text bytes is_ended summary scene shown → bytes ≢ [] → summary.lines ≡ most_lines → (most_lines < length (lines_of text)) × (shown ≡ output text)
+pub run_full : (text bytes : List ℕ) (is_ended : Bool) (summary : Summary) (scene : Scene) (shown : List ℕ) → HasRun text bytes is_ended summary scene shown → bytes ≢ [] → summary.lines ≡ MOST_LINES → (MOST_LINES < length (lines_of text)) × (shown ≡ output text)
 run_full text bytes is_ended summary scene shown so_far some full =
     let lines : List (List ℕ) = lines_of so_far.front in
     let all : length (lines_of text) ≡ length lines + length (lines_of bytes) = ap (length {A = List ℕ}) so_far.in_turn ∙ length-append lines (lines_of bytes) in
-    let none : most_lines - length lines ≡ 0 = omega (arith, so_far.lines) in (
+    let none : MOST_LINES - length lines ≡ 0 = omega (arith, so_far.lines) in (
       omega (arith, so_far.lines, some_lines bytes some),
       so_far.shown_is
           ∙ sym (append-nil (outputs 1 opening_scene lines))

@@ -1,6 +1,7 @@
 -- The lines of a text.
 use Rattle.std.specs.Prelude.{◌≡◌, ℕ, ◌+◌, Bool, true, false, ◌==◌, List, [], ◌∷◌, ◌++◌, length, take, drop, if◌then◌else◌, ◌⊎◌, ◌<◌, Option, None, Some}
 use Rattle.std.specs.List.{list_any}
+use Rattle.ckpt_lines.specs.declared.limits.TheConstants.{LONGEST_LINE}
 
 abbrev pub newline : ℕ
 newline = 10
@@ -25,7 +26,7 @@ whole_lines (b ∷ bytes) = if has_newline (b ∷ bytes) then b ∷ whole_lines 
 
 -- how many bytes of a line are held: with one more than a line may have, it is known to be too long
 abbrev pub held : ℕ
-held = 131073
+held = LONGEST_LINE + 1
 
 -- from `bytes` on, `line` was read up to its newline or to the end of the text, and `rest` is left
 pub record TakesLine (is_ended : Bool) (bytes rest line : List ℕ) : Type 0 where

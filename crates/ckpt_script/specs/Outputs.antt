@@ -4,6 +4,7 @@ use Rattle.std.specs.Io.KnownBytes.{Appends}
 use Rattle.ckpt_lines.specs.Reading.{reading}
 use Rattle.ckpt_script.specs.declared.fault.RunFault.{RunFault}
 use Rattle.ckpt_script.specs.declared.fault.RunFault.TheVariants.{Read, Write, TooManyLines, Memory}
+use Rattle.ckpt_script.specs.declared.limits.TheConstants.{MOST_LINES}
 use Rattle.ckpt_script.specs.declared.summary.Summary.{Summary}
 use Rattle.ckpt_script.specs.Known.{WhereKnown}
 use Rattle.ckpt_script.specs.Lines.{lines_of, whole_lines}
@@ -23,13 +24,9 @@ scene_after number scene (line ∷ lines) = scene_after (number + 1) (said numbe
 abbrev pub faults_in : List (List ℕ) → ℕ
 faults_in lines = count_by (λ line. is_err (reading line)) lines
 
--- so many lines are run at most
-abbrev pub most_lines : ℕ
-most_lines = 1000000
-
 -- the output of a text
 abbrev pub output : List ℕ → List ℕ
-output text = outputs 1 opening_scene (take most_lines (lines_of text))
+output text = outputs 1 opening_scene (take MOST_LINES (lines_of text))
 
 -- a front of the output was written between these two moments
 abbrev pub IsCut : Option (List ℕ) → Option (List ℕ) → List ℕ → Type 0
@@ -40,11 +37,11 @@ IsCut before after all = (written rest : List ℕ) × Appends before after writt
 abbrev pub Ran : Option (List ℕ) → Option (List ℕ) → Option (List ℕ) → Option (List ℕ) → Result Summary RunFault → Type 0
 Ran text rest before after (Ok summary) = IfSome text (λ text.
     Appends before after (output text)
-    × (length (lines_of text) ≤ most_lines)
+    × (length (lines_of text) ≤ MOST_LINES)
     × (summary ≡ record { lines = length (lines_of text); faults = faults_in (lines_of text) }))
 Ran text rest before after (Err Read) = WhereKnown text rest (λ text rest.
     (read : List ℕ) × (text ≡ read ++ rest) × Appends before after (output (whole_lines read)))
 Ran text rest before after (Err TooManyLines) = IfSome text (λ text.
-    (most_lines < length (lines_of text)) × Appends before after (output text))
+    (MOST_LINES < length (lines_of text)) × Appends before after (output text))
 Ran text rest before after (Err Write) = IfSome text (λ text. IsCut before after (output text))
 Ran text rest before after (Err Memory) = IfSome text (λ text. IsCut before after (output text))

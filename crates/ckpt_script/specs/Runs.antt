@@ -1,6 +1,6 @@
 -- What a runner keeps between two lines, and how its run ends. `left` is what the source has left, and `shown` what the sink holds.
 use Rattle.std.specs.Prelude.{ℕ, ◌+◌, List, Option, Err}
-use Rattle.ckpt_lines.specs.Reading.{reading}
+pub use Rattle.ckpt_lines.specs.Reading.{reading}
 use Rattle.ckpt_session.specs.Sessions.{Said, said}
 use Rattle.ckpt_script.specs.declared.fault.RunFault.{RunFault}
 use Rattle.ckpt_script.specs.declared.runner.Runner.{Runner}

@@ -6,7 +6,8 @@ use Rattle.ckpt_script.specs.declared.fault.RunFault.TheVariants.{Read, Write, T
 use Rattle.ckpt_script.specs.declared.summary.Summary.{Summary}
 use Rattle.ckpt_script.specs.Known.{WhereKnown}
 use Rattle.ckpt_script.specs.Lines.{lines_of, whole_lines}
-use Rattle.ckpt_script.specs.Outputs.{outputs, output, scene_after, faults_in, most_lines, IsCut}
+use Rattle.ckpt_script.specs.declared.limits.TheConstants.{MOST_LINES}
+use Rattle.ckpt_script.specs.Outputs.{outputs, output, scene_after, faults_in, IsCut}
 use Rattle.ckpt_session.specs.Sessions.{Scene, opening_scene}
 
 -- The lines of a front of the text have been run, and `rest` is left.
@@ -15,7 +16,7 @@ pub record HasRun (text rest : List ℕ) (is_ended : Bool) (summary : Summary) (
   pub split : text ≡ front ++ rest
   pub in_turn : lines_of text ≡ lines_of front ++ lines_of rest
   pub lines : summary.lines ≡ length (lines_of front)
-  pub few : summary.lines ≤ most_lines
+  pub few : summary.lines ≤ MOST_LINES
   pub faults : summary.faults ≡ faults_in (lines_of front)
   pub scene_is : scene ≡ scene_after 1 opening_scene (lines_of front)
   pub shown_is : shown ≡ outputs 1 opening_scene (lines_of front)
@@ -37,7 +38,7 @@ abbrev pub Stopped : Option (List ℕ) → Option (List ℕ) → Option (List �
 Stopped text rest before after waiting Read = WhereKnown text rest (λ text rest.
     (read more : List ℕ) × (text ≡ read ++ rest) × Shows before after waiting (output (whole_lines read)) × (output text ≡ output (whole_lines read) ++ more))
 Stopped text rest before after waiting TooManyLines = IfSome text (λ text.
-    (most_lines < length (lines_of text)) × Shows before after waiting (output text))
+    (MOST_LINES < length (lines_of text)) × Shows before after waiting (output text))
 Stopped text rest before after waiting Write = IfSome text (λ text. IsCut before after (output text))
 Stopped text rest before after waiting Memory = IfSome text (λ text. IsCut before after (output text))
 

@@ -1,4 +1,4 @@
-ghost use Rattle.std.specs.Prelude.{◌≡◌, ◌+◌, ◌^◌, ◌≢◌, ◌≤◌, ◌∷◌, ◌++◌, ℕ, List, true, false, [], IsTrue, ◌↔◌, IfOk, OnOk, OnErr, IfErr, length, take};
+ghost use Rattle.std.specs.Prelude.{◌≡◌, ◌+◌, ◌≢◌, ◌≤◌, ◌∷◌, ◌++◌, ℕ, List, true, false, [], IsTrue, ◌↔◌, IfOk, OnOk, OnErr, IfErr, length, take};
 ghost use Rattle.std.specs.Io.KnownBytes.{Keeps, IsAtEnd, prepend_known};
 ghost use Rattle.ckpt_script.specs.Devices.{IsCounted, IsCaused};
 ghost use Rattle.ckpt_script.specs.Known.{Passes};
@@ -6,9 +6,11 @@ ghost use Rattle.ckpt_script.specs.Lines.{held, FindsNewline, Moves};
 ghost use Rattle.ckpt_script.specs.Reads.{ReadsLine, ReadsPart};
 
 use crate::fault::RunFault;
+use crate::limits::MOST_READS;
 use crate::printed::Printed;
 use crate::sink::Sink;
 use crate::source::Source;
+use ckpt_lines::LONGEST_LINE;
 use memchr::memchr;
 use std::alloc::{AllocError, Global};
 use std::marker::Model;
@@ -16,12 +18,9 @@ use std::marker::Model;
 /// How many bytes are asked for at once.
 const CHUNK: usize = 8192;
 
-/// How often a reader is asked.
-const MOST_READS: u64 = 1 << 32;
-
 /// How many bytes of a line are held: with one more than a line may have, it is known to be too
 /// long.
-const HELD: usize = 131_073;
+const HELD: usize = LONGEST_LINE + 1;
 
 /// What was read of a script and not used yet.
 #[derive(Drop)]
@@ -47,7 +46,7 @@ impl Model for Ahead {
 impl Ahead {
     /// Nothing was read yet.
     pub(crate) fn new(alloc: Global) -> Result<Ahead, AllocError>
-        ensures { IfOk result (λ ahead. ahead ≡ record { bytes = []; is_ended = false; reads_left = 2 ^ 32 }) }
+        ensures { IfOk result (λ ahead. ahead ≡ record { bytes = []; is_ended = false; reads_left = MOST_READS }) }
     {
         let mut buffer = Vec::with_capacity(alloc, CHUNK)?;
         buffer.resize(CHUNK, 0)?;

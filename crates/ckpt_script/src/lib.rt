@@ -9,6 +9,7 @@
 
 mod ahead;
 mod fault;
+pub mod limits;
 mod printed;
 mod runner;
 mod sink;
@@ -16,9 +17,10 @@ mod source;
 mod streams;
 mod summary;
 
-pub use ckpt_lines::{Line, LineFault, Numbers, parse_line};
+pub use ckpt_lines::{LONGEST_LINE, Line, LineFault, Numbers, parse_line};
 pub use ckpt_session::Secret;
 pub use fault::RunFault;
+pub use limits::{MOST_LINES, MOST_READS};
 pub use runner::{run, run_between, run_between_keyed, run_keyed};
 pub use sink::Sink;
 pub use source::{DeviceFailed, Source};

@@ -1,15 +1,15 @@
-ghost use Rattle.std.specs.Prelude.{◌≡◌, ◌≢◌, ◌≤◌, ◌<◌, ◌+◌, ◌^◌, ℕ, take, List, [], Err, Option, true, false, OnOk, OnErr, IfOk, IfErr, is_err, if◌then◌else◌};
+ghost use Rattle.std.specs.Prelude.{◌≡◌, ◌≢◌, ◌≤◌, ◌<◌, ◌+◌, ℕ, List, [], Err, true, false, OnOk, OnErr, IfOk, IfErr, is_err, if◌then◌else◌};
 ghost use Rattle.std.specs.Io.KnownBytes.{IsAtEnd};
-ghost use Rattle.ckpt_lines.specs.Reading.{reading};
 ghost use Rattle.ckpt_script.specs.Devices.{Asked, IsCounted, IsCaused, SinkCauses, IsReadThrough, never_asked};
 ghost use Rattle.ckpt_script.specs.Known.{Passes};
-ghost use Rattle.ckpt_script.specs.Outputs.{Ran, most_lines};
-ghost use Rattle.ckpt_script.specs.Runs.{said_next, GoesOn, Stops, EndsBy};
+ghost use Rattle.ckpt_script.specs.Outputs.{Ran};
+ghost use Rattle.ckpt_script.specs.Runs.{said_next, reading, GoesOn, Stops, EndsBy};
 ghost use Rattle.ckpt_script.specs.Telling.{keeps_lines};
 ghost use Rattle.ckpt_session.specs.Sessions.{opening_scene};
 
 use crate::ahead::Ahead;
 use crate::fault::RunFault;
+use crate::limits::{MOST_LINES, MOST_READS};
 use crate::printed::Printed;
 use crate::sink::Sink;
 use crate::source::Source;
@@ -20,9 +20,6 @@ use ckpt_session::{Secret, Session};
 use ckpt_workers::Team;
 use std::alloc::{AllocError, Global};
 use std::io::{Read, Write};
-
-/// How many lines are run.
-const MOST_LINES: u64 = 1_000_000;
 
 /// A script that is being run.
 #[derive(Drop)]
@@ -39,7 +36,7 @@ struct Runner {
 impl Runner {
     /// Obeys the line that is held, and prints what it says.
     fn obey<K: Sink, T: Team>(&mut self, sink: &mut K, team: &mut T) -> Result<(), RunFault>
-        requires lines { self.old.summary.lines < most_lines }
+        requires lines { self.old.summary.lines < MOST_LINES }
         requires faults { self.old.summary.faults ≤ self.old.summary.lines }
         requires going_on { K.failures sink.old ≡ 0 }
         ensures kept { self.new.ahead ≡ self.old.ahead }
@@ -76,10 +73,10 @@ impl Runner {
         requires ended { self.old.ahead.is_ended ≡ true → IsAtEnd (S.remaining source.old) }
         requires counted { IsCounted (S.asked source.old) self.old.ahead }
         requires going_on { K.failures sink.old ≡ 0 }
-        requires lines { self.old.summary.lines ≤ most_lines }
+        requires lines { self.old.summary.lines ≤ MOST_LINES }
         requires faults { self.old.summary.faults ≤ self.old.summary.lines }
         ensures ended { self.new.ahead.is_ended ≡ true → IsAtEnd (S.remaining source.new) }
-        ensures lines { OnOk result (self.new.summary.lines ≤ most_lines) }
+        ensures lines { OnOk result (self.new.summary.lines ≤ MOST_LINES) }
         ensures faults { OnOk result (self.new.summary.faults ≤ self.new.summary.lines) }
         ensures more { IfOk result (λ more. more ≡ true → self.new.summary.lines ≡ self.old.summary.lines + 1) }
         ensures end { IfOk result (λ more. more ≡ false → (self.new.ahead.bytes ≡ []) × (self.new.ahead.is_ended ≡ true)) }
@@ -107,7 +104,7 @@ impl Runner {
 
     /// Nothing has been read yet. The secret keys the maps.
     fn new(alloc: Global, secret: Secret) -> Result<Runner, AllocError>
-        ensures ahead { IfOk result (λ run. run.ahead ≡ record { bytes = []; is_ended = false; reads_left = 2 ^ 32 }) }
+        ensures ahead { IfOk result (λ run. run.ahead ≡ record { bytes = []; is_ended = false; reads_left = MOST_READS }) }
         ensures scene { IfOk result (λ run. run.session ≡ opening_scene) }
         ensures printed { IfOk result (λ run. run.printed ≡ []) }
         ensures summary { IfOk result (λ run. run.summary ≡ record { lines = 0; faults = 0 }) }
@@ -136,9 +133,9 @@ impl Runner {
         requires ended { self.old.ahead.is_ended ≡ true → IsAtEnd (S.remaining source.old) }
         requires counted { IsCounted (S.asked source.old) self.old.ahead }
         requires going_on { K.failures sink.old ≡ 0 }
-        requires lines { self.old.summary.lines ≤ most_lines }
+        requires lines { self.old.summary.lines ≤ MOST_LINES }
         requires faults { self.old.summary.faults ≤ self.old.summary.lines }
-        ensures lines { OnOk result (self.new.summary.lines ≤ most_lines) }
+        ensures lines { OnOk result (self.new.summary.lines ≤ MOST_LINES) }
         ensures faults { OnOk result (self.new.summary.faults ≤ self.new.summary.lines) }
         ensures end { OnOk result ((self.new.ahead.bytes ≡ []) × IsAtEnd (S.remaining source.new)) }
         ensures so_far { OnOk result (GoesOn self.old (S.remaining source.old) (K.contents sink.old) self.new (S.remaining source.new) (K.contents sink.new)) }
@@ -199,7 +196,7 @@ pub fn run_between<S: Source, K: Sink, T: Team>(
     requires source { S.asked source.old ≡ never_asked }
     requires sink { K.failures sink.old ≡ 0 }
     ensures ran { Ran (S.remaining source.old) (S.remaining source.new) (K.contents sink.old) (K.contents sink.new) result }
-    ensures summary { IfOk result (λ summary. (summary.faults ≤ summary.lines) × (summary.lines ≤ most_lines)) }
+    ensures summary { IfOk result (λ summary. (summary.faults ≤ summary.lines) × (summary.lines ≤ MOST_LINES)) }
     ensures read { OnOk result (IsReadThrough (S.asked source.new)) }
     ensures written { OnOk result (K.failures sink.new ≡ 0) }
     ensures cause { IfErr result (IsCaused (S.asked source.new) (K.failures sink.new)) }
@@ -221,7 +218,7 @@ pub fn run_between_keyed<S: Source, K: Sink, T: Team>(
     requires source { S.asked source.old ≡ never_asked }
     requires sink { K.failures sink.old ≡ 0 }
     ensures ran { Ran (S.remaining source.old) (S.remaining source.new) (K.contents sink.old) (K.contents sink.new) result }
-    ensures summary { IfOk result (λ summary. (summary.faults ≤ summary.lines) × (summary.lines ≤ most_lines)) }
+    ensures summary { IfOk result (λ summary. (summary.faults ≤ summary.lines) × (summary.lines ≤ MOST_LINES)) }
     ensures read { OnOk result (IsReadThrough (S.asked source.new)) }
     ensures written { OnOk result (K.failures sink.new ≡ 0) }
     ensures cause { IfErr result (IsCaused (S.asked source.new) (K.failures sink.new)) }
@@ -240,8 +237,9 @@ pub fn run_between_keyed<S: Source, K: Sink, T: Team>(
 
 /// Runs a script: reads its lines, makes their calls, and writes what they print.
 ///
-/// A script has at most 1,000,000 lines of at most 131,072 bytes. A read that gives no bytes is its
-/// end. No read or write that failed is tried again, and a write that takes nothing has failed.
+/// A script has at most [`MOST_LINES`] lines of at most [`LONGEST_LINE`](ckpt_lines::LONGEST_LINE)
+/// bytes. A read that gives no bytes is its end. No read or write that failed is tried again, and a
+/// write that takes nothing has failed.
 /// Before the reader is asked for more, what was printed is written and flushed.
 ///
 /// Answers [`RunFault::Read`] where the reader failed or was asked 2^32 times, and each line that
@@ -260,7 +258,7 @@ pub fn run<R: Read, W: Write, T: Team>(
     team: &mut T,
 ) -> Result<Summary, RunFault>
     ensures ran { Ran (R.remaining reader.old) (R.remaining reader.new) (W.contents writer.old) (W.contents writer.new) result }
-    ensures summary { IfOk result (λ summary. (summary.faults ≤ summary.lines) × (summary.lines ≤ most_lines)) }
+    ensures summary { IfOk result (λ summary. (summary.faults ≤ summary.lines) × (summary.lines ≤ MOST_LINES)) }
 {
     run_keyed(alloc, Secret::fixed(), reader, writer, team)
 }
@@ -275,7 +273,7 @@ pub fn run_keyed<R: Read, W: Write, T: Team>(
     team: &mut T,
 ) -> Result<Summary, RunFault>
     ensures ran { Ran (R.remaining reader.old) (R.remaining reader.new) (W.contents writer.old) (W.contents writer.new) result }
-    ensures summary { IfOk result (λ summary. (summary.faults ≤ summary.lines) × (summary.lines ≤ most_lines)) }
+    ensures summary { IfOk result (λ summary. (summary.faults ≤ summary.lines) × (summary.lines ≤ MOST_LINES)) }
 {
     let mut source = CountedReader {
         reader,

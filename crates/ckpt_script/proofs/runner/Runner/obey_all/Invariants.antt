@@ -1,7 +1,7 @@
 use Rattle.std.proofs.Common.{◌≡◌, ◌-◌, ◌≤◌, true}
 use Rattle.std.specs.Io.KnownBytes.{IsAtEnd}
 use Rattle.ckpt_script.specs.Devices.{IsCounted}
-use Rattle.ckpt_script.specs.Outputs.{most_lines}
+use Rattle.ckpt_script.specs.declared.limits.TheConstants.{MOST_LINES}
 use Rattle.ckpt_script.specs.Runs.{GoesOn}
 use Rattle.ckpt_script.proofs.runner.Runner.obey_all.Given as goal
 
@@ -12,10 +12,10 @@ invariant-loop g l = record {
   going_on : g.K.Sink.failures l.sink ≡ 0;
   same_source : g.S.Source.device l.source ≡ g.S.Source.device l.fn.source;
   same_sink : g.K.Sink.device l.sink ≡ g.K.Sink.device l.fn.sink;
-  lines : l.self.summary.lines ≤ most_lines;
+  lines : l.self.summary.lines ≤ MOST_LINES;
   faults : l.self.summary.faults ≤ l.self.summary.lines;
   so_far : GoesOn l.fn.self (g.S.Source.remaining l.fn.source) (g.K.Sink.contents l.fn.sink) l.self (g.S.Source.remaining l.source) (g.K.Sink.contents l.sink);
 }
 
 abbrev pub decreases-loop : goal.decreases-loop
-decreases-loop g l = most_lines - l.self.summary.lines
+decreases-loop g l = MOST_LINES - l.self.summary.lines
