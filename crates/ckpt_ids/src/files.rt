@@ -26,12 +26,15 @@ impl Model for Files {
 }
 
 impl Files {
-    /// The same files in ascending order. Sorts in place, and takes no memory.
+    /// The same files in ascending order. Sorts in place, and takes no memory. Files that come in this
+    /// order, as most do, are looked through once.
     pub fn of(numbers: Vec<FileId>) -> Files
         ensures { result ≡ ascending numbers.items }
     {
         let mut numbers = numbers;
-        numbers.sort_unstable();
+        if !numbers.is_sorted() {
+            numbers.sort_unstable();
+        }
         Files { numbers }
     }
 
