@@ -26,8 +26,8 @@ impl Model for Files {
 }
 
 impl Files {
-    /// The same files in ascending order. Sorts in place, and takes no memory. Files that are in
-    /// order already cost one look.
+    /// The same files in ascending order. Sorts in place, and takes no memory. Files that come in this
+    /// order, as most do, are looked through once.
     pub fn of(numbers: Vec<FileId>) -> Files
         ensures { result ≡ ascending numbers.items }
     {

@@ -1,13 +1,12 @@
 -- What holds of files that are distinct, and of their places.
-use Rattle.std.proofs.Common.{◌≡◌, ℕ, ◌<◌, Bool, true, false, not, cond, ◌||◌, ◌==◌, nat_lt, List, [], ◌∷◌, ◌++◌, take, drop, Some, None, is_some, refl, sym, ap, subst, ◌∙◌, ⊎_elim, arith}
+use Rattle.std.proofs.Common.{◌≡◌, ℕ, Bool, true, false, not, cond, ◌||◌, ◌==◌, List, [], ◌∷◌, ◌++◌, take, drop, Some, None, is_some, refl, sym, ap, subst, ◌∙◌, ⊎_elim}
 use Rattle.std.specs.Map.{values_of}
 use Rattle.std.specs.Option.{option_or}
-use Rattle.std.proofs.lemmas.Bool.{cases_Bool, cases_eq, both_ways, ltb-true, eqb-true, eq-eqb, ne_eqb, or_parts, or_from, or_left, or_right, or_cases, cond-false, false_from_ne_true}
+use Rattle.std.proofs.lemmas.Bool.{cases_Bool, cases_eq, both_ways, eqb-true, eq-eqb, ne_eqb, or_parts, or_from, or_left, or_right, or_cases, cond-false, false_from_ne_true}
 use Rattle.std.proofs.lemmas.List.Folds.{list_any-append}
 use Rattle.std.proofs.lemmas.List.{take-append-drop}
 use Rattle.ckpt_ids.specs.Ordered.{IsIn, AreDistinct}
-use Rattle.ckpt_ids.specs.Ascending.{IsAscendingSet}
-use Rattle.ckpt_ids.proofs.OrderedLemmas.{list_any-from_IsIn, IsIn-from_list_any, ComesBefore-at, AreDistinct-append, AreDistinct-apart, AreDistinct-filter, AreDistinct-left, AreDistinct-right}
+use Rattle.ckpt_ids.proofs.OrderedLemmas.{list_any-from_IsIn, IsIn-from_list_any, AreDistinct-append, AreDistinct-apart, AreDistinct-filter, AreDistinct-left, AreDistinct-right}
 use Rattle.ckpt_outbox.specs.declared.places.Place.TheVariants.{Waiting, Taken}
 use Rattle.ckpt_outbox.specs.Queues.{is_in, without}
 use Rattle.ckpt_outbox.specs.Places.{taken_place, place_of}

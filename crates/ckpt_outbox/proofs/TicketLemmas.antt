@@ -1,12 +1,11 @@
 -- What holds of tickets: the later a file is taken, the greater its ticket.
-use Rattle.std.proofs.Common.{◌≡◌, ℕ, ◌+◌, ◌<◌, ◌≤◌, Bool, true, false, not, cond, ◌||◌, ◌==◌, nat_lt, List, [], ◌∷◌, ◌++◌, length, take, Option, Some, None, is_some, unwrap_or, refl, sym, ap, subst, ◌∙◌, ⊎_elim, arith, append-nil, length-append, ◌↔◌, IsSome, IfSome}
-use Rattle.std.proofs.Math.Seq.{take-append_seam}
+use Rattle.std.proofs.Common.{◌≡◌, ℕ, ◌+◌, ◌<◌, ◌≤◌, Bool, true, false, not, cond, ◌||◌, ◌==◌, nat_lt, List, [], ◌∷◌, ◌++◌, length, Option, Some, None, is_some, unwrap_or, refl, sym, ap, subst, ◌∙◌, ⊎_elim, arith, append-nil, length-append}
 use Rattle.std.proofs.lemmas.Map.Entries.{length-values_of}
 use Rattle.std.specs.List.{list_any, AllByRecursion}
 use Rattle.std.specs.List.Sorted.{IsStrictlySortedBy}
 use Rattle.std.specs.Map.{values_of, keys_of, remove_entry}
-use Rattle.std.specs.BTreeMap.{insert_entry, is_at}
-use Rattle.std.specs.Ordering.{nat_cmp, is_eq, match_ordering}
+use Rattle.std.specs.BTreeMap.{is_at}
+use Rattle.std.specs.Ordering.{nat_cmp, is_eq}
 use Rattle.std.specs.declared.cmp.Ordering.{Ordering}
 use Rattle.std.specs.declared.cmp.Ordering.TheVariants.{Less, Equal, Greater}
 use Rattle.std.specs.Option.{option_or}
@@ -15,7 +14,7 @@ use Rattle.std.proofs.lemmas.Map.Keys.{sorted_head, sorted_tail}
 use Rattle.ckpt_outbox.specs.declared.places.Place.{Place}
 use Rattle.ckpt_outbox.specs.declared.places.Place.TheVariants.{Waiting, Taken}
 use Rattle.ckpt_outbox.specs.Queues.{is_in, without}
-use Rattle.ckpt_outbox.specs.Places.{taken_place, place_of, ticketed, ticket_of, AreBelow}
+use Rattle.ckpt_outbox.specs.Places.{taken_place, place_of, ticket_of}
 use Rattle.ckpt_outbox.proofs.QueueLemmas.{eqb_flip, eqb_itself, without_absent, no_taken_place, taken_place-append, place_of-put, is_some_taken_place, is_in-append, not_in-parts, distinct-apart, AreDistinct-swap, distinct_taken, not_in}
 use Rattle.ckpt_ids.specs.Ordered.{AreDistinct}
 
@@ -48,7 +47,7 @@ not_at t k l = ap is_eq (cmp-above t k l)
 pub at_itself : (t k : ℕ) → t ≡ k → is_at (nat_cmp t) k ≡ true
 at_itself t k e = ap (λ z. is_eq (nat_cmp t z)) (sym e) ∙ ap is_eq (cmp-itself t)
 
-same_ticket : (s t : ℕ) → Some (Taken s) ≡ Some (Taken t) → s ≡ t
+pub same_ticket : (s t : ℕ) → Some (Taken s) ≡ Some (Taken t) → s ≡ t
 same_ticket s t e = ap (λ p. unwrap_or (ticket_of p) s) e
 
 -- a taken file's ticket is above one that is below all
@@ -105,40 +104,6 @@ taken_place-removed f t x (e ∷ es) o a h =
     subst Q (sym past) (⊎_elim first second (cases_Bool (x == e.1))) in
     ⊎_elim here later (cases_Bool (f == e.1))
 
-pub AreBelow-removed : (n : ℕ) (test : ℕ → Bool) (es : List (ℕ × ℕ)) → AreBelow n es → AreBelow n (remove_entry test es)
-AreBelow-removed n test [] a = tt
-AreBelow-removed n test (e ∷ es) a =
-    let P : Bool → Type 0 = λ b. AreBelow n (cond b es (e ∷ remove_entry test es)) in
-    ⊎_elim (λ (k : test e.0 ≡ true). subst P (sym k) a.1) (λ (k : test e.0 ≡ false). subst P (sym k) (a.0, AreBelow-removed n test es a.1)) (cases_Bool (test e.0))
-
--- a ticket above all goes to the end
-pub insert_entry-above : (k v : ℕ) (es : List (ℕ × ℕ)) → AreBelow k es → insert_entry nat_cmp es k v ≡ es ++ (k, v) ∷ []
-insert_entry-above k v [] a = refl
-insert_entry-above k v (e ∷ es) a =
-    ap (λ o. match_ordering o ((k, v) ∷ e ∷ es) ((e.0, v) ∷ es) (e ∷ insert_entry nat_cmp es k v)) (cmp-above k e.0 a.0) ∙ ap (λ z. e ∷ z) (insert_entry-above k v es a.1)
-
-pub AreBelow-more : (m n : ℕ) (es : List (ℕ × ℕ)) → m ≤ n → AreBelow m es → AreBelow n es
-AreBelow-more m n [] l a = tt
-AreBelow-more m n (e ∷ es) l a = let h : e.0 < m = a.0 in (omega arith, AreBelow-more m n es l a.1)
-
-pub AreBelow-append : (n : ℕ) (es fs : List (ℕ × ℕ)) → AreBelow n es → AreBelow n fs → AreBelow n (es ++ fs)
-AreBelow-append n [] fs a b = b
-AreBelow-append n (e ∷ es) fs a b = (a.0, AreBelow-append n es fs a.1 b)
-
--- files with tickets
-
-pub values-ticketed : (n : ℕ) (xs : List ℕ) → values_of (ticketed n xs) ≡ xs
-values-ticketed n [] = refl
-values-ticketed n (x ∷ xs) = ap (λ z. x ∷ z) (values-ticketed (n + 1) xs)
-
-pub AreBelow-ticketed : (n m : ℕ) (xs : List ℕ) → n + length xs ≤ m → AreBelow m (ticketed n xs)
-AreBelow-ticketed n m [] l = tt
-AreBelow-ticketed n m (x ∷ xs) l = (omega arith, AreBelow-ticketed (n + 1) m xs (omega arith))
-
-pub ticketed-push : (n m x : ℕ) (xs : List ℕ) → n + length xs ≡ m → ticketed n (xs ++ x ∷ []) ≡ ticketed n xs ++ (m, x) ∷ []
-ticketed-push n m x [] e = let same : n ≡ m = omega arith in ap (λ z. (z, x) ∷ []) same
-ticketed-push n m x (y ∷ xs) e = ap (λ z. (n, y) ∷ z) (ticketed-push (n + 1) m x xs (omega arith))
-
 -- what an index says after a step
 
 -- the index got these places for x; a file of the earlier entries kept its own
@@ -146,26 +111,24 @@ pub index_added : (a b g : Option Place) → (is_some a ≡ true → b ≡ None)
 index_added None b g f e = refl
 index_added (Some p) b g f e = ap (λ z. option_or z g) (f refl) ∙ sym e
 
-pub index_added_at : (n x : ℕ) (es : List (ℕ × ℕ)) (xs : List ℕ) (g : Option Place) → AreDistinct (values_of es ++ xs) → option_or (taken_place x es) g ≡ g → option_or (taken_place x (ticketed n xs)) g ≡ option_or (taken_place x (es ++ ticketed n xs)) g
-index_added_at n x es xs g a e =
-    let none : is_some (taken_place x es) ≡ true → taken_place x (ticketed n xs) ≡ None = λ h.
-    no_taken_place x (ticketed n xs) (ap (is_in x) (values-ticketed n xs) ∙ distinct-apart (values_of es) xs a x (sym (is_some_taken_place x es) ∙ h)) in
-    index_added (taken_place x es) (taken_place x (ticketed n xs)) g none e ∙ ap (λ z. option_or z g) (sym (taken_place-append x es (ticketed n xs)))
+pub index_added_at : (x : ℕ) (es fs : List (ℕ × ℕ)) (g : Option Place) → AreDistinct (values_of es ++ values_of fs) → option_or (taken_place x es) g ≡ g → option_or (taken_place x fs) g ≡ option_or (taken_place x (es ++ fs)) g
+index_added_at x es fs g a e =
+    let none : is_some (taken_place x es) ≡ true → taken_place x fs ≡ None = λ h. no_taken_place x fs (distinct-apart (values_of es) (values_of fs) a x (sym (is_some_taken_place x es) ∙ h)) in
+    index_added (taken_place x es) (taken_place x fs) g none e ∙ ap (λ z. option_or z g) (sym (taken_place-append x es fs))
 
 -- one more file has its ticket
-pub index_pushed : (n m x y : ℕ) (xs : List ℕ) (g : Option Place) → AreDistinct (xs ++ y ∷ []) → n + length xs ≡ m → cond (y == x) (Some (Taken m)) (option_or (taken_place x (ticketed n xs)) g) ≡ option_or (taken_place x (ticketed n (xs ++ y ∷ []))) g
-index_pushed n m x y xs g a e =
-    let old : Option Place = taken_place x (ticketed n xs) in
+pub index_pushed : (m x y : ℕ) (es : List (ℕ × ℕ)) (g : Option Place) → AreDistinct (values_of es ++ y ∷ []) → cond (y == x) (Some (Taken m)) (option_or (taken_place x es) g) ≡ option_or (taken_place x (es ++ (m, y) ∷ [])) g
+index_pushed m x y es g a =
+    let old : Option Place = taken_place x es in
     let P : Bool → Type 0 = λ b. cond b (Some (Taken m)) (option_or old g) ≡ option_or (option_or old (cond b (Some (Taken m)) None)) g in
     let none : (y == x) ≡ true → old ≡ None = λ (h : (y == x) ≡ true).
-    no_taken_place x (ticketed n xs) (ap (is_in x) (values-ticketed n xs) ∙ ap (λ z. is_in z xs) (sym (eqb-true y x h)) ∙ distinct-apart (y ∷ []) xs (AreDistinct-swap xs (y ∷ []) a) y (or_left (y == y) false (eqb_itself y))) in
+    no_taken_place x es (ap (λ z. is_in z (values_of es)) (sym (eqb-true y x h)) ∙ distinct-apart (y ∷ []) (values_of es) (AreDistinct-swap (values_of es) (y ∷ []) a) y (or_left (y == y) false (eqb_itself y))) in
     let here : (y == x) ≡ true → P (y == x) = λ (h : (y == x) ≡ true). subst P (sym h) (sym (ap (λ z. option_or (option_or z (Some (Taken m))) g) (none h))) in
     let nil : (o : Option Place) → option_or o g ≡ option_or (option_or o None) g = λ o. elim o as (λ o. option_or o g ≡ option_or (option_or o None) g) [ None ↦ refl | Some p ↦ refl ] in
     let there : (y == x) ≡ false → P (y == x) = λ (h : (y == x) ≡ false). subst P (sym h) (nil old) in
     ⊎_elim here there (cases_Bool (y == x))
     ∙ ap (λ b. option_or (option_or old (cond b (Some (Taken m)) None)) g) (eqb_flip y x)
-    ∙ ap (λ z. option_or z g) (sym (taken_place-append x (ticketed n xs) ((m, y) ∷ [])))
-    ∙ ap (λ z. option_or (taken_place x z) g) (sym (ticketed-push n m y xs e))
+    ∙ ap (λ z. option_or z g) (sym (taken_place-append x es ((m, y) ∷ [])))
 
 -- two steps, where each file that is taken after the first is taken after the second
 pub index_twice : (a b f g h : Option Place) → (b ≡ None → a ≡ None) → g ≡ option_or a f → h ≡ option_or b g → h ≡ option_or b f
@@ -226,12 +189,6 @@ is_some_ticket x ws es a =
     let not_waits : is_in x ws ≡ false → P (is_in x ws) = λ (k : is_in x ws ≡ false). subst P (sym k) (same es ∙ is_some_taken_place x es) in
     ⊎_elim waits not_waits (cases_Bool (is_in x ws)) ∙ sym (list_any_flip x (values_of es))
 
--- after the last entry was taken out
-pub popped : (last : Option (ℕ × ℕ)) (old new : List (ℕ × ℕ)) → (IsSome last ↔ (0 < length old)) → IfSome last (λ p. old ≡ new ++ p ∷ []) → 0 < length old → (new ≡ take (length new) old) × (length new + 1 ≡ length old)
-popped None old new v h l = absurd (both_ways (is_some {T = ℕ × ℕ} None) refl (v.1 l))
-popped (Some p) old new v h l =
-    (sym (ap (take (length new)) h ∙ take-append_seam new (p ∷ [])), sym (ap length h ∙ length-append new (p ∷ [])))
-
 -- without the ticket of a file there is one ticket less
 pub length-removed : (f t : ℕ) (es : List (ℕ × ℕ)) → IsStrictlySortedBy nat_cmp (keys_of es) → taken_place f es ≡ Some (Taken t) → length (remove_entry (is_at (nat_cmp t)) es) + 1 ≡ length es
 length-removed f t [] o h = absurd (both_ways (is_some (taken_place f [])) refl (ap is_some h))
@@ -282,3 +239,11 @@ none_before (Some p) b h = h
 pub index_again : (a f g : Option Place) → g ≡ option_or a f → option_or a g ≡ g
 index_again None f g e = refl
 index_again (Some p) f g e = sym e
+
+pub is_some-option_or : (a g : Option Place) → is_some g ≡ true → is_some (option_or a g) ≡ true
+is_some-option_or None g h = h
+is_some-option_or (Some p) g h = refl
+
+-- what the index had it has after a step
+pub has_placed : (a f g : Option Place) → g ≡ option_or a f → is_some f ≡ true → is_some g ≡ true
+has_placed a f g e h = ap is_some e ∙ is_some-option_or a f h

@@ -4,11 +4,11 @@ ghost use Rattle.ckpt_outbox.specs.Queues.{Queues, is_in, is_known, is_taken, wi
 ghost use Rattle.ckpt_ids.specs.Ordered.{AreDistinct};
 
 use crate::places::{Index, Place, note, note_new, ticket};
-use crate::tickets::{Tickets, give};
+use crate::tickets::{Tickets, give, vacate};
 use ckpt_hash::Secret;
 use ckpt_ids::{FileId, Handed};
 use std::alloc::{AllocError, Global};
-use std::collections::{BTreeMap, HashMap, VecDeque};
+use std::collections::{HashMap, VecDeque};
 use std::marker::Model;
 use thiserror::Error;
 
@@ -29,16 +29,15 @@ pub struct Outbox {
 }
 
 impl Model for Outbox {
-    ghost use Rattle.std.specs.Map.{values_of};
     ghost use Rattle.std.specs.VecDeque.{deque_capacity};
     ghost use Rattle.ckpt_outbox.specs.Queues.{Queues};
-    ghost use Rattle.ckpt_outbox.specs.Places.{IsSound};
+    ghost use Rattle.ckpt_outbox.specs.Places.{IsSound, files_of};
 
     ghost Value = { Queues };
 
-    ghost view = { λ o. record { waiting = o.waiting.items; taken = values_of o.taken.files.entries; spare = o.spare } };
+    ghost view = { λ o. record { waiting = o.waiting.items; taken = files_of o.taken.slots.items; spare = o.spare } };
 
-    ghost invariant = { λ o. IsSound o.waiting.items (deque_capacity o.waiting) o.taken.files.entries o.taken.next o.index o.spare };
+    ghost invariant = { λ o. IsSound o.waiting.items (deque_capacity o.waiting) o.taken.slots.items o.taken.taken o.index o.spare };
 }
 
 /// Makes room for so many more files. A growth at least doubles the room: the queue's own may grow
@@ -93,8 +92,8 @@ impl Outbox {
             alloc,
             waiting: VecDeque::new(alloc),
             taken: Tickets {
-                files: BTreeMap::new(alloc),
-                next: 0,
+                slots: Vec::new(alloc),
+                taken: 0,
             },
             index: HashMap::with_hasher(alloc, secret),
             spare: 0,
@@ -111,7 +110,7 @@ impl Outbox {
         if n <= self.spare {
             return Ok(());
         }
-        let room = self.taken.files.len().saturating_add(n as usize);
+        let room = self.taken.taken.saturating_add(n as usize);
         grow(&mut self.waiting, room)?;
         self.index.reserve(n as usize)?;
         self.spare = n;
@@ -153,7 +152,7 @@ impl Outbox {
     {
         let count = self.waiting.len().min(most as usize);
         let files = front(&self.waiting, count, self.alloc)?;
-        give(&mut self.taken, &mut self.index, &files, self.alloc)?;
+        give(&mut self.taken, &mut self.index, &files)?;
         drop_front(&mut self.waiting, count);
         Ok(Handed::of(files))
     }
@@ -169,7 +168,7 @@ impl Outbox {
         let Some(number) = ticket(&self.index, file) else {
             return Err(NotTaken);
         };
-        self.taken.files.remove(&number);
+        vacate(&mut self.taken, number);
         self.index.remove(&file);
         Ok(())
     }
@@ -186,7 +185,7 @@ impl Outbox {
         let Some(number) = ticket(&self.index, file) else {
             return Err(NotTaken);
         };
-        self.taken.files.remove(&number);
+        vacate(&mut self.taken, number);
         self.waiting.push_back_reserved(file);
         note(&mut self.index, file, Place::Waiting);
         Ok(())
@@ -218,6 +217,6 @@ impl Outbox {
     pub fn taken(&self) -> u64
         ensures { result ≡ length self.now.taken }
     {
-        self.taken.files.len() as u64
+        self.taken.taken as u64
     }
 }

@@ -1,10 +1,8 @@
 ghost use Rattle.std.specs.Prelude.{◌≡◌, ◌<◌, ◌≤◌, ◌+◌, ◌^◌, ℕ, IsSome, Some, None, if◌then◌else◌, length, true, nat_eq};
-ghost use Rattle.std.specs.Option.{option_or};
 ghost use Rattle.std.specs.HashMap as hash;
 ghost use Rattle.std.specs.HashMap.{spare};
-ghost use Rattle.ckpt_outbox.specs.Queues.{is_in};
-ghost use Rattle.ckpt_outbox.specs.Places.{taken_place, ticketed, ticket_of};
-ghost use Rattle.ckpt_ids.specs.Ordered.{AreDistinct};
+ghost use Rattle.std.specs.Map.{values_of};
+ghost use Rattle.ckpt_outbox.specs.Places.{AreDistinct, GetsTickets, entries_of, is_in, ticket_of};
 
 use ckpt_hash::Secret;
 use ckpt_ids::FileId;
@@ -49,17 +47,20 @@ pub(crate) fn note_new(index: &mut Index, file: FileId, place: Place)
     noted.unwrap();
 }
 
-/// Notes that these files, which the index has, are taken with tickets from `first` on.
-pub(crate) fn note_taken(index: &mut Index, first: u64, files: &[FileId])
-    requires room { first + length files.now < 2 ^ 64 }
-    requires distinct { AreDistinct files.now }
-    requires present { (file : ℕ) → is_in file files.now ≡ true → IsSome (hash.get nat_eq index.old file) }
-    ensures places { (file : ℕ) → hash.get nat_eq index.new file ≡ option_or (taken_place file (ticketed first files.now)) (hash.get nat_eq index.old file) }
+/// Notes that the files in these slots, which the index has, are taken. The first slot has the ticket
+/// `first`.
+pub(crate) fn note_taken(index: &mut Index, first: u64, slots: &[Option<FileId>])
+    requires room { first + length slots.now < 2 ^ 64 }
+    requires distinct { AreDistinct (values_of (entries_of first slots.now)) }
+    requires present { (file : ℕ) → is_in file (values_of (entries_of first slots.now)) ≡ true → IsSome (hash.get nat_eq index.old file) }
+    ensures places { GetsTickets index.old index.new (entries_of first slots.now) }
     ensures spare { spare index.old ≤ spare index.new }
 {
     let mut ticket = first;
-    for file in files {
-        note(index, *file, Place::Taken(ticket));
+    for slot in slots {
+        if let Some(file) = slot {
+            note(index, *file, Place::Taken(ticket));
+        }
         ticket += 1;
     }
 }

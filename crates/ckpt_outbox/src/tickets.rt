@@ -1,126 +1,99 @@
-ghost use Rattle.std.specs.Prelude.{◌≡◌, ◌<◌, ◌≤◌, ◌+◌, ◌^◌, ◌++◌, ℕ, length, take, true, nat_eq, OnOk, OnErr, IfOk, IsSome};
-ghost use Rattle.std.specs.Option.{option_or};
-ghost use Rattle.std.specs.Map.{values_of};
+ghost use Rattle.std.specs.Prelude.{◌≡◌, ◌<◌, ◌≤◌, ◌+◌, ◌-◌, ◌*◌, ◌++◌, ℕ, Some, filter, is_some, length, map, true, nat_eq, OnOk, OnErr, IsSome};
+ghost use Rattle.std.specs.Vec.{vec_len, vec_capacity};
+ghost use Rattle.std.specs.Map.{remove_entry};
+ghost use Rattle.std.specs.BTreeMap.{is_at};
 ghost use Rattle.std.specs.HashMap as hash;
 ghost use Rattle.std.specs.HashMap.{spare};
-ghost use Rattle.ckpt_outbox.specs.Queues.{is_in};
-ghost use Rattle.ckpt_outbox.specs.Places.{AreBelow, HasTickets, IsOrdered, nat_cmp, taken_place, ticketed};
-ghost use Rattle.ckpt_ids.specs.Ordered.{AreDistinct};
+ghost use Rattle.ckpt_outbox.specs.Places.{AreDistinct, GetsTickets, HasTickets, entries_of, files_of, is_in, nat_cmp};
 
 use crate::places::{Index, note_taken};
 use ckpt_ids::FileId;
-use std::alloc::{AllocError, Global};
-use std::collections::BTreeMap;
+use std::alloc::AllocError;
 
-/// Where the next ticket has come this far, the files get new ones.
-const RENUMBER_FROM: u64 = 1 << 63;
-
-/// The files that are taken, by ticket: the later taken, the greater.
+/// The files that are taken, in the order in which they were taken. A file's ticket is the place of
+/// its slot, so none is searched for.
 #[derive(Debug, Drop)]
 pub(crate) struct Tickets {
-    pub(crate) files: BTreeMap<u64, FileId>,
-    /// Above each ticket that is in use.
-    pub(crate) next: u64,
+    /// A file that was reported leaves a hole.
+    pub(crate) slots: Vec<Option<FileId>>,
+    /// How many slots have a file.
+    pub(crate) taken: usize,
 }
 
-/// Takes the last entries out, so that this many are left.
-fn withdraw(files: &mut BTreeMap<u64, FileId>, left: usize)
-    requires { left ≤ length files.old.entries }
-    ensures entries { files.new.entries ≡ take left files.old.entries }
-    ensures ordered { IsOrdered nat_cmp files.new }
+/// Leaves a hole in the slot of this ticket. Takes no memory.
+pub(crate) fn vacate(tickets: &mut Tickets, ticket: u64)
+    requires within { ticket < length tickets.old.slots.items }
+    requires some { 0 < tickets.old.taken }
+    ensures entries { entries_of 0 tickets.new.slots.items ≡ remove_entry (is_at (nat_cmp ticket)) (entries_of 0 tickets.old.slots.items) }
+    ensures taken { tickets.new.taken ≡ tickets.old.taken - 1 }
 {
-    while files.len() > left {
-        files.pop_last();
-    }
+    tickets.slots[ticket as usize] = None;
+    tickets.taken -= 1;
 }
 
-/// Adds these files with tickets from `first` on, which no ticket has reached. Where memory is
-/// wanting nothing has changed.
-fn add(files: &mut BTreeMap<u64, FileId>, first: u64, added: &[FileId]) -> Result<(), AllocError>
-    requires room { first + length added.now < 2 ^ 64 }
-    requires below { AreBelow first files.old.entries }
-    ensures ok { OnOk result (files.new.entries ≡ files.old.entries ++ ticketed first added.now) }
-    ensures err { OnErr result (files.new.entries ≡ files.old.entries) }
-    ensures ordered { IsOrdered nat_cmp files.new }
+/// Moves the slots that have a file together. Takes no memory.
+fn drop_holes(slots: &mut Vec<Option<FileId>>)
+    ensures { slots.new.items ≡ filter is_some slots.old.items }
 {
-    let before = files.len();
-    let mut ticket = first;
-    for file in added {
-        let inserted: Result<Option<FileId>, _> = files.insert(ticket, *file);
-        if inserted.is_err() {
-            withdraw(files, before);
-            return Err(AllocError);
-        }
-        ticket += 1;
-    }
-    Ok(())
+    slots.retain(|slot| slot.is_some());
 }
 
-/// The files of these tickets, in the tickets' order.
-fn files_of(files: &BTreeMap<u64, FileId>, alloc: Global) -> Result<Vec<FileId>, AllocError>
-    ensures { IfOk result (λ list. list.items ≡ values_of files.now.entries) }
-{
-    files.values().copied().collect(alloc)
-}
-
-/// Once the tickets are large, gives the taken files new ones, which begin at 0, and notes them in
-/// the index. So the tickets never run out.
-fn renumber_if_due(
-    tickets: &mut Tickets,
-    index: &mut Index,
-    alloc: Global,
-) -> Result<(), AllocError>
-    requires distinct { AreDistinct (values_of tickets.old.files.entries) }
-    requires ordered { IsOrdered nat_cmp tickets.old.files }
-    requires below { AreBelow tickets.old.next tickets.old.files.entries }
-    requires noted { HasTickets index.old tickets.old.files.entries }
-    ensures ok { OnOk result (tickets.new.next < 2 ^ 63) }
-    ensures files { values_of tickets.new.files.entries ≡ values_of tickets.old.files.entries }
-    ensures below { AreBelow tickets.new.next tickets.new.files.entries }
-    ensures ordered { IsOrdered nat_cmp tickets.new.files }
-    ensures places { (file : ℕ) → hash.get nat_eq index.new file ≡ option_or (taken_place file tickets.new.files.entries) (hash.get nat_eq index.old file) }
+/// Once more slots are holes than have a file, moves the files together, and notes their new tickets
+/// in the index. Takes no memory. There are at most two slots for each hole, so the time is that of
+/// the reports that made the holes.
+fn compact_if_due(tickets: &mut Tickets, index: &mut Index)
+    requires distinct { AreDistinct (files_of tickets.old.slots.items) }
+    requires counted { tickets.old.taken ≡ length (entries_of 0 tickets.old.slots.items) }
+    requires noted { HasTickets index.old (entries_of 0 tickets.old.slots.items) }
+    ensures files { files_of tickets.new.slots.items ≡ files_of tickets.old.slots.items }
+    ensures taken { tickets.new.taken ≡ tickets.old.taken }
+    ensures counted { tickets.new.taken ≡ length (entries_of 0 tickets.new.slots.items) }
+    ensures bound { length tickets.new.slots.items ≤ 2 * tickets.old.taken }
+    ensures places { GetsTickets index.old index.new (entries_of 0 tickets.new.slots.items) }
     ensures spare { spare index.old ≤ spare index.new }
 {
-    if tickets.next < RENUMBER_FROM {
-        return Ok(());
+    let holes = tickets.slots.len() - tickets.taken;
+    if holes <= tickets.taken {
+        return;
     }
-    let taken = files_of(&tickets.files, alloc)?;
-    let mut files = BTreeMap::new(alloc);
-    add(&mut files, 0, &taken)?;
-    note_taken(index, 0, &taken);
-    tickets.files = files;
-    tickets.next = taken.len() as u64;
-    Ok(())
+    drop_holes(&mut tickets.slots);
+    note_taken(index, 0, &tickets.slots);
+}
+
+/// Appends a slot for each of these files, in room that is there. Takes no memory.
+fn append(slots: &mut Vec<Option<FileId>>, files: &[FileId])
+    requires room { vec_len slots.old + length files.now ≤ vec_capacity slots.old }
+    ensures { slots.new.items ≡ slots.old.items ++ map Some files.now }
+{
+    for file in files {
+        slots.push_reserved(Some(*file));
+    }
 }
 
 /// Gives these files, which the index has, tickets above all others, and notes them in the index.
-/// Where memory is wanting the same files are taken as before.
+/// Where memory is wanting the same files are taken as before. There are never more slots than twice
+/// the files that were ever taken at once, even where the oldest is never reported.
 pub(crate) fn give(
     tickets: &mut Tickets,
     index: &mut Index,
     given: &[FileId],
-    alloc: Global,
 ) -> Result<(), AllocError>
-    requires length { length given.now < 2 ^ 63 }
-    requires distinct { AreDistinct (values_of tickets.old.files.entries ++ given.now) }
-    requires ordered { IsOrdered nat_cmp tickets.old.files }
-    requires below { AreBelow tickets.old.next tickets.old.files.entries }
-    requires noted { HasTickets index.old tickets.old.files.entries }
+    requires distinct { AreDistinct (files_of tickets.old.slots.items ++ given.now) }
+    requires counted { tickets.old.taken ≡ length (entries_of 0 tickets.old.slots.items) }
+    requires noted { HasTickets index.old (entries_of 0 tickets.old.slots.items) }
     requires present { (file : ℕ) → is_in file given.now ≡ true → IsSome (hash.get nat_eq index.old file) }
-    ensures ok { OnOk result (values_of tickets.new.files.entries ≡ values_of tickets.old.files.entries ++ given.now) }
-    ensures err { OnErr result (values_of tickets.new.files.entries ≡ values_of tickets.old.files.entries) }
-    ensures below { AreBelow tickets.new.next tickets.new.files.entries }
-    ensures ordered { IsOrdered nat_cmp tickets.new.files }
-    ensures places { (file : ℕ) → hash.get nat_eq index.new file ≡ option_or (taken_place file tickets.new.files.entries) (hash.get nat_eq index.old file) }
+    ensures ok { OnOk result (files_of tickets.new.slots.items ≡ files_of tickets.old.slots.items ++ given.now) }
+    ensures err { OnErr result (files_of tickets.new.slots.items ≡ files_of tickets.old.slots.items) }
+    ensures counted { tickets.new.taken ≡ length (entries_of 0 tickets.new.slots.items) }
+    ensures bound { length tickets.new.slots.items ≤ 2 * tickets.old.taken + length given.now }
+    ensures places { GetsTickets index.old index.new (entries_of 0 tickets.new.slots.items) }
     ensures spare { spare index.old ≤ spare index.new }
 {
-    renumber_if_due(tickets, index, alloc)?;
-    let first = tickets.next;
-    add(&mut tickets.files, first, given)?;
-    note_taken(index, first, given);
-    tickets.next = first + given.len() as u64;
+    compact_if_due(tickets, index);
+    tickets.slots.reserve(given.len())?;
+    let first = tickets.slots.len();
+    append(&mut tickets.slots, given);
+    note_taken(index, first as u64, &tickets.slots[first..]);
+    tickets.taken += given.len();
     Ok(())
 }
-
-#[cfg(test)]
-mod tests;
