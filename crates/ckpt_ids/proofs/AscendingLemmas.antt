@@ -1,5 +1,5 @@
 -- Numbers in ascending order: what sorting makes.
-use Rattle.std.proofs.Common.{◌≡◌, ℕ, suc, ◌+◌, ◌<◌, ◌≤◌, Bool, true, false, cond, ltb, leb, eqb, List, [], ◌∷◌, ◌++◌, length, get_or, refl, sym, ap, subst, ◌∙◌, inl, inr, ⊎_elim, arith}
+use Rattle.std.proofs.Common.{◌≡◌, ℕ, zero, suc, ◌+◌, ◌<◌, ◌≤◌, Bool, true, false, cond, ltb, leb, eqb, List, [], ◌∷◌, ◌++◌, length, get_or, refl, sym, ap, subst, ◌∙◌, inl, inr, ⊎_elim, arith}
 use Rattle.std.specs.List.Sorted.{IsPermutation, IsNonDecreasingBy, IsSorted}
 use Rattle.std.specs.Ordering.{nat_cmp}
 use Rattle.std.proofs.lemmas.Bool.{cases_Bool, ltb-true, ltb-false, leb-true, lt-ltb, le-ltb, le-leb, eq-eqb}
@@ -8,7 +8,7 @@ use Rattle.ckpt_ids.specs.Ordered.{IsIn, put, IsStrictOrder}
 use Rattle.ckpt_ids.specs.Ascending.{IsAscending, ascending}
 use Rattle.ckpt_ids.specs.Counting.{times}
 use Rattle.ckpt_ids.proofs.CountLemmas.{count_by-append, count_by-cons, count_by_yes, IsIn-from_times}
-use Rattle.ckpt_ids.proofs.OrderedLemmas.{ComesBefore-at, ComesBefore-from, IsIn-put_cases, IsIn-place}
+use Rattle.ckpt_ids.proofs.OrderedLemmas.{ComesBefore-at, ComesBefore-from, IsIn-get_or, IsIn-place, IsIn-put_cases}
 
 -- the order of numbers
 pub numbers_in_order : IsStrictOrder ltb
@@ -107,3 +107,11 @@ ascending-swapped xs ys =
     let second : times z (ascending (ys ++ xs)) ≡ times z ys + times z xs = times-ascending z (ys ++ xs) ∙ count_by-append (λ x. eqb x z) ys xs in
     omega (arith, first, second) in
     same_from_times (ascending (xs ++ ys)) (ascending (ys ++ xs)) (IsAscending-ascending (xs ++ ys)) (IsAscending-ascending (ys ++ xs)) each
+
+-- ascending numbers, by place
+pub ascending_at : (xs : List ℕ) → IsAscending xs → (i j : ℕ) → i ≤ j → j < length xs → get_or xs i 0 ≤ get_or xs j 0
+ascending_at [] a i j le lt = absurd (omega arith)
+ascending_at (x ∷ xs) a zero zero le lt = omega arith
+ascending_at (x ∷ xs) a zero (suc j) le lt = leb-true x (get_or xs j 0) (ComesBefore-at leb x (get_or xs j 0) xs a.0 (IsIn-get_or xs j 0 (omega arith)))
+ascending_at (x ∷ xs) a (suc i) zero le lt = absurd (omega arith)
+ascending_at (x ∷ xs) a (suc i) (suc j) le lt = ascending_at xs a.1 i j (omega arith) (omega arith)

@@ -3,4 +3,5 @@ pub mod CountLemmas
 pub mod OrderLemmas
 pub mod OrderedLemmas
 pub mod ResultLemmas
+pub mod SetLemmas
 pub mod ShapeLemmas

@@ -17,22 +17,8 @@ use Rattle.ckpt_ids.specs.Ascending.{IsAscending, IsAscendingSet, ascending, asc
 use Rattle.ckpt_ids.specs.Records.{Record, Use, Holder, Subtask, Pin, uses}
 use Rattle.ckpt_ids.proofs.OrderedLemmas.{ComesBefore-at, ComesBefore-from, IsIn-place, IsIn-get_or, same_from_members, IsInOrder-in_order_once, IsIn-in_order_once, IsIn-from_in_order_once}
 use Rattle.ckpt_pending.specs.Acknowledging.{acks_of}
-use Rattle.ckpt_ids.proofs.AscendingLemmas.{numbers_in_order, same_from_times, IsAscending-ascending, times-ascending}
-
-IsIn-contained : (x : ℕ) (xs : List ℕ) → Contains xs x → IsIn x xs
-IsIn-contained x xs h = let P : ℕ → Type 0 = λ y. IsIn y xs in subst P h.2 (IsIn-get_or xs h.0 x h.1)
-
-IsAscendingSet-from_pairs : (xs : List ℕ) → AllPairs (λ x y. x < y) xs → IsAscendingSet xs
-IsAscendingSet-from_pairs [] h = tt
-IsAscendingSet-from_pairs (x ∷ xs) h =
-    let first : (y : ℕ) → IsIn y xs → ltb x y ≡ true = λ y k.
-    let p = IsIn-place y xs k in
-    let within : p.0 < length xs = p.1 in
-    let at : get_or xs p.0 y ≡ y = p.2 in
-    let up : x < get_or xs p.0 y = h 0 (suc p.0) y (omega arith) (omega arith) in
-    lt-ltb x y (omega arith) in
-    let rest : AllPairs (λ x y. x < y) xs = λ i j d a b. h (suc i) (suc j) d (omega arith) (omega arith) in
-    (ComesBefore-from ltb x xs first, IsAscendingSet-from_pairs xs rest)
+use Rattle.ckpt_ids.proofs.AscendingLemmas.{ascending_already, numbers_in_order}
+use Rattle.ckpt_ids.proofs.SetLemmas.{set-from_dedup}
 
 IsAscending-from_set : (xs : List ℕ) → IsAscendingSet xs → IsAscending xs
 IsAscending-from_set [] h = tt
@@ -42,19 +28,9 @@ IsAscending-from_set (x ∷ xs) h =
 -- what a sort and a `dedup` leave
 pub ascending-from_dedup : (all sorted kept : List ℕ) → IsPermutation all sorted → IsSorted nat_cmp sorted → IsFiltered (DiffersFromLast eqb) [] sorted kept → ascending kept ≡ ascending_set all
 ascending-from_dedup all sorted kept moved s filtered =
-    let is : kept ≡ dedup eqb sorted = dedup_is eqb sorted kept filtered in
-    let P : List ℕ → Type 0 = IsAscendingSet in
-    let strict : IsAscendingSet kept = subst P (sym is) (IsAscendingSet-from_pairs (dedup eqb sorted) (AllPairs-from_increasing (dedup eqb sorted) (IsStrictlyIncreasing-dedup sorted s))) in
-    let once : ascending kept ≡ kept = same_from_times (ascending kept) kept (IsAscending-ascending kept) (IsAscending-from_set kept strict) (λ z. times-ascending z kept) in
-    let forth : (z : ℕ) → IsIn z kept → IsIn z (ascending_set all) = λ z h.
-    let In : List ℕ → Type 0 = λ xs. IsIn z xs in
-    let k : Contains sorted z = Contains-from_dedup eqb sorted z (IsIn-place z (dedup eqb sorted) (subst In is h)) in
-    IsIn-in_order_once numbers_in_order z all (IsIn-contained z all (Contains-permutation sorted all z (IsPermutation-sym all sorted moved) k)) in
-    let back : (z : ℕ) → IsIn z (ascending_set all) → IsIn z kept = λ z h.
-    let In : List ℕ → Type 0 = λ xs. IsIn z xs in
-    let k : Contains sorted z = Contains-permutation all sorted z moved (IsIn-place z all (IsIn-from_in_order_once ltb z all h)) in
-    subst In (sym is) (IsIn-contained z (dedup eqb sorted) (Contains-dedup_nat sorted z k)) in
-    once ∙ same_from_members numbers_in_order kept (ascending_set all) strict (IsInOrder-in_order_once numbers_in_order all) forth back
+    let is : kept ≡ ascending_set all = set-from_dedup all sorted kept moved s filtered in
+    let up : IsAscending kept = IsAscending-from_set kept (subst IsAscendingSet (sym is) (IsInOrder-in_order_once numbers_in_order all)) in
+    sym (ascending_already kept up) ∙ is
 
 map-append : {X Y : Type 0} (f : X → Y) (xs ys : List X) → map f (xs ++ ys) ≡ map f xs ++ map f ys
 map-append f [] ys = refl

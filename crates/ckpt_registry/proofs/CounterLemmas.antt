@@ -145,11 +145,6 @@ pub OnOk-unless : {T E : Type 0} (r : Result T E) (P Q : Type 0) → (Q → ⊥)
 OnOk-unless (Ok x) P Q never q p = p
 OnOk-unless (Err e) P Q never q p = absurd (never q)
 
--- what holds anyway holds after an error
-pub OnErr-anyway : {T E : Type 0} (r : Result T E) (P : Type 0) → P → OnErr r P
-OnErr-anyway (Ok x) P p = tt
-OnErr-anyway (Err e) P p = p
-
 -- a file that stands once is not among those before it
 pub times_before : (xs : List ℕ) (i k : ℕ) → times k xs ≤ 1 → i < length xs → k ≡ get_or xs i k → times k (take i xs) ≡ 0
 times_before xs i k once within at =

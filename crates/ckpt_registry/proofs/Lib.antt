@@ -1,5 +1,4 @@
 pub mod CounterLemmas
-pub mod FileLemmas
 pub mod HoldingLemmas
 pub mod ListLemmas
 pub mod PartLemmas

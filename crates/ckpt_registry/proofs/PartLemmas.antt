@@ -12,15 +12,8 @@ use Rattle.ckpt_ids.specs.Ascending.{IsAscending}
 use Rattle.ckpt_ids.specs.Counting.{times}
 use Rattle.ckpt_ids.specs.Ordered.{IsIn}
 use Rattle.ckpt_ids.proofs.CountLemmas.{times-append, times-from_IsIn, IsIn-from_times}
+use Rattle.ckpt_ids.proofs.AscendingLemmas.{ascending_at}
 use Rattle.ckpt_ids.proofs.OrderedLemmas.{ComesBefore-at, IsIn-get_or, IsIn-place}
-
--- ascending numbers, by place
-ascending_at : (xs : List ℕ) → IsAscending xs → (i j : ℕ) → i ≤ j → j < length xs → get_or xs i 0 ≤ get_or xs j 0
-ascending_at [] a i j le lt = absurd (omega arith)
-ascending_at (x ∷ xs) a zero zero le lt = omega arith
-ascending_at (x ∷ xs) a zero (suc j) le lt = leb-true x (get_or xs j 0) (ComesBefore-at leb x (get_or xs j 0) xs a.0 (IsIn-get_or xs j 0 (omega arith)))
-ascending_at (x ∷ xs) a (suc i) zero le lt = absurd (omega arith)
-ascending_at (x ∷ xs) a (suc i) (suc j) le lt = ascending_at xs a.1 i j (omega arith) (omega arith)
 
 -- what a search by halves says
 pub times-from_search : (xs : List ℕ) (x : ℕ) (r : Result ℕ ℕ) → IsAscending xs → IsBinarySearchResult (λ y. nat_cmp y x) xs r → is_ok r ≡ ltb 0 (times x xs)

@@ -102,8 +102,3 @@ late_answers p o now id subtask fresh reused files n clock sound accepted ended 
     let P : Parts → Type 0 = λ x. Answers p x (Ack now id subtask fresh reused) (reply.AckLate n) in
     let Q : ℕ → Type 0 = λ k. Answers p (late p now (unknown_in p fresh) spare) (Ack now id subtask fresh reused) (reply.AckLate k) in
     subst P (sym same) (subst Q (sym (counted ∙ ap length is)) (late_is p now id subtask fresh reused spare sound accepted ended room))
-
--- a fact that is known holds of each error
-pub on_each_error : {T E : Type 0} (r : Result T E) (P : Type 0) → P → OnErr r P
-on_each_error (Ok x) P h = tt
-on_each_error (Err x) P h = h

@@ -10,7 +10,7 @@ use Rattle.std.proofs.lemmas.List.{get_or_default}
 use Rattle.ckpt_ids.specs.Ordered.{IsIn, AreDistinct}
 use Rattle.ckpt_ids.specs.Ascending.{IsAscending, IsAscendingSet}
 use Rattle.ckpt_ids.proofs.OrderedLemmas.{ComesBefore-at, ComesBefore-from, IsIn-place, IsIn-get_or, IsIn-from_list_any, list_any-from_IsIn, AreDistinct-append, AreDistinct-left, AreDistinct-right, AreDistinct-apart, AreDistinct-from_order}
-use Rattle.ckpt_ids.proofs.AscendingLemmas.{numbers_in_order}
+use Rattle.ckpt_ids.proofs.AscendingLemmas.{ascending_at, numbers_in_order}
 use Rattle.ckpt_core.specs.Refusals.{has_repeats}
 use Rattle.ckpt_core.proofs.Ending.Released.{distinct-from_test, IsIn-from_test, test-from_IsIn}
 
@@ -37,15 +37,6 @@ test-from_distinct [] a = refl
 test-from_distinct (x ∷ xs) a =
     let first : list_any (λ y. eqb x y) xs ≡ false = false_unless (list_any (λ y. eqb x y) xs) (λ e. a.0 (IsIn-from_test x xs e)) in
     ap (λ b. b || has_repeats xs) first ∙ test-from_distinct xs a.1
-
--- ascending numbers, by place
-
-ascending_at : (xs : List ℕ) → IsAscending xs → (i j : ℕ) → i ≤ j → j < length xs → get_or xs i 0 ≤ get_or xs j 0
-ascending_at [] a i j le lt = absurd (omega arith)
-ascending_at (x ∷ xs) a zero zero le lt = omega arith
-ascending_at (x ∷ xs) a zero (suc j) le lt = leb-true x (get_or xs j 0) (ComesBefore-at leb x (get_or xs j 0) xs a.0 (IsIn-get_or xs j 0 (omega arith)))
-ascending_at (x ∷ xs) a (suc i) zero le lt = absurd (omega arith)
-ascending_at (x ∷ xs) a (suc i) (suc j) le lt = ascending_at xs a.1 i j (omega arith) (omega arith)
 
 -- where each number is below the next, none stands twice
 set-from_adjacent : (xs : List ℕ) → ((k d : ℕ) → suc k < length xs → true ≡ ltb (get_or xs k d) (get_or xs (suc k) d)) → IsAscendingSet xs

@@ -9,7 +9,7 @@ use Rattle.ckpt_registry.specs.declared.holdings.Part.{Part}
 use Rattle.ckpt_registry.specs.Holdings.{Acknowledged, files_of, uses_by, uses_in, parts_of}
 use Rattle.ckpt_registry.specs.Uses.{triples}
 use Rattle.ckpt_ids.proofs.CountLemmas.{count_by-append}
-use Rattle.ckpt_registry.proofs.CounterLemmas.{OnErr-anyway}
+use Rattle.ckpt_ids.proofs.ResultLemmas.{on_each_error}
 use Rattle.ckpt_registry.proofs.HoldingLemmas.{is_number, count_by-set_value, uses_in-set_value_same, count_by-insert_entry, uses_by-push, extends_at, parts_of-found, parts_of-none}
 use Rattle.ckpt_registry.proofs.holdings.hold.Goals as goal
 
@@ -28,7 +28,7 @@ returns-in_err-push-in-Some-clause-err c =
     let written = c.get_mut.follows.holds w in
     let same : uses_in (c.get_mut.follows.lender w).entries ≡ uses_in c.args.acknowledged.now.entries =
     ap (λ xs. uses_in xs) written.0 ∙ uses_in-set_value_same c.args.id c.args.acknowledged.now.entries c.in-Some.parts.now w (sym c.in-Some.ensures.value) (c.in_err-push-in-Some.ensures).items in
-    OnErr-anyway c.from_residual-in_err-push-in-Some.result _ same
+    on_each_error c.from_residual-in_err-push-in-Some.result _ same
 
 pub returns-in_ok-push-in-Some-clause-extends : goal.returns-in_ok-push-in-Some-clause-extends
 returns-in_ok-push-in-Some-clause-extends c =

@@ -1,7 +1,7 @@
 -- The number's pending record, where it is found, is that of the state.
 use Rattle.std.proofs.Common.{◌<◌, ◌≤◌, sym, arith}
 use Rattle.ckpt_ids.specs.Records.{missing}
-use Rattle.ckpt_core.proofs.Acknowledging.Late.{on_each_error}
+use Rattle.ckpt_ids.proofs.ResultLemmas.{on_each_error}
 use Rattle.ckpt_core.proofs.Acknowledging.States.{IsTaking, acked_wants, it_lacks, none_found}
 use Rattle.ckpt_core.proofs.parts.Parts.ack.Goals as goal
 

@@ -10,7 +10,7 @@ use Rattle.ckpt_ids.proofs.OrderedLemmas.{IsIn-from_in_order_once}
 use Rattle.ckpt_registry.specs.Counters.{counter}
 use Rattle.ckpt_registry.specs.Holdings.{files_in, files_of}
 use Rattle.ckpt_registry.specs.Pins.{each_file}
-use Rattle.ckpt_registry.proofs.FileLemmas.{set-from_dedup}
+use Rattle.ckpt_ids.proofs.SetLemmas.{set-from_dedup}
 use Rattle.ckpt_registry.proofs.PartLemmas.{times_of_take}
 use Rattle.ckpt_registry.proofs.pins.Pinner.take.Goals as goal
 

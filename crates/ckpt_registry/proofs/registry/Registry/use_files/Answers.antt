@@ -10,7 +10,8 @@ use Rattle.ckpt_registry.specs.Pins.{pins_in}
 use Rattle.ckpt_registry.specs.declared.pins.Pinner.{Pinner}
 use Rattle.ckpt_registry.specs.Sound.{in_use, stored, StandsOnce}
 use Rattle.ckpt_registry.specs.Uses.{HasNoUse, triples}
-use Rattle.ckpt_registry.proofs.CounterLemmas.{AreInRange-unchanged, OnErr-anyway, counter-unchanged}
+use Rattle.ckpt_registry.proofs.CounterLemmas.{AreInRange-unchanged, counter-unchanged}
+use Rattle.ckpt_ids.proofs.ResultLemmas.{on_each_error}
 use Rattle.ckpt_registry.proofs.RegistryLemmas.{IsSound-acknowledged, below-in_use, below_more, count-in_use, in_use-added, is_present-in_use, stored-acknowledged}
 use Rattle.ckpt_registry.proofs.PinLemmas.{pins_in-extended}
 use Rattle.ckpt_registry.proofs.SoundLemmas.{AreCounted-kept}
@@ -82,7 +83,7 @@ returns-in_err-hold-clause-err c =
     let held = c.hold.new.acknowledged in
     let e = c.in_err-hold.ensures in
     let same : stored held p ≡ stored r.acknowledged p = ap (λ us. us ++ pins_in held p) e.err ∙ ap (λ us. uses_in r.acknowledged.entries ++ us) (pins_in-extended r.acknowledged held p e.extends c.self.invariant.parts.kept) in
-    OnErr-anyway c.from_residual-in_err-hold.result _ (ap (in_order_once use_before) same ∙ c.self.view_is)
+    on_each_error c.from_residual-in_err-hold.result _ (ap (in_order_once use_before) same ∙ c.self.view_is)
 
 pub invariant_of-self-2 : goal.invariant_of-self-2
 invariant_of-self-2 c =
