@@ -1,11 +1,11 @@
 //! Which records have ended, and why.
 use crate::history::{Ending, Record};
 use ckpt_ids::{Answer, Call, CheckpointId};
-use ckpt_locked::Book;
+use ckpt_locked::{Book, MOST_SEATS};
 use std::alloc::AllocError;
 
-/// The seat of the calls of the script.
-const LINE_SEAT: u32 = 64;
+/// The seat of the calls of the script: one that no lock gives.
+const LINE_SEAT: u32 = MOST_SEATS;
 
 /// Why records end, by the call that ended them.
 #[derive(Clone, Copy)]

@@ -6,12 +6,12 @@ use crate::settings::DemoFault;
 use crate::threads::Ended;
 use ckpt_core::Core;
 use ckpt_ids::{Call, FileId};
-use ckpt_locked::Book;
+use ckpt_locked::{Book, MOST_SEATS};
 use std::alloc::{AllocError, Global};
 use std::io;
 
-/// The seat of the calls that the checks make.
-const CHECKER: u32 = 64;
+/// The seat of the calls that the checks make: one that no lock gives.
+const CHECKER: u32 = MOST_SEATS;
 
 /// Whose the last seats are.
 const OTHERS: [&str; 3] = ["timer", "discarder", "conductor"];

@@ -6,10 +6,10 @@ use Rattle.ckpt_lines.specs.Reading.{reading}
 use Rattle.ckpt_script.specs.declared.fault.RunFault.{RunFault}
 use Rattle.ckpt_script.specs.declared.fault.RunFault.TheVariants.{Read, Write, TooManyLines, Memory}
 use Rattle.ckpt_script.specs.declared.summary.Summary.{Summary}
-use Rattle.ckpt_script.specs.Known.{WhereKnown, Passes}
+use Rattle.ckpt_script.specs.Known.{WhereKnown, Passes, IsCut}
 use Rattle.ckpt_script.specs.Lines.{held, whole_lines, TakesPart, HoldsLine, HoldsPart}
 use Rattle.ckpt_script.specs.declared.limits.TheConstants.{MOST_LINES}
-use Rattle.ckpt_script.specs.Outputs.{output, IsCut}
+use Rattle.ckpt_script.specs.Outputs.{output}
 use Rattle.ckpt_session.specs.Sessions.{Scene, said}
 use Rattle.ckpt_script.specs.Telling.{HasRun, Shows, IsSoFar, Stopped}
 use Rattle.ckpt_script.proofs.KnownLemmas.{WhereKnown-keeps, WhereKnown-unread, WhereKnown-compose, WhereKnown-if, WhereKnown-map, WhereKnown-some}

@@ -1,10 +1,9 @@
 -- What was written and what waits, from step to step.
-use Rattle.std.proofs.Common.{◌≡◌, ℕ, List, [], ◌++◌, take, drop, Option, None, Some, refl, sym, ap, subst, ◌∙◌, append_assoc, append-nil}
+use Rattle.std.proofs.Common.{◌≡◌, ℕ, List, [], ◌++◌, Option, None, Some, refl, sym, ap, subst, ◌∙◌, append_assoc, append-nil}
 use Rattle.std.specs.Io.KnownBytes.{Appends, Keeps}
-use Rattle.std.proofs.lemmas.List.{take-append-drop}
 use Rattle.std.specs.Prelude.{Result, Ok, Err, OnOk, OnErr, IfErr}
 use Rattle.std.specs.Result.{IsErrAnd}
-use Rattle.ckpt_script.specs.Known.{Passes}
+use Rattle.ckpt_script.specs.Known.{IsCut, Passes}
 
 pub Appends-trans : (a b c : Option (List ℕ)) (xs ys : List ℕ) → Appends a b xs → Appends b c ys → Appends a c (xs ++ ys)
 Appends-trans None b c xs ys p q = tt
@@ -42,11 +41,11 @@ module _ (before between after : Option (List ℕ)) where
   }
 
 -- a front of what waited was written
-pub passes_part : (before after : Option (List ℕ)) (waiting text : List ℕ) (count : ℕ) → Appends before after (take count waiting) → Passes before after waiting text (drop count waiting ++ text)
-passes_part before after waiting text count p = record {
-  written = take count waiting;
-  appended = p;
-  in_turn = sym (append_assoc (take count waiting) (drop count waiting) text) ∙ ap (λ (zs : List ℕ). zs ++ text) (take-append-drop count waiting);
+pub passes_part : (before after : Option (List ℕ)) (waiting text : List ℕ) (cut : IsCut before after waiting) → Passes before after waiting text (cut.1 ++ text)
+passes_part before after waiting text cut = record {
+  written = cut.0;
+  appended = cut.2;
+  in_turn = sym (append_assoc cut.0 cut.1 text) ∙ ap (λ (zs : List ℕ). zs ++ text) cut.3;
 }
 
 -- nothing was written

@@ -1,14 +1,13 @@
 -- What is written when a run ends.
-use Rattle.std.proofs.Common.{◌≡◌, ℕ, Bool, true, false, List, [], ◌++◌, take, drop, Option, None, Some, refl, sym, ap, subst, ◌∙◌, append_assoc, append-nil}
+use Rattle.std.proofs.Common.{◌≡◌, ℕ, Bool, true, false, List, [], ◌++◌, Option, None, Some, refl, sym, ap, subst, ◌∙◌, append_assoc, append-nil}
 use Rattle.std.specs.Prelude.{IfSome, Ok, Err}
 use Rattle.std.specs.Io.KnownBytes.{Appends, IsAtEnd, prepend_known}
-use Rattle.std.proofs.lemmas.List.{take-append-drop}
 use Rattle.ckpt_script.specs.declared.fault.RunFault.{RunFault}
 use Rattle.ckpt_script.specs.declared.fault.RunFault.TheVariants.{Read, Write, TooManyLines, Memory}
 use Rattle.ckpt_script.specs.declared.summary.Summary.{Summary}
-use Rattle.ckpt_script.specs.Known.{WhereKnown}
+use Rattle.ckpt_script.specs.Known.{WhereKnown, IsCut}
 use Rattle.ckpt_script.specs.Lines.{whole_lines}
-use Rattle.ckpt_script.specs.Outputs.{output, IsCut, Ran}
+use Rattle.ckpt_script.specs.Outputs.{output, Ran}
 use Rattle.ckpt_session.specs.Sessions.{Scene, opening_scene}
 use Rattle.ckpt_script.specs.Telling.{Shows, IsSoFar, Stopped, keeps_lines}
 use Rattle.ckpt_script.proofs.KnownLemmas.{WhereKnown-map, WhereKnown-if}
@@ -21,40 +20,35 @@ module _ (before now after : Option (List ℕ)) (waiting shown : List ℕ) (show
   written_out out = Appends-as before after (shows.written ++ waiting) shown shows.all (Appends-trans before now after shows.written waiting shows.appended out)
 
   -- a part of it was written
-  cut_short : (count : ℕ) → Appends now after (take count waiting) → (more all : List ℕ) → all ≡ shown ++ more → IsCut before after all
-  cut_short count out more all e = (
-    shows.written ++ take count waiting,
-    drop count waiting ++ more,
-    Appends-trans before now after shows.written (take count waiting) shows.appended out,
-    regroup shows.written (take count waiting) (drop count waiting) more
-        ∙ ap (λ (xs : List ℕ). (shows.written ++ xs) ++ more) (take-append-drop count waiting) ∙ ap (λ (xs : List ℕ). xs ++ more) shows.all ∙ sym e,
+  cut_short : IsCut now after waiting → (more all : List ℕ) → all ≡ shown ++ more → IsCut before after all
+  cut_short cut more all e = (
+    shows.written ++ cut.0,
+    cut.1 ++ more,
+    Appends-trans before now after shows.written cut.0 shows.appended cut.2,
+    regroup shows.written cut.0 cut.1 more ∙ ap (λ (xs : List ℕ). (shows.written ++ xs) ++ more) cut.3 ∙ ap (λ (xs : List ℕ). xs ++ more) shows.all ∙ sym e,
   )
     where
       regroup : (a b c d : List ℕ) → (a ++ b) ++ (c ++ d) ≡ (a ++ (b ++ c)) ++ d
       regroup a b c d = simp append_assoc
+
+if_map : (o : Option (List ℕ)) (P Q : List ℕ → Type 0) → ((x : List ℕ) → P x → Q x) → IfSome o P → IfSome o Q
+if_map None P Q f p = tt
+if_map (Some x) P Q f p = f x p
 
 module _ (text rest before now after : Option (List ℕ)) (waiting : List ℕ) where
   pub stopped_whole : (fault : RunFault) → keeps_lines fault ≡ true → Stopped text rest before now waiting fault → Appends now after waiting → Ran text rest before after (Err fault)
   stopped_whole Read keeps stopped out =
       WhereKnown-map text rest _ _ (λ t r told. (told.0, told.2, written_out before now after waiting (output (whole_lines told.0)) told.3 out)) stopped
   stopped_whole TooManyLines keeps stopped out = if_map text _ _ (λ t told. (told.0, written_out before now after waiting (output t) told.1 out)) stopped
-    where
-      if_map : (o : Option (List ℕ)) (P Q : List ℕ → Type 0) → ((x : List ℕ) → P x → Q x) → IfSome o P → IfSome o Q
-      if_map None P Q f p = tt
-      if_map (Some x) P Q f p = f x p
   stopped_whole Write keeps stopped out = absurd cc
   stopped_whole Memory keeps stopped out = absurd cc
 
-  pub stopped_short : (fault : RunFault) → keeps_lines fault ≡ true → Stopped text rest before now waiting fault → (count : ℕ) → Appends now after (take count waiting) → Ran text rest before after (Err Write)
-  stopped_short Read keeps stopped count out =
-      WhereKnown-if text rest _ _ (λ t r told. cut_short before now after waiting (output (whole_lines told.0)) told.3 count out told.1 (output t) told.4) stopped
-  stopped_short TooManyLines keeps stopped count out = if_map text _ _ (λ t told. cut_short before now after waiting (output t) told.1 count out [] (output t) (sym (append-nil (output t)))) stopped
-    where
-      if_map : (o : Option (List ℕ)) (P Q : List ℕ → Type 0) → ((x : List ℕ) → P x → Q x) → IfSome o P → IfSome o Q
-      if_map None P Q f p = tt
-      if_map (Some x) P Q f p = f x p
-  stopped_short Write keeps stopped count out = absurd cc
-  stopped_short Memory keeps stopped count out = absurd cc
+  pub stopped_short : (fault : RunFault) → keeps_lines fault ≡ true → Stopped text rest before now waiting fault → IsCut now after waiting → Ran text rest before after (Err Write)
+  stopped_short Read keeps stopped cut =
+      WhereKnown-if text rest _ _ (λ t r told. cut_short before now after waiting (output (whole_lines told.0)) told.3 cut told.1 (output t) told.4) stopped
+  stopped_short TooManyLines keeps stopped cut = if_map text _ _ (λ t told. cut_short before now after waiting (output t) told.1 cut [] (output t) (sym (append-nil (output t)))) stopped
+  stopped_short Write keeps stopped cut = absurd cc
+  stopped_short Memory keeps stopped cut = absurd cc
 
   pub stopped_cut_off : (fault : RunFault) → keeps_lines fault ≡ false → Stopped text rest before now waiting fault → Ran text rest before now (Err fault)
   stopped_cut_off Read keeps stopped = absurd cc
@@ -102,11 +96,11 @@ module _ (text known before now after : Option (List ℕ)) (bytes : List ℕ) (i
       (Appends-as before after told.0 (output t) all.0 (written_out before now after waiting told.0 told.2 out), all.1, all.2))
       (at_end text _ so_far)
 
-  pub ran_short : (count : ℕ) → Appends now after (take count waiting) → Ran text known before after (Err Write)
-  ran_short count out =
+  pub ran_short : IsCut now after waiting → Ran text known before after (Err Write)
+  ran_short cut =
       WhereKnown-if text (prepend_known bytes known) _ _
       (λ t rest run.
       let told = run.0 in
       let all = all_run t rest is_ended summary scene told.0 told.1 run.1 in
-      cut_short before now after waiting told.0 told.2 count out [] (output t) (sym (append-nil told.0 ∙ all.0)))
+      cut_short before now after waiting told.0 told.2 cut [] (output t) (sym (append-nil told.0 ∙ all.0)))
       (at_end text _ so_far)

@@ -4,10 +4,10 @@ use Rattle.std.specs.Prelude.{is_err}
 use Rattle.std.proofs.lemmas.List.Sums.{sum_by-append}
 use Rattle.ckpt_lines.specs.Reading.{reading}
 use Rattle.ckpt_script.specs.declared.summary.Summary.{Summary}
-use Rattle.ckpt_script.specs.Known.{Passes}
+use Rattle.ckpt_script.specs.Known.{Passes, IsCut}
 use Rattle.ckpt_script.specs.Lines.{newline, lines_of, whole_lines, TakesLine, TakesPart}
 use Rattle.ckpt_script.specs.declared.limits.TheConstants.{MOST_LINES}
-use Rattle.ckpt_script.specs.Outputs.{outputs, output, scene_after, faults_in, IsCut}
+use Rattle.ckpt_script.specs.Outputs.{outputs, output, scene_after, faults_in}
 use Rattle.ckpt_session.specs.Sessions.{Scene, opening_scene, said}
 use Rattle.ckpt_script.specs.Telling.{HasRun, Shows}
 use Rattle.ckpt_script.proofs.LineLemmas.{some_lines, lines_of-line, lines_of-last, lines_of-append, whole_lines-append, whole_lines-ends}

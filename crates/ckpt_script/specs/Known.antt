@@ -1,5 +1,5 @@
 -- What a reader has left, and what a writer was given, where that is known.
-use Rattle.std.specs.Prelude.{◌≡◌, ℕ, List, ◌++◌, take, ⊤, Option, None, Some}
+use Rattle.std.specs.Prelude.{◌≡◌, ℕ, List, ◌++◌, ⊤, Option, None, Some}
 use Rattle.std.specs.Io.KnownBytes.{Appends}
 
 -- the two lists are known where the first is, and the fact holds of them
@@ -8,9 +8,9 @@ WhereKnown None after P = ⊤
 WhereKnown (Some bytes) None P = ⊥
 WhereKnown (Some bytes) (Some rest) P = P bytes rest
 
--- so many of the bytes, from the first on, were written between these two moments
-abbrev pub AppendsFront : Option (List ℕ) → Option (List ℕ) → List ℕ → Type 0
-AppendsFront before after bytes = (count : ℕ) × Appends before after (take count bytes)
+-- a front of all these bytes was written between these two moments
+abbrev pub IsCut : Option (List ℕ) → Option (List ℕ) → List ℕ → Type 0
+IsCut before after all = (written rest : List ℕ) × Appends before after written × (written ++ rest ≡ all)
 
 -- What waited and then the text are, in this order, what was written between these two moments and what waits still.
 pub record Passes (before after : Option (List ℕ)) (waiting text left : List ℕ) : Type 0 where

@@ -6,7 +6,7 @@ use Rattle.ckpt_script.specs.declared.fault.RunFault.{RunFault}
 use Rattle.ckpt_script.specs.declared.fault.RunFault.TheVariants.{Read, Write, TooManyLines, Memory}
 use Rattle.ckpt_script.specs.declared.limits.TheConstants.{MOST_LINES}
 use Rattle.ckpt_script.specs.declared.summary.Summary.{Summary}
-use Rattle.ckpt_script.specs.Known.{WhereKnown}
+use Rattle.ckpt_script.specs.Known.{WhereKnown, IsCut}
 use Rattle.ckpt_script.specs.Lines.{lines_of, whole_lines}
 use Rattle.ckpt_session.specs.Sessions.{Scene, opening_scene, said}
 
@@ -27,10 +27,6 @@ faults_in lines = count_by (λ line. is_err (reading line)) lines
 -- the output of a text
 abbrev pub output : List ℕ → List ℕ
 output text = outputs 1 opening_scene (take MOST_LINES (lines_of text))
-
--- a front of the output was written between these two moments
-abbrev pub IsCut : Option (List ℕ) → Option (List ℕ) → List ℕ → Type 0
-IsCut before after all = (written rest : List ℕ) × Appends before after written × (written ++ rest ≡ all)
 
 -- What was written of a text, by how its run ended. `text` is what the reader had, `rest` what it has left, and `before`
 -- and `after` are what the writer held.

@@ -4,10 +4,10 @@ use Rattle.std.specs.Io.KnownBytes.{Appends}
 use Rattle.ckpt_script.specs.declared.fault.RunFault.{RunFault}
 use Rattle.ckpt_script.specs.declared.fault.RunFault.TheVariants.{Read, Write, TooManyLines, Memory}
 use Rattle.ckpt_script.specs.declared.summary.Summary.{Summary}
-use Rattle.ckpt_script.specs.Known.{WhereKnown}
+use Rattle.ckpt_script.specs.Known.{WhereKnown, IsCut}
 use Rattle.ckpt_script.specs.Lines.{lines_of, whole_lines}
 use Rattle.ckpt_script.specs.declared.limits.TheConstants.{MOST_LINES}
-use Rattle.ckpt_script.specs.Outputs.{outputs, output, scene_after, faults_in, IsCut}
+use Rattle.ckpt_script.specs.Outputs.{outputs, output, scene_after, faults_in}
 use Rattle.ckpt_session.specs.Sessions.{Scene, opening_scene}
 
 -- The lines of a front of the text have been run, and `rest` is left.

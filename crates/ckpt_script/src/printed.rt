@@ -1,7 +1,7 @@
 ghost use Rattle.std.specs.Prelude.{◌≡◌, ◌≢◌, ℕ, List, [], IfOk, OnOk, OnErr, IfErr};
 ghost use Rattle.std.specs.Io.KnownBytes.{Appends};
 ghost use Rattle.ckpt_script.specs.Devices.{SinkCauses};
-ghost use Rattle.ckpt_script.specs.Known.{AppendsFront, Passes};
+ghost use Rattle.ckpt_script.specs.Known.{IsCut, Passes};
 
 use crate::fault::RunFault;
 use crate::sink::Sink;
@@ -62,7 +62,7 @@ impl Printed {
     pub(crate) fn flush<K: Sink>(&mut self, sink: &mut K) -> Result<(), RunFault>
         requires going_on { K.failures sink.old ≡ 0 }
         ensures ok { OnOk result ((self.new ≡ []) × Appends (K.contents sink.old) (K.contents sink.new) self.old) }
-        ensures err { IfErr result (λ why. (why ≡ RunFault.Write) × AppendsFront (K.contents sink.old) (K.contents sink.new) self.old) }
+        ensures err { IfErr result (λ why. (why ≡ RunFault.Write) × IsCut (K.contents sink.old) (K.contents sink.new) self.old) }
         ensures going_on { OnOk result (K.failures sink.new ≡ 0) }
         ensures failed { OnErr result (K.failures sink.new ≡ 1) }
         ensures same_sink { K.device sink.new ≡ K.device sink.old }
@@ -84,7 +84,7 @@ impl Printed {
     fn write_out<K: Sink>(&mut self, sink: &mut K) -> Result<(), RunFault>
         requires going_on { K.failures sink.old ≡ 0 }
         ensures ok { OnOk result ((self.new ≡ []) × Appends (K.contents sink.old) (K.contents sink.new) self.old) }
-        ensures err { IfErr result (λ why. (why ≡ RunFault.Write) × AppendsFront (K.contents sink.old) (K.contents sink.new) self.old) }
+        ensures err { IfErr result (λ why. (why ≡ RunFault.Write) × IsCut (K.contents sink.old) (K.contents sink.new) self.old) }
         ensures going_on { OnOk result (K.failures sink.new ≡ 0) }
         ensures failed { OnErr result (K.failures sink.new ≡ 1) }
         ensures same_sink { K.device sink.new ≡ K.device sink.old }
@@ -103,7 +103,7 @@ impl Printed {
 fn write_whole<K: Sink>(sink: &mut K, bytes: &[u8]) -> Result<(), RunFault>
     requires going_on { K.failures sink.old ≡ 0 }
     ensures ok { OnOk result (Appends (K.contents sink.old) (K.contents sink.new) bytes.now) }
-    ensures err { IfErr result (λ why. (why ≡ RunFault.Write) × AppendsFront (K.contents sink.old) (K.contents sink.new) bytes.now) }
+    ensures err { IfErr result (λ why. (why ≡ RunFault.Write) × IsCut (K.contents sink.old) (K.contents sink.new) bytes.now) }
     ensures going_on { OnOk result (K.failures sink.new ≡ 0) }
     ensures failed { OnErr result (K.failures sink.new ≡ 1) }
     ensures same_sink { K.device sink.new ≡ K.device sink.old }

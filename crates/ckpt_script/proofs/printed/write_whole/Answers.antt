@@ -1,5 +1,6 @@
-use Rattle.std.proofs.Common.{arith, length-drop, ◌∙◌}
-use Rattle.ckpt_script.proofs.PassesLemmas.{Appends-trans, Appends-as}
+use Rattle.std.proofs.Common.{arith, drop, length-drop, refl, take, ◌∙◌}
+use Rattle.std.proofs.lemmas.List.{take-append-drop}
+use Rattle.ckpt_script.proofs.PassesLemmas.{Appends-trans, Appends-as, Appends-kept}
 use Rattle.ckpt_script.proofs.LineLemmas.{take_rest}
 use Rattle.ckpt_script.proofs.printed.write_whole.Goals as goal
 
@@ -11,3 +12,15 @@ loop-done-preserved g c = record {
   within = omega (arith, length-drop c.loop-done.done c.args.bytes.now, c.in-Ok.ensures.bound);
   appended = Appends-as _ _ _ _ (take_rest c.loop-done.done c.in-Ok.count c.args.bytes.now) (Appends-trans _ _ _ _ _ c.loop-done.invariant.appended c.in-Ok.ensures.bytes);
 }
+
+-- a write failed: the rest was not written
+pub returns-in-Err-clause-err : goal.returns-in-Err-clause-err
+returns-in-Err-clause-err g c = (
+  refl,
+  (
+    take c.loop-done.done c.args.bytes.now,
+    drop c.loop-done.done c.args.bytes.now,
+    Appends-kept _ _ _ _ c.loop-done.invariant.appended c.in-Err.ensures.bytes,
+    take-append-drop c.loop-done.done c.args.bytes.now,
+  ),
+)

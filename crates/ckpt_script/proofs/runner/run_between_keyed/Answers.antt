@@ -22,7 +22,7 @@ returns-in_err-flush-in-Ok-clause-ran g c =
     (Ran (g.S.Source.remaining c.args.source.now) (g.S.Source.remaining c.obey_all.new.source) (g.K.Sink.contents c.args.sink.now) (g.K.Sink.contents c.flush.new.sink)) c.from_residual-in_err-flush-in-Ok.ensures.1
     (subst (λ (why : RunFault). Ran (g.S.Source.remaining c.args.source.now) (g.S.Source.remaining c.obey_all.new.source) (g.K.Sink.contents c.args.sink.now) (g.K.Sink.contents c.flush.new.sink) (Err why)) (sym c.in_err-flush-in-Ok.ensures.err.0)
     (ran_short (g.S.Source.remaining c.args.source.now) (g.S.Source.remaining c.obey_all.new.source) (g.K.Sink.contents c.args.sink.now) (g.K.Sink.contents c.obey_all.new.sink) (g.K.Sink.contents c.flush.new.sink) c.obey_all.new.self.ahead.bytes c.obey_all.new.self.ahead.is_ended c.obey_all.new.self.summary c.obey_all.new.self.session c.obey_all.new.self.printed
-    so_far c.in-Ok.ensures.end.0 c.in-Ok.ensures.end.1 c.in_err-flush-in-Ok.ensures.err.1.0 c.in_err-flush-in-Ok.ensures.err.1.1))
+    so_far c.in-Ok.ensures.end.0 c.in-Ok.ensures.end.1 c.in_err-flush-in-Ok.ensures.err.1))
 
 pub returns-in-Ok-clause-ran : goal.returns-in-Ok-clause-ran
 returns-in-Ok-clause-ran g c =

@@ -5,4 +5,4 @@ use Rattle.ckpt_script.proofs.ahead.Ahead.fill.Goals as goal
 pub returns-in_err-flush-clause-cut : goal.returns-in_err-flush-clause-cut
 returns-in_err-flush-clause-cut g c =
     let failed = c.in_err-flush.ensures.err in
-    on_err c.from_residual.result (_, passes_part (g.K.Sink.contents c.args.sink.now) (g.K.Sink.contents c.flush.new.sink) c.args.printed.now [] failed.1.0 failed.1.1)
+    on_err c.from_residual.result (_, passes_part (g.K.Sink.contents c.args.sink.now) (g.K.Sink.contents c.flush.new.sink) c.args.printed.now [] failed.1)

@@ -1,14 +1,14 @@
-use Rattle.std.proofs.Common.{length, refl, sym, arith}
-use Rattle.std.proofs.lemmas.List.{take_all}
-use Rattle.ckpt_script.proofs.PassesLemmas.{Appends-as, Appends-kept}
+use Rattle.std.proofs.Common.{[], refl, append-nil}
+use Rattle.ckpt_script.proofs.PassesLemmas.{Appends-kept}
 use Rattle.ckpt_script.proofs.printed.Printed.flush.Goals as goal
 
 pub returns-in-Err-clause-err : goal.returns-in-Err-clause-err
 returns-in-Err-clause-err g c = (
   refl,
   (
-    length c.args.self.now,
-    Appends-as (g.K.Sink.contents c.args.sink.now) (g.K.Sink.contents c.flush.new.self) c.args.self.now _ (sym (take_all (length c.args.self.now) c.args.self.now (omega arith)))
-        (Appends-kept (g.K.Sink.contents c.args.sink.now) (g.K.Sink.contents c.write_out.new.sink) (g.K.Sink.contents c.flush.new.self) c.args.self.now c.in_ok-write_out.ensures.ok.1 c.in-Err.ensures.bytes),
+    c.args.self.now,
+    [],
+    Appends-kept (g.K.Sink.contents c.args.sink.now) (g.K.Sink.contents c.write_out.new.sink) (g.K.Sink.contents c.flush.new.self) c.args.self.now c.in_ok-write_out.ensures.ok.1 c.in-Err.ensures.bytes,
+    append-nil c.args.self.now,
   ),
 )

@@ -1,5 +1,4 @@
-use Rattle.std.proofs.Common.{ℕ, List, ◌++◌, take, drop, append-nil, ◌∙◌, ap}
-use Rattle.std.proofs.lemmas.List.{take-append-drop}
+use Rattle.std.proofs.Common.{ℕ, List, ◌++◌, append-nil, ◌∙◌, ap}
 use Rattle.ckpt_script.proofs.PassesLemmas.{passes_none, passes_part, passes_out, on_err, on_ok_map, on_err_map}
 use Rattle.ckpt_script.proofs.printed.Printed.print.Goals as goal
 
@@ -10,7 +9,7 @@ returns-in_err-extend_from_slice-clause-err g c =
 pub returns-in_err-write_out-clause-err : goal.returns-in_err-write_out-clause-err
 returns-in_err-write_out-clause-err g c =
     let failed = c.in_err-write_out.ensures.err in
-    on_err c.from_residual-in_err-write_out.result (_, passes_part (g.K.Sink.contents c.args.sink.now) (g.K.Sink.contents c.write_out.new.sink) c.args.self.now c.args.text.now failed.1.0 failed.1.1)
+    on_err c.from_residual-in_err-write_out.result (_, passes_part (g.K.Sink.contents c.args.sink.now) (g.K.Sink.contents c.write_out.new.sink) c.args.self.now c.args.text.now failed.1)
 
 pub returns-clause-ok : goal.returns-clause-ok
 returns-clause-ok g c =
@@ -24,5 +23,5 @@ pub returns-clause-err : goal.returns-clause-err
 returns-clause-err g c =
     let out = c.in_ok-write_out.ensures.ok in
     on_err_map c.write_whole.result
-    (λ why p. (drop p.1.0 c.args.text.now, passes_out (g.K.Sink.contents c.args.sink.now) (g.K.Sink.contents c.write_out.new.sink) (g.K.Sink.contents c.write_whole.new.sink) c.args.self.now c.args.text.now (take p.1.0 c.args.text.now) out.1 p.1.1 (drop p.1.0 c.args.text.now) (take-append-drop p.1.0 c.args.text.now)))
+    (λ why p. (p.1.1, passes_out (g.K.Sink.contents c.args.sink.now) (g.K.Sink.contents c.write_out.new.sink) (g.K.Sink.contents c.write_whole.new.sink) c.args.self.now c.args.text.now p.1.0 out.1 p.1.2 p.1.1 p.1.3))
     c.write_whole.ensures.err

@@ -12,4 +12,4 @@ returns-in-Ok-clause-ran g c = λ text rest before stopped.
 pub returns-in-Err-clause-ran : goal.returns-in-Err-clause-ran
 returns-in-Err-clause-ran g c = λ text rest before stopped.
     subst (λ (why : RunFault). Ran text rest before (g.K.Sink.contents c.flush.new.sink) (Err why)) (sym c.in-Err.ensures.err.0)
-    (stopped_short text rest before (g.K.Sink.contents c.args.sink.now) (g.K.Sink.contents c.flush.new.sink) c.args.self.now.printed c.args.fault (sym c.keeps_lines.ensures ∙ c.if-not-keeps_lines.false) stopped c.in-Err.ensures.err.1.0 c.in-Err.ensures.err.1.1)
+    (stopped_short text rest before (g.K.Sink.contents c.args.sink.now) (g.K.Sink.contents c.flush.new.sink) c.args.self.now.printed c.args.fault (sym c.keeps_lines.ensures ∙ c.if-not-keeps_lines.false) stopped c.in-Err.ensures.err.1)
