@@ -32,6 +32,7 @@ impl Parts {
     }
 
     /// A subtask has taken its part.
+    #[inline(never)]
     pub(crate) fn ack(
         &mut self,
         now: u64,

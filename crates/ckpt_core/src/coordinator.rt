@@ -166,7 +166,8 @@ fn recall_shape(call: &Call)
 }
 
 impl Parts {
-    /// Makes a call that is not refused.
+    /// Makes a call that is not refused. What makes it stands apart for each kind of call, since a
+    /// function clears the locals of all that is inlined into it.
     fn answer(&mut self, call: &Call) -> Result<Reply, AllocError>
         requires sound { AreSound self.old }
         requires accepted { IsAccepted self.old call.now }

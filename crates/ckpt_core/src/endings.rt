@@ -15,6 +15,7 @@ use std::alloc::AllocError;
 impl Parts {
     /// The job fails over: all pending records are dropped, and nothing more is triggered until it
     /// is restored. Answers how many files were released.
+    #[inline(never)]
     pub(crate) fn fail_over(&mut self) -> u64
         requires { AreSound self.old }
         ensures state { state_of self.new ≡ failed_over (state_of self.old) }
@@ -28,6 +29,7 @@ impl Parts {
     }
 
     /// A subtask could not take its part.
+    #[inline(never)]
     pub(crate) fn decline(&mut self, now: u64, id: CheckpointId, subtask: SubtaskId) -> Reply
         requires sound { AreSound self.old }
         requires accepted { IsAccepted self.old (call.Decline now id subtask) }
@@ -52,6 +54,7 @@ impl Parts {
     }
 
     /// A user lets a savepoint go.
+    #[inline(never)]
     pub(crate) fn dispose(&mut self, id: CheckpointId) -> Reply
         requires sound { AreSound self.old }
         requires accepted { IsAccepted self.old (call.Dispose id) }
@@ -62,6 +65,7 @@ impl Parts {
     }
 
     /// The job begins again in its present shape. Takes no memory.
+    #[inline(never)]
     pub(crate) fn restore(&mut self, now: u64, target: Target) -> Reply
         requires sound { AreSound self.old }
         requires accepted { IsAccepted self.old (call.Restore now target None) }
@@ -119,6 +123,7 @@ impl Parts {
     }
 
     /// The job begins again, in this shape.
+    #[inline(never)]
     pub(crate) fn restore_in(
         &mut self,
         now: u64,
@@ -137,6 +142,7 @@ impl Parts {
     }
 
     /// The job ends for good.
+    #[inline(never)]
     pub(crate) fn cancel(&mut self, now: u64) -> Reply
         requires sound { AreSound self.old }
         requires accepted { IsAccepted self.old (call.Cancel now) }

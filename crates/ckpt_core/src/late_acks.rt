@@ -12,6 +12,7 @@ use std::alloc::AllocError;
 
 impl Parts {
     /// The record has ended: what is not known of its fresh files waits for deletion.
+    #[inline(never)]
     pub(crate) fn ack_late(
         &mut self,
         now: u64,

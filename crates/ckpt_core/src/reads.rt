@@ -11,6 +11,7 @@ use std::alloc::AllocError;
 
 impl Parts {
     /// Fetches files that wait for deletion.
+    #[inline(never)]
     pub(crate) fn take(&mut self, most: u64) -> Result<Reply, AllocError>
         requires sound { AreSound self.old }
         requires accepted { IsAccepted self.old (call.Take most) }
@@ -21,6 +22,7 @@ impl Parts {
     }
 
     /// A fetched file is deleted.
+    #[inline(never)]
     pub(crate) fn deleted(&mut self, file: FileId) -> Reply
         requires sound { AreSound self.old }
         requires accepted { IsAccepted self.old (call.Deleted file) }
@@ -31,6 +33,7 @@ impl Parts {
     }
 
     /// A fetched file could not be deleted.
+    #[inline(never)]
     pub(crate) fn undeleted(&mut self, file: FileId) -> Reply
         requires sound { AreSound self.old }
         requires accepted { IsAccepted self.old (call.Undeleted file) }
@@ -41,6 +44,7 @@ impl Parts {
     }
 
     /// The metadata of a live record.
+    #[inline(never)]
     pub(crate) fn show(&mut self, id: CheckpointId) -> Result<Reply, AllocError>
         requires sound { AreSound self.old }
         requires accepted { IsAccepted self.old (call.Show id) }
@@ -51,6 +55,7 @@ impl Parts {
     }
 
     /// How often a file is used.
+    #[inline(never)]
     pub(crate) fn count(&mut self, file: FileId) -> Reply
         requires sound { AreSound self.old }
         requires accepted { IsAccepted self.old (call.Count file) }

@@ -26,6 +26,7 @@ impl Parts {
 
     /// Triggers a record of this kind, with the next number, at the greatest moment seen. It pins
     /// the files of the choice. Where memory runs out nothing has changed.
+    #[inline(never)]
     fn trigger(&mut self, kind: Kind) -> Result<CheckpointId, AllocError>
         requires tied { AreTied self.old }
         requires sound { IsSound (state_of self.old) }
@@ -100,6 +101,7 @@ impl Parts {
     }
 
     /// Triggers a savepoint.
+    #[inline(never)]
     pub(crate) fn savepoint(&mut self, now: u64) -> Result<Reply, AllocError>
         requires sound { AreSound self.old }
         requires accepted { IsAccepted self.old (call.Savepoint now) }
@@ -119,6 +121,7 @@ impl Parts {
 
     /// Time has passed: what is too old expires, and a checkpoint is triggered where nothing holds
     /// it back. Only a trigger takes memory, and where there is none nothing has changed.
+    #[inline(never)]
     pub(crate) fn tick(&mut self, now: u64) -> Result<Reply, AllocError>
         requires sound { AreSound self.old }
         requires accepted { IsAccepted self.old (call.Tick now) }
