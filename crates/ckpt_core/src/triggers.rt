@@ -5,7 +5,7 @@ ghost use Rattle.ckpt_rules.specs.declared.hold.Hold.TheVariants as hold;
 ghost use Rattle.ckpt_core.specs.declared.mode.Mode.TheVariants.{Running};
 ghost use Rattle.ckpt_core.specs.Coordinator.{IsSound, answer_wants, may_want_memory};
 ghost use Rattle.ckpt_core.specs.Inside.Parts.{Answers, AreSound, AreTied, IsAccepted, Stays, records_in, state_of};
-ghost use Rattle.ckpt_core.specs.Inside.Starting.{HasNoUse, IsIn, IsInOrder, Pin, Starts, count, files_chosen, held_at, pinned, tick, triggered, use_before};
+ghost use Rattle.ckpt_core.specs.Inside.Starting.{HasNoUse, IsIn, IsInOrder, NUMBERS_END, Pin, Starts, count, files_chosen, held_at, pinned, tick, triggered, use_before};
 
 use crate::parts::Parts;
 use ckpt_ids::{CheckpointId, Choice, Kind, Reply, Shape, TickEnd};
@@ -30,7 +30,7 @@ impl Parts {
     fn trigger(&mut self, kind: Kind) -> Result<CheckpointId, AllocError>
         requires tied { AreTied self.old }
         requires sound { IsSound (state_of self.old) }
-        requires next { self.old.next < 2 ^ 62 }
+        requires next { self.old.next < NUMBERS_END }
         ensures id { IfOk result (λ id. id ≡ self.old.next) }
         ensures ok { OnOk result (state_of self.new ≡ triggered (state_of self.old) kind) }
         ensures err { OnErr result (state_of self.new ≡ state_of self.old) }
@@ -46,7 +46,7 @@ impl Parts {
     fn add(&mut self, kind: Kind, shape: Shape) -> Result<CheckpointId, AllocError>
         requires tied { AreTied self.old }
         requires sound { IsSound (state_of self.old) }
-        requires next { self.old.next < 2 ^ 62 }
+        requires next { self.old.next < NUMBERS_END }
         requires shape { shape ≡ unwrap_or self.old.reshaped self.old.opened.shape }
         requires room { length (records_in self.old) + 1 ≤ vec_capacity self.old.ended }
         ensures id { IfOk result (λ id. id ≡ self.old.next) }
@@ -144,7 +144,7 @@ impl Parts {
     fn expire(&mut self) -> Result<Reply, AllocError>
         requires sound { AreSound self.old }
         requires running { self.old.mode ≡ Running }
-        requires next { self.old.next < 2 ^ 62 }
+        requires next { self.old.next < NUMBERS_END }
         ensures ok { IfOk result (λ reply. tick (state_of self.old) ≡ (state_of self.new, answer.Done reply)) }
         ensures err { OnErr result (state_of self.new ≡ state_of self.old) }
         ensures memory { OnErr result (answer_wants (call.Tick 0) (tick (state_of self.old)).1 ≡ true) }
@@ -184,7 +184,7 @@ impl Parts {
     fn start_or_hold(&mut self, pending: u32) -> Result<TickEnd, AllocError>
         requires tied { AreTied self.old }
         requires sound { IsSound (state_of self.old) }
-        requires next { self.old.next < 2 ^ 62 }
+        requires next { self.old.next < NUMBERS_END }
         ensures ok { IfOk result (λ end. Starts (state_of self.old) pending (state_of self.new) end) }
         ensures err { OnErr result (state_of self.new ≡ state_of self.old) }
         ensures memory { OnErr result (held_at (state_of self.old) pending ≡ hold.Go) }

@@ -1,6 +1,7 @@
--- The start of a checkpoint or savepoint: by a tick, told apart from the expiry that goes with it, and what it pins. The names of the
--- step that this takes are passed on from here.
+-- The start of a checkpoint or savepoint: by a tick, told apart from the expiry that goes with it, and what it pins. The names that
+-- this takes are passed on from here.
 use Rattle.std.specs.Prelude.{◌≡◌, ℕ, List, [], ◌++◌}
+pub use Rattle.ckpt_ids.specs.declared.limits.TheConstants.{NUMBERS_END}
 use Rattle.ckpt_ids.specs.declared.reply.TickEnd.{TickEnd}
 use Rattle.ckpt_ids.specs.declared.reply.Reply.TheVariants.{Ticked}
 use Rattle.ckpt_ids.specs.declared.reply.Answer.TheVariants.{Done}
