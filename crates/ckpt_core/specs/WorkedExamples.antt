@@ -63,23 +63,14 @@ pub ack_words_in_any_order : answers (opening usual (3 ∷ [])) (
 unfolding step_computes
 ack_words_in_any_order = refl
 
--- all 64 in eight threads
-pub all_64_in_eight_threads : answers (opening usual (64 ∷ [])) (
+-- all 64, in however many threads: a call knows of none
+pub all_64_in_threads : answers (opening usual (64 ∷ [])) (
     Tick 1000 ∷ []
     ) ≡ (
     Done (reply.Ticked 0 (end.Triggered 1)) ∷ []
     )
 unfolding step_computes
-all_64_in_eight_threads = refl
-
--- all 64 in one thread
-pub all_64_in_one_thread : answers (opening usual (64 ∷ [])) (
-    Tick 1000 ∷ []
-    ) ≡ (
-    Done (reply.Ticked 0 (end.Triggered 1)) ∷ []
-    )
-unfolding step_computes
-all_64_in_one_thread = refl
+all_64_in_threads = refl
 
 -- all of the missing
 pub all_of_the_missing : answers (opening usual (4 ∷ [])) (

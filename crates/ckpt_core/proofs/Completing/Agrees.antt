@@ -23,12 +23,14 @@ use Rattle.ckpt_core.proofs.Acknowledging.Moves.{replaced_members, still_in_repl
 use Rattle.ckpt_core.proofs.Acknowledging.States.{IsTaking, moved, taken_records}
 use Rattle.ckpt_core.proofs.Completing.Lists.{IsFinishing, is_past, later_in, noted_pending, noted_row, noted_savepoint, or_false, others, past_count, past_is_surplus}
 use Rattle.ckpt_core.proofs.Completing.Moves.{count_completed}
-use Rattle.ckpt_core.proofs.Completing.Taken.{acked_record, done_record, pinned_acked, pinned_done, taken_there, taken_apart, taken_groups, checkpoint_ending, ending_completes}
+use Rattle.ckpt_core.proofs.Completing.Taken.{pinned_acked, pinned_done, taken_there, taken_apart, taken_groups, checkpoint_ending, ending_completes}
 use Rattle.ckpt_core.proofs.Records.Counts.{IsIn-from_find}
 use Rattle.ckpt_core.proofs.Records.GroupLookups.{is_checkpoint-kind, is_savepoint-kind}
 use Rattle.ckpt_core.proofs.Records.Lookups.{AreGroups, count_same, has_number}
 use Rattle.ckpt_ids.proofs.CountLemmas.{count_by-none}
 use Rattle.ckpt_core.specs.Inside.Moving.{taken_in}
+use Rattle.ckpt_core.proofs.Soundness.Completions.{completed}
+use Rattle.ckpt_core.proofs.Soundness.Acks.{with_ack}
 
 -- the tests of the step on one record
 
@@ -91,7 +93,7 @@ its_above {p} {now} {id} {s} {fresh} {reused} {r} t checkpoint c h =
     (and_from c.done (is_checkpoint c) k.0 (is_checkpoint-kind c k.1))
 
 pub finishing : {p : Parts} {now id : ℕ} {s : SubtaskId} {fresh reused : List ℕ} {r : Record} → IsTaking p now id s fresh reused r → r.kind ≡ kind.Checkpoint →
-    IsFinishing (taken_in p now id s fresh reused).registry (taken_in p now id s fresh reused).pending p.store (acked_record r s fresh reused) (done_record r s fresh reused)
+    IsFinishing (taken_in p now id s fresh reused).registry (taken_in p now id s fresh reused).pending p.store (with_ack r s fresh reused) (completed r s fresh reused)
 finishing {p} {now} {id} {s} {fresh} {reused} {r} t checkpoint = record {
   apart = taken_apart t;
   there = taken_there t;
@@ -102,15 +104,15 @@ finishing {p} {now} {id} {s} {fresh} {reused} {r} t checkpoint = record {
   some = t.stored.retained_from;
 }
 
-pub row_rises : {p : Parts} {now id : ℕ} {s : SubtaskId} {fresh reused : List ℕ} {r : Record} → IsTaking p now id s fresh reused r → r.kind ≡ kind.Checkpoint → AreRising (row_of p (done_record r s fresh reused))
+pub row_rises : {p : Parts} {now id : ℕ} {s : SubtaskId} {fresh reused : List ℕ} {r : Record} → IsTaking p now id s fresh reused r → r.kind ≡ kind.Checkpoint → AreRising (row_of p (completed r s fresh reused))
 row_rises {p} {now} {id} {s} {fresh} {reused} {r} t checkpoint =
-    let d : Record = done_record r s fresh reused in
+    let d : Record = completed r s fresh reused in
     IsInOrder-append id_before p.store.checkpoints (d ∷ []) t.stored.checkpoints_rise (tt, tt) (λ x y h k.
     ⊎_elim (λ (e : y ≡ d). ap (λ w. ltb x.id w.id) e ∙ lt-ltb x.id d.id (its_above t checkpoint x h)) (λ (n : ⊥). absurd n) k)
 
-row_is_done : {p : Parts} {now id : ℕ} {s : SubtaskId} {fresh reused : List ℕ} {r : Record} → IsTaking p now id s fresh reused r → r.kind ≡ kind.Checkpoint → (x : Record) → IsIn x (row_of p (done_record r s fresh reused)) → (x.done ≡ true) × (is_checkpoint x ≡ true)
+row_is_done : {p : Parts} {now id : ℕ} {s : SubtaskId} {fresh reused : List ℕ} {r : Record} → IsTaking p now id s fresh reused r → r.kind ≡ kind.Checkpoint → (x : Record) → IsIn x (row_of p (completed r s fresh reused)) → (x.done ≡ true) × (is_checkpoint x ≡ true)
 row_is_done {p} {now} {id} {s} {fresh} {reused} {r} t checkpoint x h =
-    let d : Record = done_record r s fresh reused in
+    let d : Record = completed r s fresh reused in
     let Goal : Type 0 = (x.done ≡ true) × (is_checkpoint x ≡ true) in
     let g : AreGroups (taken_in p now id s fresh reused).pending p.store.checkpoints p.store.savepoints = taken_groups t in
     let old : IsIn x p.store.checkpoints → Goal = λ (c : IsIn x p.store.checkpoints). let k = g.checkpoints_done x c in (k.0, is_checkpoint-kind x k.1) in
@@ -123,11 +125,11 @@ completing_in p now r s fresh reused = with_records (moved p now) (replaced (rec
 
 -- the numbers that are noted
 abbrev pub gone_by : Parts → ℕ → ℕ → SubtaskId → List ℕ → List ℕ → Record → List ℕ
-gone_by p now id s fresh reused r = completing.superseded (others r.id (taken_in p now id s fresh reused).pending) p.store (done_record r s fresh reused)
+gone_by p now id s fresh reused r = completing.superseded (others r.id (taken_in p now id s fresh reused).pending) p.store (completed r s fresh reused)
 
-later_same : {p : Parts} {now id : ℕ} {s : SubtaskId} {fresh reused : List ℕ} {r : Record} → IsTaking p now id s fresh reused r → r.kind ≡ kind.Checkpoint → (x : Record) → later_done (completing_in p now r s fresh reused) x ≡ later_in (row_of p (done_record r s fresh reused)) x
+later_same : {p : Parts} {now id : ℕ} {s : SubtaskId} {fresh reused : List ℕ} {r : Record} → IsTaking p now id s fresh reused r → r.kind ≡ kind.Checkpoint → (x : Record) → later_done (completing_in p now r s fresh reused) x ≡ later_in (row_of p (completed r s fresh reused)) x
 later_same {p} {now} {id} {s} {fresh} {reused} {r} t checkpoint x =
-    let d : Record = done_record r s fresh reused in
+    let d : Record = completed r s fresh reused in
     let after : Parts = taken_in p now id s fresh reused in
     let row : List Record = row_of p d in
     let g : AreGroups after.pending p.store.checkpoints p.store.savepoints = taken_groups t in
@@ -150,14 +152,14 @@ superseded_is {p} {now} {id} {s} {fresh} {reused} {r} t checkpoint x h =
     let m : State = completing_in p now r s fresh reused in
     let c : Record = pinned_done p r s fresh reused in
     let a : Record = pinned_acked p r s fresh reused in
-    let d : Record = done_record r s fresh reused in
+    let d : Record = completed r s fresh reused in
     let gone : List ℕ = gone_by p now id s fresh reused r in
     let after : Parts = taken_in p now id s fresh reused in
     let row : List Record = row_of p d in
     let pinned : List Record = map (with_pins after.registry) after.pending in
     let done : List Record = p.store.checkpoints ++ p.store.savepoints in
     let g : AreGroups after.pending p.store.checkpoints p.store.savepoints = taken_groups t in
-    let f : IsFinishing after.registry after.pending p.store (acked_record r s fresh reused) d = finishing t checkpoint in
+    let f : IsFinishing after.registry after.pending p.store (with_ack r s fresh reused) d = finishing t checkpoint in
     let its : is_checkpoint c ≡ true = is_checkpoint-kind c checkpoint in
     let Agree : Record → Type 0 = λ y. superseded m c y ≡ is_noted gone y in
     let fits : length row ≤ p.store.retained + 1 = omega (arith, length-append p.store.checkpoints (d ∷ []), t.stored.few) in
@@ -190,12 +192,12 @@ pub superseded_count : {p : Parts} {now id : ℕ} {s : SubtaskId} {fresh reused 
 superseded_count {p} {now} {id} {s} {fresh} {reused} {r} t checkpoint =
     let m : State = completing_in p now r s fresh reused in
     let c : Record = pinned_done p r s fresh reused in
-    let d : Record = done_record r s fresh reused in
+    let d : Record = completed r s fresh reused in
     let gone : List ℕ = gone_by p now id s fresh reused r in
     let after : Parts = taken_in p now id s fresh reused in
     let row : List Record = row_of p d in
     let left : List Record = others r.id after.pending in
-    let f : IsFinishing after.registry after.pending p.store (acked_record r s fresh reused) d = finishing t checkpoint in
+    let f : IsFinishing after.registry after.pending p.store (with_ack r s fresh reused) d = finishing t checkpoint in
     let all : count_by (superseded m c) m.records ≡ count_by (is_noted gone) m.records = count_same (superseded m c) (is_noted gone) m.records (superseded_is t checkpoint) in
     let parts : count_by (is_noted gone) m.records ≡ count_by (is_noted gone) left + (count_by (is_noted gone) row + count_by (is_noted gone) p.store.savepoints) =
     count_completed (ending_completes t (checkpoint_ending t)) (is_noted gone) (λ y fs. refl) in

@@ -26,18 +26,20 @@ use Rattle.ckpt_core.proofs.Completing.Agrees.{completing_in, finishing, gone_by
 use Rattle.ckpt_core.proofs.Completing.Calls.{IsLast, taken_out}
 use Rattle.ckpt_core.proofs.Completing.Lists.{IsFinishing, is_past, noted_row, noted_savepoint, others, retained_is}
 use Rattle.ckpt_core.proofs.Completing.Moves.{IsEnding, completed_is, kept_records, left_groups, left_records, left_uses, released_files}
-use Rattle.ckpt_core.proofs.Completing.Taken.{acked_record, done_record, pinned_acked, pinned_done, checkpoint_ending, ending_completes, savepoint_ending}
+use Rattle.ckpt_core.proofs.Completing.Taken.{pinned_acked, pinned_done, checkpoint_ending, ending_completes, savepoint_ending}
 use Rattle.ckpt_core.proofs.Ending.Drops.{present_after, stays, staying}
 use Rattle.ckpt_core.proofs.Records.GroupLookups.{is_checkpoint-kind, is_savepoint-kind}
 use Rattle.ckpt_ids.proofs.CountLemmas.{count_by-none}
 use Rattle.ckpt_core.specs.Inside.Moving.{checkpoint_completed, savepoint_completed, taken_in}
+use Rattle.ckpt_core.proofs.Soundness.Completions.{completed}
+use Rattle.ckpt_core.proofs.Soundness.Acks.{with_ack}
 
 -- the step, where these numbers go
 last_step : {p : Parts} {now id : ℕ} {s : SubtaskId} {fresh reused : List ℕ} {r : Record} {more_checkpoints more_savepoints : List Record} → IsTaking p now id s fresh reused r → missing r ≡ 1 →
-    IsEnding (taken_in p now id s fresh reused).registry (taken_in p now id s fresh reused).pending p.store.checkpoints p.store.savepoints more_checkpoints more_savepoints (acked_record r s fresh reused) (done_record r s fresh reused) →
+    IsEnding (taken_in p now id s fresh reused).registry (taken_in p now id s fresh reused).pending p.store.checkpoints p.store.savepoints more_checkpoints more_savepoints (with_ack r s fresh reused) (completed r s fresh reused) →
     (gone left : List ℕ) (records : List Record) → ((x : Record) → IsIn x (replaced (records_in p) (pinned_done p r s fresh reused)) → superseded (completing_in p now r s fresh reused) (pinned_done p r s fresh reused) x ≡ is_noted gone x) →
     dropped_by (completing_in p now r s fresh reused) (superseded (completing_in p now r s fresh reused) (pinned_done p r s fresh reused)) ≡ length gone →
-    records ≡ left_groups (taken_in p now id s fresh reused).registry (taken_in p now id s fresh reused).pending more_checkpoints more_savepoints (done_record r s fresh reused) gone →
+    records ≡ left_groups (taken_in p now id s fresh reused).registry (taken_in p now id s fresh reused).pending more_checkpoints more_savepoints (completed r s fresh reused) gone →
     left ≡ released (taken_in p now id s fresh reused).registry (after_end r.id gone (taken_in p now id s fresh reused).registry) →
     step (state_of p) (Ack now id s fresh reused) ≡ (cleared (record (moved p now) { records = records; waiting = p.outbox.waiting ++ left }) (pinned_done p r s fresh reused), Done (reply.AckCompleted (length gone) (length left)))
 unfolding state_of
@@ -69,11 +71,11 @@ last_room {p} {now} {id} {s} {fresh} {reused} {r} t room gone =
     omega arith
 
 last_places : {p : Parts} {now id : ℕ} {s : SubtaskId} {fresh reused : List ℕ} {r : Record} {more_checkpoints more_savepoints : List Record} → IsTaking p now id s fresh reused r → present_in p.registry + length fresh ≤ p.outbox.spare →
-    IsEnding (taken_in p now id s fresh reused).registry (taken_in p now id s fresh reused).pending p.store.checkpoints p.store.savepoints more_checkpoints more_savepoints (acked_record r s fresh reused) (done_record r s fresh reused) →
-    (gone : List ℕ) (records : List Record) → records ≡ left_groups (taken_in p now id s fresh reused).registry (taken_in p now id s fresh reused).pending more_checkpoints more_savepoints (done_record r s fresh reused) gone →
+    IsEnding (taken_in p now id s fresh reused).registry (taken_in p now id s fresh reused).pending p.store.checkpoints p.store.savepoints more_checkpoints more_savepoints (with_ack r s fresh reused) (completed r s fresh reused) →
+    (gone : List ℕ) (records : List Record) → records ≡ left_groups (taken_in p now id s fresh reused).registry (taken_in p now id s fresh reused).pending more_checkpoints more_savepoints (completed r s fresh reused) gone →
     length records ≤ vec_capacity p.ended
 last_places {p} {now} {id} {s} {fresh} {reused} {r} {more_checkpoints} {more_savepoints} t room e gone records is =
-    let d : Record = done_record r s fresh reused in
+    let d : Record = completed r s fresh reused in
     let after : Parts = taken_in p now id s fresh reused in
     let tied : AreTied after = taken_tied t room in
     let before : length (records_in after) ≤ vec_capacity p.ended = tied.room in
@@ -90,14 +92,14 @@ cleared_savepoint : (m : State) (c : Record) → is_checkpoint c ≡ false → c
 cleared_savepoint m c e = ap (λ b. cond b (record m { failures = 0; completed = Some m.latest; base = None }) m) e
 
 checkpoint_records : {p : Parts} {now id : ℕ} {s : SubtaskId} {fresh reused : List ℕ} {r : Record} (then : Parts) → IsTaking p now id s fresh reused r → r.kind ≡ kind.Checkpoint →
-    records_in (checkpoint_completed (taken_out p now id s fresh reused r) (done_record r s fresh reused) (gone_by p now id s fresh reused r) then)
-    ≡ left_groups (taken_in p now id s fresh reused).registry (taken_in p now id s fresh reused).pending (row_of p (done_record r s fresh reused)) p.store.savepoints (done_record r s fresh reused) (gone_by p now id s fresh reused r)
+    records_in (checkpoint_completed (taken_out p now id s fresh reused r) (completed r s fresh reused) (gone_by p now id s fresh reused r) then)
+    ≡ left_groups (taken_in p now id s fresh reused).registry (taken_in p now id s fresh reused).pending (row_of p (completed r s fresh reused)) p.store.savepoints (completed r s fresh reused) (gone_by p now id s fresh reused r)
 checkpoint_records {p} {now} {id} {s} {fresh} {reused} {r} then t checkpoint =
-    let d : Record = done_record r s fresh reused in
+    let d : Record = completed r s fresh reused in
     let gone : List ℕ = gone_by p now id s fresh reused r in
     let after : Parts = taken_in p now id s fresh reused in
     let row : List Record = row_of p d in
-    let f : IsFinishing after.registry after.pending p.store (acked_record r s fresh reused) d = finishing t checkpoint in
+    let f : IsFinishing after.registry after.pending p.store (with_ack r s fresh reused) d = finishing t checkpoint in
     let left : List Use = after_end d.id gone after.registry in
     let pending : List Record = staying gone (others d.id after.pending) in
     let kept_row : staying gone row ≡ retained_of p.store.retained row =
@@ -107,7 +109,7 @@ checkpoint_records {p} {now} {id} {s} {fresh} {reused} {r} then t checkpoint =
 
 checkpoint_is : {p q : Parts} {now id : ℕ} {s : SubtaskId} {fresh reused : List ℕ} {r : Record} (then : Parts) → IsRoomier p q → IsTaking q now id s fresh reused r → missing r ≡ 1 → present_in q.registry + length fresh ≤ q.outbox.spare → r.kind ≡ kind.Checkpoint →
     then.ended.items ≡ [] → vec_capacity then.ended ≡ vec_capacity q.ended →
-    Answers p (checkpoint_completed (taken_out q now id s fresh reused r) (done_record r s fresh reused) (gone_by q now id s fresh reused r) then) (Ack now id s fresh reused)
+    Answers p (checkpoint_completed (taken_out q now id s fresh reused r) (completed r s fresh reused) (gone_by q now id s fresh reused r) then) (Ack now id s fresh reused)
     (reply.AckCompleted (length (gone_by q now id s fresh reused r)) (length (released (taken_in q now id s fresh reused).registry (after_end r.id (gone_by q now id s fresh reused r) (taken_in q now id s fresh reused).registry))))
 unfolding state_of
 checkpoint_is {p} {q} {now} {id} {s} {fresh} {reused} {r} then roomier t last room checkpoint none capacity =
@@ -115,9 +117,9 @@ checkpoint_is {p} {q} {now} {id} {s} {fresh} {reused} {r} then roomier t last ro
     let after : Parts = taken_in q now id s fresh reused in
     let c : Record = pinned_done q r s fresh reused in
     let files : List ℕ = released after.registry (after_end r.id gone after.registry) in
-    let new : Parts = checkpoint_completed (taken_out q now id s fresh reused r) (done_record r s fresh reused) gone then in
+    let new : Parts = checkpoint_completed (taken_out q now id s fresh reused r) (completed r s fresh reused) gone then in
     let e = checkpoint_ending t in
-    let records : records_in new ≡ left_groups after.registry after.pending (row_of q (done_record r s fresh reused)) q.store.savepoints (done_record r s fresh reused) gone = checkpoint_records then t checkpoint in
+    let records : records_in new ≡ left_groups after.registry after.pending (row_of q (completed r s fresh reused)) q.store.savepoints (completed r s fresh reused) gone = checkpoint_records then t checkpoint in
     let places : length (records_in new) ≤ vec_capacity q.ended = last_places t room e gone (records_in new) records in
     record {
       step_is =
@@ -139,7 +141,7 @@ pub checkpoint_answers : {p q then : Parts} {now id : ℕ} {s : SubtaskId} {fres
     answer ≡ reply.AckCompleted (length (completing.superseded then.pending then.store done)) (length (released then.registry (after_end done.id (completing.superseded then.pending then.store done) then.registry))) →
     Answers p new (Ack now id s fresh reused) answer
 checkpoint_answers {p} {q} {then} {now} {id} {s} {fresh} {reused} {r} {done} new answer roomier l checkpoint is none capacity answered =
-    let d : Record = done_record r s fresh reused in
+    let d : Record = completed r s fresh reused in
     let out : Parts = taken_out q now id s fresh reused r in
     let made : Parts → Record → Parts = λ x y. checkpoint_completed x y (completing.superseded x.pending x.store y) new in
     let said : Parts → Record → Reply = λ x y. reply.AckCompleted (length (completing.superseded x.pending x.store y)) (length (released x.registry (after_end y.id (completing.superseded x.pending x.store y) x.registry))) in
@@ -154,10 +156,10 @@ checkpoint_answers {p} {q} {then} {now} {id} {s} {fresh} {reused} {r} {done} new
 -- a savepoint
 
 savepoint_records : {p : Parts} {now id : ℕ} {s : SubtaskId} {fresh reused : List ℕ} {r : Record} (then : Parts) → IsTaking p now id s fresh reused r →
-    records_in (savepoint_completed (taken_out p now id s fresh reused r) (done_record r s fresh reused) then)
-    ≡ left_groups (taken_in p now id s fresh reused).registry (taken_in p now id s fresh reused).pending p.store.checkpoints (put by_id (done_record r s fresh reused) p.store.savepoints) (done_record r s fresh reused) []
+    records_in (savepoint_completed (taken_out p now id s fresh reused r) (completed r s fresh reused) then)
+    ≡ left_groups (taken_in p now id s fresh reused).registry (taken_in p now id s fresh reused).pending p.store.checkpoints (put by_id (completed r s fresh reused) p.store.savepoints) (completed r s fresh reused) []
 savepoint_records {p} {now} {id} {s} {fresh} {reused} {r} then t =
-    let d : Record = done_record r s fresh reused in
+    let d : Record = completed r s fresh reused in
     let after : Parts = taken_in p now id s fresh reused in
     let left : List Use = after_end d.id [] after.registry in
     let pending : List Record = others d.id after.pending in
@@ -172,7 +174,7 @@ none_superseded m c x e = ap (λ b. b && (is_subsumed c.id x || is_surplus m x))
 
 savepoint_is : {p q : Parts} {now id : ℕ} {s : SubtaskId} {fresh reused : List ℕ} {r : Record} (then : Parts) → IsRoomier p q → IsTaking q now id s fresh reused r → missing r ≡ 1 → present_in q.registry + length fresh ≤ q.outbox.spare → r.kind ≡ kind.Savepoint →
     then.ended.items ≡ [] → vec_capacity then.ended ≡ vec_capacity q.ended →
-    Answers p (savepoint_completed (taken_out q now id s fresh reused r) (done_record r s fresh reused) then) (Ack now id s fresh reused)
+    Answers p (savepoint_completed (taken_out q now id s fresh reused r) (completed r s fresh reused) then) (Ack now id s fresh reused)
     (reply.AckCompleted 0 (length (released (taken_in q now id s fresh reused).registry (after_end r.id [] (taken_in q now id s fresh reused).registry))))
 unfolding state_of
 savepoint_is {p} {q} {now} {id} {s} {fresh} {reused} {r} then roomier t last room savepoint none capacity =
@@ -180,10 +182,10 @@ savepoint_is {p} {q} {now} {id} {s} {fresh} {reused} {r} then roomier t last roo
     let c : Record = pinned_done q r s fresh reused in
     let m : State = completing_in q now r s fresh reused in
     let files : List ℕ = released after.registry (after_end r.id [] after.registry) in
-    let new : Parts = savepoint_completed (taken_out q now id s fresh reused r) (done_record r s fresh reused) then in
+    let new : Parts = savepoint_completed (taken_out q now id s fresh reused r) (completed r s fresh reused) then in
     let its : is_checkpoint c ≡ false = is_savepoint-kind c savepoint in
     let e = savepoint_ending t in
-    let records : records_in new ≡ left_groups after.registry after.pending q.store.checkpoints (put by_id (done_record r s fresh reused) q.store.savepoints) (done_record r s fresh reused) [] = savepoint_records then t in
+    let records : records_in new ≡ left_groups after.registry after.pending q.store.checkpoints (put by_id (completed r s fresh reused) q.store.savepoints) (completed r s fresh reused) [] = savepoint_records then t in
     let places : length (records_in new) ≤ vec_capacity q.ended = last_places t room e [] (records_in new) records in
     record {
       step_is =
@@ -205,7 +207,7 @@ pub savepoint_answers : {p q then : Parts} {now id : ℕ} {s : SubtaskId} {fresh
     answer ≡ reply.AckCompleted 0 (length (released then.registry (after_end done.id [] then.registry))) →
     Answers p new (Ack now id s fresh reused) answer
 savepoint_answers {p} {q} {then} {now} {id} {s} {fresh} {reused} {r} {done} new answer roomier l savepoint is none capacity answered =
-    let d : Record = done_record r s fresh reused in
+    let d : Record = completed r s fresh reused in
     let out : Parts = taken_out q now id s fresh reused r in
     let made : Parts → Record → Parts = λ x y. savepoint_completed x y new in
     let said : Parts → Record → Reply = λ x y. reply.AckCompleted 0 (length (released x.registry (after_end y.id [] x.registry))) in

@@ -27,7 +27,7 @@ use Rattle.ckpt_core.proofs.Acknowledging.States.{IsRoomier, IsTaking, its_numbe
 use Rattle.ckpt_core.proofs.Acknowledging.Takes.{found_acked}
 use Rattle.ckpt_core.proofs.Completing.Agrees.{its_above}
 use Rattle.ckpt_core.proofs.Completing.Lists.{fewer, others}
-use Rattle.ckpt_core.proofs.Completing.Taken.{acked_record, done_record, pinned_acked, taken_there, not_done_number}
+use Rattle.ckpt_core.proofs.Completing.Taken.{pinned_acked, taken_there, not_done_number}
 use Rattle.ckpt_core.proofs.Ending.Drops.{fails, none_known}
 use Rattle.ckpt_core.proofs.Ending.HandOut.{present-from_use}
 use Rattle.ckpt_core.proofs.Records.Lookups.{has_number, length-records_of}
@@ -36,6 +36,8 @@ use Rattle.ckpt_core.proofs.Triggering.TriggerParts.{live_records}
 use Rattle.ckpt_core.proofs.Using.Order.{from_holds}
 use Rattle.ckpt_ids.proofs.CountLemmas.{IsIn-from_counted}
 use Rattle.ckpt_core.specs.Inside.Moving.{taken_in}
+use Rattle.ckpt_core.proofs.Soundness.Completions.{completed}
+use Rattle.ckpt_core.proofs.Soundness.Acks.{with_ack}
 
 -- the parts without the pending record
 abbrev pub taken_out : Parts → ℕ → ℕ → SubtaskId → List ℕ → List ℕ → Record → Parts
@@ -48,14 +50,14 @@ pub record IsLast (p then : Parts) (now id : ℕ) (s : SubtaskId) (fresh reused 
   pub room : present_in p.registry + length fresh ≤ p.outbox.spare
   pub place : 1 ≤ p.store.spare
   pub is : then ≡ taken_out p now id s fresh reused r
-  pub done_is : done ≡ done_record r s fresh reused
+  pub done_is : done ≡ completed r s fresh reused
 
 -- before it is taken out
 pub none_missing : {p : Parts} {now id : ℕ} {s : SubtaskId} {fresh reused : List ℕ} {r : Record} (then : Parts) → IsTaking p now id s fresh reused r → missing r ≡ 1 → then ≡ taken_in p now id s fresh reused → IsMissing then.pending id 0
 none_missing {p} {now} {id} {s} {fresh} {reused} {r} then t last is =
     let P : Parts → Type 0 = λ x. IsMissing x.pending id 0 in
     subst P (sym is) (record {
-      lacking = acked_record r s fresh reused;
+      lacking = with_ack r s fresh reused;
       found = found_acked id s (ascending (fresh ++ reused)) r p.pending t.found;
       counted = omega (arith, one_less t);
     })
@@ -68,7 +70,7 @@ is_last {p} {now} {id} {s} {fresh} {reused} {r} then after done t last room plac
   room = room;
   place = place;
   is = out ∙ ap (λ (x : Parts). record x { pending = others id x.pending }) is ∙ ap (λ i. record (taken_in p now id s fresh reused) { pending = others i (taken_in p now id s fresh reused).pending }) (sym (its_number t));
-  done_is = finished (acked_record r s fresh reused) (ap (λ x. find (has_number id) x.pending) is ∙ found_acked id s (ascending (fresh ++ reused)) r p.pending t.found);
+  done_is = finished (with_ack r s fresh reused) (ap (λ x. find (has_number id) x.pending) is ∙ found_acked id s (ascending (fresh ++ reused)) r p.pending t.found);
 }
 
 -- nothing in use is in the outbox
@@ -100,7 +102,7 @@ taken_few {p} {now} {id} {s} {fresh} {reused} {r} t =
 fewer_pending : {p : Parts} {now id : ℕ} {s : SubtaskId} {fresh reused : List ℕ} {r : Record} → IsTaking p now id s fresh reused r → length (others r.id (taken_in p now id s fresh reused).pending) + 1 ≤ length (records_in (taken_in p now id s fresh reused))
 fewer_pending {p} {now} {id} {s} {fresh} {reused} {r} t =
     let after : Parts = taken_in p now id s fresh reused in
-    let a : Record = acked_record r s fresh reused in
+    let a : Record = with_ack r s fresh reused in
     let other : Record → Bool = λ q. not (eqb q.id r.id) in
     omega (arith, length-filter other after.pending, fewer other a after.pending (taken_there t) (not_from_true (eqb r.id r.id) (eq-eqb r.id r.id refl)), length-records_of after.registry after.pending p.store.checkpoints p.store.savepoints)
 

@@ -21,24 +21,18 @@ use Rattle.ckpt_core.proofs.Records.Grouped.{AreApart, IsNew, apart-append, apar
 use Rattle.ckpt_core.proofs.Records.Lookups.{AreGroups, has_number}
 use Rattle.ckpt_core.proofs.Soundness.Acks.{with_ack}
 use Rattle.ckpt_core.specs.Inside.Moving.{taken_in}
+use Rattle.ckpt_core.proofs.Soundness.Completions.{completed}
 
--- the record as a pending one, and as a done one
-abbrev pub acked_record : Record → SubtaskId → List ℕ → List ℕ → Record
-acked_record r s fresh reused = acknowledged r s (ascending (fresh ++ reused))
-
-abbrev pub done_record : Record → SubtaskId → List ℕ → List ℕ → Record
-done_record r s fresh reused = record (acked_record r s fresh reused) { done = true }
-
--- the same with its pins, as the step has them
+-- the record as a pending one, and as a done one, with its pins, as the step has them
 abbrev pub pinned_acked : Parts → Record → SubtaskId → List ℕ → List ℕ → Record
 pinned_acked p r s fresh reused = with_ack (with_pins p.registry r) s fresh reused
 
 abbrev pub pinned_done : Parts → Record → SubtaskId → List ℕ → List ℕ → Record
 pinned_done p r s fresh reused = record (pinned_acked p r s fresh reused) { done = true }
 
-pub taken_there : {p : Parts} {now id : ℕ} {s : SubtaskId} {fresh reused : List ℕ} {r : Record} → IsTaking p now id s fresh reused r → IsIn (acked_record r s fresh reused) (taken_in p now id s fresh reused).pending
+pub taken_there : {p : Parts} {now id : ℕ} {s : SubtaskId} {fresh reused : List ℕ} {r : Record} → IsTaking p now id s fresh reused r → IsIn (with_ack r s fresh reused) (taken_in p now id s fresh reused).pending
 taken_there {p} {now} {id} {s} {fresh} {reused} {r} t =
-    (IsIn-from_find (has_number id) (acked_record r s fresh reused) (taken_in p now id s fresh reused).pending (found_acked id s (ascending (fresh ++ reused)) r p.pending t.found)).0
+    (IsIn-from_find (has_number id) (with_ack r s fresh reused) (taken_in p now id s fresh reused).pending (found_acked id s (ascending (fresh ++ reused)) r p.pending t.found)).0
 
 pub taken_apart : {p : Parts} {now id : ℕ} {s : SubtaskId} {fresh reused : List ℕ} {r : Record} → IsTaking p now id s fresh reused r →
     AreApart (grouped (taken_in p now id s fresh reused).registry (taken_in p now id s fresh reused).pending p.store.checkpoints p.store.savepoints)
@@ -52,7 +46,7 @@ taken_apart {p} {now} {id} {s} {fresh} {reused} {r} t =
 pub taken_groups : {p : Parts} {now id : ℕ} {s : SubtaskId} {fresh reused : List ℕ} {r : Record} → IsTaking p now id s fresh reused r → AreGroups (taken_in p now id s fresh reused).pending p.store.checkpoints p.store.savepoints
 taken_groups {p} {now} {id} {s} {fresh} {reused} {r} t =
     let g : AreGroups p.pending p.store.checkpoints p.store.savepoints = groups_of p t.pending t.stored in
-    let a : Record = acked_record r s fresh reused in
+    let a : Record = with_ack r s fresh reused in
     let there = (IsIn-from_find (has_number id) r p.pending t.found).0 in
     record {
       not_done = λ q h.
@@ -69,7 +63,7 @@ taken_groups {p} {now} {id} {s} {fresh} {reused} {r} t =
 pub not_done_number : {p : Parts} {now id : ℕ} {s : SubtaskId} {fresh reused : List ℕ} {r : Record} → IsTaking p now id s fresh reused r → (q : Record) → IsIn q (p.store.checkpoints ++ p.store.savepoints) → r.id ≡ q.id → ⊥
 not_done_number {p} {now} {id} {s} {fresh} {reused} {r} t q h =
     let after : Parts = taken_in p now id s fresh reused in
-    let a : Record = acked_record r s fresh reused in
+    let a : Record = with_ack r s fresh reused in
     apart_between (map (with_pins after.registry) after.pending) (p.store.checkpoints ++ p.store.savepoints) (taken_apart t) (with_pins after.registry a) q (IsIn-map (with_pins after.registry) a after.pending (taken_there t)) h
 
 taken_done_apart : {p : Parts} {now id : ℕ} {s : SubtaskId} {fresh reused : List ℕ} {r : Record} → IsTaking p now id s fresh reused r → AreApart (p.store.checkpoints ++ p.store.savepoints)
@@ -103,9 +97,9 @@ apart-put d (y ∷ xs) new a =
     (cases_Bool (by_id y d))
 
 pub checkpoint_ending : {p : Parts} {now id : ℕ} {s : SubtaskId} {fresh reused : List ℕ} {r : Record} → IsTaking p now id s fresh reused r →
-    IsEnding (taken_in p now id s fresh reused).registry (taken_in p now id s fresh reused).pending p.store.checkpoints p.store.savepoints (p.store.checkpoints ++ done_record r s fresh reused ∷ []) p.store.savepoints (acked_record r s fresh reused) (done_record r s fresh reused)
+    IsEnding (taken_in p now id s fresh reused).registry (taken_in p now id s fresh reused).pending p.store.checkpoints p.store.savepoints (p.store.checkpoints ++ completed r s fresh reused ∷ []) p.store.savepoints (with_ack r s fresh reused) (completed r s fresh reused)
 checkpoint_ending {p} {now} {id} {s} {fresh} {reused} {r} t =
-    let d : Record = done_record r s fresh reused in
+    let d : Record = completed r s fresh reused in
     let cs : List Record = p.store.checkpoints in
     let ss : List Record = p.store.savepoints in
     record {
@@ -129,9 +123,9 @@ checkpoint_ending {p} {now} {id} {s} {fresh} {reused} {r} t =
     }
 
 pub savepoint_ending : {p : Parts} {now id : ℕ} {s : SubtaskId} {fresh reused : List ℕ} {r : Record} → IsTaking p now id s fresh reused r →
-    IsEnding (taken_in p now id s fresh reused).registry (taken_in p now id s fresh reused).pending p.store.checkpoints p.store.savepoints p.store.checkpoints (put by_id (done_record r s fresh reused) p.store.savepoints) (acked_record r s fresh reused) (done_record r s fresh reused)
+    IsEnding (taken_in p now id s fresh reused).registry (taken_in p now id s fresh reused).pending p.store.checkpoints p.store.savepoints p.store.checkpoints (put by_id (completed r s fresh reused) p.store.savepoints) (with_ack r s fresh reused) (completed r s fresh reused)
 savepoint_ending {p} {now} {id} {s} {fresh} {reused} {r} t =
-    let d : Record = done_record r s fresh reused in
+    let d : Record = completed r s fresh reused in
     let cs : List Record = p.store.checkpoints in
     let ss : List Record = p.store.savepoints in
     let apart : AreApart (cs ++ ss) = taken_done_apart t in
@@ -162,13 +156,13 @@ savepoint_ending {p} {now} {id} {s} {fresh} {reused} {r} t =
     }
 
 pub ending_completes : {p : Parts} {now id : ℕ} {s : SubtaskId} {fresh reused : List ℕ} {r : Record} {more_checkpoints more_savepoints : List Record} → IsTaking p now id s fresh reused r →
-    IsEnding (taken_in p now id s fresh reused).registry (taken_in p now id s fresh reused).pending p.store.checkpoints p.store.savepoints more_checkpoints more_savepoints (acked_record r s fresh reused) (done_record r s fresh reused) →
-    IsCompleting (taken_in p now id s fresh reused).registry (taken_in p now id s fresh reused).pending p.store.checkpoints p.store.savepoints more_checkpoints more_savepoints (records_in p) (acked_record r s fresh reused) (done_record r s fresh reused) (pinned_acked p r s fresh reused) (pinned_done p r s fresh reused)
+    IsEnding (taken_in p now id s fresh reused).registry (taken_in p now id s fresh reused).pending p.store.checkpoints p.store.savepoints more_checkpoints more_savepoints (with_ack r s fresh reused) (completed r s fresh reused) →
+    IsCompleting (taken_in p now id s fresh reused).registry (taken_in p now id s fresh reused).pending p.store.checkpoints p.store.savepoints more_checkpoints more_savepoints (records_in p) (with_ack r s fresh reused) (completed r s fresh reused) (pinned_acked p r s fresh reused) (pinned_done p r s fresh reused)
 ending_completes {p} {now} {id} {s} {fresh} {reused} {r} {more_checkpoints} {more_savepoints} t e = record {
   ending = e;
   same = refl;
   its = refl;
-  unpinned = ap (λ ps. record (done_record r s fresh reused) { pins = ps }) (sym (its_no_pins t));
+  unpinned = ap (λ ps. record (completed r s fresh reused) { pins = ps }) (sym (its_no_pins t));
   same_uses = refl;
   records_are = taken_records t;
 }
