@@ -60,6 +60,10 @@ impl Parts {
         requires pending_only { (r : Record) → IsIn r (self.old.store.checkpoints ++ self.old.store.savepoints) → is_noted self.old.ended.items r ≡ false }
         ensures { Drops self.old self.new (is_noted self.old.ended.items) result }
     {
+        // Most ticks drop nothing.
+        if self.ended.is_empty() {
+            return 0;
+        }
         self.pending.remove_all(&self.ended);
         self.hand_out()
     }

@@ -121,7 +121,6 @@ impl Parts {
 
     /// Time has passed: what is too old expires, and a checkpoint is triggered where nothing holds
     /// it back. Only a trigger takes memory, and where there is none nothing has changed.
-    #[inline(never)]
     pub(crate) fn tick(&mut self, now: u64) -> Result<Reply, AllocError>
         requires sound { AreSound self.old }
         requires accepted { IsAccepted self.old (call.Tick now) }

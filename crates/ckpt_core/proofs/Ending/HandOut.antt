@@ -1,5 +1,5 @@
 -- Released files can be put into the outbox: room that was kept for the files in use is room for them, none stands twice, and none is known to it.
-use Rattle.std.proofs.Common.{◌≡◌, ℕ, ◌≤◌, Bool, true, false, not, eqb, List, [], ◌∷◌, map, length, refl, sym, subst, inl, inr, arith}
+use Rattle.std.proofs.Common.{◌≡◌, ℕ, ◌≤◌, Bool, true, false, not, eqb, List, [], ◌∷◌, map, length, ltb, refl, sym, ap, subst, ◌∙◌, inl, inr, arith}
 use Rattle.std.proofs.lemmas.Bool.{lt-ltb, eq-eqb, cases_Bool}
 use Rattle.std.proofs.lemmas.List.Sums.{length-filter, count_by-le-length}
 use Rattle.ckpt_ids.specs.Ordered.{IsIn, AreDistinct}
@@ -11,7 +11,8 @@ use Rattle.ckpt_core.specs.Inside.Parts.{present_in}
 use Rattle.ckpt_core.specs.Soundness as soundness
 use Rattle.ckpt_core.proofs.Ending.Released.{ascending-released, before-from_released, IsIn-from_test}
 use Rattle.ckpt_ids.proofs.CountLemmas.{counted-from_IsIn}
-use Rattle.ckpt_ids.proofs.OrderedLemmas.{AreDistinct-from_order}
+use Rattle.ckpt_ids.proofs.OrderedLemmas.{AreDistinct-from_order, IsIn-from_in_order_once, IsIn-from_map}
+use Rattle.ckpt_registry.proofs.ListLemmas.{filter-none}
 use Rattle.ckpt_ids.proofs.AscendingLemmas.{numbers_in_order}
 
 -- there are at most as many released files as files that were present
@@ -53,3 +54,11 @@ can_be_put before after q files is room unknown =
       unknown = released_unknown before after q unknown;
     } in
     subst P (sym is) released_can
+
+-- where all uses stay no file is released
+pub nothing_released : (us : List Use) → released us us ≡ []
+nothing_released us =
+    let file : Use → ℕ = λ u. u.file in
+    filter-none (λ f. not (is_present us f)) (ascending_set (map file us)) (λ f h.
+    let q = IsIn-from_map file f us (IsIn-from_in_order_once ltb f (map file us) h) in
+    ap not (ap (is_present us) q.2 ∙ present-from_use q.0 us q.1))

@@ -1,9 +1,48 @@
 -- Dropping the noted records is a drop by number; the done ones stay, since none of them is noted.
-use Rattle.std.proofs.Common.{◌≡◌, sym, ap, ◌∙◌}
+use Rattle.std.proofs.Common.{◌≡◌, ℕ, not, List, [], ◌++◌, length, refl, sym, ap, subst, ◌∙◌, None}
+use Rattle.std.specs.List.{filter}
+use Rattle.std.specs.Vec.{vec_len}
+use Rattle.std.proofs.lemmas.Bool.{eqb-true}
+use Rattle.std.proofs.lemmas.List.{append-nil, nil_from_length}
+use Rattle.ckpt_ids.specs.Records.{Record, released, uses}
+use Rattle.ckpt_ids.proofs.OrderedLemmas.{filter-all}
+use Rattle.ckpt_core.specs.declared.parts.Parts.{Parts}
+use Rattle.ckpt_core.specs.Inside.Parts.{AreTied, Drops, is_noted, state_of}
+use Rattle.ckpt_core.specs.State.{State, drop, kept, unpinned}
+use Rattle.ckpt_core.proofs.Records.Counts.{map_itself}
+use Rattle.ckpt_core.proofs.Ending.HandOut.{nothing_released}
 use Rattle.ckpt_core.specs.Inside.Grouped.{grouped}
 use Rattle.ckpt_core.proofs.Ending.Drops.{left, staying, drops_from, staying_done}
 use Rattle.ckpt_core.proofs.Records.Grouped.{apart-from_in_order}
 use Rattle.ckpt_core.proofs.parts.Parts.drop_noted.Goals as goal
+
+-- where no number is noted all records stay
+kept_all : (rs : List Record) → kept (is_noted []) None rs ≡ rs
+kept_all rs = map_itself (unpinned None) (filter (λ r. not (is_noted [] r)) rs) (λ r h. refl) ∙ filter-all (λ r. not (is_noted [] r)) rs (λ r h. refl)
+
+drop_none : (m : State) → drop m (is_noted []) None ≡ m
+unfolding drop
+drop_none m =
+    let same : List Record → State = λ rs. record m { records = rs; waiting = m.waiting ++ released (uses m.records) (uses rs) } in
+    ap same (kept_all m.records)
+    ∙ ap (λ fs. record m { waiting = m.waiting ++ fs }) (nothing_released (uses m.records))
+    ∙ ap (λ fs. record m { waiting = fs }) (append-nil m.waiting)
+
+drops_none : (p : Parts) (ids : List ℕ) → AreTied p → p.ended.items ≡ ids → ids ≡ [] → Drops p p (is_noted ids) 0
+drops_none p ids tied noted none =
+    let P : List ℕ → Type 0 = λ xs. Drops p p (is_noted xs) 0 in
+    subst P (sym none) (record {
+      state_is = sym (drop_none (state_of p));
+      count_is = sym (ap length (ap (λ rs. released (uses (state_of p).records) (uses rs)) (kept_all (state_of p).records) ∙ nothing_released (uses (state_of p).records)));
+      tied = tied;
+      none_ended = noted ∙ none;
+    })
+
+pub returns-then-is_empty : goal.returns-then-is_empty
+returns-then-is_empty c =
+    let ended = c.args.self.now.ended in
+    let none : length ended.items ≡ 0 = sym ended.ok.0 ∙ eqb-true (vec_len ended) 0 (sym c.if-is_empty.ensures) in
+    drops_none c.args.self.now ended.items c.requires.tied refl (nil_from_length ended.items none)
 
 pub returns : goal.returns
 returns c =
