@@ -9,6 +9,7 @@ pub use Rattle.std.specs.Ordering.{nat_cmp}
 use Rattle.std.specs.declared.vec.Vec.{Vec}
 use Rattle.std.specs.declared.alloc.Global.{Global}
 use Rattle.ckpt_ids.specs.Records.{Use, Subtask}
+use Rattle.ckpt_ids.specs.declared.subtask.SubtaskId.{SubtaskId}
 use Rattle.ckpt_registry.specs.declared.holdings.Part.{Part}
 use Rattle.ckpt_registry.specs.Uses.{triples}
 
@@ -27,6 +28,10 @@ files_in parts = flat_map files_of parts
 -- what one record uses
 abbrev pub uses_by : ℕ → List Part → List Use
 uses_by id parts = flat_map (λ part. triples id (Subtask part.subtask) (files_of part)) parts
+
+-- what one acknowledgement uses
+abbrev pub uses_of_ack : ℕ → SubtaskId → List ℕ → List ℕ → List Use
+uses_of_ack id subtask fresh reused = triples id (Subtask subtask) (fresh ++ reused)
 
 -- what the records of a map use
 abbrev pub uses_in : List (ℕ × Vec Part Global) → List Use

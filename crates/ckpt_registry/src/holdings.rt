@@ -1,10 +1,8 @@
 ghost use Rattle.std.specs.Prelude.{◌≡◌, ℕ, ◌+◌, ◌≤◌, ◌<◌, ◌++◌, nat_lt, vec_capacity, vec_len, OnOk, OnErr, IfSome, length};
 ghost use Rattle.indexmap.specs.IndexMap.{index_map_len};
 ghost use Rattle.ckpt_ids.specs.Counting.{times};
-ghost use Rattle.ckpt_ids.specs.Records.{Subtask};
 ghost use Rattle.ckpt_registry.specs.Counters.{counter, counted_once, AreInRange};
-ghost use Rattle.ckpt_registry.specs.Holdings.{Adds, Extends, IsOrdered, files_in, files_of, nat_cmp, uses_in};
-ghost use Rattle.ckpt_registry.specs.Uses.{triples};
+ghost use Rattle.ckpt_registry.specs.Holdings.{Adds, Extends, IsOrdered, files_in, files_of, nat_cmp, uses_in, uses_of_ack};
 
 use crate::counters::{Counts, lower};
 use ckpt_ids::{CheckpointId, FileId, Files, SubtaskId};
@@ -102,7 +100,7 @@ pub(crate) fn hold(
     requires { IsOrdered nat_cmp acknowledged.old }
     ensures ordered { IsOrdered nat_cmp acknowledged.new }
     ensures extends { Extends acknowledged.old acknowledged.new }
-    ensures ok { OnOk result (Adds (uses_in acknowledged.old.entries) (triples id (Subtask subtask) (fresh.now ++ reused.now)) (uses_in acknowledged.new.entries)) }
+    ensures ok { OnOk result (Adds (uses_in acknowledged.old.entries) (uses_of_ack id subtask fresh.now reused.now) (uses_in acknowledged.new.entries)) }
     ensures err { OnErr result (uses_in acknowledged.new.entries ≡ uses_in acknowledged.old.entries) }
 {
     if fresh.is_empty() && reused.is_empty() {
