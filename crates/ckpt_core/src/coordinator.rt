@@ -69,7 +69,7 @@ impl From<AllocError> for CoreFault {
 /// What each call does is defined in `specs/Steps.antt`, and when it is refused in
 /// `specs/Refusals.antt`; `specs/Soundness.antt` lists what holds of a coordinator at each moment.
 /// Source: the Flink documentation, "Checkpoints", "Savepoints" and "Checkpointing".
-#[derive(Drop)]
+#[derive(Debug, Drop)]
 pub struct Core {
     pub(crate) parts: Parts,
 }

@@ -8,7 +8,7 @@ use ckpt_store::Store;
 use std::alloc::Global;
 
 /// What a coordinator was opened with, which no call changes.
-#[derive(Drop)]
+#[derive(Debug, Drop)]
 pub(crate) struct Opened {
     pub(crate) config: Config,
     pub(crate) shape: Shape,
@@ -17,7 +17,7 @@ pub(crate) struct Opened {
 }
 
 /// The parts of a coordinator, which `specs/Parts.antt` sees as its state.
-#[derive(Drop)]
+#[derive(Debug, Drop)]
 pub(crate) struct Parts {
     pub(crate) alloc: Global,
     pub(crate) opened: Opened,

@@ -12,7 +12,7 @@ use std::collections::BTreeMap;
 use std::marker::Model;
 
 /// The records that wait for acknowledgements, by number.
-#[derive(Drop)]
+#[derive(Debug, Drop)]
 pub(crate) struct PendingRecords {
     records: BTreeMap<CheckpointId, Pending>,
     // of these records, how many are checkpoints

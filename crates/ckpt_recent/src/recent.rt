@@ -3,9 +3,9 @@ ghost use Rattle.std.specs.Option.{option_copied};
 
 use crate::past::Past;
 use std::alloc::{AllocError, Global};
-use std::cmp;
 use std::collections::VecDeque;
 use std::marker::Model;
+use std::{cmp, fmt};
 
 /// The room for items that an empty list makes at first.
 const FIRST_ROOM: usize = 4;
@@ -19,6 +19,17 @@ pub struct Recent<T> {
     forgotten: u64,
     kept: VecDeque<T>,
     keep: u64,
+}
+
+impl<T: fmt::Debug> fmt::Debug for Recent<T> {
+    /// Shows the items that are kept.
+    fn fmt<W: fmt::Write>(&self, f: &mut fmt::Formatter<W>) -> fmt::Result {
+        f.debug_struct("Recent")
+            .field("forgotten", &self.forgotten)
+            .field("kept", &self.kept)
+            .field("keep", &self.keep)
+            .finish()
+    }
 }
 
 impl<T> Model for Recent<T> {

@@ -28,7 +28,7 @@ use std::marker::Model;
 ///
 /// A record that is pinned has a use of each of its files, which are present while it is live. So
 /// nothing is counted for its pins until it goes.
-#[derive(Drop)]
+#[derive(Debug, Drop)]
 pub struct Registry {
     counts: Counts,
     acknowledged: Acknowledged,
