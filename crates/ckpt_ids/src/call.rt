@@ -4,7 +4,7 @@ use crate::shape::Shape;
 use crate::subtask::SubtaskId;
 
 /// What a job is restored from.
-#[derive(Clone, Copy, Debug, PartialEq, Eq)]
+#[derive(Clone, Copy, Debug, PartialEq, Eq, Hash)]
 pub enum Target {
     /// The latest completed checkpoint, else the savepoint that the job was rolled back to, else
     /// nothing.

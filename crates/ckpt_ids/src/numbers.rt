@@ -31,7 +31,7 @@ impl Model for FileId {
 /// Whether a record is a checkpoint, which the coordinator owns, or a savepoint, which its user owns.
 ///
 /// Source of the rule: the Flink documentation, "Checkpoints vs. Savepoints".
-#[derive(Clone, Copy, Debug, PartialEq, Eq)]
+#[derive(Clone, Copy, Debug, PartialEq, Eq, Hash)]
 pub enum Kind {
     /// Triggered by a tick, dropped when later ones replace it.
     Checkpoint,

@@ -3,7 +3,7 @@ use crate::handed::Handed;
 use crate::numbers::{CheckpointId, FileId};
 
 /// What the job would restart from now.
-#[derive(Clone, Copy, Debug, PartialEq, Eq)]
+#[derive(Clone, Copy, Debug, PartialEq, Eq, Hash)]
 pub enum Choice {
     /// From this completed checkpoint, the newest that is retained.
     Checkpoint(CheckpointId),
@@ -14,7 +14,7 @@ pub enum Choice {
 }
 
 /// How a tick ended.
-#[derive(Clone, Copy, Debug, PartialEq, Eq)]
+#[derive(Clone, Copy, Debug, PartialEq, Eq, Hash)]
 pub enum TickEnd {
     /// A checkpoint was triggered, with this number.
     Triggered(CheckpointId),
@@ -67,7 +67,7 @@ pub enum Reply {
 }
 
 /// Why a call was refused. They are tested in this order, and a refused call changes nothing.
-#[derive(Clone, Copy, Debug, PartialEq, Eq)]
+#[derive(Clone, Copy, Debug, PartialEq, Eq, Hash)]
 pub enum Refusal {
     /// The moment is above 2^62 - 1 milliseconds.
     MomentTooLarge,
