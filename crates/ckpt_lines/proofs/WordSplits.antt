@@ -67,3 +67,7 @@ word_end text found e within =
     let P : Bool → Type 0 = λ short. ltb (word_len text) (length text) ≡ short → unwrap_or (cond short (Some (word_len text)) None) (length text) ≡ word_len text in
     let cases : (short : Bool) → P short = λ short. elim short as P [ true ↦ λ _. refl | false ↦ λ full. grind (arith, nat_tests) ] in
     rw e (cases (ltb (word_len text) (length text)) refl)
+
+-- one word less is left
+pub fewer : (words : List (List ℕ)) (word : List ℕ) (rest : List (List ℕ)) → words ≡ word ∷ rest → length rest < length words
+fewer words word rest split = rw split (omega arith)

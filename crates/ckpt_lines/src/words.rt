@@ -1,4 +1,4 @@
-ghost use Rattle.std.specs.Prelude.{◌≡◌, ◌≤◌, false, [], ◌∷◌, length, MatchOption};
+ghost use Rattle.std.specs.Prelude.{◌≡◌, ◌≤◌, false, length};
 ghost use Rattle.std.specs.List.{position_or_len};
 ghost use Rattle.ckpt_lines.specs.Words.{begins_with_space, is_space, words_of};
 
@@ -55,11 +55,18 @@ impl<'a> Words<'a> {
     {
         Words { rest: text }
     }
+}
 
-    /// The next word, or `None` where there is none.
-    pub(crate) fn next(&mut self) -> Option<&'a [u8]>
-        ensures { MatchOption result (self.old ≡ []) (λ word. self.old ≡ word.now ∷ self.new) }
-    {
+impl<'a> Iterator for Words<'a> {
+    type Item = &'a [u8];
+
+    ghost use Rattle.std.specs.Iterator.{YieldsFirstBy, item_count};
+
+    ghost next_gives = { YieldsFirstBy (λ word. word.now) (λ words. words) };
+
+    ghost remaining = { item_count (λ words. words) };
+
+    fn next(&mut self) -> Option<&'a [u8]> {
         let text = without_spaces(self.rest);
         if text.is_empty() {
             return None;

@@ -1,10 +1,16 @@
 use Rattle.std.proofs.Common.{ℕ, ◌<◌, length, List, arith}
 use Rattle.std.proofs.lemmas.Bool.Decides.{nat_tests}
-use Rattle.ckpt_lines.proofs.WordSplits.{words_of-split}
-use Rattle.ckpt_lines.proofs.words.Words.next.Goals as goal
+use Rattle.ckpt_lines.proofs.WordSplits.{words_of-split, fewer}
+use Rattle.ckpt_lines.proofs.words.WordsIterator.next.Goals as goal
 
-pub returns : goal.returns
-returns c =
+first : goal.returns-clause-steps
+first c =
     let text : List ℕ = c.without_spaces-text.result.now in
     let some : 0 < length text = grind (arith, nat_tests) in
     rw (← c.self.view_is, ← c.without_spaces-text.ensures.words, c.split_at.ensures.front, c.split_at.ensures.back, c.word_length.ensures.length) (words_of-split text some c.without_spaces-text.ensures.start)
+
+pub returns-clause-steps : goal.returns-clause-steps
+returns-clause-steps c = first c
+
+pub returns-clause-goes : goal.returns-clause-goes
+returns-clause-goes c = record { on = λ _. (tt, tt, fewer _ _ _ (first c)); keeps = tt; rests = λ _. tt }
