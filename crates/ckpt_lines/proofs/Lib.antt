@@ -1,5 +1,6 @@
 pub mod EachLemmas
 pub mod FileLemmas
+pub mod FirstNumbers
 pub mod NumberLemmas
 pub mod PlaceLemmas
 pub mod ReadingLaws

@@ -1,11 +1,8 @@
 -- The first word of a text, and the words after it.
 use Rattle.std.proofs.Common.{◌≡◌, ℕ, suc, ◌+◌, ◌<◌, ◌≤◌, Bool, true, false, cond, not, ltb, List, [], ◌∷◌, length, take, drop, filter, Option, Some, None, unwrap_or, refl, ap, ◌∙◌, arith}
-use Rattle.std.specs.List.{slice_split, onto_first, position_or_len}
+use Rattle.std.specs.List.{slice_split, onto_first}
 use Rattle.std.proofs.lemmas.Bool.Decides.{nat_tests}
-use Rattle.ckpt_lines.specs.Words.{is_space, is_word, words_of, begins_with_space}
-
-abbrev pub word_len : List ℕ → ℕ
-word_len text = position_or_len is_space text
+use Rattle.ckpt_lines.specs.Words.{is_space, is_word, words_of, begins_with_space, first_length}
 
 -- what `split` gives after a part: nothing, or the parts after one space
 abbrev parts_after : List ℕ → List (List ℕ)
@@ -17,14 +14,14 @@ one_more n b bs =
     let more : 1 + n ≡ suc n = omega arith in
     (ap (λ (k : ℕ). take k (b ∷ bs)) more, ap (λ (k : ℕ). drop k (b ∷ bs)) more)
 
-split_front : (text : List ℕ) → slice_split is_space text ≡ take (word_len text) text ∷ parts_after (drop (word_len text) text)
+split_front : (text : List ℕ) → slice_split is_space text ≡ take (first_length text) text ∷ parts_after (drop (first_length text) text)
 split_front [] = refl
 split_front (b ∷ bs) =
     elim (is_space b) as (λ (space : Bool). cond space ([] ∷ slice_split is_space bs) (onto_first b (slice_split is_space bs))
-    ≡ take (cond (not space) (1 + word_len bs) 0) (b ∷ bs) ∷ parts_after (drop (cond (not space) (1 + word_len bs) 0) (b ∷ bs))) [
+    ≡ take (cond (not space) (1 + first_length bs) 0) (b ∷ bs) ∷ parts_after (drop (cond (not space) (1 + first_length bs) 0) (b ∷ bs))) [
       | true ↦ refl
       | false ↦
-          let more : (take (1 + word_len bs) (b ∷ bs) ≡ b ∷ take (word_len bs) bs) × (drop (1 + word_len bs) (b ∷ bs) ≡ drop (word_len bs) bs) = one_more (word_len bs) b bs in
+          let more : (take (1 + first_length bs) (b ∷ bs) ≡ b ∷ take (first_length bs) bs) × (drop (1 + first_length bs) (b ∷ bs) ≡ drop (first_length bs) bs) = one_more (first_length bs) b bs in
           rw (more.0, more.1, split_front bs) refl
     ]
 
@@ -33,13 +30,13 @@ abbrev EndsWord : List ℕ → Type 0
 EndsWord [] = Unit {0}
 EndsWord (b ∷ bs) = is_space b ≡ true
 
-ends_word : (text : List ℕ) → EndsWord (drop (word_len text) text)
+ends_word : (text : List ℕ) → EndsWord (drop (first_length text) text)
 ends_word [] = tt
 ends_word (b ∷ bs) =
-    let P : Bool → Type 0 = λ space. is_space b ≡ space → EndsWord (drop (cond (not space) (1 + word_len bs) 0) (b ∷ bs)) in
+    let P : Bool → Type 0 = λ space. is_space b ≡ space → EndsWord (drop (cond (not space) (1 + first_length bs) 0) (b ∷ bs)) in
     let cases : (space : Bool) → P space = λ space. elim space as P [
       | true ↦ λ e. e
-      | false ↦ λ e. rw ((one_more (word_len bs) b bs).1) (ends_word bs)
+      | false ↦ λ e. rw ((one_more (first_length bs) b bs).1) (ends_word bs)
     ] in
     cases (is_space b) refl
 
@@ -47,26 +44,26 @@ words_after : (text : List ℕ) → EndsWord text → filter is_word (parts_afte
 words_after [] ends = refl
 words_after (b ∷ bs) ends = rw ends refl
 
-first_word : (b : ℕ) (bs : List ℕ) → is_space b ≡ false → take (word_len (b ∷ bs)) (b ∷ bs) ≡ b ∷ take (word_len bs) bs
-first_word b bs other = rw (other, (one_more (word_len bs) b bs).0) refl
+first_word : (b : ℕ) (bs : List ℕ) → is_space b ≡ false → take (first_length (b ∷ bs)) (b ∷ bs) ≡ b ∷ take (first_length bs) bs
+first_word b bs other = rw (other, (one_more (first_length bs) b bs).0) refl
 
 -- the text up to its first space is its first word
-pub words_of-split : (text : List ℕ) → 0 < length text → begins_with_space text ≡ false → words_of text ≡ take (word_len text) text ∷ words_of (drop (word_len text) text)
+pub words_of-split : (text : List ℕ) → 0 < length text → begins_with_space text ≡ false → words_of text ≡ take (first_length text) text ∷ words_of (drop (first_length text) text)
 words_of-split [] some start = absurd (omega (arith, some))
 words_of-split (b ∷ bs) some start =
     let text : List ℕ = b ∷ bs in
-    let parts : words_of text ≡ filter is_word (take (word_len text) text ∷ parts_after (drop (word_len text) text)) = ap (λ (ps : List (List ℕ)). filter is_word ps) (split_front text) in
-    let word : take (word_len text) text ≡ b ∷ take (word_len bs) bs = first_word b bs start in
-    let rest : filter is_word (parts_after (drop (word_len text) text)) ≡ words_of (drop (word_len text) text) = words_after (drop (word_len text) text) (ends_word text) in
-    let whole : filter is_word (take (word_len text) text ∷ parts_after (drop (word_len text) text)) ≡ take (word_len text) text ∷ filter is_word (parts_after (drop (word_len text) text)) = rw word refl in
-    parts ∙ whole ∙ ap (λ (ws : List (List ℕ)). take (word_len text) text ∷ ws) rest
+    let parts : words_of text ≡ filter is_word (take (first_length text) text ∷ parts_after (drop (first_length text) text)) = ap (λ (ps : List (List ℕ)). filter is_word ps) (split_front text) in
+    let word : take (first_length text) text ≡ b ∷ take (first_length bs) bs = first_word b bs start in
+    let rest : filter is_word (parts_after (drop (first_length text) text)) ≡ words_of (drop (first_length text) text) = words_after (drop (first_length text) text) (ends_word text) in
+    let whole : filter is_word (take (first_length text) text ∷ parts_after (drop (first_length text) text)) ≡ take (first_length text) text ∷ filter is_word (parts_after (drop (first_length text) text)) = rw word refl in
+    parts ∙ whole ∙ ap (λ (ws : List (List ℕ)). take (first_length text) text ∷ ws) rest
 
 -- where the first space is, or the end
-pub word_end : (text : List ℕ) (found : Option ℕ) → found ≡ cond (ltb (word_len text) (length text)) (Some (word_len text)) None → word_len text ≤ length text → unwrap_or found (length text) ≡ word_len text
+pub word_end : (text : List ℕ) (found : Option ℕ) → found ≡ cond (ltb (first_length text) (length text)) (Some (first_length text)) None → first_length text ≤ length text → unwrap_or found (length text) ≡ first_length text
 word_end text found e within =
-    let P : Bool → Type 0 = λ short. ltb (word_len text) (length text) ≡ short → unwrap_or (cond short (Some (word_len text)) None) (length text) ≡ word_len text in
+    let P : Bool → Type 0 = λ short. ltb (first_length text) (length text) ≡ short → unwrap_or (cond short (Some (first_length text)) None) (length text) ≡ first_length text in
     let cases : (short : Bool) → P short = λ short. elim short as P [ true ↦ λ _. refl | false ↦ λ full. grind (arith, nat_tests) ] in
-    rw e (cases (ltb (word_len text) (length text)) refl)
+    rw e (cases (ltb (first_length text) (length text)) refl)
 
 -- one word less is left
 pub fewer : (words : List (List ℕ)) (word : List ℕ) (rest : List (List ℕ)) → words ≡ word ∷ rest → length rest < length words

@@ -1,6 +1,6 @@
 -- The words of a line.
 use Rattle.std.specs.Prelude.{ℕ, Bool, true, false, ◌==◌, List, [], ◌∷◌, filter}
-use Rattle.std.specs.List.{slice_split}
+use Rattle.std.specs.List.{position_or_len, slice_split}
 
 abbrev pub is_space : ℕ → Bool
 is_space byte = byte == 32
@@ -16,3 +16,7 @@ words_of bytes = filter is_word (slice_split is_space bytes)
 abbrev pub begins_with_space : List ℕ → Bool
 begins_with_space [] = false
 begins_with_space (byte ∷ bytes) = is_space byte
+
+-- how many bytes stand before the first space, all where there is none
+abbrev pub first_length : List ℕ → ℕ
+first_length text = position_or_len is_space text

@@ -1,17 +1,9 @@
-ghost use Rattle.ckpt_lines.specs.Reading.{Gives, number_place, subtask_place, retention_place, target_place};
+ghost use Rattle.ckpt_lines.specs.Reading.{Gives, subtask_place, retention_place, target_place};
 
 use crate::fault::LineFault;
-use crate::values::{number_of, retention, subtask_of, target_of};
+use crate::values::{retention, subtask_of, target_of};
 use crate::words::Words;
 use ckpt_ids::{SubtaskId, Target};
-
-#[tactic(auto, unfolding(crate::specs::Reading::number_place))]
-pub(crate) fn number(words: &mut Words<'_>) -> Result<u64, LineFault>
-    ensures { Gives result words.new (number_place words.old) }
-{
-    let word = words.next().ok_or(LineFault::Missing)?;
-    number_of(word).ok_or(LineFault::Number)
-}
 
 #[tactic(auto, unfolding(crate::specs::Reading::subtask_place))]
 pub(crate) fn subtask(words: &mut Words<'_>) -> Result<SubtaskId, LineFault>

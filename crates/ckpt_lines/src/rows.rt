@@ -6,7 +6,7 @@ use crate::fault::LineFault;
 use crate::keyword::Keyword;
 use crate::line::Line;
 use crate::lists::{files, numbers};
-use crate::places::{keep_or_delete, number, subtask, target};
+use crate::places::{keep_or_delete, subtask, target};
 use crate::words::Words;
 use ckpt_ids::{CheckpointId, FileId};
 use std::alloc::Global;
@@ -26,12 +26,12 @@ fn end(words: &mut Words<'_>) -> Result<(), LineFault>
 fn config(words: &mut Words<'_>) -> Result<Line, LineFault>
     ensures { IsExact result (config_line words.old) }
 {
-    let interval = number(words)?;
-    let pause = number(words)?;
-    let at_once = number(words)?;
-    let timeout = number(words)?;
-    let tolerable = number(words)?;
-    let retained = number(words)?;
+    let interval = words.number()?;
+    let pause = words.number()?;
+    let at_once = words.number()?;
+    let timeout = words.number()?;
+    let tolerable = words.number()?;
+    let retained = words.number()?;
     let keep_on_cancel = keep_or_delete(words)?;
     end(words)?;
     Ok(Line::Config {
@@ -60,8 +60,8 @@ fn job(alloc: Global, words: &mut Words<'_>) -> Result<Line, LineFault>
 fn ack(alloc: Global, words: &mut Words<'_>) -> Result<Line, LineFault>
     ensures { Reads result (ack_line words.old) }
 {
-    let now = number(words)?;
-    let id = CheckpointId(number(words)?);
+    let now = words.number()?;
+    let id = CheckpointId(words.number()?);
     let subtask = subtask(words)?;
     let (fresh, reused) = files(alloc, words)?;
     Ok(Line::Ack {
@@ -77,8 +77,8 @@ fn ack(alloc: Global, words: &mut Words<'_>) -> Result<Line, LineFault>
 fn decline(words: &mut Words<'_>) -> Result<Line, LineFault>
     ensures { IsExact result (decline_line words.old) }
 {
-    let now = number(words)?;
-    let id = CheckpointId(number(words)?);
+    let now = words.number()?;
+    let id = CheckpointId(words.number()?);
     let subtask = subtask(words)?;
     end(words)?;
     Ok(Line::Decline { now, id, subtask })
@@ -88,7 +88,7 @@ fn decline(words: &mut Words<'_>) -> Result<Line, LineFault>
 fn restore(alloc: Global, words: &mut Words<'_>) -> Result<Line, LineFault>
     ensures { Reads result (restore_line words.old) }
 {
-    let now = number(words)?;
+    let now = words.number()?;
     let target = target(words)?;
     let parallelisms = numbers(alloc, words)?;
     Ok(Line::Restore {
@@ -102,10 +102,10 @@ fn restore(alloc: Global, words: &mut Words<'_>) -> Result<Line, LineFault>
 fn all(words: &mut Words<'_>) -> Result<Line, LineFault>
     ensures { IsExact result (all_line words.old) }
 {
-    let now = number(words)?;
-    let id = CheckpointId(number(words)?);
-    let threads = number(words)?;
-    let first = number(words)?;
+    let now = words.number()?;
+    let id = CheckpointId(words.number()?);
+    let threads = words.number()?;
+    let first = words.number()?;
     end(words)?;
     Ok(Line::All {
         now,
@@ -119,7 +119,7 @@ fn all(words: &mut Words<'_>) -> Result<Line, LineFault>
 fn start(words: &mut Words<'_>) -> Result<Line, LineFault>
     ensures { IsExact result (number_line Line.Start words.old) }
 {
-    let now = number(words)?;
+    let now = words.number()?;
     end(words)?;
     Ok(Line::Start { now })
 }
@@ -128,7 +128,7 @@ fn start(words: &mut Words<'_>) -> Result<Line, LineFault>
 fn tick(words: &mut Words<'_>) -> Result<Line, LineFault>
     ensures { IsExact result (number_line Line.Tick words.old) }
 {
-    let now = number(words)?;
+    let now = words.number()?;
     end(words)?;
     Ok(Line::Tick { now })
 }
@@ -137,7 +137,7 @@ fn tick(words: &mut Words<'_>) -> Result<Line, LineFault>
 fn savepoint(words: &mut Words<'_>) -> Result<Line, LineFault>
     ensures { IsExact result (number_line Line.Savepoint words.old) }
 {
-    let now = number(words)?;
+    let now = words.number()?;
     end(words)?;
     Ok(Line::Savepoint { now })
 }
@@ -146,7 +146,7 @@ fn savepoint(words: &mut Words<'_>) -> Result<Line, LineFault>
 fn dispose(words: &mut Words<'_>) -> Result<Line, LineFault>
     ensures { IsExact result (number_line Line.Dispose words.old) }
 {
-    let id = CheckpointId(number(words)?);
+    let id = CheckpointId(words.number()?);
     end(words)?;
     Ok(Line::Dispose { id })
 }
@@ -155,7 +155,7 @@ fn dispose(words: &mut Words<'_>) -> Result<Line, LineFault>
 fn cancel(words: &mut Words<'_>) -> Result<Line, LineFault>
     ensures { IsExact result (number_line Line.Cancel words.old) }
 {
-    let now = number(words)?;
+    let now = words.number()?;
     end(words)?;
     Ok(Line::Cancel { now })
 }
@@ -164,7 +164,7 @@ fn cancel(words: &mut Words<'_>) -> Result<Line, LineFault>
 fn take(words: &mut Words<'_>) -> Result<Line, LineFault>
     ensures { IsExact result (number_line Line.Take words.old) }
 {
-    let most = number(words)?;
+    let most = words.number()?;
     end(words)?;
     Ok(Line::Take { most })
 }
@@ -173,7 +173,7 @@ fn take(words: &mut Words<'_>) -> Result<Line, LineFault>
 fn deleted(words: &mut Words<'_>) -> Result<Line, LineFault>
     ensures { IsExact result (number_line Line.Deleted words.old) }
 {
-    let file = FileId(number(words)?);
+    let file = FileId(words.number()?);
     end(words)?;
     Ok(Line::Deleted { file })
 }
@@ -182,7 +182,7 @@ fn deleted(words: &mut Words<'_>) -> Result<Line, LineFault>
 fn undeleted(words: &mut Words<'_>) -> Result<Line, LineFault>
     ensures { IsExact result (number_line Line.Undeleted words.old) }
 {
-    let file = FileId(number(words)?);
+    let file = FileId(words.number()?);
     end(words)?;
     Ok(Line::Undeleted { file })
 }
@@ -191,7 +191,7 @@ fn undeleted(words: &mut Words<'_>) -> Result<Line, LineFault>
 fn show(words: &mut Words<'_>) -> Result<Line, LineFault>
     ensures { IsExact result (number_line Line.Show words.old) }
 {
-    let id = CheckpointId(number(words)?);
+    let id = CheckpointId(words.number()?);
     end(words)?;
     Ok(Line::Show { id })
 }
@@ -200,7 +200,7 @@ fn show(words: &mut Words<'_>) -> Result<Line, LineFault>
 fn count(words: &mut Words<'_>) -> Result<Line, LineFault>
     ensures { IsExact result (number_line Line.Count words.old) }
 {
-    let file = FileId(number(words)?);
+    let file = FileId(words.number()?);
     end(words)?;
     Ok(Line::Count { file })
 }

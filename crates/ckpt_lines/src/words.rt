@@ -1,7 +1,12 @@
-ghost use Rattle.std.specs.Prelude.{◌≡◌, ◌≤◌, false, length};
+ghost use Rattle.std.specs.Prelude.{◌≡◌, ◌≤◌, false, length, take};
 ghost use Rattle.std.specs.List.{position_or_len};
-ghost use Rattle.ckpt_lines.specs.Words.{begins_with_space, is_space, words_of};
+ghost use Rattle.std.specs.Option.{option_map};
+ghost use Rattle.ckpt_lines.specs.Reading.{Gives, number_place};
+ghost use Rattle.ckpt_lines.specs.Values.{number_of};
+ghost use Rattle.ckpt_lines.specs.Words.{begins_with_space, first_length, is_space, words_of};
 
+use crate::fault::LineFault;
+use crate::values::with_digit;
 use std::marker::Model;
 
 /// The words of a line that are still to be read. One or more spaces stand between two words.
@@ -33,7 +38,7 @@ fn without_spaces(text: &[u8]) -> &[u8]
 
 /// How many bytes stand before the first space, all where there is none.
 fn word_length(text: &[u8]) -> usize
-    ensures length { result ≡ position_or_len is_space text.now }
+    ensures length { result ≡ first_length text.now }
     ensures within { result ≤ length text.now }
 {
     let mut count = 0;
@@ -48,12 +53,46 @@ fn word_length(text: &[u8]) -> usize
     count
 }
 
+/// The number that the bytes before the first space spell, and how many bytes they are. `None` where
+/// they spell none.
+fn first_number(text: &[u8]) -> Option<(u64, usize)>
+    ensures { result ≡ option_map (λ number. (number, first_length text.now)) (number_of (take (first_length text.now) text.now)) }
+{
+    let mut number = 0;
+    let mut length = 0;
+    while length < text.len() && text[length] != b' ' {
+        number = with_digit(number, text[length])?;
+        length += 1;
+    }
+    if length == 0 {
+        return None;
+    }
+    Some((number, length))
+}
+
 impl<'a> Words<'a> {
     /// The words of this text.
     pub(crate) fn of(text: &'a [u8]) -> Words<'a>
         ensures { result ≡ words_of text.now }
     {
         Words { rest: text }
+    }
+
+    /// The next word as a number. Its bytes are read once, not first for its end and then for what it spells.
+    pub(crate) fn number(&mut self) -> Result<u64, LineFault>
+        ensures { Gives result self.new (number_place self.old) }
+    {
+        let text = without_spaces(self.rest);
+        if text.is_empty() {
+            return Err(LineFault::Missing);
+        }
+        match first_number(text) {
+            Some((number, length)) => {
+                self.rest = &text[length..];
+                Ok(number)
+            }
+            None => Err(LineFault::Number),
+        }
     }
 }
 
