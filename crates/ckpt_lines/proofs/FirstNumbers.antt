@@ -1,12 +1,15 @@
 -- The number at a text's start, byte by byte.
-use Rattle.std.proofs.Common.{◌≡◌, ℕ, ◌+◌, ◌<◌, ◌≤◌, Bool, true, false, ltb, List, [], ◌∷◌, length, take, drop, get_or, Option, Some, None, Ok, Err, refl, ap, ◌∙◌, arith, ltb-true}
+use Rattle.std.proofs.Common.{◌≡◌, ℕ, suc, ◌+◌, ◌-◌, ◌<◌, ◌≤◌, ◌==◌, Bool, true, false, ltb, if◌then◌else◌, Result, sym, List, [], ◌∷◌, length, take, drop, get_or, Option, Some, None, Ok, Err, refl, ap, ◌∙◌, arith, ltb-true}
 use Rattle.std.specs.Option.{option_map}
 use Rattle.std.proofs.lemmas.Bool.Decides.{nat_tests}
-use Rattle.std.proofs.lemmas.List.{get_or-take, length-take-le}
+use Rattle.std.proofs.lemmas.List.{get_or-take, length-take-le, take_all}
 use Rattle.std.proofs.lemmas.List.Sums.{passes_at_first, fails_before_first, prefix_len-le-length}
 use Rattle.ckpt_lines.specs.declared.fault.LineFault.TheVariants as fault
-use Rattle.ckpt_lines.specs.Reading.{number_place}
-use Rattle.ckpt_lines.specs.Values.{number_of, with_digit}
+use Rattle.ckpt_lines.specs.declared.fault.LineFault.{LineFault}
+use Rattle.ckpt_lines.specs.declared.values.FileWord.{FileWord}
+use Rattle.ckpt_lines.specs.declared.values.FileWord.TheVariants.{Fresh, Reused}
+use Rattle.ckpt_lines.specs.Reading.{file_place, number_place}
+use Rattle.ckpt_lines.specs.Values.{file_word, is_fresh, number_of, signed, with_digit}
 use Rattle.ckpt_lines.specs.Words.{begins_with_space, first_length, is_space, words_of}
 use Rattle.ckpt_lines.proofs.NumberLemmas.{Spells, Spells-all, Spells-empty, Spells-more, Spells-none, Spells-stops}
 use Rattle.ckpt_lines.proofs.WordSplits.{words_of-split}
@@ -87,31 +90,112 @@ Reads-all text place number some reads end =
     let spelled : Some number ≡ number_of (first text) = Spells-all (first text) place number (omega (arith, same, first-length text, some)) (omega (arith, same, first-length text)) reads.spells in
     rw (← spelled, same) refl
 
--- the place of a number, by the number at the text's start
-pub number_place-Some : (text : List ℕ) (number place : ℕ) → 0 < length text → begins_with_space text ≡ false → Some (number, place) ≡ answer text → number_place (words_of text) ≡ Ok (number, words_of (drop place text))
-unfolding number_place
-number_place-Some text number place some start is = by (number_of (first text)) refl
+answer-Some : (text : List ℕ) (number place : ℕ) → Some (number, place) ≡ answer text → (number_of (first text) ≡ Some number) × (first_length text ≡ place)
+answer-Some text number place is = by (number_of (first text)) refl
   where
-    by : (spelled : Option ℕ) → number_of (first text) ≡ spelled → number_place (words_of text) ≡ Ok (number, words_of (drop place text))
+    by : (spelled : Option ℕ) → number_of (first text) ≡ spelled → (number_of (first text) ≡ Some number) × (first_length text ≡ place)
     by (Some found) e =
         let both : ◌≡◌ {A = Option (ℕ × ℕ)} (Some (number, place)) (Some (found, first_length text)) = is ∙ ap (option_map (λ number. (number, first_length text))) e in
         let pair : ◌≡◌ {A = ℕ × ℕ} (number, place) (found, first_length text) = cc in
-        rw (words_of-split text some start, e, ap (λ (p : ℕ × ℕ). p.0) pair, ap (λ (p : ℕ × ℕ). p.1) pair) refl
+        (e ∙ ap Some (sym (ap (λ (p : ℕ × ℕ). p.0) pair)), sym (ap (λ (p : ℕ × ℕ). p.1) pair))
     by None e =
         let none : ◌≡◌ {A = Option (ℕ × ℕ)} (Some (number, place)) None = is ∙ ap (option_map (λ number. (number, first_length text))) e in
         absurd (cc)
 
-pub number_place-None : (text : List ℕ) → 0 < length text → begins_with_space text ≡ false → None ≡ answer text → number_place (words_of text) ≡ Err fault.Number
-unfolding number_place
-number_place-None text some start is = by (number_of (first text)) refl
+answer-None : (text : List ℕ) → None ≡ answer text → number_of (first text) ≡ None
+answer-None text is = by (number_of (first text)) refl
   where
-    by : (spelled : Option ℕ) → number_of (first text) ≡ spelled → number_place (words_of text) ≡ Err fault.Number
+    by : (spelled : Option ℕ) → number_of (first text) ≡ spelled → number_of (first text) ≡ None
     by (Some found) e =
         let some : ◌≡◌ {A = Option (ℕ × ℕ)} None (Some (found, first_length text)) = is ∙ ap (option_map (λ number. (number, first_length text))) e in
         absurd (cc)
-    by None e = rw (words_of-split text some start, e) refl
+    by None e = e
 
-pub number_place-empty : (text : List ℕ) → length text ≡ 0 → number_place (words_of text) ≡ Err fault.Missing
+-- the place of a number, by the number at the text's start
+pub number_at-Some : (text : List ℕ) (number place : ℕ) → 0 < length text → begins_with_space text ≡ false → Some (number, place) ≡ answer text → number_place (words_of text) ≡ Ok (number, words_of (drop place text))
 unfolding number_place
-number_place-empty [] none = refl
-number_place-empty (byte ∷ bytes) none = absurd (omega (arith, none))
+number_at-Some text number place some start is =
+    let spelled = answer-Some text number place is in
+    rw (words_of-split text some start, spelled.0, spelled.1) refl
+
+pub number_at-None : (text : List ℕ) → 0 < length text → begins_with_space text ≡ false → None ≡ answer text → number_place (words_of text) ≡ Err fault.Number
+unfolding number_place
+number_at-None text some start is = rw (words_of-split text some start, answer-None text is) refl
+
+pub number_at-empty : (text : List ℕ) → length text ≡ 0 → number_place (words_of text) ≡ Err fault.Missing
+unfolding number_place
+number_at-empty [] none = refl
+number_at-empty (byte ∷ bytes) none = absurd (omega (arith, none))
+
+-- what follows the first byte
+abbrev pub after_sign : List ℕ → List ℕ
+after_sign text = take (length text - 1) (drop 1 text)
+
+abbrev signed_file : Bool → ℕ → FileWord
+signed_file fresh file = if fresh then Fresh file else Reused file
+
+after_sign-cons : (sign : ℕ) (digits : List ℕ) → after_sign (sign ∷ digits) ≡ digits
+after_sign-cons sign digits = take_all (suc (length digits) - 1) digits (omega arith)
+
+one_more : (text : List ℕ) (sign : ℕ) (n : ℕ) → (take (1 + n) (sign ∷ text) ≡ sign ∷ take n text) × (drop (1 + n) (sign ∷ text) ≡ drop n text)
+one_more text sign n =
+    let more : 1 + n ≡ suc n = omega arith in
+    (ap (λ (k : ℕ). take k (sign ∷ text)) more, ap (λ (k : ℕ). drop k (sign ∷ text)) more)
+
+-- a file word is its sign and the first word of what follows
+sign_split : (sign : ℕ) (digits : List ℕ) → is_space sign ≡ false → words_of (sign ∷ digits) ≡ (sign ∷ first digits) ∷ words_of (drop (first_length digits) digits)
+sign_split sign digits other =
+    let split : words_of (sign ∷ digits) ≡ take (first_length (sign ∷ digits)) (sign ∷ digits) ∷ words_of (drop (first_length (sign ∷ digits)) (sign ∷ digits)) = words_of-split (sign ∷ digits) (omega arith) other in
+    let more : first_length (sign ∷ digits) ≡ 1 + first_length digits = rw other refl in
+    split ∙ rw (more, (one_more digits sign (first_length digits)).0, (one_more digits sign (first_length digits)).1) refl
+
+signed_word : (sign : ℕ) (word : List ℕ) (fresh : Bool) → Ok fresh ≡ is_fresh sign → file_word (sign ∷ word) ≡ signed (signed_file fresh) (number_of word)
+unfolding file_word
+signed_word sign word fresh is = by (sign == 43) refl (sign == 61) refl
+  where
+    by : (plus : Bool) → (sign == 43) ≡ plus → (equals : Bool) → (sign == 61) ≡ equals → file_word (sign ∷ word) ≡ signed (signed_file fresh) (number_of word)
+    by true e equals f =
+        let same : ◌≡◌ {A = Result Bool LineFault} (Ok fresh) (Ok true) = is ∙ rw e refl in
+        let value : fresh ≡ true = cc in
+        rw (e, value) refl
+    by false e true f =
+        let same : ◌≡◌ {A = Result Bool LineFault} (Ok fresh) (Ok false) = is ∙ rw (e, f) refl in
+        let value : fresh ≡ false = cc in
+        rw (e, f, value) refl
+    by false e false f =
+        let same : ◌≡◌ {A = Result Bool LineFault} (Ok fresh) (Err fault.Word) = is ∙ rw (e, f) refl in
+        absurd (cc)
+
+pub file_at-Some : (text : List ℕ) (number place : ℕ) (fresh : Bool) → 0 < length text → begins_with_space text ≡ false → Ok fresh ≡ is_fresh (get_or text 0 0) → Some (number, place) ≡ answer (after_sign text)
+    → file_place (words_of text) ≡ Ok (Some (signed_file fresh number), words_of (drop place (after_sign text)))
+unfolding file_place
+file_at-Some [] number place fresh some start is found = absurd (omega (arith, some))
+file_at-Some (sign ∷ digits) number place fresh some start is found =
+    let read : Some (number, place) ≡ answer digits = found ∙ ap answer (after_sign-cons sign digits) in
+    let spelled = answer-Some digits number place read in
+    rw (after_sign-cons sign digits, sign_split sign digits start, signed_word sign (first digits) fresh is, spelled.0, spelled.1) refl
+
+pub file_at-None : (text : List ℕ) (fresh : Bool) → 0 < length text → begins_with_space text ≡ false → Ok fresh ≡ is_fresh (get_or text 0 0) → None ≡ answer (after_sign text) → file_place (words_of text) ≡ Err fault.Number
+unfolding file_place
+file_at-None [] fresh some start is found = absurd (omega (arith, some))
+file_at-None (sign ∷ digits) fresh some start is found =
+    let read : None ≡ answer digits = found ∙ ap answer (after_sign-cons sign digits) in
+    rw (sign_split sign digits start, signed_word sign (first digits) fresh is, answer-None digits read) refl
+
+pub file_at-Err : (text : List ℕ) (why : LineFault) → 0 < length text → begins_with_space text ≡ false → is_fresh (get_or text 0 0) ≡ Err why → file_place (words_of text) ≡ Err why
+unfolding file_place file_word
+file_at-Err [] why some start is = absurd (omega (arith, some))
+file_at-Err (sign ∷ digits) why some start is = by (sign == 43) refl (sign == 61) refl
+  where
+    by : (plus : Bool) → (sign == 43) ≡ plus → (equals : Bool) → (sign == 61) ≡ equals → file_place (words_of (sign ∷ digits)) ≡ Err why
+    by true e equals f = let no : ◌≡◌ {A = Result Bool LineFault} (Ok true) (Err why) = rw e at is in absurd (cc)
+    by false e true f = let no : ◌≡◌ {A = Result Bool LineFault} (Ok false) (Err why) = rw (e, f) at is in absurd (cc)
+    by false e false f =
+        let same : ◌≡◌ {A = Result Bool LineFault} (Err fault.Word) (Err why) = rw (e, f) at is in
+        let value : why ≡ fault.Word = cc in
+        rw (sign_split sign digits start, e, f, value) refl
+
+pub file_at-empty : (text : List ℕ) → length text < 1 → file_place (words_of text) ≡ Ok (None, words_of text)
+unfolding file_place
+file_at-empty [] none = refl
+file_at-empty (byte ∷ bytes) none = absurd (omega (arith, none))

@@ -12,6 +12,7 @@ use Rattle.ckpt_lines.specs.declared.keyword.Keyword.TheVariants as keyword
 use Rattle.ckpt_lines.specs.declared.limits.TheConstants.{LONGEST_LINE}
 use Rattle.ckpt_lines.specs.declared.line.Line.{Line}
 use Rattle.ckpt_lines.specs.declared.line.Line.TheVariants.{Skip, Config, Job, Start, Tick, Savepoint, Ack, Decline, Dispose, Restore, Cancel, Take, Deleted, Undeleted, Show, Count, All}
+use Rattle.ckpt_lines.specs.declared.values.FileWord.{FileWord}
 use Rattle.ckpt_lines.specs.Keywords.{keyword_of, takes_memory}
 use Rattle.ckpt_lines.specs.Values.{number, subtask, retention, target_of, file_word, fresh_file, reused_file}
 use Rattle.ckpt_lines.specs.Words.{words_of}
@@ -39,6 +40,13 @@ retention_place words = place retention words
 
 unfoldable pub target_place : List (List ℕ) → Result (Target × List (List ℕ)) LineFault
 target_place words = place target_of words
+
+-- the next file word, where there is a word
+unfoldable pub file_place : List (List ℕ) → Result (Option FileWord × List (List ℕ)) LineFault
+file_place [] = Ok (None, [])
+file_place (word ∷ words) = do
+  file ← file_word word
+  Ok (Some file, words)
 
 -- no word may follow
 unfoldable pub ended : List (List ℕ) → Result (Unit {0}) LineFault

@@ -59,6 +59,10 @@ abbrev pub signed : (ℕ → FileWord) → Option ℕ → Result FileWord LineFa
 signed sign (Some file) = Ok (sign file)
 signed sign None = Err fault.Number
 
+-- whether the sign is that of a new file
+abbrev pub is_fresh : ℕ → Result Bool LineFault
+is_fresh sign = if sign == 43 then Ok true else (if sign == 61 then Ok false else Err fault.Word)
+
 -- a plus or an equals sign, and a number
 unfoldable pub file_word : List ℕ → Result FileWord LineFault
 file_word [] = Err fault.Word

@@ -3,7 +3,7 @@ ghost use Rattle.ckpt_lines.specs.Values.{number};
 
 use crate::fault::LineFault;
 use crate::numbers::Numbers;
-use crate::values::{FileWord, file_word, number_of};
+use crate::values::{FileWord, number_of};
 use crate::words::Words;
 use ckpt_ids::{FileId, Files};
 use std::alloc::Global;
@@ -26,8 +26,8 @@ pub(crate) fn files(alloc: Global, words: &mut Words<'_>) -> Result<(Files, File
 {
     let mut fresh = Vec::new(alloc);
     let mut reused = Vec::new(alloc);
-    while let Some(word) = words.next() {
-        match file_word(word)? {
+    'files: while let Some(file) = words.file()? {
+        match file {
             FileWord::Fresh(file) => fresh.push(file)?,
             FileWord::Reused(file) => reused.push(file)?,
         }

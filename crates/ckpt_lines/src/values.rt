@@ -1,6 +1,7 @@
-ghost use Rattle.std.specs.Prelude.{◌≡◌};
+ghost use Rattle.std.specs.Prelude.{◌≡◌, if◌then◌else◌};
 ghost use Rattle.ckpt_lines.specs.Reading.{IsExact};
-ghost use Rattle.ckpt_lines.specs.Values.{file_word, number_of, part_of, retention, subtask_of, target_of, with_digit};
+ghost use Rattle.ckpt_lines.specs.declared.values.FileWord.TheVariants.{Fresh, Reused};
+ghost use Rattle.ckpt_lines.specs.Values.{is_fresh, number_of, part_of, retention, subtask_of, target_of, with_digit};
 
 use crate::fault::LineFault;
 use ckpt_ids::{CheckpointId, FileId, SubtaskId, Target};
@@ -82,20 +83,24 @@ pub(crate) fn target_of(word: &[u8]) -> Result<Target, LineFault>
     Ok(Target::Savepoint(CheckpointId(id)))
 }
 
-/// A new or a reused file.
-#[tactic(auto, unfolding(crate::specs::Values::file_word))]
-pub(crate) fn file_word(word: &[u8]) -> Result<FileWord, LineFault>
-    ensures { result ≡ file_word word.now }
+/// Whether the sign of a file word is that of a new file.
+pub(crate) fn is_fresh(sign: u8) -> Result<bool, LineFault>
+    ensures { IsExact result (is_fresh sign) }
 {
-    match word {
-        [b'+', number @ ..] => {
-            let file = number_of(number).ok_or(LineFault::Number)?;
-            Ok(FileWord::Fresh(FileId(file)))
-        }
-        [b'=', number @ ..] => {
-            let file = number_of(number).ok_or(LineFault::Number)?;
-            Ok(FileWord::Reused(FileId(file)))
-        }
+    match sign {
+        b'+' => Ok(true),
+        b'=' => Ok(false),
         _ => Err(LineFault::Word),
+    }
+}
+
+/// A new or a reused file.
+pub(crate) fn file_word(is_fresh: bool, file: FileId) -> FileWord
+    ensures { result ≡ if is_fresh then Fresh file else Reused file }
+{
+    if is_fresh {
+        FileWord::Fresh(file)
+    } else {
+        FileWord::Reused(file)
     }
 }

@@ -1,12 +1,13 @@
 ghost use Rattle.std.specs.Prelude.{◌≡◌, ◌≤◌, false, length, take};
 ghost use Rattle.std.specs.List.{position_or_len};
 ghost use Rattle.std.specs.Option.{option_map};
-ghost use Rattle.ckpt_lines.specs.Reading.{Gives, number_place};
+ghost use Rattle.ckpt_lines.specs.Reading.{Gives, file_place, number_place};
 ghost use Rattle.ckpt_lines.specs.Values.{number_of};
 ghost use Rattle.ckpt_lines.specs.Words.{begins_with_space, first_length, is_space, words_of};
 
 use crate::fault::LineFault;
-use crate::values::with_digit;
+use crate::values::{FileWord, file_word, is_fresh, with_digit};
+use ckpt_ids::FileId;
 use std::marker::Model;
 
 /// The words of a line that are still to be read. One or more spaces stand between two words.
@@ -90,6 +91,22 @@ impl<'a> Words<'a> {
             Some((number, length)) => {
                 self.rest = &text[length..];
                 Ok(number)
+            }
+            None => Err(LineFault::Number),
+        }
+    }
+    /// The next word as a file word, or `None` where no word is left.
+    pub(crate) fn file(&mut self) -> Result<Option<FileWord>, LineFault>
+        ensures { Gives result self.new (file_place self.old) }
+    {
+        let [sign, digits @ ..] = without_spaces(self.rest) else {
+            return Ok(None);
+        };
+        let is_fresh = is_fresh(*sign)?;
+        match first_number(digits) {
+            Some((number, length)) => {
+                self.rest = &digits[length..];
+                Ok(Some(file_word(is_fresh, FileId(number))))
             }
             None => Err(LineFault::Number),
         }
