@@ -51,22 +51,6 @@ fn recall_shape(call: &Call)
     }
 }
 
-/// Makes a call, and answers it also where it is refused.
-///
-/// Fails only for want of memory, and then nothing has changed.
-fn answer(core: &mut Core, call: &Call) -> Result<Answer, AllocError>
-    ensures call { IsCall call.now }
-    ensures step { IfOk result (λ answer. step core.old call.now ≡ (core.new, answer)) }
-    ensures unchanged { OnErr result (core.new ≡ core.old) }
-{
-    recall_shape(call);
-    match core.apply(call) {
-        Ok(reply) => Ok(Answer::Done(reply)),
-        Err(CoreFault::Refused(why)) => Ok(Answer::Refused(why)),
-        Err(CoreFault::Memory) => Err(AllocError),
-    }
-}
-
 impl Book {
     ghost use Rattle.std.specs.Option.{option_copied};
     ghost use Rattle.std.specs.Result.{result_err};
@@ -138,11 +122,18 @@ impl Book {
         if self.entries.make_room().is_err() {
             return Err(call);
         }
-        let Ok(answer) = answer(&mut self.core, &call) else {
-            return Err(call);
-        };
-        self.entries.push_reserved(Entry { seat, call });
-        Ok(answer)
+        recall_shape(&call);
+        match self.core.apply(&call) {
+            Ok(reply) => {
+                self.entries.push_reserved(Entry { seat, call });
+                Ok(Answer::Done(reply))
+            }
+            Err(CoreFault::Refused(why)) => {
+                self.entries.push_reserved(Entry { seat, call });
+                Ok(Answer::Refused(why))
+            }
+            Err(CoreFault::Memory) => Err(call),
+        }
     }
 
     /// Where the book takes memory.
