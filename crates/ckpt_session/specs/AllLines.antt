@@ -1,5 +1,5 @@
 -- The `all` line: each missing subtask of a pending record acknowledges, with one new file.
-use Rattle.std.specs.Prelude.{◌≡◌, ℕ, ◌+◌, ◌^◌, Bool, not, ◌||◌, nat_lt, if◌then◌else◌, List, ◌++◌, map, length, count_by, Option, Some, None, codes}
+use Rattle.std.specs.Prelude.{◌≡◌, ℕ, ◌+◌, ◌^◌, not, ◌||◌, nat_lt, if◌then◌else◌, List, ◌++◌, map, length, count_by, Option, Some, None, codes}
 use Rattle.std.specs.Option.{option_map, option_map_or}
 use Rattle.std.specs.List.{enumerate_from}
 use Rattle.ckpt_ids.specs.declared.subtask.SubtaskId.{SubtaskId}

@@ -156,44 +156,9 @@ fn missing_subtasks(alloc: Global, metadata: &Metadata) -> Result<Vec<SubtaskId>
 fn has_acknowledged(acks: &Acks, subtask: SubtaskId) -> bool
     ensures { result ≡ list_any (λ a. same_subtask subtask a.subtask) acks.now }
 {
-    let mut low = 0;
-    let mut high = acks.len();
-    while low < high {
-        let middle = low + (high - low) / 2;
-        if precedes(acks, middle, subtask) {
-            low = middle + 1;
-        } else {
-            high = middle;
-        }
-    }
-    is_of(acks, low, subtask)
-}
-
-/// Whether the acknowledgement at this place is of an earlier subtask.
-fn precedes(acks: &Acks, place: usize, subtask: SubtaskId) -> bool
-    ensures { result ≡ option_map_or (λ a. is_before a.subtask subtask) (slice_get acks.now place) false }
-{
-    match acks.get(place) {
-        Some(acked) => is_before(acked.subtask, subtask),
-        None => false,
-    }
-}
-
-/// Whether the acknowledgement at this place is of the subtask.
-fn is_of(acks: &Acks, place: usize, subtask: SubtaskId) -> bool
-    ensures { result ≡ option_map_or (λ a. same_subtask subtask a.subtask) (slice_get acks.now place) false }
-{
-    match acks.get(place) {
-        Some(acked) => subtask == acked.subtask,
-        None => false,
-    }
-}
-
-/// By vertex, then by index.
-fn is_before(earlier: SubtaskId, later: SubtaskId) -> bool
-    ensures { result ≡ is_before earlier later }
-{
-    earlier.vertex < later.vertex || earlier.vertex == later.vertex && earlier.index < later.index
+    acks.as_slice()
+        .binary_search_by_key(&subtask, |acked| acked.subtask)
+        .is_ok()
 }
 
 #[tactic(auto, unfolding(crate::specs::AllLines::completed_bytes))]

@@ -33,17 +33,14 @@ pub(crate) fn open(
 
 /// Makes a call with the seat of the lines.
 ///
-/// Fails only for want of memory.
+/// Gives the call back only for want of memory.
 #[inline(always)]
-pub(crate) fn call(book: &mut Book, call: Call) -> Result<Answer, AllocError>
+pub(crate) fn call(book: &mut Book, call: Call) -> Result<Answer, Call>
     ensures entered { OnOk result (book.new ≡ entered book.old LINE_SEAT call) }
     ensures state { OnOk result (state_of_book book.new ≡ (step (state_of_book book.old) call).0) }
     ensures answer { IfOk result (λ answer. answer ≡ (step (state_of_book book.old) call).1) }
 {
-    match book.apply(LINE_SEAT, call) {
-        Ok(answer) => Ok(answer),
-        Err(_) => Err(AllocError),
-    }
+    book.apply(LINE_SEAT, call)
 }
 
 /// The metadata of the record with this number, where it is pending. Asks for it by a call.
@@ -56,8 +53,10 @@ pub(crate) fn pending_metadata(
 {
     // Tells that the state is sound, in which a number has one record.
     let _ = book.core();
-    let answer = call(book, Call::Show { id })?;
-    Ok(pending(answer))
+    match call(book, Call::Show { id }) {
+        Ok(answer) => Ok(pending(answer)),
+        Err(_) => Err(AllocError),
+    }
 }
 
 /// The metadata, where the answer shows a pending record.

@@ -263,11 +263,13 @@ impl Session {
     {
         match &mut self.book {
             None => put(text, refusal_text(self.alloc, ScriptRefusal::NotStarted)),
-            Some(book) => {
-                let answer = call(book, made)?;
-                text.clear();
-                write_answer(self.alloc, text, &answer)
-            }
+            Some(book) => match call(book, made) {
+                Ok(answer) => {
+                    text.clear();
+                    write_answer(self.alloc, text, &answer)
+                }
+                Err(_) => Err(AllocError),
+            },
         }
     }
 

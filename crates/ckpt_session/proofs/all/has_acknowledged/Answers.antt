@@ -1,17 +1,11 @@
-use Rattle.std.proofs.Common.{◌+◌, ◌-◌, ◌/◌, arith}
-use Rattle.ckpt_session.proofs.AckSearch.{IsBetween-raise, IsBetween-lower, found_where_they_meet}
+use Rattle.std.proofs.Common.{◌∙◌, rules, tests}
+use Rattle.std.specs.List.Sorted.{IsBinarySearchResult}
+use Rattle.std.proofs.lemmas.Fn.{always_returns_same}
+use Rattle.ckpt_ids.specs.declared.ack.Acked.{Acked}
+use Rattle.ckpt_session.proofs.AckSearch.{by_subtask, found_by_search}
 use Rattle.ckpt_session.proofs.all.has_acknowledged.Goals as goal
-
-pub loop-low-preserved-then-precedes : goal.loop-low-preserved-then-precedes
-loop-low-preserved-then-precedes c =
-    let middle = c.loop-low.low + (c.loop-low.high - c.loop-low.low) / 2 in
-    IsBetween-raise c.args.acks.now c.args.subtask c.loop-low.low c.loop-low.high middle c.precedes.result c.len-high.ensures.order c.loop-low.invariant (omega arith) c.precedes.ensures c.if-precedes.true
-
-pub loop-low-preserved : goal.loop-low-preserved
-loop-low-preserved c =
-    let middle = c.loop-low.low + (c.loop-low.high - c.loop-low.low) / 2 in
-    IsBetween-lower c.args.acks.now c.args.subtask c.loop-low.low c.loop-low.high middle c.precedes.result c.len-high.ensures.order c.loop-low.invariant (omega arith) (omega arith) c.precedes.ensures c.if-precedes.false
 
 pub returns : goal.returns
 returns c =
-    found_where_they_meet c.args.acks.now c.args.subtask c.loop-low.low c.loop-low.high c.is_of.result c.len-high.ensures.order c.loop-low.invariant (omega arith) c.is_of.ensures
+    let searched : IsBinarySearchResult (λ (a : Acked). by_subtask a.subtask c.args.subtask) c.as_slice.result.now c.binary_search_by_key.result = c.binary_search_by_key.ensures.position (λ a. a.subtask) (always_returns_same _ _ _ (λ a r f k. search (rules, tests))) in
+    c.is_ok.ensures.value ∙ found_by_search c.args.acks.now c.args.subtask c.binary_search_by_key.result c.as_slice.ensures.order (rw c.as_slice.ensures.acks at c.binary_search_by_key.ensures.bound) (rw c.as_slice.ensures.acks at searched)

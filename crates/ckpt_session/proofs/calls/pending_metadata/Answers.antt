@@ -5,10 +5,10 @@ use Rattle.ckpt_session.specs.AllLines.{shown_pending}
 use Rattle.ckpt_session.proofs.ShownLemmas.{shown_state, shown_is}
 use Rattle.ckpt_session.proofs.calls.pending_metadata.Goals as goal
 
-pub returns-clause-state : goal.returns-clause-state
-returns-clause-state c = c.in_ok-answer.ensures.state ∙ shown_state (state_of_book c.args.book.now) c.args.id
+pub returns-in-Ok-clause-state : goal.returns-in-Ok-clause-state
+returns-in-Ok-clause-state c = c.in-Ok.ensures.state ∙ shown_state (state_of_book c.args.book.now) c.args.id
 
-pub returns-clause-value : goal.returns-clause-value
-returns-clause-value c =
-    c.pending.ensures ∙ ap shown_pending c.in_ok-answer.ensures.answer
+pub returns-in-Ok-clause-value : goal.returns-in-Ok-clause-value
+returns-in-Ok-clause-value c =
+    c.pending.ensures ∙ ap shown_pending c.in-Ok.ensures.answer
     ∙ shown_is (state_of_book c.args.book.now) c.args.id (subst IsSound c.core.ensures.replay c.core.ensures.sound)
