@@ -148,7 +148,10 @@ impl Core {
         if let Some(why) = self.parts.refusal(call) {
             return Err(CoreFault::Refused(why));
         }
-        Ok(self.parts.answer(call)?)
+        match self.parts.answer(call) {
+            Ok(reply) => Ok(reply),
+            Err(_) => Err(CoreFault::Memory),
+        }
     }
 }
 
