@@ -130,13 +130,11 @@ impl Parts {
     {
         let before = self.clock;
         self.clock.see(now);
-        match self.expire() {
-            Ok(reply) => Ok(reply),
-            Err(error) => {
-                self.clock = before;
-                Err(error)
-            }
+        let ticked = self.expire();
+        if ticked.is_err() {
+            self.clock = before;
         }
+        ticked
     }
 
     /// What a tick does once the moment is seen.

@@ -1,20 +1,20 @@
-use Rattle.ckpt_core.specs.Inside.Parts.{state_of}
+use Rattle.ckpt_core.specs.Inside.Parts.{Answers, state_of}
 use Rattle.ckpt_core.specs.Soundness.{IsSound}
 use Rattle.std.proofs.Common.{sym, subst}
+use Rattle.std.proofs.lemmas.Result.{IfOk-weaker, on_err_weaker}
+use Rattle.ckpt_ids.specs.declared.call.Call.TheVariants.{Tick}
 use Rattle.ckpt_core.specs.State.{State}
 use Rattle.ckpt_core.proofs.Answering.Accepted.{accepted_tick}
 use Rattle.ckpt_core.proofs.Soundness.Drops.{moment_is_sound}
 use Rattle.ckpt_core.proofs.Triggering.TickParts.{clock_back, seen_state, tick_answers, tick_wants_memory, tied_clock}
 use Rattle.ckpt_core.proofs.parts.Parts.tick.Goals as goal
 
--- src/triggers.rt:155:9
 pub see-requires : goal.see-requires
 see-requires c = (accepted_tick (state_of c.args.self.now) c.args.now c.requires.accepted).moment
 
--- src/triggers.rt:156:15
-pub expire-requires-clause-sound : goal.expire-requires-clause-sound
+pub expire-ticked-requires-clause-sound : goal.expire-ticked-requires-clause-sound
 unfolding state_of
-expire-requires-clause-sound c =
+expire-ticked-requires-clause-sound c =
     let p = c.args.self.now in
     let P : State → Type 0 = λ m. IsSound m in
     record {
@@ -23,31 +23,30 @@ expire-requires-clause-sound c =
       none_ended = c.requires.sound.none_ended;
     }
 
--- src/triggers.rt:156:15
-pub expire-requires-clause-next : goal.expire-requires-clause-next
+pub expire-ticked-requires-clause-next : goal.expire-ticked-requires-clause-next
 unfolding state_of
-expire-requires-clause-next c = (accepted_tick (state_of c.args.self.now) c.args.now c.requires.accepted).room
+expire-ticked-requires-clause-next c = (accepted_tick (state_of c.args.self.now) c.args.now c.requires.accepted).room
 
--- src/triggers.rt:147:5
-pub returns-in-Ok-clause-ok : goal.returns-in-Ok-clause-ok
-returns-in-Ok-clause-ok c =
-    tick_answers c.args.self.now c.expire.new.self c.args.now c.see.new.self c.in-Ok.reply c.requires.accepted c.see.ensures c.in-Ok.ensures.ok c.in-Ok.ensures.tied c.in-Ok.ensures.none_ended
-
--- src/triggers.rt:147:5
-pub returns-in-Err-clause-err : goal.returns-in-Err-clause-err
-returns-in-Err-clause-err c =
+pub returns-else-is_err-clause-ok : goal.returns-else-is_err-clause-ok
+returns-else-is_err-clause-ok c =
     let p = c.args.self.now in
-    record {
-      state_is = clock_back p c.expire.new.self c.args.now c.see.new.self c.see.ensures c.in-Err.ensures.err;
-      tied = tied_clock c.expire.new.self p.clock c.in-Err.ensures.tied;
-      none_ended = c.in-Err.ensures.none_ended;
-    }
+    let after = c.expire-ticked.ensures in
+    IfOk-weaker c.expire-ticked.result _ (Answers p c.expire-ticked.new.self (Tick c.args.now)) (λ reply ok. tick_answers p c.expire-ticked.new.self c.args.now c.see.new.self reply c.requires.accepted c.see.ensures ok after.tied after.none_ended) after.ok
 
--- src/triggers.rt:147:5
-pub returns-in-Err-clause-memory : goal.returns-in-Err-clause-memory
-returns-in-Err-clause-memory c =
-    tick_wants_memory c.args.self.now c.args.now c.see.new.self c.requires.accepted c.see.ensures c.in-Err.ensures.memory
+pub returns-then-is_err-clause-err : goal.returns-then-is_err-clause-err
+returns-then-is_err-clause-err c =
+    let p = c.args.self.now in
+    let after = c.expire-ticked.ensures in
+    on_err_weaker c.expire-ticked.result (λ same. record {
+      state_is = clock_back p c.expire-ticked.new.self c.args.now c.see.new.self c.see.ensures same;
+      tied = tied_clock c.expire-ticked.new.self p.clock after.tied;
+      none_ended = after.none_ended;
+    }) after.err
 
-pub expire-requires-clause-running : goal.expire-requires-clause-running
+pub returns-then-is_err-clause-memory : goal.returns-then-is_err-clause-memory
+returns-then-is_err-clause-memory c =
+    on_err_weaker c.expire-ticked.result (tick_wants_memory c.args.self.now c.args.now c.see.new.self c.requires.accepted c.see.ensures) c.expire-ticked.ensures.memory
+
+pub expire-ticked-requires-clause-running : goal.expire-ticked-requires-clause-running
 unfolding state_of
-expire-requires-clause-running c = (accepted_tick (state_of c.args.self.now) c.args.now c.requires.accepted).running
+expire-ticked-requires-clause-running c = (accepted_tick (state_of c.args.self.now) c.args.now c.requires.accepted).running
