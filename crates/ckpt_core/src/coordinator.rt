@@ -3,7 +3,7 @@ ghost use Rattle.std.specs.Result.{result_err};
 ghost use Rattle.ckpt_ids.specs.declared.reply.Answer.TheVariants.{Done};
 ghost use Rattle.ckpt_ids.specs.declared.reply.Refusal.{Refusal};
 ghost use Rattle.ckpt_core.specs.Coordinator.{IsCall, may_want_memory, open_fault, opened, refusal, step};
-ghost use Rattle.ckpt_core.specs.Inside.Parts.{Answers, AreSound, IsAccepted, Stays, state_of};
+ghost use Rattle.ckpt_core.specs.Inside.Parts.{Answers, AreSound, IsAccepted, Stays, state_of, takes_no_memory};
 
 use crate::parts::Parts;
 use ckpt_hash::Secret;
@@ -188,18 +188,39 @@ impl Parts {
                 fresh,
                 reused,
             } => { self.ack(*now, *id, *subtask, fresh, reused) }
-            Call::Decline { now, id, subtask } => Ok(self.decline(*now, *id, *subtask)),
-            Call::Dispose { id } => Ok(self.dispose(*id)),
-            Call::Restore { now, target, shape } => match shape {
-                Some(shape) => self.restore_in(*now, *target, shape),
-                None => Ok(self.restore(*now, *target)),
-            },
-            Call::Cancel { now } => Ok(self.cancel(*now)),
+            Call::Restore {
+                now,
+                target,
+                shape: Some(shape),
+            } => self.restore_in(*now, *target, shape),
             Call::Take { most } => self.take(*most),
-            Call::Deleted { file } => Ok(self.deleted(*file)),
-            Call::Undeleted { file } => Ok(self.undeleted(*file)),
             Call::Show { id } => self.show(*id),
-            Call::Count { file } => Ok(self.count(*file)),
+            _ => Ok(self.answer_in_place(call)),
+        }
+    }
+
+    /// Makes a call that takes no memory. It stands apart, so that `answer` keeps no reply of these
+    /// calls beside its result.
+    #[inline(never)]
+    fn answer_in_place(&mut self, call: &Call) -> Reply
+        requires sound { AreSound self.old }
+        requires accepted { IsAccepted self.old call.now }
+        requires in_place { takes_no_memory call.now ≡ true }
+        ensures { Answers self.old self.new call.now result }
+    {
+        match call {
+            Call::Decline { now, id, subtask } => self.decline(*now, *id, *subtask),
+            Call::Dispose { id } => self.dispose(*id),
+            Call::Restore {
+                now,
+                target,
+                shape: None,
+            } => self.restore(*now, *target),
+            Call::Cancel { now } => self.cancel(*now),
+            Call::Deleted { file } => self.deleted(*file),
+            Call::Undeleted { file } => self.undeleted(*file),
+            Call::Count { file } => self.count(*file),
+            _ => unreachable!(),
         }
     }
 }

@@ -1,9 +1,10 @@
 -- The parts of a coordinator, seen as its state, and what ties them to one another.
-use Rattle.std.specs.Prelude.{◌≡◌, ℕ, ◌≤◌, Bool, ◌||◌, ◌==◌, List, [], map, length, unwrap_or, None, not, ◌∷◌, find, Option, Some}
+use Rattle.std.specs.Prelude.{◌≡◌, ℕ, ◌≤◌, Bool, true, false, ◌||◌, ◌==◌, List, [], map, length, unwrap_or, None, not, ◌∷◌, find, Option, Some, is_none}
 use Rattle.std.specs.List.{list_any}
 use Rattle.std.specs.Vec.{vec_capacity}
 use Rattle.ckpt_ids.specs.Ascending.{ascending_set}
 use Rattle.ckpt_ids.specs.declared.call.Call.{Call}
+use Rattle.ckpt_ids.specs.declared.call.Call.TheVariants.{Tick, Savepoint, Ack, Restore, Take, Show}
 use Rattle.ckpt_ids.specs.declared.reply.Reply.{Reply}
 use Rattle.ckpt_ids.specs.declared.reply.Answer.TheVariants.{Done}
 use Rattle.ckpt_ids.specs.Records.{Record, Use, uses, is_present}
@@ -101,3 +102,13 @@ part_refusal p r subtask fresh reused = first_some (
     ∷ named NameTaken (find (is_known_in p) fresh)
     ∷ named FileGone (find (λ f. not (is_present p.registry f)) reused)
     ∷ [])
+
+-- whether the call takes no memory, whatever its answer
+abbrev pub takes_no_memory : Call → Bool
+takes_no_memory (Tick now) = false
+takes_no_memory (Savepoint now) = false
+takes_no_memory (Ack now id subtask fresh reused) = false
+takes_no_memory (Restore now target shape) = is_none shape
+takes_no_memory (Take most) = false
+takes_no_memory (Show id) = false
+takes_no_memory call = true

@@ -1,5 +1,5 @@
 -- The calls that take memory in any case may want it.
-use Rattle.std.proofs.Common.{ap, Some, ◌∙◌}
+use Rattle.std.proofs.Common.{Some, rules}
 use Rattle.ckpt_ids.specs.declared.call.Call.TheVariants.{Savepoint, Restore, Take, Show}
 use Rattle.ckpt_core.specs.Inside.Parts.{state_of}
 use Rattle.ckpt_core.proofs.Answering.Calls.{wants_here, savepoint_wants, restore_wants, take_wants, show_wants}
@@ -10,11 +10,12 @@ returns-in-Savepoint-clause-memory c =
     let m = state_of c.args.self.now in
     wants_here c.savepoint.result m c.args.call.now (Savepoint c.in-Savepoint.now) c.in-Savepoint.is c.requires.accepted (savepoint_wants m c.in-Savepoint.now)
 
-pub returns-in-Some-clause-memory : goal.returns-in-Some-clause-memory
-returns-in-Some-clause-memory c =
+pub returns-in-Restore-default-default-Some-clause-memory : goal.returns-in-Restore-default-default-Some-clause-memory
+returns-in-Restore-default-default-Some-clause-memory c =
     let m = state_of c.args.self.now in
-    let in_shape = Restore c.in-Restore.now c.in-Restore.target in
-    wants_here c.restore_in.result m c.args.call.now (in_shape (Some c.in-Some.shape)) (c.in-Restore.is ∙ ap in_shape c.in-Some.is) c.requires.accepted (restore_wants m c.in-Restore.now c.in-Restore.target c.in-Some.shape)
+    let arm = c.in-Restore-default-default-Some in
+    let in_shape = Restore arm.now arm.target (Some arm.shape) in
+    wants_here c.restore_in.result m c.args.call.now in_shape (search rules) c.requires.accepted (restore_wants m arm.now arm.target arm.shape)
 
 pub returns-in-Take-clause-memory : goal.returns-in-Take-clause-memory
 returns-in-Take-clause-memory c =
