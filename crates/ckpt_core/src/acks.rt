@@ -49,14 +49,18 @@ impl Parts {
     {
         // what the store ensures, which ties its records to the state
         let _ = self.store.base();
-        let Some(record) = self.pending.get(id) else {
-            return self.ack_late(now, id, subtask, fresh, reused);
-        };
-        let missing = record.missing();
-        if missing > 1 {
-            return self.ack_waiting(now, id, subtask, fresh, reused, missing);
+        // each answer stands last, where it needs no place beside the result
+        match self.pending.get(id) {
+            None => self.ack_late(now, id, subtask, fresh, reused),
+            Some(record) => {
+                let missing = record.missing();
+                if missing > 1 {
+                    self.ack_waiting(now, id, subtask, fresh, reused, missing)
+                } else {
+                    self.ack_last(now, id, subtask, fresh, reused)
+                }
+            }
         }
-        self.ack_last(now, id, subtask, fresh, reused)
     }
 
     /// The pending record still waits for other subtasks.
