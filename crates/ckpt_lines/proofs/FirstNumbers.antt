@@ -12,7 +12,7 @@ use Rattle.ckpt_lines.specs.Reading.{file_place, number_place}
 use Rattle.ckpt_lines.specs.Values.{file_word, is_fresh, number_of, signed, with_digit}
 use Rattle.ckpt_lines.specs.Words.{begins_with_space, first_length, is_space, words_of}
 use Rattle.ckpt_lines.proofs.NumberLemmas.{Spells, Spells-all, Spells-empty, Spells-more, Spells-none, Spells-stops}
-use Rattle.ckpt_lines.proofs.WordSplits.{words_of-split}
+use Rattle.ckpt_lines.proofs.WordSplits.{one_more, words_of-split}
 
 abbrev first : List ℕ → List ℕ
 first text = take (first_length text) text
@@ -137,17 +137,12 @@ signed_file fresh file = if fresh then Fresh file else Reused file
 after_sign-cons : (sign : ℕ) (digits : List ℕ) → after_sign (sign ∷ digits) ≡ digits
 after_sign-cons sign digits = take_all (suc (length digits) - 1) digits (omega arith)
 
-one_more : (text : List ℕ) (sign : ℕ) (n : ℕ) → (take (1 + n) (sign ∷ text) ≡ sign ∷ take n text) × (drop (1 + n) (sign ∷ text) ≡ drop n text)
-one_more text sign n =
-    let more : 1 + n ≡ suc n = omega arith in
-    (ap (λ (k : ℕ). take k (sign ∷ text)) more, ap (λ (k : ℕ). drop k (sign ∷ text)) more)
-
 -- a file word is its sign and the first word of what follows
 sign_split : (sign : ℕ) (digits : List ℕ) → is_space sign ≡ false → words_of (sign ∷ digits) ≡ (sign ∷ first digits) ∷ words_of (drop (first_length digits) digits)
 sign_split sign digits other =
     let split : words_of (sign ∷ digits) ≡ take (first_length (sign ∷ digits)) (sign ∷ digits) ∷ words_of (drop (first_length (sign ∷ digits)) (sign ∷ digits)) = words_of-split (sign ∷ digits) (omega arith) other in
     let more : first_length (sign ∷ digits) ≡ 1 + first_length digits = rw other refl in
-    split ∙ rw (more, (one_more digits sign (first_length digits)).0, (one_more digits sign (first_length digits)).1) refl
+    split ∙ rw (more, (one_more (first_length digits) sign digits).0, (one_more (first_length digits) sign digits).1) refl
 
 signed_word : (sign : ℕ) (word : List ℕ) (fresh : Bool) → Ok fresh ≡ is_fresh sign → file_word (sign ∷ word) ≡ signed (signed_file fresh) (number_of word)
 unfolding file_word

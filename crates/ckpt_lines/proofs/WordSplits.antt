@@ -9,7 +9,7 @@ abbrev parts_after : List ℕ → List (List ℕ)
 parts_after [] = []
 parts_after (space ∷ text) = slice_split is_space text
 
-one_more : (n : ℕ) (b : ℕ) (bs : List ℕ) → (take (1 + n) (b ∷ bs) ≡ b ∷ take n bs) × (drop (1 + n) (b ∷ bs) ≡ drop n bs)
+pub one_more : (n : ℕ) (b : ℕ) (bs : List ℕ) → (take (1 + n) (b ∷ bs) ≡ b ∷ take n bs) × (drop (1 + n) (b ∷ bs) ≡ drop n bs)
 one_more n b bs =
     let more : 1 + n ≡ suc n = omega arith in
     (ap (λ (k : ℕ). take k (b ∷ bs)) more, ap (λ (k : ℕ). drop k (b ∷ bs)) more)

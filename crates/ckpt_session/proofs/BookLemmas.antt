@@ -1,6 +1,6 @@
 -- The state that a book's calls lead to, after calls more.
 use Rattle.std.proofs.Common.{◌≡◌, ℕ, List, [], ◌∷◌, ◌++◌, Ok, Err, Result, ap, ◌∙◌, refl}
-use Rattle.std.specs.Result.{IfOk, OnOk}
+use Rattle.std.specs.Result.{OnOk}
 use Rattle.std.proofs.lemmas.List.{map-append}
 use Rattle.ckpt_ids.specs.declared.call.Call.{Call}
 use Rattle.ckpt_core.specs.State.{State, Opening, opened}
@@ -35,7 +35,3 @@ state_of_book-opened h o same none = ap (λ (es : List Entry). replay (opened h.
 pub on_ok-then : {T E : Type 0} (r : Result T E) (P Q : Type 0) → (P → Q) → OnOk r P → OnOk r Q
 on_ok-then (Ok x) P Q then h = then h
 on_ok-then (Err x) P Q then h = tt
-
-pub if_ok-then : {T E : Type 0} (r : Result T E) (P Q : T → Type 0) → ((x : T) → P x → Q x) → IfOk r P → IfOk r Q
-if_ok-then (Ok x) P Q then h = then x h
-if_ok-then (Err x) P Q then h = tt

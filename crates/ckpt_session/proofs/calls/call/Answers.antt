@@ -1,9 +1,10 @@
 use Rattle.std.proofs.Common.{◌≡◌, ◌∙◌, ap}
 use Rattle.ckpt_ids.specs.declared.reply.Answer.{Answer}
 use Rattle.ckpt_core.specs.Steps.{step}
+use Rattle.ckpt_core.proofs.Answering.Reads.{for_ok}
 use Rattle.ckpt_locked.specs.declared.limits.TheConstants.{MOST_SEATS}
 use Rattle.ckpt_locked.specs.Books.{answer_to, entered, state_of_book}
-use Rattle.ckpt_session.proofs.BookLemmas.{state_of_book-entered, answer_to-step, on_ok-then, if_ok-then}
+use Rattle.ckpt_session.proofs.BookLemmas.{state_of_book-entered, answer_to-step, on_ok-then}
 use Rattle.ckpt_session.proofs.calls.call.Goals as goal
 
 pub returns-clause-state : goal.returns-clause-state
@@ -12,4 +13,4 @@ returns-clause-state c =
 
 pub returns-clause-answer : goal.returns-clause-answer
 returns-clause-answer c =
-    if_ok-then c.apply.result (λ (answer : Answer). answer ≡ answer_to c.args.book.now c.args.call) (λ (answer : Answer). answer ≡ (step (state_of_book c.args.book.now) c.args.call).1) (λ answer is. is ∙ answer_to-step c.args.book.now c.args.call) c.apply.ensures.answer
+    for_ok c.apply.result (λ (answer : Answer). answer ≡ answer_to c.args.book.now c.args.call) (λ (answer : Answer). answer ≡ (step (state_of_book c.args.book.now) c.args.call).1) (λ answer is. is ∙ answer_to-step c.args.book.now c.args.call) c.apply.ensures.answer
