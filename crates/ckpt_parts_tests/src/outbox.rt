@@ -3,7 +3,7 @@ ghost use Rattle.ckpt_outbox.specs.Queues.{Queues};
 
 use ckpt_ids::{FileId, Handed};
 use ckpt_outbox::{NotTaken, Outbox};
-use std::alloc::AllocError;
+use std::alloc::{AllocError, Global};
 use std::process::Abort;
 use std::test::Fail;
 
@@ -16,8 +16,61 @@ fn take_again(rt: &impl Abort, outbox: &mut Outbox, most: u64) -> Result<Handed,
     if let Ok(files) = outbox.take(most) {
         return Ok(files);
     }
-    assert_eq!(rt; outbox.waiting(), waiting);
+    assert!(rt; outbox.waiting() == waiting);
     outbox.take(most)
+}
+
+/// Whether these are the files, in order.
+fn are(handed: &Handed, files: &[FileId]) -> bool {
+    let count = handed.len();
+    for place in 0..count {
+        if handed.get(place) != files.get(place).copied() {
+            return false;
+        }
+    }
+    count == files.len() && handed.is_empty() == files.is_empty()
+}
+
+/// Takes these files, in order.
+fn takes(
+    rt: &impl Abort,
+    outbox: &mut Outbox,
+    most: u64,
+    files: &[FileId],
+) -> Result<(), AllocError> {
+    let taken = take_again(rt, outbox, most)?;
+    assert!(rt; are(&taken, files));
+    Ok(())
+}
+
+/// Whether so many files wait, and so many are taken.
+fn has(outbox: &Outbox, waiting: u64, taken: u64) -> bool {
+    outbox.waiting() == waiting && outbox.taken() == taken
+}
+
+/// Whether the file is known, and taken.
+fn is_out(outbox: &Outbox, file: FileId) -> bool {
+    outbox.knows(file) && outbox.is_taken(file)
+}
+
+/// Whether a taken file goes back.
+fn returns(outbox: &mut Outbox, file: FileId) -> bool {
+    is_out(outbox, file)
+        && outbox.undeleted(file) == Ok(())
+        && outbox.knows(file)
+        && !outbox.is_taken(file)
+}
+
+/// Whether a taken file is reported as deleted, and not known any more.
+fn deletes(outbox: &mut Outbox, file: FileId) -> bool {
+    is_out(outbox, file) && outbox.deleted(file) == Ok(()) && !outbox.knows(file)
+}
+
+/// Whether a file that is not taken is reported in vain.
+fn is_gone(outbox: &mut Outbox, file: FileId) -> bool {
+    outbox.deleted(file) == Err(NotTaken)
+        && outbox.undeleted(file) == Err(NotTaken)
+        && !outbox.knows(file)
 }
 
 /// Hands out a file that is not known.
@@ -31,58 +84,75 @@ fn put_new(rt: &impl Abort, outbox: &mut Outbox, file: FileId) -> Result<(), All
     Ok(())
 }
 
-#[test]
-fn takes_returns_and_deletes(rt: HostRuntime) -> Result<(), Fail> {
-    let mut outbox = Outbox::new(rt.alloc());
+/// Hands out so many files, from 0 on.
+fn put_many(rt: &impl Abort, outbox: &mut Outbox, count: u64) -> Result<(), AllocError> {
+    for number in 0..count {
+        put_new(rt, outbox, FileId(number))?;
+    }
+    Ok(())
+}
+
+/// An outbox in which the files 4 and 9 wait.
+fn with_two(rt: &impl Abort, alloc: Global) -> Result<Outbox, AllocError> {
+    let mut outbox = Outbox::new(alloc);
     if outbox.reserve(3).is_err() {
-        assert_eq!(rt; outbox.waiting(), 0);
+        assert!(rt; outbox.waiting() == 0);
         outbox.reserve(3)?;
     }
     outbox.put(&[FileId(4), FileId(9)]);
-    assert_eq!(rt; outbox.waiting(), 2);
-    let first = take_again(&rt, &mut outbox, 1)?;
-    assert_eq!(rt; first.len(), 1);
-    assert_eq!(rt; first.get(0), Some(FileId(4)));
-    assert_eq!(rt; outbox.undeleted(FileId(4)), Ok(()));
-    let both = take_again(&rt, &mut outbox, 5)?;
-    assert_eq!(rt; both.len(), 2);
-    assert_eq!(rt; both.get(0), Some(FileId(9)));
-    assert_eq!(rt; both.get(1), Some(FileId(4)));
-    let none = take_again(&rt, &mut outbox, 5)?;
-    assert!(rt; none.is_empty());
-    assert!(rt; outbox.knows(FileId(9)));
-    assert!(rt; outbox.is_taken(FileId(9)));
-    assert_eq!(rt; outbox.deleted(FileId(9)), Ok(()));
-    assert!(rt; !outbox.knows(FileId(9)));
+    Ok(outbox)
+}
+
+/// An outbox from which the files 4 and 9 were taken, 4 the second time.
+fn with_two_taken(rt: &impl Abort, alloc: Global) -> Result<Outbox, AllocError> {
+    let mut outbox = with_two(rt, alloc)?;
+    assert!(rt; has(&outbox, 2, 0));
+    takes(rt, &mut outbox, 1, &[FileId(4)])?;
+    assert!(rt; returns(&mut outbox, FileId(4)));
+    takes(rt, &mut outbox, 5, &[FileId(9), FileId(4)])?;
+    Ok(outbox)
+}
+
+#[test]
+fn takes_returns_and_deletes(rt: HostRuntime) -> Result<(), Fail> {
+    let mut outbox = with_two_taken(&rt, rt.alloc())?;
+    takes(&rt, &mut outbox, 5, &[])?;
+    assert!(rt; deletes(&mut outbox, FileId(9)));
     assert!(rt; outbox.is_taken(FileId(4)));
-    assert_eq!(rt; outbox.deleted(FileId(9)), Err(NotTaken));
-    assert_eq!(rt; outbox.undeleted(FileId(9)), Err(NotTaken));
+    assert!(rt; is_gone(&mut outbox, FileId(9)));
+    drop(outbox);
     Ok(())
+}
+
+/// All files, from the last to the first, go back.
+fn return_all(rt: &impl Abort, outbox: &mut Outbox) {
+    for number in (0..MANY).rev() {
+        assert!(rt; returns(outbox, FileId(number)));
+    }
+}
+
+/// All files, from the first to the last, are reported as deleted.
+fn delete_all(rt: &impl Abort, outbox: &mut Outbox) {
+    for number in 0..MANY {
+        assert!(rt; deletes(outbox, FileId(number)));
+        assert!(rt; is_gone(outbox, FileId(number)));
+    }
 }
 
 /// In this order a scan for each file would take the square of their number.
 #[test]
 fn looks_up_among_many_files(rt: HostRuntime) -> Result<(), Fail> {
     let mut outbox = Outbox::new(rt.alloc());
-    for number in 0..MANY {
-        put_new(&rt, &mut outbox, FileId(number))?;
-    }
+    put_many(&rt, &mut outbox, MANY)?;
     let all = take_again(&rt, &mut outbox, MANY)?;
-    assert_eq!(rt; all.len() as u64, MANY);
-    for number in (0..MANY).rev() {
-        assert!(rt; outbox.is_taken(FileId(number)));
-        assert_eq!(rt; outbox.undeleted(FileId(number)), Ok(()));
-        assert!(rt; outbox.knows(FileId(number)));
-    }
-    assert_eq!(rt; outbox.waiting(), MANY);
+    assert!(rt; all.len() as u64 == MANY);
+    return_all(&rt, &mut outbox);
+    assert!(rt; has(&outbox, MANY, 0));
     let back = take_again(&rt, &mut outbox, MANY)?;
-    assert_eq!(rt; back.get(0), Some(FileId(MANY - 1)));
-    for number in 0..MANY {
-        assert_eq!(rt; outbox.deleted(FileId(number)), Ok(()));
-        assert_eq!(rt; outbox.deleted(FileId(number)), Err(NotTaken));
-        assert!(rt; !outbox.knows(FileId(number)));
-    }
-    assert_eq!(rt; outbox.waiting(), 0);
+    assert!(rt; back.get(0) == Some(FileId(MANY - 1)));
+    delete_all(&rt, &mut outbox);
+    assert!(rt; has(&outbox, 0, 0));
+    drop(outbox);
     Ok(())
 }
 
@@ -94,10 +164,9 @@ const PASSING: u64 = 2_000;
 fn pass_the_oldest(rt: &impl Abort, outbox: &mut Outbox) -> Result<(), AllocError> {
     for number in 0..=PASSING {
         put_new(rt, outbox, FileId(number))?;
-        let files = take_again(rt, outbox, 1)?;
-        assert_eq!(rt; files.get(0), Some(FileId(number)));
+        takes(rt, outbox, 1, &[FileId(number)])?;
         if number % 10 != 0 {
-            assert_eq!(rt; outbox.deleted(FileId(number)), Ok(()));
+            assert!(rt; deletes(outbox, FileId(number)));
         }
         assert!(rt; outbox.is_taken(FileId(0)));
     }
@@ -107,15 +176,23 @@ fn pass_the_oldest(rt: &impl Abort, outbox: &mut Outbox) -> Result<(), AllocErro
 /// The tenths go back, from the last to the first, and come out in that order.
 fn returns_each_tenth(rt: &impl Abort, outbox: &mut Outbox) -> Result<(), AllocError> {
     for tenth in (0..=PASSING / 10).rev() {
-        assert_eq!(rt; outbox.undeleted(FileId(10 * tenth)), Ok(()));
-        assert!(rt; !outbox.is_taken(FileId(10 * tenth)));
-        assert_eq!(rt; outbox.taken(), tenth);
-        let files = take_again(rt, outbox, 1)?;
-        assert_eq!(rt; files.get(0), Some(FileId(10 * tenth)));
-        assert_eq!(rt; outbox.deleted(FileId(10 * tenth)), Ok(()));
-        assert_eq!(rt; outbox.deleted(FileId(10 * tenth)), Err(NotTaken));
+        let file = FileId(10 * tenth);
+        assert!(rt; returns(outbox, file));
+        assert!(rt; outbox.taken() == tenth);
+        takes(rt, outbox, 1, &[file])?;
+        assert!(rt; deletes(outbox, file));
+        assert!(rt; is_gone(outbox, file));
     }
     Ok(())
+}
+
+/// Whether each tenth file is known and taken, and no other.
+fn has_tenths(outbox: &Outbox) -> bool {
+    (0..=PASSING).all(|number| {
+        let file = FileId(number);
+        let is_tenth = number % 10 == 0;
+        outbox.is_taken(file) == is_tenth && outbox.knows(file) == is_tenth
+    })
 }
 
 #[test]
@@ -123,43 +200,39 @@ fn keeps_the_oldest_while_most_are_reported(rt: HostRuntime) -> Result<(), Fail>
     let mut outbox = Outbox::new(rt.alloc());
     pass_the_oldest(&rt, &mut outbox)?;
     // the file 0 and each tenth file after it
-    assert_eq!(rt; outbox.taken(), 201);
-    for number in 0..=PASSING {
-        assert_eq!(rt; outbox.is_taken(FileId(number)), number % 10 == 0);
-        assert_eq!(rt; outbox.knows(FileId(number)), number % 10 == 0);
-    }
+    assert!(rt; outbox.taken() == 201);
+    assert!(rt; has_tenths(&outbox));
     returns_each_tenth(&rt, &mut outbox)?;
-    assert_eq!(rt; outbox.taken(), 0);
-    assert_eq!(rt; outbox.waiting(), 0);
+    assert!(rt; has(&outbox, 0, 0));
+    drop(outbox);
     Ok(())
+}
+
+/// An outbox from which nine files were taken, of which five are reported as deleted.
+fn with_four_taken(rt: &impl Abort, alloc: Global) -> Result<Outbox, AllocError> {
+    let mut outbox = Outbox::new(alloc);
+    put_many(rt, &mut outbox, 9)?;
+    let all = take_again(rt, &mut outbox, 9)?;
+    assert!(rt; all.len() == 9);
+    for number in [1, 2, 4, 5, 7] {
+        assert!(rt; deletes(&mut outbox, FileId(number)));
+    }
+    Ok(outbox)
 }
 
 /// More than half of the files are reported, so those that are left move together at the next taking.
 /// Each is known by its new place: they come back in the order in which they are returned.
 #[test]
 fn moves_the_taken_files_together(rt: HostRuntime) -> Result<(), Fail> {
-    let mut outbox = Outbox::new(rt.alloc());
-    for number in 0..9 {
-        put_new(&rt, &mut outbox, FileId(number))?;
-    }
-    let all = take_again(&rt, &mut outbox, 9)?;
-    assert_eq!(rt; all.len(), 9);
-    for number in [1, 2, 4, 5, 7] {
-        assert_eq!(rt; outbox.deleted(FileId(number)), Ok(()));
-    }
+    let mut outbox = with_four_taken(&rt, rt.alloc())?;
     put_new(&rt, &mut outbox, FileId(9))?;
-    let last = take_again(&rt, &mut outbox, 1)?;
-    assert_eq!(rt; last.get(0), Some(FileId(9)));
-    assert_eq!(rt; outbox.taken(), 5);
-    for number in [6, 0, 9, 3, 8] {
-        assert_eq!(rt; outbox.undeleted(FileId(number)), Ok(()));
+    takes(&rt, &mut outbox, 1, &[FileId(9)])?;
+    assert!(rt; outbox.taken() == 5);
+    let order = [FileId(6), FileId(0), FileId(9), FileId(3), FileId(8)];
+    for file in order {
+        assert!(rt; returns(&mut outbox, file));
     }
-    let back = take_again(&rt, &mut outbox, 9)?;
-    assert_eq!(rt; back.len(), 5);
-    assert_eq!(rt; back.get(0), Some(FileId(6)));
-    assert_eq!(rt; back.get(1), Some(FileId(0)));
-    assert_eq!(rt; back.get(2), Some(FileId(9)));
-    assert_eq!(rt; back.get(3), Some(FileId(3)));
-    assert_eq!(rt; back.get(4), Some(FileId(8)));
+    takes(&rt, &mut outbox, 9, &order)?;
+    drop(outbox);
     Ok(())
 }

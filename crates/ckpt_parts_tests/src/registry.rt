@@ -1,4 +1,4 @@
-ghost use Rattle.std.specs.Prelude.{◌≡◌, ◌<◌, ◌+◌, ◌-◌, ◌^◌, ◌&&◌, ◌==◌, [], ◌++◌, length, not, nat_lt, IsTrue, MatchBool};
+ghost use Rattle.std.specs.Prelude.{◌≡◌, ◌<◌, ◌+◌, ◌-◌, ◌^◌, ◌&&◌, ◌==◌, [], ◌++◌, length, not, nat_lt, IsTrue, IfOk, OnOk, MatchBool};
 ghost use Rattle.std.specs.List.{list_all};
 ghost use Rattle.ckpt_ids.specs.Records.{count, is_present};
 ghost use Rattle.ckpt_parts_tests.specs.Earlier.{AreBefore, IsFirst, IsPinnable, IsUsable};
@@ -109,7 +109,7 @@ fn acknowledge(rt: &impl Abort, registry: &mut Registry, id: u64, fresh: &Files,
     let present = registry.present();
     assert!(rt; may_use(registry, fresh, reused));
     if !uses(registry, id, fresh, reused) {
-        assert_eq!(rt; registry.present(), present);
+        assert!(rt; registry.present() == present);
         assert!(rt; may_use(registry, fresh, reused));
         assert!(rt; uses(registry, id, fresh, reused));
     }
@@ -123,7 +123,7 @@ fn pin(rt: &impl Abort, registry: &mut Registry, id: u64, files: &Files)
     let present = registry.present();
     assert!(rt; may_pin(registry, files));
     if !pins(registry, id, files) {
-        assert_eq!(rt; registry.present(), present);
+        assert!(rt; registry.present() == present);
         assert!(rt; may_pin(registry, files));
         assert!(rt; pins(registry, id, files));
     }
@@ -147,7 +147,7 @@ fn pin_whole(rt: &impl Abort, registry: &mut Registry, id: u64, chosen: u64)
 {
     let present = registry.present();
     if !pins_whole(registry, id, chosen) {
-        assert_eq!(rt; registry.present(), present);
+        assert!(rt; registry.present() == present);
         assert!(rt; pins_whole(registry, id, chosen));
     }
 }
@@ -204,96 +204,105 @@ fn ended(
     assert!(rt; registry.end(ends, owners) == files);
 }
 
+// Whether so many files are present, and each of these is counted so often.
+fn has(registry: &Registry, present: u64, counts: &[(u64, u32)]) -> bool {
+    for (file, count) in counts {
+        if registry.count(FileId(*file)) != *count {
+            return false;
+        }
+        if registry.contains(FileId(*file)) != (*count > 0) {
+            return false;
+        }
+    }
+    registry.present() == present
+}
+
+// Record 1 wrote the files 7 and 8, and record 2 wrote the file 9 and reused 7.
+fn with_reused(rt: &impl Abort, alloc: Global) -> Result<Registry, AllocError>
+    ensures { IfOk result (λ us. AreBefore us 3) }
+{
+    let none = files(alloc, &[])?;
+    let seven = files(alloc, &[7])?;
+    let nine = files(alloc, &[9])?;
+    let both = files(alloc, &[8, 7])?;
+    let mut registry = Registry::new(alloc);
+    acknowledge(rt, &mut registry, 1, &both, &none);
+    acknowledge(rt, &mut registry, 2, &nine, &seven);
+    Ok(registry)
+}
+
 #[test]
 fn counts_each_use(rt: HostRuntime) -> Result<(), Fail> {
-    let alloc = rt.alloc();
-    let mut registry = Registry::new(alloc);
-    let none = files(alloc, &[])?;
-    acknowledge(&rt, &mut registry, 1, &files(alloc, &[8, 7])?, &none);
-    acknowledge(
-        &rt,
-        &mut registry,
-        2,
-        &files(alloc, &[9])?,
-        &files(alloc, &[7])?,
-    );
-    assert_eq!(rt; registry.count(FileId(7)), 2);
-    assert_eq!(rt; registry.count(FileId(8)), 1);
-    assert_eq!(rt; registry.count(FileId(10)), 0);
-    assert_eq!(rt; registry.present(), 3);
+    let mut registry = with_reused(&rt, rt.alloc())?;
+    assert!(rt; has(&registry, 3, &[(7, 2), (8, 1), (10, 0)]));
     released(&rt, &mut registry, &[CheckpointId(5)], &[], 3);
     released(&rt, &mut registry, &[CheckpointId(1)], &[FileId(8)], 3);
-    assert_eq!(rt; registry.count(FileId(7)), 1);
-    assert!(rt; !registry.contains(FileId(8)));
-    released(
-        &rt,
-        &mut registry,
-        &[CheckpointId(2)],
-        &[FileId(7), FileId(9)],
-        3,
-    );
-    assert_eq!(rt; registry.present(), 0);
+    assert!(rt; has(&registry, 2, &[(7, 1), (8, 0)]));
+    let last = [FileId(7), FileId(9)];
+    released(&rt, &mut registry, &[CheckpointId(2)], &last, 3);
+    assert!(rt; has(&registry, 0, &[]));
+    drop(registry);
     Ok(())
+}
+
+// Record 1 wrote the file 7, and record 2 pins it.
+fn with_pinned(rt: &impl Abort, alloc: Global) -> Result<Registry, AllocError>
+    ensures { IfOk result (λ us. AreBefore us 3) }
+{
+    let none = files(alloc, &[])?;
+    let seven = files(alloc, &[7])?;
+    let mut registry = Registry::new(alloc);
+    acknowledge(rt, &mut registry, 1, &seven, &none);
+    pin(rt, &mut registry, 2, &seven);
+    Ok(registry)
 }
 
 #[test]
 fn keeps_pinned_files_until_the_end(rt: HostRuntime) -> Result<(), Fail> {
-    let alloc = rt.alloc();
-    let mut registry = Registry::new(alloc);
-    let none = files(alloc, &[])?;
-    let seven = files(alloc, &[7])?;
-    acknowledge(&rt, &mut registry, 1, &seven, &none);
-    pin(&rt, &mut registry, 2, &seven);
-    assert_eq!(rt; registry.count(FileId(7)), 2);
+    let mut registry = with_pinned(&rt, rt.alloc())?;
+    assert!(rt; has(&registry, 1, &[(7, 2)]));
     released(&rt, &mut registry, &[CheckpointId(1)], &[], 3);
     ended(&rt, &mut registry, CheckpointId(2), &[], &[FileId(7)], 3);
-    assert_eq!(rt; registry.present(), 0);
+    assert!(rt; has(&registry, 0, &[]));
+    drop(registry);
     Ok(())
+}
+
+// Record 1 wrote the files 7 and 8, and record 2 pins it as a whole.
+fn with_pinned_record(rt: &impl Abort, alloc: Global) -> Result<Registry, AllocError>
+    ensures { IfOk result (λ us. AreBefore us 3) }
+{
+    let none = files(alloc, &[])?;
+    let written = files(alloc, &[8, 7])?;
+    let mut registry = with_record(rt, alloc, &written, &none);
+    pin_whole(rt, &mut registry, 2, 1);
+    Ok(registry)
 }
 
 // The record that is pinned goes first: its files stay for the one that pins them.
 #[test]
 fn keeps_the_files_of_a_record_that_is_pinned_as_a_whole(rt: HostRuntime) -> Result<(), Fail> {
-    let alloc = rt.alloc();
-    let none = files(alloc, &[])?;
-    let written = files(alloc, &[8, 7])?;
-    let mut registry = with_record(&rt, alloc, &written, &none);
-    pin_whole(&rt, &mut registry, 2, 1);
-    assert_eq!(rt; registry.count(FileId(7)), 2);
-    assert_eq!(rt; registry.count(FileId(9)), 0);
-    assert_eq!(rt; registry.present(), 2);
+    let mut registry = with_pinned_record(&rt, rt.alloc())?;
+    assert!(rt; has(&registry, 2, &[(7, 2), (9, 0)]));
     released(&rt, &mut registry, &[CheckpointId(1)], &[], 3);
-    assert_eq!(rt; registry.count(FileId(8)), 1);
-    ended(
-        &rt,
-        &mut registry,
-        CheckpointId(2),
-        &[],
-        &[FileId(7), FileId(8)],
-        3,
-    );
-    assert_eq!(rt; registry.present(), 0);
+    assert!(rt; has(&registry, 2, &[(8, 1)]));
+    let both = [FileId(7), FileId(8)];
+    ended(&rt, &mut registry, CheckpointId(2), &[], &both, 3);
+    assert!(rt; has(&registry, 0, &[]));
+    drop(registry);
     Ok(())
 }
 
 // The one that pins ends first, and then a record without files is pinned.
 #[test]
 fn lets_go_of_a_record_that_was_pinned_as_a_whole(rt: HostRuntime) -> Result<(), Fail> {
-    let alloc = rt.alloc();
-    let none = files(alloc, &[])?;
-    let written = files(alloc, &[8, 7])?;
-    let mut registry = with_record(&rt, alloc, &written, &none);
-    pin_whole(&rt, &mut registry, 2, 1);
+    let mut registry = with_pinned_record(&rt, rt.alloc())?;
     ended(&rt, &mut registry, CheckpointId(2), &[], &[], 3);
-    assert_eq!(rt; registry.count(FileId(7)), 1);
-    released(
-        &rt,
-        &mut registry,
-        &[CheckpointId(1)],
-        &[FileId(7), FileId(8)],
-        3,
-    );
-    assert_eq!(rt; registry.present(), 0);
+    assert!(rt; has(&registry, 2, &[(7, 1)]));
+    let both = [FileId(7), FileId(8)];
+    released(&rt, &mut registry, &[CheckpointId(1)], &both, 3);
+    assert!(rt; has(&registry, 0, &[]));
+    drop(registry);
     Ok(())
 }
 
@@ -307,36 +316,53 @@ fn hundred_from(alloc: Global, first: u64) -> Result<Files, AllocError>
     Ok(Files::of(list))
 }
 
+// 1000 records have 100 files each.
+fn with_thousand(rt: &impl Abort, alloc: Global) -> Result<Registry, AllocError>
+    ensures { IfOk result (λ us. AreBefore us 1001) }
+{
+    let none = files(alloc, &[])?;
+    let mut registry = Registry::new(alloc);
+    for id in 1..1001 {
+        let fresh = hundred_from(alloc, id * 100)?;
+        acknowledge(rt, &mut registry, id, &fresh, &none);
+    }
+    Ok(registry)
+}
+
+// A record comes with two files of its own and three of another one, and goes.
+fn come_and_go(
+    rt: &impl Abort,
+    alloc: Global,
+    registry: &mut Registry,
+    id: u64,
+) -> Result<(), AllocError>
+    requires before { AreBefore registry.old id }
+    requires small { id < 2 ^ 32 }
+    ensures { OnOk result (AreBefore registry.new (id + 1)) }
+{
+    let own = 1_000_000 + id * 2;
+    let other = (id % 1000 + 1) * 100;
+    let fresh = files(alloc, &[own, own + 1])?;
+    let reused = files(alloc, &[other, other + 50, other + 99])?;
+    acknowledge(rt, registry, id, &fresh, &reused);
+    assert!(rt; has(registry, 100_002, &[(other + 50, 2)]));
+    let gone = [FileId(own), FileId(own + 1)];
+    released(rt, registry, &[CheckpointId(id)], &gone, id + 1);
+    assert!(rt; has(registry, 100_000, &[(own, 0), (other, 1)]));
+    Ok(())
+}
+
 // 1000 records with 100 files each stay, while 20,000 more come and go, each with two files of its
 // own and three of another record. A call that walked the other files would take minutes.
 #[test]
 fn visits_only_what_a_call_names(rt: HostRuntime) -> Result<(), Fail> {
     let alloc = rt.alloc();
-    let mut registry = Registry::new(alloc);
-    let none = files(alloc, &[])?;
-    for id in 1..1001 {
-        let fresh = hundred_from(alloc, id * 100)?;
-        acknowledge(&rt, &mut registry, id, &fresh, &none);
-    }
-    assert_eq!(rt; registry.present(), 100_000);
+    let mut registry = with_thousand(&rt, alloc)?;
+    assert!(rt; registry.present() == 100_000);
     for id in 1001..21_001 {
-        let own = 1_000_000 + id * 2;
-        let other = (id % 1000 + 1) * 100;
-        let fresh = files(alloc, &[own, own + 1])?;
-        let reused = files(alloc, &[other, other + 50, other + 99])?;
-        acknowledge(&rt, &mut registry, id, &fresh, &reused);
-        assert_eq!(rt; registry.count(FileId(other + 50)), 2);
-        assert_eq!(rt; registry.present(), 100_002);
-        released(
-            &rt,
-            &mut registry,
-            &[CheckpointId(id)],
-            &[FileId(own), FileId(own + 1)],
-            id + 1,
-        );
-        assert!(rt; !registry.contains(FileId(own)));
-        assert_eq!(rt; registry.count(FileId(other)), 1);
+        come_and_go(&rt, alloc, &mut registry, id)?;
     }
-    assert_eq!(rt; registry.present(), 100_000);
+    assert!(rt; registry.present() == 100_000);
+    drop(registry);
     Ok(())
 }

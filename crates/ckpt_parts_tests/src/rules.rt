@@ -11,13 +11,13 @@ fn config_of(interval: u64, pause: u64, at_once: u64) -> Result<Config, BadConfi
 fn holds_by_interval_and_limit(rt: HostRuntime) -> Result<(), Fail> {
     let config = config_of(1000, 0, 1)?;
     let mut clock = Clock::new(&config, 0);
-    assert_eq!(rt; clock.held(&config, 999, 0), Hold::Interval);
-    assert_eq!(rt; clock.held(&config, 1000, 0), Hold::Go);
-    assert_eq!(rt; clock.held(&config, 1000, 1), Hold::AtOnce);
-    assert_eq!(rt; clock.held(&config, 999, 1), Hold::Interval);
+    assert!(rt; clock.held(&config, 999, 0) == Hold::Interval);
+    assert!(rt; clock.held(&config, 1000, 0) == Hold::Go);
+    assert!(rt; clock.held(&config, 1000, 1) == Hold::AtOnce);
+    assert!(rt; clock.held(&config, 999, 1) == Hold::Interval);
     clock.see(2000);
-    assert_eq!(rt; clock.read(900), 2000);
-    assert_eq!(rt; clock.read(2001), 2001);
+    assert!(rt; clock.read(900) == 2000);
+    assert!(rt; clock.read(2001) == 2001);
     Ok(())
 }
 
@@ -27,23 +27,27 @@ fn a_pause_implies_one_at_once_and_lifts_the_interval(rt: HostRuntime) -> Result
     let mut clock = Clock::new(&config, 0);
     clock.triggered(&config, 5000);
     clock.completed(12_000);
-    assert_eq!(rt; clock.held(&config, 16_999, 0), Hold::Pause);
-    assert_eq!(rt; clock.held(&config, 17_000, 0), Hold::Go);
-    assert_eq!(rt; clock.held(&config, 17_000, 1), Hold::AtOnce);
+    assert!(rt; clock.held(&config, 16_999, 0) == Hold::Pause);
+    assert!(rt; clock.held(&config, 17_000, 0) == Hold::Go);
+    assert!(rt; clock.held(&config, 17_000, 1) == Hold::AtOnce);
     clock.restarted(&config, 17_000);
-    assert_eq!(rt; clock.held(&config, 21_999, 0), Hold::Interval);
-    assert_eq!(rt; clock.held(&config, 22_000, 0), Hold::Go);
+    assert!(rt; clock.held(&config, 21_999, 0) == Hold::Interval);
+    assert!(rt; clock.held(&config, 22_000, 0) == Hold::Go);
     Ok(())
 }
 
 #[test]
-fn counts_failures_in_a_row(rt: HostRuntime) {
+fn tolerates_no_failure(rt: HostRuntime) {
     let mut strict = Failures::new(0);
-    assert_eq!(rt; strict.add(0), false);
-    assert_eq!(rt; strict.add(1), true);
+    assert!(rt; !strict.add(0));
+    assert!(rt; strict.add(1));
+}
+
+#[test]
+fn counts_failures_in_a_row(rt: HostRuntime) {
     let mut lenient = Failures::new(2);
-    assert_eq!(rt; lenient.add(2), false);
-    assert_eq!(rt; lenient.add(1), true);
+    assert!(rt; !lenient.add(2));
+    assert!(rt; lenient.add(1));
     lenient.reset();
-    assert_eq!(rt; lenient.add(2), false);
+    assert!(rt; !lenient.add(2));
 }

@@ -22,45 +22,43 @@ fn completed(alloc: Global, kind: Kind, number: u64) -> Result<Done, Fail>
     Ok(done)
 }
 
+// Whether the store has a completed checkpoint of this number.
+fn has_checkpoint(store: &Store, id: CheckpointId) -> bool {
+    match store.get(id) {
+        Some(done) => done.id() == id && done.kind() == Kind::Checkpoint,
+        None => false,
+    }
+}
+
 #[test]
 fn a_job_restarts_from_its_store(rt: HostRuntime) -> Result<(), Fail> {
     let mut store = Store::new(rt.alloc(), 1);
-    assert_eq!(rt; store.choice(), Choice::Fresh);
+    assert!(rt; store.choice() == Choice::Fresh);
     store.reserve()?;
-    assert_eq!(rt;
-        store.complete(completed(rt.alloc(), Kind::Checkpoint, 1)?),
-        None
-    );
-    assert_eq!(rt; store.choice(), Choice::Checkpoint(CheckpointId(1)));
+    let dropped = store.complete(completed(rt.alloc(), Kind::Checkpoint, 1)?);
+    assert!(rt; dropped.is_none());
+    assert!(rt; store.choice() == Choice::Checkpoint(CheckpointId(1)));
     store.reserve()?;
     store.add_savepoint(completed(rt.alloc(), Kind::Savepoint, 2)?);
-    assert_eq!(rt; store.choice(), Choice::Checkpoint(CheckpointId(1)));
+    assert!(rt; store.choice() == Choice::Checkpoint(CheckpointId(1)));
     store.reserve()?;
     let dropped = store.complete(completed(rt.alloc(), Kind::Checkpoint, 3)?);
-    assert_eq!(rt; dropped, Some(CheckpointId(1)));
-    assert_eq!(rt; store.pop_lowest(), Some(CheckpointId(3)));
-    assert_eq!(rt; store.pop_lowest(), None);
+    assert!(rt; dropped == Some(CheckpointId(1)));
+    assert!(rt; store.pop_lowest() == Some(CheckpointId(3)));
+    assert!(rt; store.pop_lowest().is_none());
     assert!(rt; store.has_savepoint(CheckpointId(2)));
     store.set_base(CheckpointId(2));
-    assert_eq!(rt; store.choice(), Choice::Savepoint(CheckpointId(2)));
-    assert_eq!(rt; store.dispose(CheckpointId(2)), Err(DisposeFault::InUse));
-    assert_eq!(rt;
-        store.dispose(CheckpointId(3)),
-        Err(DisposeFault::NoSuchSavepoint)
-    );
+    assert!(rt; store.choice() == Choice::Savepoint(CheckpointId(2)));
+    assert!(rt; store.dispose(CheckpointId(2)) == Err(DisposeFault::InUse));
+    assert!(rt; store.dispose(CheckpointId(3)) == Err(DisposeFault::NoSuchSavepoint));
     store.reserve()?;
-    assert_eq!(rt;
-        store.complete(completed(rt.alloc(), Kind::Checkpoint, 4)?),
-        None
-    );
-    assert_eq!(rt; store.dispose(CheckpointId(2)), Ok(()));
-    assert_eq!(rt; store.savepoints(), 0);
+    let dropped = store.complete(completed(rt.alloc(), Kind::Checkpoint, 4)?);
+    assert!(rt; dropped.is_none());
+    assert!(rt; store.dispose(CheckpointId(2)) == Ok(()));
+    assert!(rt; store.savepoints() == 0);
     assert!(rt; store.get(CheckpointId(2)).is_none());
-    let Some(done) = store.get(CheckpointId(4)) else {
-        panic!(rt; "checkpoint 4 is there");
-    };
-    assert_eq!(rt; done.id(), CheckpointId(4));
-    assert_eq!(rt; done.kind(), Kind::Checkpoint);
+    assert!(rt; has_checkpoint(&store, CheckpointId(4)));
+    drop(store);
     Ok(())
 }
 
@@ -72,11 +70,12 @@ fn a_base_is_cleared(rt: HostRuntime) -> Result<(), Fail> {
     store.add_savepoint(savepoint);
     assert!(rt; store.has_savepoint(CheckpointId(2)));
     store.set_base(CheckpointId(2));
-    assert_eq!(rt; store.base(), Some(CheckpointId(2)));
+    assert!(rt; store.base() == Some(CheckpointId(2)));
     store.clear_base();
-    assert_eq!(rt; store.base(), None);
-    assert_eq!(rt; store.choice(), Choice::Fresh);
-    assert_eq!(rt; store.savepoints(), 1);
+    assert!(rt; store.base().is_none());
+    assert!(rt; store.choice() == Choice::Fresh);
+    assert!(rt; store.savepoints() == 1);
+    drop(store);
     Ok(())
 }
 
@@ -87,11 +86,12 @@ fn a_refused_reserve_works_again(rt: HostRuntime) -> Result<(), Fail> {
     let mut store = Store::new(rt.alloc(), 2);
     let first = completed(rt.alloc(), Kind::Checkpoint, 1)?;
     if store.reserve().is_err() {
-        assert_eq!(rt; store.choice(), Choice::Fresh);
-        assert_eq!(rt; store.checkpoints(), 0);
+        assert!(rt; store.choice() == Choice::Fresh);
+        assert!(rt; store.checkpoints() == 0);
         store.reserve()?;
     }
-    assert_eq!(rt; store.complete(first), None);
-    assert_eq!(rt; store.choice(), Choice::Checkpoint(CheckpointId(1)));
+    assert!(rt; store.complete(first).is_none());
+    assert!(rt; store.choice() == Choice::Checkpoint(CheckpointId(1)));
+    drop(store);
     Ok(())
 }

@@ -3,6 +3,3 @@ use Rattle.ckpt_parts_tests.proofs.registry.visits_only_what_a_call_names.Given 
 
 abbrev pub invariant-loop-id : goal.invariant-loop-id
 invariant-loop-id g l = AreBefore l.registry l.id
-
-abbrev pub invariant-loop-id-2 : goal.invariant-loop-id-2
-invariant-loop-id-2 g l = AreBefore l.registry l.id
