@@ -1,7 +1,9 @@
 -- What a job can restart from: its completed checkpoints and savepoints.
-use Rattle.std.specs.Prelude.{◌≡◌, ℕ, ◌-◌, ◌^◌, ◌<◌, ◌≤◌, Bool, true, nat_lt, ◌==◌, if◌then◌else◌, List, [], ◌∷◌, ◌++◌, length, drop, slice_get, Option, Some, None, IfSome}
+use Rattle.std.specs.Prelude.{◌≡◌, ℕ, ◌-◌, ◌^◌, ◌<◌, ◌≤◌, Bool, true, nat_lt, ◌==◌, if◌then◌else◌, List, [], ◌∷◌, ◌++◌, length, drop, min, slice_get, Option, Some, None, IfSome}
 use Rattle.std.specs.Option.{option_map}
 use Rattle.std.specs.List.{list_any, find}
+use Rattle.std.specs.declared.collections.VecDeque.{VecDeque}
+use Rattle.std.specs.VecDeque.{deque_len, deque_capacity}
 use Rattle.ckpt_ids.specs.declared.numbers.Kind.{Kind}
 use Rattle.ckpt_ids.specs.declared.numbers.Kind.TheVariants as kind
 use Rattle.ckpt_ids.specs.declared.reply.Choice.{Choice}
@@ -21,6 +23,16 @@ pub record Stored : Type 0 where
   pub base : Option ℕ
   -- how many more records find room without memory
   pub spare : ℕ
+
+-- a store with these queues, each of which has room for the spare ones
+abbrev pub stored : {Z : Type 0} → ℕ → VecDeque Record Z → VecDeque Record Z → Option ℕ → Stored
+stored retained checkpoints savepoints base = record {
+  retained = retained;
+  checkpoints = checkpoints.items;
+  savepoints = savepoints.items;
+  base = base;
+  spare = min (deque_capacity checkpoints - deque_len checkpoints) (deque_capacity savepoints - deque_len savepoints);
+}
 
 -- the order of numbers
 abbrev pub by_id : Record → Record → Bool

@@ -36,27 +36,13 @@ pub struct Store {
 }
 
 impl Model for Store {
-    ghost use Rattle.std.specs.Prelude.{◌-◌, min};
-    ghost use Rattle.std.specs.VecDeque.{deque_len, deque_capacity};
-    ghost use Rattle.ckpt_store.specs.Storing.{Stored, IsStored};
+    ghost use Rattle.ckpt_store.specs.Storing.{Stored, IsStored, stored};
 
     ghost Value = { Stored };
 
-    ghost view = { λ s. record {
-      retained = s.retained;
-      checkpoints = s.checkpoints.items;
-      savepoints = s.savepoints.items;
-      base = s.base;
-      spare = min (deque_capacity s.checkpoints - deque_len s.checkpoints) (deque_capacity s.savepoints - deque_len s.savepoints);
-    } };
+    ghost view = { λ s. stored s.retained s.checkpoints s.savepoints s.base };
 
-    ghost invariant = { λ s. IsStored (record {
-      retained = s.retained;
-      checkpoints = s.checkpoints.items;
-      savepoints = s.savepoints.items;
-      base = s.base;
-      spare = min (deque_capacity s.checkpoints - deque_len s.checkpoints) (deque_capacity s.savepoints - deque_len s.savepoints);
-    }) };
+    ghost invariant = { λ s. IsStored (stored s.retained s.checkpoints s.savepoints s.base) };
 }
 
 impl Store {
