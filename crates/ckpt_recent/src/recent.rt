@@ -80,15 +80,14 @@ impl<T: Drop> Recent<T> {
     }
 
     /// Puts an item at the end, into room that was made. Takes no memory.
+    #[inline(always)]
     pub fn push_reserved(&mut self, item: T)
         requires room { 0 < self.old.room }
         requires few { length self.old.items + 1 < 2 ^ 64 }
         ensures items { self.new.items ≡ self.old.items ++ item ∷ [] }
         ensures keep { self.new.keep ≡ self.old.keep }
     {
-        let Ok(()) = self.kept.push_back(item) else {
-            unreachable!()
-        };
+        self.kept.push_back_reserved(item);
         if self.kept.len() as u64 > self.keep {
             let Some(first) = self.kept.pop_front() else {
                 unreachable!()
