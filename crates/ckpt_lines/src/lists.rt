@@ -24,8 +24,9 @@ pub(crate) fn numbers(alloc: Global, words: &mut Words<'_>) -> Result<Numbers, L
 pub(crate) fn files(alloc: Global, words: &mut Words<'_>) -> Result<(Files, Files), LineFault>
     ensures { Reads result (file_places words.old) }
 {
-    let mut fresh = Vec::new(alloc);
-    let mut reused = Vec::new(alloc);
+    // The lists stay in memory as long as the call is kept, so they get no more room than they need.
+    let mut fresh = Vec::with_capacity(alloc, words.occurrences(b'+'))?;
+    let mut reused = Vec::with_capacity(alloc, words.occurrences(b'='))?;
     'files: while let Some(file) = words.file()? {
         match file {
             FileWord::Fresh(file) => fresh.push(file)?,

@@ -8,6 +8,7 @@ ghost use Rattle.ckpt_lines.specs.Words.{begins_with_space, first_length, is_spa
 use crate::fault::LineFault;
 use crate::values::{FileWord, file_word, is_fresh, with_digit};
 use ckpt_ids::FileId;
+use memchr::arch::all::memchr::One;
 use std::marker::Model;
 
 /// The words of a line that are still to be read. One or more spaces stand between two words.
@@ -79,6 +80,11 @@ impl<'a> Words<'a> {
         Words { rest: text }
     }
 
+    /// How often this byte stands in what is left.
+    pub(crate) fn occurrences(&self, byte: u8) -> usize {
+        One::new(byte).count(self.rest)
+    }
+
     /// The next word as a number. Its bytes are read once, not first for its end and then for what it spells.
     pub(crate) fn number(&mut self) -> Result<u64, LineFault>
         ensures { Gives result self.new (number_place self.old) }
@@ -95,6 +101,7 @@ impl<'a> Words<'a> {
             None => Err(LineFault::Number),
         }
     }
+
     /// The next word as a file word, or `None` where no word is left.
     pub(crate) fn file(&mut self) -> Result<Option<FileWord>, LineFault>
         ensures { Gives result self.new (file_place self.old) }

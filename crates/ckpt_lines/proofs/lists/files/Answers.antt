@@ -17,22 +17,22 @@ found : (words rest : List (List ℕ)) (read : Option FileWord) (file word : Fil
 found words rest read file word is some same = is ∙ ap (λ (r : Option FileWord). Ok (r, rest)) (some ∙ ap Some same)
 
 pub files-init : goal.files-init
-files-init c = record { done = []; so_far = with_front-nil (each file_word c.args.words.now); fresh = c.new-fresh.ensures.items; reused = c.new-reused.ensures.items }
+files-init c = record { done = []; so_far = with_front-nil (each file_word c.args.words.now); fresh = c.in_ok-fresh.ensures.items; reused = c.in_ok-reused.ensures.items }
 
 pub returns-in_err-file : goal.returns-in_err-file
 returns-in_err-file c =
-    let p = err_from_is_err_and c.from_residual.result c.from_residual.ensures.1 in
+    let p = err_from_is_err_and c.from_residual-in_err-file.result c.from_residual-in_err-file.ensures.1 in
     let bad = bad_file c.files.words c.in_err-file.field-0.0 c.in_err-file.ensures.0 in
     let all : each file_word c.args.words.now ≡ Err c.in_err-file.field-0.0 = fails file_word c.files.invariant.done c.files.words bad.0 bad.1 c.in_err-file.field-0.0 (each file_word c.args.words.now) bad.2 bad.3 c.files.invariant.so_far in
     rw (p.1, p.2) (λ _. files_fail c.args.words.now c.in_err-file.field-0.0 all)
 
-pub files-smaller-in-Continue-branch-3 : goal.files-smaller-in-Continue-branch-3
-files-smaller-in-Continue-branch-3 c =
+pub files-smaller-in-Continue-branch-5 : goal.files-smaller-in-Continue-branch-5
+files-smaller-in-Continue-branch-5 c =
     let next = next_file c.files.words (Fresh c.in-Fresh.file) c.file.new.self (found c.files.words c.file.new.self c.in_ok-file.field-0 c.in-Some.file (Fresh c.in-Fresh.file) c.in_ok-file.ensures c.in-Some.is c.in-Fresh.is) in
     fewer c.files.words next.0 c.file.new.self next.1
 
-pub files-preserved-in-Continue-branch-3 : goal.files-preserved-in-Continue-branch-3
-files-preserved-in-Continue-branch-3 c =
+pub files-preserved-in-Continue-branch-5 : goal.files-preserved-in-Continue-branch-5
+files-preserved-in-Continue-branch-5 c =
     let so_far = c.files.invariant in
     let next = next_file c.files.words (Fresh c.in-Fresh.file) c.file.new.self (found c.files.words c.file.new.self c.in_ok-file.field-0 c.in-Some.file (Fresh c.in-Fresh.file) c.in_ok-file.ensures c.in-Some.is c.in-Fresh.is) in
     record {
