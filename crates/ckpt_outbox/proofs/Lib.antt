@@ -1,3 +1,1 @@
 pub mod QueueLemmas
-pub mod SlotLemmas
-pub mod TicketLemmas

@@ -1,15 +1,15 @@
 -- What holds of files that are distinct, and of their places.
-use Rattle.std.proofs.Common.{◌≡◌, ℕ, Bool, true, false, not, cond, ◌||◌, ◌==◌, List, [], ◌∷◌, ◌++◌, take, drop, Some, None, is_some, refl, sym, ap, subst, ◌∙◌, ⊎_elim}
-use Rattle.std.specs.Map.{values_of}
-use Rattle.std.specs.Option.{option_or}
-use Rattle.std.proofs.lemmas.Bool.{cases_Bool, cases_eq, both_ways, eqb-true, eq-eqb, ne_eqb, or_parts, or_from, or_left, or_right, or_cases, cond-false, false_from_ne_true}
+use Rattle.std.proofs.Common.{◌≡◌, ℕ, ◌+◌, Option, length, arith, Bool, true, false, not, cond, ◌||◌, ◌==◌, List, [], ◌∷◌, ◌++◌, take, drop, Some, None, refl, sym, ap, subst, ◌∙◌, ⊎_elim}
+use Rattle.std.proofs.lemmas.Bool.{cases_Bool, cases_eq, both_ways, eqb-true, eq-eqb, ne_eqb, or_parts, or_from, or_left, or_right, or_cases, false_from_ne_true}
 use Rattle.std.proofs.lemmas.List.Folds.{list_any-append}
 use Rattle.std.proofs.lemmas.List.{take-append-drop}
 use Rattle.ckpt_ids.specs.Ordered.{IsIn, AreDistinct}
 use Rattle.ckpt_ids.proofs.OrderedLemmas.{list_any-from_IsIn, IsIn-from_list_any, AreDistinct-append, AreDistinct-apart, AreDistinct-filter, AreDistinct-left, AreDistinct-right}
+use Rattle.std.specs.List.{list_any}
+use Rattle.ckpt_outbox.specs.declared.places.Place.{Place}
 use Rattle.ckpt_outbox.specs.declared.places.Place.TheVariants.{Waiting, Taken}
 use Rattle.ckpt_outbox.specs.Queues.{is_in, without}
-use Rattle.ckpt_outbox.specs.Places.{taken_place, place_of}
+use Rattle.ckpt_outbox.specs.Places.{place_of, is_of_taken}
 
 pub eqb_flip : (a b : ℕ) → (a == b) ≡ (b == a)
 eqb_flip a b = ⊎_elim (λ (e : a ≡ b). eq-eqb a b e ∙ sym (eq-eqb b a (sym e))) (λ (n : a ≡ b → ⊥). ne_eqb a b n ∙ sym (ne_eqb b a (λ e. n (sym e)))) (cases_eq a b)
@@ -126,37 +126,101 @@ distinct_taken front rest ts a =
     let swapped : AreDistinct (rest ++ front) = AreDistinct-swap front rest ws in
     distinct-append rest (ts ++ front) (AreDistinct-right front rest ws) later (λ x h. not_in-append x ts front (across x (is_in-right x front rest h)) (distinct-apart rest front swapped x h))
 
--- places
+-- membership once a file has gone
+pub in_without : (x f : ℕ) (xs : List ℕ) → is_in x (without f xs) ≡ cond (f == x) false (is_in x xs)
+in_without x f [] = elim (f == x) as (λ b. false ≡ cond b false false) [ true ↦ refl | false ↦ refl ]
+in_without x f (y ∷ xs) =
+    let P : Bool → Type 0 = λ b. is_in x (cond (not b) (y ∷ without f xs) (without f xs)) ≡ cond (f == x) false ((x == y) || is_in x xs) in
+    let Q : Bool → Type 0 = λ b. cond b false (is_in x xs) ≡ cond b false ((x == y) || is_in x xs) in
+    let R : Bool → Type 0 = λ b. ((x == y) || cond b false (is_in x xs)) ≡ cond b false ((x == y) || is_in x xs) in
+    let gone : (y == f) ≡ true → P (y == f) = λ (k : (y == f) ≡ true).
+    let other : (f == x) ≡ false → (x == y) ≡ false = λ (e : (f == x) ≡ false). ap (λ z. x == z) (eqb-true y f k) ∙ eqb_flip x f ∙ e in
+    let same : Q (f == x) = ⊎_elim (λ (e : (f == x) ≡ true). subst Q (sym e) refl) (λ (e : (f == x) ≡ false). subst Q (sym e) (sym (ap (λ b. b || is_in x xs) (other e)))) (cases_Bool (f == x)) in
+    subst P (sym k) (in_without x f xs ∙ same) in
+    let kept : (y == f) ≡ false → P (y == f) = λ (k : (y == f) ≡ false).
+    let none : (f == x) ≡ true → ((x == y) || false) ≡ false = λ (e : (f == x) ≡ true). or_from (x == y) false (ap (λ z. z == y) (sym (eqb-true f x e)) ∙ eqb_flip f y ∙ k) refl in
+    let same : R (f == x) = ⊎_elim (λ (e : (f == x) ≡ true). subst R (sym e) (none e)) (λ (e : (f == x) ≡ false). subst R (sym e) refl) (cases_Bool (f == x)) in
+    subst P (sym k) (ap (λ b. (x == y) || b) (in_without x f xs) ∙ same) in
+    ⊎_elim gone kept (cases_Bool (y == f))
 
-pub is_some_taken_place : (x : ℕ) (es : List (ℕ × ℕ)) → is_some (taken_place x es) ≡ is_in x (values_of es)
-is_some_taken_place x [] = refl
-is_some_taken_place x (e ∷ es) =
-    let P : Bool → Type 0 = λ b. is_some (cond b (Some (Taken e.0)) (taken_place x es)) ≡ (b || is_in x (values_of es)) in
-    ⊎_elim (λ (k : (x == e.1) ≡ true). subst P (sym k) refl) (λ (k : (x == e.1) ≡ false). subst P (sym k) (is_some_taken_place x es)) (cases_Bool (x == e.1))
+-- of distinct files there is one less
+pub length-without : (f : ℕ) (xs : List ℕ) → AreDistinct xs → is_in f xs ≡ true → length (without f xs) + 1 ≡ length xs
+length-without f [] d h = absurd (both_ways false refl h)
+length-without f (y ∷ xs) d h =
+    let P : Bool → Type 0 = λ b. length (cond (not b) (y ∷ without f xs) (without f xs)) + 1 ≡ length (y ∷ xs) in
+    let gone : (y == f) ≡ true → P (y == f) = λ (k : (y == f) ≡ true).
+    let same : without f xs ≡ xs = without_absent f xs (ap (λ z. is_in z xs) (sym (eqb-true y f k)) ∙ not_in y xs d.0) in
+    subst P (sym k) (omega (arith, ap length same)) in
+    let kept : (y == f) ≡ false → P (y == f) = λ (k : (y == f) ≡ false).
+    let later : is_in f xs ≡ true = ap (λ b. b || is_in f xs) (sym (eqb_flip f y ∙ k)) ∙ h in
+    subst P (sym k) (omega (arith, length-without f xs d.1 later)) in
+    ⊎_elim gone kept (cases_Bool (y == f))
 
-pub is_some_place : (ws : List ℕ) (es : List (ℕ × ℕ)) (x : ℕ) → is_some (place_of ws es x) ≡ is_in x (ws ++ values_of es)
-is_some_place ws es x =
-    let P : Bool → Type 0 = λ b. is_some (cond b (Some Waiting) (taken_place x es)) ≡ (b || is_in x (values_of es)) in
-    ⊎_elim (λ (k : is_in x ws ≡ true). subst P (sym k) refl) (λ (k : is_in x ws ≡ false). subst P (sym k) (is_some_taken_place x es)) (cases_Bool (is_in x ws)) ∙ sym (is_in-append x ws (values_of es))
-
-pub no_taken_place : (x : ℕ) (es : List (ℕ × ℕ)) → is_in x (values_of es) ≡ false → taken_place x es ≡ None
-no_taken_place x [] h = refl
-no_taken_place x (e ∷ es) h =
-    let parts : ((x == e.1) ≡ false) × (is_in x (values_of es) ≡ false) = or_parts (x == e.1) (is_in x (values_of es)) h in
-    cond-false (x == e.1) (Some (Taken e.0)) (taken_place x es) parts.0 ∙ no_taken_place x es parts.1
-
-pub taken_place-append : (x : ℕ) (es fs : List (ℕ × ℕ)) → taken_place x (es ++ fs) ≡ option_or (taken_place x es) (taken_place x fs)
-taken_place-append x [] fs = refl
-taken_place-append x (e ∷ es) fs =
-    let P : Bool → Type 0 = λ b. cond b (Some (Taken e.0)) (taken_place x (es ++ fs)) ≡ option_or (cond b (Some (Taken e.0)) (taken_place x es)) (taken_place x fs) in
-    ⊎_elim (λ (k : (x == e.1) ≡ true). subst P (sym k) refl) (λ (k : (x == e.1) ≡ false). subst P (sym k) (taken_place-append x es fs)) (cases_Bool (x == e.1))
+put_if : (a b : Bool) (p : Option Place) → cond (a || (b || false)) (Some Waiting) p ≡ cond b (Some Waiting) (cond a (Some Waiting) p)
+put_if a b p = elim a as (λ a. cond (a || (b || false)) (Some Waiting) p ≡ cond b (Some Waiting) (cond a (Some Waiting) p)) [
+  | true ↦ elim b as (λ b. Some Waiting ≡ cond b (Some Waiting) (Some Waiting)) [ true ↦ refl | false ↦ refl ]
+  | false ↦ elim b as (λ b. cond (b || false) (Some Waiting) p ≡ cond b (Some Waiting) p) [ true ↦ refl | false ↦ refl ]
+]
 
 -- the place after one more file waits
-pub place_of-put : (f : ℕ) (ws : List ℕ) (es : List (ℕ × ℕ)) (x : ℕ) → place_of (ws ++ f ∷ []) es x ≡ cond (f == x) (Some Waiting) (place_of ws es x)
-place_of-put f ws es x =
-    let P : Bool → Bool → Type 0 = λ a b. cond (a || (b || false)) (Some Waiting) (taken_place x es) ≡ cond b (Some Waiting) (cond a (Some Waiting) (taken_place x es)) in
-    let all : (a b : Bool) → P a b = λ a b. ⊎_elim (λ (k : a ≡ true). subst (λ v. P v b) (sym k) (⊎_elim (λ (j : b ≡ true). subst (P true) (sym j) refl) (λ (j : b ≡ false). subst (P true) (sym j) refl) (cases_Bool b))) (λ (k : a ≡ false). subst (λ v. P v b) (sym k) (⊎_elim (λ (j : b ≡ true). subst (P false) (sym j) refl) (λ (j : b ≡ false). subst (P false) (sym j) refl) (cases_Bool b))) (cases_Bool a) in
-    ap (λ v. cond v (Some Waiting) (taken_place x es)) (is_in-append x ws (f ∷ [])) ∙ all (is_in x ws) (x == f) ∙ ap (λ v. cond v (Some Waiting) (place_of ws es x)) (eqb_flip x f)
+pub place_of-put : (f : ℕ) (ws ts : List ℕ) (x : ℕ) → place_of (ws ++ f ∷ []) ts x ≡ cond (f == x) (Some Waiting) (place_of ws ts x)
+place_of-put f ws ts x =
+    let taken : Option Place = cond (is_in x ts) (Some Taken) None in
+    ap (λ b. cond b (Some Waiting) taken) (is_in-append x ws (f ∷ [])) ∙ put_if (is_in x ws) (x == f) taken ∙ ap (λ b. cond b (Some Waiting) (place_of ws ts x)) (eqb_flip x f)
+
+-- two files that are the same stand in the same lists
+here : (f x : ℕ) (ws : List ℕ) → is_in f ws ≡ false → (f == x) ≡ true → is_in x ws ≡ false
+here f x ws h e = ap (λ z. is_in z ws) (sym (eqb-true f x e)) ∙ h
+
+removed_if : (a b t : Bool) → (b ≡ true → a ≡ false) → cond a (Some Waiting) (cond (cond b false t) (Some Taken) None) ≡ cond b None (cond a (Some Waiting) (cond t (Some Taken) None))
+removed_if a b t h =
+    let P : Bool → Bool → Type 0 = λ a b. cond a (Some Waiting) (cond (cond b false t) (Some Taken) None) ≡ cond b None (cond a (Some Waiting) (cond t (Some Taken) None)) in
+    ⊎_elim (λ (e : b ≡ true). subst (λ b. P a b) (sym e) (subst (λ a. P a true) (sym (h e)) refl)) (λ (e : b ≡ false). subst (λ b. P a b) (sym e) refl) (cases_Bool b)
+
+-- the places without a file that is taken
+pub place_of-removed : (f : ℕ) (ws ts : List ℕ) (x : ℕ) → is_in f ws ≡ false → place_of ws (without f ts) x ≡ cond (f == x) None (place_of ws ts x)
+place_of-removed f ws ts x h = ap (λ b. cond (is_in x ws) (Some Waiting) (cond b (Some Taken) None)) (in_without x f ts) ∙ removed_if (is_in x ws) (f == x) (is_in x ts) (here f x ws h)
+
+-- the places once that file waits
+pub place_of-returned : (f : ℕ) (ws ts : List ℕ) (x : ℕ) → is_in f ws ≡ false → place_of (ws ++ f ∷ []) (without f ts) x ≡ cond (f == x) (Some Waiting) (place_of ws ts x)
+place_of-returned f ws ts x h =
+    let twice : (b : Bool) → cond b (Some Waiting) (cond b None (place_of ws ts x)) ≡ cond b (Some Waiting) (place_of ws ts x) = λ b. elim b as (λ b. cond b (Some Waiting) (cond b None (place_of ws ts x)) ≡ cond b (Some Waiting) (place_of ws ts x)) [ true ↦ refl | false ↦ refl ] in
+    place_of-put f ws (without f ts) x ∙ ap (λ p. cond (f == x) (Some Waiting) p) (place_of-removed f ws ts x h) ∙ twice (f == x)
+
+taken_if : (r b t : Bool) → (b ≡ true → r ≡ false) → cond r (Some Waiting) (cond (t || (b || false)) (Some Taken) None) ≡ cond b (Some Taken) (cond (b || r) (Some Waiting) (cond t (Some Taken) None))
+taken_if r b t h =
+    let P : Bool → Bool → Type 0 = λ r b. cond r (Some Waiting) (cond (t || (b || false)) (Some Taken) None) ≡ cond b (Some Taken) (cond (b || r) (Some Waiting) (cond t (Some Taken) None)) in
+    let now : cond (t || true) (Some Taken) None ≡ Some Taken = elim t as (λ t. cond (t || true) (Some Taken) None ≡ Some Taken) [ true ↦ refl | false ↦ refl ] in
+    let same : cond (t || false) (Some Taken) None ≡ cond t (Some Taken) None = elim t as (λ t. cond (t || false) (Some Taken) None ≡ cond t (Some Taken) None) [ true ↦ refl | false ↦ refl ] in
+    ⊎_elim (λ (e : b ≡ true). subst (λ b. P r b) (sym e) (subst (λ r. P r true) (sym (h e)) now)) (λ (e : b ≡ false). subst (λ b. P r b) (sym e) (ap (λ p. cond r (Some Waiting) p) same)) (cases_Bool b)
+
+-- the places once the first file that waits is taken
+pub place_of-taken : (f : ℕ) (ws ts : List ℕ) (x : ℕ) → is_in f ws ≡ false → place_of ws (ts ++ f ∷ []) x ≡ cond (f == x) (Some Taken) (place_of (f ∷ ws) ts x)
+place_of-taken f ws ts x h =
+    let P : Bool → Type 0 = λ b. cond (is_in x ws) (Some Waiting) (cond (is_in x ts || (b || false)) (Some Taken) None) ≡ cond (f == x) (Some Taken) (cond (b || is_in x ws) (Some Waiting) (cond (is_in x ts) (Some Taken) None)) in
+    ap (λ b. cond (is_in x ws) (Some Waiting) (cond b (Some Taken) None)) (is_in-append x ts (f ∷ [])) ∙ subst P (sym (eqb_flip x f)) (taken_if (is_in x ws) (f == x) (is_in x ts) (here f x ws h))
+
+of_taken_if : (a t : Bool) → (a ≡ true → t ≡ false) → is_of_taken (cond a (Some Waiting) (cond t (Some Taken) None)) ≡ t
+of_taken_if a t h =
+    let P : Bool → Type 0 = λ a. is_of_taken (cond a (Some Waiting) (cond t (Some Taken) None)) ≡ t in
+    let taken : is_of_taken (cond t (Some Taken) None) ≡ t = elim t as (λ t. is_of_taken (cond t (Some Taken) None) ≡ t) [ true ↦ refl | false ↦ refl ] in
+    ⊎_elim (λ (e : a ≡ true). subst P (sym e) (sym (h e))) (λ (e : a ≡ false). subst P (sym e) taken) (cases_Bool a)
+
+list_any_flip : (x : ℕ) (xs : List ℕ) → is_in x xs ≡ list_any (λ g. g == x) xs
+list_any_flip x [] = refl
+list_any_flip x (y ∷ ys) = ap (λ b. b || is_in x ys) (eqb_flip x y) ∙ ap (λ b. (y == x) || b) (list_any_flip x ys)
+
+-- the index tells which files are taken
+pub place_is_taken : (ws ts : List ℕ) (x : ℕ) → AreDistinct (ws ++ ts) → is_of_taken (place_of ws ts x) ≡ is_in x ts
+place_is_taken ws ts x d = of_taken_if (is_in x ws) (is_in x ts) (distinct-apart ws ts d x)
+
+-- by the test of the queues
+pub place_tells_taken : (ws ts : List ℕ) (x : ℕ) → AreDistinct (ws ++ ts) → is_of_taken (place_of ws ts x) ≡ list_any (λ g. g == x) ts
+place_tells_taken ws ts x d = place_is_taken ws ts x d ∙ list_any_flip x ts
+
+-- a file that is taken does not wait
+pub taken_waits_not : (ws ts : List ℕ) (x : ℕ) → AreDistinct (ws ++ ts) → is_in x ts ≡ true → is_in x ws ≡ false
+taken_waits_not ws ts x d h = distinct-apart ts ws (AreDistinct-swap ws ts d) x h
 
 -- a part of distinct files
 pub AreDistinct-take : (n : ℕ) (xs : List ℕ) → AreDistinct xs → AreDistinct (take n xs)

@@ -1,6 +1,7 @@
 -- The two queues of an outbox.
 use Rattle.std.specs.Prelude.{ℕ, Bool, not, ◌==◌, List, ◌++◌}
 use Rattle.std.specs.List.{list_any, filter}
+pub use Rattle.ckpt_ids.specs.Ordered.{AreDistinct}
 
 pub record Queues : Type 0 where
   -- handed out and not fetched, the next to be fetched first

@@ -6,6 +6,6 @@
 
 pub mod outbox;
 mod places;
-mod tickets;
+mod taken;
 
 pub use outbox::{NotTaken, Outbox};

@@ -1,10 +1,9 @@
 ghost use Rattle.std.specs.Prelude.{◌≡◌, ◌≤◌, ◌<◌, ◌+◌, ◌-◌, ◌^◌, ◌↔◌, ◌++◌, ◌∷◌, ℕ, [], true, false, max, min, length, take, drop, IsErr, IfOk, OnOk, OnErr};
 ghost use Rattle.std.specs.VecDeque.{deque_capacity};
-ghost use Rattle.ckpt_outbox.specs.Queues.{Queues, is_in, is_known, is_taken, without};
-ghost use Rattle.ckpt_ids.specs.Ordered.{AreDistinct};
+ghost use Rattle.ckpt_outbox.specs.Queues.{AreDistinct, Queues, is_in, is_known, is_taken, without};
 
-use crate::places::{Index, Place, note, note_new, ticket};
-use crate::tickets::{Tickets, give, vacate};
+use crate::places::{Index, Place, is_taken, note, note_new};
+use crate::taken::Taken;
 use ckpt_hash::Secret;
 use ckpt_ids::{FileId, Handed};
 use std::alloc::{AllocError, Global};
@@ -23,7 +22,7 @@ pub struct NotTaken;
 pub struct Outbox {
     alloc: Global,
     waiting: VecDeque<FileId>,
-    taken: Tickets,
+    taken: Taken,
     index: Index,
     spare: u64,
 }
@@ -31,13 +30,13 @@ pub struct Outbox {
 impl Model for Outbox {
     ghost use Rattle.std.specs.VecDeque.{deque_capacity};
     ghost use Rattle.ckpt_outbox.specs.Queues.{Queues};
-    ghost use Rattle.ckpt_outbox.specs.Places.{IsSound, files_of};
+    ghost use Rattle.ckpt_outbox.specs.Places.{IsSound};
 
     ghost Value = { Queues };
 
-    ghost view = { λ o. record { waiting = o.waiting.items; taken = files_of o.taken.slots.items; spare = o.spare } };
+    ghost view = { λ o. record { waiting = o.waiting.items; taken = o.taken; spare = o.spare } };
 
-    ghost invariant = { λ o. IsSound o.waiting.items (deque_capacity o.waiting) o.taken.slots.items o.taken.taken o.index o.spare };
+    ghost invariant = { λ o. IsSound o.waiting.items (deque_capacity o.waiting) o.taken o.index o.spare };
 }
 
 /// Makes room for so many more files. A growth at least doubles the room: the queue's own may grow
@@ -53,25 +52,6 @@ fn grow(queue: &mut VecDeque<FileId>, additional: usize) -> Result<(), AllocErro
     }
     let doubling = free.saturating_add(queue.capacity());
     queue.reserve(additional.max(doubling))
-}
-
-/// The first `count` files of the queue.
-fn front(queue: &VecDeque<FileId>, count: usize, alloc: Global) -> Result<Vec<FileId>, AllocError>
-    requires { count ≤ length queue.now.items }
-    ensures { IfOk result (λ files. files.items ≡ take count queue.now.items) }
-{
-    queue.range(..count).copied().collect(alloc)
-}
-
-/// Takes the first `count` files out of the queue.
-fn drop_front(queue: &mut VecDeque<FileId>, count: usize)
-    requires { count ≤ length queue.old.items }
-    ensures items { queue.new.items ≡ drop count queue.old.items }
-    ensures capacity { deque_capacity queue.new ≡ deque_capacity queue.old }
-{
-    for _ in 0..count {
-        queue.pop_front();
-    }
 }
 
 impl Outbox {
@@ -91,10 +71,7 @@ impl Outbox {
         Outbox {
             alloc,
             waiting: VecDeque::new(alloc),
-            taken: Tickets {
-                slots: Vec::new(alloc),
-                taken: 0,
-            },
+            taken: Taken::new(),
             index: HashMap::with_hasher(alloc, secret),
             spare: 0,
         }
@@ -110,7 +87,7 @@ impl Outbox {
         if n <= self.spare {
             return Ok(());
         }
-        let room = self.taken.taken.saturating_add(n as usize);
+        let room = self.taken.len().saturating_add(n as usize);
         grow(&mut self.waiting, room)?;
         self.index.reserve(n as usize)?;
         self.spare = n;
@@ -141,6 +118,20 @@ impl Outbox {
         }
     }
 
+    /// Moves the first file of waiting to the end of taken, and answers it. Takes no memory.
+    fn take_one(&mut self) -> FileId
+        requires { 0 < length self.old.waiting }
+        ensures first { self.old.waiting ≡ result ∷ self.new.waiting }
+        ensures taken { self.new ≡ record self.old { waiting = self.new.waiting; taken = self.old.taken ++ result ∷ [] } }
+    {
+        let Some(file) = self.waiting.pop_front() else {
+            unreachable!()
+        };
+        note(&mut self.index, file, Place::Taken);
+        self.taken.push(file);
+        file
+    }
+
     /// Takes the first `most` files of waiting, or all where there are fewer, and answers them. They
     /// go to the end of taken.
     ///
@@ -151,9 +142,10 @@ impl Outbox {
         ensures err { OnErr result (self.new ≡ self.old) }
     {
         let count = self.waiting.len().min(most as usize);
-        let files = front(&self.waiting, count, self.alloc)?;
-        give(&mut self.taken, &mut self.index, &files)?;
-        drop_front(&mut self.waiting, count);
+        let mut files = Vec::with_capacity(self.alloc, count)?;
+        for _ in 0..count {
+            files.push_reserved(self.take_one());
+        }
         Ok(Handed::of(files))
     }
 
@@ -165,10 +157,10 @@ impl Outbox {
         ensures ok { OnOk result (self.new ≡ record self.old { taken = without file self.old.taken }) }
         ensures err { OnErr result (self.new ≡ self.old) }
     {
-        let Some(number) = ticket(&self.index, file) else {
+        if !is_taken(&self.index, file) {
             return Err(NotTaken);
-        };
-        vacate(&mut self.taken, number);
+        }
+        self.taken.remove(file);
         self.index.remove(&file);
         Ok(())
     }
@@ -182,10 +174,10 @@ impl Outbox {
         ensures ok { OnOk result (self.new ≡ record self.old { waiting = self.old.waiting ++ file ∷ []; taken = without file self.old.taken }) }
         ensures err { OnErr result (self.new ≡ self.old) }
     {
-        let Some(number) = ticket(&self.index, file) else {
+        if !is_taken(&self.index, file) {
             return Err(NotTaken);
-        };
-        vacate(&mut self.taken, number);
+        }
+        self.taken.remove(file);
         self.waiting.push_back_reserved(file);
         note(&mut self.index, file, Place::Waiting);
         Ok(())
@@ -203,7 +195,7 @@ impl Outbox {
     pub fn is_taken(&self, file: FileId) -> bool
         ensures { result ≡ is_taken self.now file }
     {
-        ticket(&self.index, file).is_some()
+        is_taken(&self.index, file)
     }
 
     /// How many files wait.
@@ -217,6 +209,6 @@ impl Outbox {
     pub fn taken(&self) -> u64
         ensures { result ≡ length self.now.taken }
     {
-        self.taken.taken as u64
+        self.taken.len() as u64
     }
 }

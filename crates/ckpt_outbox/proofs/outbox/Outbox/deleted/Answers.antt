@@ -1,81 +1,46 @@
-use Rattle.std.proofs.Common.{◌≡◌, ◌∙◌, ◌+◌, ◌<◌, ◌==◌, ℕ, List, Some, None, cond, false, is_some, length, nat_eq, refl, sym, ap, arith}
-use Rattle.std.specs.HashMap as hash
-use Rattle.std.specs.List.Sorted.{IsStrictlySortedBy}
-use Rattle.std.specs.Map.{keys_of, values_of}
-use Rattle.std.specs.Ordering.{nat_cmp}
+use Rattle.std.proofs.Common.{◌≡◌, ◌∙◌, ◌+◌, ℕ, List, None, cond, true, false, length, nat_eq, refl, sym, ap, arith}
 use Rattle.std.proofs.lemmas.Bool.{both_ways}
-use Rattle.ckpt_outbox.specs.declared.places.Place.TheVariants.{Taken}
-use Rattle.ckpt_outbox.specs.Queues.{Queues, is_in, is_taken, without}
-use Rattle.ckpt_outbox.specs.Places.{entries_of, place_of, taken_place, ticket_of}
-use Rattle.ckpt_outbox.proofs.QueueLemmas.{distinct_deleted}
-use Rattle.ckpt_outbox.proofs.SlotLemmas.{sorted_slots, ticket_within}
-use Rattle.ckpt_outbox.proofs.TicketLemmas.{place_from_ticket, is_some_ticket, values-removed, taken_place-removed, length-removed, place_of-removed}
+use Rattle.ckpt_outbox.specs.Queues.{is_in, is_taken}
+use Rattle.ckpt_outbox.specs.Places.{is_of_taken, place_of}
+use Rattle.ckpt_outbox.proofs.QueueLemmas.{distinct_deleted, length-without, place_is_taken, place_tells_taken, place_of-removed, taken_waits_not}
 use Rattle.ckpt_outbox.proofs.outbox.Outbox.deleted.Goals as goal
-use Rattle.ckpt_ids.specs.Ordered.{AreDistinct}
 use Rattle.ckpt_ids.proofs.OrderedLemmas.{AreDistinct-right}
 
-pub returns-in_default-clause-refused : goal.returns-in_default-clause-refused
-returns-in_default-clause-refused c =
-    let taken : is_some c.ticket.result ≡ is_taken c.args.self.now c.args.file =
-    ap is_some c.ticket.ensures ∙ ap (λ p. is_some (ticket_of p)) (c.self.invariant.indexed c.args.file) ∙ is_some_ticket c.args.file c.self.inside.waiting.items (entries_of 0 c.self.inside.taken.slots.items) c.self.invariant.distinct ∙ ap (λ q. is_taken q c.args.file) c.self.view_is in
-    (λ _. sym taken ∙ ap is_some c.in_default.is, λ _. refl)
+pub returns-then-not-is_taken-clause-refused : goal.returns-then-not-is_taken-clause-refused
+returns-then-not-is_taken-clause-refused c =
+    let told : c.is_taken.result ≡ is_taken c.args.self.now c.args.file =
+    c.is_taken.ensures ∙ ap is_of_taken (c.self.invariant.indexed c.args.file) ∙ place_tells_taken c.self.inside.waiting.items c.self.inside.taken c.args.file c.self.invariant.distinct ∙ ap (λ q. is_taken q c.args.file) c.self.view_is in
+    (λ _. sym told ∙ c.if-not-is_taken.true, λ _. refl)
 
 pub returns-clause-refused : goal.returns-clause-refused
 returns-clause-refused c =
-    let taken : is_some c.ticket.result ≡ is_taken c.args.self.now c.args.file =
-    ap is_some c.ticket.ensures ∙ ap (λ p. is_some (ticket_of p)) (c.self.invariant.indexed c.args.file) ∙ is_some_ticket c.args.file c.self.inside.waiting.items (entries_of 0 c.self.inside.taken.slots.items) c.self.invariant.distinct ∙ ap (λ q. is_taken q c.args.file) c.self.view_is in
-    (λ h. absurd (both_ways false refl h), λ h. sym h ∙ sym taken ∙ ap is_some c.in-Some.is)
+    let told : c.is_taken.result ≡ is_taken c.args.self.now c.args.file =
+    c.is_taken.ensures ∙ ap is_of_taken (c.self.invariant.indexed c.args.file) ∙ place_tells_taken c.self.inside.waiting.items c.self.inside.taken c.args.file c.self.invariant.distinct ∙ ap (λ q. is_taken q c.args.file) c.self.view_is in
+    (λ h. absurd (both_ways false refl h), λ h. absurd (both_ways (is_taken c.args.self.now c.args.file) h (sym told ∙ c.if-not-is_taken.false)))
 
-pub vacate-requires-clause-within : goal.vacate-requires-clause-within
-vacate-requires-clause-within c =
-    let file : ℕ = c.args.file in
-    let waiting : List ℕ = c.self.inside.waiting.items in
-    let entries : List (ℕ × ℕ) = entries_of 0 c.self.inside.taken.slots.items in
-    let ticket : ticket_of (place_of waiting entries file) ≡ Some c.in-Some.number = ap ticket_of (sym (c.self.invariant.indexed file)) ∙ sym c.ticket.ensures ∙ c.in-Some.is in
-    let found : (is_in file waiting ≡ false) × (taken_place file entries ≡ Some (Taken c.in-Some.number)) = place_from_ticket file c.in-Some.number waiting entries ticket in
-    let within : c.in-Some.number < 0 + length c.self.inside.taken.slots.items = ticket_within file c.in-Some.number 0 c.self.inside.taken.slots.items found.1 in
-    omega arith
+pub remove-requires-clause-distinct : goal.remove-requires-clause-distinct
+remove-requires-clause-distinct c = AreDistinct-right c.self.inside.waiting.items c.self.inside.taken c.self.invariant.distinct
 
-pub vacate-requires-clause-some : goal.vacate-requires-clause-some
-vacate-requires-clause-some c =
-    let file : ℕ = c.args.file in
-    let waiting : List ℕ = c.self.inside.waiting.items in
-    let entries : List (ℕ × ℕ) = entries_of 0 c.self.inside.taken.slots.items in
-    let ticket : ticket_of (place_of waiting entries file) ≡ Some c.in-Some.number = ap ticket_of (sym (c.self.invariant.indexed file)) ∙ sym c.ticket.ensures ∙ c.in-Some.is in
-    let found : (is_in file waiting ≡ false) × (taken_place file entries ≡ Some (Taken c.in-Some.number)) = place_from_ticket file c.in-Some.number waiting entries ticket in
-    omega (arith, c.self.invariant.counted, length-removed file c.in-Some.number entries (sorted_slots 0 c.self.inside.taken.slots.items) found.1)
+pub remove-requires-clause-there : goal.remove-requires-clause-there
+remove-requires-clause-there c =
+    sym (place_is_taken c.self.inside.waiting.items c.self.inside.taken c.args.file c.self.invariant.distinct) ∙ ap is_of_taken (sym (c.self.invariant.indexed c.args.file)) ∙ sym c.is_taken.ensures ∙ c.if-not-is_taken.false
 
 pub invariant_of-self : goal.invariant_of-self
 invariant_of-self c =
     let file : ℕ = c.args.file in
     let waiting : List ℕ = c.self.inside.waiting.items in
-    let entries : List (ℕ × ℕ) = entries_of 0 c.self.inside.taken.slots.items in
-    let ticket : ticket_of (place_of waiting entries file) ≡ Some c.in-Some.number = ap ticket_of (sym (c.self.invariant.indexed file)) ∙ sym c.ticket.ensures ∙ c.in-Some.is in
-    let found : (is_in file waiting ≡ false) × (taken_place file entries ≡ Some (Taken c.in-Some.number)) = place_from_ticket file c.in-Some.number waiting entries ticket in
-    let ordered : IsStrictlySortedBy nat_cmp (keys_of entries) = sorted_slots 0 c.self.inside.taken.slots.items in
-    let distinct : AreDistinct (values_of entries) = AreDistinct-right waiting (values_of entries) c.self.invariant.distinct in
-    let values : values_of (entries_of 0 c.vacate.new.tickets.slots.items) ≡ without file (values_of entries) = ap values_of c.vacate.ensures.entries ∙ values-removed file c.in-Some.number entries ordered distinct found.1 in
-    let places : (q : ℕ) → taken_place q (entries_of 0 c.vacate.new.tickets.slots.items) ≡ cond (file == q) None (taken_place q entries) = λ q. ap (taken_place q) c.vacate.ensures.entries ∙ taken_place-removed file c.in-Some.number q entries ordered distinct found.1 in
-    let shorter : length (entries_of 0 c.vacate.new.tickets.slots.items) + 1 ≡ length entries = ap (λ es. length es + 1) c.vacate.ensures.entries ∙ length-removed file c.in-Some.number entries ordered found.1 in
-    let indexed : (q : ℕ) → hash.get nat_eq c.remove.new.self q ≡ place_of waiting (entries_of 0 c.vacate.new.tickets.slots.items) q = λ q.
-    c.remove.ensures.updates.0 q ∙ ap (λ z. cond (nat_eq file q) None z) (c.self.invariant.indexed q) ∙ sym (place_of-removed file q waiting entries (entries_of 0 c.vacate.new.tickets.slots.items) found.0 (places q)) in
+    let taken : List ℕ = c.self.inside.taken in
+    let there : is_in file taken ≡ true =
+    sym (place_is_taken waiting taken file c.self.invariant.distinct) ∙ ap is_of_taken (sym (c.self.invariant.indexed file)) ∙ sym c.is_taken.ensures ∙ c.if-not-is_taken.false in
+    let waits : is_in file waiting ≡ false = taken_waits_not waiting taken file c.self.invariant.distinct there in
+    let less : length c.remove.new.self + 1 ≡ length taken = ap (λ (ts : List ℕ). length ts + 1) c.remove.ensures ∙ length-without file taken (AreDistinct-right waiting taken c.self.invariant.distinct) there in
     record {
-      distinct = rw values (distinct_deleted file waiting (values_of entries) c.self.invariant.distinct);
-      counted = omega (arith, c.self.invariant.counted, shorter, c.vacate.ensures.taken);
-      place_room = omega (arith, c.self.invariant.place_room, c.self.invariant.counted, shorter, c.vacate.ensures.taken);
-      index_room = omega (arith, c.self.invariant.index_room, c.remove.ensures.spare);
-      indexed = indexed;
+      distinct = rw c.remove.ensures (distinct_deleted file waiting taken c.self.invariant.distinct);
+      place_room = omega (arith, c.self.invariant.place_room, less);
+      index_room = omega (arith, c.self.invariant.index_room, c.remove-2.ensures.spare);
+      indexed = λ q.
+          c.remove-2.ensures.updates.0 q
+          ∙ ap (λ p. cond (nat_eq file q) None p) (c.self.invariant.indexed q)
+          ∙ sym (place_of-removed file waiting taken q waits)
+          ∙ ap (λ (ts : List ℕ). place_of waiting ts q) (sym c.remove.ensures);
     }
-
-pub returns-clause-ok : goal.returns-clause-ok
-returns-clause-ok c =
-    let file : ℕ = c.args.file in
-    let waiting : List ℕ = c.self.inside.waiting.items in
-    let entries : List (ℕ × ℕ) = entries_of 0 c.self.inside.taken.slots.items in
-    let ticket : ticket_of (place_of waiting entries file) ≡ Some c.in-Some.number = ap ticket_of (sym (c.self.invariant.indexed file)) ∙ sym c.ticket.ensures ∙ c.in-Some.is in
-    let found : (is_in file waiting ≡ false) × (taken_place file entries ≡ Some (Taken c.in-Some.number)) = place_from_ticket file c.in-Some.number waiting entries ticket in
-    let ordered : IsStrictlySortedBy nat_cmp (keys_of entries) = sorted_slots 0 c.self.inside.taken.slots.items in
-    let distinct : AreDistinct (values_of entries) = AreDistinct-right waiting (values_of entries) c.self.invariant.distinct in
-    let values : values_of (entries_of 0 c.vacate.new.tickets.slots.items) ≡ without file (values_of entries) = ap values_of c.vacate.ensures.entries ∙ values-removed file c.in-Some.number entries ordered distinct found.1 in
-    let with : List ℕ → Queues = λ taken. record { waiting = c.self.inside.waiting.items; taken = taken; spare = c.self.inside.spare } in
-    rw (← c.self.view_is) (ap with values)

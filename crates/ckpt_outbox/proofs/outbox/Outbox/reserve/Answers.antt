@@ -1,15 +1,13 @@
 use Rattle.std.proofs.Common.{◌≡◌, ◌∙◌, ℕ, List, sym, ap, arith}
-use Rattle.ckpt_outbox.specs.Places.{entries_of, place_of}
+use Rattle.ckpt_outbox.specs.Places.{place_of}
 use Rattle.ckpt_outbox.proofs.outbox.Outbox.reserve.Goals as goal
 
 pub invariant_of-self-2 : goal.invariant_of-self-2
 invariant_of-self-2 c =
-    let entries : List (ℕ × ℕ) = entries_of 0 c.self.inside.taken.slots.items in
     let items : c.grow.new.queue.items ≡ c.self.inside.waiting.items = c.grow.ensures.items in
     record {
       distinct = rw items c.self.invariant.distinct;
-      counted = c.self.invariant.counted;
-      place_room = omega (arith, c.in_ok-grow.ensures.ok, c.saturating_add-room.ensures, c.grow.new.queue.ok.0, c.grow.new.queue.small.0);
+      place_room = omega (arith, c.in_ok-grow.ensures.ok, c.saturating_add-room.ensures, c.len.ensures, c.grow.new.queue.ok.0, c.grow.new.queue.small.0);
       index_room = c.in_ok-reserve.ensures.ok;
-      indexed = λ q. c.reserve.ensures.entries.2 q ∙ c.self.invariant.indexed q ∙ ap (λ z. place_of z entries q) (sym items);
+      indexed = λ q. c.reserve.ensures.entries.2 q ∙ c.self.invariant.indexed q ∙ ap (λ (ws : List ℕ). place_of ws c.self.inside.taken q) (sym items);
     }

@@ -1,86 +1,51 @@
-use Rattle.std.proofs.Common.{◌≡◌, ◌∙◌, ◌+◌, ℕ, List, [], ◌++◌, true, is_some, length, take, drop, nat_eq, sym, ap, subst, arith, append-nil, length-append}
-use Rattle.std.specs.HashMap as hash
-use Rattle.std.specs.Map.{values_of}
-use Rattle.std.specs.Option.{option_or}
-use Rattle.std.proofs.lemmas.List.{take-append-drop}
-use Rattle.ckpt_outbox.specs.Queues.{is_in}
-use Rattle.ckpt_outbox.specs.Places.{entries_of, place_of, taken_place}
-use Rattle.ckpt_outbox.proofs.QueueLemmas.{is_some_place, is_in-left, distinct_taken}
-use Rattle.ckpt_outbox.proofs.TicketLemmas.{has_tickets, place_of-taken, length-from_values}
+use Rattle.std.proofs.Common.{◌≡◌, ◌∙◌, ◌+◌, ◌<◌, ℕ, List, [], ◌∷◌, ◌++◌, take, drop, min, length, get_or, append_assoc, sym, ap, arith}
+use Rattle.std.proofs.lemmas.List.{length-drop, take_more, drop_more, take_min, drop_min}
+use Rattle.ckpt_outbox.specs.Queues.{Queues}
 use Rattle.ckpt_outbox.proofs.outbox.Outbox.take.Goals as goal
-use Rattle.ckpt_ids.specs.Ordered.{AreDistinct}
-use Rattle.ckpt_ids.proofs.OrderedLemmas.{AreDistinct-right}
 
-pub give-requires-clause-distinct : goal.give-requires-clause-distinct
-give-requires-clause-distinct c =
-    let count : ℕ = c.min-count.result in
-    let waiting : List ℕ = c.self.inside.waiting.items in
-    let entries : List (ℕ × ℕ) = entries_of 0 c.self.inside.taken.slots.items in
-    let front : List ℕ = take count waiting in
-    let rest : List ℕ = drop count waiting in
-    let whole : front ++ rest ≡ waiting = take-append-drop count waiting in
-    let files : c.deref.result.now ≡ front = c.deref.ensures.value ∙ c.in_ok-files.ensures in
-    let distinct : AreDistinct ((front ++ rest) ++ values_of entries) = subst (λ z. AreDistinct (z ++ values_of entries)) (sym whole) c.self.invariant.distinct in
-    rw files (AreDistinct-right rest (values_of entries ++ front) (distinct_taken front rest (values_of entries) distinct))
+pub take_one-requires : goal.take_one-requires
+take_one-requires c =
+    let waiting : List ℕ = c.args.self.now.waiting in
+    omega (arith, ap (λ (q : Queues). length q.waiting) c.loop.invariant.self, length-drop c.loop.counter waiting, c.loop-test.true, c.min-count.ensures, c.len.ensures, ap (λ (q : Queues). length q.waiting) c.self.view_is)
 
-pub give-requires-clause-noted : goal.give-requires-clause-noted
-give-requires-clause-noted c =
-    let waiting : List ℕ = c.self.inside.waiting.items in
-    let entries : List (ℕ × ℕ) = entries_of 0 c.self.inside.taken.slots.items in
-    λ q. ap (λ z. option_or (taken_place q entries) z) (c.self.invariant.indexed q) ∙ has_tickets q waiting entries c.self.invariant.distinct ∙ sym (c.self.invariant.indexed q)
-
-pub give-requires-clause-present : goal.give-requires-clause-present
-give-requires-clause-present c =
-    let count : ℕ = c.min-count.result in
-    let waiting : List ℕ = c.self.inside.waiting.items in
-    let entries : List (ℕ × ℕ) = entries_of 0 c.self.inside.taken.slots.items in
-    let front : List ℕ = take count waiting in
-    let rest : List ℕ = drop count waiting in
-    let whole : front ++ rest ≡ waiting = take-append-drop count waiting in
-    let files : c.deref.result.now ≡ front = c.deref.ensures.value ∙ c.in_ok-files.ensures in
-    let distinct : AreDistinct ((front ++ rest) ++ values_of entries) = subst (λ z. AreDistinct (z ++ values_of entries)) (sym whole) c.self.invariant.distinct in
-    λ q h.
-    let waits : is_in q waiting ≡ true = subst (λ z. is_in q z ≡ true) whole (is_in-left q front rest (ap (is_in q) (sym files) ∙ h)) in
-    ap is_some (c.self.invariant.indexed q) ∙ is_some_place waiting entries q ∙ is_in-left q waiting (values_of entries) waits
-
--- memory was wanting: the same files are taken, perhaps with other tickets
-pub invariant_of-self : goal.invariant_of-self
-invariant_of-self c =
-    let waiting : List ℕ = c.self.inside.waiting.items in
-    let entries : List (ℕ × ℕ) = entries_of 0 c.self.inside.taken.slots.items in
-    let after : List (ℕ × ℕ) = entries_of 0 c.give.new.tickets.slots.items in
-    let values : values_of after ≡ values_of entries = c.in_err-give.ensures.err in
-    let values_nil : values_of after ≡ values_of entries ++ [] = values ∙ sym (append-nil (values_of entries)) in
-    let long : length after ≡ length entries + 0 = length-from_values entries after [] values_nil in
+pub loop-preserved : goal.loop-preserved
+loop-preserved c =
+    let waiting : List ℕ = c.args.self.now.waiting in
+    let taken : List ℕ = c.args.self.now.taken in
+    let counter : ℕ = c.loop.counter in
+    let file : ℕ = c.take_one.result in
+    let rest : List ℕ = c.take_one.new.self.waiting in
+    let so_far = c.loop.invariant in
+    let within : counter < length waiting = omega (arith, c.loop-test.true, c.min-count.ensures, c.len.ensures, ap (λ (q : Queues). length q.waiting) c.self.view_is) in
+    let first : get_or waiting counter file ∷ drop (counter + 1) waiting ≡ file ∷ rest =
+    sym (drop_more waiting counter file within) ∙ sym (ap (λ (q : Queues). q.waiting) so_far.self) ∙ c.take_one.ensures.first in
+    let left : drop (counter + 1) waiting ≡ rest = ap (λ (fs : List ℕ). drop 1 fs) first in
+    let more : take (counter + 1) waiting ≡ take counter waiting ++ file ∷ [] =
+    take_more waiting counter file within ∙ ap (λ z. take counter waiting ++ z ∷ []) (ap (λ (fs : List ℕ). get_or fs 0 file) first) in
+    let with : List ℕ → List ℕ → Queues = λ ws ts. record { waiting = ws; taken = ts; spare = c.args.self.now.spare } in
     record {
-      distinct = rw values c.self.invariant.distinct;
-      counted = c.give.ensures.counted;
-      place_room = omega (arith, c.self.invariant.place_room, c.self.invariant.counted, c.give.ensures.counted, long);
-      index_room = omega (arith, c.self.invariant.index_room, c.give.ensures.spare);
-      indexed = λ q. c.give.ensures.places q ∙ ap (λ z. option_or (taken_place q after) z) (c.self.invariant.indexed q) ∙ place_of-taken q [] waiting entries after c.self.invariant.distinct values_nil;
+      self = c.take_one.ensures.taken
+          ∙ ap (λ (q : Queues). record { waiting = rest; taken = q.taken ++ file ∷ []; spare = q.spare }) so_far.self
+          ∙ ap (λ (ws : List ℕ). with ws ((taken ++ take counter waiting) ++ file ∷ [])) (sym left)
+          ∙ ap (with (drop (counter + 1) waiting)) (append_assoc taken (take counter waiting) (file ∷ []) ∙ ap (λ (ts : List ℕ). taken ++ ts) (sym more));
+      files = c.push_reserved.ensures.items ∙ ap (λ (fs : List ℕ). fs ++ file ∷ []) so_far.files ∙ sym more;
+      len = omega (arith, c.push_reserved.ensures.len, so_far.len);
+      room = omega (arith, c.push_reserved.ensures.capacity, so_far.room);
     }
 
-pub invariant_of-self-2 : goal.invariant_of-self-2
-invariant_of-self-2 c =
-    let count : ℕ = c.min-count.result in
-    let waiting : List ℕ = c.self.inside.waiting.items in
-    let entries : List (ℕ × ℕ) = entries_of 0 c.self.inside.taken.slots.items in
-    let front : List ℕ = take count waiting in
-    let rest : List ℕ = drop count waiting in
-    let whole : front ++ rest ≡ waiting = take-append-drop count waiting in
-    let files : c.deref.result.now ≡ front = c.deref.ensures.value ∙ c.in_ok-files.ensures in
-    let distinct : AreDistinct ((front ++ rest) ++ values_of entries) = subst (λ z. AreDistinct (z ++ values_of entries)) (sym whole) c.self.invariant.distinct in
-    let after : List (ℕ × ℕ) = entries_of 0 c.give.new.tickets.slots.items in
-    let values : values_of after ≡ values_of entries ++ front = c.in_ok-give.ensures.ok ∙ ap (λ z. values_of entries ++ z) files in
-    let long : length after ≡ length entries + length front = length-from_values entries after front values in
-    let items : c.drop_front.new.queue.items ≡ rest = c.drop_front.ensures.items in
-    let sizes : length front + length rest ≡ length waiting = sym (length-append front rest) ∙ ap length whole in
-    let indexed : (q : ℕ) → hash.get nat_eq c.give.new.index q ≡ place_of c.drop_front.new.queue.items after q = λ q.
-    c.give.ensures.places q ∙ ap (λ z. option_or (taken_place q after) z) (c.self.invariant.indexed q ∙ ap (λ z. place_of z entries q) (sym whole)) ∙ place_of-taken q front rest entries after distinct values ∙ ap (λ z. place_of z after q) (sym items) in
-    record {
-      distinct = rw (items, values) (distinct_taken front rest (values_of entries) distinct);
-      counted = c.give.ensures.counted;
-      place_room = omega (arith, c.self.invariant.place_room, c.self.invariant.counted, c.give.ensures.counted, long, sizes, ap length items, c.drop_front.ensures.capacity);
-      index_room = omega (arith, c.self.invariant.index_room, c.give.ensures.spare);
-      indexed = indexed;
-    }
+pub returns-clause-files : goal.returns-clause-files
+returns-clause-files c =
+    let waiting : List ℕ = c.args.self.now.waiting in
+    let all : c.loop.counter ≡ min c.args.most (length waiting) = omega (arith, c.loop-test.false, c.loop.auto.counter-end, c.min-count.ensures, c.len.ensures, ap (λ (q : Queues). length q.waiting) c.self.view_is) in
+    c.of.ensures ∙ c.loop.invariant.files ∙ ap (λ n. take n waiting) all ∙ take_min c.args.most waiting
+
+pub returns-clause-ok : goal.returns-clause-ok
+returns-clause-ok c =
+    let waiting : List ℕ = c.args.self.now.waiting in
+    let taken : List ℕ = c.args.self.now.taken in
+    let all : c.loop.counter ≡ min c.args.most (length waiting) = omega (arith, c.loop-test.false, c.loop.auto.counter-end, c.min-count.ensures, c.len.ensures, ap (λ (q : Queues). length q.waiting) c.self.view_is) in
+    let with : List ℕ → List ℕ → Queues = λ ws ts. record { waiting = ws; taken = ts; spare = c.args.self.now.spare } in
+    c.loop.invariant.self
+    ∙ ap (λ n. with (drop n waiting) (taken ++ take n waiting)) all
+    ∙ ap (λ (ws : List ℕ). with ws (taken ++ take (min c.args.most (length waiting)) waiting)) (drop_min c.args.most waiting)
+    ∙ ap (λ (ts : List ℕ). with (drop c.args.most waiting) (taken ++ ts)) (take_min c.args.most waiting)

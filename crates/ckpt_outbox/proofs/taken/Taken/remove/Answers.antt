@@ -1,0 +1,15 @@
+use Rattle.std.proofs.Common.{◌≡◌, ◌∙◌, ℕ, false, List, length, ap, arith}
+use Rattle.std.specs.Option.{option_map_or}
+use Rattle.ckpt_outbox.specs.Changes.{Changed, changed, unchanged}
+use Rattle.ckpt_outbox.specs.Queues.{without}
+use Rattle.ckpt_outbox.proofs.QueueLemmas.{length-without}
+use Rattle.ckpt_outbox.proofs.taken.Taken.remove.Goals as goal
+
+pub invariant_of-self : goal.invariant_of-self
+invariant_of-self c =
+    let before : List ℕ = (option_map_or (λ s. s.value) c.self.inside.changes unchanged).files in
+    let now : before ≡ c.args.self.now = c.self.view_is in
+    let change : option_map_or (λ s. s.value) c.with_change.result unchanged ≡ changed (option_map_or (λ s. s.value) c.self.inside.changes unchanged) c.args.file false =
+    c.with_change.ensures ∙ ap (λ o. changed (option_map_or (λ s. s.value) o unchanged) c.args.file false) c.take.ensures.value in
+    let left : length (option_map_or (λ s. s.value) c.with_change.result unchanged).files ≡ length (without c.args.file c.args.self.now) = ap (λ (u : Changed). length u.files) change ∙ ap (λ (fs : List ℕ). length (without c.args.file fs)) now in
+    omega (arith, c.self.invariant, ap length now, left, length-without c.args.file c.args.self.now c.requires.distinct c.requires.there)

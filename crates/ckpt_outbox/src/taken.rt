@@ -1,0 +1,112 @@
+ghost use Rattle.std.specs.Prelude.{◌≡◌, ◌+◌, ◌<◌, ◌^◌, [], ◌∷◌, ◌++◌, true, false, length};
+ghost use Rattle.std.specs.Option.{option_map_or};
+ghost use Rattle.ckpt_outbox.specs.Changes.{changed, unchanged};
+ghost use Rattle.ckpt_outbox.specs.Queues.{AreDistinct, is_in, without};
+
+use ckpt_ids::FileId;
+use std::fmt;
+use std::marker::Model;
+use std::snapshot::Snapshot;
+
+// One file more is taken, or one less. A value of it lives for a moment, for a snapshot of it.
+#[derive(Drop)]
+struct Change {
+    before: Option<Snapshot<Change>>,
+    file: FileId,
+    is_fetched: bool,
+}
+
+impl Model for Change {
+    ghost use Rattle.std.specs.Option.{option_map_or};
+    ghost use Rattle.std.proofs.Common.{arith};
+    ghost use Rattle.ckpt_outbox.specs.Changes.{Changed, changed, unchanged};
+
+    ghost Value = { Changed };
+
+    ghost view = { λ c. changed (option_map_or (λ s. s.value) c.before unchanged) c.file c.is_fetched };
+
+    ghost size = { λ c. c.changes };
+
+    ghost size_decreases = { λ c h. Prim.grind (arith) };
+}
+
+/// The files that are taken, in the order in which they were fetched. Only clauses read which these
+/// are: kept is how many.
+#[derive(Drop)]
+pub(crate) struct Taken {
+    changes: Option<Snapshot<Change>>,
+    count: usize,
+}
+
+impl Model for Taken {
+    ghost use Rattle.std.specs.Prelude.{◌≡◌, ℕ, List, length};
+    ghost use Rattle.std.specs.Option.{option_map_or};
+    ghost use Rattle.ckpt_outbox.specs.Changes.{unchanged};
+
+    ghost Value = { List ℕ };
+
+    ghost view = { λ t. (option_map_or (λ s. s.value) t.changes unchanged).files };
+
+    ghost invariant = { λ t. t.count ≡ length (option_map_or (λ s. s.value) t.changes unchanged).files };
+}
+
+impl fmt::Debug for Taken {
+    /// Shows how many files are taken.
+    fn fmt<W: fmt::Write>(&self, f: &mut fmt::Formatter<W>) -> fmt::Result {
+        f.debug_struct("Taken").field("count", &self.count).finish()
+    }
+}
+
+/// The changes with one more. No effect at run time.
+fn with_change(
+    before: Option<Snapshot<Change>>,
+    file: FileId,
+    is_fetched: bool,
+) -> Option<Snapshot<Change>>
+    ensures { option_map_or (λ s. s.value) result unchanged ≡ changed (option_map_or (λ s. s.value) before unchanged) file is_fetched }
+{
+    let change = Change {
+        before,
+        file,
+        is_fetched,
+    };
+    Some(Snapshot::of(&change))
+}
+
+impl Taken {
+    /// None is taken.
+    pub(crate) fn new() -> Taken
+        ensures { result ≡ [] }
+    {
+        Taken {
+            changes: None,
+            count: 0,
+        }
+    }
+
+    /// The file was fetched.
+    pub(crate) fn push(&mut self, file: FileId)
+        requires few { length self.old + 1 < 2 ^ 64 }
+        ensures { self.new ≡ self.old ++ file ∷ [] }
+    {
+        self.changes = with_change(self.changes.take(), file, true);
+        self.count += 1;
+    }
+
+    /// The file, which is taken, was reported.
+    pub(crate) fn remove(&mut self, file: FileId)
+        requires distinct { AreDistinct self.old }
+        requires there { is_in file self.old ≡ true }
+        ensures { self.new ≡ without file self.old }
+    {
+        self.changes = with_change(self.changes.take(), file, false);
+        self.count -= 1;
+    }
+
+    /// How many files are taken.
+    pub(crate) fn len(&self) -> usize
+        ensures { result ≡ length self.now }
+    {
+        self.count
+    }
+}
