@@ -1,4 +1,4 @@
-ghost use Rattle.std.specs.Prelude.{◌≡◌, ◌↔◌, ◌+◌, ◌-◌, ◌^◌, ◌<◌, [], ◌∷◌, ◌++◌, length, IsTrue, OnOk, min};
+ghost use Rattle.std.specs.Prelude.{◌≡◌, ◌≢◌, ◌↔◌, ◌+◌, ◌-◌, ◌^◌, ◌<◌, [], ◌∷◌, ◌++◌, length, IsTrue, OnOk, min};
 ghost use Rattle.std.specs.Option.{option_copied};
 
 use crate::past::Past;
@@ -89,11 +89,7 @@ impl<T: Drop> Recent<T> {
     {
         self.kept.push_back_reserved(item);
         if self.kept.len() as u64 > self.keep {
-            let Some(first) = self.kept.pop_front() else {
-                unreachable!()
-            };
-            let _ = self.past.push(first);
-            self.forgotten += 1;
+            forget_first(&mut self.past, &mut self.kept, &mut self.forgotten);
         }
     }
 
@@ -107,11 +103,7 @@ impl<T: Drop> Recent<T> {
             return;
         }
         while self.kept.len() as u64 > most {
-            let Some(first) = self.kept.pop_front() else {
-                unreachable!()
-            };
-            let _ = self.past.push(first);
-            self.forgotten += 1;
+            forget_first(&mut self.past, &mut self.kept, &mut self.forgotten);
         }
         self.keep = most;
     }
@@ -144,4 +136,22 @@ impl<T: Drop> Recent<T> {
         let at = place.checked_sub(self.forgotten)?;
         self.kept.get(at as usize)
     }
+}
+
+/// Lets the first item that is kept be past. It stands apart, since a list that keeps all items never
+/// does so.
+#[inline(never)]
+fn forget_first<T: Drop>(past: &mut Past<T>, kept: &mut VecDeque<T>, forgotten: &mut u64)
+    requires some { kept.old.items ≢ [] }
+    requires few { forgotten.old + 1 < 2 ^ 64 }
+    ensures items { past.new ++ kept.new.items ≡ past.old ++ kept.old.items }
+    ensures fewer { length kept.new.items + 1 ≡ length kept.old.items }
+    ensures past { length past.new ≡ length past.old + 1 }
+    ensures counted { forgotten.new ≡ forgotten.old + 1 }
+{
+    let Some(first) = kept.pop_front() else {
+        unreachable!()
+    };
+    let _ = past.push(first);
+    *forgotten += 1;
 }
