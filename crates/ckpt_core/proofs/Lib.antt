@@ -1,6 +1,7 @@
 pub mod Acknowledging
 pub mod Answering
 pub mod Completing
+pub mod Crossings
 pub mod Ending
 pub mod Histories
 pub mod Reading

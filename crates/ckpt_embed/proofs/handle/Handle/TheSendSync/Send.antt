@@ -10,14 +10,14 @@ use Rattle.std.specs.declared.option.Option.TheVariants.{None, Some}
 use Rattle.std.specs.contracts.impls.GlobalAllocator.TheImpl.{ghosts}
 use Rattle.std.proofs.Crossing.{frees}
 use Rattle.std_alloc.specs.Box.Ownership.{box_owns}
-use Rattle.ckpt_core.proofs.coordinator.Core.TheSendSync as core
+use Rattle.ckpt_core.proofs.Crossings.{core_send}
 use Rattle.ckpt_embed.specs.Kept.{heap, kept}
 use Rattle.ckpt_embed.specs.contracts.handle.Handle.{the_row}
 use Rattle.ckpt_embed.proofs.Words.{R}
 
 boxed_keyless : (p : Ptr) (x : R.Denot) → Keyless (box_owns (ghosts.dealloc_token heap) R p x)
 boxed_keyless null_ptr x = (tt, frees.frees heap (raw (lone R.mir)) null_ptr)
-boxed_keyless (block_ptr b o) x = (part_keyless R core.the_send full_share x b o, frees.frees heap (raw (lone R.mir)) (block_ptr b o))
+boxed_keyless (block_ptr b o) x = (part_keyless R core_send full_share x b o, frees.frees heap (raw (lone R.mir)) (block_ptr b o))
 
 kept_keyless : (p : Ptr) (k : Option R.Denot) → Keyless (kept R p k)
 kept_keyless p None = λ _. tt
