@@ -1,11 +1,11 @@
 -- What a reader has left, from step to step, where it is known.
-use Rattle.std.proofs.Common.{◌≡◌, ◌≢◌, ℕ, List, [], ◌∷◌, ◌++◌, Bool, true, false, ◌==◌, take, Option, None, Some, inl, inr, refl, sym, ap, subst, ◌∙◌, append_assoc, append-nil}
+use Rattle.std.proofs.Common.{◌≡◌, ◌≢◌, ℕ, List, [], ◌∷◌, ◌++◌, Bool, true, false, ◌==◌, ◌+◌, take, drop, Option, None, Some, inl, inr, refl, sym, ap, subst, ◌∙◌, append_assoc, append-nil}
 use Rattle.std.specs.Prelude.{IfSome}
 use Rattle.std.proofs.lemmas.Bool.{or_from}
 use Rattle.std.proofs.lemmas.List.Folds.{list_any-append}
 use Rattle.std.specs.Io.KnownBytes.{Keeps, IsAtEnd, prepend_known}
 use Rattle.ckpt_script.specs.Known.{WhereKnown}
-use Rattle.ckpt_script.specs.Lines.{held, newline, has_newline, Moves, TakesPart, HoldsLine, HoldsPart}
+use Rattle.ckpt_script.specs.Lines.{held, newline, has_newline, FindsNewline, Moves, TakesPart, HoldsLine, HoldsPart}
 use Rattle.ckpt_script.proofs.LineLemmas.{take_again}
 
 pub WhereKnown-keeps : (a b c : Option (List ℕ)) (P : List ℕ → List ℕ → Type 0) → WhereKnown a b P → Keeps b c → WhereKnown a c P
@@ -77,6 +77,16 @@ module _ (all before rest line after z : List ℕ) where
     where
       regroup : (a b c d : List ℕ) → a ++ ((b ++ newline ∷ c) ++ d) ≡ (a ++ b) ++ newline ∷ (c ++ d)
       regroup a b c d = simp append_assoc
+
+-- the line lies whole in what is read ahead
+pub line_ahead : (is_ended : Bool) (bytes : List ℕ) (place : ℕ) (rest : Option (List ℕ)) → FindsNewline bytes (Some place)
+    → WhereKnown (prepend_known bytes rest) (prepend_known (drop (place + 1) bytes) rest) (λ all left. HoldsLine is_ended all left (take held (take place bytes)))
+line_ahead is_ended bytes place None found = tt
+line_ahead is_ended bytes place (Some z) found = (
+  take place bytes,
+  record { one_line = found.1; split = inl (ap (λ (xs : List ℕ). xs ++ z) found.2 ∙ append_assoc (take place bytes) (newline ∷ drop (place + 1) bytes) z) },
+  refl,
+)
 
 -- the end of the text came
 pub text_ends : (is_ended : Bool) (a rest : Option (List ℕ)) (xs line : List ℕ) → xs ≡ [] → is_ended ≡ true → IsAtEnd rest → WhereKnown a (prepend_known xs rest) (λ all left. HoldsPart all left line) → WhereKnown a (prepend_known xs rest) (λ all left. HoldsLine is_ended all left line)

@@ -3,7 +3,7 @@ use Rattle.std.proofs.Common.{◌≡◌, ◌≢◌, ℕ, zero, suc, ◌+◌, ◌
 use Rattle.std.proofs.lemmas.Bool.{cases_Bool, eqb-true, ltb-true, ltb-false, or_parts, or_from, or_left, or_right, both_ways}
 use Rattle.std.proofs.lemmas.List.Folds.{list_any-append}
 use Rattle.std.specs.List.{slice_range}
-use Rattle.std.proofs.lemmas.List.{take_all, drop-take, drop-drop, length-take}
+use Rattle.std.proofs.lemmas.List.{take_all, take-take, drop-take, drop-drop, length-take}
 use Rattle.std.proofs.Math.Seq.{take-append-add, take-add}
 use Rattle.ckpt_script.specs.Lines.{newline, onto_first, lines_of, has_newline, whole_lines, held}
 
@@ -41,6 +41,22 @@ pub drop-slice_range : (bytes : List ℕ) (from to n : ℕ) → from + n ≤ to 
 drop-slice_range bytes from to n fits =
     let e : to - from ≡ n + (to - (from + n)) = omega arith in
     ap (λ (k : ℕ). drop n (take k (drop from bytes))) e ∙ drop-take n (to - (from + n)) (drop from bytes) ∙ ap (take (to - (from + n))) (drop-drop n from bytes ∙ ap (λ (k : ℕ). drop k bytes) (omega arith))
+
+-- the first n bytes, as many of them as are kept
+take_both : (n kept : ℕ) (xs : List ℕ) → take (min n kept) xs ≡ take kept (take n xs)
+take_both n kept xs =
+    ⊎_elim
+    (λ (more : nat_lt kept n ≡ true). let lt : kept < n = ltb-true kept n more in let e : min n kept ≡ kept = omega arith in rw e (sym (take-take kept n xs (omega arith))))
+    (λ (all : nat_lt kept n ≡ false). let le : n ≤ kept = ltb-false kept n all in let e : min n kept ≡ n = omega arith in rw e (sym (take_all kept (take n xs) (omega (arith, length-take n xs)))))
+    (cases_Bool (nat_lt kept n))
+
+-- the same of a range of the bytes
+pub front-slice_range : (bytes : List ℕ) (from to n kept : ℕ) → n ≤ length (slice_range bytes from to) → kept ≡ min n held → take (from + kept - from) (drop from bytes) ≡ take held (take n (slice_range bytes from to))
+front-slice_range bytes from to n kept fits e =
+    let short : length (slice_range bytes from to) ≤ to - from = omega (arith, length-take (to - from) (drop from bytes)) in
+    ap (λ (k : ℕ). take k (drop from bytes)) (omega (arith, e))
+    ∙ take_both n held (drop from bytes)
+    ∙ ap (take held) (sym (take-take n (to - from) (drop from bytes) (omega (arith, short))))
 
 -- where the first newline stands
 

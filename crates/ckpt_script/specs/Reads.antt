@@ -1,8 +1,8 @@
 -- What was taken from what is read ahead and from what the source has left.
-use Rattle.std.specs.Prelude.{ℕ, List, Option}
+use Rattle.std.specs.Prelude.{ℕ, ◌+◌, ◌<◌, List, length, take, drop, Option, None, Some, IfSome}
 use Rattle.std.specs.Io.KnownBytes.{prepend_known}
 use Rattle.ckpt_script.specs.Known.{WhereKnown}
-use Rattle.ckpt_script.specs.Lines.{HoldsLine, HoldsPart}
+use Rattle.ckpt_script.specs.Lines.{held, HoldsLine, HoldsPart}
 use Rattle.ckpt_script.specs.Unread.{Unread}
 
 -- what is read ahead and what the source has left, where that is known
@@ -17,3 +17,17 @@ ReadsLine old before new after front =
 -- a part of a line was read, of which the front is held, and nothing is read ahead
 abbrev pub ReadsPart : Unread → Option (List ℕ) → Option (List ℕ) → List ℕ → Type 0
 ReadsPart old before after front = WhereKnown (all_left old before) after (λ bytes rest. HoldsPart bytes rest front)
+
+-- the newline, where there is one, stands in what is read ahead
+abbrev pub IsAhead : Unread → Option ℕ → Type 0
+IsAhead ahead newline = IfSome newline (λ place. place < length ahead.bytes)
+
+-- what is read ahead without the line before this newline, where there is one, and without the newline
+abbrev pub left_by : Unread → Option ℕ → Unread
+left_by ahead None = ahead
+left_by ahead (Some newline) = record { bytes = drop (newline + 1) ahead.bytes; is_ended = ahead.is_ended; reads_left = ahead.reads_left }
+
+-- what is held of the line before this newline, or else of the one that was read
+abbrev pub line_at : Unread → List ℕ → Option ℕ → List ℕ
+line_at ahead line None = line
+line_at ahead line (Some newline) = take held (take newline ahead.bytes)

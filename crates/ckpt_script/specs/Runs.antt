@@ -5,12 +5,12 @@ use Rattle.ckpt_session.specs.Sessions.{Said, said}
 use Rattle.ckpt_script.specs.declared.fault.RunFault.{RunFault}
 use Rattle.ckpt_script.specs.declared.runner.Runner.{Runner}
 use Rattle.ckpt_script.specs.Outputs.{Ran}
-use Rattle.ckpt_script.specs.Reads.{all_left}
+use Rattle.ckpt_script.specs.Reads.{all_left, line_at}
 use Rattle.ckpt_script.specs.Telling.{IsSoFar, Stopped}
 
--- what the line that is held does and prints, as the next one
-abbrev pub said_next : Runner → Said
-said_next run = said (run.summary.lines + 1) run.session (reading run.line.items)
+-- what the next line does and prints
+abbrev pub said_next : Runner → Option ℕ → Said
+said_next run newline = said (run.summary.lines + 1) run.session (reading (line_at run.ahead run.line.items newline))
 
 -- of a text, so much has been run and shown
 abbrev pub IsAt : Runner → Option (List ℕ) → Option (List ℕ) → Option (List ℕ) → Option (List ℕ) → Type 0

@@ -1,9 +1,9 @@
-ghost use Rattle.std.specs.Prelude.{◌≡◌, ◌+◌, ◌≢◌, ◌≤◌, ◌∷◌, ◌++◌, ℕ, List, true, false, [], IsTrue, ◌↔◌, IfOk, OnOk, OnErr, IfErr, length, take};
+ghost use Rattle.std.specs.Prelude.{◌≡◌, ◌+◌, ◌≢◌, ◌≤◌, ◌<◌, ◌∷◌, ◌++◌, ℕ, List, true, false, [], IsTrue, ◌↔◌, IfOk, OnOk, OnErr, IfErr, length, take, Some};
 ghost use Rattle.std.specs.Io.KnownBytes.{Keeps, IsAtEnd, prepend_known};
 ghost use Rattle.ckpt_script.specs.Devices.{IsCounted, IsCaused};
 ghost use Rattle.ckpt_script.specs.Known.{Passes};
 ghost use Rattle.ckpt_script.specs.Lines.{held, FindsNewline, Moves};
-ghost use Rattle.ckpt_script.specs.Reads.{ReadsLine, ReadsPart};
+ghost use Rattle.ckpt_script.specs.Reads.{IsAhead, ReadsLine, ReadsPart, left_by, line_at};
 
 use crate::fault::RunFault;
 use crate::limits::MOST_READS;
@@ -171,6 +171,63 @@ impl Ahead {
             self.fill(source, printed, sink)?;
         }
         Ok(())
+    }
+
+    /// Finds the next line. Answers where its newline stands, if it lies whole in what was read;
+    /// else it is read as [`Ahead::read_line`] reads it.
+    pub(crate) fn find_line<S: Source, K: Sink>(
+        &mut self,
+        source: &mut S,
+        line: &mut Vec<u8>,
+        printed: &mut Printed,
+        sink: &mut K,
+    ) -> Result<Option<usize>, RunFault>
+        requires ended { self.old.is_ended ≡ true → IsAtEnd (S.remaining source.old) }
+        requires counted { IsCounted (S.asked source.old) self.old }
+        requires going_on { K.failures sink.old ≡ 0 }
+        ensures ended { self.new.is_ended ≡ true → IsAtEnd (S.remaining source.new) }
+        ensures line { IfOk result (λ newline. ReadsLine self.old (S.remaining source.old) (left_by self.new newline) (S.remaining source.new) (line_at self.new line.new.items newline)) }
+        ensures ahead { IfOk result (IsAhead self.new) }
+        ensures part { IfErr result (λ why. why ≡ RunFault.Read → ReadsPart self.old (S.remaining source.old) (S.remaining source.new) line.new.items) }
+        ensures stays { IfErr result (λ why. why ≡ RunFault.Read → self.old.is_ended ≡ false) }
+        ensures fault { IfErr result (λ why. why ≢ RunFault.TooManyLines) }
+        ensures counted { OnOk result (IsCounted (S.asked source.new) self.new) }
+        ensures going_on { OnOk result (K.failures sink.new ≡ 0) }
+        ensures shown { OnOk result (Passes (K.contents sink.old) (K.contents sink.new) printed.old [] printed.new) }
+        ensures shown_read { IfErr result (λ why. why ≡ RunFault.Read → Passes (K.contents sink.old) (K.contents sink.new) printed.old [] printed.new) }
+        ensures cut { OnErr result ((left : List ℕ) × Passes (K.contents sink.old) (K.contents sink.new) printed.old [] left) }
+        ensures cause { IfErr result (IsCaused (S.asked source.new) (K.failures sink.new)) }
+        ensures same_source { S.device source.new ≡ S.device source.old }
+        ensures same_sink { K.device sink.new ≡ K.device sink.old }
+    {
+        let newline = self.newline();
+        if newline.is_none() {
+            self.read_line(source, line, printed, sink)?;
+        }
+        Ok(newline)
+    }
+
+    /// Where the newline stands that ends the next line, if all of that line was read.
+    pub(crate) fn newline(&self) -> Option<usize>
+        ensures { FindsNewline self.now.bytes result }
+    {
+        newline_place(&self.buffer.as_slice()[self.start..self.end])
+    }
+
+    /// The line before this newline, or as much of it as is held.
+    pub(crate) fn front(&self, newline: usize) -> &[u8]
+        requires { newline ≤ length self.now.bytes }
+        ensures { result.now ≡ take held (take newline self.now.bytes) }
+    {
+        &self.buffer.as_slice()[self.start..self.start + newline.min(HELD)]
+    }
+
+    /// Drops the line before this newline, and the newline.
+    pub(crate) fn drop_line(&mut self, newline: usize)
+        requires { newline < length self.old.bytes }
+        ensures { self.new ≡ left_by self.old (Some newline) }
+    {
+        self.start = self.start + newline + 1;
     }
 
     /// Moves bytes that were read to the line, up to a newline, which is dropped. Answers whether

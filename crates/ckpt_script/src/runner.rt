@@ -1,8 +1,9 @@
-ghost use Rattle.std.specs.Prelude.{◌≡◌, ◌≢◌, ◌≤◌, ◌<◌, ◌+◌, ℕ, List, [], Err, true, false, OnOk, OnErr, IfOk, IfErr, is_err, if◌then◌else◌};
+ghost use Rattle.std.specs.Prelude.{◌≡◌, ◌≢◌, ◌≤◌, ◌<◌, ◌+◌, ℕ, List, [], Ok, Err, true, false, OnOk, OnErr, IfOk, IfErr, is_err, if◌then◌else◌};
 ghost use Rattle.std.specs.Io.KnownBytes.{IsAtEnd};
 ghost use Rattle.ckpt_script.specs.Devices.{Asked, IsCounted, IsCaused, SinkCauses, IsReadThrough, never_asked};
 ghost use Rattle.ckpt_script.specs.Known.{Passes};
 ghost use Rattle.ckpt_script.specs.Outputs.{Ran};
+ghost use Rattle.ckpt_script.specs.Reads.{IsAhead, left_by, line_at};
 ghost use Rattle.ckpt_script.specs.Runs.{said_next, reading, GoesOn, Stops, EndsBy};
 ghost use Rattle.ckpt_script.specs.Telling.{keeps_lines};
 ghost use Rattle.ckpt_session.specs.Sessions.{opening_scene};
@@ -15,7 +16,7 @@ use crate::sink::Sink;
 use crate::source::Source;
 use crate::streams::{CountedReader, CountedWriter};
 use crate::summary::Summary;
-use ckpt_lines::{LineFault, laws, parse_line};
+use ckpt_lines::{Line, LineFault, laws, parse_line};
 use ckpt_session::{Secret, Session};
 use ckpt_workers::Team;
 use std::alloc::{AllocError, Global};
@@ -34,24 +35,45 @@ struct Runner {
 }
 
 impl Runner {
-    /// Obeys the line that is held, and prints what it says.
-    fn obey<K: Sink, T: Team>(&mut self, sink: &mut K, team: &mut T) -> Result<(), RunFault>
+    /// What the line means whose newline stands here, or the one that is held.
+    fn meaning(&self, newline: Option<usize>) -> Result<Line, LineFault>
+        requires { IsAhead self.now.ahead newline }
+        ensures line { IfOk result (λ read. reading (line_at self.now.ahead self.now.line.items newline) ≡ Ok read) }
+        ensures fault { IfErr result (λ why. why ≢ LineFault.Memory → reading (line_at self.now.ahead self.now.line.items newline) ≡ Err why) }
+    {
+        match newline {
+            Some(place) => parse_line(self.alloc, self.ahead.front(place)),
+            None => parse_line(self.alloc, self.line.as_slice()),
+        }
+    }
+
+    /// Obeys the line whose newline stands here, or the one that is held, and prints what it says.
+    fn obey<K: Sink, T: Team>(
+        &mut self,
+        newline: Option<usize>,
+        sink: &mut K,
+        team: &mut T,
+    ) -> Result<(), RunFault>
+        requires whole { IsAhead self.old.ahead newline }
         requires lines { self.old.summary.lines < MOST_LINES }
         requires faults { self.old.summary.faults ≤ self.old.summary.lines }
         requires going_on { K.failures sink.old ≡ 0 }
-        ensures kept { self.new.ahead ≡ self.old.ahead }
+        ensures left { self.new.ahead ≡ left_by self.old.ahead newline }
         ensures lines { OnOk result (self.new.summary.lines ≡ self.old.summary.lines + 1) }
-        ensures faults { OnOk result (self.new.summary.faults ≡ self.old.summary.faults + (if is_err (reading self.old.line.items) then 1 else 0)) }
-        ensures scene { OnOk result (self.new.session ≡ (said_next self.old).0) }
-        ensures shown { OnOk result (Passes (K.contents sink.old) (K.contents sink.new) self.old.printed (said_next self.old).1 self.new.printed) }
-        ensures cut { OnErr result ((left : List ℕ) × Passes (K.contents sink.old) (K.contents sink.new) self.old.printed (said_next self.old).1 left) }
+        ensures faults { OnOk result (self.new.summary.faults ≡ self.old.summary.faults + (if is_err (reading (line_at self.old.ahead self.old.line.items newline)) then 1 else 0)) }
+        ensures scene { OnOk result (self.new.session ≡ (said_next self.old newline).0) }
+        ensures shown { OnOk result (Passes (K.contents sink.old) (K.contents sink.new) self.old.printed (said_next self.old newline).1 self.new.printed) }
+        ensures cut { OnErr result ((left : List ℕ) × Passes (K.contents sink.old) (K.contents sink.new) self.old.printed (said_next self.old newline).1 left) }
         ensures fault { IfErr result (λ why. (why ≢ RunFault.Read) × (why ≢ RunFault.TooManyLines)) }
         ensures going_on { OnOk result (K.failures sink.new ≡ 0) }
         ensures cause { IfErr result (SinkCauses (K.failures sink.new)) }
         ensures same_sink { K.device sink.new ≡ K.device sink.old }
     {
         let number = self.summary.lines + 1;
-        let line = parse_line(self.alloc, self.line.as_slice());
+        let line = self.meaning(newline);
+        if let Some(place) = newline {
+            self.ahead.drop_line(place);
+        }
         if let Err(LineFault::Memory) = line {
             return Err(RunFault::Memory);
         }
@@ -96,9 +118,10 @@ impl Runner {
         if self.summary.lines == MOST_LINES {
             return Err(RunFault::TooManyLines);
         }
-        self.ahead
-            .read_line(source, &mut self.line, &mut self.printed, sink)?;
-        self.obey(sink, team)?;
+        let newline = self
+            .ahead
+            .find_line(source, &mut self.line, &mut self.printed, sink)?;
+        self.obey(newline, sink, team)?;
         Ok(true)
     }
 
