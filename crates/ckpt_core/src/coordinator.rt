@@ -6,6 +6,7 @@ ghost use Rattle.ckpt_core.specs.Coordinator.{IsCall, may_want_memory, open_faul
 ghost use Rattle.ckpt_core.specs.Inside.Parts.{Answers, AreSound, IsAccepted, Stays, state_of, takes_no_memory};
 
 use crate::parts::Parts;
+use crate::triggers::Ticked;
 use ckpt_hash::Secret;
 use ckpt_ids::{Call, Config, MOMENTS_END, NUMBERS_END, Refusal, Reply, Shape};
 use std::alloc::{AllocError, Global};
@@ -179,7 +180,10 @@ impl Parts {
         ensures memory { OnErr result (may_want_memory (state_of self.old) call.now ≡ true) }
     {
         match call {
-            Call::Tick { now } => self.tick(*now),
+            Call::Tick { now } => {
+                let Ticked { expired, end } = self.tick(*now)?;
+                Ok(Reply::Ticked { expired, end })
+            }
             Call::Savepoint { now } => self.savepoint(*now),
             Call::Ack {
                 now,

@@ -1,6 +1,7 @@
 ghost use Rattle.std.specs.Prelude.{◌≡◌, ℕ, ◌<◌, ◌^◌, ◌≤◌, ◌+◌, ◌-◌, [], length, OnOk, unwrap_or, IfOk, OnErr, true, vec_capacity};
 ghost use Rattle.ckpt_ids.specs.declared.call.Call.TheVariants as call;
 ghost use Rattle.ckpt_ids.specs.declared.reply.Answer.TheVariants as answer;
+ghost use Rattle.ckpt_ids.specs.declared.reply.Reply.TheVariants as reply;
 ghost use Rattle.ckpt_rules.specs.declared.hold.Hold.TheVariants as hold;
 ghost use Rattle.ckpt_core.specs.declared.mode.Mode.TheVariants.{Running};
 ghost use Rattle.ckpt_core.specs.Coordinator.{IsSound, answer_wants, may_want_memory};
@@ -12,6 +13,13 @@ use ckpt_ids::{CheckpointId, Choice, Kind, Reply, Shape, TickEnd};
 use ckpt_pending::Pending;
 use ckpt_rules::Hold;
 use std::alloc::AllocError;
+
+/// What a tick has done. It is smaller than a reply, which is made of it once, where it is answered.
+pub(crate) struct Ticked {
+    /// How many records expired.
+    pub(crate) expired: u32,
+    pub(crate) end: TickEnd,
+}
 
 impl Parts {
     /// The shape of the records that are triggered next.
@@ -121,10 +129,10 @@ impl Parts {
 
     /// Time has passed: what is too old expires, and a checkpoint is triggered where nothing holds
     /// it back. Only a trigger takes memory, and where there is none nothing has changed.
-    pub(crate) fn tick(&mut self, now: u64) -> Result<Reply, AllocError>
+    pub(crate) fn tick(&mut self, now: u64) -> Result<Ticked, AllocError>
         requires sound { AreSound self.old }
         requires accepted { IsAccepted self.old (call.Tick now) }
-        ensures ok { IfOk result (Answers self.old self.new (call.Tick now)) }
+        ensures ok { IfOk result (λ ticked. Answers self.old self.new (call.Tick now) (reply.Ticked ticked.expired ticked.end)) }
         ensures err { OnErr result (Stays self.old self.new) }
         ensures memory { OnErr result (may_want_memory (state_of self.old) (call.Tick now) ≡ true) }
     {
@@ -138,11 +146,11 @@ impl Parts {
     }
 
     /// What a tick does once the moment is seen.
-    fn expire(&mut self) -> Result<Reply, AllocError>
+    fn expire(&mut self) -> Result<Ticked, AllocError>
         requires sound { AreSound self.old }
         requires running { self.old.mode ≡ Running }
         requires next { self.old.next < NUMBERS_END }
-        ensures ok { IfOk result (λ reply. tick (state_of self.old) ≡ (state_of self.new, answer.Done reply)) }
+        ensures ok { IfOk result (λ ticked. tick (state_of self.old) ≡ (state_of self.new, answer.Done (reply.Ticked ticked.expired ticked.end))) }
         ensures err { OnErr result (state_of self.new ≡ state_of self.old) }
         ensures memory { OnErr result (answer_wants (call.Tick 0) (tick (state_of self.old)).1 ≡ true) }
         ensures tied { AreTied self.new }
@@ -160,7 +168,7 @@ impl Parts {
             self.fail_over();
             self.failures = failures;
             let end = TickEnd::Failed;
-            return Ok(Reply::Ticked { expired, end });
+            return Ok(Ticked { expired, end });
         }
         let pending = self.pending.checkpoints() as u32 - late;
         match self.start_or_hold(pending) {
@@ -168,7 +176,7 @@ impl Parts {
                 self.recall_groups();
                 self.drop_noted();
                 self.failures = failures;
-                Ok(Reply::Ticked { expired, end })
+                Ok(Ticked { expired, end })
             }
             Err(error) => {
                 self.ended.clear();

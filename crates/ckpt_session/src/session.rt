@@ -120,7 +120,7 @@ impl Session {
     {
         // The call is made in one place: each place where one is made has a frame of its own to clear.
         let made = match line {
-            Line::Skip => return put(text, Ok(self.silence())),
+            Line::Skip => return silence(text),
             Line::Config {
                 interval,
                 pause,
@@ -139,10 +139,10 @@ impl Session {
                     retained,
                     keep_on_cancel,
                 );
-                return put(text, self.configure(config.ok()));
+                return self.configure(text, config.ok());
             }
-            Line::Job { parallelisms } => return put(text, self.reshape(&parallelisms)),
-            Line::Start { now } => return put(text, self.start(now)),
+            Line::Job { parallelisms } => return self.reshape(text, &parallelisms),
+            Line::Start { now } => return self.start(text, now),
             Line::Tick { now } => Call::Tick { now },
             Line::Savepoint { now } => Call::Savepoint { now },
             Line::Ack {
@@ -183,52 +183,48 @@ impl Session {
                     threads,
                     first,
                 };
-                return put(text, self.call_all(&all, team));
+                return self.call_all(text, &all, team);
             }
         };
         self.call(text, made)
     }
 
-    /// The text of a line that prints nothing. Takes no memory.
-    fn silence(&self) -> String
-        ensures { string_bytes result ≡ [] }
-    {
-        String::new(self.alloc)
-    }
-
     /// Takes a configuration, unless it was outside its limits.
     #[tactic(auto, unfolding(crate::specs::Sessions::configured))]
     #[inline(never)]
-    fn configure(&mut self, config: Option<Config>) -> Result<String, AllocError>
-        ensures said { IfOk result (λ text. (self.new, string_bytes text) ≡ before_start self.old (configured self.old config)) }
+    fn configure(&mut self, text: &mut String, config: Option<Config>) -> Result<(), AllocError>
+        ensures said { OnOk result ((self.new, string_bytes text.new) ≡ before_start self.old (configured self.old config)) }
         ensures told { OnErr result ((self.new.config ≡ self.old.config) × (self.new.shape ≡ self.old.shape)) }
     {
         if self.book.is_some() {
-            return refusal_text(self.alloc, ScriptRefusal::Started);
+            return put(text, refusal_text(self.alloc, ScriptRefusal::Started));
         }
         if config.is_none() {
-            return refusal_text(self.alloc, ScriptRefusal::BadConfig);
+            return put(text, refusal_text(self.alloc, ScriptRefusal::BadConfig));
         }
         self.config = config;
-        Ok(self.silence())
+        silence(text)
     }
 
     /// Takes a shape.
     #[tactic(auto, unfolding(crate::specs::Sessions::shaped))]
     #[inline(never)]
-    fn reshape(&mut self, parallelisms: &Numbers) -> Result<String, AllocError>
-        ensures said { IfOk result (λ text. (self.new, string_bytes text) ≡ before_start self.old (shaped self.old parallelisms.now)) }
+    fn reshape(&mut self, text: &mut String, parallelisms: &Numbers) -> Result<(), AllocError>
+        ensures said { OnOk result ((self.new, string_bytes text.new) ≡ before_start self.old (shaped self.old parallelisms.now)) }
         ensures told { OnErr result ((self.new.config ≡ self.old.config) × (self.new.shape ≡ self.old.shape)) }
     {
         if self.book.is_some() {
-            return refusal_text(self.alloc, ScriptRefusal::Started);
+            return put(text, refusal_text(self.alloc, ScriptRefusal::Started));
         }
         match Shape::new(self.alloc, parallelisms.as_slice()) {
             Ok(shape) => {
                 self.shape = Some(shape);
-                Ok(self.silence())
+                silence(text)
             }
-            Err(ShapeFault::BadShape) => refusal_text(self.alloc, ScriptRefusal::BadShape),
+            Err(ShapeFault::BadShape) => put(
+                text,
+                refusal_text(self.alloc, ScriptRefusal::BadShape),
+            ),
             Err(ShapeFault::Memory) => Err(AllocError),
         }
     }
@@ -236,40 +232,48 @@ impl Session {
     /// Opens the book.
     #[tactic(auto, unfolding(crate::specs::Sessions::started))]
     #[inline(never)]
-    fn start(&mut self, now: u64) -> Result<String, AllocError>
-        ensures said { IfOk result (λ text. (self.new, string_bytes text) ≡ before_start self.old (started self.old now self.old.config self.old.shape)) }
+    fn start(&mut self, text: &mut String, now: u64) -> Result<(), AllocError>
+        ensures said { OnOk result ((self.new, string_bytes text.new) ≡ before_start self.old (started self.old now self.old.config self.old.shape)) }
         ensures told { OnErr result ((self.new.config ≡ self.old.config) × (self.new.shape ≡ self.old.shape)) }
     {
         if self.book.is_some() {
-            return refusal_text(self.alloc, ScriptRefusal::Started);
+            return put(text, refusal_text(self.alloc, ScriptRefusal::Started));
         }
         let (Some(config), Some(shape)) = (self.config, &self.shape) else {
-            return refusal_text(self.alloc, ScriptRefusal::NotReady);
+            return put(text, refusal_text(self.alloc, ScriptRefusal::NotReady));
         };
         match open(self.alloc, config, shape.copy()?, now, self.secret) {
             Ok(book) => {
                 self.book = Some(book);
-                Ok(self.silence())
+                silence(text)
             }
-            Err(_) => refusal_text(self.alloc, ScriptRefusal::MomentTooLarge),
+            Err(_) => put(
+                text,
+                refusal_text(self.alloc, ScriptRefusal::MomentTooLarge),
+            ),
         }
     }
 
     /// Makes a call with the seat of the lines.
     #[tactic(auto, unfolding(crate::specs::Sessions::called))]
+    #[inline(always)]
     fn call(&mut self, text: &mut String, made: Call) -> Result<(), AllocError>
         ensures said { OnOk result ((self.new, string_bytes text.new) ≡ called self.old self.old.core made) }
         ensures told { OnErr result ((self.new.config ≡ self.old.config) × (self.new.shape ≡ self.old.shape)) }
     {
         match &mut self.book {
             None => put(text, refusal_text(self.alloc, ScriptRefusal::NotStarted)),
-            Some(book) => match call(book, made) {
-                Ok(answer) => {
-                    text.clear();
-                    write_answer(self.alloc, text, &answer)
+            Some(book) => {
+                // the answer is told where it lies
+                let given = call(book, made);
+                match &given {
+                    Ok(answer) => {
+                        text.clear();
+                        write_answer(self.alloc, text, answer)
+                    }
+                    Err(_) => Err(AllocError),
                 }
-                Err(_) => Err(AllocError),
-            },
+            }
         }
     }
 
@@ -302,17 +306,32 @@ impl Session {
     /// Makes the calls of an `all` line.
     #[tactic(auto, unfolding(crate::specs::Sessions::all_called))]
     #[inline(never)]
-    fn call_all<T: Team>(&mut self, line: &AllLine, team: &mut T) -> Result<String, AllocError>
-        ensures said { IfOk result (λ text. (self.new, string_bytes text) ≡ all_called self.old self.old.core line.now) }
+    fn call_all<T: Team>(
+        &mut self,
+        text: &mut String,
+        line: &AllLine,
+        team: &mut T,
+    ) -> Result<(), AllocError>
+        ensures said { OnOk result ((self.new, string_bytes text.new) ≡ all_called self.old self.old.core line.now) }
         ensures told { OnErr result ((self.new.config ≡ self.old.config) × (self.new.shape ≡ self.old.shape)) }
     {
         let Some(book) = self.book.take() else {
-            return refusal_text(self.alloc, ScriptRefusal::NotStarted);
+            return put(text, refusal_text(self.alloc, ScriptRefusal::NotStarted));
         };
-        let (book, text) = line.obey(self.alloc, book, team)?;
+        let (book, told) = line.obey(self.alloc, book, team)?;
         self.book = Some(book);
-        Ok(text)
+        *text = told;
+        Ok(())
     }
+}
+
+/// What a line prints that prints nothing. Takes no memory.
+fn silence(text: &mut String) -> Result<(), AllocError>
+    ensures text { string_bytes text.new ≡ [] }
+    ensures ok { is_err result ≡ false }
+{
+    text.clear();
+    Ok(())
 }
 
 /// Puts what was made into the text, in place of what it held.

@@ -3,6 +3,7 @@ use Rattle.ckpt_core.specs.Soundness.{IsSound}
 use Rattle.std.proofs.Common.{sym, subst}
 use Rattle.std.proofs.lemmas.Result.{IfOk-weaker, on_err_weaker}
 use Rattle.ckpt_ids.specs.declared.call.Call.TheVariants.{Tick}
+use Rattle.ckpt_ids.specs.declared.reply.Reply.TheVariants.{Ticked}
 use Rattle.ckpt_core.specs.State.{State}
 use Rattle.ckpt_core.proofs.Answering.Accepted.{accepted_tick}
 use Rattle.ckpt_core.proofs.Soundness.Drops.{moment_is_sound}
@@ -31,7 +32,7 @@ pub returns-else-is_err-clause-ok : goal.returns-else-is_err-clause-ok
 returns-else-is_err-clause-ok c =
     let p = c.args.self.now in
     let after = c.expire-ticked.ensures in
-    IfOk-weaker c.expire-ticked.result _ (Answers p c.expire-ticked.new.self (Tick c.args.now)) (λ reply ok. tick_answers p c.expire-ticked.new.self c.args.now c.see.new.self reply c.requires.accepted c.see.ensures ok after.tied after.none_ended) after.ok
+    IfOk-weaker c.expire-ticked.result _ (λ ticked. Answers p c.expire-ticked.new.self (Tick c.args.now) (Ticked ticked.expired ticked.end)) (λ ticked ok. tick_answers p c.expire-ticked.new.self c.args.now c.see.new.self (Ticked ticked.expired ticked.end) c.requires.accepted c.see.ensures ok after.tied after.none_ended) after.ok
 
 pub returns-then-is_err-clause-err : goal.returns-then-is_err-clause-err
 returns-then-is_err-clause-err c =
