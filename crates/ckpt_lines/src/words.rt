@@ -8,8 +8,10 @@ ghost use Rattle.ckpt_lines.specs.Words.{begins_with_space, first_length, is_spa
 use crate::fault::LineFault;
 use crate::values::{FileWord, file_word, is_fresh, with_digit};
 use ckpt_ids::FileId;
-use memchr::arch::all::memchr::One;
 use std::marker::Model;
+
+/// How many bytes are counted in one byte: sixteen such counts go side by side in a register.
+const FEW: usize = 255;
 
 /// The words of a line that are still to be read. One or more spaces stand between two words.
 #[derive(Drop)]
@@ -36,6 +38,15 @@ fn without_spaces(text: &[u8]) -> &[u8]
         rest = after;
     }
     rest
+}
+
+/// How often this byte stands in at most [`FEW`] bytes.
+fn count_of_few(few: &[u8], byte: u8) -> u8 {
+    let mut count: u8 = 0;
+    for each in few {
+        count = count.wrapping_add(u8::from(*each == byte));
+    }
+    count
 }
 
 /// How many bytes stand before the first space, all where there is none.
@@ -82,7 +93,11 @@ impl<'a> Words<'a> {
 
     /// How often this byte stands in what is left.
     pub(crate) fn occurrences(&self, byte: u8) -> usize {
-        One::new(byte).count(self.rest)
+        let mut count: usize = 0;
+        for few in self.rest.chunks(FEW) {
+            count = count.wrapping_add(usize::from(count_of_few(few, byte)));
+        }
+        count
     }
 
     /// The next word as a number. Its bytes are read once, not first for its end and then for what it spells.
