@@ -22,7 +22,11 @@ of_seat seat xs = map (λ x. x.1) (filter (λ x. x.0 == seat) xs)
 abbrev pub SameBySeat : {X : Type 0} → List (ℕ × X) → List (ℕ × X) → Type 0
 SameBySeat given made = (seat : ℕ) → of_seat seat given ≡ of_seat seat made
 
-abbrev pub calls_of : List (ℕ × Call) → List Call
+-- calls, each with the seat that makes it
+abbrev pub SeatedCalls : Type 0
+SeatedCalls = List (ℕ × Call)
+
+abbrev pub calls_of : SeatedCalls → List Call
 calls_of seated = map (λ x. x.1) seated
 
 -- one subtask, and the one new file that it acknowledges with
@@ -66,7 +70,7 @@ pub record SameOutcome (m : State) (given made : List Call) : Type 0 where
 -- Acknowledgements at one moment, of different missing subtasks of one pending record, each with one new file, no two files the
 -- same: in whatever order the seats take their turns, as long as each makes its own calls in the order given.
 -- Source: Carbone et al. 2015: the order in which the tasks acknowledge does not matter.
-abbrev pub AnyOrder : State → ℕ → ℕ → Record → List NewFile → List (ℕ × Call) → List (ℕ × Call) → Type 0
+abbrev pub AnyOrder : State → ℕ → ℕ → Record → List NewFile → SeatedCalls → SeatedCalls → Type 0
 AnyOrder m now id r news given made =
     pending_of m.records id ≡ Some r
     → AreMissing r news

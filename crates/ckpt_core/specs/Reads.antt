@@ -1,5 +1,5 @@
 -- What a coordinator tells without a call.
-use Rattle.std.specs.Prelude.{◌≡◌, ℕ, ◌+◌, ◌<◌, ◌≤◌, max, Bool, true, false, nat_lt, nat_le, if◌then◌else◌, Option, Some, None}
+use Rattle.std.specs.Prelude.{◌≡◌, ℕ, ◌<◌, ◌≤◌, max, Bool, true, false, nat_lt, nat_le, if◌then◌else◌, Option, Some, None}
 use Rattle.std.specs.List.{list_any}
 use Rattle.ckpt_ids.specs.declared.call.Call.TheVariants.{Tick}
 use Rattle.ckpt_ids.specs.declared.reply.TickEnd.{TickEnd}

@@ -5,7 +5,7 @@ ghost use Rattle.ckpt_ids.specs.declared.numbers.Kind.TheVariants as kind;
 ghost use Rattle.ckpt_core.specs.Inside.Completing.{IsMissing, superseded, surplus};
 ghost use Rattle.ckpt_core.specs.Inside.FileFacts.{is_known, is_present};
 ghost use Rattle.ckpt_core.specs.Inside.Moving.{checkpoint_completed, completion, savepoint_completed, with_checkpoint};
-ghost use Rattle.ckpt_core.specs.Inside.Parts.{Answers, AreSound, IsAccepted, Stays, present_in};
+ghost use Rattle.ckpt_core.specs.Inside.Parts.{Answers, AreInUseAlone, AreSound, IsAccepted, Stays, present_in};
 ghost use Rattle.ckpt_core.specs.Inside.RecordFacts.{IsAbove, Record, has_savepoint};
 
 use crate::parts::Parts;
@@ -56,7 +56,7 @@ impl Parts {
         requires savepoint { done.kind ≡ kind.Savepoint }
         requires new { has_savepoint self.old.store done.id ≡ false }
         requires few { length self.old.store.savepoints + 1 < 2 ^ 32 }
-        requires unknown { (f : ℕ) → is_present self.old.registry f ≡ true → is_known self.old.outbox f ≡ false }
+        requires unknown { AreInUseAlone self.old }
         requires spare { present_in self.old.registry ≤ self.old.outbox.spare }
         requires none_ended { self.old.ended.items ≡ [] }
         ensures parts { self.new ≡ savepoint_completed self.old done self.new }
@@ -79,7 +79,7 @@ impl Parts {
         requires room { 1 ≤ self.old.store.spare }
         requires checkpoint { done.kind ≡ kind.Checkpoint }
         requires above { IsAbove self.old.store.checkpoints done.id }
-        requires unknown { (f : ℕ) → is_present self.old.registry f ≡ true → is_known self.old.outbox f ≡ false }
+        requires unknown { AreInUseAlone self.old }
         requires spare { present_in self.old.registry ≤ self.old.outbox.spare }
         requires none_ended { self.old.ended.items ≡ [] }
         requires places { length self.old.pending + 1 ≤ vec_capacity self.old.ended }

@@ -1,7 +1,7 @@
 ghost use Rattle.std.specs.Prelude.{◌≡◌, ◌-◌, ◌≤◌, ◌++◌, ◌||◌, ◌==◌, ◌≢◌, ◌+◌, ℕ, [], true, false, find, length, map, Some, IsSome, vec_capacity, vec_len};
 ghost use Rattle.ckpt_core.specs.Inside.FileFacts.{after_end, is_known, is_present, released, without};
 ghost use Rattle.ckpt_core.specs.Inside.Moving.{releasing, without_checkpoints};
-ghost use Rattle.ckpt_core.specs.Inside.Parts.{AreSound, AreTied, Drops, is_noted, present_in, records_in};
+ghost use Rattle.ckpt_core.specs.Inside.Parts.{AreInUseAlone, AreSound, AreTied, Drops, NotesPendingOnly, is_noted, present_in, records_in};
 ghost use Rattle.ckpt_core.specs.Inside.RecordFacts.{IsIn, IsInOrder, IsPending, IsStored, Record, has_savepoint, id_before, is_done_checkpoint, is_pending};
 
 use crate::parts::Parts;
@@ -21,7 +21,7 @@ impl Parts {
     /// Releases the uses of the records whose numbers were noted, hands out the files that no
     /// record uses any more, and answers how many these are. Takes no memory.
     pub(crate) fn hand_out(&mut self) -> u64
-        requires unknown { (f : ℕ) → is_present self.old.registry f ≡ true → is_known self.old.outbox f ≡ false }
+        requires unknown { AreInUseAlone self.old }
         requires room { present_in self.old.registry ≤ self.old.outbox.spare }
         ensures parts { self.new ≡ releasing self.old (without self.old.ended.items self.old.registry) self.new }
         ensures cleared { self.new.ended.items ≡ [] }
@@ -37,7 +37,7 @@ impl Parts {
 
     /// The same, where the record `id` ends too and gives up its pins.
     pub(crate) fn hand_out_after(&mut self, id: CheckpointId) -> u64
-        requires unknown { (f : ℕ) → is_present self.old.registry f ≡ true → is_known self.old.outbox f ≡ false }
+        requires unknown { AreInUseAlone self.old }
         requires room { present_in self.old.registry ≤ self.old.outbox.spare }
         ensures parts { self.new ≡ releasing self.old (after_end id self.old.ended.items self.old.registry) self.new }
         ensures cleared { self.new.ended.items ≡ [] }
@@ -56,8 +56,8 @@ impl Parts {
     pub(crate) fn drop_noted(&mut self) -> u64
         requires tied { AreTied self.old }
         requires in_order { IsInOrder id_before (records_in self.old) }
-        requires unknown { (f : ℕ) → is_present self.old.registry f ≡ true → is_known self.old.outbox f ≡ false }
-        requires pending_only { (r : Record) → IsIn r (self.old.store.checkpoints ++ self.old.store.savepoints) → is_noted self.old.ended.items r ≡ false }
+        requires unknown { AreInUseAlone self.old }
+        requires pending_only { NotesPendingOnly self.old }
         ensures { Drops self.old self.new (is_noted self.old.ended.items) result }
     {
         // Most ticks drop nothing.

@@ -7,7 +7,7 @@ ghost use Rattle.ckpt_core.specs.State.{State, Opening, opened};
 ghost use Rattle.ckpt_core.specs.Histories.{replay};
 ghost use Rattle.ckpt_core.specs.Soundness.{IsSound};
 ghost use Rattle.ckpt_core.specs.Laws.{Exchange, Part, CanOpen, AreCalls, Balance, Handed, Accounted, UsedNoMore, Outbox, Acknowledgements, Numbers, Savepoints, ChoiceIsLive, PinsStay};
-ghost use Rattle.ckpt_core.specs.Interleavings.{NewFile, AnyOrder};
+ghost use Rattle.ckpt_core.specs.Interleavings.{NewFile, SeatedCalls, AnyOrder};
 
 /// Two acknowledgements of different subtasks of one record, one right after the other, go in
 /// either order, with the same answers in turn and the same state after.
@@ -20,7 +20,7 @@ pub fn swap()
 /// state, as many are accepted and as many refused, and the one that completes the record, if any,
 /// is answered the same.
 pub fn any_order()
-    ensures { (m : State) (now id : ℕ) (r : Record) (news : List NewFile) (given made : List (ℕ × Call)) → IsSound m → AnyOrder m now id r news given made }
+    ensures { (m : State) (now id : ℕ) (r : Record) (news : List NewFile) (given made : SeatedCalls) → IsSound m → AnyOrder m now id r news given made }
 {}
 
 /// Each time that a file is registered it is handed out once, or is present still.

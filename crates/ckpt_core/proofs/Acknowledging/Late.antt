@@ -1,6 +1,6 @@
 -- What an acknowledgement does that comes after its record has ended.
 use Rattle.std.proofs.Common.{◌≡◌, ℕ, ◌≤◌, ◌<◌, max, true, false, not, ◌||◌, List, ◌++◌, length, sym, ap, subst, ◌∙◌, arith, Option, None}
-use Rattle.std.specs.Prelude.{count_by, OnErr, Result, Ok, Err}
+use Rattle.std.specs.Prelude.{count_by}
 use Rattle.std.specs.List.{filter}
 use Rattle.std.proofs.lemmas.Bool.{not-true, or_parts, lt-ltb}
 use Rattle.std.proofs.lemmas.List.Sums.{length-filter}

@@ -1,19 +1,18 @@
 -- What an accepted call leaves of the parts, and that what fails for want of memory may want some.
-use Rattle.std.proofs.Common.{◌≡◌, ℕ, Bool, true, List, ◌∷◌, refl, sym, ap, subst, ◌∙◌, Option, Some, None}
+use Rattle.std.proofs.Common.{◌≡◌, ℕ, Bool, true, List, refl, sym, ap, subst, ◌∙◌, Option, Some, None}
 use Rattle.std.specs.Prelude.{Result, Ok, Err, IfOk, OnErr}
 use Rattle.ckpt_ids.specs.declared.call.Call.{Call}
 use Rattle.ckpt_ids.specs.declared.call.Call.TheVariants.{Savepoint, Restore, Take, Show}
 use Rattle.ckpt_ids.specs.declared.call.Target.{Target}
 use Rattle.ckpt_ids.specs.declared.reply.Reply.{Reply}
-use Rattle.ckpt_ids.specs.declared.reply.Refusal.{Refusal}
 use Rattle.ckpt_ids.specs.Records.{Record}
 use Rattle.ckpt_core.specs.declared.parts.Parts.{Parts}
 use Rattle.ckpt_core.specs.Memory.{answer_wants, may_want_memory}
 use Rattle.ckpt_core.specs.Inside.Parts.{AreSound, Answers, Stays, state_of}
-use Rattle.ckpt_core.specs.Refusals.{first_some, moment_of, no_record, refusal}
+use Rattle.ckpt_core.specs.Refusals.{moment_of, no_record, refusal}
 use Rattle.ckpt_core.specs.Soundness.{IsCall, IsSound}
 use Rattle.ckpt_core.specs.State.{State, record_of}
-use Rattle.ckpt_core.specs.Steps.{Stepped, at_moment, effect, restore, show, step, take_files, unless_refused}
+use Rattle.ckpt_core.specs.Steps.{Stepped, at_moment, effect, restore, show, take_files}
 use Rattle.ckpt_core.proofs.Soundness.Calls.{step_keeps}
 use Rattle.ckpt_core.proofs.Answering.StepCases.{step_accepted}
 use Rattle.ckpt_core.proofs.Answering.RefusalRows.{first_row-none}

@@ -1,12 +1,11 @@
 -- Calls that read, and those that move a file in the outbox.
-use Rattle.std.proofs.Common.{◌≡◌, ℕ, true, List, [], ◌∷◌, ◌++◌, take, refl, sym, ap, ◌∙◌, arith, Option, Some, None}
+use Rattle.std.proofs.Common.{◌≡◌, ℕ, List, [], ◌∷◌, ◌++◌, take, refl, sym, ap, ◌∙◌, arith, Option, Some, None}
 use Rattle.std.specs.Prelude as prelude
 use Rattle.std.specs.Prelude.{find, IsSome, Result, Ok, Err, IsErr, IfOk, OnOk}
 use Rattle.std.specs.Borrow.{Bor}
 use Rattle.std.specs.Option.{option_map, option_copied}
 use Rattle.ckpt_ids.specs.declared.ack.Metadata.{Metadata}
 use Rattle.ckpt_ids.specs.declared.call.Call.TheVariants as call
-use Rattle.ckpt_ids.specs.declared.reply.Refusal.{Refusal}
 use Rattle.ckpt_ids.specs.declared.reply.Reply.TheVariants as reply
 use Rattle.ckpt_ids.specs.declared.reply.Answer.TheVariants.{Done}
 use Rattle.ckpt_ids.specs.Ordered.{IsInOrder}
@@ -16,12 +15,12 @@ use Rattle.ckpt_store.specs.Storing as storing
 use Rattle.ckpt_core.specs.declared.parts.Parts.{Parts}
 use Rattle.ckpt_core.specs.Inside.Grouped.{with_pins, grouped}
 use Rattle.ckpt_core.specs.Inside.Parts.{Answers, AreTied, AreSound, IsAccepted, records_in, state_of}
-use Rattle.ckpt_core.specs.Refusals.{refusal, first_some, no_record}
+use Rattle.ckpt_core.specs.Refusals.{refusal, no_record}
 use Rattle.ckpt_core.specs.Soundness.{id_before}
 use Rattle.ckpt_core.specs.State.{State, record_of}
 use Rattle.ckpt_core.specs.Steps.{Stepped, effect, take_files, without, show}
 use Rattle.ckpt_core.proofs.Records.Grouped.{apart-from_in_order}
-use Rattle.ckpt_core.proofs.Records.GroupLookups.{record_of-groups, first_found, find-append, first_found-some, first_found-none}
+use Rattle.ckpt_core.proofs.Records.GroupLookups.{record_of-groups, first_found, first_found-some, first_found-none}
 use Rattle.ckpt_core.proofs.Records.Lookups.{has_number}
 use Rattle.ckpt_core.proofs.Answering.StepCases.{step_accepted}
 use Rattle.ckpt_core.proofs.Answering.RefusalRows.{first_row-none}

@@ -18,8 +18,8 @@ use Rattle.ckpt_core.specs.Inside.Grouped.{with_pins, grouped}
 use Rattle.ckpt_core.specs.Inside.Parts.{AreSound, AreTied, records_in, state_of, is_known_in}
 use Rattle.ckpt_core.proofs.Answering.RefusalRows.{rows_only}
 use Rattle.ckpt_core.proofs.Records.Grouped.{AreApart, apart-from_in_order}
-use Rattle.ckpt_core.proofs.Records.Lookups.{AreGroups, has_number, pending_of-groups}
-use Rattle.ckpt_core.proofs.Records.GroupLookups.{first_found, find-append, record_of-groups, savepoints-groups, done_savepoint-groups, first_found-some, first_found-none}
+use Rattle.ckpt_core.proofs.Records.Lookups.{has_number, pending_of-groups}
+use Rattle.ckpt_core.proofs.Records.GroupLookups.{first_found, record_of-groups, savepoints-groups, done_savepoint-groups, first_found-some, first_found-none}
 use Rattle.ckpt_core.proofs.Ending.Drops.{groups_of}
 
 apart_of : (p : Parts) → AreSound p → AreApart (grouped p.registry p.pending p.store.checkpoints p.store.savepoints)

@@ -1,5 +1,5 @@
 -- A step is a refusal, or the effect of the call.
-use Rattle.std.proofs.Common.{◌≡◌, ap, Option, Some, None}
+use Rattle.std.proofs.Common.{◌≡◌, ap, Some, None}
 use Rattle.ckpt_ids.specs.declared.call.Call.{Call}
 use Rattle.ckpt_ids.specs.declared.reply.Refusal.{Refusal}
 use Rattle.ckpt_ids.specs.declared.reply.Answer.TheVariants.{Refused}

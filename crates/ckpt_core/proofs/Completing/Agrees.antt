@@ -23,7 +23,7 @@ use Rattle.ckpt_core.proofs.Acknowledging.Moves.{replaced_members, still_in_repl
 use Rattle.ckpt_core.proofs.Acknowledging.States.{IsTaking, moved, taken_records}
 use Rattle.ckpt_core.proofs.Completing.Lists.{IsFinishing, is_past, later_in, noted_pending, noted_row, noted_savepoint, or_false, others, past_count, past_is_surplus}
 use Rattle.ckpt_core.proofs.Completing.Moves.{count_completed}
-use Rattle.ckpt_core.proofs.Completing.Taken.{pinned_acked, pinned_done, taken_there, taken_apart, taken_groups, checkpoint_ending, ending_completes}
+use Rattle.ckpt_core.proofs.Completing.Taken.{taken_there, taken_apart, taken_groups, checkpoint_ending, ending_completes}
 use Rattle.ckpt_core.proofs.Records.Counts.{IsIn-from_find}
 use Rattle.ckpt_core.proofs.Records.GroupLookups.{is_checkpoint-kind, is_savepoint-kind}
 use Rattle.ckpt_core.proofs.Records.Lookups.{AreGroups, count_same, has_number}
@@ -121,7 +121,7 @@ row_is_done {p} {now} {id} {s} {fresh} {reused} {r} t checkpoint x h =
 
 -- the state that the step completes in
 abbrev pub completing_in : Parts → ℕ → Record → SubtaskId → List ℕ → List ℕ → State
-completing_in p now r s fresh reused = with_records (moved p now) (replaced (records_in p) (pinned_done p r s fresh reused))
+completing_in p now r s fresh reused = with_records (moved p now) (replaced (records_in p) (completed (with_pins p.registry r) s fresh reused))
 
 -- the numbers that are noted
 abbrev pub gone_by : Parts → ℕ → ℕ → SubtaskId → List ℕ → List ℕ → Record → List ℕ
@@ -134,7 +134,7 @@ later_same {p} {now} {id} {s} {fresh} {reused} {r} t checkpoint x =
     let row : List Record = row_of p d in
     let g : AreGroups after.pending p.store.checkpoints p.store.savepoints = taken_groups t in
     let later : Record → Bool = λ y. is_done_checkpoint y && ltb x.id y.id in
-    let all : count_by later (replaced (records_in p) (pinned_done p r s fresh reused)) ≡ count_by later (others r.id after.pending) + (count_by later row + count_by later p.store.savepoints) =
+    let all : count_by later (replaced (records_in p) (completed (with_pins p.registry r) s fresh reused)) ≡ count_by later (others r.id after.pending) + (count_by later row + count_by later p.store.savepoints) =
     count_completed (ending_completes t (checkpoint_ending t)) later (λ y fs. refl) in
     let none_pending : count_by later (others r.id after.pending) ≡ 0 = count_by-none later (others r.id after.pending) (λ y h.
     ap (λ b. (b && is_checkpoint y) && ltb x.id y.id) (g.not_done y (IsIn-from_filter (λ q. not (eqb q.id r.id)) y after.pending h).0)) in
@@ -145,13 +145,13 @@ later_same {p} {now} {id} {s} {fresh} {reused} {r} t checkpoint x =
     omega arith
 
 -- the tests agree
-pub superseded_is : {p : Parts} {now id : ℕ} {s : SubtaskId} {fresh reused : List ℕ} {r : Record} → IsTaking p now id s fresh reused r → r.kind ≡ kind.Checkpoint → (x : Record) → IsIn x (replaced (records_in p) (pinned_done p r s fresh reused)) →
-    superseded (completing_in p now r s fresh reused) (pinned_done p r s fresh reused) x ≡ is_noted (gone_by p now id s fresh reused r) x
+pub superseded_is : {p : Parts} {now id : ℕ} {s : SubtaskId} {fresh reused : List ℕ} {r : Record} → IsTaking p now id s fresh reused r → r.kind ≡ kind.Checkpoint → (x : Record) → IsIn x (replaced (records_in p) (completed (with_pins p.registry r) s fresh reused)) →
+    superseded (completing_in p now r s fresh reused) (completed (with_pins p.registry r) s fresh reused) x ≡ is_noted (gone_by p now id s fresh reused r) x
 unfolding state_of
 superseded_is {p} {now} {id} {s} {fresh} {reused} {r} t checkpoint x h =
     let m : State = completing_in p now r s fresh reused in
-    let c : Record = pinned_done p r s fresh reused in
-    let a : Record = pinned_acked p r s fresh reused in
+    let c : Record = completed (with_pins p.registry r) s fresh reused in
+    let a : Record = with_ack (with_pins p.registry r) s fresh reused in
     let d : Record = completed r s fresh reused in
     let gone : List ℕ = gone_by p now id s fresh reused r in
     let after : Parts = taken_in p now id s fresh reused in
@@ -188,10 +188,10 @@ superseded_is {p} {now} {id} {s} {fresh} {reused} {r} t checkpoint x h =
 
 -- how many they are
 pub superseded_count : {p : Parts} {now id : ℕ} {s : SubtaskId} {fresh reused : List ℕ} {r : Record} → IsTaking p now id s fresh reused r → r.kind ≡ kind.Checkpoint →
-    dropped_by (completing_in p now r s fresh reused) (superseded (completing_in p now r s fresh reused) (pinned_done p r s fresh reused)) ≡ length (gone_by p now id s fresh reused r)
+    dropped_by (completing_in p now r s fresh reused) (superseded (completing_in p now r s fresh reused) (completed (with_pins p.registry r) s fresh reused)) ≡ length (gone_by p now id s fresh reused r)
 superseded_count {p} {now} {id} {s} {fresh} {reused} {r} t checkpoint =
     let m : State = completing_in p now r s fresh reused in
-    let c : Record = pinned_done p r s fresh reused in
+    let c : Record = completed (with_pins p.registry r) s fresh reused in
     let d : Record = completed r s fresh reused in
     let gone : List ℕ = gone_by p now id s fresh reused r in
     let after : Parts = taken_in p now id s fresh reused in

@@ -26,10 +26,11 @@ use Rattle.ckpt_core.proofs.Completing.Agrees.{completing_in, finishing, gone_by
 use Rattle.ckpt_core.proofs.Completing.Calls.{IsLast, taken_out}
 use Rattle.ckpt_core.proofs.Completing.Lists.{IsFinishing, is_past, noted_row, noted_savepoint, others, retained_is}
 use Rattle.ckpt_core.proofs.Completing.Moves.{IsEnding, completed_is, kept_records, left_groups, left_records, left_uses, released_files}
-use Rattle.ckpt_core.proofs.Completing.Taken.{pinned_acked, pinned_done, checkpoint_ending, ending_completes, savepoint_ending}
+use Rattle.ckpt_core.proofs.Completing.Taken.{checkpoint_ending, ending_completes, savepoint_ending}
 use Rattle.ckpt_core.proofs.Ending.Drops.{present_after, stays, staying}
 use Rattle.ckpt_core.proofs.Records.GroupLookups.{is_checkpoint-kind, is_savepoint-kind}
 use Rattle.ckpt_ids.proofs.CountLemmas.{count_by-none}
+use Rattle.ckpt_core.specs.Inside.Grouped.{with_pins}
 use Rattle.ckpt_core.specs.Inside.Moving.{checkpoint_completed, savepoint_completed, taken_in}
 use Rattle.ckpt_core.proofs.Soundness.Completions.{completed}
 use Rattle.ckpt_core.proofs.Soundness.Acks.{with_ack}
@@ -37,15 +38,15 @@ use Rattle.ckpt_core.proofs.Soundness.Acks.{with_ack}
 -- the step, where these numbers go
 last_step : {p : Parts} {now id : ℕ} {s : SubtaskId} {fresh reused : List ℕ} {r : Record} {more_checkpoints more_savepoints : List Record} → IsTaking p now id s fresh reused r → missing r ≡ 1 →
     IsEnding (taken_in p now id s fresh reused).registry (taken_in p now id s fresh reused).pending p.store.checkpoints p.store.savepoints more_checkpoints more_savepoints (with_ack r s fresh reused) (completed r s fresh reused) →
-    (gone left : List ℕ) (records : List Record) → ((x : Record) → IsIn x (replaced (records_in p) (pinned_done p r s fresh reused)) → superseded (completing_in p now r s fresh reused) (pinned_done p r s fresh reused) x ≡ is_noted gone x) →
-    dropped_by (completing_in p now r s fresh reused) (superseded (completing_in p now r s fresh reused) (pinned_done p r s fresh reused)) ≡ length gone →
+    (gone left : List ℕ) (records : List Record) → ((x : Record) → IsIn x (replaced (records_in p) (completed (with_pins p.registry r) s fresh reused)) → superseded (completing_in p now r s fresh reused) (completed (with_pins p.registry r) s fresh reused) x ≡ is_noted gone x) →
+    dropped_by (completing_in p now r s fresh reused) (superseded (completing_in p now r s fresh reused) (completed (with_pins p.registry r) s fresh reused)) ≡ length gone →
     records ≡ left_groups (taken_in p now id s fresh reused).registry (taken_in p now id s fresh reused).pending more_checkpoints more_savepoints (completed r s fresh reused) gone →
     left ≡ released (taken_in p now id s fresh reused).registry (after_end r.id gone (taken_in p now id s fresh reused).registry) →
-    step (state_of p) (Ack now id s fresh reused) ≡ (cleared (record (moved p now) { records = records; waiting = p.outbox.waiting ++ left }) (pinned_done p r s fresh reused), Done (reply.AckCompleted (length gone) (length left)))
+    step (state_of p) (Ack now id s fresh reused) ≡ (cleared (record (moved p now) { records = records; waiting = p.outbox.waiting ++ left }) (completed (with_pins p.registry r) s fresh reused), Done (reply.AckCompleted (length gone) (length left)))
 unfolding state_of
 last_step {p} {now} {id} {s} {fresh} {reused} {r} {more_checkpoints} {more_savepoints} t last e gone left records agree count is_records is_left =
-    let a : Record = pinned_acked p r s fresh reused in
-    let c : Record = pinned_done p r s fresh reused in
+    let a : Record = with_ack (with_pins p.registry r) s fresh reused in
+    let c : Record = completed (with_pins p.registry r) s fresh reused in
     let m : State = completing_in p now r s fresh reused in
     let none : missing a ≡ 0 = omega (arith, one_less t) in
     let done = ending_completes t e in
@@ -115,7 +116,7 @@ unfolding state_of
 checkpoint_is {p} {q} {now} {id} {s} {fresh} {reused} {r} then roomier t last room checkpoint none capacity =
     let gone : List ℕ = gone_by q now id s fresh reused r in
     let after : Parts = taken_in q now id s fresh reused in
-    let c : Record = pinned_done q r s fresh reused in
+    let c : Record = completed (with_pins q.registry r) s fresh reused in
     let files : List ℕ = released after.registry (after_end r.id gone after.registry) in
     let new : Parts = checkpoint_completed (taken_out q now id s fresh reused r) (completed r s fresh reused) gone then in
     let e = checkpoint_ending t in
@@ -179,7 +180,7 @@ savepoint_is : {p q : Parts} {now id : ℕ} {s : SubtaskId} {fresh reused : List
 unfolding state_of
 savepoint_is {p} {q} {now} {id} {s} {fresh} {reused} {r} then roomier t last room savepoint none capacity =
     let after : Parts = taken_in q now id s fresh reused in
-    let c : Record = pinned_done q r s fresh reused in
+    let c : Record = completed (with_pins q.registry r) s fresh reused in
     let m : State = completing_in q now r s fresh reused in
     let files : List ℕ = released after.registry (after_end r.id [] after.registry) in
     let new : Parts = savepoint_completed (taken_out q now id s fresh reused r) (completed r s fresh reused) then in

@@ -27,7 +27,7 @@ use Rattle.ckpt_core.proofs.Acknowledging.States.{IsRoomier, IsTaking, its_numbe
 use Rattle.ckpt_core.proofs.Acknowledging.Takes.{found_acked}
 use Rattle.ckpt_core.proofs.Completing.Agrees.{its_above}
 use Rattle.ckpt_core.proofs.Completing.Lists.{fewer, others}
-use Rattle.ckpt_core.proofs.Completing.Taken.{pinned_acked, taken_there, not_done_number}
+use Rattle.ckpt_core.proofs.Completing.Taken.{taken_there, not_done_number}
 use Rattle.ckpt_core.proofs.Ending.Drops.{fails, none_known}
 use Rattle.ckpt_core.proofs.Ending.HandOut.{present-from_use}
 use Rattle.ckpt_core.proofs.Records.Lookups.{has_number, length-records_of}
@@ -97,7 +97,7 @@ taken_unknown {p} {now} {id} {s} {fresh} {reused} {r} t f h =
 -- there are few records
 taken_few : {p : Parts} {now id : ℕ} {s : SubtaskId} {fresh reused : List ℕ} {r : Record} → IsTaking p now id s fresh reused r → length (records_in (taken_in p now id s fresh reused)) ≤ 2064
 taken_few {p} {now} {id} {s} {fresh} {reused} {r} t =
-    omega (arith, ap length (taken_records t), length-map (records_in p) (with_instead (pinned_acked p r s fresh reused)), live_records p t.sound.sound)
+    omega (arith, ap length (taken_records t), length-map (records_in p) (with_instead (with_ack (with_pins p.registry r) s fresh reused)), live_records p t.sound.sound)
 
 fewer_pending : {p : Parts} {now id : ℕ} {s : SubtaskId} {fresh reused : List ℕ} {r : Record} → IsTaking p now id s fresh reused r → length (others r.id (taken_in p now id s fresh reused).pending) + 1 ≤ length (records_in (taken_in p now id s fresh reused))
 fewer_pending {p} {now} {id} {s} {fresh} {reused} {r} t =

@@ -1,16 +1,14 @@
 -- What the completion of a checkpoint makes of the parts, step by step.
-use Rattle.std.proofs.Common.{◌≡◌, ℕ, ◌+◌, ◌-◌, ◌≤◌, Bool, not, List, [], ◌∷◌, ◌++◌, length, sym, ap, ◌∙◌, arith, Some, None}
+use Rattle.std.proofs.Common.{◌≡◌, ℕ, ◌+◌, ◌≤◌, Bool, List, [], ◌∷◌, ◌++◌, length, sym, ap, ◌∙◌, arith, Some, None}
 use Rattle.std.specs.List.{filter}
 use Rattle.std.proofs.lemmas.List.{length-append, length-map}
 use Rattle.std.proofs.lemmas.List.Sums.{length-filter, count_by-le-length}
-use Rattle.ckpt_ids.specs.Records.{Record, released}
-use Rattle.ckpt_registry.specs.Uses.{after_end}
+use Rattle.ckpt_ids.specs.Records.{Record}
 use Rattle.ckpt_rules.specs.FailureCount.{FailureCount}
 use Rattle.ckpt_rules.specs.Moments.{Moments}
-use Rattle.ckpt_store.specs.Storing.{Stored, retained_of, past_retained}
+use Rattle.ckpt_store.specs.Storing.{Stored, past_retained}
 use Rattle.ckpt_core.specs.declared.parts.Parts.{Parts}
 use Rattle.ckpt_core.specs.Inside.Completing.{number_in, surplus, superseded, earlier, is_before}
-use Rattle.ckpt_core.specs.Inside.Parts.{is_noted}
 use Rattle.ckpt_core.specs.Inside.Moving.{with_checkpoint, handed_after, paused, left_pending, checkpoint_completed}
 
 pub checkpoint_parts : (p k h : Parts) (done : Record) (gone : List ℕ) (pending : List Record) (failures : FailureCount) (clock : Moments) →

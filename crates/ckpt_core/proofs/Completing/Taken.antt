@@ -4,7 +4,7 @@ use Rattle.std.proofs.lemmas.Bool.{cases_Bool}
 use Rattle.ckpt_ids.specs.declared.subtask.SubtaskId.{SubtaskId}
 use Rattle.ckpt_ids.specs.Ascending.{ascending}
 use Rattle.ckpt_ids.specs.Ordered.{IsIn, IsInOrder, put}
-use Rattle.ckpt_ids.specs.Records.{Record, uses, acknowledged}
+use Rattle.ckpt_ids.specs.Records.{Record, uses}
 use Rattle.ckpt_ids.proofs.OrderedLemmas.{IsIn-append_cases, IsIn-append_left, IsIn-append_right, IsIn-map, IsIn-put, IsIn-put_itself, IsIn-put_cases}
 use Rattle.ckpt_store.specs.Storing.{by_id}
 use Rattle.ckpt_core.specs.declared.parts.Parts.{Parts}
@@ -23,13 +23,6 @@ use Rattle.ckpt_core.proofs.Soundness.Acks.{with_ack}
 use Rattle.ckpt_core.specs.Inside.Moving.{taken_in}
 use Rattle.ckpt_core.proofs.Soundness.Completions.{completed}
 
--- the record as a pending one, and as a done one, with its pins, as the step has them
-abbrev pub pinned_acked : Parts → Record → SubtaskId → List ℕ → List ℕ → Record
-pinned_acked p r s fresh reused = with_ack (with_pins p.registry r) s fresh reused
-
-abbrev pub pinned_done : Parts → Record → SubtaskId → List ℕ → List ℕ → Record
-pinned_done p r s fresh reused = record (pinned_acked p r s fresh reused) { done = true }
-
 pub taken_there : {p : Parts} {now id : ℕ} {s : SubtaskId} {fresh reused : List ℕ} {r : Record} → IsTaking p now id s fresh reused r → IsIn (with_ack r s fresh reused) (taken_in p now id s fresh reused).pending
 taken_there {p} {now} {id} {s} {fresh} {reused} {r} t =
     (IsIn-from_find (has_number id) (with_ack r s fresh reused) (taken_in p now id s fresh reused).pending (found_acked id s (ascending (fresh ++ reused)) r p.pending t.found)).0
@@ -41,7 +34,7 @@ taken_apart {p} {now} {id} {s} {fresh} {reused} {r} t =
     let after : Parts = taken_in p now id s fresh reused in
     let P : List Record → Type 0 = λ rs. IsInOrder id_before rs in
     apart-from_in_order (grouped after.registry after.pending p.store.checkpoints p.store.savepoints)
-    (subst P (sym (taken_records t)) (replaced_in_order (records_in p) (pinned_acked p r s fresh reused) t.sound.sound.in_order))
+    (subst P (sym (taken_records t)) (replaced_in_order (records_in p) (with_ack (with_pins p.registry r) s fresh reused) t.sound.sound.in_order))
 
 pub taken_groups : {p : Parts} {now id : ℕ} {s : SubtaskId} {fresh reused : List ℕ} {r : Record} → IsTaking p now id s fresh reused r → AreGroups (taken_in p now id s fresh reused).pending p.store.checkpoints p.store.savepoints
 taken_groups {p} {now} {id} {s} {fresh} {reused} {r} t =
@@ -157,7 +150,7 @@ savepoint_ending {p} {now} {id} {s} {fresh} {reused} {r} t =
 
 pub ending_completes : {p : Parts} {now id : ℕ} {s : SubtaskId} {fresh reused : List ℕ} {r : Record} {more_checkpoints more_savepoints : List Record} → IsTaking p now id s fresh reused r →
     IsEnding (taken_in p now id s fresh reused).registry (taken_in p now id s fresh reused).pending p.store.checkpoints p.store.savepoints more_checkpoints more_savepoints (with_ack r s fresh reused) (completed r s fresh reused) →
-    IsCompleting (taken_in p now id s fresh reused).registry (taken_in p now id s fresh reused).pending p.store.checkpoints p.store.savepoints more_checkpoints more_savepoints (records_in p) (with_ack r s fresh reused) (completed r s fresh reused) (pinned_acked p r s fresh reused) (pinned_done p r s fresh reused)
+    IsCompleting (taken_in p now id s fresh reused).registry (taken_in p now id s fresh reused).pending p.store.checkpoints p.store.savepoints more_checkpoints more_savepoints (records_in p) (with_ack r s fresh reused) (completed r s fresh reused) (with_ack (with_pins p.registry r) s fresh reused) (completed (with_pins p.registry r) s fresh reused)
 ending_completes {p} {now} {id} {s} {fresh} {reused} {r} {more_checkpoints} {more_savepoints} t e = record {
   ending = e;
   same = refl;

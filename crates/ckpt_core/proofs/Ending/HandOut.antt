@@ -1,14 +1,12 @@
 -- Released files can be put into the outbox: room that was kept for the files in use is room for them, none stands twice, and none is known to it.
-use Rattle.std.proofs.Common.{◌≡◌, ℕ, ◌≤◌, Bool, true, false, not, eqb, List, [], ◌∷◌, map, length, ltb, refl, sym, ap, subst, ◌∙◌, inl, inr, arith}
-use Rattle.std.proofs.lemmas.Bool.{lt-ltb, eq-eqb, cases_Bool}
+use Rattle.std.proofs.Common.{◌≡◌, ℕ, ◌≤◌, Bool, true, false, not, eqb, List, [], map, length, ltb, refl, sym, ap, subst, ◌∙◌, arith}
+use Rattle.std.proofs.lemmas.Bool.{lt-ltb, eq-eqb}
 use Rattle.std.proofs.lemmas.List.Sums.{length-filter, count_by-le-length}
 use Rattle.ckpt_ids.specs.Ordered.{IsIn, AreDistinct}
 use Rattle.ckpt_ids.specs.Ascending.{ascending_set}
 use Rattle.ckpt_ids.specs.Records.{Use, count, is_present, released}
-use Rattle.ckpt_outbox.specs.Queues as queues
 use Rattle.ckpt_outbox.specs.Queues.{Queues, is_in, is_known}
 use Rattle.ckpt_core.specs.Inside.Parts.{present_in}
-use Rattle.ckpt_core.specs.Soundness as soundness
 use Rattle.ckpt_core.proofs.Ending.Released.{ascending-released, before-from_released, IsIn-from_test}
 use Rattle.ckpt_ids.proofs.CountLemmas.{counted-from_IsIn}
 use Rattle.ckpt_ids.proofs.OrderedLemmas.{AreDistinct-from_order, IsIn-from_in_order_once, IsIn-from_map}

@@ -29,10 +29,10 @@ use Rattle.ckpt_core.specs.declared.mode.Mode.TheVariants.{Running, Failed, Canc
 use Rattle.ckpt_core.specs.declared.parts.Parts.{Parts}
 use Rattle.ckpt_core.specs.Inside.Grouped.{with_pins, grouped}
 use Rattle.ckpt_core.specs.Inside.Parts.{Answers, AreTied, AreSound, Drops, IsAccepted, records_in, state_of}
-use Rattle.ckpt_core.specs.Refusals.{refusal, moment_of, pending_of, is_done_savepoint}
+use Rattle.ckpt_core.specs.Refusals.{refusal, pending_of, is_done_savepoint}
 use Rattle.ckpt_core.specs.Soundness.{IsSound, id_before}
 use Rattle.ckpt_core.specs.State.{State, choice_of, choice_from, last_checkpoint, drop, kept, released_by, unpinned, is_pending, is_checkpoint}
-use Rattle.ckpt_core.specs.Steps.{Stepped, step, effect, at_moment, unless_refused, decline, decline_pending, dispose, dropping, failed_over, restarted, restore, rolled_back, with_base, cancel, cancelled, dropped_by}
+use Rattle.ckpt_core.specs.Steps.{Stepped, effect, decline, decline_pending, dispose, dropping, failed_over, restarted, restore, rolled_back, with_base, cancel, cancelled, dropped_by}
 use Rattle.ckpt_core.proofs.Records.Counts.{IsIn-from_find}
 use Rattle.ckpt_core.proofs.Ending.Drops.{apart_in}
 use Rattle.ckpt_core.proofs.Records.Grouped.{apart-from_in_order}

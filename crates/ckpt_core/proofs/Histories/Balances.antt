@@ -1,10 +1,10 @@
 -- What a change of the records registers, hands out and leaves present, file by file.
-use Rattle.std.proofs.Common.{◌≡◌, ℕ, zero, suc, ◌+◌, ◌<◌, ◌≤◌, true, false, eqb, List, [], ◌∷◌, ◌++◌, length, drop, refl, sym, ap, subst, ◌∙◌, ◌⊎◌, inl, inr, ⊎_elim, arith}
+use Rattle.std.proofs.Common.{◌≡◌, ℕ, zero, suc, ◌+◌, ◌≤◌, true, false, eqb, List, [], ◌∷◌, ◌++◌, length, drop, refl, sym, ap, subst, ◌∙◌, ◌⊎◌, inl, inr, ⊎_elim, arith}
 use Rattle.std.proofs.lemmas.Bool.{cases_Bool, both_ways, eqb-true, eq-eqb, ne_eqb}
 use Rattle.ckpt_ids.specs.Ordered.{IsIn, AreDistinct}
 use Rattle.ckpt_ids.specs.Records.{Record, uses, is_present, released}
 use Rattle.ckpt_core.specs.Laws.{one_if}
-use Rattle.ckpt_ids.proofs.CountLemmas.{count_by-append, count_by_yes, count_by_no, counted-from_IsIn, IsIn-from_counted, times-from_IsIn, IsIn-from_times, times-append}
+use Rattle.ckpt_ids.proofs.CountLemmas.{count_by_yes, count_by_no}
 use Rattle.ckpt_core.proofs.Using.Present.{IsHeld, IsHeld-from_present, present-from_IsHeld, not_held, absent-from_not_held}
 use Rattle.ckpt_core.proofs.Ending.Released.{ascending-released, after-from_released, held-from_released, released-from_held}
 use Rattle.ckpt_ids.specs.Counting.{times}

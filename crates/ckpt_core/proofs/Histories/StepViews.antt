@@ -4,12 +4,11 @@ use Rattle.std.specs.Prelude.{Option, Some, None}
 use Rattle.std.proofs.lemmas.Bool.{and_parts, cond_both, eqb-true}
 use Rattle.ckpt_ids.specs.declared.call.Call.{Call}
 use Rattle.ckpt_ids.specs.declared.reply.Refusal.{Refusal}
-use Rattle.ckpt_ids.specs.declared.reply.Answer.TheVariants.{Refused}
 use Rattle.ckpt_ids.specs.Ascending.{ascending}
 use Rattle.ckpt_ids.specs.Records.{Record, missing}
 use Rattle.ckpt_core.specs.State.{State, is_pending}
-use Rattle.ckpt_core.specs.Refusals.{refusal, moment_of, pending_of}
-use Rattle.ckpt_core.specs.Steps.{Stepped, replaced, with_records, completed_with, acknowledged_in, ack, effect, at_moment, unless_refused, step}
+use Rattle.ckpt_core.specs.Refusals.{refusal, pending_of}
+use Rattle.ckpt_core.specs.Steps.{Stepped, replaced, with_records, completed_with, acknowledged_in, ack, effect, unless_refused, step}
 use Rattle.ckpt_core.specs.Soundness.{IsSound}
 use Rattle.ckpt_core.specs.Laws.{Part, ack_of, is_ack_taken}
 use Rattle.ckpt_core.proofs.Records.Counts.{IsIn-from_find}

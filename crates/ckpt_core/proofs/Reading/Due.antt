@@ -1,5 +1,5 @@
 -- When a tick may trigger, as far as the interval and the pause tell.
-use Rattle.std.proofs.Common.{◌≡◌, ℕ, ◌+◌, ◌<◌, ◌≤◌, max, Bool, true, false, ◌&&◌, cond, ltb, leb, refl, sym, ap, subst, ◌∙◌, ◌⊎◌, ⊎_elim, arith, Option, Some, None}
+use Rattle.std.proofs.Common.{◌≡◌, ℕ, ◌+◌, ◌<◌, ◌≤◌, max, Bool, false, ◌&&◌, cond, ltb, leb, refl, sym, subst, ⊎_elim, arith, Option, Some, None}
 use Rattle.std.specs.Prelude.{count_by, ⊤}
 use Rattle.std.proofs.lemmas.Bool.{cond_both, ltb-true, ltb-false}
 use Rattle.ckpt_ids.specs.declared.call.Call.TheVariants.{Tick}

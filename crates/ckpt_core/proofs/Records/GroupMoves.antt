@@ -8,7 +8,7 @@ use Rattle.std.proofs.lemmas.Bool.{cases_Bool, both_ways, eqb-true, eq-eqb, ne_e
 use Rattle.ckpt_ids.specs.Ascending.{IsAscendingSet}
 use Rattle.ckpt_ids.specs.Ordered.{IsIn, IsInOrder, in_order, in_order_once}
 use Rattle.ckpt_ids.specs.Records.{Record, Use, Subtask, Pin, use_before, uses, uses_of}
-use Rattle.ckpt_ids.proofs.OrderedLemmas.{IsIn-append_left, IsIn-map, IsIn-from_filter, IsInOrder-append, filter-all, filter-same}
+use Rattle.ckpt_ids.proofs.OrderedLemmas.{IsIn-append_left, IsIn-map, IsIn-from_filter, IsInOrder-append}
 use Rattle.ckpt_core.specs.Soundness.{id_before}
 use Rattle.ckpt_core.specs.Inside.Grouped.{is_pin, pins, pins_of, with_pins, grouped, records_of}
 use Rattle.ckpt_core.proofs.Records.Counts.{map_same}

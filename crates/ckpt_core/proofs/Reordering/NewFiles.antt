@@ -14,7 +14,7 @@ use Rattle.ckpt_ids.specs.Shapes.{subtasks, is_subtask}
 use Rattle.ckpt_pending.proofs.SubtaskLemmas.{IsIn-subtasks}
 use Rattle.ckpt_core.specs.State.{State, is_pending, is_known, in_outbox}
 use Rattle.ckpt_core.specs.Refusals.{refusal, refuse_if, pending_of, was_not_given, is_foreign, is_repeat, named, where_pending}
-use Rattle.ckpt_core.specs.Steps.{Stepped, replaced, with_records, completed_with, acknowledged_in, unless_refused, step}
+use Rattle.ckpt_core.specs.Steps.{Stepped, replaced, with_records, step}
 use Rattle.ckpt_core.specs.Soundness.{IsSound}
 use Rattle.ckpt_core.specs.Laws.{is_ack_pending, is_ack_taken, Part}
 use Rattle.ckpt_core.specs.Interleavings.{NewFile, ack_with, is_completing}

@@ -1,5 +1,5 @@
 -- The files that the registry has of the record that is chosen are those that a triggered record pins.
-use Rattle.std.proofs.Common.{◌≡◌, ℕ, ◌<◌, Bool, true, false, not, ◌&&◌, cond, eqb, List, [], ◌∷◌, ◌++◌, map, refl, sym, ap, subst, ◌∙◌, inl, inr, ⊎_elim, arith, Option, Some, None}
+use Rattle.std.proofs.Common.{◌≡◌, ℕ, ◌<◌, Bool, true, false, not, eqb, List, [], ◌∷◌, map, sym, ap, subst, ◌∙◌, ⊎_elim, arith, Some}
 use Rattle.std.specs.List.{filter, find, flat_map}
 use Rattle.std.proofs.lemmas.Bool.{cases_Bool, cond-true, cond-false, eqb-true, ltb-true, ne_eqb}
 use Rattle.std.proofs.lemmas.Option.{none-some, same_Some}

@@ -11,9 +11,9 @@ use Rattle.std.proofs.lemmas.Bool.{cases_Bool, ne_eqb, eq-eqb, not_from_false, n
 use Rattle.ckpt_ids.specs.declared.numbers.Kind.{Kind}
 use Rattle.ckpt_ids.specs.declared.reply.Choice.{Choice}
 use Rattle.ckpt_ids.specs.declared.reply.Choice.TheVariants as choice
-use Rattle.ckpt_ids.specs.Ascending.{IsAscendingSet, ascending_set}
+use Rattle.ckpt_ids.specs.Ascending.{ascending_set}
 use Rattle.ckpt_ids.specs.Ordered.{IsIn, IsInOrder, in_order_once}
-use Rattle.ckpt_ids.specs.Records.{Record, Use, Pin, use_before, uses, uses_of, is_present}
+use Rattle.ckpt_ids.specs.Records.{Record, Use, Pin, use_before, uses, uses_of}
 use Rattle.ckpt_ids.proofs.OrderedLemmas.{IsIn-append_cases, IsIn-append_left, IsIn-map, IsIn-from_map, IsIn-flat_map, IsIn-from_flat_map, IsIn-in_order, IsIn-in_order_once, IsIn-from_in_order_once, IsInOrder-in_order_once, same_from_members, filter-all}
 use Rattle.ckpt_ids.proofs.AscendingLemmas.{numbers_in_order}
 use Rattle.ckpt_core.specs.declared.parts.Parts.{Parts}
@@ -26,7 +26,6 @@ use Rattle.ckpt_core.specs.Inside.Grouped.{with_pins, grouped, records_of}
 use Rattle.ckpt_core.specs.Inside.Parts.{state_of, records_in, present_in, AreTied}
 use Rattle.ckpt_ids.proofs.CountLemmas.{count_by-cons}
 use Rattle.ckpt_core.proofs.Records.Counts.{IsIn-from_find}
-use Rattle.ckpt_core.proofs.Ending.HandOut.{present-from_use}
 use Rattle.ckpt_core.proofs.Using.Order.{holds, from_holds, use_of_record}
 use Rattle.ckpt_core.proofs.Records.GroupMoves.{filter_none, trigger_groups, trigger_uses, uses_of-triggered}
 use Rattle.ckpt_core.proofs.Soundness.Triggers.{ascending-pins}

@@ -1,5 +1,5 @@
 -- The parts of a coordinator, seen as its state, and what ties them to one another.
-use Rattle.std.specs.Prelude.{◌≡◌, ℕ, ◌≤◌, Bool, true, false, ◌||◌, ◌==◌, List, [], map, length, unwrap_or, None, not, ◌∷◌, find, Option, Some, is_none}
+use Rattle.std.specs.Prelude.{◌≡◌, ℕ, ◌≤◌, Bool, true, false, ◌||◌, ◌==◌, List, [], ◌++◌, map, length, unwrap_or, None, not, ◌∷◌, find, Option, Some, is_none}
 use Rattle.std.specs.List.{list_any}
 use Rattle.std.specs.Vec.{vec_capacity}
 use Rattle.ckpt_ids.specs.Ascending.{ascending_set}
@@ -7,6 +7,7 @@ use Rattle.ckpt_ids.specs.declared.call.Call.{Call}
 use Rattle.ckpt_ids.specs.declared.call.Call.TheVariants.{Tick, Savepoint, Ack, Restore, Take, Show}
 use Rattle.ckpt_ids.specs.declared.reply.Reply.{Reply}
 use Rattle.ckpt_ids.specs.declared.reply.Answer.TheVariants.{Done}
+use Rattle.ckpt_ids.specs.Ordered.{IsIn}
 use Rattle.ckpt_ids.specs.Records.{Record, Use, uses, is_present}
 use Rattle.ckpt_outbox.specs.Queues.{is_known}
 use Rattle.ckpt_core.specs.declared.parts.Opened.{Opened}
@@ -67,6 +68,14 @@ pub record AreSound (p : Parts) : Type 0 where
 -- whether the number of a record was noted
 abbrev pub is_noted : List ℕ → Record → Bool
 is_noted ids r = list_any (λ i. r.id == i) ids
+
+-- no done record was noted
+abbrev pub NotesPendingOnly : Parts → Type 0
+NotesPendingOnly p = (r : Record) → IsIn r (p.store.checkpoints ++ p.store.savepoints) → is_noted p.ended.items r ≡ false
+
+-- no file in use waits for deletion or was fetched for it
+abbrev pub AreInUseAlone : Parts → Type 0
+AreInUseAlone p = (f : ℕ) → is_present p.registry f ≡ true → is_known p.outbox f ≡ false
 
 abbrev pub IsAccepted : Parts → Call → Type 0
 IsAccepted p call = refusal (state_of p) call ≡ None

@@ -1,5 +1,5 @@
 -- At each turn as many records are below the number as turns were made.
-use Rattle.std.proofs.Common.{rules, ◌≡◌, ◌∙◌, ℕ, ◌+◌, ◌<◌, ◌^◌, Option, Some, None, sym, ap, arith}
+use Rattle.std.proofs.Common.{rules, ◌≡◌, ◌∙◌, ◌+◌, ◌<◌, ◌^◌, Some, None, sym, ap, arith}
 use Rattle.std.specs.Prelude.{count_by, find}
 use Rattle.std.specs.Option.{option_map}
 use Rattle.ckpt_core.specs.declared.queries.Live.{Live}
