@@ -17,3 +17,7 @@ pub record Passes (before after : Option (List ℕ)) (waiting text left : List �
   pub written : List ℕ
   pub appended : Appends before after written
   pub in_turn : written ++ left ≡ waiting ++ text
+
+-- The same, whatever waits still.
+abbrev pub PassesFront : Option (List ℕ) → Option (List ℕ) → List ℕ → List ℕ → Type 0
+PassesFront before after waiting text = (left : List ℕ) × Passes before after waiting text left

@@ -31,3 +31,7 @@ left_by ahead (Some newline) = record { bytes = drop (newline + 1) ahead.bytes; 
 abbrev pub line_at : Unread → List ℕ → Option ℕ → List ℕ
 line_at ahead line None = line
 line_at ahead line (Some newline) = take held (take newline ahead.bytes)
+
+-- a line was found, in what is read ahead or by reading on
+abbrev pub FindsLine : Unread → Option (List ℕ) → Unread → Option (List ℕ) → List ℕ → Option ℕ → Type 0
+FindsLine old before new after line newline = ReadsLine old before (left_by new newline) after (line_at new line newline)

@@ -1,6 +1,8 @@
 -- What a runner keeps between two lines, and how its run ends. `left` is what the source has left, and `shown` what the sink holds.
-use Rattle.std.specs.Prelude.{ℕ, ◌+◌, List, Option, Err}
-pub use Rattle.ckpt_lines.specs.Reading.{reading}
+use Rattle.std.specs.Prelude.{ℕ, ◌+◌, List, Option, Result, Err, is_err, if◌then◌else◌}
+use Rattle.ckpt_lines.specs.declared.fault.LineFault.{LineFault}
+use Rattle.ckpt_lines.specs.declared.line.Line.{Line}
+use Rattle.ckpt_lines.specs.Reading.{reading}
 use Rattle.ckpt_session.specs.Sessions.{Said, said}
 use Rattle.ckpt_script.specs.declared.fault.RunFault.{RunFault}
 use Rattle.ckpt_script.specs.declared.runner.Runner.{Runner}
@@ -8,9 +10,17 @@ use Rattle.ckpt_script.specs.Outputs.{Ran}
 use Rattle.ckpt_script.specs.Reads.{all_left, line_at}
 use Rattle.ckpt_script.specs.Telling.{IsSoFar, Stopped}
 
--- what the next line does and prints
+-- what the next line means
+abbrev pub reading_next : Runner → Option ℕ → Result Line LineFault
+reading_next run newline = reading (line_at run.ahead run.line.items newline)
+
+-- how many lines are faulty with it
+abbrev pub faults_next : Runner → Option ℕ → ℕ
+faults_next run newline = run.summary.faults + (if is_err (reading_next run newline) then 1 else 0)
+
+-- what it does and prints
 abbrev pub said_next : Runner → Option ℕ → Said
-said_next run newline = said (run.summary.lines + 1) run.session (reading (line_at run.ahead run.line.items newline))
+said_next run newline = said (run.summary.lines + 1) run.session (reading_next run newline)
 
 -- of a text, so much has been run and shown
 abbrev pub IsAt : Runner → Option (List ℕ) → Option (List ℕ) → Option (List ℕ) → Option (List ℕ) → Type 0

@@ -1,9 +1,9 @@
 ghost use Rattle.std.specs.Prelude.{◌≡◌, ◌+◌, ◌≢◌, ◌≤◌, ◌<◌, ◌∷◌, ◌++◌, ℕ, List, true, false, [], IsTrue, ◌↔◌, IfOk, OnOk, OnErr, IfErr, length, take, Some};
 ghost use Rattle.std.specs.Io.KnownBytes.{Keeps, IsAtEnd, prepend_known};
 ghost use Rattle.ckpt_script.specs.Devices.{IsCounted, IsCaused};
-ghost use Rattle.ckpt_script.specs.Known.{Passes};
+ghost use Rattle.ckpt_script.specs.Known.{Passes, PassesFront};
 ghost use Rattle.ckpt_script.specs.Lines.{held, FindsNewline, Moves};
-ghost use Rattle.ckpt_script.specs.Reads.{IsAhead, ReadsLine, ReadsPart, left_by, line_at};
+ghost use Rattle.ckpt_script.specs.Reads.{FindsLine, IsAhead, ReadsPart, left_by};
 
 use crate::fault::RunFault;
 use crate::limits::MOST_READS;
@@ -93,7 +93,7 @@ impl Ahead {
         ensures fault { IfErr result (λ why. (why ≢ RunFault.TooManyLines) × (why ≢ RunFault.Memory)) }
         ensures unread { IfErr result (λ why. why ≡ RunFault.Read → (self.new.bytes ≡ []) × (self.old.is_ended ≡ false)) }
         ensures shown_read { IfErr result (λ why. why ≡ RunFault.Read → Passes (K.contents sink.old) (K.contents sink.new) printed.old [] printed.new) }
-        ensures cut { OnErr result ((left : List ℕ) × Passes (K.contents sink.old) (K.contents sink.new) printed.old [] left) }
+        ensures cut { OnErr result (PassesFront (K.contents sink.old) (K.contents sink.new) printed.old []) }
         ensures cause { IfErr result (IsCaused (S.asked source.new) (K.failures sink.new)) }
         ensures same_source { S.device source.new ≡ S.device source.old }
         ensures same_sink { K.device sink.new ≡ K.device sink.old }
@@ -136,45 +136,9 @@ impl Ahead {
         }
     }
 
-    /// Reads a line, up to its newline or to the end of the script. Of a line that is too long the
-    /// front is held, and the rest is dropped.
-    pub(crate) fn read_line<S: Source, K: Sink>(
-        &mut self,
-        source: &mut S,
-        line: &mut Vec<u8>,
-        printed: &mut Printed,
-        sink: &mut K,
-    ) -> Result<(), RunFault>
-        requires ended { self.old.is_ended ≡ true → IsAtEnd (S.remaining source.old) }
-        requires counted { IsCounted (S.asked source.old) self.old }
-        requires going_on { K.failures sink.old ≡ 0 }
-        ensures ended { self.new.is_ended ≡ true → IsAtEnd (S.remaining source.new) }
-        ensures line { OnOk result (ReadsLine self.old (S.remaining source.old) self.new (S.remaining source.new) line.new.items) }
-        ensures part { IfErr result (λ why. why ≡ RunFault.Read → ReadsPart self.old (S.remaining source.old) (S.remaining source.new) line.new.items) }
-        ensures stays { IfErr result (λ why. why ≡ RunFault.Read → self.old.is_ended ≡ false) }
-        ensures fault { IfErr result (λ why. why ≢ RunFault.TooManyLines) }
-        ensures counted { OnOk result (IsCounted (S.asked source.new) self.new) }
-        ensures going_on { OnOk result (K.failures sink.new ≡ 0) }
-        ensures shown { OnOk result (Passes (K.contents sink.old) (K.contents sink.new) printed.old [] printed.new) }
-        ensures shown_read { IfErr result (λ why. why ≡ RunFault.Read → Passes (K.contents sink.old) (K.contents sink.new) printed.old [] printed.new) }
-        ensures cut { OnErr result ((left : List ℕ) × Passes (K.contents sink.old) (K.contents sink.new) printed.old [] left) }
-        ensures cause { IfErr result (IsCaused (S.asked source.new) (K.failures sink.new)) }
-        ensures same_source { S.device source.new ≡ S.device source.old }
-        ensures same_sink { K.device sink.new ≡ K.device sink.old }
-    {
-        line.clear();
-        self.fill(source, printed, sink)?;
-        while !self.is_empty() {
-            if self.move_to(line)? {
-                return Ok(());
-            }
-            self.fill(source, printed, sink)?;
-        }
-        Ok(())
-    }
-
-    /// Finds the next line. Answers where its newline stands, if it lies whole in what was read;
-    /// else it is read as [`Ahead::read_line`] reads it.
+    /// Finds the next line. Answers where its newline stands, if it lies whole in what was read.
+    /// Else the line is read up to its newline or to the end of the script: its front is held, and
+    /// of one that is too long the rest is dropped.
     pub(crate) fn find_line<S: Source, K: Sink>(
         &mut self,
         source: &mut S,
@@ -186,7 +150,7 @@ impl Ahead {
         requires counted { IsCounted (S.asked source.old) self.old }
         requires going_on { K.failures sink.old ≡ 0 }
         ensures ended { self.new.is_ended ≡ true → IsAtEnd (S.remaining source.new) }
-        ensures line { IfOk result (λ newline. ReadsLine self.old (S.remaining source.old) (left_by self.new newline) (S.remaining source.new) (line_at self.new line.new.items newline)) }
+        ensures line { IfOk result (FindsLine self.old (S.remaining source.old) self.new (S.remaining source.new) line.new.items) }
         ensures ahead { IfOk result (IsAhead self.new) }
         ensures part { IfErr result (λ why. why ≡ RunFault.Read → ReadsPart self.old (S.remaining source.old) (S.remaining source.new) line.new.items) }
         ensures stays { IfErr result (λ why. why ≡ RunFault.Read → self.old.is_ended ≡ false) }
@@ -195,16 +159,24 @@ impl Ahead {
         ensures going_on { OnOk result (K.failures sink.new ≡ 0) }
         ensures shown { OnOk result (Passes (K.contents sink.old) (K.contents sink.new) printed.old [] printed.new) }
         ensures shown_read { IfErr result (λ why. why ≡ RunFault.Read → Passes (K.contents sink.old) (K.contents sink.new) printed.old [] printed.new) }
-        ensures cut { OnErr result ((left : List ℕ) × Passes (K.contents sink.old) (K.contents sink.new) printed.old [] left) }
+        ensures cut { OnErr result (PassesFront (K.contents sink.old) (K.contents sink.new) printed.old []) }
         ensures cause { IfErr result (IsCaused (S.asked source.new) (K.failures sink.new)) }
         ensures same_source { S.device source.new ≡ S.device source.old }
         ensures same_sink { K.device sink.new ≡ K.device sink.old }
     {
         let newline = self.newline();
-        if newline.is_none() {
-            self.read_line(source, line, printed, sink)?;
+        if newline.is_some() {
+            return Ok(newline);
         }
-        Ok(newline)
+        line.clear();
+        self.fill(source, printed, sink)?;
+        while !self.is_empty() {
+            if self.move_to(line)? {
+                return Ok(None);
+            }
+            self.fill(source, printed, sink)?;
+        }
+        Ok(None)
     }
 
     /// Where the newline stands that ends the next line, if all of that line was read.

@@ -1,7 +1,7 @@
 ghost use Rattle.std.specs.Prelude.{◌≡◌, ◌≢◌, ℕ, List, [], IfOk, OnOk, OnErr, IfErr};
 ghost use Rattle.std.specs.Io.KnownBytes.{Appends};
 ghost use Rattle.ckpt_script.specs.Devices.{SinkCauses};
-ghost use Rattle.ckpt_script.specs.Known.{IsCut, Passes};
+ghost use Rattle.ckpt_script.specs.Known.{IsCut, Passes, PassesFront};
 
 use crate::fault::RunFault;
 use crate::sink::Sink;
@@ -43,7 +43,7 @@ impl Printed {
     pub(crate) fn print<K: Sink>(&mut self, sink: &mut K, text: &[u8]) -> Result<(), RunFault>
         requires going_on { K.failures sink.old ≡ 0 }
         ensures ok { OnOk result (Passes (K.contents sink.old) (K.contents sink.new) self.old text.now self.new) }
-        ensures err { OnErr result ((left : List ℕ) × Passes (K.contents sink.old) (K.contents sink.new) self.old text.now left) }
+        ensures err { OnErr result (PassesFront (K.contents sink.old) (K.contents sink.new) self.old text.now) }
         ensures fault { IfErr result (λ why. (why ≢ RunFault.Read) × (why ≢ RunFault.TooManyLines)) }
         ensures going_on { OnOk result (K.failures sink.new ≡ 0) }
         ensures cause { IfErr result (SinkCauses (K.failures sink.new)) }

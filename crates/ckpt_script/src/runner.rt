@@ -1,10 +1,10 @@
-ghost use Rattle.std.specs.Prelude.{◌≡◌, ◌≢◌, ◌≤◌, ◌<◌, ◌+◌, ℕ, List, [], Ok, Err, true, false, OnOk, OnErr, IfOk, IfErr, is_err, if◌then◌else◌};
+ghost use Rattle.std.specs.Prelude.{◌≡◌, ◌≢◌, ◌≤◌, ◌<◌, ◌+◌, ℕ, List, [], Ok, Err, true, false, OnOk, OnErr, IfOk, IfErr};
 ghost use Rattle.std.specs.Io.KnownBytes.{IsAtEnd};
 ghost use Rattle.ckpt_script.specs.Devices.{Asked, IsCounted, IsCaused, SinkCauses, IsReadThrough, never_asked};
-ghost use Rattle.ckpt_script.specs.Known.{Passes};
+ghost use Rattle.ckpt_script.specs.Known.{Passes, PassesFront};
 ghost use Rattle.ckpt_script.specs.Outputs.{Ran};
-ghost use Rattle.ckpt_script.specs.Reads.{IsAhead, left_by, line_at};
-ghost use Rattle.ckpt_script.specs.Runs.{said_next, reading, GoesOn, Stops, EndsBy};
+ghost use Rattle.ckpt_script.specs.Reads.{IsAhead, left_by};
+ghost use Rattle.ckpt_script.specs.Runs.{reading_next, faults_next, said_next, GoesOn, Stops, EndsBy};
 ghost use Rattle.ckpt_script.specs.Telling.{keeps_lines};
 ghost use Rattle.ckpt_session.specs.Sessions.{opening_scene};
 
@@ -38,8 +38,8 @@ impl Runner {
     /// What the line means whose newline stands here, or the one that is held.
     fn meaning(&self, newline: Option<usize>) -> Result<Line, LineFault>
         requires { IsAhead self.now.ahead newline }
-        ensures line { IfOk result (λ read. reading (line_at self.now.ahead self.now.line.items newline) ≡ Ok read) }
-        ensures fault { IfErr result (λ why. why ≢ LineFault.Memory → reading (line_at self.now.ahead self.now.line.items newline) ≡ Err why) }
+        ensures line { IfOk result (λ read. reading_next self.now newline ≡ Ok read) }
+        ensures fault { IfErr result (λ why. why ≢ LineFault.Memory → reading_next self.now newline ≡ Err why) }
     {
         match newline {
             Some(place) => parse_line(self.alloc, self.ahead.front(place)),
@@ -60,10 +60,10 @@ impl Runner {
         requires going_on { K.failures sink.old ≡ 0 }
         ensures left { self.new.ahead ≡ left_by self.old.ahead newline }
         ensures lines { OnOk result (self.new.summary.lines ≡ self.old.summary.lines + 1) }
-        ensures faults { OnOk result (self.new.summary.faults ≡ self.old.summary.faults + (if is_err (reading (line_at self.old.ahead self.old.line.items newline)) then 1 else 0)) }
+        ensures faults { OnOk result (self.new.summary.faults ≡ faults_next self.old newline) }
         ensures scene { OnOk result (self.new.session ≡ (said_next self.old newline).0) }
         ensures shown { OnOk result (Passes (K.contents sink.old) (K.contents sink.new) self.old.printed (said_next self.old newline).1 self.new.printed) }
-        ensures cut { OnErr result ((left : List ℕ) × Passes (K.contents sink.old) (K.contents sink.new) self.old.printed (said_next self.old newline).1 left) }
+        ensures cut { OnErr result (PassesFront (K.contents sink.old) (K.contents sink.new) self.old.printed (said_next self.old newline).1) }
         ensures fault { IfErr result (λ why. (why ≢ RunFault.Read) × (why ≢ RunFault.TooManyLines)) }
         ensures going_on { OnOk result (K.failures sink.new ≡ 0) }
         ensures cause { IfErr result (SinkCauses (K.failures sink.new)) }

@@ -4,7 +4,7 @@ use Rattle.ckpt_script.specs.Lines.{Moves, HoldsLine, HoldsPart}
 use Rattle.ckpt_script.proofs.LineLemmas.{length-take_held}
 use Rattle.ckpt_script.proofs.KnownLemmas.{WhereKnown-keeps, WhereKnown-moves, WhereKnown-unread, part_goes_on, line_ends, text_ends}
 use Rattle.ckpt_script.proofs.PassesLemmas.{passes_on, on_err, if_err_is}
-use Rattle.ckpt_script.proofs.ahead.Ahead.read_line.Goals as goal
+use Rattle.ckpt_script.proofs.ahead.Ahead.find_line.Goals as goal
 
 pub returns-then-branch-clause-line : goal.returns-then-branch-clause-line
 returns-then-branch-clause-line g c =

@@ -3,7 +3,7 @@ use Rattle.std.specs.Io.KnownBytes.{IsAtEnd, prepend_known}
 use Rattle.ckpt_script.specs.Devices.{IsCounted}
 use Rattle.ckpt_script.specs.Known.{WhereKnown, Passes}
 use Rattle.ckpt_script.specs.Lines.{held, HoldsPart}
-use Rattle.ckpt_script.proofs.ahead.Ahead.read_line.Given as goal
+use Rattle.ckpt_script.proofs.ahead.Ahead.find_line.Given as goal
 
 -- a part of the line was read, and its front is held
 abbrev pub invariant-loop-self : goal.invariant-loop-self
