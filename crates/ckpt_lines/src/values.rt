@@ -36,7 +36,12 @@ pub(crate) fn with_digit(number: u64, byte: u8) -> Option<u64>
     if !byte.is_ascii_digit() {
         return None;
     }
-    number.checked_mul(10)?.checked_add(u64::from(byte - b'0'))
+    let digit = u64::from(byte - b'0');
+    // Nearly all numbers are far from being too large.
+    if number < u64::MAX / 10 {
+        return Some(number * 10 + digit);
+    }
+    number.checked_mul(10)?.checked_add(digit)
 }
 
 /// The number of a vertex, or of a subtask of one: at most 65535.
