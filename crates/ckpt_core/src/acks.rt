@@ -117,7 +117,7 @@ impl Parts {
     {
         // what the store and the pending records ensure, which ties them to the state
         let _ = self.store.base();
-        let _ = self.pending.get(id);
+        self.pending.recall();
         let files = joined(self.alloc, fresh, reused)?;
         self.pending.ack(id, subtask, files)?;
         if let Err(error) = self.registry.use_files(id, subtask, fresh, reused) {

@@ -14,12 +14,13 @@ impl Parts {
         ensures pending { (r : Record) → IsIn r self.now.pending → IsPending r }
         ensures stored { IsStored self.now.store }
     {
-        let _ = self.pending.get(CheckpointId(0));
+        self.pending.recall();
         let _ = self.store.savepoints();
     }
 
     /// Releases the uses of the records whose numbers were noted, hands out the files that no
     /// record uses any more, and answers how many these are. Takes no memory.
+    #[inline(never)]
     pub(crate) fn hand_out(&mut self) -> u64
         requires unknown { AreInUseAlone self.old }
         requires room { present_in self.old.registry ≤ self.old.outbox.spare }
@@ -53,6 +54,7 @@ impl Parts {
 
     /// Drops the pending records whose numbers were noted, and answers how many files were
     /// released. Takes no memory.
+    #[inline(always)]
     pub(crate) fn drop_noted(&mut self) -> u64
         requires tied { AreTied self.old }
         requires in_order { IsInOrder id_before (records_in self.old) }

@@ -116,7 +116,7 @@ impl Parts {
         // what the store ensures: its records are done
         let _ = self.store.base();
         // what the pending records ensure: they are not done
-        let _ = self.pending.get(CheckpointId(0));
+        self.pending.recall();
         let timeout = self.opened.config.timeout();
         let started = self.pending.least_started()?;
         Some(started + timeout)

@@ -303,7 +303,7 @@ impl Parts {
         ensures { result ≡ is_done_savepoint (state_of self.now) id }
     {
         // tells that no pending record is done
-        let _ = self.pending.get(id);
+        self.pending.recall();
         // tells that all stored records are done
         let _ = self.store.base();
         self.store.has_savepoint(id)
@@ -315,7 +315,7 @@ impl Parts {
         ensures { result ≡ savepoints (state_of self.now) }
     {
         // tells that no pending record is done
-        let _ = self.pending.get(CheckpointId(0));
+        self.pending.recall();
         self.pending.savepoints() + self.store.savepoints() as usize
     }
 }

@@ -8,12 +8,12 @@ use Rattle.ckpt_core.proofs.parts.Parts.take_ack.Goals as goal
 pub joined-requires : goal.joined-requires
 joined-requires c =
     let r = some_from _ c.requires.there in
-    (can_take c.args.self.now c.args.now c.args.id c.args.subtask c.args.fresh.now c.args.reused.now r.0 c.requires.sound c.requires.accepted c.get.ensures.pending c.base.ensures.stored r.1).few
+    (can_take c.args.self.now c.args.now c.args.id c.args.subtask c.args.fresh.now c.args.reused.now r.0 c.requires.sound c.requires.accepted c.recall.ensures.pending c.base.ensures.stored r.1).few
 
 taken : (c : goal.After-ack-arg-1) → CanTake c.args.self.now c.args.now c.args.id c.args.subtask c.args.fresh.now c.args.reused.now
 taken c =
     let r = some_from _ c.requires.there in
-    can_take c.args.self.now c.args.now c.args.id c.args.subtask c.args.fresh.now c.args.reused.now r.0 c.requires.sound c.requires.accepted c.get.ensures.pending c.base.ensures.stored r.1
+    can_take c.args.self.now c.args.now c.args.id c.args.subtask c.args.fresh.now c.args.reused.now r.0 c.requires.sound c.requires.accepted c.recall.ensures.pending c.base.ensures.stored r.1
 
 pub ack-requires-clause-expected : goal.ack-requires-clause-expected
 ack-requires-clause-expected c = (taken c).expected
@@ -21,7 +21,7 @@ ack-requires-clause-expected c = (taken c).expected
 using_files : (c : goal.After-use_files-arg-1) → CanTake c.args.self.now c.args.now c.args.id c.args.subtask c.args.fresh.now c.args.reused.now
 using_files c =
     let r = some_from _ c.requires.there in
-    can_take c.args.self.now c.args.now c.args.id c.args.subtask c.args.fresh.now c.args.reused.now r.0 c.requires.sound c.requires.accepted c.get.ensures.pending c.base.ensures.stored r.1
+    can_take c.args.self.now c.args.now c.args.id c.args.subtask c.args.fresh.now c.args.reused.now r.0 c.requires.sound c.requires.accepted c.recall.ensures.pending c.base.ensures.stored r.1
 
 pub use_files-requires-clause-fresh_absent : goal.use_files-requires-clause-fresh_absent
 use_files-requires-clause-fresh_absent c = (using_files c).fresh_absent
@@ -53,13 +53,13 @@ pub returns-in-Err-clause-err : goal.returns-in-Err-clause-err
 returns-in-Err-clause-err c =
     let r = some_from _ c.requires.there in
     let p = c.args.self.now in
-    let t : CanTake p c.args.now c.args.id c.args.subtask c.args.fresh.now c.args.reused.now = can_take p c.args.now c.args.id c.args.subtask c.args.fresh.now c.args.reused.now r.0 c.requires.sound c.requires.accepted c.get.ensures.pending c.base.ensures.stored r.1 in
+    let t : CanTake p c.args.now c.args.id c.args.subtask c.args.fresh.now c.args.reused.now = can_take p c.args.now c.args.id c.args.subtask c.args.fresh.now c.args.reused.now r.0 c.requires.sound c.requires.accepted c.recall.ensures.pending c.base.ensures.stored r.1 in
     let back : c.retract.new.self ≡ p.pending =
     c.retract.ensures ∙ ap (retracted c.args.id c.args.subtask) c.in_ok-ack.ensures.ok
-    ∙ retracted-acked c.args.id c.args.subtask c.in_ok-files.files p.pending c.get.ensures.in_order (λ q h. (t.expected q h).1) in
+    ∙ retracted-acked c.args.id c.args.subtask c.in_ok-files.files p.pending c.recall.ensures.in_order (λ q h. (t.expected q h).1) in
     ap (λ ps. record p { pending = ps; registry = c.use_files.new.self }) back ∙ ap (λ us. record p { registry = us }) c.in-Err.ensures.err
 
 pub see-requires : goal.see-requires
 see-requires c =
     let r = some_from _ c.requires.there in
-    (can_take c.args.self.now c.args.now c.args.id c.args.subtask c.args.fresh.now c.args.reused.now r.0 c.requires.sound c.requires.accepted c.get.ensures.pending c.base.ensures.stored r.1).moment
+    (can_take c.args.self.now c.args.now c.args.id c.args.subtask c.args.fresh.now c.args.reused.now r.0 c.requires.sound c.requires.accepted c.recall.ensures.pending c.base.ensures.stored r.1).moment
