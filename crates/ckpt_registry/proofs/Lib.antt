@@ -3,5 +3,6 @@ pub mod HoldingLemmas
 pub mod ListLemmas
 pub mod PartLemmas
 pub mod PinLemmas
+pub mod PlaceLemmas
 pub mod RegistryLemmas
 pub mod SoundLemmas

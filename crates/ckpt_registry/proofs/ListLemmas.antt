@@ -2,7 +2,7 @@
 use Rattle.std.proofs.Common.{◌≡◌, ℕ, ◌+◌, ◌<◌, ◌≤◌, Bool, true, false, not, cond, eqb, ltb, ◌&&◌, List, [], ◌∷◌, ◌++◌, refl, sym, ap, subst, ◌∙◌, ◌⊎◌, inl, inr, ⊎_elim, arith, count_by}
 use Rattle.std.specs.List.{filter}
 use Rattle.std.proofs.lemmas.Bool.{cases_Bool, cases_lt, both_ways, cond-true, cond-false, eq-eqb, eqb-true, ltb-true, lt-ltb, le-ltb}
-use Rattle.ckpt_ids.specs.Ordered.{IsIn, IsInOrder, put_once, in_order_once, IsStrictOrder, AreDistinct}
+use Rattle.ckpt_ids.specs.Ordered.{IsIn, put_once, in_order_once, IsStrictOrder, AreDistinct}
 use Rattle.ckpt_ids.specs.Ascending.{IsAscendingSet, ascending_set}
 use Rattle.ckpt_ids.specs.Counting.{times}
 use Rattle.ckpt_registry.specs.Uses.{IsEachOnce}

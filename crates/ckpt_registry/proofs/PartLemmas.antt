@@ -1,10 +1,10 @@
 -- The files of parts, one part after the other, and the search for one.
-use Rattle.std.proofs.Common.{◌≡◌, ℕ, zero, suc, ◌+◌, ◌<◌, ◌≤◌, Bool, true, false, ltb, leb, eqb, List, [], ◌∷◌, ◌++◌, length, get_or, take, refl, sym, ap, subst, ◌∙◌, ⊎_elim, arith, Ok, Err, Result, length-append}
+use Rattle.std.proofs.Common.{◌≡◌, ℕ, zero, suc, ◌+◌, ◌<◌, ◌≤◌, ltb, List, [], ◌∷◌, ◌++◌, length, get_or, take, sym, ap, subst, ◌∙◌, ⊎_elim, arith, Ok, Err, Result, length-append}
 use Rattle.std.specs.List.{flat_map}
 use Rattle.std.specs.List.Sorted.{IsBinarySearchResult}
 use Rattle.std.specs.Ordering.{nat_cmp}
 use Rattle.std.specs.Result.{is_ok}
-use Rattle.std.proofs.lemmas.Bool.{cases_lt, leb-true, le-ltb, lt-ltb}
+use Rattle.std.proofs.lemmas.Bool.{cases_lt, le-ltb, lt-ltb}
 use Rattle.std.proofs.lemmas.Grind.{flat_map-append}
 use Rattle.std.proofs.lemmas.List.{append-nil, get_or_default, take_more}
 use Rattle.std.proofs.lemmas.List.Sorted.{searched}
@@ -13,7 +13,7 @@ use Rattle.ckpt_ids.specs.Counting.{times}
 use Rattle.ckpt_ids.specs.Ordered.{IsIn}
 use Rattle.ckpt_ids.proofs.CountLemmas.{times-append, times-from_IsIn, IsIn-from_times}
 use Rattle.ckpt_ids.proofs.AscendingLemmas.{ascending_at}
-use Rattle.ckpt_ids.proofs.OrderedLemmas.{ComesBefore-at, IsIn-get_or, IsIn-place}
+use Rattle.ckpt_ids.proofs.OrderedLemmas.{IsIn-get_or, IsIn-place}
 
 -- what a search by halves says
 pub times-from_search : (xs : List ℕ) (x : ℕ) (r : Result ℕ ℕ) → IsAscending xs → IsBinarySearchResult (λ y. nat_cmp y x) xs r → is_ok r ≡ ltb 0 (times x xs)

@@ -1,28 +1,25 @@
 -- What the pins of records come to, and how they change with the records.
-use Rattle.std.proofs.Common.{◌≡◌, ℕ, zero, suc, ◌+◌, ◌<◌, ◌≤◌, Bool, true, false, not, cond, eqb, ltb, ◌&&◌, List, [], ◌∷◌, ◌++◌, length, get_or, take, drop, set, refl, sym, ap, subst, ◌∙◌, ◌⊎◌, inl, inr, ⊎_elim, arith, count_by, ◌||◌, length-append}
-use Rattle.std.specs.List.{filter, flat_map, sum_by, list_any}
-use Rattle.std.proofs.lemmas.Bool.{cases_Bool, cases_lt, cases_eq, both_ways, cond-true, cond-false, eq-eqb, ne_eqb, eqb-true, eqb-false}
+use Rattle.std.proofs.Common.{◌≡◌, ℕ, ◌+◌, ◌<◌, ◌≤◌, Bool, true, false, not, cond, eqb, ltb, List, [], ◌∷◌, ◌++◌, length, get_or, take, drop, set, refl, sym, ap, subst, ◌∙◌, ◌⊎◌, inl, inr, ⊎_elim, arith, ◌||◌, length-append}
+use Rattle.std.specs.List.{filter}
+use Rattle.std.proofs.lemmas.Bool.{cases_Bool, cases_eq, cond-true, cond-false, eq-eqb, ne_eqb, eqb-true}
 use Rattle.std.proofs.lemmas.Grind.{flat_map-append}
 use Rattle.std.proofs.lemmas.List.{append-nil, take_more, take_more_set, get_or-drop, drop-set-lt, drop-drop}
 use Rattle.std.proofs.lemmas.List.{take-append-le}
 use Rattle.std.proofs.lemmas.List.Elements.{filter-append}
 use Rattle.std.proofs.lemmas.List.Sums.{sum_by-cons}
-use Rattle.ckpt_ids.specs.Ascending.{IsAscendingSet, ascending_set}
 use Rattle.ckpt_ids.specs.Counting.{times}
 use Rattle.ckpt_ids.specs.Ordered.{IsIn}
 use Rattle.ckpt_ids.specs.Records.{Use, Pin, Subtask, count, same_holder}
-use Rattle.ckpt_ids.proofs.CountLemmas.{count_by-append, count_by-map, times-append, times-from_IsIn, IsIn-from_times}
+use Rattle.ckpt_ids.proofs.CountLemmas.{count_by-append, count_by-map, times-append}
 use Rattle.ckpt_ids.proofs.OrderedLemmas.{IsIn-from_filter, IsIn-from_flat_map, IsIn-from_map, IsIn-append_cases, filter-all}
-use Rattle.ckpt_ids.proofs.AscendingLemmas.{numbers_in_order}
+use Rattle.ckpt_registry.specs.declared.holdings.Holding.{Holding}
 use Rattle.ckpt_registry.specs.declared.holdings.Part.{Part}
-use Rattle.std.specs.declared.vec.Vec.{Vec}
-use Rattle.std.specs.declared.alloc.Global.{Global}
 use Rattle.ckpt_registry.specs.declared.pins.Pinner.{Pinner}
 use Rattle.ckpt_registry.specs.Holdings.{Acknowledged, Extends, files_in, files_of, parts_of, uses_by, uses_in}
 use Rattle.ckpt_registry.specs.Pins.{AreKept, AreSettled, IsKept, IsSettled, IsTaken, each_file, is_named, own_in, parts_pinned, pinned_by, pins_in, pins_of_records, pins_on}
 use Rattle.ckpt_registry.specs.Uses.{is_owned, triples, without}
 use Rattle.ckpt_registry.proofs.HoldingLemmas.{count-parts_of}
-use Rattle.ckpt_registry.proofs.ListLemmas.{filter-none, one_if, one_if-true, one_if-false, times-ascending_set}
+use Rattle.ckpt_registry.proofs.ListLemmas.{filter-none, one_if, times-ascending_set}
 use Rattle.ckpt_registry.proofs.PartLemmas.{times_of_take}
 
 -- how often pins name a file
@@ -52,7 +49,7 @@ times_each f n parts none =
     let zero_times : times f (files_in (take n parts)) ≡ 0 = omega (arith, few, none) in
     times-ascending_set f (files_in (take n parts)) ∙ ap (λ t. one_if (ltb 0 t)) zero_times
 
-pub pins_of_records-none : (m : Acknowledged) (f : ℕ) (pinned : List Pinner) → count (uses_in m.entries) f ≡ 0 → pins_of_records m f pinned ≡ 0
+pub pins_of_records-none : (m : Acknowledged) (f : ℕ) (pinned : List Pinner) → count (uses_in m.items) f ≡ 0 → pins_of_records m f pinned ≡ 0
 pins_of_records-none m f [] none = refl
 pins_of_records-none m f (one ∷ pinned) none =
     let here : times f (each_file (parts_pinned m one)) ≡ 0 = times_each f one.parts (parts_of m one.chosen) (omega (arith, none, count-parts_of m one.chosen f)) in
@@ -278,11 +275,11 @@ own_in-goes_le f owners n pinned = omega (arith, own_in-parts f owners (take n p
 
 -- who holds a use
 
-pub uses_in-holder : (entries : List (ℕ × Vec Part Global)) (u : Use) → IsIn u (uses_in entries) → same_holder u.holder Pin ≡ false
-uses_in-holder entries u h =
-    let e = IsIn-from_flat_map (λ (x : ℕ × Vec Part Global). uses_by x.0 x.1.items) u entries h in
-    let part = IsIn-from_flat_map (λ (p : Part). triples e.0.0 (Subtask p.subtask) (files_of p)) u e.0.1.items e.2 in
-    let file = IsIn-from_map (λ (x : ℕ). record { id = e.0.0; holder = Subtask part.0.subtask; file = x }) u (files_of part.0) part.2 in
+pub uses_in-holder : (held : List Holding) (u : Use) → IsIn u (uses_in held) → same_holder u.holder Pin ≡ false
+uses_in-holder held u h =
+    let e = IsIn-from_flat_map (λ (x : Holding). uses_by x.id x.parts.items) u held h in
+    let part = IsIn-from_flat_map (λ (p : Part). triples e.0.id (Subtask p.subtask) (files_of p)) u e.0.parts.items e.2 in
+    let file = IsIn-from_map (λ (x : ℕ). record { id = e.0.id; holder = Subtask part.0.subtask; file = x }) u (files_of part.0) part.2 in
     ap (λ (v : Use). same_holder v.holder Pin) file.2
 
 pub pins_in-holder : (m : Acknowledged) (pinned : List Pinner) (u : Use) → IsIn u (pins_in m pinned) → same_holder u.holder Pin ≡ true

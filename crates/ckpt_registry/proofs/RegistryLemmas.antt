@@ -3,8 +3,7 @@ use Rattle.std.proofs.Common.{◌≡◌, ℕ, ◌+◌, ◌-◌, ◌<◌, ◌≤�
 use Rattle.std.specs.List.{filter, IsDistinct, AllByRecursion}
 use Rattle.std.proofs.lemmas.List.{length-map}
 use Rattle.std.proofs.lemmas.Option.{none-some}
-use Rattle.std.specs.BTreeMap.{IsOrdered}
-use Rattle.std.specs.List.Sorted.{IsPermutation, IsSorted, IsStrictlySortedBy}
+use Rattle.std.specs.List.Sorted.{IsPermutation, IsSorted}
 use Rattle.std.specs.Ordering.{nat_cmp}
 use Rattle.std.proofs.lemmas.List.Sorted.{sum_by-IsPermutation}
 use Rattle.std.specs.Map.{lookup, keys_of}
@@ -21,7 +20,7 @@ use Rattle.ckpt_ids.proofs.AscendingLemmas.{numbers_in_order, IsAscending-from_s
 use Rattle.ckpt_ids.proofs.OrderLemmas.{uses_in_order}
 use Rattle.ckpt_registry.specs.Counters.{Counts, counter, counted_once, AreInRange}
 use Rattle.ckpt_registry.specs.declared.pins.Pinner.{Pinner}
-use Rattle.ckpt_registry.specs.Holdings.{Acknowledged, Extends, files_in, parts_of, uses_in}
+use Rattle.ckpt_registry.specs.Holdings.{Acknowledged, AreRising, Extends, files_in, parts_of, uses_in}
 use Rattle.ckpt_registry.specs.Pins.{IsKept, each_file, pinned_by, pins_in, pins_of_records}
 use Rattle.ckpt_registry.specs.Sound.{stored, in_use, AreCounted, StandsOnce, IsSound}
 use Rattle.ckpt_registry.specs.Uses.{IsEachOnce, HasNoUse, triples, files_by, is_owned, is_ended, without, after_end}
@@ -30,7 +29,7 @@ use Rattle.ckpt_registry.proofs.SoundLemmas.{AreCounted-acknowledged, AreCounted
 use Rattle.ckpt_registry.proofs.HoldingLemmas.{count-used_by}
 use Rattle.ckpt_registry.proofs.CounterLemmas.{get-from_counter, counted_once-above, counted_once-zero, counted_once-le, above_from_counted_once, zero_from_counted_once}
 use Rattle.ckpt_ids.proofs.CountLemmas.{count_by-cons, count_by-append, count_by-map, counted-from_IsIn, IsIn-from_counted, times-from_IsIn, IsIn-from_times}
-use Rattle.ckpt_registry.proofs.ListLemmas.{AreDistinct-from_times, IsEachOnce-from_ascending, one_if, one_if-true, one_if-false, count_by-in_order_once, in_order_once-filter, count_by-added, in_order_once-added, IsIn-from_added, count_by-filtered, filter-filter}
+use Rattle.ckpt_registry.proofs.ListLemmas.{AreDistinct-from_times, IsEachOnce-from_ascending, one_if, count_by-in_order_once, in_order_once-filter, count_by-added, in_order_once-added, count_by-filtered, filter-filter}
 use Rattle.ckpt_ids.specs.Counting.{times}
 
 -- numbers and how often they stand
@@ -159,9 +158,9 @@ in_use-none a p id holder files none = in_use-added a p a p id holder files (λ 
 
 -- what is taken away
 
-pub stored-without : (a : Acknowledged) (p : List Pinner) (b : Acknowledged) (q : List Pinner) (owners : List ℕ) → uses_in b.entries ≡ without owners (uses_in a.entries) → pins_in b q ≡ without owners (pins_in a p) → stored b q ≡ without owners (stored a p)
+pub stored-without : (a : Acknowledged) (p : List Pinner) (b : Acknowledged) (q : List Pinner) (owners : List ℕ) → uses_in b.items ≡ without owners (uses_in a.items) → pins_in b q ≡ without owners (pins_in a p) → stored b q ≡ without owners (stored a p)
 stored-without a p b q owners h k =
-    ap (λ us. us ++ pins_in b q) h ∙ ap (λ us. without owners (uses_in a.entries) ++ us) k ∙ sym (filter-append (λ u. not (is_owned owners u)) (uses_in a.entries) (pins_in a p))
+    ap (λ us. us ++ pins_in b q) h ∙ ap (λ us. without owners (uses_in a.items) ++ us) k ∙ sym (filter-append (λ u. not (is_owned owners u)) (uses_in a.items) (pins_in a p))
 
 or_none : (x : Bool) → (x || false) ≡ x
 or_none true = refl
@@ -182,15 +181,15 @@ is_owned-one : (id : ℕ) (u : Use) → is_owned (id ∷ []) u ≡ eqb u.id id
 is_owned-one id u = or_none (eqb u.id id)
 
 pub stored-after_end : (a : Acknowledged) (p : List Pinner) (b : Acknowledged) (q : List Pinner) (id : ℕ) (owners : List ℕ)
-    → uses_in b.entries ≡ without owners (uses_in a.entries) → pins_in b q ≡ without owners (without (id ∷ []) (pins_in a p)) → stored b q ≡ after_end id owners (stored a p)
+    → uses_in b.items ≡ without owners (uses_in a.items) → pins_in b q ≡ without owners (without (id ∷ []) (pins_in a p)) → stored b q ≡ after_end id owners (stored a p)
 stored-after_end a p b q id owners h k =
-    let kept : uses_in b.entries ≡ after_end id owners (uses_in a.entries) =
-    h ∙ filter-same (λ u. not (is_owned owners u)) (λ u. not (is_ended id owners u)) (uses_in a.entries) (λ u m. stays_other (is_owned owners u) (eqb u.id id) (same_holder u.holder Pin) (uses_in-holder a.entries u m)) in
+    let kept : uses_in b.items ≡ after_end id owners (uses_in a.items) =
+    h ∙ filter-same (λ u. not (is_owned owners u)) (λ u. not (is_ended id owners u)) (uses_in a.items) (λ u m. stays_other (is_owned owners u) (eqb u.id id) (same_holder u.holder Pin) (uses_in-holder a.items u m)) in
     let ended : pins_in b q ≡ after_end id owners (pins_in a p) =
     k ∙ filter-filter (λ u. not (is_owned owners u)) (λ u. not (is_owned (id ∷ []) u)) (pins_in a p)
     ∙ filter-same (λ u. not (is_owned (id ∷ []) u) && not (is_owned owners u)) (λ u. not (is_ended id owners u)) (pins_in a p)
     (λ u m. ap (λ t. not t && not (is_owned owners u)) (is_owned-one id u) ∙ stays_pin (is_owned owners u) (eqb u.id id) (same_holder u.holder Pin) (pins_in-holder a p u m)) in
-    ap (λ us. us ++ pins_in b q) kept ∙ ap (λ us. after_end id owners (uses_in a.entries) ++ us) ended ∙ sym (filter-append (λ u. not (is_ended id owners u)) (uses_in a.entries) (pins_in a p))
+    ap (λ us. us ++ pins_in b q) kept ∙ ap (λ us. after_end id owners (uses_in a.items) ++ us) ended ∙ sym (filter-append (λ u. not (is_ended id owners u)) (uses_in a.items) (pins_in a p))
 
 pub in_use-filtered : (a : Acknowledged) (p : List Pinner) (b : Acknowledged) (q : List Pinner) (t : Use → Bool) → stored b q ≡ filter t (stored a p) → in_use b q ≡ filter t (in_use a p)
 in_use-filtered a p b q t h = ap (in_order_once use_before) h ∙ in_order_once-filter uses_in_order t (stored a p)
@@ -233,15 +232,15 @@ released-sorted xs ys start m n us vs same up none moved before after =
 pub IsSound-filtered : (a : Acknowledged) (p : List Pinner) (b : Acknowledged) (q : List Pinner) (m n : Counts) (room left : ℕ) (t : Use → Bool) → IsSound a p m room → AreCounted b q n → stored b q ≡ filter t (stored a p) → index_map_len n ≤ left → IsSound b q n left
 IsSound-filtered a p b q m n room left t s counted kept fits = record { parts = counted; once = StandsOnce-filtered a p b q t kept s.once; has_room = fits }
 
-pub stored-acknowledged : (a : Acknowledged) (p : List Pinner) (b : Acknowledged) (us : List Use) → pins_in b p ≡ pins_in a p → ((t : Use → Bool) → count_by t (uses_in b.entries) ≡ count_by t (uses_in a.entries) + count_by t us) → (t : Use → Bool) → count_by t (stored b p) ≡ count_by t (stored a p) + count_by t us
+pub stored-acknowledged : (a : Acknowledged) (p : List Pinner) (b : Acknowledged) (us : List Use) → pins_in b p ≡ pins_in a p → ((t : Use → Bool) → count_by t (uses_in b.items) ≡ count_by t (uses_in a.items) + count_by t us) → (t : Use → Bool) → count_by t (stored b p) ≡ count_by t (stored a p) + count_by t us
 stored-acknowledged a p b us pins adds t =
     let same : count_by t (pins_in b p) ≡ count_by t (pins_in a p) = ap (count_by t) pins in
-    omega (arith, adds t, same, count_by-append t (uses_in b.entries) (pins_in b p), count_by-append t (uses_in a.entries) (pins_in a p))
+    omega (arith, adds t, same, count_by-append t (uses_in b.items) (pins_in b p), count_by-append t (uses_in a.items) (pins_in a p))
 
 pub stored-pinned : (a : Acknowledged) (p q : List Pinner) (us : List Use) → pins_in a q ≡ pins_in a p ++ us → (t : Use → Bool) → count_by t (stored a q) ≡ count_by t (stored a p) + count_by t us
 stored-pinned a p q us pins t =
     let same : count_by t (pins_in a q) ≡ count_by t (pins_in a p ++ us) = ap (count_by t) pins in
-    omega (arith, same, count_by-append t (pins_in a p) us, count_by-append t (uses_in a.entries) (pins_in a q), count_by-append t (uses_in a.entries) (pins_in a p))
+    omega (arith, same, count_by-append t (pins_in a p) us, count_by-append t (uses_in a.items) (pins_in a q), count_by-append t (uses_in a.items) (pins_in a p))
 
 -- each file is used once more at most, and there is a place for the count
 pub below_more : (us : List Use) (fresh reused : List ℕ) → ((f : ℕ) → count us f < 2 ^ 32) → IsEachOnce (fresh ++ reused) → ((f : ℕ) → IsIn f fresh → is_present us f ≡ false) → ((f : ℕ) → IsIn f reused → count us f < 2 ^ 32 - 1) → (f : ℕ) → count us f + times f (fresh ++ reused) < 2 ^ 32
@@ -253,13 +252,13 @@ below_more us fresh reused below once absent small f =
     (IsIn-append_cases f fresh reused (IsIn-from_times f (fresh ++ reused) h)) in
     ⊎_elim some (λ (h : times f (fresh ++ reused) ≤ 0). omega (arith, h, below f)) (cases_lt 0 (times f (fresh ++ reused)))
 
-pub IsSound-acknowledged : (a : Acknowledged) (p : List Pinner) (b : Acknowledged) (m n : Counts) (room left id : ℕ) (subtask : SubtaskId) (files : List ℕ) → IsSound a p m room → IsOrdered nat_cmp b → Extends a b
-    → ((t : Use → Bool) → count_by t (uses_in b.entries) ≡ count_by t (uses_in a.entries) + count_by t (triples id (Subtask subtask) files)) → IsEachOnce files → HasNoUse (in_use a p) id (Subtask subtask)
+pub IsSound-acknowledged : (a : Acknowledged) (p : List Pinner) (b : Acknowledged) (m n : Counts) (room left id : ℕ) (subtask : SubtaskId) (files : List ℕ) → IsSound a p m room → AreRising b.items → Extends a b
+    → ((t : Use → Bool) → count_by t (uses_in b.items) ≡ count_by t (uses_in a.items) + count_by t (triples id (Subtask subtask) files)) → IsEachOnce files → HasNoUse (in_use a p) id (Subtask subtask)
     → ((f : ℕ) → counter n f ≡ counter m f + times f files) → AreInRange n → index_map_len n ≤ left → ((f : ℕ) → count (in_use a p) f + times f files < 2 ^ 32) → IsSound b p n left
 IsSound-acknowledged a p b m n room left id subtask files s ordered more adds each unused raised range fits small =
     let pins : pins_in b p ≡ pins_in a p = pins_in-extended a b p more s.parts.kept in
     let added = stored-acknowledged a p b (triples id (Subtask subtask) files) pins adds in
-    let used : (f : ℕ) → count (uses_in b.entries) f ≡ count (uses_in a.entries) f + times f files = λ f. omega (arith, adds (λ (u : Use). eqb u.file f), count-triples id (Subtask subtask) files f) in
+    let used : (f : ℕ) → count (uses_in b.items) f ≡ count (uses_in a.items) f + times f files = λ f. omega (arith, adds (λ (u : Use). eqb u.file f), count-triples id (Subtask subtask) files f) in
     record {
       parts = AreCounted-acknowledged a b p m n files more ordered used raised range (λ f. omega (arith, small f, s.once (λ (u : Use). eqb u.file f))) s.parts;
       once = StandsOnce-added a p b p id (Subtask subtask) files added s.once each unused;
@@ -287,8 +286,8 @@ and_parts : (x y : Bool) → (x && y) ≡ true → (x ≡ true) × (y ≡ true)
 and_parts true y e = (refl, e)
 and_parts false y e = absurd (both_ways false refl e)
 
-pub files_by-in_use : (a : Acknowledged) (p : List Pinner) (id : ℕ) → IsStrictlySortedBy nat_cmp (keys_of a.entries) → files_by id (in_use a p) ≡ each_file (parts_of a id)
-files_by-in_use a p id ordered =
+pub files_by-in_use : (a : Acknowledged) (p : List Pinner) (id : ℕ) → files_by id (in_use a p) ≡ each_file (parts_of a id)
+files_by-in_use a p id =
     let test : Use → Bool = λ u. eqb u.id id && not (same_holder u.holder Pin) in
     let named : List ℕ = map file_of (filter test (in_use a p)) in
     let files : List ℕ = files_in (parts_of a id) in
@@ -297,20 +296,20 @@ files_by-in_use a p id ordered =
     let u : Use = q.0 in
     let k = IsIn-from_filter test u (in_use a p) q.1 in
     let both = and_parts (eqb u.id id) (not (same_holder u.holder Pin)) k.1 in
-    let among : IsIn u (uses_in a.entries) = ⊎_elim
-    (λ (i : IsIn u (uses_in a.entries)). i)
+    let among : IsIn u (uses_in a.items) = ⊎_elim
+    (λ (i : IsIn u (uses_in a.items)). i)
     (λ (i : IsIn u (pins_in a p)). absurd (both_ways (same_holder u.holder Pin) (not-true (same_holder u.holder Pin) both.1) (pins_in-holder a p u i)))
-    (IsIn-append_cases u (uses_in a.entries) (pins_in a p) (IsIn-from_in_order_once use_before u (stored a p) k.0)) in
+    (IsIn-append_cases u (uses_in a.items) (pins_in a p) (IsIn-from_in_order_once use_before u (stored a p) k.0)) in
     let here : (eqb u.id id && eqb u.file z) ≡ true = ap (λ b. b && eqb u.file z) both.0 ∙ eq-eqb u.file z (sym q.2) in
-    let counts : 0 < count_by (λ (v : Use). eqb v.id id && eqb v.file z) (uses_in a.entries) = counted-from_IsIn (λ (v : Use). eqb v.id id && eqb v.file z) u (uses_in a.entries) among here in
-    IsIn-from_times z files (omega (arith, counts, count-used_by a id z ordered)) in
+    let counts : 0 < count_by (λ (v : Use). eqb v.id id && eqb v.file z) (uses_in a.items) = counted-from_IsIn (λ (v : Use). eqb v.id id && eqb v.file z) u (uses_in a.items) among here in
+    IsIn-from_times z files (omega (arith, counts, count-used_by a id z)) in
     let back : (z : ℕ) → IsIn z files → IsIn z named = λ z h.
-    let counts : 0 < count_by (λ (v : Use). eqb v.id id && eqb v.file z) (uses_in a.entries) = omega (arith, times-from_IsIn z files h, count-used_by a id z ordered) in
-    let q = IsIn-from_counted (λ (v : Use). eqb v.id id && eqb v.file z) (uses_in a.entries) counts in
+    let counts : 0 < count_by (λ (v : Use). eqb v.id id && eqb v.file z) (uses_in a.items) = omega (arith, times-from_IsIn z files h, count-used_by a id z) in
+    let q = IsIn-from_counted (λ (v : Use). eqb v.id id && eqb v.file z) (uses_in a.items) counts in
     let u : Use = q.0 in
     let both = and_parts (eqb u.id id) (eqb u.file z) q.2 in
-    let passes : test u ≡ true = ap (λ b. b && not (same_holder u.holder Pin)) both.0 ∙ ap not (uses_in-holder a.entries u q.1) in
-    let among : IsIn u (filter test (in_use a p)) = IsIn-filter test u (in_use a p) (IsIn-in_order_once uses_in_order u (stored a p) (IsIn-append_left u (uses_in a.entries) (pins_in a p) q.1)) passes in
+    let passes : test u ≡ true = ap (λ b. b && not (same_holder u.holder Pin)) both.0 ∙ ap not (uses_in-holder a.items u q.1) in
+    let among : IsIn u (filter test (in_use a p)) = IsIn-filter test u (in_use a p) (IsIn-in_order_once uses_in_order u (stored a p) (IsIn-append_left u (uses_in a.items) (pins_in a p) q.1)) passes in
     let P : ℕ → Type 0 = λ y. IsIn y named in
     subst P (eqb-true u.file z both.1) (IsIn-map file_of u (filter test (in_use a p)) among) in
     same_from_members numbers_in_order (ascending_set named) (ascending_set files) (IsInOrder-in_order_once numbers_in_order named) (IsInOrder-in_order_once numbers_in_order files)

@@ -1,34 +1,26 @@
 -- What the counters say of the uses, and that it stays so as records go.
-use Rattle.std.proofs.Common.{◌≡◌, ℕ, ◌+◌, ◌<◌, ◌≤◌, ◌^◌, Bool, true, false, not, ltb, List, [], ◌∷◌, ◌++◌, refl, sym, ap, subst, ◌∙◌, ⊎_elim, arith, count_by, eqb, unwrap_or}
+use Rattle.std.proofs.Common.{◌≡◌, ℕ, ◌+◌, ◌<◌, ◌≤◌, ◌^◌, not, ltb, List, [], ◌∷◌, ◌++◌, refl, sym, ap, subst, ◌∙◌, ⊎_elim, arith, eqb}
 use Rattle.std.specs.List.{filter}
-use Rattle.std.specs.BTreeMap.{IsOrdered}
-use Rattle.std.specs.Ordering.{nat_cmp}
-use Rattle.std.proofs.lemmas.Bool.{cases_lt, ltb-true, lt-ltb, le-ltb}
-use Rattle.std.specs.List.Sorted.{IsStrictlySortedBy}
-use Rattle.std.specs.Map.{lookup, keys_of}
-use Rattle.std.specs.Option.{option_map}
-use Rattle.std.specs.declared.vec.Vec.{Vec}
-use Rattle.std.specs.declared.alloc.Global.{Global}
+use Rattle.std.proofs.lemmas.Bool.{cases_lt, lt-ltb, le-ltb}
 use Rattle.std.proofs.lemmas.List.{append-nil}
 use Rattle.ckpt_ids.specs.Counting.{times}
-use Rattle.ckpt_ids.specs.Ordered.{IsIn}
 use Rattle.ckpt_ids.specs.Records.{Use, Pin, count, is_present}
-use Rattle.ckpt_ids.proofs.CountLemmas.{count_by-append, times-from_IsIn}
-use Rattle.ckpt_registry.specs.declared.holdings.Part.{Part}
+use Rattle.ckpt_ids.proofs.CountLemmas.{count_by-append}
+use Rattle.ckpt_registry.specs.declared.holdings.Holding.{Holding}
 use Rattle.ckpt_registry.specs.declared.pins.Pinner.{Pinner}
 use Rattle.ckpt_registry.specs.Counters.{Counts, counter, counted_once, AreInRange}
-use Rattle.ckpt_registry.specs.Holdings.{Acknowledged, Extends, files_in, parts_of, uses_in}
+use Rattle.ckpt_registry.specs.Holdings.{Acknowledged, AreRising, Extends, files_in, parts_of, uses_in}
 use Rattle.ckpt_registry.specs.Pins.{AreKept, AreSettled, IsKept, is_named, own_in, pinned_by, pins_in, pins_of_records, pins_on}
 use Rattle.ckpt_registry.specs.Sound.{AreCounted, stored}
 use Rattle.ckpt_registry.specs.Uses.{is_owned, triples, without, without_record}
 use Rattle.ckpt_registry.proofs.CounterLemmas.{counted_once-above, counted_once-zero}
-use Rattle.ckpt_registry.proofs.HoldingLemmas.{is_number}
+use Rattle.ckpt_registry.proofs.HoldingLemmas.{has_id, parts_in}
 use Rattle.ckpt_registry.proofs.ListLemmas.{count_by-filter_le}
 use Rattle.ckpt_registry.proofs.PinLemmas.{AreKept-extended, AreKept-filter, AreKept-push, AreKept-settled, count-pins_in, count-triples_of, own_in-push, own_in-settled, pins_in-extended, pins_in-filter, pins_in-push, pins_in-settled, pins_of_records-none, pins_on-le}
 
 -- the count of a file: its counter, and the pins of those who pin a live record
 pub count-stored : (m : Acknowledged) (p : List Pinner) (counts : Counts) → AreCounted m p counts → (f : ℕ) → count (stored m p) f ≡ counter counts f + pins_of_records m f p
-count-stored m p counts s f = omega (arith, s.counted f, count-pins_in m p f, count_by-append (λ (u : Use). eqb u.file f) (uses_in m.entries) (pins_in m p))
+count-stored m p counts s f = omega (arith, s.counted f, count-pins_in m p f, count_by-append (λ (u : Use). eqb u.file f) (uses_in m.items) (pins_in m p))
 
 -- exactly the files that are present have a counter
 pub is_present-stored : (m : Acknowledged) (p : List Pinner) (counts : Counts) → AreCounted m p counts → (f : ℕ) → is_present (stored m p) f ≡ ltb 0 (counter counts f)
@@ -55,7 +47,7 @@ AreCounted-unpinned m p q owners counts after s kept lowered range =
       below = λ f.
           let same : count (pins_in m q) f ≡ count (without owners (pins_in m p)) f = ap (λ us. count us f) pins in
           let fewer : count (without owners (pins_in m p)) f ≤ count (pins_in m p) f = count_by-filter_le (λ (u : Use). eqb u.file f) (λ u. not (is_owned owners u)) (pins_in m p) in
-          omega (arith, same, fewer, s.below f, count_by-append (λ (u : Use). eqb u.file f) (uses_in m.entries) (pins_in m q), count_by-append (λ (u : Use). eqb u.file f) (uses_in m.entries) (pins_in m p));
+          omega (arith, same, fewer, s.below f, count_by-append (λ (u : Use). eqb u.file f) (uses_in m.items) (pins_in m q), count_by-append (λ (u : Use). eqb u.file f) (uses_in m.items) (pins_in m p));
     }
 
 -- a record goes that some pin
@@ -63,7 +55,7 @@ module _ (m n : Acknowledged) (c : ℕ) (p q : List Pinner) (counts after : Coun
   pub pins_in-gone : pins_in n q ≡ pins_in m p
   pins_in-gone = pins_in-settled m n c others p q s.kept settled
 
-  pub AreCounted-gone : IsOrdered nat_cmp n → uses_in n.entries ≡ without_record c (uses_in m.entries) → ((f : ℕ) → count (uses_in m.entries) f ≡ times f (files_in (parts_of m c)) + count (uses_in n.entries) f)
+  pub AreCounted-gone : AreRising n.items → uses_in n.items ≡ without_record c (uses_in m.items) → ((f : ℕ) → count (uses_in m.items) f ≡ times f (files_in (parts_of m c)) + count (uses_in n.items) f)
       → ((f : ℕ) → counter after f + times f (files_in (parts_of m c)) ≡ counter counts f + pins_on c (parts_of m c) f p) → AreInRange after → AreCounted n q after
   AreCounted-gone ordered uses split moved range = record {
     ordered = ordered;
@@ -72,7 +64,7 @@ module _ (m n : Acknowledged) (c : ℕ) (p q : List Pinner) (counts after : Coun
     range = range;
     below = λ f.
         let same : count (pins_in n q) f ≡ count (pins_in m p) f = ap (λ us. count us f) pins_in-gone in
-        omega (arith, same, split f, s.below f, count_by-append (λ (u : Use). eqb u.file f) (uses_in n.entries) (pins_in n q), count_by-append (λ (u : Use). eqb u.file f) (uses_in m.entries) (pins_in m p));
+        omega (arith, same, split f, s.below f, count_by-append (λ (u : Use). eqb u.file f) (uses_in n.items) (pins_in n q), count_by-append (λ (u : Use). eqb u.file f) (uses_in m.items) (pins_in m p));
   }
 
 -- those who pin a record that goes are counted for files that had a counter
@@ -86,28 +78,26 @@ counted_once-settled m p counts after c f s raised =
     ⊎_elim some none (cases_lt 0 (counter counts f))
 
 -- records have other parts after those that they had, and the same uses
-pub AreCounted-kept : (m n : Acknowledged) (p : List Pinner) (counts after : Counts) → Extends m n → IsOrdered nat_cmp n → uses_in n.entries ≡ uses_in m.entries → ((f : ℕ) → counter after f ≡ counter counts f) → AreInRange after → AreCounted m p counts → AreCounted n p after
+pub AreCounted-kept : (m n : Acknowledged) (p : List Pinner) (counts after : Counts) → Extends m n → AreRising n.items → uses_in n.items ≡ uses_in m.items → ((f : ℕ) → counter after f ≡ counter counts f) → AreInRange after → AreCounted m p counts → AreCounted n p after
 AreCounted-kept m n p counts after more ordered uses same range s = record {
   ordered = ordered;
   kept = AreKept-extended m n p more s.kept;
   counted = λ f. same f ∙ s.counted f ∙ ap (λ us. count us f + times f (own_in p)) (sym uses);
   range = range;
   below = λ f.
-      let acked : count (uses_in n.entries) f ≡ count (uses_in m.entries) f = ap (λ us. count us f) uses in
+      let acked : count (uses_in n.items) f ≡ count (uses_in m.items) f = ap (λ us. count us f) uses in
       let pins : count (pins_in n p) f ≡ count (pins_in m p) f = ap (λ us. count us f) (pins_in-extended m n p more s.kept) in
-      omega (arith, acked, pins, s.below f, count_by-append (λ (u : Use). eqb u.file f) (uses_in n.entries) (pins_in n p), count_by-append (λ (u : Use). eqb u.file f) (uses_in m.entries) (pins_in m p));
+      omega (arith, acked, pins, s.below f, count_by-append (λ (u : Use). eqb u.file f) (uses_in n.items) (pins_in n p), count_by-append (λ (u : Use). eqb u.file f) (uses_in m.items) (pins_in m p));
 }
 
 -- nothing goes
-pub AreCounted-unchanged : (m n : Acknowledged) (p : List Pinner) (counts : Counts) → n.entries ≡ m.entries → AreCounted m p counts → AreCounted n p counts
+pub AreCounted-unchanged : (m n : Acknowledged) (p : List Pinner) (counts : Counts) → n.items ≡ m.items → AreCounted m p counts → AreCounted n p counts
 AreCounted-unchanged m n p counts same s =
-    let parts : (d : ℕ) → parts_of n d ≡ parts_of m d = λ d. ap (λ (es : List (ℕ × Vec Part Global)). unwrap_or (option_map (λ (v : Vec Part Global). v.items) (lookup (is_number d) es)) []) same in
-    let more : Extends m n = λ d. ([], parts d ∙ sym (append-nil (parts_of m d))) in
-    let Sorted : List (ℕ × Vec Part Global) → Type 0 = λ es. IsStrictlySortedBy nat_cmp (keys_of es) in
-    AreCounted-kept m n p counts counts more (subst Sorted (sym same) s.ordered) (ap (λ es. uses_in es) same) (λ f. refl) s.range s
+    let more : Extends m n = λ d. ([], ap (λ (hs : List Holding). parts_in (filter (has_id d) hs)) same ∙ sym (append-nil (parts_of m d))) in
+    AreCounted-kept m n p counts counts more (subst (λ hs. AreRising hs) (sym same) s.ordered) (ap (λ hs. uses_in hs) same) (λ f. refl) s.range s
 
 -- a subtask acknowledges
-pub AreCounted-acknowledged : (m n : Acknowledged) (p : List Pinner) (counts after : Counts) (files : List ℕ) → Extends m n → IsOrdered nat_cmp n → ((f : ℕ) → count (uses_in n.entries) f ≡ count (uses_in m.entries) f + times f files)
+pub AreCounted-acknowledged : (m n : Acknowledged) (p : List Pinner) (counts after : Counts) (files : List ℕ) → Extends m n → AreRising n.items → ((f : ℕ) → count (uses_in n.items) f ≡ count (uses_in m.items) f + times f files)
     → ((f : ℕ) → counter after f ≡ counter counts f + times f files) → AreInRange after → ((f : ℕ) → count (stored m p) f + times f files < 2 ^ 32) → AreCounted m p counts → AreCounted n p after
 AreCounted-acknowledged m n p counts after files more ordered adds raised range fits s = record {
   ordered = ordered;
@@ -116,7 +106,7 @@ AreCounted-acknowledged m n p counts after files more ordered adds raised range 
   range = range;
   below = λ f.
       let pins : count (pins_in n p) f ≡ count (pins_in m p) f = ap (λ us. count us f) (pins_in-extended m n p more s.kept) in
-      omega (arith, adds f, pins, fits f, count_by-append (λ (u : Use). eqb u.file f) (uses_in n.entries) (pins_in n p), count_by-append (λ (u : Use). eqb u.file f) (uses_in m.entries) (pins_in m p));
+      omega (arith, adds f, pins, fits f, count_by-append (λ (u : Use). eqb u.file f) (uses_in n.items) (pins_in n p), count_by-append (λ (u : Use). eqb u.file f) (uses_in m.items) (pins_in m p));
 }
 
 -- one more pins
@@ -135,7 +125,7 @@ AreCounted-pushed m p one counts after new raised range fits s = record {
         fits f,
         count-triples_of one.id f (pinned_by m one),
         count_by-append (λ (u : Use). eqb u.file f) (pins_in m p) (triples one.id Pin (pinned_by m one)),
-        count_by-append (λ (u : Use). eqb u.file f) (uses_in m.entries) (pins_in m (p ++ one ∷ [])),
-        count_by-append (λ (u : Use). eqb u.file f) (uses_in m.entries) (pins_in m p),
+        count_by-append (λ (u : Use). eqb u.file f) (uses_in m.items) (pins_in m (p ++ one ∷ [])),
+        count_by-append (λ (u : Use). eqb u.file f) (uses_in m.items) (pins_in m p),
       );
 }

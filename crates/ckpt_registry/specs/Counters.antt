@@ -1,5 +1,5 @@
 -- What the counters say of a file.
-use Rattle.std.specs.Prelude.{◌≡◌, ℕ, ◌^◌, ◌<◌, ◌==◌, nat_eq, List, count_by, unwrap_or, Some, if◌then◌else◌, nat_lt}
+use Rattle.std.specs.Prelude.{◌≡◌, ℕ, ◌^◌, ◌<◌, nat_eq, unwrap_or, Some, if◌then◌else◌, nat_lt}
 use Rattle.indexmap.specs.IndexMap.{IndexMap, get}
 use Rattle.ckpt_hash.specs.declared.secret.Secret.{Secret}
 

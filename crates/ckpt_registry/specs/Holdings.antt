@@ -1,21 +1,22 @@
--- The uses that the map from a record's number to its subtasks' parts stands for.
-use Rattle.std.specs.Prelude.{ℕ, ◌+◌, Bool, List, [], ◌++◌, count_by, unwrap_or, ◌≡◌}
+-- The uses that the row of what each record holds stands for.
+use Rattle.std.specs.Prelude.{ℕ, ◌+◌, ◌==◌, Bool, List, ◌++◌, count_by, filter, map, ◌≡◌}
 use Rattle.std.specs.List.{flat_map}
-use Rattle.std.specs.Option.{option_map}
-use Rattle.std.specs.BTreeMap.{BTreeMap, get}
--- the order of a map's keys, which clauses on these maps name too
-pub use Rattle.std.specs.BTreeMap.{IsOrdered}
-pub use Rattle.std.specs.Ordering.{nat_cmp}
-use Rattle.std.specs.declared.vec.Vec.{Vec}
+use Rattle.std.specs.declared.collections.VecDeque.{VecDeque}
 use Rattle.std.specs.declared.alloc.Global.{Global}
+use Rattle.ckpt_ids.specs.Ascending.{IsAscendingSet}
 use Rattle.ckpt_ids.specs.Records.{Use, Subtask}
 use Rattle.ckpt_ids.specs.declared.subtask.SubtaskId.{SubtaskId}
+use Rattle.ckpt_registry.specs.declared.holdings.Holding.{Holding}
 use Rattle.ckpt_registry.specs.declared.holdings.Part.{Part}
 use Rattle.ckpt_registry.specs.Uses.{triples}
 
--- what the subtasks of each record acknowledged, by the record's number
+-- what the subtasks of each record acknowledged
 abbrev pub Acknowledged : Type 0
-Acknowledged = BTreeMap ℕ (Vec Part Global)
+Acknowledged = VecDeque Holding Global
+
+-- each number is above all earlier ones
+abbrev pub AreRising : List Holding → Type 0
+AreRising held = IsAscendingSet (map (λ h. h.id) held)
 
 -- the files of one part
 abbrev pub files_of : Part → List ℕ
@@ -33,13 +34,13 @@ uses_by id parts = flat_map (λ part. triples id (Subtask part.subtask) (files_o
 abbrev pub uses_of_ack : ℕ → SubtaskId → List ℕ → List ℕ → List Use
 uses_of_ack id subtask fresh reused = triples id (Subtask subtask) (fresh ++ reused)
 
--- what the records of a map use
-abbrev pub uses_in : List (ℕ × Vec Part Global) → List Use
-uses_in entries = flat_map (λ e. uses_by e.0 e.1.items) entries
+-- what these records use
+abbrev pub uses_in : List Holding → List Use
+uses_in held = flat_map (λ h. uses_by h.id h.parts.items) held
 
 -- the parts of the record of this number
 abbrev pub parts_of : Acknowledged → ℕ → List Part
-parts_of m id = unwrap_or (option_map (λ v. v.items) (get nat_cmp m id)) []
+parts_of m id = flat_map (λ h. h.parts.items) (filter (λ h. h.id == id) m.items)
 
 -- the uses after are those before and these, in any order
 abbrev pub Adds : List Use → List Use → List Use → Type 0

@@ -1,19 +1,17 @@
 -- The uses that a registry stands for, and what its parts have in common.
 use Rattle.std.specs.Prelude.{◌≡◌, ℕ, ◌+◌, ◌<◌, ◌≤◌, ◌^◌, Bool, List, ◌++◌, count_by}
-use Rattle.std.specs.BTreeMap.{IsOrdered}
-use Rattle.std.specs.Ordering.{nat_cmp}
 use Rattle.indexmap.specs.IndexMap.{index_map_len}
 use Rattle.ckpt_ids.specs.Counting.{times}
 use Rattle.ckpt_ids.specs.Ordered.{in_order_once}
 use Rattle.ckpt_ids.specs.Records.{Use, count, use_before}
 use Rattle.ckpt_registry.specs.declared.pins.Pinner.{Pinner}
 use Rattle.ckpt_registry.specs.Counters.{Counts, counter, AreInRange}
-use Rattle.ckpt_registry.specs.Holdings.{Acknowledged, uses_in}
+use Rattle.ckpt_registry.specs.Holdings.{Acknowledged, AreRising, uses_in}
 use Rattle.ckpt_registry.specs.Pins.{AreKept, own_in, pins_in}
 
 -- the uses by acknowledgements, then the pins
 abbrev pub stored : Acknowledged → List Pinner → List Use
-stored acknowledged pinned = uses_in acknowledged.entries ++ pins_in acknowledged pinned
+stored acknowledged pinned = uses_in acknowledged.items ++ pins_in acknowledged pinned
 
 -- the same in the order of uses
 abbrev pub in_use : Acknowledged → List Pinner → List Use
@@ -25,11 +23,11 @@ StandsOnce us = (p : Use → Bool) → count_by p us ≡ count_by p (in_order_on
 
 -- what the counters say of the uses
 pub record AreCounted (acknowledged : Acknowledged) (pinned : List Pinner) (counts : Counts) : Type 0 where
-  pub ordered : IsOrdered nat_cmp acknowledged
+  pub ordered : AreRising acknowledged.items
   pub kept : AreKept acknowledged pinned
   -- Each counter is the count of its file, without the pins of those who pin a live record.
   -- A record that is pinned uses its files, so exactly the files that are present have a counter.
-  pub counted : (f : ℕ) → counter counts f ≡ count (uses_in acknowledged.entries) f + times f (own_in pinned)
+  pub counted : (f : ℕ) → counter counts f ≡ count (uses_in acknowledged.items) f + times f (own_in pinned)
   pub range : AreInRange counts
   -- with them too the count has its place
   pub below : (f : ℕ) → count (stored acknowledged pinned) f < 2 ^ 32

@@ -1,13 +1,15 @@
-ghost use Rattle.std.specs.Prelude.{◌≡◌, ℕ, ◌+◌, ◌≤◌, ◌<◌, ◌++◌, nat_lt, vec_capacity, vec_len, OnOk, OnErr, IfSome, length};
+ghost use Rattle.std.specs.Prelude.{◌≡◌, ℕ, ◌+◌, ◌≤◌, ◌<◌, ◌==◌, ◌++◌, filter, nat_lt, not, vec_capacity, vec_len, OnOk, OnErr, IfOk, IfErr, IfNone, IfSome, length};
+ghost use Rattle.std.specs.List.{HoldsAt};
+ghost use Rattle.std.specs.List.Sorted.{IsPartitionPoint};
 ghost use Rattle.indexmap.specs.IndexMap.{index_map_len};
 ghost use Rattle.ckpt_ids.specs.Counting.{times};
 ghost use Rattle.ckpt_registry.specs.Counters.{counter, counted_once, AreInRange};
-ghost use Rattle.ckpt_registry.specs.Holdings.{Adds, Extends, IsOrdered, files_in, files_of, nat_cmp, uses_in, uses_of_ack};
+ghost use Rattle.ckpt_registry.specs.Holdings.{Adds, AreRising, Extends, files_in, files_of, parts_of, uses_in, uses_of_ack};
 
 use crate::counters::{Counts, lower};
 use ckpt_ids::{CheckpointId, FileId, Files, SubtaskId};
 use std::alloc::{AllocError, Global};
-use std::collections::BTreeMap;
+use std::collections::VecDeque;
 
 /// What a subtask acknowledged: files that nobody used before, and such as were there.
 #[derive(Debug, Drop)]
@@ -17,8 +19,16 @@ pub(crate) struct Part {
     pub(crate) reused: Files,
 }
 
-/// What the subtasks of each record acknowledged, by the record's number.
-pub(crate) type Acknowledged = BTreeMap<CheckpointId, Vec<Part>>;
+/// What the subtasks of one record acknowledged.
+#[derive(Debug, Drop)]
+pub(crate) struct Holding {
+    id: CheckpointId,
+    parts: Vec<Part>,
+}
+
+/// What the subtasks of each record acknowledged, in rising number: a new record has mostly the
+/// greatest, so that it goes to the end.
+pub(crate) type Acknowledged = VecDeque<Holding>;
 
 impl Part {
     /// Whether the subtask uses a file.
@@ -88,6 +98,40 @@ pub(crate) fn lower_parts(counts: &mut Counts, released: &mut Vec<FileId>, parts
     }
 }
 
+/// Where what a record holds lies, or an `Err` with where it belongs. Searches by halves.
+fn place_of(acknowledged: &Acknowledged, id: CheckpointId) -> Result<usize, usize>
+    requires { AreRising acknowledged.now.items }
+    ensures found { IfOk result (λ place. (place < length acknowledged.now.items) × HoldsAt (λ h. h.id ≡ id) acknowledged.now.items place) }
+    ensures absent { IfErr result (λ place. (place ≤ length acknowledged.now.items) × IsPartitionPoint (λ h. h.id < id) (λ h. id < h.id) acknowledged.now.items place) }
+{
+    acknowledged.binary_search_by_key(&id, |holding| holding.id)
+}
+
+/// The parts of a record; none where no subtask of it uses a file.
+pub(crate) fn parts_held(acknowledged: &Acknowledged, id: CheckpointId) -> &[Part]
+    requires { AreRising acknowledged.now.items }
+    ensures { result.now ≡ parts_of acknowledged.now id }
+{
+    match place_of(acknowledged, id) {
+        Ok(place) => &acknowledged[place].parts,
+        Err(_) => &[],
+    }
+}
+
+/// Takes the parts of a record away, where it has any. Takes no memory.
+pub(crate) fn remove(acknowledged: &mut Acknowledged, id: CheckpointId) -> Option<Vec<Part>>
+    requires { AreRising acknowledged.old.items }
+    ensures gone { acknowledged.new.items ≡ filter (λ h. not (h.id == id)) acknowledged.old.items }
+    ensures parts { IfSome result (λ parts. parts.items ≡ parts_of acknowledged.old id) }
+    ensures none { IfNone result (acknowledged.new.items ≡ acknowledged.old.items) }
+{
+    let Ok(place) = place_of(acknowledged, id) else {
+        return None;
+    };
+    let holding = acknowledged.remove(place)?;
+    Some(holding.parts)
+}
+
 /// Adds the part of a subtask to a record. Fails only for want of memory, and then adds nothing.
 pub(crate) fn hold(
     acknowledged: &mut Acknowledged,
@@ -97,11 +141,11 @@ pub(crate) fn hold(
     fresh: &Files,
     reused: &Files,
 ) -> Result<(), AllocError>
-    requires { IsOrdered nat_cmp acknowledged.old }
-    ensures ordered { IsOrdered nat_cmp acknowledged.new }
+    requires { AreRising acknowledged.old.items }
+    ensures ordered { AreRising acknowledged.new.items }
     ensures extends { Extends acknowledged.old acknowledged.new }
-    ensures ok { OnOk result (Adds (uses_in acknowledged.old.entries) (uses_of_ack id subtask fresh.now reused.now) (uses_in acknowledged.new.entries)) }
-    ensures err { OnErr result (uses_in acknowledged.new.entries ≡ uses_in acknowledged.old.entries) }
+    ensures ok { OnOk result (Adds (uses_in acknowledged.old.items) (uses_of_ack id subtask fresh.now reused.now) (uses_in acknowledged.new.items)) }
+    ensures err { OnErr result (uses_in acknowledged.new.items ≡ uses_in acknowledged.old.items) }
 {
     if fresh.is_empty() && reused.is_empty() {
         return Ok(());
@@ -113,15 +157,15 @@ pub(crate) fn hold(
         fresh,
         reused,
     };
-    match acknowledged.get_mut(&id) {
-        Some(parts) => {
-            parts.push(part)?;
+    match place_of(acknowledged, id) {
+        Ok(place) => {
+            acknowledged[place].parts.push(part)?;
             Ok(())
         }
-        None => {
+        Err(place) => {
             let mut parts = Vec::new(alloc);
             parts.push(part)?;
-            acknowledged.insert(id, parts)?;
+            acknowledged.insert(place, Holding { id, parts })?;
             Ok(())
         }
     }

@@ -4,11 +4,11 @@ ghost use Rattle.indexmap.specs.IndexMap.{index_map_len};
 ghost use Rattle.ckpt_ids.specs.Counting.{times};
 ghost use Rattle.ckpt_ids.specs.Ordered.{IsIn};
 ghost use Rattle.ckpt_registry.specs.Counters.{counter, counted_once, AreInRange};
-ghost use Rattle.ckpt_registry.specs.Holdings.{files_in, parts_of};
+ghost use Rattle.ckpt_registry.specs.Holdings.{AreRising, files_in, parts_of};
 ghost use Rattle.ckpt_registry.specs.Pins.{AreKept, AreSettled, IsKept, IsLook, IsTaken, each_file, is_named, own_in, parts_pinned, pins_of_records, pins_on};
 
 use crate::counters::{Counts, count_reused};
-use crate::holdings::{Acknowledged, Part, has, lower_each};
+use crate::holdings::{Acknowledged, Part, has, lower_each, parts_held};
 use crate::sorting::sort;
 use ckpt_ids::{CheckpointId, FileId};
 
@@ -27,13 +27,12 @@ pub(crate) struct Pinner {
 impl Pinner {
     /// Whether a file is one of the live record that is pinned.
     fn pins(&self, acknowledged: &Acknowledged, file: FileId) -> bool
-        requires { self.now.parts ≤ length (parts_of acknowledged.now self.now.chosen) }
+        requires rising { AreRising acknowledged.now.items }
+        requires within { self.now.parts ≤ length (parts_of acknowledged.now self.now.chosen) }
         ensures { result ≡ nat_lt 0 (times file (files_in (parts_pinned acknowledged.now self.now))) }
     {
-        match acknowledged.get(&self.chosen) {
-            Some(parts) => has(&parts[..self.parts], file),
-            None => false,
-        }
+        let parts = parts_held(acknowledged, self.chosen);
+        has(&parts[..self.parts], file)
     }
 
     /// The record that is pinned goes: its files are counted one by one from now on, in the room
@@ -89,6 +88,7 @@ struct Look {
 /// Looks whether a file is one of the live record that is pinned. Where the last look was at the
 /// same record it serves again: many may pin it.
 fn looked(acknowledged: &Acknowledged, one: &Pinner, last: Look, file: FileId) -> Look
+    requires rising { AreRising acknowledged.now.items }
     requires within { one.now.parts ≤ length (parts_of acknowledged.now one.now.chosen) }
     requires last { IsLook acknowledged.now file last }
     ensures look { IsLook acknowledged.now file result }
@@ -106,6 +106,7 @@ fn looked(acknowledged: &Acknowledged, one: &Pinner, last: Look, file: FileId) -
 
 /// How many of these pin a live record that has a file.
 pub(crate) fn pins_of(acknowledged: &Acknowledged, pinned: &[Pinner], file: FileId) -> u32
+    requires rising { AreRising acknowledged.now.items }
     requires kept { AreKept acknowledged.now pinned.now }
     requires below { pins_of_records acknowledged.now file pinned.now < 2 ^ 32 }
     ensures { result ≡ pins_of_records acknowledged.now file pinned.now }

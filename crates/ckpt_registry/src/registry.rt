@@ -6,7 +6,7 @@ ghost use Rattle.ckpt_ids.specs.Records.{Subtask, Pin, count, is_present, releas
 ghost use Rattle.ckpt_registry.specs.Uses.{IsEachOnce, HasNoUse, after_end, files_by, triples, without};
 
 use crate::counters::{Counts, count_fresh, count_reused};
-use crate::holdings::{Acknowledged, hold, named};
+use crate::holdings::{Acknowledged, hold, named, parts_held};
 use crate::pins::{Pinner, pins_of, unpin};
 use crate::releases::release_each;
 use crate::sorting::sort;
@@ -14,7 +14,7 @@ use ckpt_hash::Secret;
 use ckpt_ids::{CheckpointId, FileId, Files, SubtaskId};
 use indexmap::IndexMap;
 use std::alloc::{AllocError, Global};
-use std::collections::BTreeMap;
+use std::collections::VecDeque;
 use std::marker::Model;
 
 /// The uses of state files by live records, and how often each file is used.
@@ -22,9 +22,9 @@ use std::marker::Model;
 /// Calls cost what they name: `contains` is a look-up, `use_files` and `pin` visit their k files,
 /// `pin_record` the subtasks of the record that it pins, and `release` and `end` what the named
 /// records use, each by look-ups that take O(log n) steps among n, and the number of each record
-/// that pins another. `count` searches, beside its look-up, the files of each subtask of a record
-/// that is pinned, by halves; once, however many pin that record one after the other. No call
-/// visits the other files.
+/// that pins another. A record that goes from among others moves up to half of them by a place.
+/// `count` searches, beside its look-up, the files of each subtask of a record that is pinned, by
+/// halves; once, however many pin that record one after the other. No call visits the other files.
 ///
 /// A record that is pinned has a use of each of its files, which are present while it is live. So
 /// nothing is counted for its pins until it goes.
@@ -68,7 +68,7 @@ impl Registry {
     {
         Registry {
             counts: IndexMap::with_hasher(alloc, secret),
-            acknowledged: BTreeMap::new(alloc),
+            acknowledged: VecDeque::new(alloc),
             pinned: Vec::new(alloc),
             released: Vec::new(alloc),
         }
@@ -148,9 +148,10 @@ impl Registry {
         ensures ok { OnOk result (self.new ≡ in_order_once use_before (self.old ++ triples id Pin (files_by chosen self.old))) }
         ensures err { OnErr result (self.new ≡ self.old) }
     {
-        let Some(parts) = self.acknowledged.get(&chosen) else {
+        let parts = parts_held(&self.acknowledged, chosen);
+        if parts.is_empty() {
             return Ok(());
-        };
+        }
         let Some(files) = named(parts) else {
             return Err(AllocError);
         };

@@ -8,7 +8,7 @@ ghost use Rattle.ckpt_registry.specs.Sound.{AreCounted};
 ghost use Rattle.ckpt_registry.specs.Uses.{without, without_record};
 
 use crate::counters::Counts;
-use crate::holdings::{Acknowledged, lower_parts};
+use crate::holdings::{Acknowledged, lower_parts, remove};
 use crate::pins::{Pinner, settle, unpin};
 use ckpt_ids::{CheckpointId, FileId};
 
@@ -24,13 +24,13 @@ fn drop_uses(
     requires counted { AreCounted acknowledged.old pinned.old.items counts.old }
     requires room { index_map_len counts.old + vec_len released.old ≤ vec_capacity released.old }
     ensures counted { AreCounted acknowledged.new pinned.new.items counts.new }
-    ensures uses { uses_in acknowledged.new.entries ≡ without_record id (uses_in acknowledged.old.entries) }
+    ensures uses { uses_in acknowledged.new.items ≡ without_record id (uses_in acknowledged.old.items) }
     ensures pins { pins_in acknowledged.new pinned.new.items ≡ pins_in acknowledged.old pinned.old.items }
     ensures released { (f : ℕ) → times f released.new.items + counted_once counts.new f ≡ times f released.old.items + counted_once counts.old f }
     ensures len { index_map_len counts.new + vec_len released.new ≡ index_map_len counts.old + vec_len released.old }
     ensures capacity { vec_capacity released.new ≡ vec_capacity released.old }
 {
-    if let Some(parts) = acknowledged.remove(&id) {
+    if let Some(parts) = remove(acknowledged, id) {
         settle(pinned, counts, id, &parts);
         lower_parts(counts, released, &parts);
     }
@@ -48,7 +48,7 @@ pub(crate) fn release_each(
     requires counted { AreCounted acknowledged.old pinned.old.items counts.old }
     requires room { index_map_len counts.old + vec_len released.old ≤ vec_capacity released.old }
     ensures counted { AreCounted acknowledged.new pinned.new.items counts.new }
-    ensures uses { uses_in acknowledged.new.entries ≡ without owners.now (uses_in acknowledged.old.entries) }
+    ensures uses { uses_in acknowledged.new.items ≡ without owners.now (uses_in acknowledged.old.items) }
     ensures pins { pins_in acknowledged.new pinned.new.items ≡ without owners.now (pins_in acknowledged.old pinned.old.items) }
     ensures released { (f : ℕ) → times f released.new.items + counted_once counts.new f ≡ times f released.old.items + counted_once counts.old f }
     ensures len { index_map_len counts.new + vec_len released.new ≡ index_map_len counts.old + vec_len released.old }

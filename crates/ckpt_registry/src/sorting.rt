@@ -1,6 +1,6 @@
 ghost use Rattle.std.specs.Prelude.{◌≡◌, vec_capacity};
 ghost use Rattle.std.specs.List.Sorted.{IsPermutation, IsSorted};
-ghost use Rattle.ckpt_registry.specs.Holdings.{nat_cmp};
+ghost use Rattle.std.specs.Ordering.{nat_cmp};
 
 use ckpt_ids::FileId;
 

@@ -1,83 +1,128 @@
-use Rattle.std.proofs.Common.{◌≡◌, ℕ, ◌+◌, List, [], ◌∷◌, ◌++◌, cond, sym, ap, ◌∙◌, arith, count_by, Some}
-use Rattle.std.specs.Map.{set_value}
-use Rattle.std.specs.BTreeMap.{insert_entry, get}
-use Rattle.std.specs.Option.{is_some}
-use Rattle.std.specs.Ordering.{nat_cmp}
-use Rattle.std.proofs.lemmas.List.{append-nil}
-use Rattle.ckpt_ids.specs.Records.{Subtask}
-use Rattle.ckpt_registry.specs.declared.holdings.Part.{Part}
-use Rattle.ckpt_registry.specs.Holdings.{Acknowledged, files_of, uses_by, uses_in, parts_of}
-use Rattle.ckpt_registry.specs.Uses.{triples}
-use Rattle.ckpt_ids.proofs.CountLemmas.{count_by-append}
+use Rattle.std.proofs.Common.{◌≡◌, ℕ, ◌+◌, ◌<◌, Bool, List, [], ◌∷◌, ◌++◌, length, get_or, suc, take, drop, ◌⊎◌, refl, sym, ap, subst, ◌∙◌, ⊎_elim, count_by}
+use Rattle.std.specs.List.Sorted.{IsPartitionPoint}
+use Rattle.std.specs.VecDeque.{deque_with_item}
+use Rattle.std.specs.declared.alloc.Global.{Global}
+use Rattle.std.specs.declared.vec.Vec.{Vec}
+use Rattle.std.proofs.lemmas.List.{append-nil, set_split, take-append-drop}
+use Rattle.ckpt_ids.specs.Ordered.{IsIn}
+use Rattle.ckpt_ids.specs.Records.{Use, Subtask}
+use Rattle.ckpt_ids.proofs.OrderedLemmas.{IsIn-append_left, IsIn-append_right}
 use Rattle.ckpt_ids.proofs.ResultLemmas.{on_each_error}
-use Rattle.ckpt_registry.proofs.HoldingLemmas.{is_number, count_by-set_value, uses_in-set_value_same, count_by-insert_entry, uses_by-push, extends_at, parts_of-found, parts_of-none}
+use Rattle.ckpt_registry.specs.declared.holdings.Holding.{Holding}
+use Rattle.ckpt_registry.specs.declared.holdings.Part.{Part}
+use Rattle.ckpt_registry.specs.Holdings.{Acknowledged, AreRising, Extends, files_of, uses_by, uses_in, uses_of_ack}
+use Rattle.ckpt_registry.specs.Uses.{triples}
+use Rattle.ckpt_registry.proofs.HoldingLemmas.{Extends-grown, number, parts_in, uses-grown, uses-same}
+use Rattle.ckpt_registry.proofs.PlaceLemmas.{apart_at, apart_from, rising_insert, rising_same, split_at}
 use Rattle.ckpt_registry.proofs.holdings.hold.Goals as goal
 
-pub returns-in_err-push-in-Some-clause-extends : goal.returns-in_err-push-in-Some-clause-extends
-returns-in_err-push-in-Some-clause-extends c =
+-- what the uses of one part are
+uses_of_one : (id : ℕ) (part : Part) (fresh reused : List ℕ) → part.fresh ≡ fresh → part.reused ≡ reused → uses_by id (part ∷ []) ≡ uses_of_ack id part.subtask fresh reused
+uses_of_one id part fresh reused e f =
+    append-nil (triples id (Subtask part.subtask) (files_of part)) ∙ ap (λ (xs : List ℕ). triples id (Subtask part.subtask) (xs ++ part.reused)) e ∙ ap (λ (xs : List ℕ). triples id (Subtask part.subtask) (fresh ++ xs)) f
+
+-- a record that holds parts gets more
+module _ (m : Acknowledged) (id place : ℕ) (h : Holding) (v : Vec Part Global) (more : List Part) (a : AreRising m.items) (within : place < length m.items) (is : h ≡ get_or m.items place h) (own : h.id ≡ id) (grown : v.items ≡ h.parts.items ++ more) where
+  abbrev new : Holding
+  new = record { id = h.id; parts = v }
+
+  abbrev after : Acknowledged
+  after = deque_with_item m place new
+
+  had : m.items ≡ take place m.items ++ ((h ∷ []) ++ drop (suc place) m.items)
+  had = split_at id place m.items h within is
+
+  has : after.items ≡ take place m.items ++ new ∷ drop (suc place) m.items
+  has = set_split m.items place new within
+
+  all : (x : Holding) → IsIn x (h ∷ []) → x.id ≡ id
+  all x k = ⊎_elim (λ (e : x ≡ h). ap number e ∙ own) (λ (b : ⊥). absurd b) k
+
+  parts : new.parts.items ≡ parts_in (h ∷ []) ++ more
+  parts = grown ∙ ap (λ ps. ps ++ more) (sym (append-nil h.parts.items))
+
+  pushed_ordered : AreRising after.items
+  pushed_ordered = subst (λ hs. AreRising hs) (sym has) (rising_same id place m.items h within is new a refl)
+
+  pushed_extends : Extends m after
+  pushed_extends = Extends-grown m after id (take place m.items) (h ∷ []) (drop (suc place) m.items) new more had has own all parts (apart_at id place m.items h within is a own)
+
+  pushed_uses : (p : Use → Bool) → count_by p (uses_in after.items) ≡ count_by p (uses_in m.items) + count_by p (uses_by id more)
+  pushed_uses = uses-grown m after id (take place m.items) (h ∷ []) (drop (suc place) m.items) new more had has own all parts
+
+  pushed_same : more ≡ [] → uses_in after.items ≡ uses_in m.items
+  pushed_same = uses-same m after id (take place m.items) (h ∷ []) (drop (suc place) m.items) new more had has own all parts
+
+pub returns-in_err-push-in-Ok-clause-ordered : goal.returns-in_err-push-in-Ok-clause-ordered
+returns-in_err-push-in-Ok-clause-ordered c =
+    let found = c.in-Ok.ensures.found in
+    let h = c.index_mut.result.now in
+    pushed_ordered c.args.acknowledged.now c.args.id c.in-Ok.place h c.push.new.self [] c.requires found.0 c.index_mut.ensures.value (ap number c.index_mut.ensures.value ∙ found.1 h) (c.in_err-push-in-Ok.ensures.items ∙ sym (append-nil h.parts.items))
+
+pub returns-in_err-push-in-Ok-clause-extends : goal.returns-in_err-push-in-Ok-clause-extends
+returns-in_err-push-in-Ok-clause-extends c =
+    let found = c.in-Ok.ensures.found in
+    let h = c.index_mut.result.now in
+    pushed_extends c.args.acknowledged.now c.args.id c.in-Ok.place h c.push.new.self [] c.requires found.0 c.index_mut.ensures.value (ap number c.index_mut.ensures.value ∙ found.1 h) (c.in_err-push-in-Ok.ensures.items ∙ sym (append-nil h.parts.items))
+
+pub returns-in_err-push-in-Ok-clause-err : goal.returns-in_err-push-in-Ok-clause-err
+returns-in_err-push-in-Ok-clause-err c =
+    let found = c.in-Ok.ensures.found in
+    let h = c.index_mut.result.now in
+    on_each_error c.from_residual-in_err-push-in-Ok.result _
+    (pushed_same c.args.acknowledged.now c.args.id c.in-Ok.place h c.push.new.self [] c.requires found.0 c.index_mut.ensures.value (ap number c.index_mut.ensures.value ∙ found.1 h) (c.in_err-push-in-Ok.ensures.items ∙ sym (append-nil h.parts.items)) refl)
+
+pub returns-in_ok-push-in-Ok-clause-ordered : goal.returns-in_ok-push-in-Ok-clause-ordered
+returns-in_ok-push-in-Ok-clause-ordered c =
+    let found = c.in-Ok.ensures.found in
+    let h = c.index_mut.result.now in
+    let part : Part = record { subtask = c.args.subtask; fresh = c.in_ok-fresh.fresh; reused = c.in_ok-reused.reused } in
+    pushed_ordered c.args.acknowledged.now c.args.id c.in-Ok.place h c.push.new.self (part ∷ []) c.requires found.0 c.index_mut.ensures.value (ap number c.index_mut.ensures.value ∙ found.1 h) c.in_ok-push-in-Ok.ensures.items
+
+pub returns-in_ok-push-in-Ok-clause-extends : goal.returns-in_ok-push-in-Ok-clause-extends
+returns-in_ok-push-in-Ok-clause-extends c =
+    let found = c.in-Ok.ensures.found in
+    let h = c.index_mut.result.now in
+    let part : Part = record { subtask = c.args.subtask; fresh = c.in_ok-fresh.fresh; reused = c.in_ok-reused.reused } in
+    pushed_extends c.args.acknowledged.now c.args.id c.in-Ok.place h c.push.new.self (part ∷ []) c.requires found.0 c.index_mut.ensures.value (ap number c.index_mut.ensures.value ∙ found.1 h) c.in_ok-push-in-Ok.ensures.items
+
+pub returns-in_ok-push-in-Ok-clause-ok : goal.returns-in_ok-push-in-Ok-clause-ok
+returns-in_ok-push-in-Ok-clause-ok c = λ p.
+    let found = c.in-Ok.ensures.found in
+    let h = c.index_mut.result.now in
     let m : Acknowledged = c.args.acknowledged.now in
-    let w = c.push.new.self in
-    let written = c.get_mut.follows.holds w in
-    let found = sym c.in-Some.ensures.value in
-    let same : w.items ≡ parts_of m c.args.id ++ [] = (c.in_err-push-in-Some.ensures).items ∙ sym (parts_of-found m c.args.id c.in-Some.parts.now found) ∙ sym (append-nil (parts_of m c.args.id)) in
-    extends_at m (c.get_mut.follows.lender w) c.args.id w [] (written.3 (ap is_some found)).0 same
+    let part : Part = record { subtask = c.args.subtask; fresh = c.in_ok-fresh.fresh; reused = c.in_ok-reused.reused } in
+    pushed_uses m c.args.id c.in-Ok.place h c.push.new.self (part ∷ []) c.requires found.0 c.index_mut.ensures.value (ap number c.index_mut.ensures.value ∙ found.1 h) c.in_ok-push-in-Ok.ensures.items p
+    ∙ ap (λ (us : List Use). count_by p (uses_in m.items) + count_by p us) (uses_of_one c.args.id part c.args.fresh.now c.args.reused.now c.in_ok-fresh.ensures c.in_ok-reused.ensures)
 
-pub returns-in_err-push-in-Some-clause-err : goal.returns-in_err-push-in-Some-clause-err
-returns-in_err-push-in-Some-clause-err c =
-    let w = c.push.new.self in
-    let written = c.get_mut.follows.holds w in
-    let same : uses_in (c.get_mut.follows.lender w).entries ≡ uses_in c.args.acknowledged.now.entries =
-    ap (λ xs. uses_in xs) written.0 ∙ uses_in-set_value_same c.args.id c.args.acknowledged.now.entries c.in-Some.parts.now w (sym c.in-Some.ensures.value) (c.in_err-push-in-Some.ensures).items in
-    on_each_error c.from_residual-in_err-push-in-Some.result _ same
+-- a record that holds nothing gets its first part
+module _ (m n : Acknowledged) (place : ℕ) (new : Holding) (more : List Part) (parted : IsPartitionPoint (λ h. h.id < new.id) (λ h. new.id < h.id) m.items place) (has : n.items ≡ take place m.items ++ new ∷ drop place m.items) (is : new.parts.items ≡ more) where
+  inserted_extends : Extends m n
+  inserted_extends =
+      let apart : (x : Holding) → IsIn x (take place m.items) ⊎ IsIn x (drop place m.items) → x.id ≡ new.id → ⊥ = λ x side.
+      let among : IsIn x (take place m.items ++ drop place m.items) = ⊎_elim (λ (k : IsIn x (take place m.items)). IsIn-append_left x (take place m.items) (drop place m.items) k) (λ (k : IsIn x (drop place m.items)). IsIn-append_right x (take place m.items) (drop place m.items) k) side in
+      apart_from new.id place m.items parted x (subst (λ hs. IsIn x hs) (take-append-drop place m.items) among) in
+      Extends-grown m n new.id (take place m.items) [] (drop place m.items) new more (sym (take-append-drop place m.items)) has refl (λ x k. absurd k) is apart
 
-pub returns-in_ok-push-in-Some-clause-extends : goal.returns-in_ok-push-in-Some-clause-extends
-returns-in_ok-push-in-Some-clause-extends c =
+  inserted_uses : (p : Use → Bool) → count_by p (uses_in n.items) ≡ count_by p (uses_in m.items) + count_by p (uses_by new.id more)
+  inserted_uses = uses-grown m n new.id (take place m.items) [] (drop place m.items) new more (sym (take-append-drop place m.items)) has refl (λ x k. absurd k) is
+
+pub returns-in_ok-insert-in-Err-clause-ordered : goal.returns-in_ok-insert-in-Err-clause-ordered
+returns-in_ok-insert-in-Err-clause-ordered c =
+    let absent = c.in-Err.ensures.absent in
+    let new : Holding = record { id = c.args.id; parts = c.push-in-Err.new.self } in
+    subst (λ hs. AreRising hs) (sym c.in_ok-insert-in-Err.ensures.items) (rising_insert new c.args.acknowledged.now.items c.in-Err.place c.requires absent.0 absent.1)
+
+pub returns-in_ok-insert-in-Err-clause-extends : goal.returns-in_ok-insert-in-Err-clause-extends
+returns-in_ok-insert-in-Err-clause-extends c =
+    let new : Holding = record { id = c.args.id; parts = c.push-in-Err.new.self } in
+    inserted_extends c.args.acknowledged.now c.insert.new.self c.in-Err.place new _ c.in-Err.ensures.absent.1 c.in_ok-insert-in-Err.ensures.items refl
+
+pub returns-in_ok-insert-in-Err-clause-ok : goal.returns-in_ok-insert-in-Err-clause-ok
+returns-in_ok-insert-in-Err-clause-ok c = λ p.
     let m : Acknowledged = c.args.acknowledged.now in
-    let w = c.push.new.self in
-    let written = c.get_mut.follows.holds w in
-    let found = sym c.in-Some.ensures.value in
     let part : Part = record { subtask = c.args.subtask; fresh = c.in_ok-fresh.fresh; reused = c.in_ok-reused.reused } in
-    let same : w.items ≡ parts_of m c.args.id ++ part ∷ [] = (c.in_ok-push-in-Some.ensures).items ∙ ap (λ ps. ps ++ part ∷ []) (sym (parts_of-found m c.args.id c.in-Some.parts.now found)) in
-    extends_at m (c.get_mut.follows.lender w) c.args.id w (part ∷ []) (written.3 (ap is_some found)).0 same
-
-pub returns-in_ok-push-in-Some-clause-ok : goal.returns-in_ok-push-in-Some-clause-ok
-returns-in_ok-push-in-Some-clause-ok c = λ p.
-    let w = c.push.new.self in
-    let written = c.get_mut.follows.holds w in
-    let es = c.args.acknowledged.now.entries in
-    let new = (c.get_mut.follows.lender w).entries in
-    let id = c.args.id in
-    let had = c.in-Some.parts.now.items in
-    let part : Part = record { subtask = c.args.subtask; fresh = c.in_ok-fresh.fresh; reused = c.in_ok-reused.reused } in
-    let files : List ℕ = c.args.fresh.now ++ c.args.reused.now in
-    let given : files_of part ≡ files = ap (λ (xs : List ℕ). xs ++ c.in_ok-reused.reused) c.in_ok-fresh.ensures ∙ ap (λ (xs : List ℕ). c.args.fresh.now ++ xs) c.in_ok-reused.ensures in
-    let part_of = count_by-set_value p id es c.in-Some.parts.now w (sym c.in-Some.ensures.value) in
-    let after : count_by p (uses_in new) ≡ count_by p (uses_in (set_value (is_number id) es w)) = ap (λ xs. count_by p (uses_in xs)) written.0 in
-    let more : count_by p (uses_by id w.items) ≡ count_by p (uses_by id had) + count_by p (triples id (Subtask c.args.subtask) files) =
-    ap (λ xs. count_by p (uses_by id xs)) (c.in_ok-push-in-Some.ensures).items ∙ ap (count_by p) (uses_by-push id had part) ∙ count_by-append p (uses_by id had) (triples id (Subtask c.args.subtask) (files_of part))
-    ∙ ap (λ fs. count_by p (uses_by id had) + count_by p (triples id (Subtask c.args.subtask) fs)) given in
-    omega (arith, part_of, after, more)
-
-pub returns-in_ok-insert-in-None-clause-extends : goal.returns-in_ok-insert-in-None-clause-extends
-returns-in_ok-insert-in-None-clause-extends c =
-    let m : Acknowledged = c.args.acknowledged.now in
-    let w = c.push-in-None.new.self in
-    let part : Part = record { subtask = c.args.subtask; fresh = c.in_ok-fresh.fresh; reused = c.in_ok-reused.reused } in
-    let absent = sym c.in-None.ensures.value in
-    let same : w.items ≡ parts_of m c.args.id ++ part ∷ [] = (c.in_ok-push-in-None.ensures).items ∙ ap (λ (ps : List Part). ps ++ part ∷ []) (c.new-parts.ensures.items ∙ sym (parts_of-none m c.args.id absent)) in
-    let sets : (q : ℕ) → get nat_cmp c.insert.new.self q ≡ cond (is_number c.args.id q) (Some w) (get nat_cmp m q) = λ q. (c.in_ok-insert-in-None.ensures.updates).0 q ∙ ap (λ (x : Acknowledged). cond (is_number c.args.id q) (Some w) (get nat_cmp x q)) c.get_mut.follows.holds-at-none in
-    extends_at m c.insert.new.self c.args.id w (part ∷ []) sets same
-
-pub returns-in_ok-insert-in-None-clause-ok : goal.returns-in_ok-insert-in-None-clause-ok
-returns-in_ok-insert-in-None-clause-ok c = λ p.
-    let es = c.args.acknowledged.now.entries in
-    let id = c.args.id in
-    let w = c.push-in-None.new.self in
-    let part : Part = record { subtask = c.args.subtask; fresh = c.in_ok-fresh.fresh; reused = c.in_ok-reused.reused } in
-    let files : List ℕ = c.args.fresh.now ++ c.args.reused.now in
-    let given : files_of part ≡ files = ap (λ (xs : List ℕ). xs ++ c.in_ok-reused.reused) c.in_ok-fresh.ensures ∙ ap (λ (xs : List ℕ). c.args.fresh.now ++ xs) c.in_ok-reused.ensures in
-    let part_of = count_by-insert_entry p id es w (sym c.in-None.ensures.value) in
-    let after : count_by p (uses_in c.insert.new.self.entries) ≡ count_by p (uses_in (insert_entry nat_cmp es id w)) = ap (λ xs. count_by p (uses_in xs)) c.in_ok-insert-in-None.ensures.entries ∙ ap (λ (m : Acknowledged). count_by p (uses_in (insert_entry nat_cmp m.entries id w))) c.get_mut.follows.holds-at-none in
-    let none : w.items ≡ [] ++ part ∷ [] = (c.in_ok-push-in-None.ensures).items ∙ ap (λ (ps : List Part). ps ++ part ∷ []) c.new-parts.ensures.items in
-    let more : count_by p (uses_by id w.items) ≡ count_by p (triples id (Subtask c.args.subtask) files) = ap (λ xs. count_by p (uses_by id xs)) none ∙ ap (count_by p) (uses_by-push id [] part) ∙ ap (λ fs. count_by p (triples id (Subtask c.args.subtask) fs)) given in
-    omega (arith, part_of, after, more)
+    let new : Holding = record { id = c.args.id; parts = c.push-in-Err.new.self } in
+    let one : new.parts.items ≡ part ∷ [] = c.in_ok-push-in-Err.ensures.items ∙ ap (λ (ps : List Part). ps ++ part ∷ []) c.new-parts.ensures.items in
+    inserted_uses m c.insert.new.self c.in-Err.place new (part ∷ []) c.in-Err.ensures.absent.1 c.in_ok-insert-in-Err.ensures.items one p
+    ∙ ap (λ (us : List Use). count_by p (uses_in m.items) + count_by p us) (uses_of_one c.args.id part c.args.fresh.now c.args.reused.now c.in_ok-fresh.ensures c.in_ok-reused.ensures)

@@ -1,4 +1,4 @@
-use Rattle.std.proofs.Common.{◌≡◌, ℕ, ◌+◌, ap, ◌∙◌, arith}
+use Rattle.std.proofs.Common.{◌≡◌, ◌+◌, ap, ◌∙◌, arith}
 use Rattle.ckpt_ids.specs.Counting.{times}
 use Rattle.ckpt_ids.proofs.CountLemmas.{times-append}
 use Rattle.ckpt_registry.specs.Holdings.{files_of}

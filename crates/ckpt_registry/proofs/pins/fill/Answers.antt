@@ -1,4 +1,4 @@
-use Rattle.std.proofs.Common.{◌≡◌, ℕ, ◌+◌, ◌≤◌, List, ◌++◌, length, take, ap, sym, ◌∙◌, arith, append_assoc, length-append}
+use Rattle.std.proofs.Common.{◌≡◌, ℕ, ◌+◌, List, ◌++◌, length, take, ap, sym, ◌∙◌, arith, append_assoc, length-append}
 use Rattle.ckpt_registry.specs.Holdings.{files_in, files_of}
 use Rattle.ckpt_registry.proofs.PartLemmas.{flat_map_more, length_more_of, length_of_take}
 use Rattle.ckpt_registry.proofs.pins.fill.Goals as goal

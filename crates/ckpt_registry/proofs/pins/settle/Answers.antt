@@ -1,10 +1,9 @@
 use Rattle.std.proofs.Common.{◌≡◌, ℕ, ◌+◌, ◌<◌, ◌≤◌, List, ◌++◌, cond, eqb, length, get_or, take, drop, set, ap, sym, subst, ◌∙◌, refl, inl, inr, arith, length-append}
-use Rattle.std.proofs.lemmas.Bool.{eqb-true, eqb-false, cond-true, cond-false}
-use Rattle.std.proofs.lemmas.List.{append-nil, take_all, drop_all, length-set, set-get_or}
+use Rattle.std.proofs.lemmas.Bool.{eqb-true, eqb-false, cond-true}
+use Rattle.std.proofs.lemmas.List.{append-nil, take_all, drop_all, set-get_or}
 use Rattle.std.proofs.lemmas.List.Sums.{sum_by_more, sum_by-take-le}
 use Rattle.indexmap.specs.IndexMap.{index_map_len}
 use Rattle.ckpt_ids.specs.Counting.{times}
-use Rattle.ckpt_ids.specs.Ordered.{IsIn}
 use Rattle.ckpt_ids.proofs.OrderedLemmas.{IsIn-get_or}
 use Rattle.ckpt_registry.specs.declared.pins.Pinner.{Pinner}
 use Rattle.ckpt_registry.specs.Counters.{Counts, counter, AreInRange}

@@ -1,15 +1,12 @@
-use Rattle.std.proofs.Common.{◌≡◌, ℕ, ◌+◌, ◌<◌, ◌≤◌, List, sym, ap, subst, ◌∙◌, arith, eqb, Some}
-use Rattle.std.specs.Map.{remove_entry}
+use Rattle.std.proofs.Common.{◌≡◌, ℕ, ◌+◌, List, sym, ap, subst, ◌∙◌, arith}
 use Rattle.ckpt_ids.specs.Counting.{times}
-use Rattle.ckpt_ids.specs.Ordered.{IsIn}
-use Rattle.ckpt_ids.specs.Records.{Use, count}
-use Rattle.ckpt_ids.proofs.CountLemmas.{count_by-append, times-from_IsIn}
+use Rattle.ckpt_ids.proofs.CountLemmas.{times-from_IsIn}
 use Rattle.ckpt_registry.specs.declared.holdings.Part.{Part}
 use Rattle.ckpt_registry.specs.declared.pins.Pinner.{Pinner}
 use Rattle.ckpt_registry.specs.Counters.{counter, counted_once}
-use Rattle.ckpt_registry.specs.Holdings.{Acknowledged, files_in, parts_of, uses_in}
-use Rattle.ckpt_registry.specs.Pins.{AreSettled, IsKept, own_in, pins_of_records, pins_on}
-use Rattle.ckpt_registry.proofs.HoldingLemmas.{is_number, uses_in-remove_entry, count_by-remove_entry, count-parts_of, count-uses_by, parts_of-found, parts_of-gone}
+use Rattle.ckpt_registry.specs.Holdings.{Acknowledged, files_in, parts_of}
+use Rattle.ckpt_registry.specs.Pins.{AreSettled, IsKept, pins_on}
+use Rattle.ckpt_registry.proofs.HoldingLemmas.{AreRising-gone, count-gone, count-parts_of, parts_of-gone, uses_in-gone}
 use Rattle.ckpt_registry.proofs.PinLemmas.{pins_on-le}
 use Rattle.ckpt_registry.proofs.SoundLemmas.{AreCounted-gone, AreCounted-unchanged, count-stored, counted_once-settled, pins_in-gone}
 use Rattle.ckpt_registry.proofs.releases.drop_uses.Goals as goal
@@ -17,14 +14,14 @@ use Rattle.ckpt_registry.proofs.releases.drop_uses.Goals as goal
 pub settle-requires-clause-kept : goal.settle-requires-clause-kept
 settle-requires-clause-kept c = λ one h e.
     let m : Acknowledged = c.args.acknowledged.now in
-    let is : parts_of m one.chosen ≡ c.deref.result.now = ap (parts_of m) e ∙ parts_of-found m c.args.id c.in-Some.parts (sym c.in-Some.ensures.value) ∙ sym c.deref.ensures.value in
+    let is : parts_of m one.chosen ≡ c.deref.result.now = ap (parts_of m) e ∙ sym c.in-Some.ensures.parts ∙ sym c.deref.ensures.value in
     let P : List Part → Type 0 = λ ps. IsKept ps one in
     subst P is (c.requires.counted.kept one h)
 
 pub settle-requires-clause-present : goal.settle-requires-clause-present
 settle-requires-clause-present c = λ f h.
     let m : Acknowledged = c.args.acknowledged.now in
-    let is : c.deref.result.now ≡ parts_of m c.args.id = c.deref.ensures.value ∙ sym (parts_of-found m c.args.id c.in-Some.parts (sym c.in-Some.ensures.value)) in
+    let is : c.deref.result.now ≡ parts_of m c.args.id = c.deref.ensures.value ∙ c.in-Some.ensures.parts in
     let same : times f (files_in c.deref.result.now) ≡ times f (files_in (parts_of m c.args.id)) = ap (λ ps. times f (files_in ps)) is in
     omega (arith, same, times-from_IsIn f (files_in c.deref.result.now) h, count-parts_of m c.args.id f, c.requires.counted.counted f)
 
@@ -32,59 +29,53 @@ pub settle-requires-clause-fits : goal.settle-requires-clause-fits
 settle-requires-clause-fits c = λ f.
     let m : Acknowledged = c.args.acknowledged.now in
     let p : List Pinner = c.args.pinned.now.items in
-    let is : c.deref.result.now ≡ parts_of m c.args.id = c.deref.ensures.value ∙ sym (parts_of-found m c.args.id c.in-Some.parts (sym c.in-Some.ensures.value)) in
+    let is : c.deref.result.now ≡ parts_of m c.args.id = c.deref.ensures.value ∙ c.in-Some.ensures.parts in
     let same : pins_on c.args.id c.deref.result.now f p ≡ pins_on c.args.id (parts_of m c.args.id) f p = ap (λ ps. pins_on c.args.id ps f p) is in
     omega (arith, same, pins_on-le m c.args.id f p, count-stored m p c.args.counts.now c.requires.counted f, c.requires.counted.below f)
 
 pub lower_parts-requires-clause-counted : goal.lower_parts-requires-clause-counted
 lower_parts-requires-clause-counted c = λ f.
     let m : Acknowledged = c.args.acknowledged.now in
-    let is : c.deref-in-Some.result.now ≡ parts_of m c.args.id = c.deref-in-Some.ensures.value ∙ sym (parts_of-found m c.args.id c.in-Some.parts (sym c.in-Some.ensures.value)) in
+    let is : c.deref-in-Some.result.now ≡ parts_of m c.args.id = c.deref-in-Some.ensures.value ∙ c.in-Some.ensures.parts in
     let same : times f (files_in c.deref-in-Some.result.now) ≡ times f (files_in (parts_of m c.args.id)) = ap (λ ps. times f (files_in ps)) is in
     omega (arith, same, count-parts_of m c.args.id f, c.requires.counted.counted f, c.settle.ensures.counted f)
 
 pub returns-in-Some-clause-counted : goal.returns-in-Some-clause-counted
 returns-in-Some-clause-counted c =
     let m : Acknowledged = c.args.acknowledged.now in
-    let n : Acknowledged = c.remove.new.self in
+    let n : Acknowledged = c.remove.new.acknowledged in
     let id = c.args.id in
     let p : List Pinner = c.args.pinned.now.items in
     let q : List Pinner = c.settle.new.pinned.items in
-    let found = sym c.in-Some.ensures.value in
-    let is : c.deref.result.now ≡ parts_of m id = c.deref.ensures.value ∙ sym (parts_of-found m id c.in-Some.parts found) in
-    let other : c.deref-in-Some.result.now ≡ parts_of m id = c.deref-in-Some.ensures.value ∙ sym (parts_of-found m id c.in-Some.parts found) in
+    let is : c.deref.result.now ≡ parts_of m id = c.deref.ensures.value ∙ c.in-Some.ensures.parts in
+    let other : c.deref-in-Some.result.now ≡ parts_of m id = c.deref-in-Some.ensures.value ∙ c.in-Some.ensures.parts in
     let P : List Part → Type 0 = λ ps. AreSettled id ps p q in
-    let split : (f : ℕ) → count (uses_in m.entries) f ≡ times f (files_in (parts_of m id)) + count (uses_in n.entries) f = λ f.
-    let part = count_by-remove_entry (λ (u : Use). eqb u.file f) id m.entries c.in-Some.parts found in
-    let rest : count (uses_in n.entries) f ≡ count (uses_in (remove_entry (is_number id) m.entries)) f = ap (λ es. count (uses_in es) f) c.in-Some.ensures.entries in
-    let same : times f (files_in (parts_of m id)) ≡ times f (files_in c.in-Some.parts.items) = ap (λ ps. times f (files_in ps)) (parts_of-found m id c.in-Some.parts found) in
-    omega (arith, part, rest, same, count-uses_by id f c.in-Some.parts.items) in
     let moved : (f : ℕ) → counter c.lower_parts.new.counts f + times f (files_in (parts_of m id)) ≡ counter c.args.counts.now f + pins_on id (parts_of m id) f p = λ f.
     let lowered : times f (files_in c.deref-in-Some.result.now) ≡ times f (files_in (parts_of m id)) = ap (λ ps. times f (files_in ps)) other in
     let raised : pins_on id c.deref.result.now f p ≡ pins_on id (parts_of m id) f p = ap (λ ps. pins_on id ps f p) is in
     omega (arith, lowered, raised, c.lower_parts.ensures.lowered f, c.settle.ensures.counted f) in
-    AreCounted-gone m n id p q c.args.counts.now c.lower_parts.new.counts c.requires.counted (parts_of-gone m n id (c.in-Some.ensures.updates).0) (subst P is c.settle.ensures.settled) c.in-Some.ensures.ordered
-    (ap (λ es. uses_in es) c.in-Some.ensures.entries ∙ uses_in-remove_entry id m.entries c.requires.counted.ordered) split moved c.lower_parts.ensures.range
+    AreCounted-gone m n id p q c.args.counts.now c.lower_parts.new.counts c.requires.counted (parts_of-gone m n id c.remove.ensures.gone) (subst P is c.settle.ensures.settled) (AreRising-gone m n id c.remove.ensures.gone c.requires.counted.ordered)
+    (uses_in-gone m n id c.remove.ensures.gone) (count-gone m n id c.remove.ensures.gone) moved c.lower_parts.ensures.range
 
 pub returns-in-Some-clause-uses : goal.returns-in-Some-clause-uses
-returns-in-Some-clause-uses c = ap (λ es. uses_in es) c.in-Some.ensures.entries ∙ uses_in-remove_entry c.args.id c.args.acknowledged.now.entries c.requires.counted.ordered
+returns-in-Some-clause-uses c = uses_in-gone c.args.acknowledged.now c.remove.new.acknowledged c.args.id c.remove.ensures.gone
 
 pub returns-in-Some-clause-pins : goal.returns-in-Some-clause-pins
 returns-in-Some-clause-pins c =
     let m : Acknowledged = c.args.acknowledged.now in
-    let n : Acknowledged = c.remove.new.self in
+    let n : Acknowledged = c.remove.new.acknowledged in
     let id = c.args.id in
     let p : List Pinner = c.args.pinned.now.items in
     let q : List Pinner = c.settle.new.pinned.items in
-    let is : c.deref.result.now ≡ parts_of m id = c.deref.ensures.value ∙ sym (parts_of-found m id c.in-Some.parts (sym c.in-Some.ensures.value)) in
+    let is : c.deref.result.now ≡ parts_of m id = c.deref.ensures.value ∙ c.in-Some.ensures.parts in
     let P : List Part → Type 0 = λ ps. AreSettled id ps p q in
-    pins_in-gone m n id p q c.args.counts.now c.lower_parts.new.counts c.requires.counted (parts_of-gone m n id (c.in-Some.ensures.updates).0) (subst P is c.settle.ensures.settled)
+    pins_in-gone m n id p q c.args.counts.now c.lower_parts.new.counts c.requires.counted (parts_of-gone m n id c.remove.ensures.gone) (subst P is c.settle.ensures.settled)
 
 pub returns-in-Some-clause-released : goal.returns-in-Some-clause-released
 returns-in-Some-clause-released c = λ f.
     let m : Acknowledged = c.args.acknowledged.now in
     let p : List Pinner = c.args.pinned.now.items in
-    let is : c.deref.result.now ≡ parts_of m c.args.id = c.deref.ensures.value ∙ sym (parts_of-found m c.args.id c.in-Some.parts (sym c.in-Some.ensures.value)) in
+    let is : c.deref.result.now ≡ parts_of m c.args.id = c.deref.ensures.value ∙ c.in-Some.ensures.parts in
     let raised : pins_on c.args.id c.deref.result.now f p ≡ pins_on c.args.id (parts_of m c.args.id) f p = ap (λ ps. pins_on c.args.id ps f p) is in
     let same : counted_once c.settle.new.counts f ≡ counted_once c.args.counts.now f = counted_once-settled m p c.args.counts.now c.settle.new.counts c.args.id f c.requires.counted (c.settle.ensures.counted f ∙ ap (λ k. counter c.args.counts.now f + k) raised) in
     omega (arith, same, c.lower_parts.ensures.released f)
@@ -92,8 +83,8 @@ returns-in-Some-clause-released c = λ f.
 pub returns-in_default-clause-counted : goal.returns-in_default-clause-counted
 returns-in_default-clause-counted c =
     let m : Acknowledged = c.args.acknowledged.now in
-    let n : Acknowledged = c.remove.new.self in
-    AreCounted-unchanged m n c.args.pinned.now.items c.args.counts.now c.in_default.ensures.unchanged c.requires.counted
+    let n : Acknowledged = c.remove.new.acknowledged in
+    AreCounted-unchanged m n c.args.pinned.now.items c.args.counts.now c.in_default.ensures.none c.requires.counted
 
 pub returns-in_default-clause-uses : goal.returns-in_default-clause-uses
-returns-in_default-clause-uses c = ap (λ es. uses_in es) c.in_default.ensures.entries ∙ uses_in-remove_entry c.args.id c.args.acknowledged.now.entries c.requires.counted.ordered
+returns-in_default-clause-uses c = uses_in-gone c.args.acknowledged.now c.remove.new.acknowledged c.args.id c.remove.ensures.gone

@@ -1,4 +1,4 @@
-use Rattle.std.proofs.Common.{◌≡◌, ℕ, ◌<◌, length, refl, sym, ap, ◌∙◌, arith}
+use Rattle.std.proofs.Common.{ℕ, ◌<◌, length, sym, ap, ◌∙◌, arith}
 use Rattle.ckpt_registry.specs.Holdings.{uses_in}
 use Rattle.ckpt_registry.specs.Pins.{pins_in}
 use Rattle.ckpt_registry.proofs.HoldingLemmas.{without_more, without-none}
@@ -12,7 +12,7 @@ loop-owner-init c =
     let e = c.unpin.ensures in
     record {
       counted = AreCounted-unpinned m c.args.pinned.now.items c.unpin.new.pinned.items c.args.owners.now c.args.counts.now c.unpin.new.counts c.requires.counted e.kept e.lowered e.range;
-      uses = sym (without-none (uses_in m.entries));
+      uses = sym (without-none (uses_in m.items));
       pins = ap (pins_in m) e.kept ∙ pins_in-filter m c.args.owners.now c.args.pinned.now.items;
       released = e.released;
       len = e.len;

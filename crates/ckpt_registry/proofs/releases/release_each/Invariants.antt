@@ -12,7 +12,7 @@ use Rattle.ckpt_registry.proofs.releases.release_each.Given as goal
 abbrev pub invariant-loop-owner : goal.invariant-loop-owner
 invariant-loop-owner l = record {
   counted : AreCounted l.acknowledged l.pinned.items l.counts;
-  uses : uses_in l.acknowledged.entries ≡ without (take l.owner-index l.owners) (uses_in l.fn.acknowledged.entries);
+  uses : uses_in l.acknowledged.items ≡ without (take l.owner-index l.owners) (uses_in l.fn.acknowledged.items);
   pins : pins_in l.acknowledged l.pinned.items ≡ without l.owners (pins_in l.fn.acknowledged l.fn.pinned.items);
   released : (f : ℕ) → times f l.released.items + counted_once l.counts f ≡ times f l.fn.released.items + counted_once l.fn.counts f;
   len : index_map_len l.counts + vec_len l.released ≡ index_map_len l.fn.counts + vec_len l.fn.released;

@@ -1,4 +1,5 @@
-use Rattle.std.proofs.Common.{◌≡◌, ℕ, ◌+◌, ◌<◌, ◌≤◌, ◌^◌, ◌++◌, List, [], ◌∷◌, length, take, vec_len, sym, ap, subst, ◌∙◌, arith}
+use Rattle.std.proofs.lemmas.Bool.{eqb-true}
+use Rattle.std.proofs.Common.{eqb, true, refl, ◌≡◌, ℕ, ◌+◌, ◌<◌, ◌≤◌, ◌^◌, ◌++◌, List, [], ◌∷◌, length, take, sym, ap, subst, ◌∙◌, arith}
 use Rattle.std.specs.Vec.{vec_capacity}
 use Rattle.std.proofs.lemmas.List.{append-nil, take_all}
 use Rattle.ckpt_ids.specs.Counting.{times}
@@ -11,17 +12,20 @@ use Rattle.ckpt_registry.specs.Holdings.{Acknowledged, files_in, parts_of}
 use Rattle.ckpt_registry.specs.Pins.{IsKept, each_file, pinned_by}
 use Rattle.ckpt_registry.specs.Sound.{IsSound, in_use}
 use Rattle.ckpt_registry.specs.Uses.{HasNoUse, IsEachOnce, files_by, triples}
-use Rattle.ckpt_registry.proofs.HoldingLemmas.{parts_of-found, parts_of-none}
 use Rattle.ckpt_registry.proofs.RegistryLemmas.{IsEachOnce-files_by, IsSound-pinned, below-in_use, below_more, files_by-in_use, in_use-none, in_use-pinned}
 use Rattle.ckpt_registry.proofs.registry.Registry.pin_record.Goals as goal
 
-pub returns-in_default-clause-ok : goal.returns-in_default-clause-ok
-returns-in_default-clause-ok c =
+no_parts : (ps : List Part) → eqb (length ps) 0 ≡ true → ps ≡ []
+no_parts [] e = refl
+no_parts (p ∷ ps) e = absurd (omega (arith, eqb-true (length (p ∷ ps)) 0 e))
+
+pub returns-then-is_empty-clause-ok : goal.returns-then-is_empty-clause-ok
+returns-then-is_empty-clause-ok c =
     let r = c.self.inside in
     let a : Acknowledged = r.acknowledged in
     let p : List Pinner = r.pinned.items in
     let named : List ℕ = files_by c.args.chosen c.args.self.now in
-    let none : named ≡ [] = ap (files_by c.args.chosen) (sym c.self.view_is) ∙ files_by-in_use a p c.args.chosen c.self.invariant.parts.ordered ∙ ap each_file (parts_of-none a c.args.chosen (sym c.in_default.ensures.value)) in
+    let none : named ≡ [] = ap (files_by c.args.chosen) (sym c.self.view_is) ∙ files_by-in_use a p c.args.chosen ∙ ap each_file (sym c.parts_held-parts.ensures ∙ no_parts c.parts_held-parts.result.now (sym c.is_empty.ensures ∙ c.if-is_empty.true)) in
     let P : List Use → Type 0 = λ us. us ≡ in_order_once use_before (us ++ triples c.args.id Pin named) in
     subst P c.self.view_is (in_use-none a p c.args.id Pin named none)
 
@@ -38,12 +42,10 @@ invariant_of-self-2 c =
     let chosen = c.args.chosen in
     let named : List ℕ = files_by chosen c.args.self.now in
     let room = vec_capacity r.released in
-    let v = c.in-Some.parts.now in
-    let one : Pinner = record { id = c.args.id; chosen = chosen; parts = c.len-parts.result; files = c.in_ok-files.files } in
-    let had : parts_of a chosen ≡ v.items = parts_of-found a chosen v (sym c.in-Some.ensures.value) in
-    let len : length (parts_of a chosen) ≡ c.len-parts.result = ap (λ (ps : List Part). length ps) (had ∙ sym c.deref.ensures.value) ∙ c.deref.ensures.len ∙ sym c.len-parts.ensures in
-    let all : length (parts_of a chosen) ≤ c.len-parts.result = omega (arith, len) in
-    let pins : pinned_by a one ≡ named = pinned_all a p one c.args.self.now c.self.view_is (files_by-in_use a p chosen c.self.invariant.parts.ordered) all c.in_ok-files.ensures.items in
+    let one : Pinner = record { id = c.args.id; chosen = chosen; parts = length c.parts_held-parts.result.now; files = c.in_ok-files.files } in
+    let len : length (parts_of a chosen) ≡ length c.parts_held-parts.result.now = ap (λ (ps : List Part). length ps) (sym c.parts_held-parts.ensures) in
+    let all : length (parts_of a chosen) ≤ length c.parts_held-parts.result.now = omega (arith, len) in
+    let pins : pinned_by a one ≡ named = pinned_all a p one c.args.self.now c.self.view_is (files_by-in_use a p chosen) all c.in_ok-files.ensures.items in
     let each : IsEachOnce named = IsEachOnce-files_by chosen c.args.self.now in
     let H : List Use → Type 0 = λ us. HasNoUse us c.args.id Pin in
     let Q : List Use → Type 0 = λ us. (f : ℕ) → count us f + times f named < 2 ^ 32 in
@@ -51,8 +53,8 @@ invariant_of-self-2 c =
     let was : B c.args.self.now = subst B c.self.view_is (below-in_use a p r.counts room c.self.invariant) in
     let small : Q c.args.self.now = below_more c.args.self.now [] named was each (λ f h. absurd h) c.requires.below in
     let raised : (f : ℕ) → counter r.counts f ≡ counter r.counts f + times f c.in_ok-files.files.items = λ f. let none : times f c.in_ok-files.files.items ≡ 0 = ap (times f) c.in_ok-files.ensures.items in omega (arith, none) in
-    let files : length (files_in (take c.len-parts.result (parts_of a chosen))) ≡ length (files_in c.deref.result.now) = ap (λ (ps : List Part). length (files_in ps)) (take_all c.len-parts.result (parts_of a chosen) all ∙ had ∙ sym c.deref.ensures.value) in
-    let kept : IsKept (parts_of a chosen) one = record { within = omega (arith, len); none_own = λ lt. c.in_ok-files.ensures.items; room = λ lt. omega (arith, files, c.in-Some-named.ensures, c.in_ok-files.ensures.exact) } in
+    let files : length (files_in (take (length c.parts_held-parts.result.now) (parts_of a chosen))) ≡ length (files_in c.parts_held-parts.result.now) = ap (λ (ps : List Part). length (files_in ps)) (take_all (length c.parts_held-parts.result.now) (parts_of a chosen) all ∙ sym c.parts_held-parts.ensures) in
+    let kept : IsKept (parts_of a chosen) one = record { within = omega (arith, len); none_own = λ lt. c.in_ok-files.ensures.items; room = λ lt. omega (arith, files, c.in-Some.ensures, c.in_ok-files.ensures.exact) } in
     let P : List Pinner → Type 0 = λ ps. IsSound a ps r.counts room in
     subst P (sym c.in_ok-push.ensures.items)
     (IsSound-pinned a p one named pins r.counts r.counts room room c.self.invariant kept each (subst H (sym c.self.view_is) c.requires.unpinned) raised c.self.invariant.parts.range c.self.invariant.has_room (subst Q (sym c.self.view_is) small))
@@ -64,9 +66,7 @@ returns-clause-ok c =
     let p : List Pinner = r.pinned.items in
     let chosen = c.args.chosen in
     let named : List ℕ = files_by chosen c.args.self.now in
-    let v = c.in-Some.parts.now in
-    let one : Pinner = record { id = c.args.id; chosen = chosen; parts = c.len-parts.result; files = c.in_ok-files.files } in
-    let had : parts_of a chosen ≡ v.items = parts_of-found a chosen v (sym c.in-Some.ensures.value) in
-    let len : length (parts_of a chosen) ≡ c.len-parts.result = ap (λ (ps : List Part). length ps) (had ∙ sym c.deref.ensures.value) ∙ c.deref.ensures.len ∙ sym c.len-parts.ensures in
-    let pins : pinned_by a one ≡ named = pinned_all a p one c.args.self.now c.self.view_is (files_by-in_use a p chosen c.self.invariant.parts.ordered) (omega (arith, len)) c.in_ok-files.ensures.items in
+    let one : Pinner = record { id = c.args.id; chosen = chosen; parts = length c.parts_held-parts.result.now; files = c.in_ok-files.files } in
+    let len : length (parts_of a chosen) ≡ length c.parts_held-parts.result.now = ap (λ (ps : List Part). length ps) (sym c.parts_held-parts.ensures) in
+    let pins : pinned_by a one ≡ named = pinned_all a p one c.args.self.now c.self.view_is (files_by-in_use a p chosen) (omega (arith, len)) c.in_ok-files.ensures.items in
     ap (in_use a) c.in_ok-push.ensures.items ∙ in_use-pinned a p one named pins ∙ ap (λ (us : List Use). in_order_once use_before (us ++ triples c.args.id Pin named)) c.self.view_is

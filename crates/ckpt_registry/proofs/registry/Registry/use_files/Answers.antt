@@ -1,11 +1,11 @@
-use Rattle.std.proofs.Common.{◌≡◌, ℕ, ◌+◌, ◌<◌, ◌≤◌, ◌++◌, ◌^◌, true, Bool, List, length, sym, ap, subst, ◌∙◌, arith, count_by, eqb}
+use Rattle.std.proofs.Common.{◌≡◌, ℕ, ◌+◌, ◌<◌, ◌≤◌, ◌++◌, ◌^◌, true, List, length, sym, ap, subst, ◌∙◌, arith}
 use Rattle.std.specs.Vec.{vec_capacity}
 use Rattle.std.proofs.lemmas.Bool.{ltb-true, ltb-false}
 use Rattle.indexmap.specs.IndexMap.{index_map_len}
 use Rattle.ckpt_ids.specs.Ordered.{IsIn, in_order_once}
 use Rattle.ckpt_ids.specs.Records.{Use, Subtask, count, is_present, use_before}
 use Rattle.ckpt_registry.specs.Counters.{counter}
-use Rattle.ckpt_registry.specs.Holdings.{Acknowledged, uses_in}
+use Rattle.ckpt_registry.specs.Holdings.{uses_in}
 use Rattle.ckpt_registry.specs.Pins.{pins_in}
 use Rattle.ckpt_registry.specs.declared.pins.Pinner.{Pinner}
 use Rattle.ckpt_registry.specs.Sound.{in_use, stored, StandsOnce}
@@ -67,7 +67,7 @@ invariant_of-self-in_err-hold c =
     let p : List Pinner = r.pinned.items in
     let held = c.hold.new.acknowledged in
     let e = c.in_err-hold.ensures in
-    let same : stored held p ≡ stored r.acknowledged p = ap (λ us. us ++ pins_in held p) e.err ∙ ap (λ us. uses_in r.acknowledged.entries ++ us) (pins_in-extended r.acknowledged held p e.extends c.self.invariant.parts.kept) in
+    let same : stored held p ≡ stored r.acknowledged p = ap (λ us. us ++ pins_in held p) e.err ∙ ap (λ us. uses_in r.acknowledged.items ++ us) (pins_in-extended r.acknowledged held p e.extends c.self.invariant.parts.kept) in
     let entries : index_map_len c.reserve.new.self ≡ index_map_len r.counts = ap (λ (es : List (ℕ × ℕ)). length es) c.in_ok-reserve.ensures.entries in
     record {
       parts = AreCounted-kept r.acknowledged held p r.counts c.reserve.new.self e.extends e.ordered e.err (counter-unchanged r.counts c.reserve.new.self c.in_ok-reserve.ensures.entries)
@@ -82,7 +82,7 @@ returns-in_err-hold-clause-err c =
     let p : List Pinner = r.pinned.items in
     let held = c.hold.new.acknowledged in
     let e = c.in_err-hold.ensures in
-    let same : stored held p ≡ stored r.acknowledged p = ap (λ us. us ++ pins_in held p) e.err ∙ ap (λ us. uses_in r.acknowledged.entries ++ us) (pins_in-extended r.acknowledged held p e.extends c.self.invariant.parts.kept) in
+    let same : stored held p ≡ stored r.acknowledged p = ap (λ us. us ++ pins_in held p) e.err ∙ ap (λ us. uses_in r.acknowledged.items ++ us) (pins_in-extended r.acknowledged held p e.extends c.self.invariant.parts.kept) in
     on_each_error c.from_residual-in_err-hold.result _ (ap (in_order_once use_before) same ∙ c.self.view_is)
 
 pub invariant_of-self-2 : goal.invariant_of-self-2
