@@ -1,20 +1,23 @@
-ghost use Rattle.std.specs.Prelude.{◌≡◌, ℕ, ◌+◌, ◌<◌, ◌≤◌, true, false, not, ◌&&◌, ◌||◌, nat_lt, nat_le, ◌==◌, [], ◌∷◌, ◌++◌, map, filter, find, length, count_by, Some, IsSome, OnOk, OnErr, option_copied, option_map, vec_capacity, vec_len};
+ghost use Rattle.std.specs.Prelude.{◌≡◌, ℕ, ◌+◌, ◌<◌, ◌≤◌, true, false, not, ◌&&◌, ◌||◌, nat_lt, nat_le, ◌==◌, [], ◌∷◌, ◌++◌, map, filter, find, length, count_by, Some, IfSome, IfNone, IsSome, OnOk, OnErr, option_copied, option_map, vec_capacity, vec_len};
 ghost use Rattle.std.specs.List.{list_any};
 ghost use Rattle.ckpt_core.specs.Inside.PendingRecords.{Expects, acked, retracted};
 ghost use Rattle.ckpt_core.specs.Inside.RecordFacts.{IsIn, IsInOrder, IsPending, Record, has_acknowledged, id_before, is_checkpoint};
 ghost use Rattle.ckpt_core.specs.Reads.{has_come, live_of};
+ghost use Rattle.ckpt_store.specs.Places.{IsPlaceOf};
+ghost use Rattle.ckpt_store.specs.Storing.{has_id};
 
 use crate::queries::{Live, live_pending};
 use ckpt_ids::{CheckpointId, Files, Kind, SubtaskId};
 use ckpt_pending::Pending;
 use std::alloc::{AllocError, Global};
-use std::collections::BTreeMap;
+use std::collections::VecDeque;
 use std::marker::Model;
 
-/// The records that wait for acknowledgements, by number.
+/// The records that wait for acknowledgements.
 #[derive(Debug, Drop)]
 pub(crate) struct PendingRecords {
-    records: BTreeMap<CheckpointId, Pending>,
+    // in rising number: a new record goes last, and each other is found by halves
+    records: VecDeque<Pending>,
     // of these records, how many are checkpoints
     checkpoints: usize,
 }
@@ -22,13 +25,13 @@ pub(crate) struct PendingRecords {
 impl Model for PendingRecords {
     ghost use Rattle.std.specs.Prelude.{List};
     ghost use Rattle.ckpt_ids.specs.Records.{Record};
-    ghost use Rattle.ckpt_core.specs.Inside.PendingRecords.{records_in, AreKept};
+    ghost use Rattle.ckpt_core.specs.Inside.PendingRecords.{AreKept};
 
     ghost Value = { List Record };
 
-    ghost view = { λ p. records_in p.records.entries };
+    ghost view = { λ p. p.records.items };
 
-    ghost invariant = { λ p. AreKept p.records.entries p.checkpoints };
+    ghost invariant = { λ p. AreKept p.records.items p.checkpoints };
 }
 
 impl PendingRecords {
@@ -37,7 +40,7 @@ impl PendingRecords {
         ensures { result ≡ [] }
     {
         PendingRecords {
-            records: BTreeMap::new(alloc),
+            records: VecDeque::new(alloc),
             checkpoints: 0,
         }
     }
@@ -56,7 +59,8 @@ impl PendingRecords {
         ensures in_order { IsInOrder id_before self.now }
         ensures pending { (r : Record) → IsIn r self.now → IsPending r }
     {
-        self.records.get(&id)
+        let place = place_of(&self.records, id)?;
+        self.records.get(place)
     }
 
     /// Adds a record with a greater number than all others. Fails only for want of memory, and
@@ -66,10 +70,10 @@ impl PendingRecords {
         ensures ok { OnOk result (self.new ≡ self.old ++ pending ∷ []) }
         ensures err { OnErr result (self.new ≡ self.old) }
     {
-        // a map has fewer than 2^63 entries, so the counter has room
-        let _fewer = self.records.len();
+        // its contract says that the record is pending
+        let _ = pending.id();
         let added = usize::from(is_checkpoint(&pending));
-        self.records.insert(pending.id(), pending)?;
+        self.records.push_back(pending)?;
         self.checkpoints += added;
         Ok(())
     }
@@ -87,8 +91,8 @@ impl PendingRecords {
         ensures ok { OnOk result (self.new ≡ acked id subtask files self.old) }
         ensures err { OnErr result (self.new ≡ self.old) }
     {
-        let pending = self.records.get_mut(&id).unwrap();
-        match pending.ack(subtask, files) {
+        let place = place_of(&self.records, id).unwrap();
+        match self.records[place].ack(subtask, files) {
             Ok(()) => Ok(()),
             Err(_) => Err(AllocError),
         }
@@ -101,8 +105,8 @@ impl PendingRecords {
         requires acknowledged { (r : Record) → find (λ r. r.id == id) self.old ≡ Some r → has_acknowledged r subtask ≡ true }
         ensures { self.new ≡ retracted id subtask self.old }
     {
-        let pending = self.records.get_mut(&id).unwrap();
-        pending.retract(subtask);
+        let place = place_of(&self.records, id).unwrap();
+        self.records[place].retract(subtask);
     }
 
     /// Takes out the record of this number. Takes no memory.
@@ -110,7 +114,8 @@ impl PendingRecords {
         ensures value { result ≡ find (λ r. r.id == id) self.old }
         ensures rest { self.new ≡ filter (λ r. not (r.id == id)) self.old }
     {
-        let removed = self.records.remove(&id)?;
+        let place = place_of(&self.records, id)?;
+        let removed = self.records.remove(place).unwrap();
         let gone = usize::from(is_checkpoint(&removed));
         self.checkpoints -= gone;
         Some(removed)
@@ -146,12 +151,13 @@ impl PendingRecords {
         self.records.len() - self.checkpoints
     }
 
-    /// The first record from this number on.
+    /// The first record from this number on. It is searched by halves.
     pub(crate) fn first_from(&self, id: CheckpointId) -> Option<Live>
         ensures value { result ≡ option_map live_of (find (λ r. nat_le id r.id) self.now) }
         ensures in_order { IsInOrder id_before self.now }
     {
-        let pending = self.records.values().find(|pending| pending.id() >= id)?;
+        let place = self.records.partition_point(|pending| pending.id() < id);
+        let pending = self.records.get(place)?;
         Some(live_pending(pending))
     }
 
@@ -160,7 +166,7 @@ impl PendingRecords {
         ensures { (t : ℕ) → list_any (λ r. nat_le r.started t) self.now ≡ has_come result t }
     {
         let mut least = None;
-        for pending in self.records.values() {
+        for pending in &self.records {
             least = Some(earlier(least, pending.started()));
         }
         least
@@ -172,8 +178,8 @@ impl PendingRecords {
         ensures items { ended.new.items ≡ ended.old.items ++ map (λ r. r.id) self.now }
         ensures capacity { vec_capacity ended.new ≡ vec_capacity ended.old }
     {
-        for id in self.records.keys() {
-            ended.push_reserved(*id);
+        for pending in &self.records {
+            ended.push_reserved(pending.id());
         }
     }
 
@@ -191,10 +197,8 @@ impl PendingRecords {
         ensures capacity { vec_capacity ended.new ≡ vec_capacity ended.old }
         ensures checkpoints { result ≡ count_by (λ r. nat_le (r.started + timeout) moment && is_checkpoint r) self.now }
     {
-        // a map has fewer than 2^63 entries, so the count has room
-        let _fewer = self.records.len();
         let mut checkpoints = 0;
-        for pending in self.records.values() {
+        for pending in &self.records {
             if is_expired(pending, moment, timeout) {
                 ended.push_reserved(pending.id());
                 checkpoints += usize::from(is_checkpoint(pending));
@@ -210,12 +214,23 @@ impl PendingRecords {
         ensures items { ended.new.items ≡ ended.old.items ++ map (λ r. r.id) (filter (λ r. is_checkpoint r && nat_lt r.id id) self.now) }
         ensures capacity { vec_capacity ended.new ≡ vec_capacity ended.old }
     {
-        for pending in self.records.values() {
+        for pending in &self.records {
             if is_checkpoint(pending) && pending.id() < id {
                 ended.push_reserved(pending.id());
             }
         }
     }
+}
+
+/// Where the record of this number is. It is searched by halves.
+fn place_of(records: &VecDeque<Pending>, id: CheckpointId) -> Option<usize>
+    requires { IsInOrder id_before records.now.items }
+    ensures found { IfSome result (λ place. (place < length records.now.items) × IsPlaceOf id records.now.items place) }
+    ensures absent { IfNone result (list_any (has_id id) records.now.items ≡ false) }
+{
+    records
+        .binary_search_by_key(&id, |pending| pending.id())
+        .ok()
 }
 
 /// The earlier of two moments, where there are two.

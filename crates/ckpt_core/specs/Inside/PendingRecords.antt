@@ -1,4 +1,4 @@
--- The records that wait for acknowledgements, as a list in rising number, and the map that keeps them.
+-- The records that wait for acknowledgements, as a list in rising number.
 use Rattle.std.specs.Prelude.{◌≡◌, ℕ, ◌==◌, true, false, List, map, count_by, if◌then◌else◌}
 use Rattle.ckpt_ids.specs.declared.subtask.SubtaskId.{SubtaskId}
 use Rattle.ckpt_ids.specs.Ordered.{IsIn, IsInOrder}
@@ -20,18 +20,8 @@ Expects r subtask = (is_subtask r.shape subtask ≡ true) × (has_acknowledged r
 abbrev pub retracted : ℕ → SubtaskId → List Record → List Record
 retracted id subtask rs = map (λ r. if r.id == id then without_ack subtask r else r) rs
 
--- a map's records, in the order of its keys
-abbrev pub records_in : List (ℕ × Record) → List Record
-records_in entries = map (λ e. e.1) entries
-
--- records with their numbers as keys
-abbrev pub by_number : List Record → List (ℕ × Record)
-by_number rs = map (λ r. (r.id, r)) rs
-
--- what holds of the map of pending records, and of the counter beside it
-pub record AreKept (entries : List (ℕ × Record)) (checkpoints : ℕ) : Type 0 where
-  -- each key is its record's number
-  pub keys : entries ≡ by_number (records_in entries)
-  pub in_order : IsInOrder id_before (records_in entries)
-  pub pending : (r : Record) → IsIn r (records_in entries) → IsPending r
-  pub counted : checkpoints ≡ count_by is_checkpoint (records_in entries)
+-- what holds of the pending records, and of the counter beside them
+pub record AreKept (records : List Record) (checkpoints : ℕ) : Type 0 where
+  pub in_order : IsInOrder id_before records
+  pub pending : (r : Record) → IsIn r records → IsPending r
+  pub counted : checkpoints ≡ count_by is_checkpoint records

@@ -1,7 +1,8 @@
 use Rattle.std.proofs.Common.{◌≡◌, ℕ, ◌||◌, nat_le}
 use Rattle.std.specs.List.{list_any}
 use Rattle.ckpt_core.specs.Reads.{has_come}
+use Rattle.std.specs.VecDeque.Iter.{deque_iter_rest}
 use Rattle.ckpt_core.proofs.pending_records.PendingRecords.least_started.Given as goal
 
 abbrev pub invariant-loop-pending : goal.invariant-loop-pending
-invariant-loop-pending l = (t : ℕ) → (has_come l.least t || list_any (λ r. nat_le r.started t) l.pending-iterator) ≡ list_any (λ r. nat_le r.started t) l.self
+invariant-loop-pending l = (t : ℕ) → (has_come l.least t || list_any (λ r. nat_le r.started t) (deque_iter_rest l.pending-iterator)) ≡ list_any (λ r. nat_le r.started t) l.self

@@ -2,7 +2,8 @@ use Rattle.std.proofs.Common.{◌≡◌, ◌∙◌, ◌+◌, ◌++◌, ◌∷◌
 use Rattle.std.specs.List.{list_any}
 use Rattle.std.proofs.lemmas.List.{take_more}
 use Rattle.ckpt_ids.specs.Records.{Record}
-use Rattle.ckpt_core.proofs.Records.Pending.{filter-one_more, numbered}
+use Rattle.ckpt_store.specs.Storing.{has_id}
+use Rattle.ckpt_core.proofs.Records.Pending.{filter-one_more}
 use Rattle.ckpt_core.proofs.pending_records.PendingRecords.remove_all.Goals as goal
 use Rattle.ckpt_ids.proofs.OrderedLemmas.{filter-all}
 
@@ -16,4 +17,4 @@ loop-id-preserved c =
     let id : ℕ = c.id-item.result in
     let without : List ℕ → List Record = λ xs. filter (λ r. not (list_any (λ k. eqb r.id k) xs)) c.args.self.now in
     let more : take (i + 1) ids ≡ take i ids ++ id ∷ [] = take_more ids i id c.loop-id-test.true ∙ ap (λ z. take i ids ++ z ∷ []) (sym c.id-item.is) in
-    c.remove.ensures.rest ∙ (ap (filter (λ r. not (numbered id r))) c.loop-id.invariant ∙ (filter-one_more (take i ids) id c.args.self.now ∙ ap without (sym more)))
+    c.remove.ensures.rest ∙ (ap (filter (λ r. not (has_id id r))) c.loop-id.invariant ∙ (filter-one_more (take i ids) id c.args.self.now ∙ ap without (sym more)))

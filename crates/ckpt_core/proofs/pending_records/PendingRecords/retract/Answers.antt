@@ -1,47 +1,34 @@
-use Rattle.std.proofs.Common.{◌≡◌, ◌∙◌, ℕ, List, Option, Some, IsSome, find, refl, sym, ap, subst, rules}
-use Rattle.std.specs.Option.{option_copied_mut}
-use Rattle.std.specs.Map.{lookup}
+use Rattle.std.proofs.Common.{◌≡◌, ◌∙◌, List, Some, IsSome, find, refl, sym, ap, subst}
 use Rattle.ckpt_ids.specs.Records.{Record}
-use Rattle.ckpt_pending.specs.Acknowledging.{IsPending, without_ack}
+use Rattle.ckpt_pending.specs.Acknowledging.{without_ack}
 use Rattle.ckpt_pending.proofs.PendingLemmas.{IsPending-without}
-use Rattle.ckpt_core.specs.Inside.PendingRecords.{records_in}
+use Rattle.ckpt_store.specs.Storing.{has_id}
 use Rattle.ckpt_core.proofs.Records.Counts.{IsIn-from_find}
-use Rattle.ckpt_core.proofs.Records.Pending.{found, numbered, at_number, changed, entries-changed, records_in-from, AreKept-changed}
+use Rattle.ckpt_core.proofs.Records.Pending.{AreKept-changed, IsAt, at_place, changed, found_at, place_there, set-place}
 use Rattle.ckpt_core.proofs.pending_records.PendingRecords.retract.Goals as goal
 
-pub unwrap-pending-requires : goal.unwrap-pending-requires
-unwrap-pending-requires c =
-    let same : lookup (at_number c.args.id) c.self.inside.records.entries ≡ find (numbered c.args.id) c.args.self.now = found c.args.id c.self.inside.records.entries c.self.inside.checkpoints c.self.invariant ∙ ap (find (numbered c.args.id)) c.self.view_is in
-    let there : IsSome (lookup (at_number c.args.id) c.self.inside.records.entries) = subst (λ (o : Option Record). IsSome o) (sym same) c.requires.there in
-    search rules
+pub unwrap-place-requires : goal.unwrap-place-requires
+unwrap-place-requires c =
+    let There : List Record → Type 0 = λ rs. IsSome (find (has_id c.args.id) rs) in
+    place_there c.args.id c.place_of.result c.self.inside.records.items (subst There (sym c.self.view_is) c.requires.there) c.place_of.ensures.absent
 
 pub retract-requires : goal.retract-requires
 retract-requires c =
-    let es = c.self.inside.records.entries in
-    let id : ℕ = c.args.id in
-    let held : Record = c.unwrap-pending.result.now in
-    let there : find (numbered id) (records_in es) ≡ Some held = sym (found id es c.self.inside.checkpoints c.self.invariant) ∙ (sym c.get_mut.ensures.value ∙ ap option_copied_mut c.unwrap-pending.ensures) in
-    c.requires.acknowledged held (ap (find (numbered id)) (sym c.self.view_is) ∙ there)
+    let rs : List Record = c.self.inside.records.items in
+    let at : IsAt c.args.id rs c.unwrap-place.result = at_place c.args.id c.unwrap-place.result c.place_of.result rs c.unwrap-place.ensures c.place_of.ensures.found in
+    let there : find (has_id c.args.id) rs ≡ Some c.index_mut.result.now = found_at c.args.id c.unwrap-place.result c.index_mut.result.now rs c.self.invariant.in_order at c.index_mut.ensures.value in
+    c.requires.acknowledged c.index_mut.result.now (ap (find (has_id c.args.id)) (sym c.self.view_is) ∙ there)
 
 pub invariant_of-self : goal.invariant_of-self
 invariant_of-self c =
-    let es = c.self.inside.records.entries in
-    let id : ℕ = c.args.id in
-    let held : Record = c.unwrap-pending.result.now in
-    let new : Record = c.retract.new.self in
-    let there : find (numbered id) (records_in es) ≡ Some held = sym (found id es c.self.inside.checkpoints c.self.invariant) ∙ (sym c.get_mut.ensures.value ∙ ap option_copied_mut c.unwrap-pending.ensures) in
-    let each : (r : Record) → find (numbered id) (records_in es) ≡ Some r → IsPending (without_ack c.args.subtask r) = λ r e.
-    IsPending-without r c.args.subtask (c.self.invariant.pending r (IsIn-from_find (numbered id) r (records_in es) e).0) in
-    AreKept-changed id (without_ack c.args.subtask) held new es (c.get_mut.follows.lender new).entries c.self.inside.checkpoints c.self.invariant (λ r. refl) (λ r. refl) each there c.retract.ensures.value (c.get_mut.follows.holds new).0
+    let rs : List Record = c.self.inside.records.items in
+    let at : IsAt c.args.id rs c.unwrap-place.result = at_place c.args.id c.unwrap-place.result c.place_of.result rs c.unwrap-place.ensures c.place_of.ensures.found in
+    AreKept-changed c.args.id c.unwrap-place.result (without_ack c.args.subtask) c.index_mut.result.now c.retract.new.self rs c.self.inside.checkpoints c.self.invariant at c.index_mut.ensures.value c.retract.ensures.value (λ r. refl) (λ r. refl)
+    (λ r e. IsPending-without r c.args.subtask (c.self.invariant.pending r (IsIn-from_find (has_id c.args.id) r rs e).0))
 
 pub returns : goal.returns
 returns c =
-    let es = c.self.inside.records.entries in
-    let id : ℕ = c.args.id in
-    let held : Record = c.unwrap-pending.result.now in
-    let new : Record = c.retract.new.self in
-    let after = (c.get_mut.follows.lender new).entries in
-    let there : find (numbered id) (records_in es) ≡ Some held = sym (found id es c.self.inside.checkpoints c.self.invariant) ∙ (sym c.get_mut.ensures.value ∙ ap option_copied_mut c.unwrap-pending.ensures) in
-    let back : List Record → List Record = changed id (without_ack c.args.subtask) in
-    records_in-from after (back (records_in es)) (entries-changed id (without_ack c.args.subtask) held new es after c.self.inside.checkpoints c.self.invariant (λ r. refl) there c.retract.ensures.value (c.get_mut.follows.holds new).0)
-    ∙ ap back c.self.view_is
+    let rs : List Record = c.self.inside.records.items in
+    let at : IsAt c.args.id rs c.unwrap-place.result = at_place c.args.id c.unwrap-place.result c.place_of.result rs c.unwrap-place.ensures c.place_of.ensures.found in
+    set-place c.args.id (without_ack c.args.subtask) c.index_mut.result.now c.retract.new.self rs c.unwrap-place.result c.self.invariant.in_order at.1 c.index_mut.ensures.value c.retract.ensures.value
+    ∙ ap (changed c.args.id (without_ack c.args.subtask)) c.self.view_is
