@@ -1,4 +1,5 @@
 pub mod AscendingLemmas
+pub mod ComparisonLemmas
 pub mod CountLemmas
 pub mod OrderLemmas
 pub mod OrderedLemmas

@@ -2,15 +2,16 @@
 use Rattle.std.proofs.Common.{◌≡◌, ℕ, zero, suc, ◌<◌, ◌≤◌, Bool, true, false, not, cond, eqb, ltb, length, get_or, take, drop, set, List, [], ◌∷◌, ◌++◌, refl, sym, ap, subst, ◌∙◌, ⊎_elim, arith, ◌⊎◌, inl, inr, Result, Ok, Err, IfOk, IfErr}
 use Rattle.std.specs.List.{filter, insert, remove, HoldsAt}
 use Rattle.std.specs.List.Sorted.{IsBinarySearchResult, IsPartitionPoint, IsSearchInRange}
-use Rattle.std.specs.Ordering.{nat_cmp, ordering_index}
+use Rattle.std.specs.Ordering.{nat_cmp}
 use Rattle.std.proofs.lemmas.Bool.{cond-true, cond-false, le-ltb, cases_lt, eq-eqb, ne_eqb, ltb-true, lt-ltb}
 use Rattle.std.proofs.lemmas.Bool.Decides.{nat_tests}
 use Rattle.std.proofs.lemmas.List.{append-nil, map-append, set-get_or, set_split}
-use Rattle.std.specs.declared.cmp.Ordering.TheVariants.{Less, Equal, Greater}
+use Rattle.std.specs.declared.cmp.Ordering.TheVariants.{Less, Greater}
 use Rattle.std.proofs.lemmas.List.Elements.{filter-append}
 use Rattle.ckpt_ids.specs.Ordered.{AreDistinct, IsIn, put}
 use Rattle.ckpt_ids.specs.Ascending.{IsAscendingSet}
 use Rattle.ckpt_ids.proofs.AscendingLemmas.{numbers_in_order}
+use Rattle.ckpt_ids.proofs.ComparisonLemmas.{equal_numbers, index_rises}
 use Rattle.ckpt_ids.proofs.OrderedLemmas.{AreDistinct-apart, AreDistinct-from_order, AreDistinct-right, ComesBefore-at, IsIn-from_map, IsIn-get_or, IsIn-map, IsIn-place, IsInOrder-put, filter-all}
 use Rattle.ckpt_registry.specs.declared.holdings.Holding.{Holding}
 use Rattle.ckpt_registry.specs.Holdings.{AreRising}
@@ -27,12 +28,6 @@ rising_at (x ∷ hs) zero (suc j) d a h k =
     omega arith
 rising_at (x ∷ hs) (suc i) zero d a h k = absurd (omega arith)
 rising_at (x ∷ hs) (suc i) (suc j) d a h k = rising_at hs i j d a.1 (omega arith) (omega arith)
-
-index_rises : (a b id : ℕ) → a ≤ b → ordering_index (nat_cmp a id) ≤ ordering_index (nat_cmp b id)
-index_rises a b id h = grind (arith, nat_tests)
-
-equal_numbers : (a b : ℕ) → nat_cmp a b ≡ Equal → a ≡ b
-equal_numbers a b h = grind (arith, nat_tests)
 
 less_number : (a b : ℕ) → nat_cmp a b ≡ Less → a < b
 less_number a b h = grind (arith, nat_tests)

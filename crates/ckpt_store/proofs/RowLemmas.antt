@@ -11,6 +11,7 @@ use Rattle.std.proofs.lemmas.Bool.{lt-ltb, lt-leb, le-leb, ltb-true, ltb-false, 
 use Rattle.std.proofs.lemmas.Bool.Decides.{nat_tests}
 use Rattle.ckpt_ids.specs.Ordered.{IsIn, ComesBefore, put}
 use Rattle.ckpt_ids.specs.Records.{Record}
+use Rattle.ckpt_ids.proofs.ComparisonLemmas.{equal_numbers, index_rises}
 use Rattle.ckpt_ids.proofs.OrderedLemmas.{ComesBefore-at, IsIn-place, IsIn-get_or, list_any-from_IsIn}
 use Rattle.ckpt_pending.proofs.AckLemmas.{filter_all}
 use Rattle.ckpt_store.specs.Storing.{by_id, AreRising, has_id}
@@ -27,16 +28,10 @@ rising_at (r ∷ records) zero (suc j) d a h k =
 rising_at (r ∷ records) (suc i) zero d a h k = absurd (omega arith)
 rising_at (r ∷ records) (suc i) (suc j) d a h k = rising_at records i j d a.1 (omega arith) (omega arith)
 
-index_rises : (a b id : ℕ) → a ≤ b → ordering_index (nat_cmp a id) ≤ ordering_index (nat_cmp b id)
-index_rises a b id h = grind (arith, nat_tests)
-
 searchable : (id : ℕ) (records : List Record) → AreRising records → IsNonDecreasingBy (λ r. ordering_index (nat_cmp r.id id)) records
 searchable id records a = λ i j d h k. index_rises (get_or records i d).id (get_or records j d).id id (rising_at records i j d a h k)
 
 -- what a search answers
-
-equal_numbers : (a b : ℕ) → nat_cmp a b ≡ Equal → a ≡ b
-equal_numbers a b h = grind (arith, nat_tests)
 
 less_numbers : (a b : ℕ) → nat_cmp a b ≡ Less → eqb a b ≡ false
 less_numbers a b h = grind (arith, nat_tests)
