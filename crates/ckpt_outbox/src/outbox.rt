@@ -2,7 +2,7 @@ ghost use Rattle.std.specs.Prelude.{◌≡◌, ◌≤◌, ◌<◌, ◌+◌, ◌-
 ghost use Rattle.std.specs.VecDeque.{deque_capacity};
 ghost use Rattle.ckpt_outbox.specs.Queues.{AreDistinct, Queues, is_in, is_known, is_taken, without};
 
-use crate::places::{Index, Place, is_taken, note, note_new};
+use crate::places::{Index, Place, is_taken, note, note_new, note_returned};
 use crate::taken::Taken;
 use ckpt_hash::Secret;
 use ckpt_ids::{FileId, Handed};
@@ -174,12 +174,11 @@ impl Outbox {
         ensures ok { OnOk result (self.new ≡ record self.old { waiting = self.old.waiting ++ file ∷ []; taken = without file self.old.taken }) }
         ensures err { OnErr result (self.new ≡ self.old) }
     {
-        if !is_taken(&self.index, file) {
+        if !note_returned(&mut self.index, file) {
             return Err(NotTaken);
         }
         self.taken.remove(file);
         self.waiting.push_back_reserved(file);
-        note(&mut self.index, file, Place::Waiting);
         Ok(())
     }
 

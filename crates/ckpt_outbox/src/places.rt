@@ -1,6 +1,7 @@
-ghost use Rattle.std.specs.Prelude.{◌≡◌, ◌<◌, ◌≤◌, ◌+◌, ℕ, IsSome, Some, if◌then◌else◌, nat_eq};
+ghost use Rattle.std.specs.Prelude.{◌≡◌, ◌<◌, ◌≤◌, ◌+◌, ℕ, false, IsTrue, IsSome, Some, if◌then◌else◌, nat_eq};
 ghost use Rattle.std.specs.HashMap as hash;
-ghost use Rattle.std.specs.HashMap.{spare};
+ghost use Rattle.std.specs.HashMap.{IsUnchanged, spare};
+ghost use Rattle.ckpt_outbox.specs.declared.places.Place.TheVariants.{Waiting};
 ghost use Rattle.ckpt_outbox.specs.Places.{is_of_taken};
 
 use ckpt_hash::Secret;
@@ -30,6 +31,23 @@ pub(crate) fn note(index: &mut Index, file: FileId, place: Place)
     ensures spare { spare index.new ≡ spare index.old }
 {
     *index.get_mut(&file).unwrap() = place;
+}
+
+/// Notes that a file waits which is taken, and answers whether it was taken. One look-up, which
+/// takes no memory.
+pub(crate) fn note_returned(index: &mut Index, file: FileId) -> bool
+    ensures value { result ≡ is_of_taken (hash.get nat_eq index.old file) }
+    ensures places { IsTrue result → (other : ℕ) → hash.get nat_eq index.new other ≡ (if nat_eq file other then Some Waiting else hash.get nat_eq index.old other) }
+    ensures kept { result ≡ false → IsUnchanged index.old index.new }
+    ensures spare { spare index.new ≡ spare index.old }
+{
+    match index.get_mut(&file) {
+        Some(place) if *place == Place::Taken => {
+            *place = Place::Waiting;
+            true
+        }
+        _ => false,
+    }
 }
 
 /// Notes the place of a file in room that the index keeps. Takes no memory.
