@@ -6,6 +6,7 @@ use crate::limits::{MOST_SUBTASKS, MOST_VERTICES};
 use crate::subtask::SubtaskId;
 use std::alloc::{AllocError, Global};
 use std::marker::Model;
+use std::sync::ArcSlice;
 use thiserror::Error;
 
 /// Why a shape was not made.
@@ -33,19 +34,21 @@ impl From<AllocError> for ShapeFault {
 /// 1 to 256 vertices, each with a parallelism of at least 1, and at most 4096 subtasks in all.
 #[derive(Debug, Drop)]
 pub struct Shape {
-    parallelisms: Vec<u32>,
+    // shared by the copies, of which each record has one
+    parallelisms: ArcSlice<u32>,
     size: u32,
 }
 
 impl Model for Shape {
     ghost use Rattle.std.specs.Prelude.{◌≡◌, ℕ, List, sum};
+    ghost use Rattle.std.specs.Arc.{arc_slice_items};
     ghost use Rattle.ckpt_ids.specs.Shapes.{IsShape};
 
     ghost Value = { List ℕ };
 
-    ghost view = { λ s. s.parallelisms.items };
+    ghost view = { λ s. arc_slice_items s.parallelisms };
 
-    ghost invariant = { λ s. IsShape s.parallelisms.items × (s.size ≡ sum s.parallelisms.items) };
+    ghost invariant = { λ s. IsShape (arc_slice_items s.parallelisms) × (s.size ≡ sum (arc_slice_items s.parallelisms)) };
 }
 
 impl Shape {
@@ -67,6 +70,7 @@ impl Shape {
             parallelisms.push(parallelism).map_err(AllocError::from)?;
             size += parallelism;
         }
+        let parallelisms = ArcSlice::from_vec(parallelisms)?;
         Ok(Shape { parallelisms, size })
     }
 
@@ -84,7 +88,8 @@ impl Shape {
         ensures { result ≡ is_subtask self.now subtask }
     {
         let vertex = usize::from(subtask.vertex);
-        vertex < self.parallelisms.len() && u32::from(subtask.index) < self.parallelisms[vertex]
+        let parallelisms = self.parallelisms.as_slice();
+        vertex < parallelisms.len() && u32::from(subtask.index) < parallelisms[vertex]
     }
 
     /// The subtask at this place, in the order of subtasks, or `None` past the last.
@@ -92,7 +97,7 @@ impl Shape {
         ensures { result ≡ slice_get (subtasks self.now) place }
     {
         let mut left = place;
-        for (vertex, parallelism) in self.parallelisms.iter().enumerate() {
+        for (vertex, parallelism) in self.parallelisms.as_slice().iter().enumerate() {
             if left < *parallelism {
                 return Some(SubtaskId {
                     vertex: vertex as u16,
@@ -116,7 +121,7 @@ impl Shape {
     pub fn parallelism(&self, vertex: u32) -> Option<u32>
         ensures { result ≡ slice_get self.now vertex }
     {
-        self.parallelisms.get(vertex as usize).copied()
+        self.parallelisms.as_slice().get(vertex as usize).copied()
     }
 
     /// An equal shape. Fails only for want of memory.

@@ -1,5 +1,6 @@
 -- The number at a text's start, byte by byte.
-use Rattle.std.proofs.Common.{◌≡◌, ℕ, suc, ◌+◌, ◌-◌, ◌<◌, ◌≤◌, ◌==◌, Bool, true, false, ltb, if◌then◌else◌, Result, sym, List, [], ◌∷◌, length, take, drop, get_or, Option, Some, None, Ok, Err, refl, ap, ◌∙◌, arith, ltb-true}
+use Rattle.std.proofs.Common.{◌≡◌, ℕ, zero, suc, add-one, add-suc, add-zero, pow-suc, lt-ltb, ◌+◌, ◌-◌, ◌*◌, ◌^◌, ◌<◌, ◌≤◌, ◌==◌, Bool, true, false, ltb, if◌then◌else◌, Result, sym, List, [], ◌∷◌, length, take, drop, get_or, Option, Some, None, Ok, Err, refl, ap, ◌∙◌, arith, ltb-true}
+use Rattle.std.specs.Char.{is_ascii_digit}
 use Rattle.std.specs.Option.{option_map}
 use Rattle.std.proofs.lemmas.Bool.Decides.{nat_tests}
 use Rattle.std.proofs.lemmas.List.{get_or-take, length-take-le, take_all}
@@ -11,7 +12,7 @@ use Rattle.ckpt_lines.specs.declared.values.FileWord.TheVariants.{Fresh, Reused}
 use Rattle.ckpt_lines.specs.Reading.{file_place, number_place}
 use Rattle.ckpt_lines.specs.Values.{file_word, is_fresh, number_of, signed, with_digit}
 use Rattle.ckpt_lines.specs.Words.{begins_with_space, first_length, is_space, words_of}
-use Rattle.ckpt_lines.proofs.NumberLemmas.{Spells, Spells-all, Spells-empty, Spells-more, Spells-none, Spells-stops}
+use Rattle.ckpt_lines.proofs.NumberLemmas.{Spells, Spells-all, Spells-more, Spells-none}
 use Rattle.ckpt_lines.proofs.WordSplits.{one_more, words_of-split}
 
 abbrev first : List ℕ → List ℕ
@@ -54,10 +55,56 @@ Reads-more text place number next there other reads is =
       spells = Spells-more (first text) place number next (omega (arith, first-length text)) reads.spells (digit_of text place number within ∙ is);
     }
 
-pub Reads-stops : (text : List ℕ) (place number : ℕ) → place < length text → is_space (get_or text place 0) ≡ false → Reads text place number → with_digit number (get_or text place 0) ≡ None → number_of (first text) ≡ None
-Reads-stops text place number there other reads is =
-    let within : place < first_length text = inside text place reads.within there other in
-    Spells-stops (first text) place number (omega (arith, first-length text)) reads.spells (digit_of text place number within ∙ is)
+ten_below : (k gap : ℕ) → 10 ^ k ≤ 10 ^ (k + gap)
+ten_below k zero = rw (add-zero k) (omega arith)
+ten_below k (suc gap) =
+    let more : 10 ^ k ≤ 10 ^ (k + gap) = ten_below k gap in
+    let step : 10 ^ (k + suc gap) ≡ 10 ^ (k + gap) * 10 = rw (add-suc, pow-suc 10 (k + gap)) refl in
+    omega (arith, more, step)
+
+-- nineteen digits are never too large a number
+nineteen : (k : ℕ) → k ≤ 19 → 10 ^ k < 2 ^ 64
+nineteen k few =
+    let below : 10 ^ k ≤ 10 ^ (k + (19 - k)) = ten_below k (19 - k) in
+    let same : k + (19 - k) ≡ 19 = omega arith in
+    let most : 10 ^ k ≤ 10 ^ 19 = rw same at below in
+    omega arith
+
+-- so many bytes are digits, and few enough
+pub record Short (text : List ℕ) (place number : ℕ) : Type 0 where
+  pub few : place ≤ 19
+  pub reads : Reads text place number
+  pub below : number < 10 ^ place
+
+pub Short-none : (text : List ℕ) → Short text 0 0
+Short-none text = record { few = omega arith; reads = Reads-none text; below = omega arith }
+
+Short-bound : (text : List ℕ) (place number digit : ℕ) → place < 19 → Short text place number → digit ≤ 9 → number * 10 + digit < 10 ^ (place + 1)
+Short-bound text place number digit few short small =
+    let step : 10 ^ (place + 1) ≡ 10 ^ place * 10 = rw (add-one place, pow-suc 10 place) refl in
+    omega (arith, step, short.below)
+
+pub Short-fits : (text : List ℕ) (place number digit : ℕ) → place < 19 → Short text place number → digit ≤ 9 → number * 10 + digit < 2 ^ 64
+Short-fits text place number digit few short small =
+    let bound : number * 10 + digit < 10 ^ (place + 1) = Short-bound text place number digit few short small in
+    let most : 10 ^ (place + 1) < 2 ^ 64 = nineteen (place + 1) (omega arith) in
+    omega (arith, bound, most)
+
+with_digit-of : (number byte digit : ℕ) → digit ≤ 9 → byte ≡ 48 + digit → number * 10 + digit < 2 ^ 64 → with_digit number byte ≡ Some (number * 10 + digit)
+with_digit-of number byte digit small is fits =
+    let tested : is_ascii_digit byte ≡ true = grind (arith, nat_tests) in
+    let value : byte - 48 ≡ digit = omega arith in
+    rw (tested, value, lt-ltb (number * 10 + digit) (2 ^ 64) fits) refl
+
+pub Short-more : (text : List ℕ) (place number digit : ℕ) → place < length text → place < 19 → Short text place number → digit ≤ 9 → get_or text place 0 ≡ 48 + digit → Short text (place + 1) (number * 10 + digit)
+Short-more text place number digit there few short small is =
+    let fits : number * 10 + digit < 2 ^ 64 = Short-fits text place number digit few short small in
+    let other : is_space (get_or text place 0) ≡ false = other_byte (get_or text place 0) (λ space. omega (arith, is, space)) in
+    record {
+      few = omega arith;
+      reads = Reads-more text place number (number * 10 + digit) there other short.reads (with_digit-of number (get_or text place 0) digit small is fits);
+      below = Short-bound text place number digit few short small;
+    }
 
 -- where the text ends or a space stands, the word was read
 ended : (text : List ℕ) (place : ℕ) → place ≤ first_length text → (place < length text → is_space (get_or text place 0) ≡ true) → first_length text ≡ place
@@ -74,15 +121,6 @@ ended text place within end = by (ltb place (first_length text)) refl
 
 abbrev answer : List ℕ → Option (ℕ × ℕ)
 answer text = option_map (λ number. (number, first_length text)) (number_of (first text))
-
-pub Reads-empty : (text : List ℕ) (place : ℕ) → place ≡ 0 → place ≤ first_length text → (place < length text → is_space (get_or text place 0) ≡ true) → None ≡ answer text
-Reads-empty text place start within end =
-    let same : first_length text ≡ 0 = ended text place within end ∙ start in
-    let none : number_of (first text) ≡ None = Spells-empty (first text) (first-length text ∙ same) in
-    rw none refl
-
-pub Reads-fails : (text : List ℕ) → number_of (first text) ≡ None → answer text ≡ None
-Reads-fails text none = rw none refl
 
 pub Reads-all : (text : List ℕ) (place number : ℕ) → 0 < place → Reads text place number → (place < length text → is_space (get_or text place 0) ≡ true) → Some (number, place) ≡ answer text
 Reads-all text place number some reads end =

@@ -30,7 +30,7 @@ pub(crate) fn number_of(word: &[u8]) -> Option<u64>
 }
 
 /// The number with one digit more, or `None` where the byte is no digit or the number is too large.
-pub(crate) fn with_digit(number: u64, byte: u8) -> Option<u64>
+fn with_digit(number: u64, byte: u8) -> Option<u64>
     ensures { result ≡ with_digit number byte }
 {
     if !byte.is_ascii_digit() {

@@ -1,4 +1,4 @@
-ghost use Rattle.std.specs.Prelude.{◌≡◌, ◌≤◌, false, length, take};
+ghost use Rattle.std.specs.Prelude.{◌≡◌, ◌≤◌, ◌+◌, false, length, take};
 ghost use Rattle.std.specs.List.{position_or_len};
 ghost use Rattle.std.specs.Option.{option_map};
 ghost use Rattle.ckpt_lines.specs.Reading.{Gives, file_place, number_place};
@@ -6,12 +6,15 @@ ghost use Rattle.ckpt_lines.specs.Values.{number_of};
 ghost use Rattle.ckpt_lines.specs.Words.{begins_with_space, first_length, is_space, words_of};
 
 use crate::fault::LineFault;
-use crate::values::{FileWord, file_word, is_fresh, with_digit};
+use crate::values::{FileWord, file_word, is_fresh, number_of};
 use ckpt_ids::FileId;
 use std::marker::Model;
 
 /// How many bytes are counted in one byte: sixteen such counts go side by side in a register.
 const FEW: usize = 255;
+
+/// So many digits are never too large a number.
+const FITTING: usize = 19;
 
 /// The words of a line that are still to be read. One or more spaces stand between two words.
 #[derive(Drop)]
@@ -66,21 +69,43 @@ fn word_length(text: &[u8]) -> usize
     count
 }
 
+/// What this byte is worth as a digit, and more than nine where it is none.
+fn digit_of(byte: u8) -> u64
+    ensures { result ≤ 9 → byte ≡ 48 + result }
+{
+    u64::from(byte).wrapping_sub(u64::from(b'0'))
+}
+
+/// As [`first_number`], for numbers of any length, and for what is none.
+#[inline(never)]
+fn any_number(text: &[u8]) -> Option<(u64, usize)>
+    ensures { result ≡ option_map (λ number. (number, first_length text.now)) (number_of (take (first_length text.now) text.now)) }
+{
+    let length = word_length(text);
+    let number = number_of(&text[..length])?;
+    Some((number, length))
+}
+
 /// The number that the bytes before the first space spell, and how many bytes they are. `None` where
 /// they spell none.
 fn first_number(text: &[u8]) -> Option<(u64, usize)>
     ensures { result ≡ option_map (λ number. (number, first_length text.now)) (number_of (take (first_length text.now) text.now)) }
 {
+    let most = text.len().min(FITTING);
     let mut number = 0;
     let mut length = 0;
-    while length < text.len() && text[length] != b' ' {
-        number = with_digit(number, text[length])?;
+    while length < most {
+        let digit = digit_of(text[length]);
+        if digit > 9 {
+            break;
+        }
+        number = number * 10 + digit;
         length += 1;
     }
-    if length == 0 {
-        return None;
+    if length > 0 && (length == text.len() || text[length] == b' ') {
+        return Some((number, length));
     }
-    Some((number, length))
+    any_number(text)
 }
 
 impl<'a> Words<'a> {

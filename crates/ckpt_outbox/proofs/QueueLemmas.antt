@@ -1,15 +1,12 @@
 -- What holds of files that are distinct, and of their places.
-use Rattle.std.proofs.Common.{◌≡◌, ℕ, ◌+◌, Option, length, arith, Bool, true, false, not, cond, ◌||◌, ◌==◌, List, [], ◌∷◌, ◌++◌, take, drop, Some, None, refl, sym, ap, subst, ◌∙◌, ⊎_elim}
+use Rattle.std.proofs.Common.{◌≡◌, ℕ, ◌+◌, length, arith, Bool, true, false, not, cond, ◌||◌, ◌==◌, List, [], ◌∷◌, ◌++◌, take, drop, refl, sym, ap, subst, ◌∙◌, ⊎_elim}
 use Rattle.std.proofs.lemmas.Bool.{cases_Bool, cases_eq, both_ways, eqb-true, eq-eqb, ne_eqb, or_parts, or_from, or_left, or_right, or_cases, false_from_ne_true}
 use Rattle.std.proofs.lemmas.List.Folds.{list_any-append}
 use Rattle.std.proofs.lemmas.List.{take-append-drop}
 use Rattle.ckpt_ids.specs.Ordered.{IsIn, AreDistinct}
 use Rattle.ckpt_ids.proofs.OrderedLemmas.{list_any-from_IsIn, IsIn-from_list_any, AreDistinct-append, AreDistinct-apart, AreDistinct-filter, AreDistinct-left, AreDistinct-right}
 use Rattle.std.specs.List.{list_any}
-use Rattle.ckpt_outbox.specs.declared.places.Place.{Place}
-use Rattle.ckpt_outbox.specs.declared.places.Place.TheVariants.{Waiting, Taken}
 use Rattle.ckpt_outbox.specs.Queues.{is_in, without}
-use Rattle.ckpt_outbox.specs.Places.{place_of, is_of_taken}
 
 pub eqb_flip : (a b : ℕ) → (a == b) ≡ (b == a)
 eqb_flip a b = ⊎_elim (λ (e : a ≡ b). eq-eqb a b e ∙ sym (eq-eqb b a (sym e))) (λ (n : a ≡ b → ⊥). ne_eqb a b n ∙ sym (ne_eqb b a (λ e. n (sym e)))) (cases_eq a b)
@@ -156,67 +153,10 @@ length-without f (y ∷ xs) d h =
     subst P (sym k) (omega (arith, length-without f xs d.1 later)) in
     ⊎_elim gone kept (cases_Bool (y == f))
 
-put_if : (a b : Bool) (p : Option Place) → cond (a || (b || false)) (Some Waiting) p ≡ cond b (Some Waiting) (cond a (Some Waiting) p)
-put_if a b p = elim a as (λ a. cond (a || (b || false)) (Some Waiting) p ≡ cond b (Some Waiting) (cond a (Some Waiting) p)) [
-  | true ↦ elim b as (λ b. Some Waiting ≡ cond b (Some Waiting) (Some Waiting)) [ true ↦ refl | false ↦ refl ]
-  | false ↦ elim b as (λ b. cond (b || false) (Some Waiting) p ≡ cond b (Some Waiting) p) [ true ↦ refl | false ↦ refl ]
-]
-
--- the place after one more file waits
-pub place_of-put : (f : ℕ) (ws ts : List ℕ) (x : ℕ) → place_of (ws ++ f ∷ []) ts x ≡ cond (f == x) (Some Waiting) (place_of ws ts x)
-place_of-put f ws ts x =
-    let taken : Option Place = cond (is_in x ts) (Some Taken) None in
-    ap (λ b. cond b (Some Waiting) taken) (is_in-append x ws (f ∷ [])) ∙ put_if (is_in x ws) (x == f) taken ∙ ap (λ b. cond b (Some Waiting) (place_of ws ts x)) (eqb_flip x f)
-
--- two files that are the same stand in the same lists
-here : (f x : ℕ) (ws : List ℕ) → is_in f ws ≡ false → (f == x) ≡ true → is_in x ws ≡ false
-here f x ws h e = ap (λ z. is_in z ws) (sym (eqb-true f x e)) ∙ h
-
-removed_if : (a b t : Bool) → (b ≡ true → a ≡ false) → cond a (Some Waiting) (cond (cond b false t) (Some Taken) None) ≡ cond b None (cond a (Some Waiting) (cond t (Some Taken) None))
-removed_if a b t h =
-    let P : Bool → Bool → Type 0 = λ a b. cond a (Some Waiting) (cond (cond b false t) (Some Taken) None) ≡ cond b None (cond a (Some Waiting) (cond t (Some Taken) None)) in
-    ⊎_elim (λ (e : b ≡ true). subst (λ b. P a b) (sym e) (subst (λ a. P a true) (sym (h e)) refl)) (λ (e : b ≡ false). subst (λ b. P a b) (sym e) refl) (cases_Bool b)
-
--- the places without a file that is taken
-pub place_of-removed : (f : ℕ) (ws ts : List ℕ) (x : ℕ) → is_in f ws ≡ false → place_of ws (without f ts) x ≡ cond (f == x) None (place_of ws ts x)
-place_of-removed f ws ts x h = ap (λ b. cond (is_in x ws) (Some Waiting) (cond b (Some Taken) None)) (in_without x f ts) ∙ removed_if (is_in x ws) (f == x) (is_in x ts) (here f x ws h)
-
--- the places once that file waits
-pub place_of-returned : (f : ℕ) (ws ts : List ℕ) (x : ℕ) → is_in f ws ≡ false → place_of (ws ++ f ∷ []) (without f ts) x ≡ cond (f == x) (Some Waiting) (place_of ws ts x)
-place_of-returned f ws ts x h =
-    let twice : (b : Bool) → cond b (Some Waiting) (cond b None (place_of ws ts x)) ≡ cond b (Some Waiting) (place_of ws ts x) = λ b. elim b as (λ b. cond b (Some Waiting) (cond b None (place_of ws ts x)) ≡ cond b (Some Waiting) (place_of ws ts x)) [ true ↦ refl | false ↦ refl ] in
-    place_of-put f ws (without f ts) x ∙ ap (λ p. cond (f == x) (Some Waiting) p) (place_of-removed f ws ts x h) ∙ twice (f == x)
-
-taken_if : (r b t : Bool) → (b ≡ true → r ≡ false) → cond r (Some Waiting) (cond (t || (b || false)) (Some Taken) None) ≡ cond b (Some Taken) (cond (b || r) (Some Waiting) (cond t (Some Taken) None))
-taken_if r b t h =
-    let P : Bool → Bool → Type 0 = λ r b. cond r (Some Waiting) (cond (t || (b || false)) (Some Taken) None) ≡ cond b (Some Taken) (cond (b || r) (Some Waiting) (cond t (Some Taken) None)) in
-    let now : cond (t || true) (Some Taken) None ≡ Some Taken = elim t as (λ t. cond (t || true) (Some Taken) None ≡ Some Taken) [ true ↦ refl | false ↦ refl ] in
-    let same : cond (t || false) (Some Taken) None ≡ cond t (Some Taken) None = elim t as (λ t. cond (t || false) (Some Taken) None ≡ cond t (Some Taken) None) [ true ↦ refl | false ↦ refl ] in
-    ⊎_elim (λ (e : b ≡ true). subst (λ b. P r b) (sym e) (subst (λ r. P r true) (sym (h e)) now)) (λ (e : b ≡ false). subst (λ b. P r b) (sym e) (ap (λ p. cond r (Some Waiting) p) same)) (cases_Bool b)
-
--- the places once the first file that waits is taken
-pub place_of-taken : (f : ℕ) (ws ts : List ℕ) (x : ℕ) → is_in f ws ≡ false → place_of ws (ts ++ f ∷ []) x ≡ cond (f == x) (Some Taken) (place_of (f ∷ ws) ts x)
-place_of-taken f ws ts x h =
-    let P : Bool → Type 0 = λ b. cond (is_in x ws) (Some Waiting) (cond (is_in x ts || (b || false)) (Some Taken) None) ≡ cond (f == x) (Some Taken) (cond (b || is_in x ws) (Some Waiting) (cond (is_in x ts) (Some Taken) None)) in
-    ap (λ b. cond (is_in x ws) (Some Waiting) (cond b (Some Taken) None)) (is_in-append x ts (f ∷ [])) ∙ subst P (sym (eqb_flip x f)) (taken_if (is_in x ws) (f == x) (is_in x ts) (here f x ws h))
-
-of_taken_if : (a t : Bool) → (a ≡ true → t ≡ false) → is_of_taken (cond a (Some Waiting) (cond t (Some Taken) None)) ≡ t
-of_taken_if a t h =
-    let P : Bool → Type 0 = λ a. is_of_taken (cond a (Some Waiting) (cond t (Some Taken) None)) ≡ t in
-    let taken : is_of_taken (cond t (Some Taken) None) ≡ t = elim t as (λ t. is_of_taken (cond t (Some Taken) None) ≡ t) [ true ↦ refl | false ↦ refl ] in
-    ⊎_elim (λ (e : a ≡ true). subst P (sym e) (sym (h e))) (λ (e : a ≡ false). subst P (sym e) taken) (cases_Bool a)
-
-list_any_flip : (x : ℕ) (xs : List ℕ) → is_in x xs ≡ list_any (λ g. g == x) xs
+-- by the test of the queues
+pub list_any_flip : (x : ℕ) (xs : List ℕ) → is_in x xs ≡ list_any (λ g. g == x) xs
 list_any_flip x [] = refl
 list_any_flip x (y ∷ ys) = ap (λ b. b || is_in x ys) (eqb_flip x y) ∙ ap (λ b. (y == x) || b) (list_any_flip x ys)
-
--- the index tells which files are taken
-pub place_is_taken : (ws ts : List ℕ) (x : ℕ) → AreDistinct (ws ++ ts) → is_of_taken (place_of ws ts x) ≡ is_in x ts
-place_is_taken ws ts x d = of_taken_if (is_in x ws) (is_in x ts) (distinct-apart ws ts d x)
-
--- by the test of the queues
-pub place_tells_taken : (ws ts : List ℕ) (x : ℕ) → AreDistinct (ws ++ ts) → is_of_taken (place_of ws ts x) ≡ list_any (λ g. g == x) ts
-place_tells_taken ws ts x d = place_is_taken ws ts x d ∙ list_any_flip x ts
 
 -- a file that is taken does not wait
 pub taken_waits_not : (ws ts : List ℕ) (x : ℕ) → AreDistinct (ws ++ ts) → is_in x ts ≡ true → is_in x ws ≡ false
@@ -229,3 +169,40 @@ AreDistinct-take n xs a = AreDistinct-left (take n xs) (drop n xs) (subst AreDis
 -- the last of distinct files is none of the others
 pub last_is_new : (x : ℕ) (xs : List ℕ) → AreDistinct (xs ++ x ∷ []) → is_in x xs ≡ false
 last_is_new x xs a = distinct-apart (x ∷ []) xs (AreDistinct-swap xs (x ∷ []) a) x (or_left (x == x) false (eqb_itself x))
+
+-- two files that are the same stand in the same lists
+here : (f x : ℕ) (ws : List ℕ) → is_in f ws ≡ false → (f == x) ≡ true → is_in x ws ≡ false
+here f x ws h e = ap (λ z. is_in z ws) (sym (eqb-true f x e)) ∙ h
+
+-- which files there are, after one more waits
+pub is_in-put : (x f : ℕ) (ws ts : List ℕ) → is_in x ((ws ++ f ∷ []) ++ ts) ≡ cond (f == x) true (is_in x (ws ++ ts))
+is_in-put x f ws ts =
+    let P : Bool → Bool → Bool → Type 0 = λ a b t. ((a || (b || false)) || t) ≡ cond b true (a || t) in
+    let waits : (b t : Bool) → P true b t = λ b t. elim b as (λ b. P true b t) [ true ↦ refl | false ↦ refl ] in
+    let other : (b t : Bool) → P false b t = λ b t. elim b as (λ b. P false b t) [ true ↦ refl | false ↦ refl ] in
+    let all : P (is_in x ws) (x == f) (is_in x ts) = elim (is_in x ws) as (λ a. P a (x == f) (is_in x ts)) [ true ↦ waits (x == f) (is_in x ts) | false ↦ other (x == f) (is_in x ts) ] in
+    is_in-append x (ws ++ f ∷ []) ts ∙ ap (λ b. b || is_in x ts) (is_in-append x ws (f ∷ [])) ∙ all ∙ ap (λ b. cond b true (is_in x ws || is_in x ts)) (eqb_flip x f)
+    ∙ ap (λ b. cond (f == x) true b) (sym (is_in-append x ws ts))
+
+-- after the first that waits is taken
+pub is_in-taken : (x f : ℕ) (ws ts : List ℕ) → is_in x (ws ++ (ts ++ f ∷ [])) ≡ is_in x ((f ∷ ws) ++ ts)
+is_in-taken x f ws ts =
+    let P : Bool → Bool → Bool → Type 0 = λ a b t. (a || (t || (b || false))) ≡ (b || (a || t)) in
+    let first : (a t : Bool) → P a true t = λ a t. elim a as (λ a. P a true t) [ true ↦ refl | false ↦ elim t as (λ t. P false true t) [ true ↦ refl | false ↦ refl ] ] in
+    let other : (a t : Bool) → P a false t = λ a t. elim a as (λ a. P a false t) [ true ↦ refl | false ↦ elim t as (λ t. P false false t) [ true ↦ refl | false ↦ refl ] ] in
+    let all : P (is_in x ws) (x == f) (is_in x ts) = elim (x == f) as (λ b. P (is_in x ws) b (is_in x ts)) [ true ↦ first (is_in x ws) (is_in x ts) | false ↦ other (is_in x ws) (is_in x ts) ] in
+    is_in-append x ws (ts ++ f ∷ []) ∙ ap (λ b. is_in x ws || b) (is_in-append x ts (f ∷ [])) ∙ all ∙ ap (λ b. (x == f) || b) (sym (is_in-append x ws ts))
+
+-- without a file that is taken
+pub is_in-deleted : (x f : ℕ) (ws ts : List ℕ) → is_in f ws ≡ false → is_in x (ws ++ without f ts) ≡ cond (f == x) false (is_in x (ws ++ ts))
+is_in-deleted x f ws ts h =
+    let P : Bool → Bool → Type 0 = λ a b. (a || cond b false (is_in x ts)) ≡ cond b false (a || is_in x ts) in
+    let same : (f == x) ≡ true → P (is_in x ws) (f == x) = λ (e : (f == x) ≡ true). subst (λ a. P a (f == x)) (sym (here f x ws h e)) (subst (λ b. P false b) (sym e) refl) in
+    let other : (f == x) ≡ false → P (is_in x ws) (f == x) = λ (e : (f == x) ≡ false). subst (λ b. P (is_in x ws) b) (sym e) refl in
+    is_in-append x ws (without f ts) ∙ ap (λ b. is_in x ws || b) (in_without x f ts) ∙ ⊎_elim same other (cases_Bool (f == x)) ∙ ap (λ b. cond (f == x) false b) (sym (is_in-append x ws ts))
+
+-- and once that file waits
+pub is_in-returned : (x f : ℕ) (ws ts : List ℕ) → is_in f ws ≡ false → is_in x ((ws ++ f ∷ []) ++ without f ts) ≡ cond (f == x) true (is_in x (ws ++ ts))
+is_in-returned x f ws ts h =
+    let P : Bool → Type 0 = λ b. cond b true (cond b false (is_in x (ws ++ ts))) ≡ cond b true (is_in x (ws ++ ts)) in
+    is_in-put x f ws (without f ts) ∙ ap (λ b. cond (f == x) true b) (is_in-deleted x f ws ts h) ∙ elim (f == x) as P [ true ↦ refl | false ↦ refl ]

@@ -2,7 +2,7 @@ ghost use Rattle.std.specs.Prelude.{◌≡◌, ◌≤◌, ◌<◌, ◌+◌, ◌-
 ghost use Rattle.std.specs.VecDeque.{deque_capacity};
 ghost use Rattle.ckpt_outbox.specs.Queues.{AreDistinct, Queues, is_in, is_known, is_taken, without};
 
-use crate::places::{Index, Place, is_taken, note, note_new};
+use crate::places::{Index, draw_again, is_taken, next_ticket, note};
 use crate::taken::Taken;
 use ckpt_hash::Secret;
 use ckpt_ids::{FileId, Handed};
@@ -22,6 +22,8 @@ pub struct NotTaken;
 pub struct Outbox {
     alloc: Global,
     waiting: VecDeque<FileId>,
+    // The ticket of the first file that waits.
+    front: u64,
     taken: Taken,
     index: Index,
     spare: u64,
@@ -36,7 +38,7 @@ impl Model for Outbox {
 
     ghost view = { λ o. record { waiting = o.waiting.items; taken = o.taken; spare = o.spare } };
 
-    ghost invariant = { λ o. IsSound o.waiting.items (deque_capacity o.waiting) o.taken o.index o.spare };
+    ghost invariant = { λ o. IsSound o.waiting.items o.front (deque_capacity o.waiting) o.taken o.index o.spare };
 }
 
 /// Makes room for so many more files. A growth at least doubles the room: the queue's own may grow
@@ -71,6 +73,7 @@ impl Outbox {
         Outbox {
             alloc,
             waiting: VecDeque::new(alloc),
+            front: 0,
             taken: Taken::new(),
             index: HashMap::with_hasher(alloc, secret),
             spare: 0,
@@ -100,8 +103,9 @@ impl Outbox {
         requires unknown { is_known self.old file ≡ false }
         ensures { self.new ≡ record self.old { waiting = self.old.waiting ++ file ∷ []; spare = self.old.spare - 1 } }
     {
+        let drawn = next_ticket(&self.waiting, self.front);
         self.waiting.push_back_reserved(file);
-        note_new(&mut self.index, file, Place::Waiting);
+        note(&mut self.index, file, drawn);
         self.spare -= 1;
     }
 
@@ -127,7 +131,7 @@ impl Outbox {
         let Some(file) = self.waiting.pop_front() else {
             unreachable!()
         };
-        note(&mut self.index, file, Place::Taken);
+        self.front = self.front.wrapping_add(1);
         self.taken.push(file);
         file
     }
@@ -157,7 +161,7 @@ impl Outbox {
         ensures ok { OnOk result (self.new ≡ record self.old { taken = without file self.old.taken }) }
         ensures err { OnErr result (self.new ≡ self.old) }
     {
-        if !is_taken(&self.index, file) {
+        if !is_taken(&self.index, &self.waiting, self.front, file) {
             return Err(NotTaken);
         }
         self.taken.remove(file);
@@ -174,12 +178,11 @@ impl Outbox {
         ensures ok { OnOk result (self.new ≡ record self.old { waiting = self.old.waiting ++ file ∷ []; taken = without file self.old.taken }) }
         ensures err { OnErr result (self.new ≡ self.old) }
     {
-        if !is_taken(&self.index, file) {
+        if !draw_again(&mut self.index, &self.waiting, self.front, file) {
             return Err(NotTaken);
         }
         self.taken.remove(file);
         self.waiting.push_back_reserved(file);
-        note(&mut self.index, file, Place::Waiting);
         Ok(())
     }
 
@@ -195,7 +198,7 @@ impl Outbox {
     pub fn is_taken(&self, file: FileId) -> bool
         ensures { result ≡ is_taken self.now file }
     {
-        is_taken(&self.index, file)
+        is_taken(&self.index, &self.waiting, self.front, file)
     }
 
     /// How many files wait.

@@ -1,43 +1,78 @@
-ghost use Rattle.std.specs.Prelude.{◌≡◌, ◌<◌, ◌≤◌, ◌+◌, ℕ, IsSome, Some, if◌then◌else◌, nat_eq};
+ghost use Rattle.std.specs.Prelude.{◌≡◌, ◌<◌, ◌≤◌, ◌+◌, ℕ, false, length, get_or, IsTrue, Some, nat_eq};
 ghost use Rattle.std.specs.HashMap as hash;
-ghost use Rattle.std.specs.HashMap.{spare};
-ghost use Rattle.ckpt_outbox.specs.Places.{is_of_taken};
+ghost use Rattle.std.specs.HashMap.{IsUnchanged, Updates, spare};
+ghost use Rattle.ckpt_outbox.specs.Queues.{is_in};
+ghost use Rattle.ckpt_outbox.specs.Places.{IsTicketed, is_apart, ticket};
 
 use ckpt_hash::Secret;
 use ckpt_ids::FileId;
-use std::collections::HashMap;
+use std::collections::{HashMap, VecDeque};
 
-/// Where a file is.
-#[derive(Clone, Copy, Debug, PartialEq, Eq)]
-pub(crate) enum Place {
-    Waiting,
-    Taken,
+/// For each file, the ticket that it drew when it last went to the end of waiting.
+///
+/// Tickets rise by one from file to file, and after the greatest comes 0. So the ticket says at
+/// which place the file waits, if it waits: a file that is taken keeps its ticket, and does not
+/// stand where the ticket says.
+pub(crate) type Index = HashMap<FileId, u64, Secret>;
+
+/// The ticket of the next file that waits.
+pub(crate) fn next_ticket(waiting: &VecDeque<FileId>, front: u64) -> u64
+    ensures { result ≡ ticket front (length waiting.now.items) }
+{
+    front.wrapping_add(waiting.len() as u64)
 }
 
-pub(crate) type Index = HashMap<FileId, Place, Secret>;
+/// Whether the file stands where its ticket says.
+fn waits(waiting: &VecDeque<FileId>, front: u64, file: FileId, drawn: u64) -> bool
+    requires { (place : ℕ) → place < length waiting.now.items → get_or waiting.now.items place 0 ≡ file → drawn ≡ ticket front place }
+    ensures { result ≡ is_in file waiting.now.items }
+{
+    match waiting.get(drawn.wrapping_sub(front) as usize) {
+        Some(other) => *other == file,
+        None => false,
+    }
+}
 
 /// Whether the file is taken. A look-up.
-pub(crate) fn is_taken(index: &Index, file: FileId) -> bool
-    ensures { result ≡ is_of_taken (hash.get nat_eq index.now file) }
+pub(crate) fn is_taken(index: &Index, waiting: &VecDeque<FileId>, front: u64, file: FileId) -> bool
+    requires { IsTicketed (hash.get nat_eq index.now) front waiting.now.items }
+    ensures { result ≡ is_apart (hash.get nat_eq index.now) waiting.now.items file }
 {
-    matches!(index.get(&file), Some(Place::Taken))
+    match index.get(&file) {
+        Some(drawn) => !waits(waiting, front, file, *drawn),
+        None => false,
+    }
 }
 
-/// Notes the place of a file that the index has. Takes no memory.
-pub(crate) fn note(index: &mut Index, file: FileId, place: Place)
-    requires { IsSome (hash.get nat_eq index.old file) }
-    ensures places { (other : ℕ) → hash.get nat_eq index.new other ≡ (if nat_eq file other then Some place else hash.get nat_eq index.old other) }
-    ensures spare { spare index.new ≡ spare index.old }
-{
-    *index.get_mut(&file).unwrap() = place;
-}
-
-/// Notes the place of a file in room that the index keeps. Takes no memory.
-pub(crate) fn note_new(index: &mut Index, file: FileId, place: Place)
+/// Notes the ticket of a file in room that the index keeps. Takes no memory.
+pub(crate) fn note(index: &mut Index, file: FileId, drawn: u64)
     requires { 0 < spare index.old }
-    ensures places { (other : ℕ) → hash.get nat_eq index.new other ≡ (if nat_eq file other then Some place else hash.get nat_eq index.old other) }
+    ensures tickets { Updates nat_eq index.old index.new file (Some drawn) }
     ensures spare { spare index.old ≤ spare index.new + 1 }
 {
-    let noted: Result<Option<Place>, _> = index.insert(file, place);
+    let noted: Result<Option<u64>, _> = index.insert(file, drawn);
     noted.unwrap();
+}
+
+/// Gives a file that is taken the next ticket, and answers whether it was taken. One look-up, which
+/// takes no memory.
+pub(crate) fn draw_again(
+    index: &mut Index,
+    waiting: &VecDeque<FileId>,
+    front: u64,
+    file: FileId,
+) -> bool
+    requires { IsTicketed (hash.get nat_eq index.old) front waiting.now.items }
+    ensures value { result ≡ is_apart (hash.get nat_eq index.old) waiting.now.items file }
+    ensures tickets { IsTrue result → Updates nat_eq index.old index.new file (Some (ticket front (length waiting.now.items))) }
+    ensures kept { result ≡ false → IsUnchanged index.old index.new }
+    ensures spare { spare index.new ≡ spare index.old }
+{
+    match index.get_mut(&file) {
+        Some(drawn) if !waits(waiting, front, file, *drawn) => {
+            *drawn = next_ticket(waiting, front);
+            true
+        }
+        _ => false,
+    }
 }

@@ -1,22 +1,14 @@
 -- The files of a record, sorted and each once.
-use Rattle.std.proofs.Common.{◌≡◌, ℕ, suc, ◌<◌, true, ltb, leb, eqb, List, [], ◌∷◌, ◌++◌, map, length, get_or, refl, sym, ap, subst, ◌∙◌, arith}
-use Rattle.std.specs.Map.{values_of}
-use Rattle.std.specs.List.{concat, flat_map, AllPairs, Contains, dedup}
+use Rattle.std.proofs.Common.{◌≡◌, ℕ, ltb, leb, eqb, List, [], ◌∷◌, ◌++◌, map, refl, sym, ap, subst, ◌∙◌, arith}
+use Rattle.std.specs.List.{flat_map}
 use Rattle.std.specs.List.Sorted.{IsPermutation, IsSorted}
 use Rattle.std.specs.List.Retain.{IsFiltered, DiffersFromLast}
 use Rattle.std.specs.Ordering.{nat_cmp}
-use Rattle.std.proofs.lemmas.Bool.{lt-ltb, ltb-true, le-leb}
-use Rattle.std.proofs.lemmas.List.Filters.{dedup_is}
-use Rattle.std.proofs.lemmas.List.Kept.{AllPairs-from_increasing, Contains-dedup_nat, Contains-from_dedup}
-use Rattle.std.proofs.lemmas.List.Sorted.{Contains-permutation, IsPermutation-sym}
-use Rattle.std.proofs.lemmas.Map.Keys.{IsStrictlyIncreasing-dedup}
-use Rattle.ckpt_ids.specs.declared.subtask.SubtaskId.{SubtaskId}
+use Rattle.std.proofs.lemmas.Bool.{ltb-true, le-leb}
 use Rattle.ckpt_ids.specs.declared.ack.Acked.{Acked}
-use Rattle.ckpt_ids.specs.Ordered.{IsIn}
 use Rattle.ckpt_ids.specs.Ascending.{IsAscending, IsAscendingSet, ascending, ascending_set}
 use Rattle.ckpt_ids.specs.Records.{Record, Use, Holder, Subtask, Pin, uses}
-use Rattle.ckpt_ids.proofs.OrderedLemmas.{ComesBefore-at, ComesBefore-from, IsIn-place, IsIn-get_or, same_from_members, IsInOrder-in_order_once, IsIn-in_order_once, IsIn-from_in_order_once}
-use Rattle.ckpt_pending.specs.Acknowledging.{acks_of}
+use Rattle.ckpt_ids.proofs.OrderedLemmas.{ComesBefore-at, ComesBefore-from, IsInOrder-in_order_once}
 use Rattle.ckpt_ids.proofs.AscendingLemmas.{ascending_already, numbers_in_order}
 use Rattle.ckpt_ids.proofs.SetLemmas.{set-from_dedup}
 
@@ -59,8 +51,3 @@ files_of_uses r none =
     let file : Use → ℕ = λ u. u.file in
     let pinned : List ℕ → List Use = λ pins. map (λ f. record { id = r.id; holder = Pin; file = f }) pins in
     ap (map file) (append_none (acked ++ pinned r.pins) ∙ ap (λ pins. acked ++ pinned pins) none ∙ append_none acked) ∙ files_of_acks r.id r.acks
-
--- the files of a map's values
-pub files_of_values : (entries : List (SubtaskId × List ℕ)) → concat (values_of entries) ≡ flat_map (λ a. a.files) (acks_of entries)
-files_of_values [] = refl
-files_of_values (e ∷ es) = ap (λ zs. e.1 ++ zs) (files_of_values es)

@@ -2,4 +2,5 @@ pub mod AckLemmas
 pub mod FileLemmas
 pub mod FullLemmas
 pub mod PendingLemmas
+pub mod PlaceLemmas
 pub mod SubtaskLemmas

@@ -1,20 +1,26 @@
 -- Records that take acknowledgements, and records that have all of them.
-use Rattle.std.specs.Prelude.{◌≡◌, ℕ, true, false, not, List, [], map, filter}
+use Rattle.std.specs.Prelude.{◌≡◌, ℕ, ◌<◌, ◌≤◌, true, false, not, List, [], filter, length}
+use Rattle.std.specs.List.{HoldsAt}
+use Rattle.std.specs.List.Sorted.{IsPartitionPoint}
 use Rattle.ckpt_ids.specs.declared.subtask.SubtaskId.{SubtaskId}
 use Rattle.ckpt_ids.specs.declared.numbers.Kind.{Kind}
 use Rattle.ckpt_ids.specs.declared.ack.Acked.{Acked}
 use Rattle.ckpt_ids.specs.Ordered.{IsIn}
-use Rattle.ckpt_ids.specs.Acknowledged.{AreInSubtaskOrder}
+use Rattle.ckpt_ids.specs.Acknowledged.{AreInSubtaskOrder, is_before}
 use Rattle.ckpt_ids.specs.Records.{Record, has_acknowledged, missing, IsFull}
 use Rattle.ckpt_ids.specs.Shapes.{IsShape, is_subtask, same_subtask}
 
--- a map from subtasks to their files, as acknowledgements
-abbrev pub acks_of : List (SubtaskId × List ℕ) → List Acked
-acks_of entries = map (λ e. record { subtask = e.0; files = e.1 }) entries
+-- a record that waits for acknowledgements, and has these
+abbrev pub pending_record : ℕ → Kind → List ℕ → ℕ → List Acked → Record
+pending_record id kind shape started acks = record { id = id; kind = kind; done = false; shape = shape; started = started; acks = acks; pins = [] }
 
--- a record that waits for acknowledgements, and has those of the map
-abbrev pub pending_record : ℕ → Kind → List ℕ → ℕ → List (SubtaskId × List ℕ) → Record
-pending_record id kind shape started entries = record { id = id; kind = kind; done = false; shape = shape; started = started; acks = acks_of entries; pins = [] }
+-- the acknowledgement of the subtask lies at this place
+abbrev pub LiesAt : SubtaskId → List Acked → ℕ → Type 0
+LiesAt s acks place = (place < length acks) × HoldsAt (λ a. a.subtask ≡ s) acks place
+
+-- no acknowledgement is of the subtask, and one of it belongs at this place
+abbrev pub BelongsAt : SubtaskId → List Acked → ℕ → Type 0
+BelongsAt s acks place = (place ≤ length acks) × IsPartitionPoint (λ a. is_before a.subtask s ≡ true) (λ a. is_before s a.subtask ≡ true) acks place
 
 -- the record without the acknowledgement of a subtask
 abbrev pub without_ack : SubtaskId → Record → Record

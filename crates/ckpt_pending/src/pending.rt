@@ -1,15 +1,15 @@
-ghost use Rattle.std.specs.Prelude.{◌≡◌, ◌+◌, ◌↔◌, ◌<◌, Bool, true, false, not, [], filter, Ok, Err, IfOk, IfErr, OnOk, OnErr, IsOk, IsErr};
-ghost use Rattle.std.specs.List.{flat_map};
-ghost use Rattle.ckpt_ids.specs.Acknowledged.{put_ack};
+ghost use Rattle.std.specs.Prelude.{◌≡◌, ◌+◌, ◌↔◌, ◌<◌, ◌≤◌, Bool, true, false, not, [], filter, length, Ok, Err, IfOk, IfErr, OnOk, OnErr, IsOk, IsErr};
+ghost use Rattle.std.specs.List.{flat_map, insert};
+ghost use Rattle.ckpt_ids.specs.Acknowledged.{AreInSubtaskOrder, put_ack};
 ghost use Rattle.ckpt_ids.specs.Ascending.{ascending_set};
 ghost use Rattle.ckpt_ids.specs.Records.{Record, acknowledged, has_acknowledged, missing, metadata_of};
 ghost use Rattle.ckpt_ids.specs.Shapes.{is_subtask, same_subtask};
-ghost use Rattle.ckpt_pending.specs.Acknowledging.{HasAlready, IsPending, acks_of, without_ack};
+ghost use Rattle.ckpt_pending.specs.Acknowledging.{BelongsAt, HasAlready, IsPending, LiesAt, without_ack};
 
 use crate::done::Done;
 use ckpt_ids::{Acked, Acks, CheckpointId, FileId, Files, Kind, Metadata, Shape, SubtaskId};
 use std::alloc::{AllocError, Global};
-use std::collections::BTreeMap;
+use std::collections::VecDeque;
 use std::marker::Model;
 use thiserror::Error;
 
@@ -34,7 +34,8 @@ pub struct Pending {
     kind: Kind,
     shape: Shape,
     started: u64,
-    acks: BTreeMap<SubtaskId, Files>,
+    // in subtask order: most come in this order and go last, and each is found by halves
+    acks: VecDeque<Acked>,
     missing: u32,
     alloc: Global,
 }
@@ -45,9 +46,9 @@ impl Model for Pending {
 
     ghost Value = { Record };
 
-    ghost view = { λ p. pending_record p.id p.kind p.shape p.started p.acks.entries };
+    ghost view = { λ p. pending_record p.id p.kind p.shape p.started p.acks.items };
 
-    ghost invariant = { λ p. IsCounted (pending_record p.id p.kind p.shape p.started p.acks.entries) p.missing };
+    ghost invariant = { λ p. IsCounted (pending_record p.id p.kind p.shape p.started p.acks.items) p.missing };
 }
 
 impl Pending {
@@ -62,7 +63,7 @@ impl Pending {
             kind,
             shape,
             started,
-            acks: BTreeMap::new(alloc),
+            acks: VecDeque::new(alloc),
             missing,
             alloc,
         }
@@ -84,10 +85,10 @@ impl Pending {
         if !self.shape.contains(subtask) {
             return Err(AckFault::UnknownSubtask);
         }
-        if self.acks.contains_key(&subtask) {
+        let Err(place) = place_of(&self.acks, subtask) else {
             return Err(AckFault::AlreadyAcknowledged);
-        }
-        if self.acks.insert(subtask, files).is_err() {
+        };
+        if add(&mut self.acks, place, Acked { subtask, files }).is_err() {
             return Err(AckFault::Memory);
         }
         self.missing -= 1;
@@ -100,7 +101,8 @@ impl Pending {
         ensures value { self.new ≡ without_ack subtask self.old }
         ensures one_more { missing self.new ≡ missing self.old + 1 }
     {
-        self.acks.remove(&subtask);
+        let place = place_of(&self.acks, subtask).unwrap();
+        self.acks.remove(place);
         self.missing += 1;
     }
 
@@ -115,7 +117,7 @@ impl Pending {
     pub fn has(&self, subtask: SubtaskId) -> bool
         ensures { result ≡ has_acknowledged self.now subtask }
     {
-        self.acks.contains_key(&subtask)
+        place_of(&self.acks, subtask).is_ok()
     }
 
     /// How many subtasks have not acknowledged, at most 4096.
@@ -197,28 +199,53 @@ impl Pending {
     }
 }
 
-fn copies(alloc: Global, acks: &BTreeMap<SubtaskId, Files>) -> Result<Vec<Acked>, AllocError>
-    ensures { IfOk result (λ copies. copies.items ≡ acks_of acks.now.entries) }
+/// Where the acknowledgement of this subtask lies, or an `Err` with where it belongs. The last one is
+/// looked at first, and the others are searched by halves.
+fn place_of(acks: &VecDeque<Acked>, subtask: SubtaskId) -> Result<usize, usize>
+    requires { AreInSubtaskOrder acks.now.items }
+    ensures found { IfOk result (λ place. LiesAt subtask acks.now.items place) }
+    ensures absent { IfErr result (λ place. BelongsAt subtask acks.now.items place) }
+{
+    match acks.back() {
+        Some(last) if last.subtask < subtask => Err(acks.len()),
+        _ => acks.binary_search_by_key(&subtask, |acked| acked.subtask),
+    }
+}
+
+/// Adds an acknowledgement at this place. Fails only for want of memory, and then adds nothing.
+fn add(acks: &mut VecDeque<Acked>, place: usize, acked: Acked) -> Result<(), AllocError>
+    requires { place ≤ length acks.old.items }
+    ensures ok { OnOk result (acks.new.items ≡ insert acks.old.items place acked) }
+    ensures err { OnErr result (acks.new.items ≡ acks.old.items) }
+{
+    if place == acks.len() {
+        acks.push_back(acked)?;
+    } else {
+        acks.insert(place, acked)?;
+    }
+    Ok(())
+}
+
+fn copies(alloc: Global, acks: &VecDeque<Acked>) -> Result<Vec<Acked>, AllocError>
+    ensures { IfOk result (λ copies. copies.items ≡ acks.now.items) }
 {
     let mut copies = Vec::with_capacity(alloc, acks.len())?;
-    for (subtask, files) in acks {
-        let files = files.copy()?;
-        copies
-            .push(Acked {
-                subtask: *subtask,
-                files,
-            })
-            .map_err(AllocError::from)?;
+    for acked in acks {
+        let files = acked.files.copy()?;
+        copies.push(Acked {
+            subtask: acked.subtask,
+            files,
+        })?;
     }
     Ok(copies)
 }
 
-fn all_files(alloc: Global, acks: &BTreeMap<SubtaskId, Files>) -> Result<Vec<FileId>, AllocError>
-    ensures { IfOk result (λ all. all.items ≡ flat_map (λ a. a.files) (acks_of acks.now.entries)) }
+fn all_files(alloc: Global, acks: &VecDeque<Acked>) -> Result<Vec<FileId>, AllocError>
+    ensures { IfOk result (λ all. all.items ≡ flat_map (λ a. a.files) acks.now.items) }
 {
     let mut all = Vec::new(alloc);
-    for files in acks.values() {
-        all.extend_from_slice(files.as_slice())?;
+    for acked in acks {
+        all.extend_from_slice(acked.files.as_slice())?;
     }
     Ok(all)
 }

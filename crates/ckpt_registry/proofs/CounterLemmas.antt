@@ -1,12 +1,14 @@
 -- What one change of the counters does to the count of each file.
-use Rattle.std.proofs.Common.{◌≡◌, ℕ, ◌+◌, ◌<◌, ◌≤◌, ◌^◌, cond, eqb, ltb, nat_eq, List, [], ◌∷◌, ◌++◌, length, get_or, take, refl, sym, ap, ◌∙◌, ⊎_elim, arith, Option, Some, None, Result, Ok, Err, unwrap_or, is_some, IfOk, if◌then◌else◌}
-use Rattle.std.proofs.lemmas.Bool.{cases_eq, eq-eqb, ne_eqb, lt-ltb, le-ltb, cases_lt, cond-true, cond-false}
+use Rattle.std.proofs.Common.{◌≡◌, ℕ, zero, suc, ◌+◌, ◌<◌, ◌≤◌, ◌^◌, cond, eqb, ltb, nat_eq, List, [], ◌∷◌, ◌++◌, length, get_or, take, refl, sym, ap, ◌∙◌, ⊎_elim, arith, Option, Some, None, Result, Ok, Err, unwrap_or, is_some, IfOk, if◌then◌else◌}
+use Rattle.std.proofs.lemmas.Bool.{cases_eq, eq-eqb, eqb-true, ne_eqb, lt-ltb, le-ltb, cases_lt, cond-true, cond-false}
 use Rattle.std.proofs.lemmas.Option.{none-some, same_Some}
 use Rattle.std.proofs.lemmas.List.Sums.{sum_by_more, sum_by_push, sum_by-take-le}
 use Rattle.std.specs.Result.{IsOk, OnOk, OnErr}
 use Rattle.std.proofs.lemmas.Bool.{false≢true}
-use Rattle.std.specs.Map.{lookup}
-use Rattle.indexmap.specs.IndexMap.{get}
+use Rattle.std.specs.List.{position, slice_get}
+use Rattle.std.specs.Map.{lookup, keys_of, values_of}
+use Rattle.std.proofs.lemmas.List.Quantifiers.{position-Some}
+use Rattle.indexmap.specs.IndexMap.{get, keys, values}
 use Rattle.ckpt_registry.proofs.ListLemmas.{one_if, one_if-true, one_if-false}
 use Rattle.ckpt_registry.specs.Counters.{Counts, counter, counted_once, AreInRange}
 use Rattle.ckpt_ids.specs.Counting.{times}
@@ -29,6 +31,16 @@ counter-set_at m n k w s f e = ap value_of (get-set_at m n k w s f e)
 
 pub counter-set_off : (m n : Counts) (k : ℕ) (w : Option ℕ) → Sets m n k w → (f : ℕ) → (k ≡ f → ⊥) → counter n f ≡ counter m f
 counter-set_off m n k w s f ne = ap value_of (get-set_off m n k w s f ne)
+
+-- the entry that a look-up of its index finds
+
+entry_at : (es : List (ℕ × ℕ)) (i k v d : ℕ) → k ≡ get_or (keys_of es) i d → slice_get (values_of es) i ≡ Some v → slice_get es i ≡ Some (k, v)
+entry_at [] i k v d here at = absurd (none-some v at)
+entry_at (e ∷ es) zero k v d here at = let same : e.1 ≡ v = same_Some e.1 v at in λ j. Some (sym here j, same j)
+entry_at (e ∷ es) (suc i) k v d here at = entry_at es i k v d here at
+
+pub entry_found : (m : Counts) (i k v : ℕ) → position (nat_eq k) (keys m) ≡ Some i → slice_get (values m) i ≡ Some v → slice_get m.entries i ≡ Some (k, v)
+entry_found m i k v found at = entry_at m.entries i k v k (eqb-true k (get_or (keys m) i k) (position-Some (nat_eq k) (keys m) i k found).1) at
 
 -- a counter above 0 is there
 pub get-from_counter : (m : Counts) (f : ℕ) → 0 < counter m f → get nat_eq m f ≡ Some (counter m f)

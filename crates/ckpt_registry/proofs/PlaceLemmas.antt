@@ -1,11 +1,11 @@
 -- What a search by halves finds in the row of what each record holds, and what a change at that place leaves.
-use Rattle.std.proofs.Common.{◌≡◌, ℕ, zero, suc, ◌<◌, ◌≤◌, Bool, true, false, not, cond, eqb, ltb, length, get_or, take, drop, set, List, [], ◌∷◌, ◌++◌, refl, sym, ap, subst, ◌∙◌, ⊎_elim, arith, ◌⊎◌, inl, inr, Result, Ok, Err, IfOk, IfErr}
+use Rattle.std.proofs.Common.{◌≡◌, ℕ, zero, suc, ◌-◌, ◌<◌, ◌≤◌, Bool, true, false, not, cond, eqb, ltb, length, get_or, take, drop, set, List, [], ◌∷◌, ◌++◌, refl, sym, ap, subst, ◌∙◌, ⊎_elim, arith, ◌⊎◌, inl, inr, Result, Ok, Err, IfOk, IfErr}
 use Rattle.std.specs.List.{filter, insert, remove, HoldsAt}
 use Rattle.std.specs.List.Sorted.{IsBinarySearchResult, IsPartitionPoint, IsSearchInRange}
 use Rattle.std.specs.Ordering.{nat_cmp}
 use Rattle.std.proofs.lemmas.Bool.{cond-true, cond-false, le-ltb, cases_lt, eq-eqb, ne_eqb, ltb-true, lt-ltb}
 use Rattle.std.proofs.lemmas.Bool.Decides.{nat_tests}
-use Rattle.std.proofs.lemmas.List.{append-nil, map-append, set-get_or, set_split}
+use Rattle.std.proofs.lemmas.List.{append-nil, get_or_read_under, map-append, set-get_or, set_split}
 use Rattle.std.specs.declared.cmp.Ordering.TheVariants.{Less, Greater}
 use Rattle.std.proofs.lemmas.List.Elements.{filter-append}
 use Rattle.ckpt_ids.specs.Ordered.{AreDistinct, IsIn, put}
@@ -44,6 +44,17 @@ search_absent id hs (Ok place) a within at = tt
 search_absent id hs (Err place) a within at =
     let parted = at (λ i j d h k. index_rises (get_or hs i d).id (get_or hs j d).id id (rising_at hs i j d a h k)) in
     (within, (λ k d h l. less_number (get_or hs k d).id id (parted.0 k d h l), λ k d h l. greater_number (get_or hs k d).id id (parted.1 k d h l)))
+
+-- each number below, as where the last is
+pub all_below : (id : ℕ) (hs : List Holding) (n : ℕ) (last : Holding) → AreRising hs → n ≡ length hs → last ≡ get_or hs (n - 1) last → last.id < id → (k : ℕ) (d : Holding) → k < n → (get_or hs k d).id < id
+all_below id hs n last a all at below = λ k d h.
+    let same : last.id ≡ (get_or hs (n - 1) d).id = ap number (get_or_read_under hs (n - 1) n last d at (omega arith) all) in
+    let up : (get_or hs k d).id ≤ (get_or hs (n - 1) d).id = rising_at hs k (n - 1) d a (omega arith) (omega arith) in
+    omega arith
+
+-- then a record belongs at the end
+pub end_point : (id : ℕ) (hs : List Holding) (n : ℕ) → n ≡ length hs → ((k : ℕ) (d : Holding) → k < n → (get_or hs k d).id < id) → (n ≤ length hs) × IsPartitionPoint (λ h. h.id < id) (λ h. id < h.id) hs n
+end_point id hs n all below = (omega arith, (λ k d l m. below k d m, λ k d l m. absurd (omega arith)))
 
 -- Where a record was found. The others have other numbers.
 

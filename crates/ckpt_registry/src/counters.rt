@@ -55,12 +55,12 @@ pub(crate) fn lower(counts: &mut Counts, released: &mut Vec<FileId>, file: FileI
     ensures capacity { vec_capacity released.new ≡ vec_capacity released.old }
     ensures range { AreInRange counts.new }
 {
-    if let Some(count) = counts.get_mut(&file) {
-        if *count > 1 {
-            *count -= 1;
-            return;
-        }
+    let index = counts.get_index_of(&file).unwrap();
+    let count = counts[index];
+    if count > 1 {
+        counts[index] = count - 1;
+        return;
     }
-    counts.swap_remove(&file);
+    counts.swap_remove_index(index);
     released.push_reserved(file);
 }

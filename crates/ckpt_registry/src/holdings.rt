@@ -98,13 +98,31 @@ pub(crate) fn lower_parts(counts: &mut Counts, released: &mut Vec<FileId>, parts
     }
 }
 
-/// Where what a record holds lies, or an `Err` with where it belongs. Searches by halves.
+/// Where what a record holds lies, or an `Err` with where it belongs. Mostly that is at the end, so
+/// that the last is looked at first.
 fn place_of(acknowledged: &Acknowledged, id: CheckpointId) -> Result<usize, usize>
     requires { AreRising acknowledged.now.items }
     ensures found { IfOk result (λ place. (place < length acknowledged.now.items) × HoldsAt (λ h. h.id ≡ id) acknowledged.now.items place) }
     ensures absent { IfErr result (λ place. (place ≤ length acknowledged.now.items) × IsPartitionPoint (λ h. h.id < id) (λ h. id < h.id) acknowledged.now.items place) }
 {
-    acknowledged.binary_search_by_key(&id, |holding| holding.id)
+    match acknowledged.back() {
+        Some(last) if last.id == id => Ok(acknowledged.len() - 1),
+        Some(last) if id < last.id => place_below(acknowledged, id),
+        _ => Err(acknowledged.len()),
+    }
+}
+
+/// The same for a number below the last: the first is looked at before the others are searched by
+/// halves.
+fn place_below(acknowledged: &Acknowledged, id: CheckpointId) -> Result<usize, usize>
+    requires { AreRising acknowledged.now.items }
+    ensures found { IfOk result (λ place. (place < length acknowledged.now.items) × HoldsAt (λ h. h.id ≡ id) acknowledged.now.items place) }
+    ensures absent { IfErr result (λ place. (place ≤ length acknowledged.now.items) × IsPartitionPoint (λ h. h.id < id) (λ h. id < h.id) acknowledged.now.items place) }
+{
+    match acknowledged.front() {
+        Some(first) if first.id == id => Ok(0),
+        _ => acknowledged.binary_search_by_key(&id, |holding| holding.id),
+    }
 }
 
 /// The parts of a record; none where no subtask of it uses a file.

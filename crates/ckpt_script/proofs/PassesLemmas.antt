@@ -1,7 +1,7 @@
 -- What was written and what waits, from step to step.
 use Rattle.std.proofs.Common.{◌≡◌, ℕ, List, [], ◌++◌, Option, None, Some, refl, sym, ap, subst, ◌∙◌, append_assoc, append-nil}
 use Rattle.std.specs.Io.KnownBytes.{Appends, Keeps}
-use Rattle.std.specs.Prelude.{Result, Ok, Err, OnOk, OnErr, IfErr}
+use Rattle.std.specs.Prelude.{Result, Ok, Err, OnErr, IfErr}
 use Rattle.std.specs.Result.{IsErrAnd}
 use Rattle.ckpt_script.specs.Known.{IsCut, Passes}
 
@@ -31,15 +31,6 @@ Keeps-appends None b k = tt
 Keeps-appends (Some a) (Some b) k = k ∙ sym (append-nil a)
 Keeps-appends (Some a) None k = k
 
-module _ (before between after : Option (List ℕ)) where
-  -- all that waited was written, and nothing waits
-  pub passes_out : (waiting text written : List ℕ) → Appends before between waiting → Appends between after written → (left : List ℕ) → written ++ left ≡ text → Passes before after waiting text left
-  passes_out waiting text written p q left e = record {
-    written = waiting ++ written;
-    appended = Appends-trans before between after waiting written p q;
-    in_turn = append_assoc waiting written left ∙ ap (λ (zs : List ℕ). waiting ++ zs) e;
-  }
-
 -- a front of what waited was written
 pub passes_part : (before after : Option (List ℕ)) (waiting text : List ℕ) (cut : IsCut before after waiting) → Passes before after waiting text (cut.1 ++ text)
 passes_part before after waiting text cut = record {
@@ -51,6 +42,14 @@ passes_part before after waiting text cut = record {
 -- nothing was written
 pub passes_none : (before : Option (List ℕ)) (waiting text : List ℕ) → Passes before before waiting text (waiting ++ text)
 passes_none before waiting text = record { written = []; appended = Appends-none before; in_turn = refl }
+
+-- the text waited as well
+pub passes_said : (before after : Option (List ℕ)) (waiting text left : List ℕ) → Passes before after (waiting ++ text) [] left → Passes before after waiting text left
+passes_said before after waiting text left p = record {
+  written = p.written;
+  appended = p.appended;
+  in_turn = p.in_turn ∙ append-nil (waiting ++ text);
+}
 
 -- nothing more was shown
 pub passes_on : (before between after : Option (List ℕ)) (waiting middle left : List ℕ) → Passes before between waiting [] middle → Passes between after middle [] left → Passes before after waiting [] left
@@ -65,10 +64,6 @@ passes_on before between after waiting middle left p q = record {
 pub on_err : {T E : Type 0} (r : Result T E) {P : Type 0} → P → OnErr r P
 on_err (Ok x) p = tt
 on_err (Err e) p = p
-
-pub on_ok_map : {T E : Type 0} (r : Result T E) {P Q : Type 0} → (P → Q) → OnOk r P → OnOk r Q
-on_ok_map (Ok x) f p = f p
-on_ok_map (Err e) f p = tt
 
 pub on_err_map : {T E : Type 0} (r : Result T E) {P : E → Type 0} {Q : Type 0} → ((e : E) → P e → Q) → IfErr r P → OnErr r Q
 on_err_map (Ok x) f p = tt

@@ -1,6 +1,5 @@
-ghost use Rattle.std.specs.Prelude.{◌≡◌, ◌≢◌, ℕ, List, [], IfOk, OnOk, OnErr, IfErr};
+ghost use Rattle.std.specs.Prelude.{◌≡◌, [], IfOk, OnOk, OnErr, IfErr};
 ghost use Rattle.std.specs.Io.KnownBytes.{Appends};
-ghost use Rattle.ckpt_script.specs.Devices.{SinkCauses};
 ghost use Rattle.ckpt_script.specs.Known.{IsCut, Passes, PassesFront};
 
 use crate::fault::RunFault;
@@ -8,24 +7,23 @@ use crate::sink::Sink;
 use std::alloc::{AllocError, Global};
 use std::marker::Model;
 
-/// How many bytes wait at most.
+/// How many bytes wait at most between two lines.
 const CHUNK: usize = 8192;
 
 /// What is printed and not written yet.
 #[derive(Drop)]
 pub(crate) struct Printed {
-    waiting: Vec<u8>,
+    /// What is printed is appended here, and then [`Printed::settle`] is called.
+    pub(crate) waiting: String,
     is_flushed: bool,
 }
 
 impl Model for Printed {
-    ghost use Rattle.std.specs.Prelude.{◌≤◌, ℕ, List, vec_len};
+    ghost use Rattle.std.specs.Prelude.{ℕ, List, string_bytes};
 
     ghost Value = { List ℕ };
 
-    ghost view = { λ p. p.waiting.items };
-
-    ghost invariant = { λ p. vec_len p.waiting ≤ 8192 };
+    ghost view = { λ p. string_bytes p.waiting };
 }
 
 impl Printed {
@@ -34,28 +32,25 @@ impl Printed {
         ensures { IfOk result (λ printed. printed ≡ []) }
     {
         Ok(Printed {
-            waiting: Vec::with_capacity(alloc, CHUNK)?,
+            waiting: String::with_capacity(alloc, CHUNK)?,
             is_flushed: true,
         })
     }
 
-    /// Prints a text: it is written now or waits.
-    pub(crate) fn print<K: Sink>(&mut self, sink: &mut K, text: &[u8]) -> Result<(), RunFault>
+    /// Writes what waits where that is more than may wait until the next line.
+    pub(crate) fn settle<K: Sink>(&mut self, sink: &mut K) -> Result<(), RunFault>
         requires going_on { K.failures sink.old ≡ 0 }
-        ensures ok { OnOk result (Passes (K.contents sink.old) (K.contents sink.new) self.old text.now self.new) }
-        ensures err { OnErr result (PassesFront (K.contents sink.old) (K.contents sink.new) self.old text.now) }
-        ensures fault { IfErr result (λ why. (why ≢ RunFault.Read) × (why ≢ RunFault.TooManyLines)) }
+        ensures ok { OnOk result (Passes (K.contents sink.old) (K.contents sink.new) self.old [] self.new) }
+        ensures err { OnErr result (PassesFront (K.contents sink.old) (K.contents sink.new) self.old []) }
+        ensures fault { IfErr result (λ why. why ≡ RunFault.Write) }
         ensures going_on { OnOk result (K.failures sink.new ≡ 0) }
-        ensures cause { IfErr result (SinkCauses (K.failures sink.new)) }
+        ensures failed { OnErr result (K.failures sink.new ≡ 1) }
         ensures same_sink { K.device sink.new ≡ K.device sink.old }
     {
-        if self.waiting.len() + text.len() <= CHUNK {
-            self.waiting.extend_from_slice(text)?;
+        if self.waiting.len() <= CHUNK {
             return Ok(());
         }
-        self.write_out(sink)?;
-        self.is_flushed = false;
-        write_whole(sink, text)
+        self.write_out(sink)
     }
 
     /// Writes what waits, and flushes what was written since the last flush.
@@ -92,7 +87,7 @@ impl Printed {
         if self.waiting.is_empty() {
             return Ok(());
         }
-        write_whole(sink, self.waiting.as_slice())?;
+        write_whole(sink, self.waiting.as_bytes())?;
         self.waiting.clear();
         self.is_flushed = false;
         Ok(())

@@ -29,7 +29,6 @@ struct Runner {
     ahead: Ahead,
     line: Vec<u8>,
     session: Session,
-    text: String,
     printed: Printed,
     summary: Summary,
 }
@@ -78,8 +77,9 @@ impl Runner {
             return Err(RunFault::Memory);
         }
         let is_faulty = line.is_err();
-        self.session.say_into(&mut self.text, number, line, team)?;
-        self.printed.print(sink, self.text.as_bytes())?;
+        self.session
+            .say_onto(&mut self.printed.waiting, number, line, team)?;
+        self.printed.settle(sink)?;
         self.summary.lines = number;
         self.summary.faults += u64::from(is_faulty);
         Ok(())
@@ -137,7 +137,6 @@ impl Runner {
             ahead: Ahead::new(alloc)?,
             line: Vec::new(alloc),
             session: Session::keyed(alloc, secret),
-            text: String::new(alloc),
             printed: Printed::new(alloc)?,
             summary: Summary {
                 lines: 0,

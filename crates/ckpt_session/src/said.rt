@@ -1,4 +1,4 @@
-ghost use Rattle.std.specs.Prelude.{◌≡◌, IfOk, string_bytes};
+ghost use Rattle.std.specs.Prelude.{◌≡◌, ◌++◌, IfOk, OnOk, string_bytes};
 ghost use Rattle.ckpt_session.specs.ScriptTexts.{refusal_name, refusal_bytes, fault_name, fault_bytes};
 
 use ckpt_lines::LineFault;
@@ -29,23 +29,29 @@ pub(crate) enum ScriptRefusal {
 }
 
 /// The text of a refusal, with its newline. Fails only for want of memory.
-#[tactic(auto, unfolding(crate::specs::ScriptTexts::refusal_bytes))]
 pub(crate) fn refusal_text(alloc: Global, why: ScriptRefusal) -> Result<String, AllocError>
     ensures { IfOk result (λ text. string_bytes text ≡ refusal_bytes why) }
 {
-    format!(in alloc; "refused {}\n", refusal_name(why))
+    let mut text = String::new(alloc);
+    write_refusal(&mut text, why)?;
+    Ok(text)
 }
 
-/// The text of the fault of the line with this number, with its newline. Fails only for want of
-/// memory.
-#[tactic(auto, unfolding(crate::specs::ScriptTexts::fault_bytes))]
-pub(crate) fn fault_text(alloc: Global, number: u64, why: LineFault) -> Result<String, AllocError>
-    ensures { IfOk result (λ text. string_bytes text ≡ fault_bytes number why) }
+/// Appends the text of a refusal, with its newline. Fails only for want of memory.
+#[tactic(auto, unfolding(crate::specs::ScriptTexts::refusal_bytes))]
+pub(crate) fn write_refusal(text: &mut String, why: ScriptRefusal) -> Result<(), AllocError>
+    ensures { OnOk result (string_bytes text.new ≡ string_bytes text.old ++ refusal_bytes why) }
 {
-    let mut text = format!(in alloc; "line {number} fault ")?;
-    text.push_str(fault_name(why))?;
-    text.push_str("\n")?;
-    Ok(text)
+    write!(text, "refused {}\n", refusal_name(why))
+}
+
+/// Appends the text of the fault of the line with this number, with its newline. Fails only for want
+/// of memory.
+#[tactic(auto, unfolding(crate::specs::ScriptTexts::fault_bytes))]
+pub(crate) fn write_fault(text: &mut String, number: u64, why: LineFault) -> Result<(), AllocError>
+    ensures { OnOk result (string_bytes text.new ≡ string_bytes text.old ++ fault_bytes number why) }
+{
+    write!(text, "line {number} fault {}\n", fault_name(why))
 }
 
 #[tactic(auto, unfolding(crate::specs::ScriptTexts::refusal_name))]

@@ -1,9 +1,9 @@
-ghost use Rattle.std.specs.Prelude.{◌≡◌, ◌↔◌, [], false, true, None, Err, IfOk, OnOk, OnErr, is_err, string_bytes};
+ghost use Rattle.std.specs.Prelude.{◌≡◌, ◌↔◌, ◌++◌, false, true, None, Err, IfOk, OnOk, OnErr, is_err, string_bytes};
 ghost use Rattle.ckpt_session.specs.Sessions.{opening_scene, before_start, configured, shaped, started, called, restored, new_shape, is_new_shape, all_called, obeyed, said};
 
 use crate::all::AllLine;
 use crate::calls::{call, open};
-use crate::said::{ScriptRefusal, fault_text, refusal_text};
+use crate::said::{ScriptRefusal, write_fault, write_refusal};
 use ckpt_core::Secret;
 use ckpt_ids::{Call, Config, Shape, ShapeFault, Target};
 use ckpt_lines::{Line, LineFault, Numbers};
@@ -70,28 +70,31 @@ impl Session {
         ensures memory { line ≡ Err LineFault.Memory → is_err result ≡ true }
     {
         let mut text = String::new(self.alloc);
-        self.say_into(&mut text, number, line, team)?;
+        self.say_onto(&mut text, number, line, team)?;
         Ok(text)
     }
 
-    /// As [`Session::say`], and puts what the line prints into the text, in place of what it held: a
-    /// text that is used again takes memory seldom.
+    /// As [`Session::say`], and appends what the line prints to the text: where that is written to
+    /// a device in parts, no text is made for each line.
+    ///
+    /// Where it fails, a part of what the line prints may stand at the end of the text.
     #[tactic(auto, unfolding(crate::specs::Sessions::said))]
-    pub fn say_into<T: Team>(
+    pub fn say_onto<T: Team>(
         &mut self,
         text: &mut String,
         number: u64,
         line: Result<Line, LineFault>,
         team: &mut T,
     ) -> Result<(), AllocError>
-        ensures said { OnOk result ((self.new, string_bytes text.new) ≡ said number self.old line) }
+        ensures scene { OnOk result (self.new ≡ (said number self.old line).0) }
+        ensures text { OnOk result (string_bytes text.new ≡ string_bytes text.old ++ (said number self.old line).1) }
         ensures given_up { OnErr result (self.new ≡ record self.old { core = None }) }
         ensures memory { line ≡ Err LineFault.Memory → is_err result ≡ true }
     {
         let answered = match line {
             Ok(line) => self.obey(text, line, team),
             Err(LineFault::Memory) => Err(AllocError),
-            Err(why) => put(text, fault_text(self.alloc, number, why)),
+            Err(why) => write_fault(text, number, why),
         };
         if answered.is_err() {
             self.give_up();
@@ -115,12 +118,13 @@ impl Session {
         line: Line,
         team: &mut T,
     ) -> Result<(), AllocError>
-        ensures said { OnOk result ((self.new, string_bytes text.new) ≡ obeyed self.old line) }
+        ensures scene { OnOk result (self.new ≡ (obeyed self.old line).0) }
+        ensures text { OnOk result (string_bytes text.new ≡ string_bytes text.old ++ (obeyed self.old line).1) }
         ensures told { OnErr result ((self.new.config ≡ self.old.config) × (self.new.shape ≡ self.old.shape)) }
     {
         // The call is made in one place: each place where one is made has a frame of its own to clear.
         let made = match line {
-            Line::Skip => return silence(text),
+            Line::Skip => return Ok(()),
             Line::Config {
                 interval,
                 pause,
@@ -193,38 +197,37 @@ impl Session {
     #[tactic(auto, unfolding(crate::specs::Sessions::configured))]
     #[inline(never)]
     fn configure(&mut self, text: &mut String, config: Option<Config>) -> Result<(), AllocError>
-        ensures said { OnOk result ((self.new, string_bytes text.new) ≡ before_start self.old (configured self.old config)) }
+        ensures scene { OnOk result (self.new ≡ (before_start self.old (configured self.old config)).0) }
+        ensures text { OnOk result (string_bytes text.new ≡ string_bytes text.old ++ (before_start self.old (configured self.old config)).1) }
         ensures told { OnErr result ((self.new.config ≡ self.old.config) × (self.new.shape ≡ self.old.shape)) }
     {
         if self.book.is_some() {
-            return put(text, refusal_text(self.alloc, ScriptRefusal::Started));
+            return write_refusal(text, ScriptRefusal::Started);
         }
         if config.is_none() {
-            return put(text, refusal_text(self.alloc, ScriptRefusal::BadConfig));
+            return write_refusal(text, ScriptRefusal::BadConfig);
         }
         self.config = config;
-        silence(text)
+        Ok(())
     }
 
     /// Takes a shape.
     #[tactic(auto, unfolding(crate::specs::Sessions::shaped))]
     #[inline(never)]
     fn reshape(&mut self, text: &mut String, parallelisms: &Numbers) -> Result<(), AllocError>
-        ensures said { OnOk result ((self.new, string_bytes text.new) ≡ before_start self.old (shaped self.old parallelisms.now)) }
+        ensures scene { OnOk result (self.new ≡ (before_start self.old (shaped self.old parallelisms.now)).0) }
+        ensures text { OnOk result (string_bytes text.new ≡ string_bytes text.old ++ (before_start self.old (shaped self.old parallelisms.now)).1) }
         ensures told { OnErr result ((self.new.config ≡ self.old.config) × (self.new.shape ≡ self.old.shape)) }
     {
         if self.book.is_some() {
-            return put(text, refusal_text(self.alloc, ScriptRefusal::Started));
+            return write_refusal(text, ScriptRefusal::Started);
         }
         match Shape::new(self.alloc, parallelisms.as_slice()) {
             Ok(shape) => {
                 self.shape = Some(shape);
-                silence(text)
+                Ok(())
             }
-            Err(ShapeFault::BadShape) => put(
-                text,
-                refusal_text(self.alloc, ScriptRefusal::BadShape),
-            ),
+            Err(ShapeFault::BadShape) => write_refusal(text, ScriptRefusal::BadShape),
             Err(ShapeFault::Memory) => Err(AllocError),
         }
     }
@@ -233,24 +236,22 @@ impl Session {
     #[tactic(auto, unfolding(crate::specs::Sessions::started))]
     #[inline(never)]
     fn start(&mut self, text: &mut String, now: u64) -> Result<(), AllocError>
-        ensures said { OnOk result ((self.new, string_bytes text.new) ≡ before_start self.old (started self.old now self.old.config self.old.shape)) }
+        ensures scene { OnOk result (self.new ≡ (before_start self.old (started self.old now self.old.config self.old.shape)).0) }
+        ensures text { OnOk result (string_bytes text.new ≡ string_bytes text.old ++ (before_start self.old (started self.old now self.old.config self.old.shape)).1) }
         ensures told { OnErr result ((self.new.config ≡ self.old.config) × (self.new.shape ≡ self.old.shape)) }
     {
         if self.book.is_some() {
-            return put(text, refusal_text(self.alloc, ScriptRefusal::Started));
+            return write_refusal(text, ScriptRefusal::Started);
         }
         let (Some(config), Some(shape)) = (self.config, &self.shape) else {
-            return put(text, refusal_text(self.alloc, ScriptRefusal::NotReady));
+            return write_refusal(text, ScriptRefusal::NotReady);
         };
         match open(self.alloc, config, shape.copy()?, now, self.secret) {
             Ok(book) => {
                 self.book = Some(book);
-                silence(text)
+                Ok(())
             }
-            Err(_) => put(
-                text,
-                refusal_text(self.alloc, ScriptRefusal::MomentTooLarge),
-            ),
+            Err(_) => write_refusal(text, ScriptRefusal::MomentTooLarge),
         }
     }
 
@@ -258,19 +259,17 @@ impl Session {
     #[tactic(auto, unfolding(crate::specs::Sessions::called))]
     #[inline(always)]
     fn call(&mut self, text: &mut String, made: Call) -> Result<(), AllocError>
-        ensures said { OnOk result ((self.new, string_bytes text.new) ≡ called self.old self.old.core made) }
+        ensures scene { OnOk result (self.new ≡ (called self.old self.old.core made).0) }
+        ensures text { OnOk result (string_bytes text.new ≡ string_bytes text.old ++ (called self.old self.old.core made).1) }
         ensures told { OnErr result ((self.new.config ≡ self.old.config) × (self.new.shape ≡ self.old.shape)) }
     {
         match &mut self.book {
-            None => put(text, refusal_text(self.alloc, ScriptRefusal::NotStarted)),
+            None => write_refusal(text, ScriptRefusal::NotStarted),
             Some(book) => {
                 // the answer is told where it lies
                 let given = call(book, made);
                 match &given {
-                    Ok(answer) => {
-                        text.clear();
-                        write_answer(self.alloc, text, answer)
-                    }
+                    Ok(answer) => write_answer(self.alloc, text, answer),
                     Err(_) => Err(AllocError),
                 }
             }
@@ -287,18 +286,16 @@ impl Session {
         target: Target,
         parallelisms: &Numbers,
     ) -> Result<(), AllocError>
-        ensures said { OnOk result ((self.new, string_bytes text.new) ≡ restored self.old now target parallelisms.now) }
+        ensures scene { OnOk result (self.new ≡ (restored self.old now target parallelisms.now).0) }
+        ensures text { OnOk result (string_bytes text.new ≡ string_bytes text.old ++ (restored self.old now target parallelisms.now).1) }
         ensures told { OnErr result ((self.new.config ≡ self.old.config) × (self.new.shape ≡ self.old.shape)) }
     {
         if self.book.is_none() {
-            return put(text, refusal_text(self.alloc, ScriptRefusal::NotStarted));
+            return write_refusal(text, ScriptRefusal::NotStarted);
         }
         match new_shape(self.alloc, parallelisms) {
             Ok(shape) => self.call(text, Call::Restore { now, target, shape }),
-            Err(ShapeFault::BadShape) => put(
-                text,
-                refusal_text(self.alloc, ScriptRefusal::BadShape),
-            ),
+            Err(ShapeFault::BadShape) => write_refusal(text, ScriptRefusal::BadShape),
             Err(ShapeFault::Memory) => Err(AllocError),
         }
     }
@@ -312,35 +309,18 @@ impl Session {
         line: &AllLine,
         team: &mut T,
     ) -> Result<(), AllocError>
-        ensures said { OnOk result ((self.new, string_bytes text.new) ≡ all_called self.old self.old.core line.now) }
+        ensures scene { OnOk result (self.new ≡ (all_called self.old self.old.core line.now).0) }
+        ensures text { OnOk result (string_bytes text.new ≡ string_bytes text.old ++ (all_called self.old self.old.core line.now).1) }
         ensures told { OnErr result ((self.new.config ≡ self.old.config) × (self.new.shape ≡ self.old.shape)) }
     {
         let Some(book) = self.book.take() else {
-            return put(text, refusal_text(self.alloc, ScriptRefusal::NotStarted));
+            return write_refusal(text, ScriptRefusal::NotStarted);
         };
         let (book, told) = line.obey(self.alloc, book, team)?;
+        text.push_str(told.as_str())?;
         self.book = Some(book);
-        *text = told;
         Ok(())
     }
-}
-
-/// What a line prints that prints nothing. Takes no memory.
-fn silence(text: &mut String) -> Result<(), AllocError>
-    ensures text { string_bytes text.new ≡ [] }
-    ensures ok { is_err result ≡ false }
-{
-    text.clear();
-    Ok(())
-}
-
-/// Puts what was made into the text, in place of what it held.
-fn put(text: &mut String, made: Result<String, AllocError>) -> Result<(), AllocError>
-    ensures made { OnOk result (IfOk made (λ now. string_bytes text.new ≡ string_bytes now)) }
-    ensures kept { is_err result ≡ is_err made }
-{
-    *text = made?;
-    Ok(())
 }
 
 /// The shape of these parallelisms, or `None` where there is none.

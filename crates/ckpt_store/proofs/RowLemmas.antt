@@ -1,11 +1,12 @@
 -- Rows of records that rise by number: what a search by halves finds there, and what an insertion and a removal leave.
-use Rattle.std.proofs.Common.{◌≡◌, ℕ, zero, suc, ◌<◌, ◌≤◌, Bool, true, false, not, cond, ltb, leb, eqb, List, [], ◌∷◌, length, get_or, refl, sym, ap, subst, ◌∙◌, inl, inr, ⊎_elim, arith, Option, Some, None, Result, Ok, Err, IfOk, OnErr, ◌||◌, Bor, IfSome}
+use Rattle.std.proofs.Common.{◌≡◌, ℕ, zero, suc, ◌-◌, ◌<◌, ◌≤◌, Bool, true, false, not, cond, ltb, leb, eqb, List, [], ◌∷◌, length, get_or, refl, sym, ap, subst, ◌∙◌, inl, inr, ⊎_elim, arith, Option, Some, None, Result, Ok, Err, IfOk, OnErr, ◌||◌, Bor, IfSome}
 use Rattle.std.specs.Prelude.{filter, slice_get}
 use Rattle.std.specs.List.{list_any, find, insert, remove, HoldsAt}
 use Rattle.std.specs.List.Sorted.{IsNonDecreasingBy, IsPartitionedBy, IsPartitionPoint, IsBinarySearchResult, IsSearchInRange}
 use Rattle.std.specs.Ordering.{nat_cmp, ordering_index}
 use Rattle.std.specs.declared.cmp.Ordering.TheVariants.{Less, Equal, Greater}
 use Rattle.std.specs.Option.{is_some, option_copied}
+use Rattle.std.proofs.lemmas.List.{get_or_read_under}
 use Rattle.std.proofs.lemmas.Option.{slice_get-get_or, slice_get_past}
 use Rattle.std.proofs.lemmas.Bool.{lt-ltb, lt-leb, le-leb, ltb-true, ltb-false, eq-eqb, ne_eqb, cases_lt, or_parts}
 use Rattle.std.proofs.lemmas.Bool.Decides.{nat_tests}
@@ -43,6 +44,15 @@ pub place_from_search : (id : ℕ) (records : List Record) (place : ℕ) → pla
 place_from_search id [] place h f = absurd (omega arith)
 place_from_search id (r ∷ records) zero h f = equal_numbers r.id id (f r)
 place_from_search id (r ∷ records) (suc place) h f = place_from_search id records place (omega arith) f
+
+-- a record that was looked at
+place_from_get : (id : ℕ) (records : List Record) (place : ℕ) (r : Record) → place < length records → r ≡ get_or records place r → r.id ≡ id → IsPlaceOf id records place
+place_from_get id [] place r h at e = absurd (omega arith)
+place_from_get id (q ∷ records) zero r h at e = ap (λ x. x.id) (sym at) ∙ e
+place_from_get id (q ∷ records) (suc place) r h at e = place_from_get id records place r (omega arith) at e
+
+pub last_place : (id : ℕ) (records : List Record) (n : ℕ) (r : Record) → n ≡ length records → 0 < n → r ≡ get_or records (n - 1) r → r.id ≡ id → (n - 1 < length records) × IsPlaceOf id records (n - 1)
+last_place id records n r all some at e = let within : n - 1 < length records = omega arith in (within, place_from_get id records (n - 1) r within at e)
 
 list_any_none_in : {X : Type 0} (p : X → Bool) (xs : List X) → ((x : X) → IsIn x xs → p x ≡ false) → list_any p xs ≡ false
 list_any_none_in p [] f = refl
@@ -126,6 +136,16 @@ partitioned id records a = λ i j d h k t.
     let below : (get_or records j d).id < id = ltb-true (get_or records j d).id id t in
     let up : (get_or records i d).id ≤ (get_or records j d).id = rising_at records i j d a h k in
     lt-ltb (get_or records i d).id id (omega arith)
+
+-- each number below, as where the last is
+pub all_below : (id : ℕ) (records : List Record) (n : ℕ) (last : Record) → AreRising records → n ≡ length records → last ≡ get_or records (n - 1) last → last.id < id → (k : ℕ) (d : Record) → k < n → (get_or records k d).id < id
+all_below id records n last a all at below = λ k d h.
+    let same : last.id ≡ (get_or records (n - 1) d).id = ap (λ r. r.id) (get_or_read_under records (n - 1) n last d at (omega arith) all) in
+    let up : (get_or records k d).id ≤ (get_or records (n - 1) d).id = rising_at records k (n - 1) d a (omega arith) (omega arith) in
+    omega arith
+
+pub end_partition : (id : ℕ) (records : List Record) (n : ℕ) → n ≡ length records → ((k : ℕ) (d : Record) → k < n → (get_or records k d).id < id) → IsPartitionPoint (λ r. ltb r.id id ≡ true) (λ r. ltb r.id id ≡ false) records n
+end_partition id records n all below = (λ k d l m. lt-ltb (get_or records k d).id id (below k d m), λ k d l m. absurd (omega arith))
 
 pub insert-partition : (x : Record) (records : List Record) (place : ℕ) → place ≤ length records → IsPartitionPoint (λ r. ltb r.id x.id ≡ true) (λ r. ltb r.id x.id ≡ false) records place → insert records place x ≡ put by_id x records
 insert-partition x [] zero within h = refl

@@ -1,5 +1,6 @@
-ghost use Rattle.std.specs.Prelude.{◌≡◌, ◌<◌, ◌≤◌, ◌+◌, false, length, IfOk, OnOk, OnErr};
+ghost use Rattle.std.specs.Prelude.{◌≡◌, ◌<◌, ◌≤◌, ◌+◌, true, false, nat_lt, length, IfOk, OnOk, OnErr};
 ghost use Rattle.std.specs.List.{list_any};
+ghost use Rattle.std.specs.List.Sorted.{IsPartitionPoint};
 ghost use Rattle.std.specs.VecDeque.{deque_len, deque_capacity};
 ghost use Rattle.ckpt_store.specs.Places.{IsPlaceOf};
 ghost use Rattle.ckpt_store.specs.Storing.{AreRising, has_id};
@@ -12,13 +13,37 @@ use std::collections::VecDeque;
 /// The room of a queue that grows for the first time.
 const FIRST_ROOM: usize = 4;
 
-/// Where the record of this number is, or an `Err` where there is none.
+/// Where the record of this number is, or an `Err` where there is none. Mostly the last or the
+/// first is asked for, so that these are looked at before the others are searched by halves.
 pub(crate) fn place_of(queue: &VecDeque<Done>, id: CheckpointId) -> Result<usize, usize>
     requires { AreRising queue.now.items }
     ensures found { IfOk result (λ place. (place < length queue.now.items) × IsPlaceOf id queue.now.items place) }
     ensures absent { OnErr result (list_any (has_id id) queue.now.items ≡ false) }
 {
+    if let Some(last) = queue.back() {
+        if last.id() == id {
+            return Ok(queue.len() - 1);
+        }
+    }
+    if let Some(first) = queue.front() {
+        if first.id() == id {
+            return Ok(0);
+        }
+    }
     queue.binary_search_by_key(&id, |done| done.id())
+}
+
+/// Where a record of this number belongs: before the first whose number is not below. That is mostly
+/// the end, so that the last is looked at before all are searched by halves.
+pub(crate) fn place_for(queue: &VecDeque<Done>, id: CheckpointId) -> usize
+    requires { AreRising queue.now.items }
+    ensures bound { result ≤ length queue.now.items }
+    ensures parted { IsPartitionPoint (λ r. nat_lt r.id id ≡ true) (λ r. nat_lt r.id id ≡ false) queue.now.items result }
+{
+    match queue.back() {
+        Some(last) if id <= last.id() => queue.partition_point(|done| done.id() < id),
+        _ => queue.len(),
+    }
 }
 
 /// Makes room for one more record. A growth at least doubles the room.

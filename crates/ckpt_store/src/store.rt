@@ -5,7 +5,7 @@ ghost use Rattle.ckpt_ids.specs.declared.numbers.Kind.TheVariants as kind;
 ghost use Rattle.ckpt_ids.specs.Ordered.{put};
 ghost use Rattle.ckpt_store.specs.Storing.{Stored, IsStored, IsAbove, by_id, has_id, has_savepoint, completing, past_retained, lowest, choice_of, record_of};
 
-use crate::places::{make_room, place_of};
+use crate::places::{make_room, place_for, place_of};
 use ckpt_ids::{CheckpointId, Choice, Kind};
 use ckpt_pending::Done;
 use std::alloc::{AllocError, Global};
@@ -101,8 +101,7 @@ impl Store {
         ensures value { self.new ≡ record self.old { savepoints = put by_id done self.old.savepoints; spare = self.new.spare } }
         ensures room { self.old.spare ≤ self.new.spare + 1 }
     {
-        let id = done.id();
-        let place = self.savepoints.partition_point(|other| other.id() < id);
+        let place = place_for(&self.savepoints, done.id());
         let _ = self.savepoints.insert(place, done);
     }
 

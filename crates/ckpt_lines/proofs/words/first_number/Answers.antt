@@ -1,30 +1,28 @@
-use Rattle.std.proofs.Common.{◌≡◌, ◌<◌, ℕ, zero, suc, refl, sym, ◌∙◌, arith}
-use Rattle.ckpt_lines.proofs.FirstNumbers.{other_byte, Reads-none, Reads-more, Reads-stops, Reads-empty, Reads-fails, Reads-all}
+use Rattle.std.proofs.Common.{◌∙◌, ◌<◌, ◌≤◌, ◌+◌, ◌*◌, ◌^◌, sym, arith}
+use Rattle.ckpt_lines.proofs.FirstNumbers.{Reads-all, Short-fits, Short-more, Short-none}
 use Rattle.ckpt_lines.proofs.words.first_number.Goals as goal
-use Rattle.ckpt_lines.proofs.words.first_number.Goals.{then-loop-length-test+else-text-length-ne32, else-loop-length-test}
-
-some : (n : ℕ) → (n ≡ 0 → ⊥) → 0 < n
-some zero not = absurd (not refl)
-some (suc n) not = omega arith
+use Rattle.ckpt_lines.proofs.words.first_number.Goals.{then-length-text, else-length-text}
 
 pub loop-length-init : goal.loop-length-init
-loop-length-init c = Reads-none c.args.text.now
+loop-length-init c = Short-none c.args.text.now
 
-pub returns-in_err-number : goal.returns-in_err-number
-returns-in_err-number c =
-    c.from_residual.ensures ∙ sym (Reads-fails c.args.text.now (Reads-stops c.args.text.now c.loop-length.length c.loop-length.number c.loop-length-test.true (other_byte _ c.if-text-length-ne32.true) c.loop-length.invariant (sym c.with_digit.ensures ∙ c.in_err-number.was)))
+pub overflow_add-number : goal.overflow_add-number
+overflow_add-number c =
+    let fits : c.loop-length.number * 10 + c.digit_of-digit.result < 2 ^ 64 = Short-fits c.args.text.now c.loop-length.length c.loop-length.number c.digit_of-digit.result (omega (arith, c.min-most.ensures)) c.loop-length.invariant (omega arith) in
+    omega (arith, fits)
+
+pub overflow_mul-number : goal.overflow_mul-number
+overflow_mul-number c =
+    let fits : c.loop-length.number * 10 + c.digit_of-digit.result < 2 ^ 64 = Short-fits c.args.text.now c.loop-length.length c.loop-length.number c.digit_of-digit.result (omega (arith, c.min-most.ensures)) c.loop-length.invariant (omega arith) in
+    omega (arith, fits)
 
 pub loop-length-preserved : goal.loop-length-preserved
-loop-length-preserved c = Reads-more c.args.text.now c.loop-length.length c.loop-length.number c.in_ok-number.number c.loop-length-test.true (other_byte _ c.if-text-length-ne32.true) c.loop-length.invariant (sym c.with_digit.ensures ∙ c.in_ok-number.was)
+loop-length-preserved c =
+    let digit : c.digit_of-digit.result ≤ 9 = omega arith in
+    Short-more c.args.text.now c.loop-length.length c.loop-length.number c.digit_of-digit.result (omega (arith, c.min-most.ensures)) (omega (arith, c.min-most.ensures)) c.loop-length.invariant digit (c.digit_of-digit.ensures digit)
 
-pub returns-then-length-eq0 : goal.returns-then-length-eq0
-returns-then-length-eq0 c = Reads-empty c.args.text.now c.loop-length.length c.if-length-eq0.true c.loop-length.invariant.within (λ there. elim c.loop-length-test.branch [
-  | then-loop-length-test+else-text-length-ne32 w ↦ rw w.if-text-length-ne32.false refl
-  | else-loop-length-test w ↦ absurd (omega (arith, there, w.loop-length-test.false))
-])
-
-pub returns : goal.returns
-returns c = Reads-all c.args.text.now c.loop-length.length c.loop-length.number (some _ c.if-length-eq0.false) c.loop-length.invariant (λ there. elim c.loop-length-test.branch [
-  | then-loop-length-test+else-text-length-ne32 w ↦ rw w.if-text-length-ne32.false refl
-  | else-loop-length-test w ↦ absurd (omega (arith, there, w.loop-length-test.false))
+pub returns-then-text-length-eq32 : goal.returns-then-text-length-eq32
+returns-then-text-length-eq32 c = Reads-all c.args.text.now c.loop-length.length c.loop-length.number (omega arith) c.loop-length.invariant.reads (λ there. elim c.if-length-text.branch [
+  | then-length-text w ↦ absurd (omega (arith, there, w.if-length-text.true))
+  | else-length-text w ↦ sym w.value-is ∙ c.if-text-length-eq32.true
 ])

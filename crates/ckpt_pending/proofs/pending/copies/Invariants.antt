@@ -1,6 +1,6 @@
 use Rattle.std.proofs.Common.{◌≡◌, ◌++◌}
-use Rattle.ckpt_pending.specs.Acknowledging.{acks_of}
+use Rattle.std.specs.VecDeque.Iter.{deque_iter_rest}
 use Rattle.ckpt_pending.proofs.pending.copies.Given as goal
 
-abbrev pub invariant-loop-subtask : goal.invariant-loop-subtask
-invariant-loop-subtask l = l.copies.items ++ acks_of l.subtask-iterator ≡ acks_of l.acks.entries
+abbrev pub invariant-loop-acked : goal.invariant-loop-acked
+invariant-loop-acked l = l.copies.items ++ deque_iter_rest l.acked-iterator ≡ l.acks.items

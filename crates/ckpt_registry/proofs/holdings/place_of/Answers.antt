@@ -1,16 +1,16 @@
-use Rattle.std.proofs.Common.{rules}
-use Rattle.std.proofs.lemmas.List.Sorted.{answers_always}
-use Rattle.ckpt_registry.proofs.PlaceLemmas.{search_found, search_absent}
+use Rattle.std.proofs.Common.{◌≡◌, ◌<◌, ◌∙◌, ℕ, List, length, get_or, rules}
+use Rattle.ckpt_registry.specs.declared.holdings.Holding.{Holding}
+use Rattle.ckpt_registry.proofs.PlaceLemmas.{all_below, end_point}
 use Rattle.ckpt_registry.proofs.holdings.place_of.Goals as goal
+use Rattle.ckpt_registry.proofs.holdings.place_of.Goals.{in_default-via-in-Some-2+else-lt, in_default-via-in_default}
 
-pub returns-clause-found : goal.returns-clause-found
-returns-clause-found c =
-    let facts = c.binary_search_by_key.ensures in
-    let by_id = facts.position (λ h. h.id) (answers_always _ _ _ (λ f a r g called. search rules)) in
-    search_found c.args.id c.args.acknowledged.now.items c.binary_search_by_key.result (rw (← c.args.acknowledged.now.ok.0) facts.bound) by_id
-
-pub returns-clause-absent : goal.returns-clause-absent
-returns-clause-absent c =
-    let facts = c.binary_search_by_key.ensures in
-    let by_id = facts.position (λ h. h.id) (answers_always _ _ _ (λ f a r g called. search rules)) in
-    search_absent c.args.id c.args.acknowledged.now.items c.binary_search_by_key.result c.requires (rw (← c.args.acknowledged.now.ok.0) facts.bound) by_id
+pub returns-in_default-clause-absent : goal.returns-in_default-clause-absent
+returns-in_default-clause-absent c =
+    let held : List Holding = c.args.acknowledged.now.items in
+    let all : c.len-in_default.result ≡ length held = c.len-in_default.ensures ∙ c.args.acknowledged.now.ok.0 in
+    let below : (k : ℕ) (d : Holding) → k < c.len-in_default.result → (get_or held k d).id < c.args.id =
+    elim c.in_default.branch [
+      | in_default-via-in-Some-2+else-lt w ↦ all_below c.args.id held c.len-in_default.result w.in-Some-2.last.now c.requires all (rw c.len-in_default.ensures w.in-Some-2.ensures.lookup) (search rules)
+      | in_default-via-in_default w ↦ λ k d h. absurd (search rules)
+    ] in
+    end_point c.args.id held c.len-in_default.result all below

@@ -1,7 +1,11 @@
-use Rattle.std.proofs.Common.{rules}
+use Rattle.std.proofs.Common.{◌∙◌, rules}
 use Rattle.std.proofs.lemmas.List.Sorted.{answers_always}
-use Rattle.ckpt_store.proofs.RowLemmas.{search_found, search_absent}
+use Rattle.ckpt_store.proofs.RowLemmas.{last_place, search_found, search_absent}
 use Rattle.ckpt_store.proofs.places.place_of.Goals as goal
+
+pub returns-then-eq-clause-found : goal.returns-then-eq-clause-found
+returns-then-eq-clause-found c =
+    last_place c.args.id c.args.queue.now.items c.len.result c.in-Some.last.now (c.len.ensures ∙ c.args.queue.now.ok.0) (rw c.len.ensures (c.in-Some.ensures.variant.0 (search rules))) (rw c.len.ensures c.in-Some.ensures.lookup) (search rules)
 
 pub returns-clause-found : goal.returns-clause-found
 returns-clause-found c =

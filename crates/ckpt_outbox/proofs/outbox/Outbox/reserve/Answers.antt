@@ -1,5 +1,5 @@
-use Rattle.std.proofs.Common.{◌≡◌, ◌∙◌, ℕ, List, sym, ap, arith}
-use Rattle.ckpt_outbox.specs.Places.{place_of}
+use Rattle.std.proofs.Common.{◌≡◌, ◌∙◌, ◌++◌, ℕ, List, is_some, get_or, sym, ap, arith}
+use Rattle.ckpt_outbox.specs.Queues.{is_in}
 use Rattle.ckpt_outbox.proofs.outbox.Outbox.reserve.Goals as goal
 
 pub invariant_of-self-2 : goal.invariant_of-self-2
@@ -9,5 +9,6 @@ invariant_of-self-2 c =
       distinct = rw items c.self.invariant.distinct;
       place_room = omega (arith, c.in_ok-grow.ensures.ok, c.saturating_add-room.ensures, c.len.ensures, c.grow.new.queue.ok.0, c.grow.new.queue.small.0);
       index_room = c.in_ok-reserve.ensures.ok;
-      indexed = λ q. c.reserve.ensures.entries.2 q ∙ c.self.invariant.indexed q ∙ ap (λ (ws : List ℕ). place_of ws c.self.inside.taken q) (sym items);
+      known = λ q. ap is_some (c.reserve.ensures.entries.2 q) ∙ c.self.invariant.known q ∙ ap (λ (ws : List ℕ). is_in q (ws ++ c.self.inside.taken)) (sym items);
+      ticketed = rw items (λ place within. c.reserve.ensures.entries.2 (get_or c.self.inside.waiting.items place 0) ∙ c.self.invariant.ticketed place within);
     }

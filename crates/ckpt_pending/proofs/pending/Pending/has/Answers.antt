@@ -1,9 +1,17 @@
-use Rattle.std.proofs.Common.{◌≡◌, ◌∙◌, ap}
-use Rattle.ckpt_ids.specs.Records.{Record, has_acknowledged}
-use Rattle.ckpt_pending.proofs.AckLemmas.{acked-entries}
+use Rattle.std.proofs.Common.{◌≡◌, ◌∙◌, ℕ, List, Result, Ok, Err, IfOk, IfErr, sym, ap}
+use Rattle.std.specs.Result.{is_ok}
+use Rattle.ckpt_ids.specs.declared.subtask.SubtaskId.{SubtaskId}
+use Rattle.ckpt_ids.specs.declared.ack.Acked.{Acked}
+use Rattle.ckpt_ids.specs.Records.{has_acknowledged}
+use Rattle.ckpt_pending.specs.Acknowledging.{BelongsAt, LiesAt}
+use Rattle.ckpt_pending.proofs.AckLemmas.{acked}
+use Rattle.ckpt_pending.proofs.PlaceLemmas.{acked_at, acked_nowhere}
 use Rattle.ckpt_pending.proofs.pending.Pending.has.Goals as goal
+
+found : (s : SubtaskId) (acks : List Acked) (r : Result ℕ ℕ) → IfOk r (LiesAt s acks) → IfErr r (BelongsAt s acks) → is_ok r ≡ acked acks s
+found s acks (Ok place) h k = sym (acked_at s acks place h)
+found s acks (Err place) h k = sym (acked_nowhere s acks place k)
 
 pub returns : goal.returns
 returns c =
-    let P : Record → Record → Type 0 = λ r q. has_acknowledged r c.args.subtask ≡ has_acknowledged q c.args.subtask in
-    c.contains_key.ensures ∙ acked-entries c.args.subtask c.self.inside.acks.entries ∙ ap (λ r. has_acknowledged r c.args.subtask) c.self.view_is
+    c.is_ok.ensures.value ∙ found c.args.subtask c.self.inside.acks.items c.place_of.result c.place_of.ensures.found c.place_of.ensures.absent ∙ ap (λ r. has_acknowledged r c.args.subtask) c.self.view_is

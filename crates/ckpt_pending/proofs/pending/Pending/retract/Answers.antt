@@ -1,38 +1,64 @@
-use Rattle.std.proofs.Common.{◌≡◌, ◌∙◌, ◌+◌, ◌≤◌, true, sym, ap, subst, List, arith, rules}
+use Rattle.std.proofs.Common.{◌≡◌, ◌∙◌, ℕ, ◌+◌, ◌<◌, ◌≤◌, ◌↔◌, true, not, refl, sym, ap, subst, List, length, Option, Some, None, IsSome, OnSome, Result, Ok, Err, IfOk, IfErr, IsOk, arith, rules}
+use Rattle.std.specs.List.{filter, remove}
+use Rattle.std.proofs.lemmas.Bool.{both_ways}
+use Rattle.ckpt_ids.specs.declared.subtask.SubtaskId.{SubtaskId}
+use Rattle.ckpt_ids.specs.Acknowledged.{AreInSubtaskOrder}
+use Rattle.ckpt_ids.specs.Shapes.{same_subtask}
 use Rattle.ckpt_ids.specs.declared.ack.Acked.{Acked}
 use Rattle.ckpt_ids.specs.Records.{Record, missing, has_acknowledged}
-use Rattle.ckpt_pending.specs.Acknowledging.{acks_of, pending_record, without_ack, IsCounted}
-use Rattle.ckpt_pending.proofs.AckLemmas.{acks_of-remove}
+use Rattle.ckpt_pending.specs.Acknowledging.{pending_record, without_ack, BelongsAt, IsCounted, LiesAt}
+use Rattle.ckpt_pending.proofs.AckLemmas.{acked}
 use Rattle.ckpt_pending.proofs.PendingLemmas.{IsCounted-without, missing-without_ack, missing_bound}
+use Rattle.ckpt_pending.proofs.PlaceLemmas.{acked_nowhere, remove_at}
 use Rattle.ckpt_pending.proofs.pending.Pending.retract.Goals as goal
+
+on_some : {X : Type 0} (r : Option X) (P : Type 0) → IsSome r → OnSome r P → P
+on_some None P h k = absurd (cc h)
+on_some (Some x) P h k = k
+
+there : (s : SubtaskId) (acks : List Acked) (r : Result ℕ ℕ) → acked acks s ≡ true → IfErr r (BelongsAt s acks) → IsOk r
+there s acks (Ok place) h k = refl
+there s acks (Err place) h k = absurd (both_ways (acked acks s) (acked_nowhere s acks place k) h)
+
+removed : (s : SubtaskId) (acks left : List Acked) (place : ℕ) (found : Result ℕ ℕ) (r : Option Acked) → AreInSubtaskOrder acks → found ≡ Ok place → IfOk found (LiesAt s acks) → (IsSome r ↔ (place < length acks)) → OnSome r (left ≡ remove acks place) → left ≡ filter (λ a. not (same_subtask s a.subtask)) acks
+removed s acks left place found r a e lies some is =
+    let P : Result ℕ ℕ → Type 0 = λ q. IfOk q (LiesAt s acks) in
+    let at : LiesAt s acks place = subst P e lies in
+    on_some r _ (some.1 at.0) is ∙ remove_at s acks place a at
+
+pub unwrap-place-requires : goal.unwrap-place-requires
+unwrap-place-requires c =
+    let r : Record = pending_record c.self.inside.id c.self.inside.kind c.self.inside.shape c.self.inside.started c.self.inside.acks.items in
+    let has : has_acknowledged r c.args.subtask ≡ true = ap (λ q. has_acknowledged q c.args.subtask) c.self.view_is ∙ c.requires in
+    there c.args.subtask c.self.inside.acks.items c.place_of.result has c.place_of.ensures.absent
 
 pub overflow_add-self : goal.overflow_add-self
 overflow_add-self c =
-    let few : missing (pending_record c.self.inside.id c.self.inside.kind c.self.inside.shape c.self.inside.started c.self.inside.acks.entries) ≤ 4096 = missing_bound (pending_record c.self.inside.id c.self.inside.kind c.self.inside.shape c.self.inside.started c.self.inside.acks.entries) c.self.invariant.pending in
-    let same : c.self.inside.missing ≡ missing (pending_record c.self.inside.id c.self.inside.kind c.self.inside.shape c.self.inside.started c.self.inside.acks.entries) = c.self.invariant.counted in
+    let few : missing (pending_record c.self.inside.id c.self.inside.kind c.self.inside.shape c.self.inside.started c.self.inside.acks.items) ≤ 4096 = missing_bound (pending_record c.self.inside.id c.self.inside.kind c.self.inside.shape c.self.inside.started c.self.inside.acks.items) c.self.invariant.pending in
+    let same : c.self.inside.missing ≡ missing (pending_record c.self.inside.id c.self.inside.kind c.self.inside.shape c.self.inside.started c.self.inside.acks.items) = c.self.invariant.counted in
     let small : c.self.inside.missing ≤ 4096 = omega arith in
     search rules
 
 pub invariant_of-self : goal.invariant_of-self
 invariant_of-self c =
-    let r : Record = pending_record c.self.inside.id c.self.inside.kind c.self.inside.shape c.self.inside.started c.self.inside.acks.entries in
+    let r : Record = pending_record c.self.inside.id c.self.inside.kind c.self.inside.shape c.self.inside.started c.self.inside.acks.items in
     let make : List Acked → Record = λ acks. record r { acks = acks } in
-    let gone : acks_of c.remove.new.self.entries ≡ (without_ack c.args.subtask r).acks = ap acks_of c.remove.ensures.entries ∙ acks_of-remove c.args.subtask c.self.inside.acks.entries c.self.invariant.pending.in_order in
+    let gone : c.remove.new.self.items ≡ (without_ack c.args.subtask r).acks = removed c.args.subtask r.acks c.remove.new.self.items c.unwrap-place.result c.place_of.result c.remove.result c.self.invariant.pending.in_order c.unwrap-place.ensures c.place_of.ensures.found (rw (← c.self.inside.acks.ok.0) c.remove.ensures.variant) c.remove.ensures.items in
     let has : has_acknowledged r c.args.subtask ≡ true = ap (λ q. has_acknowledged q c.args.subtask) c.self.view_is ∙ c.requires in
     let P : List Acked → Type 0 = λ acks. IsCounted (make acks) (c.self.inside.missing + 1) in
     subst P (sym gone) (IsCounted-without r c.args.subtask c.self.inside.missing c.self.invariant has)
 
 pub returns-clause-value : goal.returns-clause-value
 returns-clause-value c =
-    let r : Record = pending_record c.self.inside.id c.self.inside.kind c.self.inside.shape c.self.inside.started c.self.inside.acks.entries in
+    let r : Record = pending_record c.self.inside.id c.self.inside.kind c.self.inside.shape c.self.inside.started c.self.inside.acks.items in
     let make : List Acked → Record = λ acks. record r { acks = acks } in
-    let gone : acks_of c.remove.new.self.entries ≡ (without_ack c.args.subtask r).acks = ap acks_of c.remove.ensures.entries ∙ acks_of-remove c.args.subtask c.self.inside.acks.entries c.self.invariant.pending.in_order in
+    let gone : c.remove.new.self.items ≡ (without_ack c.args.subtask r).acks = removed c.args.subtask r.acks c.remove.new.self.items c.unwrap-place.result c.place_of.result c.remove.result c.self.invariant.pending.in_order c.unwrap-place.ensures c.place_of.ensures.found (rw (← c.self.inside.acks.ok.0) c.remove.ensures.variant) c.remove.ensures.items in
     ap make gone ∙ ap (without_ack c.args.subtask) c.self.view_is
 
 pub returns-clause-one_more : goal.returns-clause-one_more
 returns-clause-one_more c =
-    let r : Record = pending_record c.self.inside.id c.self.inside.kind c.self.inside.shape c.self.inside.started c.self.inside.acks.entries in
+    let r : Record = pending_record c.self.inside.id c.self.inside.kind c.self.inside.shape c.self.inside.started c.self.inside.acks.items in
     let make : List Acked → Record = λ acks. record r { acks = acks } in
-    let gone : acks_of c.remove.new.self.entries ≡ (without_ack c.args.subtask r).acks = ap acks_of c.remove.ensures.entries ∙ acks_of-remove c.args.subtask c.self.inside.acks.entries c.self.invariant.pending.in_order in
+    let gone : c.remove.new.self.items ≡ (without_ack c.args.subtask r).acks = removed c.args.subtask r.acks c.remove.new.self.items c.unwrap-place.result c.place_of.result c.remove.result c.self.invariant.pending.in_order c.unwrap-place.ensures c.place_of.ensures.found (rw (← c.self.inside.acks.ok.0) c.remove.ensures.variant) c.remove.ensures.items in
     let has : has_acknowledged r c.args.subtask ≡ true = ap (λ q. has_acknowledged q c.args.subtask) c.self.view_is ∙ c.requires in
     ap (λ acks. missing (make acks)) gone ∙ sym (missing-without_ack r c.args.subtask c.self.invariant.pending has) ∙ ap (λ q. missing q + 1) c.self.view_is

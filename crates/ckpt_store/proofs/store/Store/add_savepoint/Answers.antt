@@ -1,11 +1,9 @@
-use Rattle.std.proofs.Common.{◌≡◌, ◌∙◌, ◌≤◌, ◌<◌, ◌-◌, ◌+◌, ◌^◌, Result, Ok, Err, OnOk, OnErr, ltb, min, length, refl, ap, arith, rules, List, true, false}
-use Rattle.std.specs.List.Sorted.{IsPartitionPoint, IsPartitionedBy}
+use Rattle.std.proofs.Common.{◌≡◌, ◌∙◌, ◌≤◌, ◌<◌, ◌-◌, ◌+◌, ◌^◌, Result, Ok, Err, OnOk, OnErr, min, length, refl, ap, arith, List}
 use Rattle.std.specs.VecDeque.{deque_len, deque_capacity}
-use Rattle.std.proofs.lemmas.List.Sorted.{IsPartitionPoint-from_clause}
 use Rattle.ckpt_ids.specs.Ordered.{put}
 use Rattle.ckpt_ids.specs.Records.{Record}
 use Rattle.ckpt_store.specs.Storing.{by_id, has_savepoint}
-use Rattle.ckpt_store.proofs.RowLemmas.{partitioned, insert-partition}
+use Rattle.ckpt_store.proofs.RowLemmas.{insert-partition}
 use Rattle.ckpt_store.proofs.StoreLemmas.{IsStored-add}
 use Rattle.ckpt_store.proofs.store.Store.add_savepoint.Goals as goal
 
@@ -17,27 +15,21 @@ on_ok (Err e) h k never = absurd (never k)
 pub invariant_of-self : goal.invariant_of-self
 invariant_of-self c =
     let row : List Record = c.self.inside.savepoints.items in
-    let rises : IsPartitionedBy (λ r. ltb r.id c.args.done.id) row = partitioned c.args.done.id row c.self.invariant.savepoints_rise in
-    let point : IsPartitionPoint (λ r. ltb r.id c.args.done.id ≡ true) (λ r. ltb r.id c.args.done.id ≡ false) row c.partition_point-place.result = IsPartitionPoint-from_clause (λ r. ltb r.id c.args.done.id) row c.partition_point-place.result c.partition_point-place.ensures.partitioned rises (λ a r g called. search rules) in
-    let within : c.partition_point-place.result ≤ length row = rw (← c.self.inside.savepoints.ok.0) c.partition_point-place.ensures.bound in
     let spare : min (c.self.inside.checkpoints.cap - c.self.inside.checkpoints.len) (c.self.inside.savepoints.cap - c.self.inside.savepoints.len) ≡ c.args.self.now.spare = ap (λ s. s.spare) c.self.view_is in
     let one : 1 ≤ c.args.self.now.spare = c.requires.room in
     let room : deque_len c.self.inside.savepoints < deque_capacity c.self.inside.savepoints = omega arith in
     let full : deque_capacity c.self.inside.savepoints ≤ deque_len c.self.inside.savepoints → ⊥ = λ no. omega arith in
-    let put : c.insert.new.self.items ≡ put by_id c.args.done row = on_ok c.insert.result c.insert.ensures.items c.insert.ensures.full full ∙ insert-partition c.args.done row c.partition_point-place.result within point in
+    let put : c.insert.new.self.items ≡ put by_id c.args.done row = on_ok c.insert.result c.insert.ensures.items c.insert.ensures.full full ∙ insert-partition c.args.done row c.place_for-place.result c.place_for-place.ensures.bound (rw (← c.id.ensures.value) c.place_for-place.ensures.parted) in
     let count : length row ≡ length c.args.self.now.savepoints = ap (λ s. length s.savepoints) c.self.view_is in
     let few : length row + 1 < 2 ^ 32 = omega (arith, c.requires.few) in
-    rw put (IsStored-add _ c.args.done _ c.self.invariant c.id-id.ensures.done c.requires.savepoint (ap (λ s. has_savepoint s c.args.done.id) c.self.view_is ∙ c.requires.new) few)
+    rw put (IsStored-add _ c.args.done _ c.self.invariant c.id.ensures.done c.requires.savepoint (ap (λ s. has_savepoint s c.args.done.id) c.self.view_is ∙ c.requires.new) few)
 
 pub returns-clause-value : goal.returns-clause-value
 returns-clause-value c =
     let row : List Record = c.self.inside.savepoints.items in
-    let rises : IsPartitionedBy (λ r. ltb r.id c.args.done.id) row = partitioned c.args.done.id row c.self.invariant.savepoints_rise in
-    let point : IsPartitionPoint (λ r. ltb r.id c.args.done.id ≡ true) (λ r. ltb r.id c.args.done.id ≡ false) row c.partition_point-place.result = IsPartitionPoint-from_clause (λ r. ltb r.id c.args.done.id) row c.partition_point-place.result c.partition_point-place.ensures.partitioned rises (λ a r g called. search rules) in
-    let within : c.partition_point-place.result ≤ length row = rw (← c.self.inside.savepoints.ok.0) c.partition_point-place.ensures.bound in
     let spare : min (c.self.inside.checkpoints.cap - c.self.inside.checkpoints.len) (c.self.inside.savepoints.cap - c.self.inside.savepoints.len) ≡ c.args.self.now.spare = ap (λ s. s.spare) c.self.view_is in
     let one : 1 ≤ c.args.self.now.spare = c.requires.room in
     let room : deque_len c.self.inside.savepoints < deque_capacity c.self.inside.savepoints = omega arith in
     let full : deque_capacity c.self.inside.savepoints ≤ deque_len c.self.inside.savepoints → ⊥ = λ no. omega arith in
-    let put : c.insert.new.self.items ≡ put by_id c.args.done row = on_ok c.insert.result c.insert.ensures.items c.insert.ensures.full full ∙ insert-partition c.args.done row c.partition_point-place.result within point in
+    let put : c.insert.new.self.items ≡ put by_id c.args.done row = on_ok c.insert.result c.insert.ensures.items c.insert.ensures.full full ∙ insert-partition c.args.done row c.place_for-place.result c.place_for-place.ensures.bound (rw (← c.id.ensures.value) c.place_for-place.ensures.parted) in
     rw (← c.self.view_is, put) refl

@@ -1,0 +1,14 @@
+use Rattle.std.proofs.Common.{◌∙◌, get_or, nat_eq, sym}
+use Rattle.std.proofs.lemmas.Map.Steps.{set_value_same}
+use Rattle.std.specs.HashMap as hash
+use Rattle.ckpt_outbox.specs.Places.{ticket}
+use Rattle.ckpt_outbox.proofs.TicketLemmas.{ticket_found}
+use Rattle.ckpt_outbox.proofs.places.draw_again.Goals as goal
+
+pub waits-requires : goal.waits-requires
+waits-requires c = λ place within same.
+    ticket_found (hash.get nat_eq c.args.index.now) c.args.file (get_or c.args.waiting.now.items place 0) c.in-Some.drawn.now (ticket c.args.front place) c.in-Some.ensures.value same (c.requires place within)
+
+pub returns-in_default-clause-kept : goal.returns-in_default-clause-kept
+returns-in_default-clause-kept c = λ _.
+    (c.get_mut.follows.holds c.in-Some.drawn.now).0 ∙ set_value_same (nat_eq c.args.file) c.args.index.now.entries c.in-Some.drawn.now (sym c.in-Some.ensures.value)

@@ -1,0 +1,20 @@
+use Rattle.std.proofs.Common.{◌≡◌, ◌<◌, ◌∙◌, ℕ, ltb, length, get_or, rules}
+use Rattle.std.proofs.lemmas.List.Sorted.{IsPartitionPoint-from_clause}
+use Rattle.ckpt_ids.specs.Records.{Record}
+use Rattle.ckpt_store.proofs.RowLemmas.{all_below, end_partition, partitioned}
+use Rattle.ckpt_store.proofs.places.place_for.Goals as goal
+use Rattle.ckpt_store.proofs.places.place_for.Goals.{in_default-via-in-Some+else-le, in_default-via-in_default}
+
+pub returns-in-Some-clause-parted : goal.returns-in-Some-clause-parted
+returns-in-Some-clause-parted c =
+    IsPartitionPoint-from_clause (λ r. ltb r.id c.args.id) c.args.queue.now.items c.partition_point.result c.partition_point.ensures.partitioned (partitioned c.args.id c.args.queue.now.items c.requires) (λ a r g called. search rules)
+
+pub returns-in_default-clause-parted : goal.returns-in_default-clause-parted
+returns-in_default-clause-parted c =
+    let all : c.len.result ≡ length c.args.queue.now.items = c.len.ensures ∙ c.args.queue.now.ok.0 in
+    let below : (k : ℕ) (d : Record) → k < c.len.result → (get_or c.args.queue.now.items k d).id < c.args.id =
+    elim c.in_default.branch [
+      | in_default-via-in-Some+else-le w ↦ all_below c.args.id c.args.queue.now.items c.len.result w.in-Some.last.now c.requires all (rw c.len.ensures w.in-Some.ensures.lookup) (search rules)
+      | in_default-via-in_default w ↦ λ k d h. absurd (search rules)
+    ] in
+    end_partition c.args.id c.args.queue.now.items c.len.result all below
