@@ -1,4 +1,4 @@
-ghost use Rattle.std.specs.Prelude.{◌≡◌, [], IfOk, OnOk, OnErr, IfErr};
+ghost use Rattle.std.specs.Prelude.{◌≡◌, ◌≤◌, [], length, IfOk, OnOk, OnErr, IfErr};
 ghost use Rattle.std.specs.Io.KnownBytes.{Appends};
 ghost use Rattle.ckpt_script.specs.Known.{IsCut, Passes, PassesFront};
 
@@ -41,6 +41,7 @@ impl Printed {
     pub(crate) fn settle<K: Sink>(&mut self, sink: &mut K) -> Result<(), RunFault>
         requires going_on { K.failures sink.old ≡ 0 }
         ensures ok { OnOk result (Passes (K.contents sink.old) (K.contents sink.new) self.old [] self.new) }
+        ensures few { OnOk result (length self.new ≤ CHUNK) }
         ensures err { OnErr result (PassesFront (K.contents sink.old) (K.contents sink.new) self.old []) }
         ensures fault { IfErr result (λ why. why ≡ RunFault.Write) }
         ensures going_on { OnOk result (K.failures sink.new ≡ 0) }
