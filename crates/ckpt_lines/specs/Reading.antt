@@ -13,7 +13,7 @@ use Rattle.ckpt_lines.specs.declared.limits.TheConstants.{LONGEST_LINE}
 use Rattle.ckpt_lines.specs.declared.line.Line.{Line}
 use Rattle.ckpt_lines.specs.declared.line.Line.TheVariants.{Skip, Config, Job, Start, Tick, Savepoint, Ack, Decline, Dispose, Restore, Cancel, Take, Deleted, Undeleted, Show, Count, All}
 use Rattle.ckpt_lines.specs.declared.values.FileWord.{FileWord}
-use Rattle.ckpt_lines.specs.Keywords.{keyword_of, takes_memory}
+use Rattle.ckpt_lines.specs.Keywords.{keyword_of, spelling, takes_memory}
 use Rattle.ckpt_lines.specs.Values.{number, subtask, retention, target_of, file_word, fresh_file, reused_file}
 use Rattle.ckpt_lines.specs.Words.{words_of}
 
@@ -194,3 +194,14 @@ Gives (Err why) words read = (read ≡ Err why) × (is_memory why ≡ false)
 abbrev pub Reads : {X : Type 0} → Result X LineFault → Result X LineFault → Type 0
 Reads (Ok x) read = read ≡ Ok x
 Reads (Err why) read = is_memory why ≡ false → read ≡ Err why
+
+-- A keyword was taken from the front, or none.
+abbrev pub Takes : Option Keyword → List (List ℕ) → List (List ℕ) → Type 0
+Takes None before after = after ≡ before
+Takes (Some first) before after = before ≡ spelling first ∷ after
+
+-- What the first word says, and the words after it: the kind of the line, or that it is skipped.
+abbrev pub Begins : Result (Option Keyword) LineFault → List (List ℕ) → List (List ℕ) → Type 0
+Begins (Ok (Some first)) before after = (line_of before ≡ row first after) × (begins_with_a_list before ≡ takes_memory first)
+Begins (Ok None) before after = line_of before ≡ Ok Skip
+Begins (Err why) before after = (line_of before ≡ Err why) × (is_memory why ≡ false)

@@ -1,5 +1,7 @@
-ghost use Rattle.std.specs.Prelude.{◌≡◌};
+ghost use Rattle.std.specs.Prelude.{◌≡◌, ◌∷◌};
+ghost use Rattle.std.specs.Option.{IfSome};
 ghost use Rattle.ckpt_lines.specs.Keywords.{keyword_of, spelling};
+ghost use Rattle.ckpt_lines.specs.Words.{words_of};
 
 /// The first word of a line, which says what kind of line it is.
 #[derive(Clone, Copy, Debug, PartialEq, Eq)]
@@ -65,8 +67,8 @@ fn spelling(keyword: Keyword) -> &'static [u8]
     }
 }
 
-/// As [`keyword_of`], by comparing the word with one keyword after the other.
-fn among_all(word: &[u8]) -> Option<Keyword>
+/// The keyword that is spelled so, or `None`.
+pub(crate) fn keyword_of(word: &[u8]) -> Option<Keyword>
     ensures { result ≡ keyword_of word.now }
 {
     KEYWORDS
@@ -75,21 +77,60 @@ fn among_all(word: &[u8]) -> Option<Keyword>
         .copied()
 }
 
-/// The keyword that is spelled so, or `None`. Those that most lines begin with are told from their
-/// bytes at once: a long script has hundreds of thousands of them.
-#[tactic(auto, unfolding(crate::specs::Keywords::keyword_of))]
-pub(crate) fn keyword_of(word: &[u8]) -> Option<Keyword>
-    ensures { result ≡ keyword_of word.now }
+/// The keyword that the text begins with, and what follows the space after it. `None` for most keywords,
+/// and where no space follows: those that most lines begin with are told from their bytes at once, as
+/// a long script has hundreds of thousands of them.
+pub(crate) fn usual_keyword(text: &[u8]) -> Option<(Keyword, &[u8])>
+    ensures { IfSome result (λ found. words_of text.now ≡ spelling found.0 ∷ words_of found.1.now) }
 {
-    match word {
-        [b't', b'i', b'c', b'k'] => Some(Keyword::Tick),
-        [b's', b'a', b'v', b'e', b'p', b'o', b'i', b'n', b't'] => Some(Keyword::Savepoint),
-        [b'a', b'c', b'k'] => Some(Keyword::Ack),
-        [b'd', b'i', b's', b'p', b'o', b's', b'e'] => Some(Keyword::Dispose),
-        [b't', b'a', b'k', b'e'] => Some(Keyword::Take),
-        [b'd', b'e', b'l', b'e', b't', b'e', b'd'] => Some(Keyword::Deleted),
-        [b'u', b'n', b'd', b'e', b'l', b'e', b't', b'e', b'd'] => Some(Keyword::Undeleted),
-        [b'c', b'o', b'u', b'n', b't'] => Some(Keyword::Count),
-        _ => among_all(word),
+    match text {
+        [b't', b'i', b'c', b'k', b' ', rest @ ..] => Some((Keyword::Tick, rest)),
+        [b'a', b'c', b'k', b' ', rest @ ..] => Some((Keyword::Ack, rest)),
+        [b't', b'a', b'k', b'e', b' ', rest @ ..] => Some((Keyword::Take, rest)),
+        [b'd', b'e', b'l', b'e', b't', b'e', b'd', b' ', rest @ ..] => Some((
+            Keyword::Deleted,
+            rest,
+        )),
+        [b'd', b'i', b's', b'p', b'o', b's', b'e', b' ', rest @ ..] => Some((
+            Keyword::Dispose,
+            rest,
+        )),
+        [b'c', b'o', b'u', b'n', b't', b' ', rest @ ..] => Some((Keyword::Count, rest)),
+        _ => long_keyword(text),
+    }
+}
+
+/// As [`usual_keyword`], for the longest of them.
+fn long_keyword(text: &[u8]) -> Option<(Keyword, &[u8])>
+    ensures { IfSome result (λ found. words_of text.now ≡ spelling found.0 ∷ words_of found.1.now) }
+{
+    match text {
+        [
+            b's',
+            b'a',
+            b'v',
+            b'e',
+            b'p',
+            b'o',
+            b'i',
+            b'n',
+            b't',
+            b' ',
+            rest @ ..,
+        ] => Some((Keyword::Savepoint, rest)),
+        [
+            b'u',
+            b'n',
+            b'd',
+            b'e',
+            b'l',
+            b'e',
+            b't',
+            b'e',
+            b'd',
+            b' ',
+            rest @ ..,
+        ] => Some((Keyword::Undeleted, rest)),
+        _ => None,
     }
 }

@@ -1,9 +1,9 @@
 ghost use Rattle.std.specs.Prelude.{◌≡◌, ◌≢◌, true, IfOk, IfErr};
 ghost use Rattle.std.specs.Str.Lines.{strip_carriage_return};
-ghost use Rattle.ckpt_lines.specs.Reading.{begins_with_a_list, line_of, may_want_memory, reading, Reads};
+ghost use Rattle.ckpt_lines.specs.Reading.{Begins, begins_with_a_list, line_of, may_want_memory, reading, Reads};
 
 use crate::fault::LineFault;
-use crate::keyword::keyword_of;
+use crate::keyword::{Keyword, keyword_of};
 use crate::limits::LONGEST_LINE;
 use crate::line::Line;
 use crate::rows::row;
@@ -17,20 +17,41 @@ fn without_return(line: &[u8]) -> &[u8]
     line.strip_suffix(b"\r").unwrap_or(line)
 }
 
-/// The line that these words make.
+/// As [`first_keyword`], by the first word's end: it is found before the word is compared.
 #[tactic(auto, unfolding(crate::specs::Reading::line_of))]
+#[inline(never)]
+fn any_keyword(words: &mut Words<'_>) -> Result<Option<Keyword>, LineFault>
+    ensures { Begins result words.old words.new }
+{
+    let Some(word) = words.next() else {
+        return Ok(None);
+    };
+    if word.first() == Some(&b'#') {
+        return Ok(None);
+    }
+    let keyword = keyword_of(word).ok_or(LineFault::Word)?;
+    Ok(Some(keyword))
+}
+
+/// The keyword of the first word, or `None` where the line is skipped.
+fn first_keyword(words: &mut Words<'_>) -> Result<Option<Keyword>, LineFault>
+    ensures { Begins result words.old words.new }
+{
+    if let Some(keyword) = words.usual_keyword() {
+        return Ok(Some(keyword));
+    }
+    any_keyword(words)
+}
+
+/// The line that these words make.
 fn line_of(alloc: Global, words: &mut Words<'_>) -> Result<Line, LineFault>
     ensures line { Reads result (line_of words.old) }
     ensures memory { result ≡ Err LineFault.Memory → begins_with_a_list words.old ≡ true }
 {
-    let Some(word) = words.next() else {
-        return Ok(Line::Skip);
-    };
-    if word.first() == Some(&b'#') {
-        return Ok(Line::Skip);
+    match first_keyword(words)? {
+        Some(keyword) => row(alloc, keyword, words),
+        None => Ok(Line::Skip),
     }
-    let keyword = keyword_of(word).ok_or(LineFault::Word)?;
-    row(alloc, keyword, words)
 }
 
 /// Reads one line of a job script: the bytes before its newline.

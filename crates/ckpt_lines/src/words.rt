@@ -1,11 +1,12 @@
 ghost use Rattle.std.specs.Prelude.{◌≡◌, ◌≤◌, ◌+◌, false, length, take};
 ghost use Rattle.std.specs.List.{position_or_len};
 ghost use Rattle.std.specs.Option.{option_map};
-ghost use Rattle.ckpt_lines.specs.Reading.{Gives, file_place, number_place};
+ghost use Rattle.ckpt_lines.specs.Reading.{Gives, Takes, file_place, number_place};
 ghost use Rattle.ckpt_lines.specs.Values.{number_of};
 ghost use Rattle.ckpt_lines.specs.Words.{begins_with_space, first_length, is_space, words_of};
 
 use crate::fault::LineFault;
+use crate::keyword::{Keyword, usual_keyword};
 use crate::values::{FileWord, file_word, is_fresh, number_of};
 use ckpt_ids::FileId;
 use std::marker::Model;
@@ -114,6 +115,15 @@ impl<'a> Words<'a> {
         ensures { result ≡ words_of text.now }
     {
         Words { rest: text }
+    }
+
+    /// Takes the next word where it is one that most lines begin with and a space stands after it.
+    pub(crate) fn usual_keyword(&mut self) -> Option<Keyword>
+        ensures { Takes result self.old self.new }
+    {
+        let (keyword, rest) = usual_keyword(self.rest)?;
+        self.rest = rest;
+        Some(keyword)
     }
 
     /// How often this byte stands in what is left.

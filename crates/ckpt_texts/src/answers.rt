@@ -31,5 +31,5 @@ pub fn write_answer(alloc: Global, text: &mut String, answer: &Answer) -> Result
         Answer::Done(reply) => write_reply(alloc, text, reply)?,
         Answer::Refused(refusal) => write_refusal(text, *refusal)?,
     }
-    text.push_str("\n")
+    text.push('\n')
 }

@@ -3,13 +3,22 @@ ghost use Rattle.std.specs.Prelude.{◌≡◌, ◌++◌, codes, decimal, OnOk, s
 use itoa::Buffer;
 use std::alloc::AllocError;
 
-/// Appends the words and the digits of the number.
+/// Appends the digits of the number.
 #[inline(never)]
+fn write_digits(text: &mut String, number: u64) -> Result<(), AllocError>
+    ensures { OnOk result (string_bytes text.new ≡ string_bytes text.old ++ decimal number) }
+{
+    text.push_str(Buffer::new().format(number))
+}
+
+/// Appends the words and the digits of the number. The words are known where this is called: they
+/// are written there at once, in place of a copy of so many bytes.
+#[inline(always)]
 pub(crate) fn write_number(text: &mut String, words: &str, number: u64) -> Result<(), AllocError>
     ensures { OnOk result (string_bytes text.new ≡ string_bytes text.old ++ (words.now ++ decimal number)) }
 {
     text.push_str(words)?;
-    text.push_str(Buffer::new().format(number))
+    write_digits(text, number)
 }
 
 /// Appends the words and both numbers, with a space between them.

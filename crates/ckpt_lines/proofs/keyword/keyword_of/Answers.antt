@@ -3,7 +3,7 @@ use Rattle.std.proofs.lemmas.Iterator.{YieldsList-from_slice}
 use Rattle.std.proofs.lemmas.Iterator.Search.{find_from_yields_List}
 use Rattle.std.specs.Str.{bytes_eq}
 use Rattle.ckpt_lines.specs.Keywords.{keyword_of, keywords, spelling}
-use Rattle.ckpt_lines.proofs.keyword.among_all.Goals as goal
+use Rattle.ckpt_lines.proofs.keyword.keyword_of.Goals as goal
 
 pub returns : goal.returns
 unfolding keyword_of
