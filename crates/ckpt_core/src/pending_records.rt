@@ -222,15 +222,19 @@ impl PendingRecords {
     }
 }
 
-/// Where the record of this number is. It is searched by halves.
+/// Where the record of this number is. Mostly that is the last, so that it is looked at before the
+/// others are searched by halves.
 fn place_of(records: &VecDeque<Pending>, id: CheckpointId) -> Option<usize>
     requires { IsInOrder id_before records.now.items }
     ensures found { IfSome result (λ place. (place < length records.now.items) × IsPlaceOf id records.now.items place) }
     ensures absent { IfNone result (list_any (has_id id) records.now.items ≡ false) }
 {
-    records
-        .binary_search_by_key(&id, |pending| pending.id())
-        .ok()
+    match records.back() {
+        Some(last) if last.id() == id => Some(records.len() - 1),
+        _ => records
+            .binary_search_by_key(&id, |pending| pending.id())
+            .ok(),
+    }
 }
 
 /// The earlier of two moments, where there are two.
