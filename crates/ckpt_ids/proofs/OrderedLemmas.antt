@@ -106,6 +106,12 @@ ComesBefore-at before x y [] c h = absurd h
 ComesBefore-at before x y (z ∷ xs) c (inl e) = ap (before x) e ∙ c.0
 ComesBefore-at before x y (z ∷ xs) c (inr h) = ComesBefore-at before x y xs c.1 h
 
+pub IsInOrder-at : {X : Type 0} (before : X → X → Bool) (xs : List X) (i j : ℕ) (d : X) → IsInOrder before xs → i < j → j < length xs → before (get_or xs i d) (get_or xs j d) ≡ true
+IsInOrder-at before [] i j d a h k = absurd (omega arith)
+IsInOrder-at before (x ∷ xs) i zero d a h k = absurd (omega arith)
+IsInOrder-at before (x ∷ xs) zero (suc j) d a h k = ComesBefore-at before x (get_or xs j d) xs a.0 (IsIn-get_or xs j d (omega arith))
+IsInOrder-at before (x ∷ xs) (suc i) (suc j) d a h k = IsInOrder-at before xs i j d a.1 (omega arith) (omega arith)
+
 pub ComesBefore-from : {X : Type 0} (before : X → X → Bool) (x : X) (xs : List X) → ((y : X) → IsIn y xs → before x y ≡ true) → ComesBefore before x xs
 ComesBefore-from before x [] f = tt
 ComesBefore-from before x (y ∷ xs) f = (f y (inl refl), ComesBefore-from before x xs (λ z h. f z (inr h)))

@@ -12,7 +12,7 @@ use Rattle.ckpt_ids.specs.Ordered.{ComesBefore, IsIn}
 use Rattle.ckpt_ids.specs.Acknowledged.{is_before, acknowledges_before, AreInSubtaskOrder, put_ack}
 use Rattle.ckpt_ids.specs.Shapes.{same_subtask}
 use Rattle.ckpt_ids.proofs.OrderLemmas.{subtasks_in_order, same_subtask-Decides}
-use Rattle.ckpt_ids.proofs.OrderedLemmas.{ComesBefore-at, IsIn-get_or, IsIn-place, list_any-from_IsIn}
+use Rattle.ckpt_ids.proofs.OrderedLemmas.{ComesBefore-at, IsInOrder-at, IsIn-get_or, IsIn-place, list_any-from_IsIn}
 use Rattle.ckpt_pending.specs.Acknowledging.{BelongsAt, LiesAt}
 use Rattle.ckpt_pending.proofs.AckLemmas.{acked, filter_all}
 use Rattle.ckpt_pending.proofs.SubtaskLemmas.{same_subtask-other}
@@ -44,19 +44,12 @@ not_same s t h e = both_ways (is_before s s) (subtasks_in_order.irreflexive s) (
 
 -- what a search answers
 
-before_at : (acks : List Acked) (i j : ℕ) (d : Acked) → AreInSubtaskOrder acks → i < j → j < length acks → is_before (get_or acks i d).subtask (get_or acks j d).subtask ≡ true
-before_at [] i j d a h k = absurd (omega arith)
-before_at (x ∷ acks) zero zero d a h k = absurd (omega arith)
-before_at (x ∷ acks) zero (suc j) d a h k = ComesBefore-at acknowledges_before x (get_or acks j d) acks a.0 (IsIn-get_or acks j d (omega arith))
-before_at (x ∷ acks) (suc i) zero d a h k = absurd (omega arith)
-before_at (x ∷ acks) (suc i) (suc j) d a h k = before_at acks i j d a.1 (omega arith) (omega arith)
-
 rising_at : (s : SubtaskId) (acks : List Acked) (i j : ℕ) (d : Acked) → AreInSubtaskOrder acks → i ≤ j → j < length acks → ordering_index (subtask_cmp (get_or acks i d).subtask s) ≤ ordering_index (subtask_cmp (get_or acks j d).subtask s)
 rising_at s acks i j d a h k =
     let x : SubtaskId = (get_or acks i d).subtask in
     let y : SubtaskId = (get_or acks j d).subtask in
     let at : ℕ → ℕ = λ n. ordering_index (subtask_cmp (get_or acks n d).subtask s) in
-    let below : i < j → at i ≤ at j = λ (l : i < j). index_rises x.vertex y.vertex x.index y.index s.vertex s.index (before_at acks i j d a l k) in
+    let below : i < j → at i ≤ at j = λ (l : i < j). index_rises x.vertex y.vertex x.index y.index s.vertex s.index (IsInOrder-at acknowledges_before acks i j d a l k) in
     let same : j ≤ i → at i ≤ at j = λ (g : j ≤ i). let e : i ≡ j = omega arith in let f : at i ≡ at j = ap at e in omega arith in
     ⊎_elim below same (cases_lt i j)
 
@@ -87,7 +80,7 @@ after_last s acks last a is h =
     let top : ℕ = length acks - 1 in
     let end : get_or acks top d ≡ last = get_or_any acks top d last (omega arith) ∙ sym is in
     let top_before : is_before (get_or acks top d).subtask s ≡ true = ap (λ (x : Acked). is_before x.subtask s) end ∙ h in
-    let below : k < top → is_before (get_or acks k d).subtask s ≡ true = λ (l : k < top). subtasks_in_order.transitive (get_or acks k d).subtask (get_or acks top d).subtask s (before_at acks k top d a l (omega arith)) top_before in
+    let below : k < top → is_before (get_or acks k d).subtask s ≡ true = λ (l : k < top). subtasks_in_order.transitive (get_or acks k d).subtask (get_or acks top d).subtask s (IsInOrder-at acknowledges_before acks k top d a l (omega arith)) top_before in
     let same : top ≤ k → is_before (get_or acks k d).subtask s ≡ true = λ (g : top ≤ k). let e : k ≡ top = omega arith in ap (λ n. is_before (get_or acks n d).subtask s) e ∙ top_before in
     ⊎_elim below same (cases_lt k top) in
     (omega arith, (λ k d z l. all k d l, λ k d h l. absurd (omega arith)))

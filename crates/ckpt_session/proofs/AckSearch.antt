@@ -16,7 +16,7 @@ use Rattle.ckpt_ids.specs.declared.subtask.SubtaskId.{SubtaskId}
 use Rattle.ckpt_ids.specs.declared.ack.Acked.{Acked}
 use Rattle.ckpt_ids.specs.Acknowledged.{is_before, acknowledges_before, AreInSubtaskOrder}
 use Rattle.ckpt_ids.specs.Shapes.{same_subtask}
-use Rattle.ckpt_ids.proofs.OrderedLemmas.{ComesBefore-at, IsIn-get_or, list_any-from_IsIn}
+use Rattle.ckpt_ids.proofs.OrderedLemmas.{IsInOrder-at, IsIn-get_or, list_any-from_IsIn}
 
 -- by vertex, then by index, as `Ord` compares
 abbrev pub by_subtask : SubtaskId → SubtaskId → Ordering
@@ -34,13 +34,6 @@ equal s t same = grind (arith, nat_tests)
 equal_to_itself : (s t : SubtaskId) → same_subtask s t ≡ true → by_subtask t s ≡ Equal
 equal_to_itself s t same = grind (arith, nat_tests)
 
-order_at : (acks : List Acked) (j k : ℕ) (d : Acked) → AreInSubtaskOrder acks → j < k → k < length acks → is_before (get_or acks j d).subtask (get_or acks k d).subtask ≡ true
-order_at [] j k d a l h = absurd (omega arith)
-order_at (x ∷ acks) j zero d a l h = absurd (omega arith)
-order_at (x ∷ acks) zero (suc k) d a l h =
-    ComesBefore-at acknowledges_before x (get_or acks k d) acks a.0 (IsIn-get_or acks k d (omega arith))
-order_at (x ∷ acks) (suc j) (suc k) d a l h = order_at acks j k d a.1 (omega arith) (omega arith)
-
 abbrev is_of : SubtaskId → Acked → Bool
 is_of s a = same_subtask s a.subtask
 
@@ -50,7 +43,7 @@ found_by_search [] s (Ok place) order within found = absurd (omega (arith, withi
 found_by_search (x ∷ acks) s (Ok place) order within found =
     sym (list_any-from_IsIn (is_of s) (get_or (x ∷ acks) place x) (x ∷ acks) (IsIn-get_or (x ∷ acks) place x within) (equal s (get_or (x ∷ acks) place x).subtask (found x)))
 found_by_search acks s (Err place) order within found =
-    let sorted : IsSortedBy (λ a b. is_lt (by_subtask a.subtask b.subtask)) acks = λ k d from below. not_less (get_or acks k d).subtask (get_or acks (k + 1) d).subtask (order_at acks k (k + 1) d order (omega arith) below) in
+    let sorted : IsSortedBy (λ a b. is_lt (by_subtask a.subtask b.subtask)) acks = λ k d from below. not_less (get_or acks k d).subtask (get_or acks (k + 1) d).subtask (IsInOrder-at acknowledges_before acks k (k + 1) d order (omega arith) below) in
     let parts = found (searchable_from_sorted by_subtask-total (λ (a : Acked). a.subtask) acks s sorted) in
     sym (list_any_none (is_of s) acks (λ k d inside.
     ⊎_elim

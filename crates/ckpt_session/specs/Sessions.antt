@@ -60,6 +60,10 @@ unfoldable pub started : Scene → ℕ → Option Configuration → Option (List
 started scene now (Some config) (Some shape) = opened_with scene (record { config = config; shape = shape; start = now; first = 1 })
 started scene now config shape = refused scene NotReady
 
+-- a `start` with what has been told so far
+abbrev pub started_so_far : Scene → ℕ → Said
+started_so_far scene now = before_start scene (started scene now scene.config scene.shape)
+
 abbrev pub in_core : Scene → Obeyed → Said
 in_core scene obeyed = (record scene { core = Some obeyed.0 }, obeyed.1)
 
@@ -91,7 +95,7 @@ obeyed scene line.Skip = (scene, [])
 obeyed scene (line.Config interval pause at_once timeout tolerable retained keep_on_cancel) =
     before_start scene (configured scene (limited (record { interval = interval; pause = pause; at_once = at_once; timeout = timeout; tolerable = tolerable; retained = retained; keep_on_cancel = keep_on_cancel })))
 obeyed scene (line.Job parallelisms) = before_start scene (shaped scene parallelisms)
-obeyed scene (line.Start now) = before_start scene (started scene now scene.config scene.shape)
+obeyed scene (line.Start now) = started_so_far scene now
 obeyed scene (line.Tick now) = called scene scene.core (call.Tick now)
 obeyed scene (line.Savepoint now) = called scene scene.core (call.Savepoint now)
 obeyed scene (line.Ack now id subtask fresh reused) = called scene scene.core (call.Ack now id subtask fresh reused)

@@ -1,5 +1,5 @@
 ghost use Rattle.std.specs.Prelude.{◌≡◌, ◌↔◌, ◌++◌, false, true, None, Err, IfOk, OnOk, OnErr, is_err, string_bytes};
-ghost use Rattle.ckpt_session.specs.Sessions.{opening_scene, before_start, configured, shaped, started, called, restored, new_shape, is_new_shape, all_called, obeyed, said};
+ghost use Rattle.ckpt_session.specs.Sessions.{opening_scene, before_start, configured, shaped, started_so_far, called, restored, new_shape, is_new_shape, all_called, obeyed, said};
 
 use crate::all::AllLine;
 use crate::calls::{call, open};
@@ -236,8 +236,8 @@ impl Session {
     #[tactic(auto, unfolding(crate::specs::Sessions::started))]
     #[inline(never)]
     fn start(&mut self, text: &mut String, now: u64) -> Result<(), AllocError>
-        ensures scene { OnOk result (self.new ≡ (before_start self.old (started self.old now self.old.config self.old.shape)).0) }
-        ensures text { OnOk result (string_bytes text.new ≡ string_bytes text.old ++ (before_start self.old (started self.old now self.old.config self.old.shape)).1) }
+        ensures scene { OnOk result (self.new ≡ (started_so_far self.old now).0) }
+        ensures text { OnOk result (string_bytes text.new ≡ string_bytes text.old ++ (started_so_far self.old now).1) }
         ensures told { OnErr result ((self.new.config ≡ self.old.config) × (self.new.shape ≡ self.old.shape)) }
     {
         if self.book.is_some() {

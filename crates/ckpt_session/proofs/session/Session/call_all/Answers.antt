@@ -1,6 +1,7 @@
 use Rattle.std.proofs.Common.{◌≡◌, ap}
-use Rattle.std.specs.Prelude.{Result, Ok, Err, OnOk, OnErr}
+use Rattle.std.specs.Prelude.{Result, Ok, Err, OnOk}
 use Rattle.std.specs.Result.{IsErrAnd}
+use Rattle.ckpt_ids.proofs.ResultLemmas.{on_each_error}
 use Rattle.ckpt_session.specs.Sessions.{Scene}
 use Rattle.ckpt_session.proofs.session.Session.call_all.Goals as goal
 
@@ -10,10 +11,6 @@ not_ok : {T E : Type 0} (r : Result T E) (x : E) (P : Type 0) → IsErrAnd r (λ
 not_ok (Ok z) x P e = absurd e
 not_ok (Err y) x P e = tt
 
-on_err : {T E : Type 0} (r : Result T E) {P : Type 0} → P → OnErr r P
-on_err (Ok z) p = tt
-on_err (Err y) p = p
-
 pub returns-in_err-push_str-clause-scene : goal.returns-in_err-push_str-clause-scene
 returns-in_err-push_str-clause-scene g c = not_ok c.from_residual-in_err-push_str.result _ _ c.from_residual-in_err-push_str.ensures.1
 
@@ -22,4 +19,4 @@ returns-in_err-push_str-clause-text g c = not_ok c.from_residual-in_err-push_str
 
 pub returns-in_err-push_str-clause-told : goal.returns-in_err-push_str-clause-told
 returns-in_err-push_str-clause-told g c =
-    on_err c.from_residual-in_err-push_str.result (ap (λ (s : Scene). s.config) c.self.view_is, ap (λ (s : Scene). s.shape) c.self.view_is)
+    on_each_error c.from_residual-in_err-push_str.result _ (ap (λ (s : Scene). s.config) c.self.view_is, ap (λ (s : Scene). s.shape) c.self.view_is)
