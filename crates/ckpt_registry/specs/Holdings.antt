@@ -23,7 +23,7 @@ AreRising held = IsAscendingSet (map (λ h. h.id) held)
 abbrev pub LiesAt : List Holding → ℕ → ℕ → Type 0
 LiesAt held id place = (place < length held) × HoldsAt (λ h. h.id ≡ id) held place
 
--- a record of this number, which is not there, belongs at this place: all before it are lower, all others higher
+-- a record of this number belongs at this place: those before have lower numbers, all others higher ones
 abbrev pub BelongsAt : List Holding → ℕ → ℕ → Type 0
 BelongsAt held id place = (place ≤ length held) × IsPartitionPoint (λ h. h.id < id) (λ h. id < h.id) held place
 

@@ -149,8 +149,8 @@ pub(crate) fn remove(acknowledged: &mut Acknowledged, id: CheckpointId) -> Optio
     Some(holding.parts)
 }
 
-/// Adds the part of a subtask to a record. The parts of a new record lie in the spare room, which is
-/// empty and is so again afterwards. Fails only for want of memory, and then adds nothing.
+/// Adds the part of a subtask to a record; those of a new record lie in the spare room. Fails only
+/// for want of memory, and then adds nothing.
 pub(crate) fn hold(
     acknowledged: &mut Acknowledged,
     spare: &mut Vec<Part>,

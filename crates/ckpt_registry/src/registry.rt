@@ -35,7 +35,7 @@ pub struct Registry {
     pinned: Vec<Pinner>,
     /// The answer of the last release, in room for all files that are present.
     released: Vec<FileId>,
-    /// Room for the parts of the next new record, which holds none: that of a record that went.
+    /// Room for the parts of the next new record: that of the last record that went. Holds none.
     spare: Vec<Part>,
 }
 
@@ -103,7 +103,15 @@ impl Registry {
         self.released.clear();
         self.released.reserve(self.counts.capacity())?;
         let alloc = *self.released.allocator();
-        hold(&mut self.acknowledged, &mut self.spare, alloc, id, subtask, fresh, reused)?;
+        hold(
+            &mut self.acknowledged,
+            &mut self.spare,
+            alloc,
+            id,
+            subtask,
+            fresh,
+            reused,
+        )?;
         let fresh = fresh.as_slice();
         let reused = reused.as_slice();
         count_fresh(&mut self.counts, fresh);
@@ -210,7 +218,7 @@ impl Registry {
             &mut self.released,
             &[id],
         );
-        // Mostly a record that ends, as each savepoint, drops no other.
+        // Most savepoints drop no record.
         if !owners.is_empty() {
             release_each(
                 &mut self.acknowledged,

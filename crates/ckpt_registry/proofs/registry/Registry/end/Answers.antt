@@ -49,24 +49,24 @@ ends c =
     let start : (f : ℕ) → times f c.clear.new.self.items ≡ times f [] = λ f. ap (times f) c.clear.ensures.items in
     elim c.if-not-is_empty.branch [
       | then-not-is_empty w ↦
-        let e = w.release_each.ensures in
-        let after = w.release_each.new in
-        rw w.self-inside-is (record {
-          counted = e.counted;
-          kept = stored-after_end a p after.acknowledged after.pinned.items id owners e.uses (e.pins ∙ ap (without owners) pins);
-          released = λ f. omega (arith, e.released f, u.released f, start f);
-          fits = omega (arith, c.self.invariant.0.has_room, e.len, e.capacity, u.len, u.capacity, c.clear.ensures.len, c.clear.ensures.capacity);
-          spare = e.spare;
-        })
+          let e = w.release_each.ensures in
+          let after = w.release_each.new in
+          rw w.self-inside-is (record {
+            counted = e.counted;
+            kept = stored-after_end a p after.acknowledged after.pinned.items id owners e.uses (e.pins ∙ ap (without owners) pins);
+            released = λ f. omega (arith, e.released f, u.released f, start f);
+            fits = omega (arith, c.self.invariant.0.has_room, e.len, e.capacity, u.len, u.capacity, c.clear.ensures.len, c.clear.ensures.capacity);
+            spare = e.spare;
+          })
       | else-not-is_empty w ↦
-        let none : owners ≡ [] = nil_from_length owners (eqb-true (length owners) 0 (sym c.is_empty.ensures ∙ w.if-not-is_empty.false)) in
-        rw w.self-inside-is (record {
-          counted = AreCounted-unpinned a p q (id ∷ []) m c.unpin.new.counts c.self.invariant.0.parts u.kept u.lowered u.range;
-          kept = stored-after_end a p a q id owners (sym (without_nobody owners (uses_in a.items) none)) (pins ∙ sym (without_nobody owners (without (id ∷ []) (pins_in a p)) none));
-          released = λ f. omega (arith, u.released f, start f);
-          fits = omega (arith, c.self.invariant.0.has_room, u.len, u.capacity, c.clear.ensures.len, c.clear.ensures.capacity);
-          spare = c.self.invariant.1;
-        })
+          let none : owners ≡ [] = nil_from_length owners (eqb-true (length owners) 0 (sym c.is_empty.ensures ∙ w.if-not-is_empty.false)) in
+          rw w.self-inside-is (record {
+            counted = AreCounted-unpinned a p q (id ∷ []) m c.unpin.new.counts c.self.invariant.0.parts u.kept u.lowered u.range;
+            kept = stored-after_end a p a q id owners (sym (without_nobody owners (uses_in a.items) none)) (pins ∙ sym (without_nobody owners (without (id ∷ []) (pins_in a p)) none));
+            released = λ f. omega (arith, u.released f, start f);
+            fits = omega (arith, c.self.invariant.0.has_room, u.len, u.capacity, c.clear.ensures.len, c.clear.ensures.capacity);
+            spare = c.self.invariant.1;
+          })
     ]
 
 pub invariant_of-self : goal.invariant_of-self

@@ -54,9 +54,11 @@ invariant_of-self-2 c =
     let small : Q c.args.self.now = below_more c.args.self.now [] files was each (λ f h. absurd h) c.requires.below in
     let raised : (f : ℕ) → counter c.count_reused.new.counts f ≡ counter r.counts f + times f c.in_ok-own.own.items = λ f. c.count_reused.ensures.counted f ∙ ap (λ xs. counter r.counts f + times f xs) (sym c.in_ok-own.ensures.items) in
     let kept : IsKept (parts_of a c.args.id) one = record { within = omega arith; none_own = λ lt. absurd (omega (arith, lt)); room = λ lt. absurd (omega (arith, lt)) } in
-    let P : List Pinner → Type 0 = λ ps. IsSound a ps c.count_reused.new.counts room in
-    (subst P (sym c.in_ok-push.ensures.items)
-    (IsSound-pinned a p one files own r.counts c.count_reused.new.counts room room c.self.invariant.0 kept each (subst H (sym c.self.view_is) c.requires.unpinned) raised c.count_reused.ensures.range (omega (arith, c.self.invariant.0.has_room, c.count_reused.ensures.len)) (subst Q (sym c.self.view_is) small)), c.self.invariant.1)
+    let P : List Pinner → Type 0 = λ ps. IsSound a ps c.count_reused.new.counts room in (
+      subst P (sym c.in_ok-push.ensures.items)
+          (IsSound-pinned a p one files own r.counts c.count_reused.new.counts room room c.self.invariant.0 kept each (subst H (sym c.self.view_is) c.requires.unpinned) raised c.count_reused.ensures.range (omega (arith, c.self.invariant.0.has_room, c.count_reused.ensures.len)) (subst Q (sym c.self.view_is) small)),
+      c.self.invariant.1,
+    )
 
 pub returns-clause-ok : goal.returns-clause-ok
 returns-clause-ok c =

@@ -15,9 +15,11 @@ invariant_of-self c =
     let e = c.release_each.ensures in
     let after = c.release_each.new in
     let owners = c.args.owners.now in
-    let fits : index_map_len after.counts ≤ vec_capacity c.sort.new.files = omega (arith, c.self.invariant.0.has_room, e.len, e.capacity, c.sort.ensures.capacity, c.clear.ensures.len, c.clear.ensures.capacity) in
-    (IsSound-filtered r.acknowledged r.pinned.items after.acknowledged after.pinned.items r.counts after.counts (vec_capacity r.released) (vec_capacity c.sort.new.files) (λ u. not (is_owned owners u)) c.self.invariant.0 e.counted
-    (stored-without r.acknowledged r.pinned.items after.acknowledged after.pinned.items owners e.uses e.pins) fits, e.spare)
+    let fits : index_map_len after.counts ≤ vec_capacity c.sort.new.files = omega (arith, c.self.invariant.0.has_room, e.len, e.capacity, c.sort.ensures.capacity, c.clear.ensures.len, c.clear.ensures.capacity) in (
+      IsSound-filtered r.acknowledged r.pinned.items after.acknowledged after.pinned.items r.counts after.counts (vec_capacity r.released) (vec_capacity c.sort.new.files) (λ u. not (is_owned owners u)) c.self.invariant.0 e.counted
+          (stored-without r.acknowledged r.pinned.items after.acknowledged after.pinned.items owners e.uses e.pins) fits,
+      e.spare,
+    )
 
 pub returns : goal.returns
 returns c =

@@ -68,13 +68,15 @@ invariant_of-self-in_err-hold c =
     let held = c.hold.new.acknowledged in
     let e = c.in_err-hold.ensures in
     let same : stored held p ≡ stored r.acknowledged p = ap (λ us. us ++ pins_in held p) e.err ∙ ap (λ us. uses_in r.acknowledged.items ++ us) (pins_in-extended r.acknowledged held p e.extends c.self.invariant.0.parts.kept) in
-    let entries : index_map_len c.reserve.new.self ≡ index_map_len r.counts = ap (λ (es : List (ℕ × ℕ)). length es) c.in_ok-reserve.ensures.entries in
-    (record {
-      parts = AreCounted-kept r.acknowledged held p r.counts c.reserve.new.self e.extends e.ordered e.err (counter-unchanged r.counts c.reserve.new.self c.in_ok-reserve.ensures.entries)
-          (AreInRange-unchanged r.counts c.reserve.new.self c.in_ok-reserve.ensures.entries c.self.invariant.0.parts.range) c.self.invariant.0.parts;
-      once = subst StandsOnce (sym same) c.self.invariant.0.once;
-      has_room = omega (arith, entries, c.in_ok-reserve.ensures.ok, c.len.ensures, c.capacity.ensures, c.in_ok-reserve-2.ensures.ok);
-    }, e.spare)
+    let entries : index_map_len c.reserve.new.self ≡ index_map_len r.counts = ap (λ (es : List (ℕ × ℕ)). length es) c.in_ok-reserve.ensures.entries in (
+      record {
+        parts = AreCounted-kept r.acknowledged held p r.counts c.reserve.new.self e.extends e.ordered e.err (counter-unchanged r.counts c.reserve.new.self c.in_ok-reserve.ensures.entries)
+            (AreInRange-unchanged r.counts c.reserve.new.self c.in_ok-reserve.ensures.entries c.self.invariant.0.parts.range) c.self.invariant.0.parts;
+        once = subst StandsOnce (sym same) c.self.invariant.0.once;
+        has_room = omega (arith, entries, c.in_ok-reserve.ensures.ok, c.len.ensures, c.capacity.ensures, c.in_ok-reserve-2.ensures.ok);
+      },
+      e.spare,
+    )
 
 pub returns-in_err-hold-clause-err : goal.returns-in_err-hold-clause-err
 returns-in_err-hold-clause-err c =
@@ -101,9 +103,11 @@ invariant_of-self-2 c =
     let places : length c.as_slice-fresh.result.now ≡ length c.args.fresh.now = ap (λ (xs : List ℕ). length xs) c.as_slice-fresh.ensures.files in
     let fits : index_map_len c.count_reused.new.counts ≤ vec_capacity c.reserve-2.new.self = omega (arith, places, c.count_reused.ensures.len, c.count_fresh.ensures.len, c.in_ok-reserve.ensures.ok, c.len.ensures, c.capacity.ensures, c.in_ok-reserve-2.ensures.ok) in
     let was : B c.args.self.now = subst B c.self.view_is (below-in_use r.acknowledged p r.counts (vec_capacity r.released) c.self.invariant.0) in
-    let small : Q c.args.self.now = below_more c.args.self.now c.args.fresh.now c.args.reused.now was c.requires.each_once c.requires.fresh_absent c.requires.below in
-    (IsSound-acknowledged r.acknowledged p held r.counts c.count_reused.new.counts (vec_capacity r.released) (vec_capacity c.reserve-2.new.self) c.args.id c.args.subtask files c.self.invariant.0 c.in_ok-hold.ensures.ordered c.in_ok-hold.ensures.extends c.in_ok-hold.ensures.ok
-    c.requires.each_once (subst P (sym c.self.view_is) c.requires.unused) raised c.count_reused.ensures.range fits (subst Q (sym c.self.view_is) small), c.in_ok-hold.ensures.spare)
+    let small : Q c.args.self.now = below_more c.args.self.now c.args.fresh.now c.args.reused.now was c.requires.each_once c.requires.fresh_absent c.requires.below in (
+      IsSound-acknowledged r.acknowledged p held r.counts c.count_reused.new.counts (vec_capacity r.released) (vec_capacity c.reserve-2.new.self) c.args.id c.args.subtask files c.self.invariant.0 c.in_ok-hold.ensures.ordered c.in_ok-hold.ensures.extends c.in_ok-hold.ensures.ok
+          c.requires.each_once (subst P (sym c.self.view_is) c.requires.unused) raised c.count_reused.ensures.range fits (subst Q (sym c.self.view_is) small),
+      c.in_ok-hold.ensures.spare,
+    )
 
 pub returns-clause-ok : goal.returns-clause-ok
 returns-clause-ok c =
