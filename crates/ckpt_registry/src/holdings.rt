@@ -6,7 +6,7 @@ ghost use Rattle.ckpt_registry.specs.Holdings.{Adds, AreRising, BelongsAt, Exten
 
 use crate::counters::{Counts, lower};
 use ckpt_ids::{CheckpointId, FileId, Files, SubtaskId};
-use std::alloc::{AllocError, Global};
+use std::alloc::AllocError;
 use std::collections::VecDeque;
 use std::mem::replace;
 
@@ -154,7 +154,6 @@ pub(crate) fn remove(acknowledged: &mut Acknowledged, id: CheckpointId) -> Optio
 pub(crate) fn hold(
     acknowledged: &mut Acknowledged,
     spare: &mut Vec<Part>,
-    alloc: Global,
     id: CheckpointId,
     subtask: SubtaskId,
     fresh: &Files,
@@ -185,6 +184,7 @@ pub(crate) fn hold(
         }
         Err(place) => {
             spare.reserve(1)?;
+            let alloc = *spare.allocator();
             let mut parts = replace(spare, Vec::new(alloc));
             parts.push_reserved(part);
             acknowledged.insert(place, Holding { id, parts })?;

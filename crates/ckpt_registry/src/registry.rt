@@ -35,7 +35,7 @@ pub struct Registry {
     pinned: Vec<Pinner>,
     /// The answer of the last release, in room for all files that are present.
     released: Vec<FileId>,
-    /// Room for the parts of the next new record: that of the last record that went. Holds none.
+    /// Empty room for the parts of the next new record, left by the last record that went.
     spare: Vec<Part>,
 }
 
@@ -102,11 +102,9 @@ impl Registry {
         self.counts.reserve(fresh.len())?;
         self.released.clear();
         self.released.reserve(self.counts.capacity())?;
-        let alloc = *self.released.allocator();
         hold(
             &mut self.acknowledged,
             &mut self.spare,
-            alloc,
             id,
             subtask,
             fresh,
