@@ -1,6 +1,6 @@
 -- What a search by halves finds in the row of what each record holds, and what a change at that place leaves.
 use Rattle.std.proofs.Common.{◌≡◌, ℕ, zero, suc, ◌-◌, ◌<◌, ◌≤◌, Bool, true, false, not, cond, eqb, ltb, length, get_or, take, drop, set, List, [], ◌∷◌, ◌++◌, refl, sym, ap, subst, ◌∙◌, ⊎_elim, arith, ◌⊎◌, inl, inr, Result, Ok, Err, IfOk, IfErr}
-use Rattle.std.specs.List.{filter, insert, remove, HoldsAt}
+use Rattle.std.specs.List.{filter, insert, remove}
 use Rattle.std.specs.List.Sorted.{IsBinarySearchResult, IsPartitionPoint, IsSearchInRange}
 use Rattle.std.specs.Ordering.{nat_cmp}
 use Rattle.std.proofs.lemmas.Bool.{cond-true, cond-false, le-ltb, cases_lt, eq-eqb, ne_eqb, ltb-true, lt-ltb}
@@ -14,7 +14,7 @@ use Rattle.ckpt_ids.proofs.AscendingLemmas.{numbers_in_order}
 use Rattle.ckpt_ids.proofs.ComparisonLemmas.{equal_numbers, index_rises}
 use Rattle.ckpt_ids.proofs.OrderedLemmas.{AreDistinct-apart, AreDistinct-from_order, AreDistinct-right, ComesBefore-at, IsIn-from_map, IsIn-get_or, IsIn-map, IsIn-place, IsInOrder-put, filter-all}
 use Rattle.ckpt_registry.specs.declared.holdings.Holding.{Holding}
-use Rattle.ckpt_registry.specs.Holdings.{AreRising}
+use Rattle.ckpt_registry.specs.Holdings.{AreRising, BelongsAt, LiesAt}
 use Rattle.ckpt_registry.proofs.ListLemmas.{filter-none}
 use Rattle.ckpt_registry.proofs.HoldingLemmas.{number, numbers, has_id, parts_in}
 
@@ -35,11 +35,11 @@ less_number a b h = grind (arith, nat_tests)
 greater_number : (a b : ℕ) → nat_cmp a b ≡ Greater → b < a
 greater_number a b h = grind (arith, nat_tests)
 
-pub search_found : (id : ℕ) (hs : List Holding) (r : Result ℕ ℕ) → IsSearchInRange r (length hs) → IsBinarySearchResult (λ h. nat_cmp h.id id) hs r → IfOk r (λ place. (place < length hs) × HoldsAt (λ h. h.id ≡ id) hs place)
+pub search_found : (id : ℕ) (hs : List Holding) (r : Result ℕ ℕ) → IsSearchInRange r (length hs) → IsBinarySearchResult (λ h. nat_cmp h.id id) hs r → IfOk r (LiesAt hs id)
 search_found id hs (Ok place) within at = (within, λ d. equal_numbers (get_or hs place d).id id (at d))
 search_found id hs (Err place) within at = tt
 
-pub search_absent : (id : ℕ) (hs : List Holding) (r : Result ℕ ℕ) → AreRising hs → IsSearchInRange r (length hs) → IsBinarySearchResult (λ h. nat_cmp h.id id) hs r → IfErr r (λ place. (place ≤ length hs) × IsPartitionPoint (λ h. h.id < id) (λ h. id < h.id) hs place)
+pub search_absent : (id : ℕ) (hs : List Holding) (r : Result ℕ ℕ) → AreRising hs → IsSearchInRange r (length hs) → IsBinarySearchResult (λ h. nat_cmp h.id id) hs r → IfErr r (BelongsAt hs id)
 search_absent id hs (Ok place) a within at = tt
 search_absent id hs (Err place) a within at =
     let parted = at (λ i j d h k. index_rises (get_or hs i d).id (get_or hs j d).id id (rising_at hs i j d a h k)) in
@@ -53,7 +53,7 @@ all_below id hs n last a all at below = λ k d h.
     omega arith
 
 -- then a record belongs at the end
-pub end_point : (id : ℕ) (hs : List Holding) (n : ℕ) → n ≡ length hs → ((k : ℕ) (d : Holding) → k < n → (get_or hs k d).id < id) → (n ≤ length hs) × IsPartitionPoint (λ h. h.id < id) (λ h. id < h.id) hs n
+pub end_point : (id : ℕ) (hs : List Holding) (n : ℕ) → n ≡ length hs → ((k : ℕ) (d : Holding) → k < n → (get_or hs k d).id < id) → BelongsAt hs id n
 end_point id hs n all below = (omega arith, (λ k d l m. below k d m, λ k d l m. absurd (omega arith)))
 
 -- Where a record was found. The others have other numbers.

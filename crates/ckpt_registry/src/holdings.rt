@@ -1,15 +1,14 @@
-ghost use Rattle.std.specs.Prelude.{◌≡◌, ℕ, ◌+◌, ◌≤◌, ◌<◌, ◌==◌, ◌++◌, filter, nat_lt, not, vec_capacity, vec_len, OnOk, OnErr, IfOk, IfErr, IfNone, IfSome, length};
-ghost use Rattle.std.specs.List.{HoldsAt};
-ghost use Rattle.std.specs.List.Sorted.{IsPartitionPoint};
+ghost use Rattle.std.specs.Prelude.{◌≡◌, ℕ, ◌+◌, ◌≤◌, ◌==◌, [], filter, nat_lt, not, vec_capacity, vec_len, OnOk, OnErr, IfOk, IfErr, IfNone, IfSome, length};
 ghost use Rattle.indexmap.specs.IndexMap.{index_map_len};
 ghost use Rattle.ckpt_ids.specs.Counting.{times};
 ghost use Rattle.ckpt_registry.specs.Counters.{counter, counted_once, AreInRange};
-ghost use Rattle.ckpt_registry.specs.Holdings.{Adds, AreRising, Extends, files_in, files_of, parts_of, uses_in, uses_of_ack};
+ghost use Rattle.ckpt_registry.specs.Holdings.{Adds, AreRising, BelongsAt, Extends, LiesAt, files_in, files_of, parts_of, uses_in, uses_of_ack};
 
 use crate::counters::{Counts, lower};
 use ckpt_ids::{CheckpointId, FileId, Files, SubtaskId};
-use std::alloc::{AllocError, Global};
+use std::alloc::AllocError;
 use std::collections::VecDeque;
+use std::mem::replace;
 
 /// What a subtask acknowledged: files that nobody used before, and such as were there.
 #[derive(Debug, Drop)]
@@ -102,8 +101,8 @@ pub(crate) fn lower_parts(counts: &mut Counts, released: &mut Vec<FileId>, parts
 /// that the last is looked at first.
 fn place_of(acknowledged: &Acknowledged, id: CheckpointId) -> Result<usize, usize>
     requires { AreRising acknowledged.now.items }
-    ensures found { IfOk result (λ place. (place < length acknowledged.now.items) × HoldsAt (λ h. h.id ≡ id) acknowledged.now.items place) }
-    ensures absent { IfErr result (λ place. (place ≤ length acknowledged.now.items) × IsPartitionPoint (λ h. h.id < id) (λ h. id < h.id) acknowledged.now.items place) }
+    ensures found { IfOk result (LiesAt acknowledged.now.items id) }
+    ensures absent { IfErr result (BelongsAt acknowledged.now.items id) }
 {
     match acknowledged.back() {
         Some(last) if last.id == id => Ok(acknowledged.len() - 1),
@@ -116,8 +115,8 @@ fn place_of(acknowledged: &Acknowledged, id: CheckpointId) -> Result<usize, usiz
 /// halves.
 fn place_below(acknowledged: &Acknowledged, id: CheckpointId) -> Result<usize, usize>
     requires { AreRising acknowledged.now.items }
-    ensures found { IfOk result (λ place. (place < length acknowledged.now.items) × HoldsAt (λ h. h.id ≡ id) acknowledged.now.items place) }
-    ensures absent { IfErr result (λ place. (place ≤ length acknowledged.now.items) × IsPartitionPoint (λ h. h.id < id) (λ h. id < h.id) acknowledged.now.items place) }
+    ensures found { IfOk result (LiesAt acknowledged.now.items id) }
+    ensures absent { IfErr result (BelongsAt acknowledged.now.items id) }
 {
     match acknowledged.front() {
         Some(first) if first.id == id => Ok(0),
@@ -150,17 +149,20 @@ pub(crate) fn remove(acknowledged: &mut Acknowledged, id: CheckpointId) -> Optio
     Some(holding.parts)
 }
 
-/// Adds the part of a subtask to a record. Fails only for want of memory, and then adds nothing.
+/// Adds the part of a subtask to a record; those of a new record lie in the spare room. Fails only
+/// for want of memory, and then adds nothing.
 pub(crate) fn hold(
     acknowledged: &mut Acknowledged,
-    alloc: Global,
+    spare: &mut Vec<Part>,
     id: CheckpointId,
     subtask: SubtaskId,
     fresh: &Files,
     reused: &Files,
 ) -> Result<(), AllocError>
-    requires { AreRising acknowledged.old.items }
+    requires ordered { AreRising acknowledged.old.items }
+    requires spare { spare.old.items ≡ [] }
     ensures ordered { AreRising acknowledged.new.items }
+    ensures spare { spare.new.items ≡ [] }
     ensures extends { Extends acknowledged.old acknowledged.new }
     ensures ok { OnOk result (Adds (uses_in acknowledged.old.items) (uses_of_ack id subtask fresh.now reused.now) (uses_in acknowledged.new.items)) }
     ensures err { OnErr result (uses_in acknowledged.new.items ≡ uses_in acknowledged.old.items) }
@@ -181,8 +183,10 @@ pub(crate) fn hold(
             Ok(())
         }
         Err(place) => {
-            let mut parts = Vec::new(alloc);
-            parts.push(part)?;
+            spare.reserve(1)?;
+            let alloc = *spare.allocator();
+            let mut parts = replace(spare, Vec::new(alloc));
+            parts.push_reserved(part);
             acknowledged.insert(place, Holding { id, parts })?;
             Ok(())
         }

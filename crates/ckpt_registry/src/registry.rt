@@ -6,7 +6,7 @@ ghost use Rattle.ckpt_ids.specs.Records.{Subtask, Pin, count, is_present, releas
 ghost use Rattle.ckpt_registry.specs.Uses.{IsEachOnce, HasNoUse, after_end, files_by, triples, without};
 
 use crate::counters::{Counts, count_fresh, count_reused};
-use crate::holdings::{Acknowledged, hold, named, parts_held};
+use crate::holdings::{Acknowledged, Part, hold, named, parts_held};
 use crate::pins::{Pinner, pins_of, unpin};
 use crate::releases::release_each;
 use crate::sorting::sort;
@@ -35,10 +35,12 @@ pub struct Registry {
     pinned: Vec<Pinner>,
     /// The answer of the last release, in room for all files that are present.
     released: Vec<FileId>,
+    /// Empty room for the parts of the next new record, left by the last record that went.
+    spare: Vec<Part>,
 }
 
 impl Model for Registry {
-    ghost use Rattle.std.specs.Prelude.{List};
+    ghost use Rattle.std.specs.Prelude.{◌≡◌, List, []};
     ghost use Rattle.std.specs.Vec.{vec_capacity};
     ghost use Rattle.ckpt_ids.specs.Records.{Use};
     ghost use Rattle.ckpt_registry.specs.Sound.{IsSound, in_use};
@@ -47,7 +49,7 @@ impl Model for Registry {
 
     ghost view = { λ r. in_use r.acknowledged r.pinned.items };
 
-    ghost invariant = { λ r. IsSound r.acknowledged r.pinned.items r.counts (vec_capacity r.released) };
+    ghost invariant = { λ r. IsSound r.acknowledged r.pinned.items r.counts (vec_capacity r.released) × (r.spare.items ≡ []) };
 }
 
 impl Registry {
@@ -71,6 +73,7 @@ impl Registry {
             acknowledged: VecDeque::new(alloc),
             pinned: Vec::new(alloc),
             released: Vec::new(alloc),
+            spare: Vec::new(alloc),
         }
     }
 
@@ -99,8 +102,14 @@ impl Registry {
         self.counts.reserve(fresh.len())?;
         self.released.clear();
         self.released.reserve(self.counts.capacity())?;
-        let alloc = *self.released.allocator();
-        hold(&mut self.acknowledged, alloc, id, subtask, fresh, reused)?;
+        hold(
+            &mut self.acknowledged,
+            &mut self.spare,
+            id,
+            subtask,
+            fresh,
+            reused,
+        )?;
         let fresh = fresh.as_slice();
         let reused = reused.as_slice();
         count_fresh(&mut self.counts, fresh);
@@ -184,6 +193,7 @@ impl Registry {
             &mut self.pinned,
             &mut self.counts,
             &mut self.released,
+            &mut self.spare,
             owners,
         );
         sort(&mut self.released); // as one list, however many records go
@@ -206,13 +216,17 @@ impl Registry {
             &mut self.released,
             &[id],
         );
-        release_each(
-            &mut self.acknowledged,
-            &mut self.pinned,
-            &mut self.counts,
-            &mut self.released,
-            owners,
-        );
+        // Most savepoints drop no record.
+        if !owners.is_empty() {
+            release_each(
+                &mut self.acknowledged,
+                &mut self.pinned,
+                &mut self.counts,
+                &mut self.released,
+                &mut self.spare,
+                owners,
+            );
+        }
         sort(&mut self.released);
         self.released.as_slice()
     }

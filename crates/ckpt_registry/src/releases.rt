@@ -1,4 +1,4 @@
-ghost use Rattle.std.specs.Prelude.{◌≡◌, ℕ, ◌+◌, ◌≤◌, vec_capacity, vec_len};
+ghost use Rattle.std.specs.Prelude.{◌≡◌, ℕ, ◌+◌, ◌≤◌, [], vec_capacity, vec_len};
 ghost use Rattle.indexmap.specs.IndexMap.{index_map_len};
 ghost use Rattle.ckpt_ids.specs.Counting.{times};
 ghost use Rattle.ckpt_registry.specs.Counters.{counted_once};
@@ -8,31 +8,36 @@ ghost use Rattle.ckpt_registry.specs.Sound.{AreCounted};
 ghost use Rattle.ckpt_registry.specs.Uses.{without, without_record};
 
 use crate::counters::Counts;
-use crate::holdings::{Acknowledged, lower_parts, remove};
+use crate::holdings::{Acknowledged, Part, lower_parts, remove};
 use crate::pins::{Pinner, settle, unpin};
 use ckpt_ids::{CheckpointId, FileId};
 
 /// Takes back what the subtasks of one record use, where they use anything. Those who pin the
-/// record keep its files.
+/// record keep its files. The room of its parts is spare from now on.
 fn drop_uses(
     acknowledged: &mut Acknowledged,
     pinned: &mut Vec<Pinner>,
     counts: &mut Counts,
     released: &mut Vec<FileId>,
+    spare: &mut Vec<Part>,
     id: CheckpointId,
 )
     requires counted { AreCounted acknowledged.old pinned.old.items counts.old }
     requires room { index_map_len counts.old + vec_len released.old ≤ vec_capacity released.old }
+    requires spare { spare.old.items ≡ [] }
     ensures counted { AreCounted acknowledged.new pinned.new.items counts.new }
     ensures uses { uses_in acknowledged.new.items ≡ without_record id (uses_in acknowledged.old.items) }
     ensures pins { pins_in acknowledged.new pinned.new.items ≡ pins_in acknowledged.old pinned.old.items }
     ensures released { (f : ℕ) → times f released.new.items + counted_once counts.new f ≡ times f released.old.items + counted_once counts.old f }
     ensures len { index_map_len counts.new + vec_len released.new ≡ index_map_len counts.old + vec_len released.old }
     ensures capacity { vec_capacity released.new ≡ vec_capacity released.old }
+    ensures spare { spare.new.items ≡ [] }
 {
-    if let Some(parts) = remove(acknowledged, id) {
+    if let Some(mut parts) = remove(acknowledged, id) {
         settle(pinned, counts, id, &parts);
         lower_parts(counts, released, &parts);
+        parts.clear();
+        *spare = parts;
     }
 }
 
@@ -43,19 +48,22 @@ pub(crate) fn release_each(
     pinned: &mut Vec<Pinner>,
     counts: &mut Counts,
     released: &mut Vec<FileId>,
+    spare: &mut Vec<Part>,
     owners: &[CheckpointId],
 )
     requires counted { AreCounted acknowledged.old pinned.old.items counts.old }
     requires room { index_map_len counts.old + vec_len released.old ≤ vec_capacity released.old }
+    requires spare { spare.old.items ≡ [] }
     ensures counted { AreCounted acknowledged.new pinned.new.items counts.new }
     ensures uses { uses_in acknowledged.new.items ≡ without owners.now (uses_in acknowledged.old.items) }
     ensures pins { pins_in acknowledged.new pinned.new.items ≡ without owners.now (pins_in acknowledged.old pinned.old.items) }
     ensures released { (f : ℕ) → times f released.new.items + counted_once counts.new f ≡ times f released.old.items + counted_once counts.old f }
     ensures len { index_map_len counts.new + vec_len released.new ≡ index_map_len counts.old + vec_len released.old }
     ensures capacity { vec_capacity released.new ≡ vec_capacity released.old }
+    ensures spare { spare.new.items ≡ [] }
 {
     unpin(pinned, counts, released, owners);
     for owner in owners {
-        drop_uses(acknowledged, pinned, counts, released, *owner);
+        drop_uses(acknowledged, pinned, counts, released, spare, *owner);
     }
 }

@@ -57,34 +57,34 @@ pub returns-in_err-push-in-Ok-clause-ordered : goal.returns-in_err-push-in-Ok-cl
 returns-in_err-push-in-Ok-clause-ordered c =
     let found = c.in-Ok.ensures.found in
     let h = c.index_mut.result.now in
-    pushed_ordered c.args.acknowledged.now c.args.id c.in-Ok.place h c.push.new.self [] c.requires found.0 c.index_mut.ensures.value (ap number c.index_mut.ensures.value ∙ found.1 h) (c.in_err-push-in-Ok.ensures.items ∙ sym (append-nil h.parts.items))
+    pushed_ordered c.args.acknowledged.now c.args.id c.in-Ok.place h c.push.new.self [] c.requires.ordered found.0 c.index_mut.ensures.value (ap number c.index_mut.ensures.value ∙ found.1 h) (c.in_err-push-in-Ok.ensures.items ∙ sym (append-nil h.parts.items))
 
 pub returns-in_err-push-in-Ok-clause-extends : goal.returns-in_err-push-in-Ok-clause-extends
 returns-in_err-push-in-Ok-clause-extends c =
     let found = c.in-Ok.ensures.found in
     let h = c.index_mut.result.now in
-    pushed_extends c.args.acknowledged.now c.args.id c.in-Ok.place h c.push.new.self [] c.requires found.0 c.index_mut.ensures.value (ap number c.index_mut.ensures.value ∙ found.1 h) (c.in_err-push-in-Ok.ensures.items ∙ sym (append-nil h.parts.items))
+    pushed_extends c.args.acknowledged.now c.args.id c.in-Ok.place h c.push.new.self [] c.requires.ordered found.0 c.index_mut.ensures.value (ap number c.index_mut.ensures.value ∙ found.1 h) (c.in_err-push-in-Ok.ensures.items ∙ sym (append-nil h.parts.items))
 
 pub returns-in_err-push-in-Ok-clause-err : goal.returns-in_err-push-in-Ok-clause-err
 returns-in_err-push-in-Ok-clause-err c =
     let found = c.in-Ok.ensures.found in
     let h = c.index_mut.result.now in
     on_each_error c.from_residual-in_err-push-in-Ok.result _
-    (pushed_same c.args.acknowledged.now c.args.id c.in-Ok.place h c.push.new.self [] c.requires found.0 c.index_mut.ensures.value (ap number c.index_mut.ensures.value ∙ found.1 h) (c.in_err-push-in-Ok.ensures.items ∙ sym (append-nil h.parts.items)) refl)
+    (pushed_same c.args.acknowledged.now c.args.id c.in-Ok.place h c.push.new.self [] c.requires.ordered found.0 c.index_mut.ensures.value (ap number c.index_mut.ensures.value ∙ found.1 h) (c.in_err-push-in-Ok.ensures.items ∙ sym (append-nil h.parts.items)) refl)
 
 pub returns-in_ok-push-in-Ok-clause-ordered : goal.returns-in_ok-push-in-Ok-clause-ordered
 returns-in_ok-push-in-Ok-clause-ordered c =
     let found = c.in-Ok.ensures.found in
     let h = c.index_mut.result.now in
     let part : Part = record { subtask = c.args.subtask; fresh = c.in_ok-fresh.fresh; reused = c.in_ok-reused.reused } in
-    pushed_ordered c.args.acknowledged.now c.args.id c.in-Ok.place h c.push.new.self (part ∷ []) c.requires found.0 c.index_mut.ensures.value (ap number c.index_mut.ensures.value ∙ found.1 h) c.in_ok-push-in-Ok.ensures.items
+    pushed_ordered c.args.acknowledged.now c.args.id c.in-Ok.place h c.push.new.self (part ∷ []) c.requires.ordered found.0 c.index_mut.ensures.value (ap number c.index_mut.ensures.value ∙ found.1 h) c.in_ok-push-in-Ok.ensures.items
 
 pub returns-in_ok-push-in-Ok-clause-extends : goal.returns-in_ok-push-in-Ok-clause-extends
 returns-in_ok-push-in-Ok-clause-extends c =
     let found = c.in-Ok.ensures.found in
     let h = c.index_mut.result.now in
     let part : Part = record { subtask = c.args.subtask; fresh = c.in_ok-fresh.fresh; reused = c.in_ok-reused.reused } in
-    pushed_extends c.args.acknowledged.now c.args.id c.in-Ok.place h c.push.new.self (part ∷ []) c.requires found.0 c.index_mut.ensures.value (ap number c.index_mut.ensures.value ∙ found.1 h) c.in_ok-push-in-Ok.ensures.items
+    pushed_extends c.args.acknowledged.now c.args.id c.in-Ok.place h c.push.new.self (part ∷ []) c.requires.ordered found.0 c.index_mut.ensures.value (ap number c.index_mut.ensures.value ∙ found.1 h) c.in_ok-push-in-Ok.ensures.items
 
 pub returns-in_ok-push-in-Ok-clause-ok : goal.returns-in_ok-push-in-Ok-clause-ok
 returns-in_ok-push-in-Ok-clause-ok c = λ p.
@@ -92,7 +92,7 @@ returns-in_ok-push-in-Ok-clause-ok c = λ p.
     let h = c.index_mut.result.now in
     let m : Acknowledged = c.args.acknowledged.now in
     let part : Part = record { subtask = c.args.subtask; fresh = c.in_ok-fresh.fresh; reused = c.in_ok-reused.reused } in
-    pushed_uses m c.args.id c.in-Ok.place h c.push.new.self (part ∷ []) c.requires found.0 c.index_mut.ensures.value (ap number c.index_mut.ensures.value ∙ found.1 h) c.in_ok-push-in-Ok.ensures.items p
+    pushed_uses m c.args.id c.in-Ok.place h c.push.new.self (part ∷ []) c.requires.ordered found.0 c.index_mut.ensures.value (ap number c.index_mut.ensures.value ∙ found.1 h) c.in_ok-push-in-Ok.ensures.items p
     ∙ ap (λ (us : List Use). count_by p (uses_in m.items) + count_by p us) (uses_of_one c.args.id part c.args.fresh.now c.args.reused.now c.in_ok-fresh.ensures c.in_ok-reused.ensures)
 
 -- a record that holds nothing gets its first part
@@ -110,19 +110,20 @@ module _ (m n : Acknowledged) (place : ℕ) (new : Holding) (more : List Part) (
 pub returns-in_ok-insert-in-Err-clause-ordered : goal.returns-in_ok-insert-in-Err-clause-ordered
 returns-in_ok-insert-in-Err-clause-ordered c =
     let absent = c.in-Err.ensures.absent in
-    let new : Holding = record { id = c.args.id; parts = c.push-in-Err.new.self } in
-    subst (λ hs. AreRising hs) (sym c.in_ok-insert-in-Err.ensures.items) (rising_insert new c.args.acknowledged.now.items c.in-Err.place c.requires absent.0 absent.1)
+    let new : Holding = record { id = c.args.id; parts = c.push_reserved.new.self } in
+    subst (λ hs. AreRising hs) (sym c.in_ok-insert-in-Err.ensures.items) (rising_insert new c.args.acknowledged.now.items c.in-Err.place c.requires.ordered absent.0 absent.1)
 
 pub returns-in_ok-insert-in-Err-clause-extends : goal.returns-in_ok-insert-in-Err-clause-extends
 returns-in_ok-insert-in-Err-clause-extends c =
-    let new : Holding = record { id = c.args.id; parts = c.push-in-Err.new.self } in
+    let new : Holding = record { id = c.args.id; parts = c.push_reserved.new.self } in
     inserted_extends c.args.acknowledged.now c.insert.new.self c.in-Err.place new _ c.in-Err.ensures.absent.1 c.in_ok-insert-in-Err.ensures.items refl
 
 pub returns-in_ok-insert-in-Err-clause-ok : goal.returns-in_ok-insert-in-Err-clause-ok
 returns-in_ok-insert-in-Err-clause-ok c = λ p.
     let m : Acknowledged = c.args.acknowledged.now in
     let part : Part = record { subtask = c.args.subtask; fresh = c.in_ok-fresh.fresh; reused = c.in_ok-reused.reused } in
-    let new : Holding = record { id = c.args.id; parts = c.push-in-Err.new.self } in
-    let one : new.parts.items ≡ part ∷ [] = c.in_ok-push-in-Err.ensures.items ∙ ap (λ (ps : List Part). ps ++ part ∷ []) c.new-parts.ensures.items in
+    let new : Holding = record { id = c.args.id; parts = c.push_reserved.new.self } in
+    let none : c.replace-parts.result.items ≡ [] = ap (λ (v : Vec Part Global). v.items) c.replace-parts.ensures.value ∙ c.in_ok-reserve-in-Err.ensures.items ∙ c.requires.spare in
+    let one : new.parts.items ≡ part ∷ [] = c.push_reserved.ensures.items ∙ ap (λ (ps : List Part). ps ++ part ∷ []) none in
     inserted_uses m c.insert.new.self c.in-Err.place new (part ∷ []) c.in-Err.ensures.absent.1 c.in_ok-insert-in-Err.ensures.items one p
     ∙ ap (λ (us : List Use). count_by p (uses_in m.items) + count_by p us) (uses_of_one c.args.id part c.args.fresh.now c.args.reused.now c.in_ok-fresh.ensures c.in_ok-reused.ensures)

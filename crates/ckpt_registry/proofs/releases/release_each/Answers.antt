@@ -17,6 +17,7 @@ loop-owner-init c =
       released = e.released;
       len = e.len;
       capacity = e.capacity;
+      spare = c.requires.spare;
     }
 
 pub loop-owner-preserved : goal.loop-owner-preserved
@@ -34,4 +35,5 @@ loop-owner-preserved c =
       released = λ f. omega (arith, before.released f, e.released f);
       len = omega (arith, before.len, e.len);
       capacity = e.capacity ∙ before.capacity;
+      spare = e.spare;
     }

@@ -1,4 +1,4 @@
-use Rattle.std.proofs.Common.{◌≡◌, ℕ, ◌+◌, take, vec_len}
+use Rattle.std.proofs.Common.{◌≡◌, ℕ, ◌+◌, [], take, vec_len}
 use Rattle.std.specs.Vec.{vec_capacity}
 use Rattle.indexmap.specs.IndexMap.{index_map_len}
 use Rattle.ckpt_ids.specs.Counting.{times}
@@ -17,4 +17,5 @@ invariant-loop-owner l = record {
   released : (f : ℕ) → times f l.released.items + counted_once l.counts f ≡ times f l.fn.released.items + counted_once l.fn.counts f;
   len : index_map_len l.counts + vec_len l.released ≡ index_map_len l.fn.counts + vec_len l.fn.released;
   capacity : vec_capacity l.released ≡ vec_capacity l.fn.released;
+  spare : l.spare.items ≡ [];
 }

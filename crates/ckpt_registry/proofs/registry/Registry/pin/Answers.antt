@@ -26,7 +26,7 @@ count_reused-requires-clause-present c = λ f h.
     let r = c.self.inside in
     let P : List ℕ → Type 0 = λ xs. IsIn f xs in
     let there : is_present c.args.self.now f ≡ true = c.requires.present f (subst P c.as_slice-files.ensures.files h) in
-    ltb-true 0 (counter r.counts f) (is_present-in_use r.acknowledged r.pinned.items r.counts (vec_capacity r.released) c.self.invariant f ∙ ap (λ (us : List Use). is_present us f) c.self.view_is ∙ there)
+    ltb-true 0 (counter r.counts f) (is_present-in_use r.acknowledged r.pinned.items r.counts (vec_capacity r.released) c.self.invariant.0 f ∙ ap (λ (us : List Use). is_present us f) c.self.view_is ∙ there)
 
 pub count_reused-requires-clause-fits : goal.count_reused-requires-clause-fits
 count_reused-requires-clause-fits c = λ f h.
@@ -35,7 +35,7 @@ count_reused-requires-clause-fits c = λ f h.
     let small = c.requires.below f (subst P c.as_slice-files.ensures.files h) in
     let once : times f c.as_slice-files.result.now ≡ times f c.args.files.now = ap (times f) c.as_slice-files.ensures.files in
     let same : count (in_use r.acknowledged r.pinned.items) f ≡ count c.args.self.now f = ap (λ (us : List Use). count us f) c.self.view_is in
-    omega (arith, small, once, same, IsEachOnce-from_ascending c.args.files.now c.requires.ascending f, count-in_use r.acknowledged r.pinned.items r.counts (vec_capacity r.released) c.self.invariant f)
+    omega (arith, small, once, same, IsEachOnce-from_ascending c.args.files.now c.requires.ascending f, count-in_use r.acknowledged r.pinned.items r.counts (vec_capacity r.released) c.self.invariant.0 f)
 
 pub invariant_of-self-2 : goal.invariant_of-self-2
 invariant_of-self-2 c =
@@ -50,13 +50,15 @@ invariant_of-self-2 c =
     let H : List Use → Type 0 = λ us. HasNoUse us c.args.id Pin in
     let Q : List Use → Type 0 = λ us. (f : ℕ) → count us f + times f files < 2 ^ 32 in
     let B : List Use → Type 0 = λ us. (f : ℕ) → count us f < 2 ^ 32 in
-    let was : B c.args.self.now = subst B c.self.view_is (below-in_use a p r.counts room c.self.invariant) in
+    let was : B c.args.self.now = subst B c.self.view_is (below-in_use a p r.counts room c.self.invariant.0) in
     let small : Q c.args.self.now = below_more c.args.self.now [] files was each (λ f h. absurd h) c.requires.below in
     let raised : (f : ℕ) → counter c.count_reused.new.counts f ≡ counter r.counts f + times f c.in_ok-own.own.items = λ f. c.count_reused.ensures.counted f ∙ ap (λ xs. counter r.counts f + times f xs) (sym c.in_ok-own.ensures.items) in
     let kept : IsKept (parts_of a c.args.id) one = record { within = omega arith; none_own = λ lt. absurd (omega (arith, lt)); room = λ lt. absurd (omega (arith, lt)) } in
-    let P : List Pinner → Type 0 = λ ps. IsSound a ps c.count_reused.new.counts room in
-    subst P (sym c.in_ok-push.ensures.items)
-    (IsSound-pinned a p one files own r.counts c.count_reused.new.counts room room c.self.invariant kept each (subst H (sym c.self.view_is) c.requires.unpinned) raised c.count_reused.ensures.range (omega (arith, c.self.invariant.has_room, c.count_reused.ensures.len)) (subst Q (sym c.self.view_is) small))
+    let P : List Pinner → Type 0 = λ ps. IsSound a ps c.count_reused.new.counts room in (
+      subst P (sym c.in_ok-push.ensures.items)
+          (IsSound-pinned a p one files own r.counts c.count_reused.new.counts room room c.self.invariant.0 kept each (subst H (sym c.self.view_is) c.requires.unpinned) raised c.count_reused.ensures.range (omega (arith, c.self.invariant.0.has_room, c.count_reused.ensures.len)) (subst Q (sym c.self.view_is) small)),
+      c.self.invariant.1,
+    )
 
 pub returns-clause-ok : goal.returns-clause-ok
 returns-clause-ok c =

@@ -50,14 +50,16 @@ invariant_of-self-2 c =
     let H : List Use → Type 0 = λ us. HasNoUse us c.args.id Pin in
     let Q : List Use → Type 0 = λ us. (f : ℕ) → count us f + times f named < 2 ^ 32 in
     let B : List Use → Type 0 = λ us. (f : ℕ) → count us f < 2 ^ 32 in
-    let was : B c.args.self.now = subst B c.self.view_is (below-in_use a p r.counts room c.self.invariant) in
+    let was : B c.args.self.now = subst B c.self.view_is (below-in_use a p r.counts room c.self.invariant.0) in
     let small : Q c.args.self.now = below_more c.args.self.now [] named was each (λ f h. absurd h) c.requires.below in
     let raised : (f : ℕ) → counter r.counts f ≡ counter r.counts f + times f c.in_ok-files.files.items = λ f. let none : times f c.in_ok-files.files.items ≡ 0 = ap (times f) c.in_ok-files.ensures.items in omega (arith, none) in
     let files : length (files_in (take (length c.parts_held-parts.result.now) (parts_of a chosen))) ≡ length (files_in c.parts_held-parts.result.now) = ap (λ (ps : List Part). length (files_in ps)) (take_all (length c.parts_held-parts.result.now) (parts_of a chosen) all ∙ sym c.parts_held-parts.ensures) in
     let kept : IsKept (parts_of a chosen) one = record { within = omega (arith, len); none_own = λ lt. c.in_ok-files.ensures.items; room = λ lt. omega (arith, files, c.in-Some.ensures, c.in_ok-files.ensures.exact) } in
-    let P : List Pinner → Type 0 = λ ps. IsSound a ps r.counts room in
-    subst P (sym c.in_ok-push.ensures.items)
-    (IsSound-pinned a p one named pins r.counts r.counts room room c.self.invariant kept each (subst H (sym c.self.view_is) c.requires.unpinned) raised c.self.invariant.parts.range c.self.invariant.has_room (subst Q (sym c.self.view_is) small))
+    let P : List Pinner → Type 0 = λ ps. IsSound a ps r.counts room in (
+      subst P (sym c.in_ok-push.ensures.items)
+          (IsSound-pinned a p one named pins r.counts r.counts room room c.self.invariant.0 kept each (subst H (sym c.self.view_is) c.requires.unpinned) raised c.self.invariant.0.parts.range c.self.invariant.0.has_room (subst Q (sym c.self.view_is) small)),
+      c.self.invariant.1,
+    )
 
 pub returns-clause-ok : goal.returns-clause-ok
 returns-clause-ok c =

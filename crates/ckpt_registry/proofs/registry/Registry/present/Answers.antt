@@ -10,7 +10,7 @@ use Rattle.ckpt_registry.proofs.registry.Registry.present.Goals as goal
 pub returns-clause-value : goal.returns-clause-value
 returns-clause-value c =
     let r = c.self.inside in
-    let files = index_map_len-in_use r.acknowledged r.pinned.items r.counts (vec_capacity r.released) c.self.invariant c.len.ensures.unique in
+    let files = index_map_len-in_use r.acknowledged r.pinned.items r.counts (vec_capacity r.released) c.self.invariant.0 c.len.ensures.unique in
     c.len.ensures.len ∙ files ∙ ap (λ (us : List Use). length (ascending_set (map (λ u. u.file) us))) c.self.view_is
 
 pub returns-clause-in_order : goal.returns-clause-in_order
@@ -20,4 +20,4 @@ pub returns-clause-below : goal.returns-clause-below
 returns-clause-below c = λ f.
     let r = c.self.inside in
     let same : count (in_use r.acknowledged r.pinned.items) f ≡ count c.args.self.now f = ap (λ (us : List Use). count us f) c.self.view_is in
-    omega (arith, same, below-in_use r.acknowledged r.pinned.items r.counts (vec_capacity r.released) c.self.invariant f)
+    omega (arith, same, below-in_use r.acknowledged r.pinned.items r.counts (vec_capacity r.released) c.self.invariant.0 f)

@@ -30,14 +30,14 @@ count_fresh-requires-clause-absent c = λ f h.
     let P : List ℕ → Type 0 = λ xs. IsIn f xs in
     let unused : count c.args.self.now f ≤ 0 = ltb-false 0 (count c.args.self.now f) (c.requires.fresh_absent f (subst P c.as_slice-fresh.ensures.files h)) in
     let same : count (in_use r.acknowledged r.pinned.items) f ≡ count c.args.self.now f = ap (λ (us : List Use). count us f) c.self.view_is in
-    omega (arith, unused, same, counter-unchanged r.counts c.reserve.new.self c.in_ok-reserve.ensures.entries f, count-in_use r.acknowledged r.pinned.items r.counts (vec_capacity r.released) c.self.invariant f)
+    omega (arith, unused, same, counter-unchanged r.counts c.reserve.new.self c.in_ok-reserve.ensures.entries f, count-in_use r.acknowledged r.pinned.items r.counts (vec_capacity r.released) c.self.invariant.0 f)
 
 pub count_reused-requires-clause-present : goal.count_reused-requires-clause-present
 count_reused-requires-clause-present c = λ f h.
     let r = c.self.inside in
     let P : List ℕ → Type 0 = λ xs. IsIn f xs in
     let there : is_present c.args.self.now f ≡ true = c.requires.reused_present f (subst P c.as_slice-reused.ensures.files h) in
-    let used : 0 < counter r.counts f = ltb-true 0 (counter r.counts f) (is_present-in_use r.acknowledged r.pinned.items r.counts (vec_capacity r.released) c.self.invariant f ∙ ap (λ (us : List Use). is_present us f) c.self.view_is ∙ there) in
+    let used : 0 < counter r.counts f = ltb-true 0 (counter r.counts f) (is_present-in_use r.acknowledged r.pinned.items r.counts (vec_capacity r.released) c.self.invariant.0 f ∙ ap (λ (us : List Use). is_present us f) c.self.view_is ∙ there) in
     omega (arith, used, c.count_fresh.ensures.counted f, counter-unchanged r.counts c.reserve.new.self c.in_ok-reserve.ensures.entries f)
 
 pub count_reused-requires-clause-fits : goal.count_reused-requires-clause-fits
@@ -58,7 +58,7 @@ count_reused-requires-clause-fits c = λ f h.
       times-append f c.args.fresh.now c.args.reused.now,
       c.count_fresh.ensures.counted f,
       counter-unchanged r.counts c.reserve.new.self c.in_ok-reserve.ensures.entries f,
-      count-in_use r.acknowledged r.pinned.items r.counts (vec_capacity r.released) c.self.invariant f,
+      count-in_use r.acknowledged r.pinned.items r.counts (vec_capacity r.released) c.self.invariant.0 f,
     )
 
 pub invariant_of-self-in_err-hold : goal.invariant_of-self-in_err-hold
@@ -67,14 +67,16 @@ invariant_of-self-in_err-hold c =
     let p : List Pinner = r.pinned.items in
     let held = c.hold.new.acknowledged in
     let e = c.in_err-hold.ensures in
-    let same : stored held p ≡ stored r.acknowledged p = ap (λ us. us ++ pins_in held p) e.err ∙ ap (λ us. uses_in r.acknowledged.items ++ us) (pins_in-extended r.acknowledged held p e.extends c.self.invariant.parts.kept) in
-    let entries : index_map_len c.reserve.new.self ≡ index_map_len r.counts = ap (λ (es : List (ℕ × ℕ)). length es) c.in_ok-reserve.ensures.entries in
-    record {
-      parts = AreCounted-kept r.acknowledged held p r.counts c.reserve.new.self e.extends e.ordered e.err (counter-unchanged r.counts c.reserve.new.self c.in_ok-reserve.ensures.entries)
-          (AreInRange-unchanged r.counts c.reserve.new.self c.in_ok-reserve.ensures.entries c.self.invariant.parts.range) c.self.invariant.parts;
-      once = subst StandsOnce (sym same) c.self.invariant.once;
-      has_room = omega (arith, entries, c.in_ok-reserve.ensures.ok, c.len.ensures, c.capacity.ensures, c.in_ok-reserve-2.ensures.ok);
-    }
+    let same : stored held p ≡ stored r.acknowledged p = ap (λ us. us ++ pins_in held p) e.err ∙ ap (λ us. uses_in r.acknowledged.items ++ us) (pins_in-extended r.acknowledged held p e.extends c.self.invariant.0.parts.kept) in
+    let entries : index_map_len c.reserve.new.self ≡ index_map_len r.counts = ap (λ (es : List (ℕ × ℕ)). length es) c.in_ok-reserve.ensures.entries in (
+      record {
+        parts = AreCounted-kept r.acknowledged held p r.counts c.reserve.new.self e.extends e.ordered e.err (counter-unchanged r.counts c.reserve.new.self c.in_ok-reserve.ensures.entries)
+            (AreInRange-unchanged r.counts c.reserve.new.self c.in_ok-reserve.ensures.entries c.self.invariant.0.parts.range) c.self.invariant.0.parts;
+        once = subst StandsOnce (sym same) c.self.invariant.0.once;
+        has_room = omega (arith, entries, c.in_ok-reserve.ensures.ok, c.len.ensures, c.capacity.ensures, c.in_ok-reserve-2.ensures.ok);
+      },
+      e.spare,
+    )
 
 pub returns-in_err-hold-clause-err : goal.returns-in_err-hold-clause-err
 returns-in_err-hold-clause-err c =
@@ -82,7 +84,7 @@ returns-in_err-hold-clause-err c =
     let p : List Pinner = r.pinned.items in
     let held = c.hold.new.acknowledged in
     let e = c.in_err-hold.ensures in
-    let same : stored held p ≡ stored r.acknowledged p = ap (λ us. us ++ pins_in held p) e.err ∙ ap (λ us. uses_in r.acknowledged.items ++ us) (pins_in-extended r.acknowledged held p e.extends c.self.invariant.parts.kept) in
+    let same : stored held p ≡ stored r.acknowledged p = ap (λ us. us ++ pins_in held p) e.err ∙ ap (λ us. uses_in r.acknowledged.items ++ us) (pins_in-extended r.acknowledged held p e.extends c.self.invariant.0.parts.kept) in
     on_each_error c.from_residual-in_err-hold.result _ (ap (in_order_once use_before) same ∙ c.self.view_is)
 
 pub invariant_of-self-2 : goal.invariant_of-self-2
@@ -100,10 +102,12 @@ invariant_of-self-2 c =
     omega (arith, fresh, reused, c.count_reused.ensures.counted f, c.count_fresh.ensures.counted f, counter-unchanged r.counts c.reserve.new.self c.in_ok-reserve.ensures.entries f, times-append f c.args.fresh.now c.args.reused.now) in
     let places : length c.as_slice-fresh.result.now ≡ length c.args.fresh.now = ap (λ (xs : List ℕ). length xs) c.as_slice-fresh.ensures.files in
     let fits : index_map_len c.count_reused.new.counts ≤ vec_capacity c.reserve-2.new.self = omega (arith, places, c.count_reused.ensures.len, c.count_fresh.ensures.len, c.in_ok-reserve.ensures.ok, c.len.ensures, c.capacity.ensures, c.in_ok-reserve-2.ensures.ok) in
-    let was : B c.args.self.now = subst B c.self.view_is (below-in_use r.acknowledged p r.counts (vec_capacity r.released) c.self.invariant) in
-    let small : Q c.args.self.now = below_more c.args.self.now c.args.fresh.now c.args.reused.now was c.requires.each_once c.requires.fresh_absent c.requires.below in
-    IsSound-acknowledged r.acknowledged p held r.counts c.count_reused.new.counts (vec_capacity r.released) (vec_capacity c.reserve-2.new.self) c.args.id c.args.subtask files c.self.invariant c.in_ok-hold.ensures.ordered c.in_ok-hold.ensures.extends c.in_ok-hold.ensures.ok
-    c.requires.each_once (subst P (sym c.self.view_is) c.requires.unused) raised c.count_reused.ensures.range fits (subst Q (sym c.self.view_is) small)
+    let was : B c.args.self.now = subst B c.self.view_is (below-in_use r.acknowledged p r.counts (vec_capacity r.released) c.self.invariant.0) in
+    let small : Q c.args.self.now = below_more c.args.self.now c.args.fresh.now c.args.reused.now was c.requires.each_once c.requires.fresh_absent c.requires.below in (
+      IsSound-acknowledged r.acknowledged p held r.counts c.count_reused.new.counts (vec_capacity r.released) (vec_capacity c.reserve-2.new.self) c.args.id c.args.subtask files c.self.invariant.0 c.in_ok-hold.ensures.ordered c.in_ok-hold.ensures.extends c.in_ok-hold.ensures.ok
+          c.requires.each_once (subst P (sym c.self.view_is) c.requires.unused) raised c.count_reused.ensures.range fits (subst Q (sym c.self.view_is) small),
+      c.in_ok-hold.ensures.spare,
+    )
 
 pub returns-clause-ok : goal.returns-clause-ok
 returns-clause-ok c =
@@ -111,6 +115,6 @@ returns-clause-ok c =
     let p : List Pinner = r.pinned.items in
     let files = c.args.fresh.now ++ c.args.reused.now in
     let held = c.hold.new.acknowledged in
-    let pins : pins_in held p ≡ pins_in r.acknowledged p = pins_in-extended r.acknowledged held p c.in_ok-hold.ensures.extends c.self.invariant.parts.kept in
+    let pins : pins_in held p ≡ pins_in r.acknowledged p = pins_in-extended r.acknowledged held p c.in_ok-hold.ensures.extends c.self.invariant.0.parts.kept in
     in_use-added r.acknowledged p held p c.args.id (Subtask c.args.subtask) files (stored-acknowledged r.acknowledged p held (triples c.args.id (Subtask c.args.subtask) files) pins c.in_ok-hold.ensures.ok)
     ∙ ap (λ (us : List Use). in_order_once use_before (us ++ triples c.args.id (Subtask c.args.subtask) files)) c.self.view_is
