@@ -3,13 +3,13 @@ use Rattle.std.proofs.Common.{◌≡◌, ℕ, Bool, true, false, not, eqb, [], �
 use Rattle.std.specs.Prelude.{if◌then◌else◌}
 use Rattle.std.specs.List.{list_any}
 use Rattle.ckpt_ids.specs.declared.call.Call.{Call}
-use Rattle.ckpt_ids.specs.declared.call.Call.TheVariants.{Tick, Savepoint, Ack, Decline, Dispose, Restore, Cancel, Take, Deleted, Undeleted, Show, Count}
+use Rattle.ckpt_ids.specs.declared.call.Call.TheVariants.{Deleted, Undeleted}
 use Rattle.ckpt_ids.specs.declared.reply.Reply.{Reply}
 use Rattle.ckpt_ids.specs.declared.reply.Answer.{Answer}
 use Rattle.ckpt_ids.specs.declared.reply.Answer.TheVariants.{Done, Refused}
 use Rattle.ckpt_ids.specs.declared.reply.Refusal.{Refusal}
 use Rattle.ckpt_ids.specs.declared.reply.Refusal.TheVariants.{NotTaken}
-use Rattle.ckpt_core.specs.Inside.Parts.{early_refusal, is_report, never_fails}
+use Rattle.ckpt_core.specs.Inside.Parts.{early_refusal, is_report}
 use Rattle.ckpt_core.specs.Refusals.{first_some, refuse_if, refusal}
 use Rattle.ckpt_core.specs.State.{State}
 use Rattle.ckpt_core.specs.Steps.{Stepped, step}
@@ -39,37 +39,12 @@ taken_if false P never h = absurd (never (h refl))
 -- the early test
 
 -- of a call that is no report it tells all
-pub refusal_early : (m : State) (call : Call) → is_report call ≡ false → early_refusal m call ≡ refusal m call
+refusal_early : (m : State) (call : Call) → is_report call ≡ false → early_refusal m call ≡ refusal m call
 refusal_early m call e = ap (λ (b : Bool). (if b then None else refusal m call)) e
-
-no_report : (call : Call) → never_fails call ≡ true → is_report call ≡ false
-no_report (Tick now) e = refl
-no_report (Savepoint now) e = refl
-no_report (Ack now id subtask fresh reused) e = refl
-no_report (Decline now id subtask) e = refl
-no_report (Dispose id) e = refl
-no_report (Restore now target shape) e = refl
-no_report (Cancel now) e = refl
-no_report (Take most) e = refl
-no_report (Deleted file) e = absurd (cc)
-no_report (Undeleted file) e = absurd (cc)
-no_report (Show id) e = refl
-no_report (Count file) e = refl
 
 -- a call that passed it and is no report is accepted
 pub accepted_early : (m : State) (call : Call) → is_report call ≡ false → early_refusal m call ≡ None → refusal m call ≡ None
 accepted_early m call e h = sym (refusal_early m call e) ∙ h
-
-pub accepted_in_place : (m : State) (call : Call) → never_fails call ≡ true → early_refusal m call ≡ None → refusal m call ≡ None
-accepted_in_place m call e h = accepted_early m call (no_report call e) h
-
--- what it refuses is refused
-refused_if : (report : Bool) (why : Refusal) (o : Option Refusal) → (if report then None else o) ≡ Some why → o ≡ Some why
-refused_if true why o h = absurd (cc)
-refused_if false why o h = h
-
-pub refused_early : (m : State) (call : Call) (why : Refusal) → early_refusal m call ≡ Some why → refusal m call ≡ Some why
-refused_early m call why h = refused_if (is_report call) why (refusal m call) h
 
 -- a call that is done was not refused
 accepted_by : (m n : State) (call : Call) (reply : Reply) (o : Option Refusal) → refusal m call ≡ o → step m call ≡ (n, Done reply) → refusal m call ≡ None
