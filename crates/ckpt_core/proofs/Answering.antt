@@ -5,4 +5,5 @@ pub mod Reads
 pub mod RefusalLookups
 pub mod RefusalRepeats
 pub mod RefusalRows
+pub mod Reports
 pub mod StepCases

@@ -1,9 +1,10 @@
-ghost use Rattle.std.specs.Prelude.{◌≡◌, ◌↔◌, true, None, Some, Err, IfOk, OnErr};
+ghost use Rattle.std.specs.Prelude.{◌≡◌, ◌↔◌, true, false, None, Some, Err, IfOk, OnErr};
 ghost use Rattle.std.specs.Result.{result_err};
 ghost use Rattle.ckpt_ids.specs.declared.reply.Answer.TheVariants.{Done};
 ghost use Rattle.ckpt_ids.specs.declared.reply.Refusal.{Refusal};
+ghost use Rattle.ckpt_ids.specs.declared.reply.Refusal.TheVariants.{NotTaken};
 ghost use Rattle.ckpt_core.specs.Coordinator.{IsCall, may_want_memory, open_fault, opened, refusal, step};
-ghost use Rattle.ckpt_core.specs.Inside.Parts.{Answers, AreSound, IsAccepted, Stays, state_of, takes_no_memory};
+ghost use Rattle.ckpt_core.specs.Inside.Parts.{Answers, AreSound, IsAccepted, Stays, early_refusal, is_report, never_fails, state_of};
 
 use crate::parts::Parts;
 use crate::triggers::Ticked;
@@ -146,13 +147,25 @@ impl Core {
         ensures unchanged { OnErr result (self.new ≡ self.old) }
     {
         recall_shape(call);
-        if let Some(why) = self.parts.refusal(call) {
+        if let Some(why) = self.parts.early_refusal(call) {
             return Err(CoreFault::Refused(why));
         }
         match self.parts.answer(call) {
             Ok(reply) => Ok(reply),
-            Err(_) => Err(CoreFault::Memory),
+            Err(_) => Err(fault_of(call)),
         }
+    }
+}
+
+/// Why a call that passed the early test has changed nothing. A report alone is not tested before:
+/// the outbox answers it by the look-up that it makes anyway.
+fn fault_of(call: &Call) -> CoreFault
+    ensures report { is_report call.now ≡ true → result ≡ CoreFault.Refused NotTaken }
+    ensures other { is_report call.now ≡ false → result ≡ CoreFault.Memory }
+{
+    match call {
+        Call::Deleted { .. } | Call::Undeleted { .. } => CoreFault::Refused(Refusal::NotTaken),
+        _ => CoreFault::Memory,
     }
 }
 
@@ -170,14 +183,18 @@ fn recall_shape(call: &Call)
 }
 
 impl Parts {
-    /// Makes a call that is not refused. What makes it stands apart for each kind of call, since a
-    /// function clears the locals of all that is inlined into it.
+    /// Makes a call that passed the early test. The error is of no size, and [`fault_of`] tells what
+    /// it stands for: of a report that its file is not taken, else want of memory.
+    ///
+    /// What makes the call stands apart for each kind, since a function clears the locals of all
+    /// that is inlined into it.
     fn answer(&mut self, call: &Call) -> Result<Reply, AllocError>
         requires sound { AreSound self.old }
-        requires accepted { IsAccepted self.old call.now }
+        requires accepted { early_refusal (state_of self.old) call.now ≡ None }
         ensures ok { IfOk result (Answers self.old self.new call.now) }
         ensures err { OnErr result (Stays self.old self.new) }
-        ensures memory { OnErr result (may_want_memory (state_of self.old) call.now ≡ true) }
+        ensures memory { OnErr result (is_report call.now ≡ false → may_want_memory (state_of self.old) call.now ≡ true) }
+        ensures not_taken { OnErr result (is_report call.now ≡ true → refusal (state_of self.old) call.now ≡ Some NotTaken) }
     {
         match call {
             Call::Tick { now } => {
@@ -199,17 +216,19 @@ impl Parts {
             } => self.restore_in(*now, *target, shape),
             Call::Take { most } => self.take(*most),
             Call::Show { id } => self.show(*id),
+            Call::Deleted { file } => self.deleted(*file),
+            Call::Undeleted { file } => self.undeleted(*file),
             _ => Ok(self.answer_in_place(call)),
         }
     }
 
-    /// Makes a call that takes no memory. It stands apart, so that `answer` keeps no reply of these
-    /// calls beside its result.
+    /// Makes a call that takes no memory and is no report. It stands apart, so that `answer` keeps no
+    /// reply of these calls beside its result.
     #[inline(never)]
     fn answer_in_place(&mut self, call: &Call) -> Reply
         requires sound { AreSound self.old }
         requires accepted { IsAccepted self.old call.now }
-        requires in_place { takes_no_memory call.now ≡ true }
+        requires in_place { never_fails call.now ≡ true }
         ensures { Answers self.old self.new call.now result }
     {
         match call {
@@ -221,8 +240,6 @@ impl Parts {
                 shape: None,
             } => self.restore(*now, *target),
             Call::Cancel { now } => self.cancel(*now),
-            Call::Deleted { file } => self.deleted(*file),
-            Call::Undeleted { file } => self.undeleted(*file),
             Call::Count { file } => self.count(*file),
             _ => unreachable!(),
         }

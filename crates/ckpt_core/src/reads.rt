@@ -1,8 +1,10 @@
 ghost use Rattle.std.specs.Prelude.{◌≡◌, Some, IsSome, IfOk, OnErr, option_map};
 ghost use Rattle.ckpt_ids.specs.Records.{metadata_of};
 ghost use Rattle.ckpt_ids.specs.declared.call.Call.TheVariants as call;
+ghost use Rattle.ckpt_ids.specs.declared.reply.Refusal.TheVariants.{NotTaken};
 ghost use Rattle.ckpt_core.specs.Inside.Parts.{Answers, AreSound, IsAccepted, Stays, records_in, state_of};
 ghost use Rattle.ckpt_core.specs.Inside.RecordFacts.{IsInOrder, id_before};
+ghost use Rattle.ckpt_core.specs.Refusals.{refusal};
 ghost use Rattle.ckpt_core.specs.State.{record_of};
 
 use crate::parts::Parts;
@@ -21,26 +23,32 @@ impl Parts {
         Ok(Reply::Taken(self.outbox.take(most)?))
     }
 
-    /// A fetched file is deleted.
+    /// A fetched file is deleted. Answers an error exactly where the file is not taken.
     #[inline(never)]
-    pub(crate) fn deleted(&mut self, file: FileId) -> Reply
-        requires sound { AreSound self.old }
-        requires accepted { IsAccepted self.old (call.Deleted file) }
-        ensures { Answers self.old self.new (call.Deleted file) result }
+    pub(crate) fn deleted(&mut self, file: FileId) -> Result<Reply, AllocError>
+        requires { AreSound self.old }
+        ensures ok { IfOk result (Answers self.old self.new (call.Deleted file)) }
+        ensures err { OnErr result (Stays self.old self.new) }
+        ensures not_taken { OnErr result (refusal (state_of self.old) (call.Deleted file) ≡ Some NotTaken) }
     {
-        let _ = self.outbox.deleted(file);
-        Reply::Deleted(file)
+        match self.outbox.deleted(file) {
+            Ok(()) => Ok(Reply::Deleted(file)),
+            Err(_) => Err(AllocError),
+        }
     }
 
-    /// A fetched file could not be deleted.
+    /// A fetched file could not be deleted. Answers an error exactly where the file is not taken.
     #[inline(never)]
-    pub(crate) fn undeleted(&mut self, file: FileId) -> Reply
-        requires sound { AreSound self.old }
-        requires accepted { IsAccepted self.old (call.Undeleted file) }
-        ensures { Answers self.old self.new (call.Undeleted file) result }
+    pub(crate) fn undeleted(&mut self, file: FileId) -> Result<Reply, AllocError>
+        requires { AreSound self.old }
+        ensures ok { IfOk result (Answers self.old self.new (call.Undeleted file)) }
+        ensures err { OnErr result (Stays self.old self.new) }
+        ensures not_taken { OnErr result (refusal (state_of self.old) (call.Undeleted file) ≡ Some NotTaken) }
     {
-        let _ = self.outbox.undeleted(file);
-        Reply::Undeleted(file)
+        match self.outbox.undeleted(file) {
+            Ok(()) => Ok(Reply::Undeleted(file)),
+            Err(_) => Err(AllocError),
+        }
     }
 
     /// The metadata of a live record.

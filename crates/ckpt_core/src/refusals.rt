@@ -1,10 +1,10 @@
 ghost use Rattle.std.specs.Prelude.{◌≡◌, ◌++◌, ◌+◌, ◌==◌, ℕ, List, find, not, nat_le, option_copied, option_map, Option, Some};
 ghost use Rattle.std.specs.List.{list_any};
 ghost use Rattle.std.specs.Result.{result_err};
-ghost use Rattle.ckpt_ids.specs.declared.call.Call.TheVariants.{Tick, Savepoint, Ack, Decline, Dispose, Restore, Cancel, Deleted, Show};
+ghost use Rattle.ckpt_ids.specs.declared.call.Call.TheVariants.{Tick, Savepoint, Ack, Decline, Dispose, Restore, Cancel, Show};
 ghost use Rattle.ckpt_ids.specs.declared.reply.Refusal.TheVariants.{NotRunning, TooManyFiles, RepeatedFile, UnknownCheckpoint, NameTaken, FileGone, IdsUsedUp};
 ghost use Rattle.ckpt_core.specs.Inside.FileFacts.{IsAscending, is_present};
-ghost use Rattle.ckpt_core.specs.Inside.Parts.{AreSound, is_known_in, part_refusal, records_in, state_of, with_pins};
+ghost use Rattle.ckpt_core.specs.Inside.Parts.{AreSound, early_refusal, is_known_in, part_refusal, records_in, state_of, with_pins};
 ghost use Rattle.ckpt_core.specs.Refusals.{files_refusal, has_repeats, is_cancelled, is_done_savepoint, is_foreign, is_running, moment_too_large, named, pending_of, refusal, refuse_if, savepoints, was_not_given};
 
 use crate::mode::Mode;
@@ -82,17 +82,18 @@ fn is_among(file: FileId, files: &[FileId]) -> bool
 }
 
 impl Parts {
-    /// Why the call is refused, if it is. Takes no memory, and changes nothing.
-    pub(crate) fn refusal(&self, call: &Call) -> Option<Refusal>
+    /// Why the call is refused before it is made, if it is. A report alone is not tested here: the
+    /// outbox answers it by the look-up that it makes anyway. Takes no memory, and changes nothing.
+    pub(crate) fn early_refusal(&self, call: &Call) -> Option<Refusal>
         requires { AreSound self.now }
-        ensures { result ≡ refusal (state_of self.now) call.now }
+        ensures { result ≡ early_refusal (state_of self.now) call.now }
     {
         self.test(call).err()
     }
 
     fn test(&self, call: &Call) -> Result<(), Refusal>
         requires { AreSound self.now }
-        ensures { result_err result ≡ refusal (state_of self.now) call.now }
+        ensures { result_err result ≡ early_refusal (state_of self.now) call.now }
     {
         match call {
             Call::Tick { now } => self.test_tick(*now),
@@ -108,9 +109,11 @@ impl Parts {
             Call::Dispose { id } => self.test_dispose(*id),
             Call::Restore { now, target, .. } => self.test_restore(*now, *target),
             Call::Cancel { now } => self.test_cancel(*now),
-            Call::Deleted { file } | Call::Undeleted { file } => self.test_taken(*file),
             Call::Show { id } => self.test_show(*id),
-            Call::Take { .. } | Call::Count { .. } => Ok(()),
+            Call::Take { .. }
+            | Call::Deleted { .. }
+            | Call::Undeleted { .. }
+            | Call::Count { .. } => Ok(()),
         }
     }
 
@@ -208,13 +211,6 @@ impl Parts {
     {
         test_moment(now)?;
         self.test_not_cancelled()
-    }
-
-    /// Tests a report on a file that was fetched for deletion.
-    fn test_taken(&self, file: FileId) -> Result<(), Refusal>
-        ensures { result_err result ≡ refusal (state_of self.now) (Deleted file) }
-    {
-        refuse_if(!self.outbox.is_taken(file), Refusal::NotTaken)
     }
 
     fn test_show(&self, id: CheckpointId) -> Result<(), Refusal>

@@ -2,11 +2,10 @@ ghost use Rattle.std.specs.Prelude.{◌≡◌, ℕ, ◌<◌, ◌^◌, ◌≤◌,
 ghost use Rattle.ckpt_ids.specs.declared.call.Call.TheVariants as call;
 ghost use Rattle.ckpt_ids.specs.declared.reply.Answer.TheVariants as answer;
 ghost use Rattle.ckpt_ids.specs.declared.reply.Reply.TheVariants as reply;
-ghost use Rattle.ckpt_rules.specs.declared.hold.Hold.TheVariants as hold;
 ghost use Rattle.ckpt_core.specs.declared.mode.Mode.TheVariants.{Running};
 ghost use Rattle.ckpt_core.specs.Coordinator.{IsSound, answer_wants, may_want_memory};
 ghost use Rattle.ckpt_core.specs.Inside.Parts.{Answers, AreSound, AreTied, IsAccepted, Stays, records_in, state_of};
-ghost use Rattle.ckpt_core.specs.Inside.Starting.{HasNoUse, IsIn, IsInOrder, NUMBERS_END, Pin, Starts, count, files_chosen, held_at, pinned, tick, triggered, use_before};
+ghost use Rattle.ckpt_core.specs.Inside.Starting.{Go, HasNoUse, IsIn, IsInOrder, NUMBERS_END, Pin, Starts, count, files_chosen, held_at, pinned, tick, triggered, use_before};
 
 use crate::parts::Parts;
 use ckpt_ids::{CheckpointId, Choice, Kind, Reply, Shape, TickEnd};
@@ -192,7 +191,7 @@ impl Parts {
         requires next { self.old.next < NUMBERS_END }
         ensures ok { IfOk result (λ end. Starts (state_of self.old) pending (state_of self.new) end) }
         ensures err { OnErr result (state_of self.new ≡ state_of self.old) }
-        ensures memory { OnErr result (held_at (state_of self.old) pending ≡ hold.Go) }
+        ensures memory { OnErr result (held_at (state_of self.old) pending ≡ Go) }
         ensures tied { AreTied self.new }
         ensures noted { self.new.ended.items ≡ self.old.ended.items }
     {

@@ -1,7 +1,7 @@
 -- Calls that read, and those that move a file in the outbox.
 use Rattle.std.proofs.Common.{◌≡◌, ℕ, List, [], ◌∷◌, ◌++◌, take, refl, sym, ap, ◌∙◌, arith, Option, Some, None}
 use Rattle.std.specs.Prelude as prelude
-use Rattle.std.specs.Prelude.{find, IsSome, Result, Ok, Err, IsErr, IfOk, OnOk}
+use Rattle.std.specs.Prelude.{find, IsSome, Result, Ok, Err, IfOk}
 use Rattle.std.specs.Borrow.{Bor}
 use Rattle.std.specs.Option.{option_map, option_copied}
 use Rattle.ckpt_ids.specs.declared.ack.Metadata.{Metadata}
@@ -128,10 +128,6 @@ shown_answers p id metadata sound accepted is = record {
 }
 
 -- results
-
-pub not_err : {T E : Type 0} (r : Result T E) (P : Type 0) → (IsErr r → ⊥) → OnOk r P → P
-not_err (Ok x) P never h = h
-not_err (Err e) P never h = absurd (never refl)
 
 pub for_ok : {T E : Type 0} (r : Result T E) (P Q : T → Type 0) → ((x : T) → P x → Q x) → IfOk r P → IfOk r Q
 for_ok (Ok x) P Q follows h = follows x h

@@ -1,9 +1,7 @@
 -- The rows of the table of refusals, one after the other.
-use Rattle.std.proofs.Common.{◌≡◌, ℕ, List, [], ◌∷◌, ◌++◌, refl, sym, ap, ◌∙◌, Option, Some, None}
+use Rattle.std.proofs.Common.{◌≡◌, List, [], ◌∷◌, ◌++◌, refl, sym, ap, ◌∙◌, Option, Some, None}
 use Rattle.ckpt_ids.specs.declared.reply.Refusal.{Refusal}
-use Rattle.ckpt_ids.specs.declared.call.Call.TheVariants.{Deleted, Undeleted}
-use Rattle.ckpt_core.specs.State.{State}
-use Rattle.ckpt_core.specs.Refusals.{first_some, refusal}
+use Rattle.ckpt_core.specs.Refusals.{first_some}
 
 -- the row that holds decides
 pub row_holds : (why : Refusal) (row : Option Refusal) (rows : List (Option Refusal)) → Some why ≡ row → Some why ≡ first_some (row ∷ rows)
@@ -39,8 +37,3 @@ pub rows_only : (rows more : List (Option Refusal)) → first_some more ≡ None
 rows_only [] more e = sym e
 rows_only (Some why ∷ rows) more e = refl
 rows_only (None ∷ rows) more e = rows_only rows more e
-
--- reports on a file are refused alike
-pub same_reports : (m : State) (file : ℕ) → refusal m (Deleted file) ≡ refusal m (Undeleted file)
-unfolding refusal
-same_reports m file = refl

@@ -1,10 +1,10 @@
 -- The parts of a coordinator, seen as its state, and what ties them to one another.
-use Rattle.std.specs.Prelude.{◌≡◌, ℕ, ◌≤◌, Bool, true, false, ◌||◌, ◌==◌, List, [], ◌++◌, map, length, unwrap_or, None, not, ◌∷◌, find, Option, Some, is_none}
+use Rattle.std.specs.Prelude.{◌≡◌, ℕ, ◌≤◌, Bool, true, false, ◌||◌, ◌==◌, List, [], ◌++◌, map, length, unwrap_or, None, not, ◌∷◌, find, Option, Some, is_none, if◌then◌else◌}
 use Rattle.std.specs.List.{list_any}
 use Rattle.std.specs.Vec.{vec_capacity}
 use Rattle.ckpt_ids.specs.Ascending.{ascending_set}
 use Rattle.ckpt_ids.specs.declared.call.Call.{Call}
-use Rattle.ckpt_ids.specs.declared.call.Call.TheVariants.{Tick, Savepoint, Ack, Restore, Take, Show}
+use Rattle.ckpt_ids.specs.declared.call.Call.TheVariants.{Tick, Savepoint, Ack, Restore, Take, Deleted, Undeleted, Show}
 use Rattle.ckpt_ids.specs.declared.reply.Reply.{Reply}
 use Rattle.ckpt_ids.specs.declared.reply.Answer.TheVariants.{Done}
 use Rattle.ckpt_ids.specs.Ordered.{IsIn}
@@ -112,12 +112,24 @@ part_refusal p r subtask fresh reused = first_some (
     ∷ named FileGone (find (λ f. not (is_present p.registry f)) reused)
     ∷ [])
 
--- whether the call takes no memory, whatever its answer
-abbrev pub takes_no_memory : Call → Bool
-takes_no_memory (Tick now) = false
-takes_no_memory (Savepoint now) = false
-takes_no_memory (Ack now id subtask fresh reused) = false
-takes_no_memory (Restore now target shape) = is_none shape
-takes_no_memory (Take most) = false
-takes_no_memory (Show id) = false
-takes_no_memory call = true
+-- whether the call reports what became of a file that was fetched for deletion
+abbrev pub is_report : Call → Bool
+is_report (Deleted file) = true
+is_report (Undeleted file) = true
+is_report call = false
+
+-- Why the call is refused before it is made. A report is not tested so: the outbox answers it by the look-up that it makes anyway.
+abbrev pub early_refusal : State → Call → Option Refusal
+early_refusal m call = if is_report call then None else refusal m call
+
+-- whether the call, once it is accepted, is answered in any case: it takes no memory, and is no report
+abbrev pub never_fails : Call → Bool
+never_fails (Tick now) = false
+never_fails (Savepoint now) = false
+never_fails (Ack now id subtask fresh reused) = false
+never_fails (Restore now target shape) = is_none shape
+never_fails (Take most) = false
+never_fails (Deleted file) = false
+never_fails (Undeleted file) = false
+never_fails (Show id) = false
+never_fails call = true

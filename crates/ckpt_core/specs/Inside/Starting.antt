@@ -6,6 +6,7 @@ use Rattle.ckpt_ids.specs.declared.reply.TickEnd.{TickEnd}
 use Rattle.ckpt_ids.specs.declared.reply.Reply.TheVariants.{Ticked}
 use Rattle.ckpt_ids.specs.declared.reply.Answer.TheVariants.{Done}
 use Rattle.ckpt_rules.specs.declared.hold.Hold.{Hold}
+pub use Rattle.ckpt_rules.specs.declared.hold.Hold.TheVariants.{Go}
 use Rattle.ckpt_rules.specs.Trigger.{hold}
 use Rattle.ckpt_ids.specs.declared.reply.Choice.{Choice}
 use Rattle.ckpt_ids.specs.declared.reply.Choice.TheVariants as choice

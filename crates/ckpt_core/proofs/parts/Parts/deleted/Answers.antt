@@ -1,14 +1,19 @@
--- The file is taken, since the call was not refused.
-use Rattle.std.proofs.lemmas.Bool.{both_ways}
-use Rattle.ckpt_core.specs.Inside.Parts.{state_of}
+-- The outbox tells whether the file was fetched.
+use Rattle.std.proofs.Common.{true, false, refl}
 use Rattle.ckpt_outbox.specs.Queues.{is_taken}
-use Rattle.ckpt_core.proofs.Answering.Accepted.{accepted_deleted}
-use Rattle.ckpt_core.proofs.Answering.Reads.{deleted_answers, not_err}
+use Rattle.ckpt_core.specs.Inside.Parts.{state_of}
+use Rattle.ckpt_core.proofs.Answering.Reads.{deleted_answers}
+use Rattle.ckpt_core.proofs.Answering.Reports.{refusal_deleted, taken_if}
 use Rattle.ckpt_core.proofs.parts.Parts.deleted.Goals as goal
 
-pub returns : goal.returns
+pub returns-in-Ok-clause-ok : goal.returns-in-Ok-clause-ok
 unfolding state_of
-returns c =
+returns-in-Ok-clause-ok c =
     let p = c.args.self.now in
-    deleted_answers p c.args.file c.deleted.new.self c.requires.sound c.requires.accepted
-    (not_err c.deleted.result _ (λ e. both_ways (is_taken p.outbox c.args.file) (c.deleted.ensures.refused.0 e) (accepted_deleted (state_of p) c.args.file c.requires.accepted)) c.deleted.ensures.ok)
+    let file = c.args.file in
+    let taken = taken_if (is_taken p.outbox file) _ (λ e. cc) c.in-Ok.ensures.refused.1 in
+    deleted_answers p file c.deleted.new.self c.requires (refusal_deleted (state_of p) file true taken) c.in-Ok.ensures.ok
+
+pub returns-in-Err-clause-not_taken : goal.returns-in-Err-clause-not_taken
+unfolding state_of
+returns-in-Err-clause-not_taken c = refusal_deleted (state_of c.args.self.now) c.args.file false (c.in-Err.ensures.refused.0 refl)

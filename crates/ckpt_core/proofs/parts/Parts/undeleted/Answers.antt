@@ -1,14 +1,19 @@
--- The file is taken, since the call was not refused.
-use Rattle.std.proofs.lemmas.Bool.{both_ways}
-use Rattle.ckpt_core.specs.Inside.Parts.{state_of}
+-- The outbox tells whether the file was fetched.
+use Rattle.std.proofs.Common.{true, false, refl}
 use Rattle.ckpt_outbox.specs.Queues.{is_taken}
-use Rattle.ckpt_core.proofs.Answering.Accepted.{accepted_undeleted}
-use Rattle.ckpt_core.proofs.Answering.Reads.{undeleted_answers, not_err}
+use Rattle.ckpt_core.specs.Inside.Parts.{state_of}
+use Rattle.ckpt_core.proofs.Answering.Reads.{undeleted_answers}
+use Rattle.ckpt_core.proofs.Answering.Reports.{refusal_undeleted, taken_if}
 use Rattle.ckpt_core.proofs.parts.Parts.undeleted.Goals as goal
 
-pub returns : goal.returns
+pub returns-in-Ok-clause-ok : goal.returns-in-Ok-clause-ok
 unfolding state_of
-returns c =
+returns-in-Ok-clause-ok c =
     let p = c.args.self.now in
-    undeleted_answers p c.args.file c.undeleted.new.self c.requires.sound c.requires.accepted
-    (not_err c.undeleted.result _ (λ e. both_ways (is_taken p.outbox c.args.file) (c.undeleted.ensures.refused.0 e) (accepted_undeleted (state_of p) c.args.file c.requires.accepted)) c.undeleted.ensures.ok)
+    let file = c.args.file in
+    let taken = taken_if (is_taken p.outbox file) _ (λ e. cc) c.in-Ok.ensures.refused.1 in
+    undeleted_answers p file c.undeleted.new.self c.requires (refusal_undeleted (state_of p) file true taken) c.in-Ok.ensures.ok
+
+pub returns-in-Err-clause-not_taken : goal.returns-in-Err-clause-not_taken
+unfolding state_of
+returns-in-Err-clause-not_taken c = refusal_undeleted (state_of c.args.self.now) c.args.file false (c.in-Err.ensures.refused.0 refl)

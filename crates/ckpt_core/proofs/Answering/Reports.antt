@@ -1,0 +1,58 @@
+-- Reports on files, which are not tested before they are made: the outbox tells whether the file was fetched.
+use Rattle.std.proofs.Common.{◌≡◌, ℕ, Bool, true, false, not, eqb, [], ◌∷◌, refl, sym, ap, ◌∙◌, Option, Some, None}
+use Rattle.std.specs.Prelude.{if◌then◌else◌}
+use Rattle.std.specs.List.{list_any}
+use Rattle.ckpt_ids.specs.declared.call.Call.{Call}
+use Rattle.ckpt_ids.specs.declared.call.Call.TheVariants.{Deleted, Undeleted}
+use Rattle.ckpt_ids.specs.declared.reply.Reply.{Reply}
+use Rattle.ckpt_ids.specs.declared.reply.Answer.{Answer}
+use Rattle.ckpt_ids.specs.declared.reply.Answer.TheVariants.{Done, Refused}
+use Rattle.ckpt_ids.specs.declared.reply.Refusal.{Refusal}
+use Rattle.ckpt_ids.specs.declared.reply.Refusal.TheVariants.{NotTaken}
+use Rattle.ckpt_core.specs.Inside.Parts.{early_refusal, is_report}
+use Rattle.ckpt_core.specs.Refusals.{first_some, refuse_if, refusal}
+use Rattle.ckpt_core.specs.State.{State}
+use Rattle.ckpt_core.specs.Steps.{Stepped, step}
+use Rattle.ckpt_core.proofs.Answering.StepCases.{step_refused}
+
+-- the rows of a report
+
+-- the row on the file alone
+abbrev taken_row : Bool → Option Refusal
+taken_row taken = first_some (refuse_if (not taken) NotTaken ∷ None ∷ None ∷ [])
+
+pub refusal_deleted : (m : State) (file : ℕ) (taken : Bool) → list_any (λ f. eqb f file) m.taken ≡ taken → refusal m (Deleted file) ≡ (if taken then None else Some NotTaken)
+unfolding refusal
+refusal_deleted m file true e = ap taken_row e
+refusal_deleted m file false e = ap taken_row e
+
+pub refusal_undeleted : (m : State) (file : ℕ) (taken : Bool) → list_any (λ f. eqb f file) m.taken ≡ taken → refusal m (Undeleted file) ≡ (if taken then None else Some NotTaken)
+unfolding refusal
+refusal_undeleted m file true e = ap taken_row e
+refusal_undeleted m file false e = ap taken_row e
+
+-- what is not false is true
+pub taken_if : (taken : Bool) (P : Type 0) → (P → ⊥) → (taken ≡ false → P) → taken ≡ true
+taken_if true P never h = refl
+taken_if false P never h = absurd (never (h refl))
+
+-- the early test
+
+-- of a call that is no report it tells all
+refusal_early : (m : State) (call : Call) → is_report call ≡ false → early_refusal m call ≡ refusal m call
+refusal_early m call e = ap (λ (b : Bool). (if b then None else refusal m call)) e
+
+-- a call that passed it and is no report is accepted
+pub accepted_early : (m : State) (call : Call) → is_report call ≡ false → early_refusal m call ≡ None → refusal m call ≡ None
+accepted_early m call e h = sym (refusal_early m call e) ∙ h
+
+-- a call that is done was not refused
+accepted_by : (m n : State) (call : Call) (reply : Reply) (o : Option Refusal) → refusal m call ≡ o → step m call ≡ (n, Done reply) → refusal m call ≡ None
+accepted_by m n call reply None e h = e
+accepted_by m n call reply (Some why) e h =
+    let answer : Stepped → Answer = λ stepped. stepped.1 in
+    let both : Refused why ≡ Done reply = ap answer (sym (step_refused m call why e) ∙ h) in
+    absurd (cc)
+
+pub accepted_done : (m n : State) (call : Call) (reply : Reply) → step m call ≡ (n, Done reply) → refusal m call ≡ None
+accepted_done m n call reply h = accepted_by m n call reply (refusal m call) refl h
