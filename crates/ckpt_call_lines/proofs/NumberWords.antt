@@ -1,5 +1,5 @@
 -- The words of numbers, subtasks and files, and what they are read as.
-use Rattle.std.proofs.Common.{◌≡◌, ℕ, zero, suc, ◌+◌, ◌^◌, ◌<◌, ◌≤◌, Bool, true, false, cond, not, ◌&&◌, ltb, leb, eqb, List, [], ◌∷◌, ◌++◌, length, take, drop, Some, None, Ok, Err, refl, sym, ap, subst, ◌∙◌, arith, lt-ltb}
+use Rattle.std.proofs.Common.{◌≡◌, ℕ, suc, ◌+◌, ◌^◌, ◌<◌, true, false, eqb, List, [], ◌∷◌, ◌++◌, length, take, drop, Some, Ok, refl, ap, ◌∙◌, arith, lt-ltb}
 use Rattle.std.specs.Prelude.{map, codes, decimal}
 use Rattle.std.specs.List.{filter_map, position_or_len}
 use Rattle.std.specs.Char.{is_ascii_digit}
@@ -13,10 +13,9 @@ use Rattle.ckpt_ids.specs.declared.subtask.SubtaskId.{SubtaskId}
 use Rattle.ckpt_ids.specs.declared.call.Target.TheVariants as target
 use Rattle.ckpt_ids.specs.Ascending.{IsAscending, ascending}
 use Rattle.ckpt_ids.proofs.AscendingLemmas.{same_from_times, times-ascending, IsAscending-ascending}
-use Rattle.ckpt_lines.specs.declared.values.FileWord.{FileWord}
 use Rattle.ckpt_lines.specs.declared.values.FileWord.TheVariants.{Fresh, Reused}
 use Rattle.ckpt_lines.specs.Reading.{number_place, subtask_place, target_place, each, file_places}
-use Rattle.ckpt_lines.specs.Values.{is_dot, is_number, number, number_of, part_of, subtask_of, target_of, file_word, fresh_file, reused_file}
+use Rattle.ckpt_lines.specs.Values.{is_dot, number, number_of, part_of, subtask_of, target_of, file_word, fresh_file, reused_file}
 use Rattle.ckpt_call_lines.specs.CallTexts.{Fits, FitsSubtask}
 use Rattle.ckpt_call_lines.proofs.LineLemmas.{IsPlain, Each, each_append}
 

@@ -1,8 +1,7 @@
 -- The line of each call is read as that call.
-use Rattle.std.proofs.Common.{◌≡◌, ℕ, ◌<◌, ◌≤◌, ◌^◌, Bool, true, false, List, [], ◌∷◌, ◌++◌, Some, None, Option, Ok, refl, sym, ap, subst, ◌∙◌, arith, length, append_assoc}
+use Rattle.std.proofs.Common.{◌≡◌, ℕ, ◌<◌, Bool, true, false, List, [], ◌∷◌, ◌++◌, Option, Ok, refl, sym, ap, subst, ◌∙◌, arith, append_assoc}
 use Rattle.std.specs.Prelude.{All, map, flat_map, codes, decimal}
 use Rattle.ckpt_ids.specs.declared.subtask.SubtaskId.{SubtaskId}
-use Rattle.ckpt_ids.specs.declared.call.Target.{Target}
 use Rattle.ckpt_ids.specs.declared.call.Target.TheVariants as target
 use Rattle.ckpt_ids.specs.declared.call.Call.{Call}
 use Rattle.ckpt_ids.specs.declared.call.Call.TheVariants as call
@@ -15,7 +14,7 @@ use Rattle.ckpt_lines.specs.Keywords.{keyword_of}
 use Rattle.ckpt_lines.specs.Reading.{line_of, row, number_line, job_line, ack_line, decline_line, restore_line, config_line, retention_place, ended}
 use Rattle.ckpt_texts.specs.Texts.{spaced}
 use Rattle.ckpt_texts.specs.MetadataTexts.{subtask_bytes}
-use Rattle.ckpt_call_lines.specs.CallTexts.{call_text, triggers_text, limits_text, subtask_text, fresh_text, reused_text, line_of_call, config_text, line_of_config, job_text, start_text, retention_text, parallelisms, Fits, FitsSubtask, FitsTarget, FitsCall, IsReadAs}
+use Rattle.ckpt_call_lines.specs.CallTexts.{call_text, triggers_text, limits_text, subtask_text, fresh_text, reused_text, line_of_call, config_text, line_of_config, job_text, start_text, retention_text, parallelisms, Fits, FitsSubtask, FitsCall, IsReadAs}
 use Rattle.ckpt_call_lines.proofs.LineLemmas.{Each, from_all, IsPlain, IsWritten, last, next, each_next, each_before, plain_by, reading-written}
 use Rattle.ckpt_call_lines.proofs.NumberWords.{subtask_word, plain_number, plain_numbers, plain_subtask, plain_files, number_place-decimal, subtask_place-word, target_place-decimal, target_place-latest, each-numbers, file_places-words}
 

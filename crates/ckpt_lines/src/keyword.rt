@@ -67,7 +67,7 @@ fn spelling(keyword: Keyword) -> &'static [u8]
     }
 }
 
-/// The keyword that is spelled so, or `None`.
+/// The keyword that is spelled so, or `None`. The word is compared with one keyword after the other.
 pub(crate) fn keyword_of(word: &[u8]) -> Option<Keyword>
     ensures { result ≡ keyword_of word.now }
 {
@@ -77,9 +77,12 @@ pub(crate) fn keyword_of(word: &[u8]) -> Option<Keyword>
         .copied()
 }
 
-/// The keyword that the text begins with, and what follows the space after it. `None` for most keywords,
-/// and where no space follows: those that most lines begin with are told from their bytes at once, as
-/// a long script has hundreds of thousands of them.
+/// The keyword that the text begins with, and what follows the space after it. `None` where the text
+/// begins with none of these, or no space follows at once: the line may still begin with a keyword.
+///
+/// Most lines of a long script begin with these, and it has hundreds of thousands of lines: so they are
+/// told from their bytes, before the word's end is known. The bytes stand one by one, since a byte
+/// string is no pattern for the front of a slice.
 pub(crate) fn usual_keyword(text: &[u8]) -> Option<(Keyword, &[u8])>
     ensures { IfSome result (λ found. words_of text.now ≡ spelling found.0 ∷ words_of found.1.now) }
 {
@@ -100,7 +103,7 @@ pub(crate) fn usual_keyword(text: &[u8]) -> Option<(Keyword, &[u8])>
     }
 }
 
-/// As [`usual_keyword`], for the longest of them.
+/// As [`usual_keyword`], which asks here last, for the two longest of them: their bytes take a line each.
 fn long_keyword(text: &[u8]) -> Option<(Keyword, &[u8])>
     ensures { IfSome result (λ found. words_of text.now ≡ spelling found.0 ∷ words_of found.1.now) }
 {

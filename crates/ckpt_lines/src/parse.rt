@@ -17,7 +17,7 @@ fn without_return(line: &[u8]) -> &[u8]
     line.strip_suffix(b"\r").unwrap_or(line)
 }
 
-/// As [`first_keyword`], by the first word's end: it is found before the word is compared.
+/// As [`first_keyword`], for every line: the first word's end is found before the word is compared.
 #[tactic(auto, unfolding(crate::specs::Reading::line_of))]
 #[inline(never)]
 fn any_keyword(words: &mut Words<'_>) -> Result<Option<Keyword>, LineFault>
@@ -33,7 +33,8 @@ fn any_keyword(words: &mut Words<'_>) -> Result<Option<Keyword>, LineFault>
     Ok(Some(keyword))
 }
 
-/// The keyword of the first word, or `None` where the line is skipped.
+/// The keyword of the first word, or `None` where the line is skipped. The usual ones are tried first, as
+/// they are told faster.
 fn first_keyword(words: &mut Words<'_>) -> Result<Option<Keyword>, LineFault>
     ensures { Begins result words.old words.new }
 {

@@ -117,7 +117,8 @@ impl<'a> Words<'a> {
         Words { rest: text }
     }
 
-    /// Takes the next word where it is one that most lines begin with and a space stands after it.
+    /// Takes the next word where it is a keyword that most lines begin with, with no space before it
+    /// and one after it. Else `None`, and no word is taken.
     pub(crate) fn usual_keyword(&mut self) -> Option<Keyword>
         ensures { Takes result self.old self.new }
     {

@@ -4,10 +4,15 @@ use itoa::Buffer;
 use std::alloc::AllocError;
 
 /// Appends the digits of the number.
+#[tactic(auto, using(std::proofs::lemmas::Fmt::decimal_digit))]
 #[inline(never)]
 fn write_digits(text: &mut String, number: u64) -> Result<(), AllocError>
     ensures { OnOk result (string_bytes text.new ≡ string_bytes text.old ++ decimal number) }
 {
+    // Most counts are of one digit.
+    if number < 10 {
+        return text.push(char::from(b'0' + number as u8));
+    }
     text.push_str(Buffer::new().format(number))
 }
 
