@@ -23,7 +23,8 @@ impl Parts {
         Ok(Reply::Taken(self.outbox.take(most)?))
     }
 
-    /// A fetched file is deleted. Answers an error exactly where the file is not taken.
+    /// A fetched file is deleted. Answers the error exactly where the file is not taken. It is of the
+    /// type that `answer` hands on as it is, and of a report never means want of memory.
     #[inline(never)]
     pub(crate) fn deleted(&mut self, file: FileId) -> Result<Reply, AllocError>
         requires { AreSound self.old }
@@ -37,7 +38,7 @@ impl Parts {
         }
     }
 
-    /// A fetched file could not be deleted. Answers an error exactly where the file is not taken.
+    /// A fetched file could not be deleted. Answers the error as `deleted` does.
     #[inline(never)]
     pub(crate) fn undeleted(&mut self, file: FileId) -> Result<Reply, AllocError>
         requires { AreSound self.old }
