@@ -6,7 +6,7 @@ use Rattle.ckpt_script.specs.Outputs.{Ran}
 use Rattle.ckpt_script.specs.Unread.{Unread}
 use Rattle.ckpt_script.proofs.PassesLemmas.{from_err}
 use Rattle.ckpt_script.proofs.StopLemmas.{so_far_first, cut_none, ran_all, ran_short}
-use Rattle.ckpt_script.proofs.run.run_between_keyed.Goals as goal
+use Rattle.ckpt_script.proofs.runs.run_between_keyed.Goals as goal
 
 pub returns-in_err-runner-clause-ran : goal.returns-in_err-runner-clause-ran
 returns-in_err-runner-clause-ran g c =
