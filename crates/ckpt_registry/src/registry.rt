@@ -216,17 +216,14 @@ impl Registry {
             &mut self.released,
             &[id],
         );
-        // Most savepoints drop no record.
-        if !owners.is_empty() {
-            release_each(
-                &mut self.acknowledged,
-                &mut self.pinned,
-                &mut self.counts,
-                &mut self.released,
-                &mut self.spare,
-                owners,
-            );
-        }
+        release_each(
+            &mut self.acknowledged,
+            &mut self.pinned,
+            &mut self.counts,
+            &mut self.released,
+            &mut self.spare,
+            owners,
+        );
         sort(&mut self.released);
         self.released.as_slice()
     }
