@@ -26,10 +26,10 @@ unfolding refusal
 refusal_deleted m file true e = ap taken_row e
 refusal_deleted m file false e = ap taken_row e
 
+-- both are refused alike
 pub refusal_undeleted : (m : State) (file : ℕ) (taken : Bool) → list_any (λ f. eqb f file) m.taken ≡ taken → refusal m (Undeleted file) ≡ (if taken then None else Some NotTaken)
 unfolding refusal
-refusal_undeleted m file true e = ap taken_row e
-refusal_undeleted m file false e = ap taken_row e
+refusal_undeleted m file taken e = refusal_deleted m file taken e
 
 -- what is not false is true
 pub taken_if : (taken : Bool) (P : Type 0) → (P → ⊥) → (taken ≡ false → P) → taken ≡ true
