@@ -1,9 +1,8 @@
 ghost use Rattle.std.specs.Prelude.{◌≡◌, ◌≤◌, ◌+◌, false, length, take};
-ghost use Rattle.std.specs.List.{position_or_len};
 ghost use Rattle.std.specs.Option.{option_map};
 ghost use Rattle.ckpt_lines.specs.Reading.{Gives, Takes, file_place, number_place};
 ghost use Rattle.ckpt_lines.specs.Values.{number_of};
-ghost use Rattle.ckpt_lines.specs.Words.{begins_with_space, first_length, is_space, words_of};
+ghost use Rattle.ckpt_lines.specs.Words.{begins_with_space, first_length, words_of};
 
 use crate::fault::LineFault;
 use crate::keyword::{Keyword, usual_keyword};
