@@ -20,7 +20,7 @@ const MOST_THREADS: u64 = MOST_SEATS as u64;
 /// An `all` line: each missing subtask of the pending record `id` acknowledges at `moment`, in
 /// milliseconds, with one new file each, numbered from `first` on. The calls are shared out to
 /// `threads` threads.
-#[derive(Clone, Copy, Debug, PartialEq, Eq)]
+#[derive(Clone, Copy, Debug)]
 pub(crate) struct AllLine {
     pub(crate) moment: u64,
     pub(crate) id: CheckpointId,
