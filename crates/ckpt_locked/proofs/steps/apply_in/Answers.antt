@@ -1,4 +1,4 @@
--- The check finds this itself. It is written out since a wrong body is then refused in a third of the time.
+-- docs/DECISIONS.md (What the gate's time is spent on) says why this is written out, which the check finds itself.
 use Rattle.std.proofs.Common.{arith}
 use Rattle.std.proofs.lemmas.Grind.{common_steps}
 use Rattle.ckpt_locked.proofs.steps.apply_in.Goals as goal

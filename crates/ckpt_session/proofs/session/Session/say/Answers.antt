@@ -1,4 +1,4 @@
--- The check finds this itself. It is written out since a wrong body is then refused in a third of the time.
+-- docs/DECISIONS.md (What the gate's time is spent on) says why this is written out, which the check finds itself.
 use Rattle.std.proofs.Common.{rules}
 use Rattle.ckpt_session.proofs.session.Session.say.Goals as goal
 
