@@ -71,9 +71,15 @@ impl From<AllocError> for CoreFault {
 /// What each call does is defined in `specs/Steps.antt`, and when it is refused in
 /// `specs/Refusals.antt`; `specs/Soundness.antt` lists what holds of a coordinator at each moment.
 /// Source: the Flink documentation, "Checkpoints", "Savepoints" and "Checkpointing".
-#[derive(Debug, Drop)]
+#[derive(Debug)]
 pub struct Core {
     pub(crate) parts: Parts,
+}
+
+impl Drop for Core {
+    fn drop(self) {
+        let Core { parts: _ } = self;
+    }
 }
 
 impl Model for Core {

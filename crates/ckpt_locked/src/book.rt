@@ -21,11 +21,17 @@ pub struct Entry {
 /// At each moment the coordinator is the replay of the list from its opening: [`Book::core`] says
 /// so, and what follows from it. All entries are kept in memory, some 100 bytes each, unless
 /// [`Book::keep_last`] says how many; what is promised is of all of them either way.
-#[derive(Debug, Drop)]
+#[derive(Debug)]
 pub struct Book {
     alloc: Global,
     core: Core,
     entries: Recent<Entry>,
+}
+
+impl Drop for Book {
+    fn drop(self) {
+        let Book { alloc: _, core: _, entries: _ } = self;
+    }
 }
 
 impl Model for Book {

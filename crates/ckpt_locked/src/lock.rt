@@ -41,10 +41,15 @@ impl Model for Pass {
 ///
 /// Whenever nobody has the turn, the book in it is a [`Book`] as any other, of which all holds that
 /// [`Book::core`] promises.
-#[derive(Drop)]
 pub struct Locked {
     table: Table<Option<Book>, View, Key, Turns, Global>,
     seats: u32,
+}
+
+impl Drop for Locked {
+    fn drop(self) {
+        let Locked { table: _, seats: _ } = self;
+    }
 }
 
 impl Model for Locked {

@@ -18,7 +18,7 @@ pub struct NotTaken;
 
 /// The files that were handed out: those that wait to be fetched, and those that were taken and are
 /// not yet reported.
-#[derive(Debug, Drop)]
+#[derive(Debug)]
 pub struct Outbox {
     alloc: Global,
     waiting: VecDeque<FileId>,
@@ -27,6 +27,12 @@ pub struct Outbox {
     taken: Taken,
     index: Index,
     spare: u64,
+}
+
+impl Drop for Outbox {
+    fn drop(self) {
+        let Outbox { alloc: _, waiting: _, front: _, taken: _, index: _, spare: _ } = self;
+    }
 }
 
 impl Model for Outbox {

@@ -28,7 +28,7 @@ pub enum AckFault {
 ///
 /// Source of the rule: the Flink documentation, "Checkpoints", and Carbone et al. 2015: a snapshot
 /// is complete when each task has taken its part.
-#[derive(Debug, Drop)]
+#[derive(Debug)]
 pub struct Pending {
     id: CheckpointId,
     kind: Kind,
@@ -38,6 +38,12 @@ pub struct Pending {
     acks: VecDeque<Acked>,
     missing: u32,
     alloc: Global,
+}
+
+impl Drop for Pending {
+    fn drop(self) {
+        let Pending { id: _, kind: _, shape: _, started: _, acks: _, missing: _, alloc: _ } = self;
+    }
 }
 
 impl Model for Pending {

@@ -28,7 +28,7 @@ use std::marker::Model;
 ///
 /// A record that is pinned has a use of each of its files, which are present while it is live. So
 /// nothing is counted for its pins until it goes.
-#[derive(Debug, Drop)]
+#[derive(Debug)]
 pub struct Registry {
     counts: Counts,
     acknowledged: Acknowledged,
@@ -37,6 +37,12 @@ pub struct Registry {
     released: Vec<FileId>,
     /// Empty room for the parts of the next new record, left by the last record that went.
     spare: Vec<Part>,
+}
+
+impl Drop for Registry {
+    fn drop(self) {
+        let Registry { counts: _, acknowledged: _, pinned: _, released: _, spare: _ } = self;
+    }
 }
 
 impl Model for Registry {

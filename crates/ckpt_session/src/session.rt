@@ -17,13 +17,18 @@ use std::marker::Model;
 /// has started.
 ///
 /// What each line does and prints is defined in `specs/Sessions.antt`.
-#[derive(Drop)]
 pub struct Session {
     config: Option<Config>,
     shape: Option<Shape>,
     book: Option<Book>,
     alloc: Global,
     secret: Secret,
+}
+
+impl Drop for Session {
+    fn drop(self) {
+        let Session { config: _, shape: _, book: _, alloc: _, secret: _ } = self;
+    }
 }
 
 impl Model for Session {

@@ -27,12 +27,18 @@ pub enum DisposeFault {
 ///
 /// Source of the rules: the Flink documentation, "Checkpoints", on retained checkpoints, and
 /// "Checkpoints vs. Savepoints"; the base is this project's own.
-#[derive(Debug, Drop)]
+#[derive(Debug)]
 pub struct Store {
     retained: u32,
     checkpoints: VecDeque<Done>,
     savepoints: VecDeque<Done>,
     base: Option<CheckpointId>,
+}
+
+impl Drop for Store {
+    fn drop(self) {
+        let Store { retained: _, checkpoints: _, savepoints: _, base: _ } = self;
+    }
 }
 
 impl Model for Store {
