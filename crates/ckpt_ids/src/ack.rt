@@ -18,9 +18,15 @@ pub struct Acked {
 }
 
 /// Acknowledgements in the order of their subtasks, at most one of each.
-#[derive(Debug, Drop)]
+#[derive(Debug)]
 pub struct Acks {
     list: Vec<Acked>,
+}
+
+impl Drop for Acks {
+    fn drop(self) {
+        let Acks { list: _ } = self;
+    }
 }
 
 impl Model for Acks {

@@ -9,9 +9,15 @@ use std::marker::Model;
 use std::slice::Iter;
 
 /// The files of an acknowledgement, in ascending order. One that was named twice stands twice.
-#[derive(Debug, Drop)]
+#[derive(Debug)]
 pub struct Files {
     numbers: Vec<FileId>,
+}
+
+impl Drop for Files {
+    fn drop(self) {
+        let Files { numbers: _ } = self;
+    }
 }
 
 impl Model for Files {

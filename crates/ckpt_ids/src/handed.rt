@@ -7,9 +7,15 @@ use std::marker::Model;
 use std::slice::Iter;
 
 /// Files in the order in which they were handed out.
-#[derive(Debug, Drop)]
+#[derive(Debug)]
 pub struct Handed {
     numbers: Vec<FileId>,
+}
+
+impl Drop for Handed {
+    fn drop(self) {
+        let Handed { numbers: _ } = self;
+    }
 }
 
 impl Model for Handed {
@@ -70,7 +76,7 @@ impl Handed {
         requires { count ≤ length self }
         ensures { result ≡ drop count self }
     {
-        let mut numbers = self.numbers;
+        let Handed { mut numbers } = self;
         let kept = numbers.len() - count;
         numbers.rotate_left(count);
         numbers.truncate(kept);

@@ -32,11 +32,20 @@ impl From<AllocError> for ShapeFault {
 /// The shape of a job: the parallelism of each vertex of its job graph.
 ///
 /// 1 to 256 vertices, each with a parallelism of at least 1, and at most 4096 subtasks in all.
-#[derive(Debug, Drop)]
+#[derive(Debug)]
 pub struct Shape {
     // shared by the copies, of which each record has one
     parallelisms: ArcSlice<u32>,
     size: u32,
+}
+
+impl Drop for Shape {
+    fn drop(self) {
+        let Shape {
+            parallelisms: _,
+            size: _,
+        } = self;
+    }
 }
 
 impl Model for Shape {

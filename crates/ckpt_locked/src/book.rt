@@ -30,7 +30,11 @@ pub struct Book {
 
 impl Drop for Book {
     fn drop(self) {
-        let Book { alloc: _, core: _, entries: _ } = self;
+        let Book {
+            alloc: _,
+            core: _,
+            entries: _,
+        } = self;
     }
 }
 

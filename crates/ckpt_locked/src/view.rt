@@ -7,6 +7,7 @@ use std::collections::LinkedList;
 use std::snapshot::Snapshot;
 
 /// What is fixed when a lock is made: the book as it is then, and the number of seats.
+#[derive(Drop)]
 pub struct Base {
     pub book: Book,
     pub seats: u32,
@@ -14,6 +15,7 @@ pub struct Base {
 
 /// A seat's number, the entries since the lock was made that it has seen, and the calls that it has
 /// made.
+#[derive(Drop)]
 pub struct Claim {
     pub base: Base,
     pub number: u32,
@@ -37,6 +39,22 @@ pub struct View {
     // It has taken in another pass, to compare.
     pub claims: bool,
     pub other: Claim,
+}
+
+impl Drop for View {
+    fn drop(self) {
+        let View {
+            live: _,
+            numbered: _,
+            mine: _,
+            queued: _,
+            ticket: _,
+            turn: _,
+            found: _,
+            claims: _,
+            other: _,
+        } = self;
+    }
 }
 
 /// What the table is told when it is made.

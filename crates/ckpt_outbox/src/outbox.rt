@@ -31,7 +31,14 @@ pub struct Outbox {
 
 impl Drop for Outbox {
     fn drop(self) {
-        let Outbox { alloc: _, waiting: _, front: _, taken: _, index: _, spare: _ } = self;
+        let Outbox {
+            alloc: _,
+            waiting: _,
+            front: _,
+            taken: _,
+            index: _,
+            spare: _,
+        } = self;
     }
 }
 

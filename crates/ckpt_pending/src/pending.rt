@@ -42,7 +42,15 @@ pub struct Pending {
 
 impl Drop for Pending {
     fn drop(self) {
-        let Pending { id: _, kind: _, shape: _, started: _, acks: _, missing: _, alloc: _ } = self;
+        let Pending {
+            id: _,
+            kind: _,
+            shape: _,
+            started: _,
+            acks: _,
+            missing: _,
+            alloc: _,
+        } = self;
     }
 }
 

@@ -41,7 +41,13 @@ pub struct Registry {
 
 impl Drop for Registry {
     fn drop(self) {
-        let Registry { counts: _, acknowledged: _, pinned: _, released: _, spare: _ } = self;
+        let Registry {
+            counts: _,
+            acknowledged: _,
+            pinned: _,
+            released: _,
+            spare: _,
+        } = self;
     }
 }
 

@@ -27,7 +27,13 @@ pub struct Session {
 
 impl Drop for Session {
     fn drop(self) {
-        let Session { config: _, shape: _, book: _, alloc: _, secret: _ } = self;
+        let Session {
+            config: _,
+            shape: _,
+            book: _,
+            alloc: _,
+            secret: _,
+        } = self;
     }
 }
 

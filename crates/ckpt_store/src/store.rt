@@ -37,7 +37,12 @@ pub struct Store {
 
 impl Drop for Store {
     fn drop(self) {
-        let Store { retained: _, checkpoints: _, savepoints: _, base: _ } = self;
+        let Store {
+            retained: _,
+            checkpoints: _,
+            savepoints: _,
+            base: _,
+        } = self;
     }
 }
 
