@@ -8,12 +8,23 @@
  * - A handle is all zero, or as the library last left it. It is not copied, and its field is not
  *   touched.
  * - One call at a time for each handle. It may move between threads under the engine's own lock.
- * - No pointer is null, also where a length is 0. Each is aligned, and has as many elements as said.
+ * - Each pointer is aligned, and has as many elements as said. A program that includes this header may pass a
+ *   null pointer where the length is 0, and may close NULL; no other pointer is null. The symbols of the library
+ *   take no null pointer at all, also where a length is 0: a binding that loads them by name passes the address
+ *   of any aligned element there.
  * - What a call writes overlaps nothing else that it is given.
  * - No call from a signal handler.
  *
  * The library keeps none of the caller's memory, and hands out none but the handle.
  * Moments are milliseconds, at most 2^62 - 1.
+ *
+ * Whose a file is: a task deletes a file only if no accepted acknowledgement ever named it. A file that an
+ * accepted acknowledgement named, also a late one, belongs to the coordinator, which hands it out for deletion
+ * once no record uses it. A refused acknowledgement hands nothing over, and takes nothing back: after
+ * RELKVANU_ALREADY_ACKNOWLEDGED and RELKVANU_NAME_TAKEN its files may belong to the coordinator from an earlier one.
+ *
+ * What a declaration below says of memory: a call that takes none never answers RELKVANU_NO_MEMORY. Each call on a
+ * closed handle answers RELKVANU_CLOSED and changes nothing.
  */
 #ifndef RELKVANU_H
 #define RELKVANU_H
@@ -57,10 +68,10 @@ typedef struct {
 /* code */
 #define RELKVANU_DONE 0u         /* the call was made: what is a reply */
 #define RELKVANU_REFUSED 1u      /* nothing has changed: what is a refusal */
-#define RELKVANU_NO_MEMORY 2u    /* nothing has changed: make the same call again later */
-#define RELKVANU_CLOSED 3u       /* the handle has no coordinator */
+#define RELKVANU_NO_MEMORY 2u    /* nothing has changed, what, a and b are 0: make the same call again later */
+#define RELKVANU_CLOSED 3u       /* the handle has no coordinator; what, a and b are 0 */
 #define RELKVANU_BAD_ARGUMENT 4u /* nothing has changed: what is an argument */
-#define RELKVANU_TOO_SHORT 5u    /* nothing has changed: the buffer has to have a bytes */
+#define RELKVANU_TOO_SHORT 5u    /* nothing has changed: the buffer has to have a places; what and b are 0 */
 
 /* what, where code is RELKVANU_DONE */
 #define RELKVANU_OPENED 0u
@@ -72,7 +83,7 @@ typedef struct {
 #define RELKVANU_SAVEPOINT_TRIGGERED 6u /* a: number */
 #define RELKVANU_ACK_PENDING 7u         /* a: subtasks missing */
 #define RELKVANU_ACK_COMPLETED 8u       /* a: records dropped, b: files released */
-#define RELKVANU_ACK_LATE 9u            /* a: files that wait for deletion now */
+#define RELKVANU_ACK_LATE 9u            /* a: fresh files that this call handed out for deletion */
 #define RELKVANU_DECLINE_ABORTED 10u    /* a: files released */
 #define RELKVANU_DECLINE_FAILED 11u     /* a: files released */
 #define RELKVANU_DECLINE_LATE 12u
@@ -130,38 +141,88 @@ typedef struct {
 /* Gives a closed handle a coordinator, from the moment now on, whose first record has the number
  * first, 1 to 2^62 - 1. The shape is the parallelism of each vertex: 1 to 256, at least 1 each, at
  * most 4096 in sum. The two words come from a source of random numbers: they key the maps of files,
- * so that no choice of file numbers makes calls slow. They change no answer. */
+ * so that no choice of file numbers makes calls slow. They change no answer.
+ *
+ * RELKVANU_OPENED; or RELKVANU_BAD_ARGUMENT, and the handle stays as it was: RELKVANU_ALREADY_OPEN,
+ * RELKVANU_BAD_CONFIG, RELKVANU_BAD_SHAPE, RELKVANU_BAD_MOMENT, RELKVANU_BAD_FIRST, tested in this order. Takes memory: after
+ * RELKVANU_NO_MEMORY the handle is closed, as before. */
 relkvanu_answer relkvanu_open(relkvanu *handle, const relkvanu_settings *settings, const uint64_t *shape, size_t shape_len, uint64_t now, uint64_t first, uint64_t first_word, uint64_t second_word);
 
 /* Lets the coordinator go, and frees its memory. A closed handle stays closed. */
 void relkvanu_close(relkvanu *handle);
 
+/* Time has passed: records that are too old expire, and a checkpoint is triggered where one is due.
+ *
+ * RELKVANU_TICK_TRIGGERED to RELKVANU_TICK_FAILED. Refused: RELKVANU_MOMENT_TOO_LARGE, RELKVANU_NOT_RUNNING, RELKVANU_IDS_USED_UP.
+ * Takes memory only where it triggers. */
 relkvanu_answer relkvanu_tick(relkvanu *handle, uint64_t now);
 
+/* Triggers a savepoint, of which at most 1000 are pending or done.
+ *
+ * RELKVANU_SAVEPOINT_TRIGGERED. Refused: RELKVANU_MOMENT_TOO_LARGE, RELKVANU_NOT_RUNNING, RELKVANU_TOO_MANY_SAVEPOINTS,
+ * RELKVANU_IDS_USED_UP. Takes memory. */
 relkvanu_answer relkvanu_savepoint(relkvanu *handle, uint64_t now);
 
-/* The files may stand in any order. Where the call is refused, they still belong to the task. */
+/* The subtask vertex.index has taken its part of record id: fresh are the files that it wrote, reused those of an
+ * earlier record that it uses again, at most 4096 together. They may stand in any order.
+ *
+ * RELKVANU_ACK_PENDING, RELKVANU_ACK_COMPLETED or RELKVANU_ACK_LATE: the fresh files belong to the coordinator now. Refused:
+ * RELKVANU_MOMENT_TOO_LARGE, RELKVANU_TOO_MANY_FILES, RELKVANU_REPEATED_FILE, RELKVANU_UNKNOWN_CHECKPOINT, RELKVANU_UNKNOWN_SUBTASK,
+ * RELKVANU_ALREADY_ACKNOWLEDGED, RELKVANU_NAME_TAKEN, RELKVANU_FILE_GONE: then the task deletes none of the files that an accepted
+ * acknowledgement ever named. Takes memory for a copy of the two lists first, so it may answer RELKVANU_NO_MEMORY also
+ * where it would be refused. */
 relkvanu_answer relkvanu_ack(relkvanu *handle, uint64_t now, uint64_t id, uint16_t vertex, uint16_t index, const uint64_t *fresh, size_t fresh_len, const uint64_t *reused, size_t reused_len);
 
+/* The subtask vertex.index could not take its part of record id.
+ *
+ * RELKVANU_DECLINE_ABORTED, RELKVANU_DECLINE_FAILED (too many checkpoints failed in a row) or RELKVANU_DECLINE_LATE. Refused:
+ * RELKVANU_MOMENT_TOO_LARGE, RELKVANU_UNKNOWN_CHECKPOINT, RELKVANU_UNKNOWN_SUBTASK. Takes no memory. */
 relkvanu_answer relkvanu_decline(relkvanu *handle, uint64_t now, uint64_t id, uint16_t vertex, uint16_t index);
 
+/* A user lets the completed savepoint id go.
+ *
+ * RELKVANU_DISPOSED. Refused: RELKVANU_NO_SUCH_SAVEPOINT, RELKVANU_IN_USE. Takes no memory. */
 relkvanu_answer relkvanu_dispose(relkvanu *handle, uint64_t id);
 
-/* From a savepoint, or the latest where savepoint is 0. In a new shape where shape_len is not 0. */
+/* The job begins again: from a savepoint, or from the latest where savepoint is 0; in a new shape where
+ * shape_len is not 0, with the limits of relkvanu_open, else in the shape that it has.
+ *
+ * RELKVANU_RESTORED_CHECKPOINT, RELKVANU_RESTORED_SAVEPOINT or RELKVANU_RESTORED_FRESH. RELKVANU_BAD_ARGUMENT with RELKVANU_BAD_SHAPE is tested
+ * first. Refused: RELKVANU_MOMENT_TOO_LARGE, RELKVANU_NOT_RUNNING (cancelled), RELKVANU_NO_SUCH_SAVEPOINT. Takes memory for a copy of
+ * the shape first, so it may answer RELKVANU_NO_MEMORY also where it would be refused; without a shape it takes none. */
 relkvanu_answer relkvanu_restore(relkvanu *handle, uint64_t now, uint64_t savepoint, const uint64_t *shape, size_t shape_len);
 
+/* The job ends for good.
+ *
+ * RELKVANU_CANCELLED. Refused: RELKVANU_MOMENT_TOO_LARGE, RELKVANU_NOT_RUNNING (cancelled). Takes no memory. */
 relkvanu_answer relkvanu_cancel(relkvanu *handle, uint64_t now);
 
-/* Fetches at most files_len files that wait for deletion, and writes them to the front of files. */
+/* Fetches at most files_len files that wait for deletion, those that have waited longest, and writes them to the
+ * front of files. Each is to be reported, by relkvanu_deleted or relkvanu_undeleted.
+ *
+ * RELKVANU_TAKEN, where a is 0 if none waits. Never refused. Takes memory: after RELKVANU_NO_MEMORY the files still
+ * wait, and the buffer has not changed. */
 relkvanu_answer relkvanu_take(relkvanu *handle, uint64_t *files, size_t files_len);
 
+/* A fetched file is deleted: the coordinator forgets it.
+ *
+ * RELKVANU_DELETED. Refused: RELKVANU_NOT_TAKEN. Takes no memory. */
 relkvanu_answer relkvanu_deleted(relkvanu *handle, uint64_t file);
 
+/* A fetched file could not be deleted: it waits again, behind all others.
+ *
+ * RELKVANU_UNDELETED. Refused: RELKVANU_NOT_TAKEN. Takes no memory. */
 relkvanu_answer relkvanu_undeleted(relkvanu *handle, uint64_t file);
 
-/* Writes the metadata of a live record as JSON, without a zero at its end. */
+/* Writes the metadata of a live record as JSON, without a zero at its end.
+ *
+ * RELKVANU_SHOWN; RELKVANU_TOO_SHORT, where a is how many bytes it has: ask again with a buffer of that many. Refused:
+ * RELKVANU_NO_SUCH_RECORD. Takes memory, also where the buffer is too short. Only RELKVANU_SHOWN changes the buffer. */
 relkvanu_answer relkvanu_show(relkvanu *handle, uint64_t id, uint8_t *json, size_t json_len);
 
+/* How many parts of live records use a file.
+ *
+ * RELKVANU_COUNTED. Never refused. Takes no memory. */
 relkvanu_answer relkvanu_count(relkvanu *handle, uint64_t file);
 
 /* Reads. None takes memory or changes anything; on an open handle each is RELKVANU_DONE. */
@@ -195,6 +256,62 @@ relkvanu_counts relkvanu_file_counts(relkvanu *handle);
 /* The name of the refusal with this number, as "NotRunning", without a zero at its end: its length,
  * which is 0 where no refusal has the number. It is written where text_len is at least that. */
 size_t relkvanu_refusal_text(uint32_t what, uint8_t *text, size_t text_len);
+
+/* Null pointers. The symbols of the library take none. A program that includes this header calls these functions by
+ * the symbols' names: an empty list or buffer is never passed on, only the address of an element that nobody reads. */
+
+static inline const uint64_t *relkvanu_list_of(const uint64_t *list, size_t len) {
+    static const uint64_t none = 0;
+    return len == 0 ? &none : list;
+}
+
+static inline uint64_t *relkvanu_places_of(uint64_t *places, size_t len) {
+    static uint64_t none = 0;
+    return len == 0 ? &none : places;
+}
+
+static inline uint8_t *relkvanu_bytes_of(uint8_t *bytes, size_t len) {
+    static uint8_t none = 0;
+    return len == 0 ? &none : bytes;
+}
+
+static inline relkvanu_answer relkvanu_open_nullable(relkvanu *handle, const relkvanu_settings *settings, const uint64_t *shape, size_t shape_len, uint64_t now, uint64_t first, uint64_t first_word, uint64_t second_word) {
+    return relkvanu_open(handle, settings, relkvanu_list_of(shape, shape_len), shape_len, now, first, first_word, second_word);
+}
+
+static inline void relkvanu_close_nullable(relkvanu *handle) {
+    if (handle) {
+        relkvanu_close(handle);
+    }
+}
+
+static inline relkvanu_answer relkvanu_ack_nullable(relkvanu *handle, uint64_t now, uint64_t id, uint16_t vertex, uint16_t index, const uint64_t *fresh, size_t fresh_len, const uint64_t *reused, size_t reused_len) {
+    return relkvanu_ack(handle, now, id, vertex, index, relkvanu_list_of(fresh, fresh_len), fresh_len, relkvanu_list_of(reused, reused_len), reused_len);
+}
+
+static inline relkvanu_answer relkvanu_restore_nullable(relkvanu *handle, uint64_t now, uint64_t savepoint, const uint64_t *shape, size_t shape_len) {
+    return relkvanu_restore(handle, now, savepoint, relkvanu_list_of(shape, shape_len), shape_len);
+}
+
+static inline relkvanu_answer relkvanu_take_nullable(relkvanu *handle, uint64_t *files, size_t files_len) {
+    return relkvanu_take(handle, relkvanu_places_of(files, files_len), files_len);
+}
+
+static inline relkvanu_answer relkvanu_show_nullable(relkvanu *handle, uint64_t id, uint8_t *json, size_t json_len) {
+    return relkvanu_show(handle, id, relkvanu_bytes_of(json, json_len), json_len);
+}
+
+static inline size_t relkvanu_refusal_text_nullable(uint32_t what, uint8_t *text, size_t text_len) {
+    return relkvanu_refusal_text(what, relkvanu_bytes_of(text, text_len), text_len);
+}
+
+#define relkvanu_open relkvanu_open_nullable
+#define relkvanu_close relkvanu_close_nullable
+#define relkvanu_ack relkvanu_ack_nullable
+#define relkvanu_restore relkvanu_restore_nullable
+#define relkvanu_take relkvanu_take_nullable
+#define relkvanu_show relkvanu_show_nullable
+#define relkvanu_refusal_text relkvanu_refusal_text_nullable
 
 #ifdef __cplusplus
 }

@@ -1,5 +1,5 @@
 ghost use Rattle.std.specs.Prelude.{◌≡◌, None, IfOk, IfErr};
-ghost use Rattle.ckpt_embed.specs.Calls.{StaysAsItWas};
+ghost use Rattle.ckpt_embed.specs.Calls.{HasNoNumbers, StaysAsItWas};
 ghost use Rattle.ckpt_embed.specs.Opening.{opening_of, IsNotOpened, IsOpened, IsOpening, IsWhyNot, StaysOpen};
 
 use crate::answer::Answer;
@@ -55,6 +55,7 @@ pub fn open(
     ensures open { StaysOpen handle.old.value handle.new.value result }
     ensures refused { IsNotOpened handle.old.value handle.new.value (opening_of settings.now shape.now now first) result }
     ensures opened { IsOpened handle.old.value handle.new.value (opening_of settings.now shape.now now first) result }
+    ensures numbers { HasNoNumbers result }
     ensures unchanged { StaysAsItWas handle.old.value handle.new.value result }
 {
     if let Some(core) = handle.take(alloc) {
@@ -87,6 +88,7 @@ fn core_of(
 ) -> Result<Box<Core>, Answer>
     ensures value { IfOk result (λ core. IsOpening (opening_of settings.now shape.now now first) core.value) }
     ensures fault { IfErr result (IsWhyNot (opening_of settings.now shape.now now first)) }
+    ensures numbers { IfErr result HasNoNumbers }
 {
     let Ok(config) = Config::new(
         settings.interval,
