@@ -7,13 +7,19 @@ import threading
 from dataclasses import dataclass
 from typing import Any, Optional, Sequence
 
-from relkvanu.reads import CHOSEN, EXPIRES, LIVE, MISSING, Chosen, FileCounts, Live, Mode
+from relkvanu import header
+from relkvanu.reads import CHOSEN, LIVE, Chosen, FileCounts, Live, Mode
 from relkvanu.replies import MADE, Reply, Shown, Taken
 
-U16, U64, SIZE = ctypes.c_uint16, ctypes.c_uint64, ctypes.c_size_t
-DONE, REFUSED, NO_MEMORY, CLOSED, BAD_ARGUMENT, TOO_SHORT = range(6)
-ARGUMENTS = {1: "AlreadyOpen", 2: "BadConfig", 3: "BadShape", 4: "BadMoment", 5: "BadFirst"}
-NAME_TAKEN, FILE_GONE = 8, 9
+LIBRARY = "librelkvanu.so.0"
+U64 = ctypes.c_uint64
+ARGUMENTS = {
+    header.ALREADY_OPEN: "AlreadyOpen",
+    header.BAD_CONFIG: "BadConfig",
+    header.BAD_SHAPE: "BadShape",
+    header.BAD_MOMENT: "BadMoment",
+    header.BAD_FIRST: "BadFirst",
+}
 
 
 class Refused(Exception):
@@ -55,56 +61,18 @@ class Settings:
     keep_on_cancel: bool = False
 
 
-class _Settings(ctypes.Structure):
-    _fields_ = [(name, U64) for name in ("interval", "pause", "at_once", "timeout", "tolerable", "retained")]
-    _fields_ += [("keep_on_cancel", ctypes.c_bool)]
-
-
-class _Answer(ctypes.Structure):
-    _fields_ = [("code", ctypes.c_uint32), ("what", ctypes.c_uint32), ("a", U64), ("b", U64)]
-
-
-class _Counts(ctypes.Structure):
-    _fields_ = [("code", ctypes.c_uint32), ("in_use", U64), ("waiting", U64), ("taken", U64)]
-
-
-_HANDLE = ctypes.POINTER(ctypes.c_void_p)
-_WORDS = ctypes.POINTER(U64)
-_BYTES = ctypes.POINTER(ctypes.c_uint8)
-_SIGNATURES = {
-    "open": [_HANDLE, ctypes.POINTER(_Settings), _WORDS, SIZE, U64, U64, U64, U64],
-    "tick": [_HANDLE, U64],
-    "savepoint": [_HANDLE, U64],
-    "ack": [_HANDLE, U64, U64, U16, U16, _WORDS, SIZE, _WORDS, SIZE],
-    "decline": [_HANDLE, U64, U64, U16, U16],
-    "dispose": [_HANDLE, U64],
-    "restore": [_HANDLE, U64, U64, _WORDS, SIZE],
-    "cancel": [_HANDLE, U64],
-    "take": [_HANDLE, _WORDS, SIZE],
-    "deleted": [_HANDLE, U64],
-    "undeleted": [_HANDLE, U64],
-    "show": [_HANDLE, U64, _BYTES, SIZE],
-    "count": [_HANDLE, U64],
-    "mode": [_HANDLE],
-    "due": [_HANDLE],
-    "oldest_expiry": [_HANDLE],
-    "choice": [_HANDLE],
-    "live": [_HANDLE, SIZE],
-    "missing": [_HANDLE, U64],
-}
-
-
 def _loaded() -> ctypes.CDLL:
-    top = pathlib.Path(__file__).resolve().parents[3]
-    folder = os.environ.get("RELKVANU_LIB", str(top / "crates/relkvanu/out"))
-    library = ctypes.CDLL(os.path.join(folder, "librelkvanu.so"))
-    for name, signature in _SIGNATURES.items():
-        function = getattr(library, f"relkvanu_{name}")
-        function.argtypes, function.restype = signature, _Answer
-    library.relkvanu_close.argtypes, library.relkvanu_close.restype = [_HANDLE], None
-    library.relkvanu_file_counts.argtypes, library.relkvanu_file_counts.restype = [_HANDLE], _Counts
-    library.relkvanu_refusal_text.argtypes = [ctypes.c_uint32, _BYTES, SIZE]
-    library.relkvanu_refusal_text.restype = SIZE
+    """The library of the folder that RELKVANU_LIB names, else that beside the package, else that of the system."""
+    folder = os.environ.get("RELKVANU_LIB")
+    beside = pathlib.Path(__file__).resolve().parent / LIBRARY
+    if folder is not None:
+        path = os.path.join(folder, LIBRARY)
+    else:
+        path = str(beside) if beside.is_file() else LIBRARY
+    library = ctypes.CDLL(path)
+    for name, (result, parameters) in header.FUNCTIONS.items():
+        function = getattr(library, name)
+        function.argtypes, function.restype = parameters, result
     return library
 
 
@@ -142,14 +110,14 @@ def _name(refusal: int) -> str:
     return bytes(text[:length]).decode()
 
 
-def _done(answer: _Answer) -> _Answer:
-    if answer.code == DONE:
+def _done(answer: header.relkvanu_answer) -> header.relkvanu_answer:
+    if answer.code == header.DONE:
         return answer
-    if answer.code == REFUSED:
-        raise Refused(_name(answer.what), answer.a if answer.what in (NAME_TAKEN, FILE_GONE) else None)
-    if answer.code == NO_MEMORY:
+    if answer.code == header.REFUSED:
+        raise Refused(_name(answer.what), answer.a if answer.what in (header.NAME_TAKEN, header.FILE_GONE) else None)
+    if answer.code == header.NO_MEMORY:
         raise OutOfMemory
-    if answer.code == CLOSED:
+    if answer.code == header.CLOSED:
         raise Closed
     raise BadArgument(ARGUMENTS[answer.what])
 
@@ -164,8 +132,8 @@ class Coordinator:
     def __init__(self, settings: Settings, shape: Sequence[int], now: int, first: int = 1) -> None:
         """Opens it at the moment `now`, with the number `first` for its first record. Raises BadArgument."""
         self._lock = threading.Lock()
-        self._handle = ctypes.c_void_p(None)
-        values = _Settings(*map(_u64, (
+        self._handle = header.relkvanu(None)
+        values = header.relkvanu_settings(*map(_u64, (
             settings.interval, settings.pause, settings.at_once, settings.timeout, settings.tolerable, settings.retained,
         )), settings.keep_on_cancel)
         keys = secrets.randbits(64), secrets.randbits(64)
@@ -237,8 +205,8 @@ class Coordinator:
 
     def show(self, id: int) -> Shown:
         length = 1024
-        answer = _Answer(code=TOO_SHORT, a=length)
-        while answer.code == TOO_SHORT:
+        answer = header.relkvanu_answer(code=header.TOO_SHORT, a=length)
+        while answer.code == header.TOO_SHORT:
             length = answer.a
             text = (ctypes.c_uint8 * length)()
             answer = self._call("show", _u64(id), text, length)
@@ -259,7 +227,7 @@ class Coordinator:
     def oldest_expiry(self) -> Optional[int]:
         """The moment from which a pending record is expired, or None where none is pending."""
         answer = _done(self._call("oldest_expiry"))
-        return answer.a if answer.what == EXPIRES else None
+        return answer.a if answer.what == header.EXPIRES else None
 
     def choice(self) -> Optional[Chosen]:
         """The record that a restore of the latest would begin from, or None: from nothing."""
@@ -274,10 +242,10 @@ class Coordinator:
     def missing(self, id: int) -> Optional[int]:
         """How many subtasks of this record have not acknowledged, or None where no such record is pending."""
         answer = _done(self._call("missing", _u64(id)))
-        return answer.a if answer.what == MISSING else None
+        return answer.a if answer.what == header.MISSING else None
 
     def file_counts(self) -> FileCounts:
         counts = self._call("file_counts")
-        if counts.code == CLOSED:
+        if counts.code == header.CLOSED:
             raise Closed
         return FileCounts(counts.in_use, counts.waiting, counts.taken)

@@ -1,5 +1,6 @@
 """What include/relkvanu.h says, made from it by embed/bindings: change the header, and run that."""
-import ctypes
+from ctypes import POINTER, Structure, c_bool, c_char_p, c_size_t, c_uint8, c_uint16, c_uint32, c_uint64, c_void_p
+from typing import Any, Dict, List, Tuple
 
 VERSION_MAJOR = 0
 VERSION_MINOR = 1
@@ -70,65 +71,65 @@ BAD_MOMENT = 4
 BAD_FIRST = 5
 
 
-class relkvanu(ctypes.Structure):
+class relkvanu(Structure):
     _fields_ = [
-        ("state", ctypes.c_void_p),
+        ("state", c_void_p),
     ]
 
 
-class relkvanu_settings(ctypes.Structure):
+class relkvanu_settings(Structure):
     _fields_ = [
-        ("interval", ctypes.c_uint64),
-        ("pause", ctypes.c_uint64),
-        ("at_once", ctypes.c_uint64),
-        ("timeout", ctypes.c_uint64),
-        ("tolerable", ctypes.c_uint64),
-        ("retained", ctypes.c_uint64),
-        ("keep_on_cancel", ctypes.c_bool),
+        ("interval", c_uint64),
+        ("pause", c_uint64),
+        ("at_once", c_uint64),
+        ("timeout", c_uint64),
+        ("tolerable", c_uint64),
+        ("retained", c_uint64),
+        ("keep_on_cancel", c_bool),
     ]
 
 
-class relkvanu_answer(ctypes.Structure):
+class relkvanu_answer(Structure):
     _fields_ = [
-        ("code", ctypes.c_uint32),
-        ("what", ctypes.c_uint32),
-        ("a", ctypes.c_uint64),
-        ("b", ctypes.c_uint64),
+        ("code", c_uint32),
+        ("what", c_uint32),
+        ("a", c_uint64),
+        ("b", c_uint64),
     ]
 
 
-class relkvanu_counts(ctypes.Structure):
+class relkvanu_counts(Structure):
     _fields_ = [
-        ("code", ctypes.c_uint32),
-        ("in_use", ctypes.c_uint64),
-        ("waiting", ctypes.c_uint64),
-        ("taken", ctypes.c_uint64),
+        ("code", c_uint32),
+        ("in_use", c_uint64),
+        ("waiting", c_uint64),
+        ("taken", c_uint64),
     ]
 
 
 # Of each function, its result and its parameters.
-FUNCTIONS = {
-    "relkvanu_version": (ctypes.c_char_p, []),
-    "relkvanu_open": (relkvanu_answer, [ctypes.POINTER(relkvanu), ctypes.POINTER(relkvanu_settings), ctypes.POINTER(ctypes.c_uint64), ctypes.c_size_t, ctypes.c_uint64, ctypes.c_uint64, ctypes.c_uint64, ctypes.c_uint64]),
-    "relkvanu_close": (None, [ctypes.POINTER(relkvanu)]),
-    "relkvanu_tick": (relkvanu_answer, [ctypes.POINTER(relkvanu), ctypes.c_uint64]),
-    "relkvanu_savepoint": (relkvanu_answer, [ctypes.POINTER(relkvanu), ctypes.c_uint64]),
-    "relkvanu_ack": (relkvanu_answer, [ctypes.POINTER(relkvanu), ctypes.c_uint64, ctypes.c_uint64, ctypes.c_uint16, ctypes.c_uint16, ctypes.POINTER(ctypes.c_uint64), ctypes.c_size_t, ctypes.POINTER(ctypes.c_uint64), ctypes.c_size_t]),
-    "relkvanu_decline": (relkvanu_answer, [ctypes.POINTER(relkvanu), ctypes.c_uint64, ctypes.c_uint64, ctypes.c_uint16, ctypes.c_uint16]),
-    "relkvanu_dispose": (relkvanu_answer, [ctypes.POINTER(relkvanu), ctypes.c_uint64]),
-    "relkvanu_restore": (relkvanu_answer, [ctypes.POINTER(relkvanu), ctypes.c_uint64, ctypes.c_uint64, ctypes.POINTER(ctypes.c_uint64), ctypes.c_size_t]),
-    "relkvanu_cancel": (relkvanu_answer, [ctypes.POINTER(relkvanu), ctypes.c_uint64]),
-    "relkvanu_take": (relkvanu_answer, [ctypes.POINTER(relkvanu), ctypes.POINTER(ctypes.c_uint64), ctypes.c_size_t]),
-    "relkvanu_deleted": (relkvanu_answer, [ctypes.POINTER(relkvanu), ctypes.c_uint64]),
-    "relkvanu_undeleted": (relkvanu_answer, [ctypes.POINTER(relkvanu), ctypes.c_uint64]),
-    "relkvanu_show": (relkvanu_answer, [ctypes.POINTER(relkvanu), ctypes.c_uint64, ctypes.POINTER(ctypes.c_uint8), ctypes.c_size_t]),
-    "relkvanu_count": (relkvanu_answer, [ctypes.POINTER(relkvanu), ctypes.c_uint64]),
-    "relkvanu_mode": (relkvanu_answer, [ctypes.POINTER(relkvanu)]),
-    "relkvanu_due": (relkvanu_answer, [ctypes.POINTER(relkvanu)]),
-    "relkvanu_oldest_expiry": (relkvanu_answer, [ctypes.POINTER(relkvanu)]),
-    "relkvanu_choice": (relkvanu_answer, [ctypes.POINTER(relkvanu)]),
-    "relkvanu_live": (relkvanu_answer, [ctypes.POINTER(relkvanu), ctypes.c_size_t]),
-    "relkvanu_missing": (relkvanu_answer, [ctypes.POINTER(relkvanu), ctypes.c_uint64]),
-    "relkvanu_file_counts": (relkvanu_counts, [ctypes.POINTER(relkvanu)]),
-    "relkvanu_refusal_text": (ctypes.c_size_t, [ctypes.c_uint32, ctypes.POINTER(ctypes.c_uint8), ctypes.c_size_t]),
+FUNCTIONS: Dict[str, Tuple[Any, List[Any]]] = {
+    "relkvanu_version": (c_char_p, []),
+    "relkvanu_open": (relkvanu_answer, [POINTER(relkvanu), POINTER(relkvanu_settings), POINTER(c_uint64), c_size_t, c_uint64, c_uint64, c_uint64, c_uint64]),
+    "relkvanu_close": (None, [POINTER(relkvanu)]),
+    "relkvanu_tick": (relkvanu_answer, [POINTER(relkvanu), c_uint64]),
+    "relkvanu_savepoint": (relkvanu_answer, [POINTER(relkvanu), c_uint64]),
+    "relkvanu_ack": (relkvanu_answer, [POINTER(relkvanu), c_uint64, c_uint64, c_uint16, c_uint16, POINTER(c_uint64), c_size_t, POINTER(c_uint64), c_size_t]),
+    "relkvanu_decline": (relkvanu_answer, [POINTER(relkvanu), c_uint64, c_uint64, c_uint16, c_uint16]),
+    "relkvanu_dispose": (relkvanu_answer, [POINTER(relkvanu), c_uint64]),
+    "relkvanu_restore": (relkvanu_answer, [POINTER(relkvanu), c_uint64, c_uint64, POINTER(c_uint64), c_size_t]),
+    "relkvanu_cancel": (relkvanu_answer, [POINTER(relkvanu), c_uint64]),
+    "relkvanu_take": (relkvanu_answer, [POINTER(relkvanu), POINTER(c_uint64), c_size_t]),
+    "relkvanu_deleted": (relkvanu_answer, [POINTER(relkvanu), c_uint64]),
+    "relkvanu_undeleted": (relkvanu_answer, [POINTER(relkvanu), c_uint64]),
+    "relkvanu_show": (relkvanu_answer, [POINTER(relkvanu), c_uint64, POINTER(c_uint8), c_size_t]),
+    "relkvanu_count": (relkvanu_answer, [POINTER(relkvanu), c_uint64]),
+    "relkvanu_mode": (relkvanu_answer, [POINTER(relkvanu)]),
+    "relkvanu_due": (relkvanu_answer, [POINTER(relkvanu)]),
+    "relkvanu_oldest_expiry": (relkvanu_answer, [POINTER(relkvanu)]),
+    "relkvanu_choice": (relkvanu_answer, [POINTER(relkvanu)]),
+    "relkvanu_live": (relkvanu_answer, [POINTER(relkvanu), c_size_t]),
+    "relkvanu_missing": (relkvanu_answer, [POINTER(relkvanu), c_uint64]),
+    "relkvanu_file_counts": (relkvanu_counts, [POINTER(relkvanu)]),
+    "relkvanu_refusal_text": (c_size_t, [c_uint32, POINTER(c_uint8), c_size_t]),
 }

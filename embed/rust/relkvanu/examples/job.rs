@@ -1,13 +1,11 @@
-//! A job of four tasks that write real files, with a timer and a discarder, all under one mutex.
+//! A job of four tasks that write real files, with a timer and a discarder.
 //!
 //! It runs until 100 checkpoints are completed, then the job is cancelled, and no file may be left.
-use relkvanu::{Answer, Coordinator, Settings};
-use std::collections::HashSet;
+use relkvanu::{Answer, Discarder, Patience, Settings, SharedCoordinator};
 use std::fs;
 use std::path::{Path, PathBuf};
-use std::sync::atomic::{AtomicBool, AtomicU64, Ordering::SeqCst};
+use std::sync::atomic::{AtomicU64, Ordering::SeqCst};
 use std::sync::mpsc::{channel, Receiver, Sender};
-use std::sync::Mutex;
 use std::thread;
 use std::time::{Duration, Instant};
 
@@ -15,40 +13,38 @@ const TASKS: u64 = 4;
 const COMPLETED: u64 = 100;
 
 struct Job {
-    coordinator: Mutex<Coordinator>,
+    coordinator: SharedCoordinator,
     started: Instant,
     folder: PathBuf,
     next_file: AtomicU64,
     completed: AtomicU64,
-    is_over: AtomicBool,
 }
 
 impl Job {
     fn now(&self) -> u64 {
         self.started.elapsed().as_millis() as u64
     }
+}
 
-    fn path(&self, file: u64) -> PathBuf {
-        self.folder.join(file.to_string())
-    }
-
-    fn calls<T>(&self, call: impl FnOnce(&mut Coordinator, u64) -> T) -> T {
-        let mut coordinator = self.coordinator.lock().unwrap();
-        let now = self.now();
-        call(&mut coordinator, now)
-    }
+fn path(folder: &Path, file: u64) -> PathBuf {
+    folder.join(file.to_string())
 }
 
 /// Ticks when a checkpoint is due, and tells the tasks of each one.
 fn timer(job: &Job, sources: Vec<Sender<u64>>) {
     while job.completed.load(SeqCst) < COMPLETED {
-        if let Answer::Triggered { id, .. } = job.calls(|c, now| c.tick(now)).unwrap() {
+        let seen = job.coordinator.calls() + 1; // with this tick
+        let (ticked, next) = job.coordinator.with(|it| {
+            let ticked = it.tick(job.now());
+            (ticked, it.next_tick(&ticked))
+        });
+        if let Answer::Triggered { id, .. } = ticked.unwrap() {
             for source in &sources {
                 source.send(id).unwrap();
             }
         }
-        let due = job.calls(|c, _| c.due());
-        thread::sleep(Duration::from_millis(due.saturating_sub(job.now()).max(1)));
+        let wait = next.map(|moment| Duration::from_millis(moment.saturating_sub(job.now())));
+        job.coordinator.wait_for_call(seen, wait);
     }
 }
 
@@ -57,10 +53,11 @@ fn task(job: &Job, index: u16, checkpoints: Receiver<u64>) {
     let mut last = None;
     for id in checkpoints {
         let file = job.next_file.fetch_add(1, SeqCst);
-        fs::write(job.path(file), file.to_string()).unwrap();
+        fs::write(path(&job.folder, file), file.to_string()).unwrap();
         let reused: Vec<u64> = last.into_iter().collect();
         let answer = job
-            .calls(|c, now| c.ack(now, id, (0, index), &[file], &reused))
+            .coordinator
+            .ack(job.now(), id, (0, index), &[file], &reused)
             .unwrap();
         if let Answer::AckCompleted { .. } = answer {
             job.completed.fetch_add(1, SeqCst);
@@ -69,27 +66,14 @@ fn task(job: &Job, index: u16, checkpoints: Receiver<u64>) {
     }
 }
 
-/// Deletes the files that are handed out, until the job is over and there are none.
-fn discarder(job: &Job) -> u64 {
-    let mut deleted = HashSet::new();
-    let mut buffer = [0; 8];
-    loop {
-        let was_over = job.is_over.load(SeqCst);
-        let files = job
-            .calls(|c, _| c.take(&mut buffer).map(<[u64]>::to_vec))
-            .unwrap();
-        if files.is_empty() {
-            if was_over {
-                return deleted.len() as u64;
-            }
-            thread::sleep(Duration::from_millis(1));
+fn run_tasks(job: &Job) {
+    thread::scope(|scope| {
+        let (sources, checkpoints): (Vec<_>, Vec<_>) = (0..TASKS).map(|_| channel()).unzip();
+        for (index, ids) in checkpoints.into_iter().enumerate() {
+            scope.spawn(move || task(job, index as u16, ids));
         }
-        for file in files {
-            assert!(deleted.insert(file), "file {file} was handed out twice");
-            fs::remove_file(job.path(file)).unwrap();
-            job.calls(|c, _| c.deleted(file)).unwrap();
-        }
-    }
+        scope.spawn(move || timer(job, sources));
+    });
 }
 
 fn run(folder: &Path) {
@@ -103,34 +87,27 @@ fn run(folder: &Path) {
         keep_on_cancel: false,
     };
     let job = Job {
-        coordinator: Mutex::new(Coordinator::open(&settings, &[TASKS], 0, 1).unwrap()),
+        coordinator: SharedCoordinator::open(&settings, &[TASKS], 0, 1).unwrap(),
         started: Instant::now(),
         folder: folder.to_path_buf(),
         next_file: AtomicU64::new(0),
         completed: AtomicU64::new(0),
-        is_over: AtomicBool::new(false),
     };
-    let deleted = thread::scope(|scope| {
-        let discarder = scope.spawn(|| discarder(&job));
-        let (sources, checkpoints): (Vec<_>, Vec<_>) = (0..TASKS).map(|_| channel()).unzip();
-        let tasks: Vec<_> = checkpoints
-            .into_iter()
-            .enumerate()
-            .map(|(index, ids)| {
-                let job = &job;
-                scope.spawn(move || task(job, index as u16, ids))
-            })
-            .collect();
-        scope.spawn(|| timer(&job, sources)).join().unwrap();
-        for task in tasks {
-            task.join().unwrap();
-        }
-        job.calls(|c, now| c.cancel(now)).unwrap();
-        job.is_over.store(true, SeqCst);
-        discarder.join().unwrap()
-    });
+    let storage = folder.to_path_buf();
+    let patience = Patience {
+        idle: Duration::from_millis(1),
+        ..Patience::default()
+    };
+    let delete = move |file| fs::remove_file(path(&storage, file));
+    let discarder = Discarder::start(job.coordinator.clone(), patience, delete).unwrap();
+    run_tasks(&job);
+    job.coordinator.cancel(job.now()).unwrap();
+    while job.coordinator.file_counts().waiting + job.coordinator.file_counts().taken > 0 {
+        thread::sleep(Duration::from_millis(1));
+    }
+    let told = discarder.stop();
     let written = job.next_file.load(SeqCst);
-    assert_eq!(deleted, written, "files deleted, and files written");
+    assert_eq!(told.deleted, written, "files deleted, and files written");
     assert_eq!(fs::read_dir(folder).unwrap().count(), 0, "a file is left");
     println!(
         "{} checkpoints, {written} files written and deleted",

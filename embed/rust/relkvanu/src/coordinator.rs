@@ -262,6 +262,20 @@ impl Coordinator {
         read(unsafe { sys::relkvanu_due(self.read_handle()) }).a
     }
 
+    /// When to tick next, after a tick that answered this and unless another call comes before: when a checkpoint is due
+    /// or a pending record expires. While as many are pending as may be, at the expiry alone, as `due` has passed; `None`
+    /// where nothing changes before a call does, as while the job has failed.
+    pub fn next_tick(&self, ticked: &Result<Answer, Fault>) -> Option<u64> {
+        if self.mode() != Mode::Running {
+            return None;
+        }
+        let expiry = self.oldest_expiry();
+        match ticked {
+            Ok(Answer::HeldAtOnce { .. }) => expiry,
+            _ => Some(expiry.map_or(self.due(), |expiry| expiry.min(self.due()))),
+        }
+    }
+
     /// The moment from which a pending record is expired, or `None` where none is pending.
     pub fn oldest_expiry(&self) -> Option<u64> {
         // SAFETY: as in `count`.
