@@ -1,6 +1,6 @@
 #include "reads.h"
 
-#include "heap.h"
+#include "refusing_heap.h"
 
 #include <inttypes.h>
 #include <stdlib.h>
@@ -165,9 +165,9 @@ bool reads_fit(struct reads *reads, struct script *script, const char *line, rel
     if (answer.code == RELKVANU_DONE) {
         note(reads, script, line, answer);
     }
-    uint64_t requests = relkvanu_requests();
+    uint64_t requests = heap_requests();
     bool fit = tells("mode", relkvanu_mode(&script->handle), reads->mode, 0, 0) && files_fit(reads, &script->handle)
-        && same("memory asked for", relkvanu_requests(), requests);
+        && same("memory asked for", heap_requests(), requests);
     /* all of many records are asked after but a few lines, for time */
     bool are_asked = reads->last <= 64 || reads->lines % 256 == 0;
     reads->lines++;

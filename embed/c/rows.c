@@ -4,7 +4,7 @@
  *
  * The script is run once with the reads compared after each line, once with all memory, and then once for each
  * request for memory, which is refused once: the call that wants it says so, and is made again. */
-#include "heap.h"
+#include "refusing_heap.h"
 #include "reads.h"
 #include "script.h"
 
@@ -59,7 +59,7 @@ static bool runs(const char *path, const char *wanted, size_t wanted_len, struct
         exit(2);
     }
     memset(&script, 0, sizeof script);
-    relkvanu_refuse(refused);
+    heap_refuse(refused);
     bool fit = true;
     while (fit && fgets(line, sizeof line, from) != NULL) {
         line[strcspn(line, "\r\n")] = '\0';
@@ -69,7 +69,7 @@ static bool runs(const char *path, const char *wanted, size_t wanted_len, struct
             fit = obey_and_read(&script, reads, line, told);
         }
     }
-    *requests = relkvanu_requests();
+    *requests = heap_requests();
     script_close(&script);
     bool shut = script.handle.state == NULL && relkvanu_tick(&script.handle, 0).code == RELKVANU_CLOSED && reads_are_closed(&script.handle);
     fclose(from);
