@@ -2,6 +2,7 @@
 mod auth;
 mod cli;
 mod config;
+mod discard;
 mod history;
 mod http;
 mod log;
@@ -18,6 +19,6 @@ use std::process::ExitCode;
 fn main() -> ExitCode {
     match Cli::parse().command {
         Command::Serve(given) => serve::run(&given),
-        Command::Discard(_) => ExitCode::FAILURE,
+        Command::Discard(given) => discard::run(&given),
     }
 }

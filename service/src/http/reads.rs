@@ -114,8 +114,8 @@ fn parts(live: Option<RecordState>) -> Result<RecordParts, Reply> {
 async fn files(app: &App, job: &str, query: &str) -> Result<Reply, Reply> {
     let [most] = numbers(query, [limit(MOST_ROWS, 100)])?;
     let number = app.number(job)?;
-    let (taken, deleted) = app.from_history(move |history| history.files(number, most)).await?;
-    Ok(json_reply(200, &json!({"taken": taken, "deleted": deleted})))
+    let ((taken, deleted), upto) = app.from_history(move |history| Ok((history.files(number, most)?, history.upto(number)?))).await?;
+    Ok(json_reply(200, &json!({"upto": upto, "taken": taken, "deleted": deleted})))
 }
 
 /// How often a file is used and by whom, and what became of it.

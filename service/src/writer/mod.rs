@@ -123,7 +123,10 @@ impl Writer {
             Ok(None) => {
                 let outcomes = self.calls(round, place, calls);
                 let answers = self.board.answers(&outcomes);
-                round.keep(job, key, self.clock.now(), answers.clone());
+                // where nothing was made, a repeat makes nothing twice
+                if outcomes.iter().any(|outcome| matches!(outcome, Outcome::Made { seq: Some(_), .. })) {
+                    round.keep(job, key, self.clock.now(), answers.clone());
+                }
                 CallsDone::Known(answers)
             }
             Err(why) => lose(&why),
