@@ -33,15 +33,15 @@ pub struct Limits {
     pub calls: usize,
     /// Requests that wait for the writer.
     pub queue: usize,
-    /// Seconds until a request's head has come whole.
-    pub head_seconds: u64,
+    /// Seconds that a connection may have no request that came whole.
+    pub idle_seconds: u64,
     /// Seconds until a request's body has come whole.
     pub body_seconds: u64,
 }
 
 impl Default for Limits {
     fn default() -> Limits {
-        Limits { connections: 1024, body_bytes: 8 << 20, calls: 1000, queue: 4096, head_seconds: 10, body_seconds: 30 }
+        Limits { connections: 1024, body_bytes: 8 << 20, calls: 1000, queue: 4096, idle_seconds: 30, body_seconds: 30 }
     }
 }
 
@@ -93,7 +93,7 @@ impl Config {
             ("limits.body_bytes", limits.body_bytes as u64, 1024, 1 << 30),
             ("limits.calls", limits.calls as u64, 1, 4096),
             ("limits.queue", limits.queue as u64, 1, 1 << 20),
-            ("limits.head_seconds", limits.head_seconds, 1, 3600),
+            ("limits.idle_seconds", limits.idle_seconds, 1, 3600),
             ("limits.body_seconds", limits.body_seconds, 1, 3600),
             ("lease_seconds", self.lease.as_secs(), 1, 600),
         ];

@@ -7,4 +7,4 @@ mod records;
 mod tables;
 
 pub use historian::Historian;
-pub use read::{FileRow, HistoryReader, RecordRow, Sample};
+pub use read::{FileRow, HistoryReader};

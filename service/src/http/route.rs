@@ -35,7 +35,8 @@ pub enum NoRoute {
     Part(&'static str),
 }
 
-/// All routes of the API, as the description has them.
+/// All routes of the API, which the description has to have.
+#[cfg(test)]
 pub const API: [(&str, &str); 15] = [
     ("get", "/healthz"),
     ("get", "/readyz"),

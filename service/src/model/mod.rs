@@ -10,7 +10,7 @@ mod settings;
 
 pub use call::{Call, Subtask, Target};
 pub use clock::Clock;
-pub use engine::{Choice, Engine, FileCounts, Mode, NoJob};
+pub use engine::{Choice, FileCounts, Mode, NoJob};
 pub use job::{Entry, Job, Opening};
 pub use lines::parse_line;
 pub use live::{Kind, LiveRecord};

@@ -3,4 +3,4 @@ mod lite;
 mod rows;
 
 pub use lite::{Lite, LiteReader};
-pub use rows::{Failure, Group, Keyed, LogPage, Reader, Store, Written};
+pub use rows::{Failure, Group, Keyed, Reader, Store};

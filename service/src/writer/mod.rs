@@ -5,7 +5,7 @@ mod round;
 mod state;
 mod timer;
 
-pub use jobs::{Jobs, StartError};
+pub use jobs::Jobs;
 pub use message::{Board, CallsDone, Created, Key, Message, Read, ReadDone};
 pub use state::{JobState, RecordState};
 

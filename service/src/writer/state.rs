@@ -25,7 +25,6 @@ pub struct JobState {
 
 #[derive(Debug)]
 pub struct RecordState {
-    pub kind: Kind,
     /// The coordinator's metadata, as JSON; `None` where memory ran out.
     pub metadata: Option<String>,
 }
@@ -51,8 +50,8 @@ fn of(jobs: &mut Jobs, name: &str, read: impl FnOnce(&mut Job) -> ReadDone) -> R
 }
 
 fn record(job: &mut Job, id: u64) -> Option<RecordState> {
-    let kind = job.live().get(&id)?.kind;
-    Some(RecordState { kind, metadata: job.engine().show(id) })
+    job.live().get(&id)?;
+    Some(RecordState { metadata: job.engine().show(id) })
 }
 
 fn state(job: &mut Job, now: u64) -> JobState {
