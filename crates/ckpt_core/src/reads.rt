@@ -1,3 +1,4 @@
+//! Calls that take, report, show and count.
 ghost use Rattle.std.specs.Prelude.{◌≡◌, Some, IsSome, IfOk, OnErr, option_map};
 ghost use Rattle.ckpt_ids.specs.Records.{metadata_of};
 ghost use Rattle.ckpt_ids.specs.declared.call.Call.TheVariants as call;

@@ -1,3 +1,4 @@
+//! The tests of a call before it is made: what is refused, in the order of the rules.
 ghost use Rattle.std.specs.Prelude.{◌≡◌, ◌++◌, ◌+◌, ◌==◌, ℕ, List, find, not, nat_le, option_copied, option_map, Option, Some};
 ghost use Rattle.std.specs.List.{list_any};
 ghost use Rattle.std.specs.Result.{result_err};

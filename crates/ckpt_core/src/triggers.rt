@@ -1,3 +1,4 @@
+//! Calls that trigger records: ticks, which let old ones expire first, and savepoints.
 ghost use Rattle.std.specs.Prelude.{◌≡◌, ℕ, ◌<◌, ◌^◌, ◌≤◌, ◌+◌, ◌-◌, [], length, OnOk, unwrap_or, IfOk, OnErr, true, vec_capacity};
 ghost use Rattle.ckpt_ids.specs.declared.call.Call.TheVariants as call;
 ghost use Rattle.ckpt_ids.specs.declared.reply.Answer.TheVariants as answer;

@@ -1,3 +1,4 @@
+//! The outbox: files that wait for deletion, and those that were fetched for it.
 ghost use Rattle.std.specs.Prelude.{◌≡◌, ◌≤◌, ◌<◌, ◌+◌, ◌-◌, ◌^◌, ◌↔◌, ◌++◌, ◌∷◌, ℕ, [], true, false, max, min, length, take, drop, IsErr, IfOk, OnOk, OnErr};
 ghost use Rattle.std.specs.VecDeque.{deque_capacity};
 ghost use Rattle.ckpt_outbox.specs.Queues.{AreDistinct, Queues, is_in, is_known, is_taken, without};

@@ -1,3 +1,4 @@
+//! The index of an outbox: the ticket of each file, and what it tells.
 ghost use Rattle.std.specs.Prelude.{◌≡◌, ◌<◌, ◌≤◌, ◌+◌, ℕ, false, length, get_or, IsTrue, Some, nat_eq};
 ghost use Rattle.std.specs.HashMap as hash;
 ghost use Rattle.std.specs.HashMap.{IsUnchanged, Updates, spare};

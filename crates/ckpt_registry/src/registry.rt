@@ -1,3 +1,4 @@
+//! The registry: the uses of state files, how often each file is used, and which are released.
 ghost use Rattle.std.specs.Prelude.{◌≡◌, ℕ, ◌-◌, ◌^◌, ◌<◌, [], ◌++◌, false, true, map, length, OnOk, OnErr};
 ghost use Rattle.std.specs.Borrow.{sem};
 ghost use Rattle.ckpt_ids.specs.Ordered.{IsIn, IsInOrder, in_order_once};
