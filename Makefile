@@ -16,7 +16,9 @@ LIBRARY = build/librelkvanu.a build/librelkvanu.so.0
 PROGRAMS = ckpt_job ckpt_chart ckpt_demo
 VERSION := $(shell sed -n 's/^\#define RELKVANU_VERSION "\(.*\)"/\1/p' include/relkvanu.h)
 HEADERS = include/relkvanu.h include/relkvanu.hpp include/relkvanu_alloc.h
-SOURCES := $(wildcard crates/relkvanu/src/*.rt crates/ckpt_embed/src/*.rt)
+# What the toolchain proves and builds; a release has no crates, and the library instead.
+ARCHIVE := $(if $(wildcard crates),crates/relkvanu/out/librelkvanu.a)
+SOURCES := $(wildcard crates/*/src/*.rt crates/*/src/*/*.rt crates/*/specs/*.antt)
 into = $(DESTDIR)$(PREFIX)
 filled = sed -e 's|@PREFIX@|$(PREFIX)|g' -e 's|@VERSION@|$(VERSION)|g'
 
@@ -24,8 +26,11 @@ filled = sed -e 's|@PREFIX@|$(PREFIX)|g' -e 's|@VERSION@|$(VERSION)|g'
 
 library: $(LIBRARY)
 
-build/librelkvanu.a: $(SOURCES) embed/c/heap.c embed/c/version.c include/relkvanu.h include/relkvanu_alloc.h packaging/relkvanu.map
-	embed/library build
+crates/relkvanu/out/librelkvanu.a: $(SOURCES)
+	embed/archive
+
+build/librelkvanu.a: $(ARCHIVE) embed/c/heap.c embed/c/version.c include/relkvanu.h include/relkvanu_alloc.h packaging/relkvanu.map
+	embed/library build $(ARCHIVE)
 
 build/librelkvanu.so.0: build/librelkvanu.a
 

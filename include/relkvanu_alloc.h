@@ -6,12 +6,13 @@
  * What the library asks for:
  * - align is 1, 2, 4, 8 or 16. size is a number of bytes, at most 2^63 - 1, and may be 0: then there is a block all the same, to be
  *   given back as any other.
- * - rattle_realloc and rattle_dealloc get a block that one of the first two gave and that was not given back since, with the size
- *   and the align of the request that gave it. The align of a block stays.
+ * - rattle_realloc and rattle_dealloc get a block that one of the first two gave and that was not given back since. rattle_realloc
+ *   gets the align that the block was asked for with, and kept is at most the old size and at most the new one.
  *
  * What the program keeps:
  * - A block has at least size bytes, and its address is a multiple of align. Nobody else writes to it until it is given back.
- * - rattle_realloc keeps the bytes up to the smaller of the two sizes. Where it finds no memory, the old block stays as it is.
+ * - What rattle_realloc gives has the first kept bytes of the old block, which is given back by that; what its other bytes are does
+ *   not matter. Where there is no memory, the old block stays as it is.
  * - No memory is an ordinary answer: the call of the library that asked then answers RELKVANU_NO_MEMORY and changes nothing.
  *   rattle_dealloc always succeeds.
  * - The three belong to one allocator. They may be called by several threads at once, one for each handle that is in a call,
@@ -35,9 +36,9 @@ typedef struct {
 
 relkvanu_block rattle_alloc(size_t size, size_t align);
 
-relkvanu_block rattle_realloc(void *at, size_t old_size, size_t size, size_t align);
+relkvanu_block rattle_realloc(void *at, size_t kept, size_t size, size_t align);
 
-void rattle_dealloc(void *at, size_t size, size_t align);
+void rattle_dealloc(void *at);
 
 #ifdef __cplusplus
 }

@@ -16,13 +16,12 @@ relkvanu_block rattle_alloc(size_t size, size_t align) {
     return block_at(malloc(size != 0 ? size : align));
 }
 
-relkvanu_block rattle_realloc(void *at, size_t old_size, size_t size, size_t align) {
-    (void)old_size;
+/* realloc keeps all that fits. */
+relkvanu_block rattle_realloc(void *at, size_t kept, size_t size, size_t align) {
+    (void)kept;
     return block_at(realloc(at, size != 0 ? size : align));
 }
 
-void rattle_dealloc(void *at, size_t size, size_t align) {
-    (void)size;
-    (void)align;
+void rattle_dealloc(void *at) {
     free(at);
 }
