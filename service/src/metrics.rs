@@ -39,17 +39,17 @@ impl Metrics {
     pub fn new() -> Result<Metrics, prometheus::Error> {
         let metrics = Metrics {
             registry: Registry::new(),
-            calls: counter("relkvanu_calls_total", "Calls, by what became of them.", &["job", "call", "outcome"])?,
+            calls: counter("relkvanu_calls_total", "Calls, by what became of them.", &["job_name", "call", "outcome"])?,
             requests: counter("relkvanu_http_requests_total", "HTTP requests, by route and status.", &["route", "status"])?,
             commit_seconds: histogram("relkvanu_commit_seconds", "How long a commit takes.", &SECONDS)?,
             commit_rows: histogram("relkvanu_commit_calls", "How many calls share a commit.", &ROWS)?,
             leader: IntGauge::new("relkvanu_leader", "1 where this process leads.")?,
             connections: IntGauge::new("relkvanu_http_connections", "Open connections.")?,
-            records: counter("relkvanu_records_total", "Records that ended being pending, by how.", &["job", "kind", "how"])?,
+            records: counter("relkvanu_records_total", "Records that ended being pending, by how.", &["job_name", "kind", "how"])?,
             durations: HistogramVec::new(
                 HistogramOpts::new("relkvanu_completion_seconds", "From a record's trigger to its completion.")
                     .buckets(DURATIONS.to_vec()),
-                &["job", "kind"],
+                &["job_name", "kind"],
             )?,
             gauges: Gauges::new()?,
         };
@@ -119,17 +119,17 @@ impl Metrics {
 impl Gauges {
     fn new() -> Result<Gauges, prometheus::Error> {
         Ok(Gauges {
-            mode: gauge("relkvanu_mode", "What the job is doing: 1 running, 2 failed, 3 cancelled.", &["job"])?,
+            mode: gauge("relkvanu_mode", "What the job is doing: 1 running, 2 failed, 3 cancelled.", &["job_name"])?,
             interval: seconds("relkvanu_interval_seconds", "From one trigger to the next, the pause if it is longer.")?,
             completed: seconds(
                 "relkvanu_last_completed_timestamp_seconds",
                 "When the last checkpoint completed, in Unix time; before the first, when the job was opened.",
             )?,
             opened: seconds("relkvanu_job_opened_timestamp_seconds", "When the job was opened, in Unix time.")?,
-            files: gauge("relkvanu_files", "State files that are in use, wait for deletion, or were taken for it.", &["job", "state"])?,
-            pending: gauge("relkvanu_pending_records", "Records that subtasks are missing of.", &["job", "kind"])?,
-            log_calls: gauge("relkvanu_log_calls", "Calls in the job's log.", &["job"])?,
-            history: gauge("relkvanu_history_calls", "Calls of the log that the history has read.", &["job"])?,
+            files: gauge("relkvanu_files", "State files that are in use, wait for deletion, or were taken for it.", &["job_name", "state"])?,
+            pending: gauge("relkvanu_pending_records", "Records that subtasks are missing of.", &["job_name", "kind"])?,
+            log_calls: gauge("relkvanu_log_calls", "Calls in the job's log.", &["job_name"])?,
+            history: gauge("relkvanu_history_calls", "Calls of the log that the history has read.", &["job_name"])?,
         })
     }
 
@@ -171,7 +171,7 @@ fn set_seconds(gauge: &GaugeVec, job: &str, milliseconds: u64) {
 }
 
 fn seconds(name: &str, help: &str) -> Result<GaugeVec, prometheus::Error> {
-    GaugeVec::new(Opts::new(name, help), &["job"])
+    GaugeVec::new(Opts::new(name, help), &["job_name"])
 }
 
 fn counter(name: &str, help: &str, labels: &[&str]) -> Result<IntCounterVec, prometheus::Error> {

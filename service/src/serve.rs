@@ -136,10 +136,9 @@ impl Leader {
         let mut jobs = Jobs::default();
         let (started, mut calls) = (Instant::now(), 0);
         loop {
-            calls += jobs.catch_up(self.reader.as_mut()).map_err(|error| error.to_string())?;
-            self.board.beat();
+            calls += self.catch_up(&mut jobs)?;
             if let Some(epoch) = self.store.lead(LEAD_TRY)? {
-                calls += jobs.catch_up(self.reader.as_mut()).map_err(|error| error.to_string())?;
+                calls += self.catch_up(&mut jobs)?;
                 self.board.lead(epoch);
                 let took = started.elapsed().as_millis();
                 log::info(&format!("leads epoch={epoch} jobs={} calls={calls} after_ms={took}", jobs.len()));
@@ -147,6 +146,13 @@ impl Leader {
             }
             std::thread::sleep(LEAD_TRY);
         }
+    }
+}
+
+impl Leader {
+    fn catch_up(&mut self, jobs: &mut Jobs) -> Result<u64, String> {
+        let board = &self.board;
+        jobs.catch_up(self.reader.as_mut(), &|| board.beat()).map_err(|error| error.to_string())
     }
 }
 

@@ -18,7 +18,7 @@ def tests(words):
         if not os.path.exists(f"{HERE}/{name}.py"):
             continue
         module = importlib.import_module(name)
-        for word, test in vars(module).items():
+        for word, test in list(vars(module).items()):
             if word.startswith("test_") and callable(test) and (not words or any(one in f"{name}.{word}" for one in words)):
                 yield f"{name[5:]}: {word[5:].replace('_', ' ')}", test
 

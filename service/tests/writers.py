@@ -28,8 +28,9 @@ class Writer(threading.Thread):
             try:
                 self.turn()
             except Failed as failed:
-                self.errors.append(str(failed))
-                return
+                if failed.status != 404:  # a record may have ended since it was seen
+                    self.errors.append(str(failed))
+                    return
 
     def files(self, count):
         self.next_file += count

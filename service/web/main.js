@@ -5,7 +5,8 @@ import * as views from "./views.js";
 
 const SLOWEST = 2000; // milliseconds between two looks
 const FASTEST = 250;
-const RECORDS = 60;
+const RECORDS = 60; // in the chart
+const ROWS = 25; // in the table
 const SAMPLES = 600;
 
 const at = (id) => document.getElementById(id);
@@ -41,7 +42,7 @@ async function showJob(job) {
   ]);
   at("job-name").textContent = job.name;
   at("facts").replaceChildren(...views.facts(job));
-  at("records").replaceChildren(...records.records.map(views.recordRow));
+  at("records").replaceChildren(...records.records.slice(0, ROWS).map(views.recordRow));
   at("taken").replaceChildren(...views.fileButtons(files.taken, look));
   at("deleted").replaceChildren(...views.fileButtons(files.deleted, look));
   at("job").hidden = false;

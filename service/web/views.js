@@ -79,13 +79,13 @@ export function recordRow(record) {
     "tr",
     { "data-record": record.id },
     cell(record.id),
-    cell(record.kind),
-    cell(moment(record.started)),
     cell(record.how, record.how === "pending" ? null : tone(record.how)),
     cell(took),
-    cell(record.slowest ?? ""),
     cell(record.missing.join(", ") + more, "many"),
+    cell(record.slowest ?? ""),
     cell(kept),
+    cell(record.kind),
+    cell(moment(record.started)),
   );
 }
 

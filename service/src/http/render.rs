@@ -113,19 +113,29 @@ pub fn file_history(row: &FileRow, entries: &[Entry]) -> Value {
 /// Why a call released files, in words.
 fn why(entry: &Entry) -> Option<String> {
     let (_, call) = parse_line(&entry.line)?;
-    let gone = ended(entry).iter().map(u64::to_string).collect::<Vec<_>>().join(", ");
+    let dropped = dropped(&ended(entry));
     Some(match call {
         Call::Ack { id, .. } if entry.answer.starts_with("ack late") => {
             format!("an acknowledgement of record {id} came after the record had ended")
         }
-        Call::Ack { id, .. } => format!("record {id} completed, and records {gone} were dropped"),
-        Call::Tick => format!("records {gone} expired or were dropped as the job failed over"),
-        Call::Decline { id, .. } => format!("record {id} was declined, and records {gone} were dropped"),
+        Call::Ack { id, .. } => format!("record {id} completed, and {dropped}"),
+        Call::Tick if entry.answer.ends_with("failed") => format!("the job failed over, and {dropped}"),
+        Call::Tick => format!("by its timeout {dropped}"),
+        Call::Decline { id, .. } => format!("record {id} was declined, and {dropped}"),
         Call::Dispose { id } => format!("savepoint {id} was disposed of"),
-        Call::Restore { .. } => format!("the job was restored, and records {gone} were dropped"),
-        Call::Cancel => format!("the job was cancelled, and records {gone} were dropped"),
+        Call::Restore { .. } => format!("the job was restored, and {dropped}"),
+        Call::Cancel => format!("the job was cancelled, and {dropped}"),
         Call::Savepoint | Call::Take { .. } | Call::Deleted { .. } | Call::Undeleted { .. } => return None,
     })
+}
+
+fn dropped(ids: &[u64]) -> String {
+    let list = ids.iter().map(u64::to_string).collect::<Vec<_>>().join(", ");
+    match ids {
+        [] => "pins ended".to_string(),
+        [_] => format!("record {list} was dropped"),
+        _ => format!("records {list} were dropped"),
+    }
 }
 
 /// Which subtasks a record's acknowledgements, of its metadata, do not have.

@@ -80,22 +80,24 @@ impl Jobs {
     }
 
     /// Makes the calls that the log has and these jobs have not, and returns how many there were. Each answer is compared.
-    pub fn catch_up(&mut self, reader: &mut dyn Reader) -> Result<u64, StartError> {
+    /// `beat` tells now and then that the work goes on.
+    pub fn catch_up(&mut self, reader: &mut dyn Reader, beat: &dyn Fn()) -> Result<u64, StartError> {
         let mut made = 0;
         for opening in reader.jobs().map_err(StartError::Unread)? {
             let place = match self.place(&opening.name) {
                 Some(place) => place,
                 None => self.open(opening.clone()).map_err(|NoJob(why)| StartError::NotOpened { job: opening.name, why })?,
             };
-            made += self.catch_up_job(place, reader)?;
+            made += self.catch_up_job(place, reader, beat)?;
         }
         Ok(made)
     }
 
-    fn catch_up_job(&mut self, place: usize, reader: &mut dyn Reader) -> Result<u64, StartError> {
+    fn catch_up_job(&mut self, place: usize, reader: &mut dyn Reader, beat: &dyn Fn()) -> Result<u64, StartError> {
         let job = &mut self.jobs[place];
         let first = job.seq;
         loop {
+            beat();
             let page = reader.log(job.opening.number, job.seq, PAGE).map_err(StartError::Unread)?;
             if page.is_empty() {
                 return Ok(job.seq - first);
