@@ -18,6 +18,13 @@ static void wanted(const char *about, relkvanu_answer answer, uint32_t code, uin
     }
 }
 
+static void same(const char *about, const uint64_t *numbers, const uint64_t *expected, size_t len) {
+    if (memcmp(numbers, expected, len * sizeof *numbers) != 0) {
+        fprintf(stderr, "lines: other numbers than those of %s\n", about);
+        faults++;
+    }
+}
+
 static void *block(size_t size) {
     void *at = malloc(size);
     if (at == NULL && size != 0) {
@@ -154,15 +161,15 @@ static void try_opening(void) {
     wanted("a bad moment", relkvanu_opening_lines(&settings, shape, 2, past, NULL, 0), RELKVANU_BAD_ARGUMENT, RELKVANU_BAD_MOMENT, 0, 0);
     wanted("config", says(text, 26, 7, numbers), RELKVANU_DONE, RELKVANU_LINE_CONFIG, 7, 0);
     static const uint64_t config[] = {10, 20, 3, 40, 5, 6, 1};
-    faults += memcmp(numbers, config, sizeof config) != 0;
+    same("config", numbers, config, 7);
     wanted("config into too little", says(text, 26, 6, numbers), RELKVANU_TOO_SHORT, 0, 7, 0);
     wanted("job", says(text + 27, 7, 2, numbers), RELKVANU_DONE, RELKVANU_LINE_JOB, 2, 0);
-    faults += memcmp(numbers, shape, sizeof shape) != 0;
+    same("job", numbers, shape, 2);
     wanted("start", says(text + 35, 7, 1, numbers), RELKVANU_DONE, RELKVANU_LINE_START, 1, 0);
-    faults += numbers[0] != 7;
+    same("start", numbers, (uint64_t[]){7}, 1);
     wanted("all", says("all 1 2 3 4", 11, 4, numbers), RELKVANU_DONE, RELKVANU_LINE_ALL, 4, 0);
     static const uint64_t all[] = {1, 2, 3, 4};
-    faults += memcmp(numbers, all, sizeof all) != 0;
+    same("all", numbers, all, 4);
     wanted("a comment", says("# a", 3, 0, numbers), RELKVANU_DONE, RELKVANU_LINE_SKIP, 0, 0);
     wanted("a call", says("tick 1", 6, 0, numbers), RELKVANU_DONE, RELKVANU_LINE_CALL, 0, 0);
     wanted("a restore in no shape", says("restore 1 latest 0", 18, 0, numbers), RELKVANU_DONE, RELKVANU_LINE_CALL, 0, 0);
