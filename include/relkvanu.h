@@ -62,7 +62,7 @@ typedef struct {
 } relkvanu_settings;
 
 typedef struct {
-    uint32_t code; /* one of RELKVANU_DONE to RELKVANU_TOO_SHORT */
+    uint32_t code; /* one of RELKVANU_DONE to RELKVANU_BAD_LINE */
     uint32_t what; /* which reply, refusal or bad argument */
     uint64_t a, b; /* its numbers, as said at its constant; else 0 */
 } relkvanu_answer;
@@ -74,6 +74,15 @@ typedef struct {
     uint64_t taken;   /* files that were fetched, and are not yet reported */
 } relkvanu_counts;
 
+/* A call by its kind, for relkvanu_call_line. A field that the kind has no use for is not read. */
+typedef struct {
+    uint32_t kind;   /* RELKVANU_CALL_TICK to RELKVANU_CALL_COUNT */
+    uint16_t vertex; /* with index: the subtask of an ack or a decline */
+    uint16_t index;
+    uint64_t now;    /* the moment of a call that has one */
+    uint64_t number; /* of the record or the file; of a restore the savepoint or 0; of a take how many files */
+} relkvanu_call;
+
 /* code */
 #define RELKVANU_DONE 0u         /* the call was made: what is a reply */
 #define RELKVANU_REFUSED 1u      /* nothing has changed: what is a refusal */
@@ -81,6 +90,7 @@ typedef struct {
 #define RELKVANU_CLOSED 3u       /* the handle has no coordinator; what, a and b are 0 */
 #define RELKVANU_BAD_ARGUMENT 4u /* nothing has changed: what is an argument */
 #define RELKVANU_TOO_SHORT 5u    /* nothing has changed: the buffer has to have a places; what and b are 0 */
+#define RELKVANU_BAD_LINE 6u     /* nothing has changed: what is a fault of a line */
 
 /* what, where code is RELKVANU_DONE */
 #define RELKVANU_OPENED 0u
@@ -123,6 +133,16 @@ typedef struct {
 #define RELKVANU_MISSING 35u         /* a: subtasks */
 #define RELKVANU_NOT_PENDING 36u
 
+/* what, where a line of a script is RELKVANU_DONE */
+#define RELKVANU_SKIPPED 37u     /* the line makes no call, since it has no words or is a comment */
+#define RELKVANU_LINE_SKIP 38u   /* a: 0 */
+#define RELKVANU_LINE_CONFIG 39u /* a: 7, the numbers at the buffer's front: those of relkvanu_settings, in its order */
+#define RELKVANU_LINE_JOB 40u    /* a: the numbers at the buffer's front: the parallelism of each vertex */
+#define RELKVANU_LINE_START 41u  /* a: 1, the number at the buffer's front: the moment */
+#define RELKVANU_LINE_CALL 42u   /* a: 0 */
+#define RELKVANU_LINE_ALL 43u    /* a: 4, the numbers at the buffer's front: moment, record, threads, first file */
+#define RELKVANU_WRITTEN 44u     /* a: bytes at the buffer's front */
+
 /* what, where code is RELKVANU_REFUSED; they are tested in this order */
 #define RELKVANU_MOMENT_TOO_LARGE 1u
 #define RELKVANU_NOT_RUNNING 2u
@@ -146,6 +166,29 @@ typedef struct {
 #define RELKVANU_BAD_SHAPE 3u
 #define RELKVANU_BAD_MOMENT 4u
 #define RELKVANU_BAD_FIRST 5u
+#define RELKVANU_BAD_KIND 6u
+
+/* what, where code is RELKVANU_BAD_LINE: the first fault from the left */
+#define RELKVANU_FAULT_TOO_LONG 1u /* a line has at most 131072 bytes */
+#define RELKVANU_FAULT_WORD 2u     /* a word that does not belong there */
+#define RELKVANU_FAULT_MISSING 3u  /* the line ends before a place that it needs */
+#define RELKVANU_FAULT_NUMBER 4u   /* not a number, or not a subtask */
+#define RELKVANU_FAULT_EXTRA 5u    /* a word follows the last place */
+#define RELKVANU_FAULT_NO_CALL 6u  /* a config, job, start or all line: it was read, and makes no call */
+
+/* kind of a call */
+#define RELKVANU_CALL_TICK 1u
+#define RELKVANU_CALL_SAVEPOINT 2u
+#define RELKVANU_CALL_ACK 3u
+#define RELKVANU_CALL_DECLINE 4u
+#define RELKVANU_CALL_DISPOSE 5u
+#define RELKVANU_CALL_RESTORE 6u
+#define RELKVANU_CALL_CANCEL 7u
+#define RELKVANU_CALL_TAKE 8u
+#define RELKVANU_CALL_DELETED 9u
+#define RELKVANU_CALL_UNDELETED 10u
+#define RELKVANU_CALL_SHOW 11u
+#define RELKVANU_CALL_COUNT 12u
 
 /* Gives a closed handle a coordinator, from the moment now on, whose first record has the number
  * first, 1 to 2^62 - 1. The shape is the parallelism of each vertex: 1 to 256, at least 1 each, at
@@ -266,6 +309,43 @@ relkvanu_counts relkvanu_file_counts(relkvanu *handle);
  * which is 0 where no refusal has the number. It is written where text_len is at least that. */
 size_t relkvanu_refusal_text(uint32_t what, uint8_t *text, size_t text_len);
 
+/* Lines of a script, which docs/SCRIPT.md defines: for a log of calls that is replayed, and for programs that read scripts. A
+ * line is the bytes before its newline, at most 131072 of them; a carriage return at its end is dropped. There is no
+ * limit of how many lines a log has. */
+
+/* Makes the call that a line says, and answers as the function of that call does.
+ *
+ * A take line writes at most as many files as it says to the front of files; where files_len is below what it would
+ * fetch, the answer is RELKVANU_TOO_SHORT, where a is how many places it needs, and nothing has changed. A show line answers as
+ * relkvanu_show with an empty buffer. A restore line in a shape that no job has is RELKVANU_BAD_ARGUMENT with RELKVANU_BAD_SHAPE.
+ * RELKVANU_SKIPPED where the line has no words or is a comment; RELKVANU_BAD_LINE where it can't be read, or makes no call.
+ * Only RELKVANU_TAKEN changes the buffer. Takes memory as the call does, and for the lists of an ack, job or restore line,
+ * so that such a line may answer RELKVANU_NO_MEMORY also where the call would be refused. */
+relkvanu_answer relkvanu_line(relkvanu *handle, const uint8_t *line, size_t line_len, uint64_t *files, size_t files_len);
+
+/* Tells which line it is, RELKVANU_LINE_SKIP to RELKVANU_LINE_ALL, and writes the numbers of a line that makes no call to the front
+ * of numbers, in the line's order; keep is 1 and delete is 0. No number is tested against the limits of a job.
+ *
+ * RELKVANU_TOO_SHORT, where a is how many places it needs; RELKVANU_BAD_LINE with the fault. Both leave the buffer. A restore line in
+ * a shape that no job has is RELKVANU_LINE_CALL: relkvanu_line says what is wrong with it. Takes memory for the lists of an
+ * ack, job or restore line alone. */
+relkvanu_answer relkvanu_line_says(const uint8_t *line, size_t line_len, uint64_t *numbers, size_t numbers_len);
+
+/* Writes the line of a call, without a newline and without a zero at its end. What is written is read as that call.
+ *
+ * first and second are the fresh and the reused files of an ack, in any order; first is the new shape of a restore, or
+ * empty. RELKVANU_WRITTEN; RELKVANU_TOO_SHORT, where a is how many bytes it needs; RELKVANU_BAD_ARGUMENT with RELKVANU_BAD_KIND or
+ * RELKVANU_BAD_SHAPE; RELKVANU_BAD_LINE with RELKVANU_FAULT_TOO_LONG where no line may be as long: it is never cut. Only RELKVANU_WRITTEN
+ * changes the buffer. Takes memory. */
+relkvanu_answer relkvanu_call_line(const relkvanu_call *call, const uint64_t *first, size_t first_len, const uint64_t *second, size_t second_len, uint8_t *line, size_t line_len);
+
+/* Writes the lines config, job and start of a coordinator that begins with the number 1, each with its newline.
+ *
+ * RELKVANU_WRITTEN; RELKVANU_TOO_SHORT, where a is how many bytes it needs; RELKVANU_BAD_ARGUMENT where relkvanu_open answers so, with
+ * the same argument: RELKVANU_BAD_CONFIG, RELKVANU_BAD_SHAPE or RELKVANU_BAD_MOMENT. Only RELKVANU_WRITTEN changes the buffer. Takes
+ * memory. */
+relkvanu_answer relkvanu_opening_lines(const relkvanu_settings *settings, const uint64_t *shape, size_t shape_len, uint64_t now, uint8_t *lines, size_t lines_len);
+
 /* Null pointers. The symbols of the library take none. A program that includes this header calls these functions by
  * the symbols' names: an empty list or buffer is never passed on, only the address of an element that nobody reads. */
 
@@ -282,6 +362,11 @@ static inline uint64_t *relkvanu_places_of(uint64_t *places, size_t len) {
 static inline uint8_t *relkvanu_bytes_of(uint8_t *bytes, size_t len) {
     static uint8_t none = 0;
     return len == 0 ? &none : bytes;
+}
+
+static inline const uint8_t *relkvanu_text_of(const uint8_t *text, size_t len) {
+    static const uint8_t none = 0;
+    return len == 0 ? &none : text;
 }
 
 static inline relkvanu_answer relkvanu_open_nullable(relkvanu *handle, const relkvanu_settings *settings, const uint64_t *shape, size_t shape_len, uint64_t now, uint64_t first, uint64_t first_word, uint64_t second_word) {
@@ -314,6 +399,22 @@ static inline size_t relkvanu_refusal_text_nullable(uint32_t what, uint8_t *text
     return relkvanu_refusal_text(what, relkvanu_bytes_of(text, text_len), text_len);
 }
 
+static inline relkvanu_answer relkvanu_line_nullable(relkvanu *handle, const uint8_t *line, size_t line_len, uint64_t *files, size_t files_len) {
+    return relkvanu_line(handle, relkvanu_text_of(line, line_len), line_len, relkvanu_places_of(files, files_len), files_len);
+}
+
+static inline relkvanu_answer relkvanu_line_says_nullable(const uint8_t *line, size_t line_len, uint64_t *numbers, size_t numbers_len) {
+    return relkvanu_line_says(relkvanu_text_of(line, line_len), line_len, relkvanu_places_of(numbers, numbers_len), numbers_len);
+}
+
+static inline relkvanu_answer relkvanu_call_line_nullable(const relkvanu_call *call, const uint64_t *first, size_t first_len, const uint64_t *second, size_t second_len, uint8_t *line, size_t line_len) {
+    return relkvanu_call_line(call, relkvanu_list_of(first, first_len), first_len, relkvanu_list_of(second, second_len), second_len, relkvanu_bytes_of(line, line_len), line_len);
+}
+
+static inline relkvanu_answer relkvanu_opening_lines_nullable(const relkvanu_settings *settings, const uint64_t *shape, size_t shape_len, uint64_t now, uint8_t *lines, size_t lines_len) {
+    return relkvanu_opening_lines(settings, relkvanu_list_of(shape, shape_len), shape_len, now, relkvanu_bytes_of(lines, lines_len), lines_len);
+}
+
 #define relkvanu_open relkvanu_open_nullable
 #define relkvanu_close relkvanu_close_nullable
 #define relkvanu_ack relkvanu_ack_nullable
@@ -321,6 +422,10 @@ static inline size_t relkvanu_refusal_text_nullable(uint32_t what, uint8_t *text
 #define relkvanu_take relkvanu_take_nullable
 #define relkvanu_show relkvanu_show_nullable
 #define relkvanu_refusal_text relkvanu_refusal_text_nullable
+#define relkvanu_line relkvanu_line_nullable
+#define relkvanu_line_says relkvanu_line_says_nullable
+#define relkvanu_call_line relkvanu_call_line_nullable
+#define relkvanu_opening_lines relkvanu_opening_lines_nullable
 
 #ifdef __cplusplus
 }

@@ -1,6 +1,6 @@
 -- What a coordinator that changed nothing is told to have answered.
 use Rattle.std.proofs.Common.{◌≡◌, ◌≢◌, refl, sym, ap, ◌∙◌, subst, arith}
-use Rattle.std.specs.Prelude.{◌≤◌, ℕ, Bool, true, false, Option, Some, None, Ok, Err, Result, OnErr, ◌↔◌, List, length}
+use Rattle.std.specs.Prelude.{◌≤◌, ℕ, min, true, false, Option, Some, None, Err, Result, OnErr, ◌↔◌, List, length}
 use Rattle.std.proofs.lemmas.Bool.{both_ways}
 use Rattle.std.proofs.lemmas.List.{length-take}
 use Rattle.ckpt_ids.specs.declared.call.Call.{Call}
@@ -15,7 +15,7 @@ use Rattle.ckpt_core.specs.Memory.{answer_wants, may_want_memory}
 use Rattle.ckpt_core.specs.Refusals.{refusal}
 use Rattle.ckpt_core.specs.State.{State}
 use Rattle.ckpt_core.specs.Steps.{step, effect, take_files, Stepped, unless_refused}
-use Rattle.ckpt_embed.specs.Buffers.{files_in, files_of_reply, StandsInFront}
+use Rattle.ckpt_embed.specs.Buffers.{files_in, StandsInFront}
 use Rattle.ckpt_embed.specs.Calls.{takes_no_memory}
 use Rattle.ckpt_embed.specs.Told.{fault_told, refusal_told, told, no_memory}
 use Rattle.ckpt_embed.specs.declared.answer.Answer.{Answer}
@@ -41,17 +41,6 @@ fault_in_front m call r (Refused why) old is refused other =
     let stepped : Refused-answer why ≡ (step m call).1 = ap (λ (s : Stepped). s.1) (sym (refused_step m call why ((refused why).0 is))) in
     subst (λ (a : ids.Answer). StandsInFront (files_in a) old old) stepped (refl, refl)
 fault_in_front m call r Memory old is refused other = absurd (other refl)
-
-taken_at_most : (m : State) (n : ℕ) (w : Option Why) → length (files_in (unless_refused m (call.Take n) w).1) ≤ n
-unfolding effect take_files
-taken_at_most m n (Some why) = omega arith
-taken_at_most m n None = subst (λ (k : ℕ). k ≤ n) (sym (length-take n m.waiting)) (omega arith)
-
--- a take brings no more files than it asks for
-pub take_fits : (m m' : State) (n : ℕ) (reply : Reply) → step m (call.Take n) ≡ (m', Done reply) → length (files_of_reply reply) ≤ n
-unfolding step
-take_fits m m' n reply done =
-    subst (λ (s : Stepped). length (files_in s.1) ≤ n) done (taken_at_most m n (refusal m (call.Take n)))
 
 shows_leave : (m : State) (id : ℕ) (w : Option Why) → (unless_refused m (call.Show id) w).0 ≡ m
 unfolding effect
@@ -91,3 +80,18 @@ never_answers (call.Show id) none (Done reply) = absurd (both_ways false refl no
 -- the calls that take no memory want none
 pub never_wants : (m : State) (call : Call) → takes_no_memory call ≡ true → may_want_memory m call ≡ true → ⊥
 never_wants m call none wants = both_ways (may_want_memory m call) (never_answers call none (step m call).1) wants
+
+takes_some : (m : State) (n : ℕ) → refusal m (call.Take n) ≡ None → length (files_in (step m (call.Take n)).1) ≡ min n (length m.waiting)
+unfolding step effect take_files
+takes_some m n none = ap (λ (w : Option Why). length (files_in (unless_refused m (call.Take n) w).1)) none ∙ length-take n m.waiting
+
+never_refused : (m : State) (n : ℕ) → refusal m (call.Take n) ≡ None
+unfolding refusal
+never_refused m n = refl
+
+-- how many files a take brings
+pub take_brings : (m : State) (n : ℕ) → length (files_in (step m (call.Take n)).1) ≡ min n (length m.waiting)
+take_brings m n = takes_some m n (never_refused m n)
+
+pub take_at_most : (m : State) (n : ℕ) → length (files_in (step m (call.Take n)).1) ≤ n
+take_at_most m n = subst (λ (k : ℕ). k ≤ n) (sym (take_brings m n)) (omega arith)

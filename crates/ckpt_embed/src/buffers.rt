@@ -2,8 +2,9 @@ ghost use Rattle.std.specs.Prelude.{◌≡◌, ◌≢◌, ◌≤◌, true, lengt
 ghost use Rattle.ckpt_ids.specs.declared.call.Call.TheVariants as call;
 ghost use Rattle.ckpt_core.specs.Memory.{may_want_memory};
 ghost use Rattle.ckpt_core.specs.State.{State};
+ghost use Rattle.ckpt_core.specs.Steps.{step};
 ghost use Rattle.ckpt_texts.specs.MetadataTexts.{metadata_bytes};
-ghost use Rattle.ckpt_embed.specs.Buffers.{BringsFiles, BringsJson, IsShowTold, StandsInFront, files_of_reply, json_of_reply, json_told, show_reply_told};
+ghost use Rattle.ckpt_embed.specs.Buffers.{BringsFiles, BringsJson, IsShowTold, StandsInFront, files_in, files_of_reply, json_of_reply, json_told, show_reply_told};
 ghost use Rattle.ckpt_embed.specs.Calls.{HasNoNumbers, IsAnswered, IsStepTold, StaysAsItWas, StaysClosed, WantsMemory};
 ghost use Rattle.ckpt_embed.specs.Told.{no_memory, reply_told};
 
@@ -21,7 +22,7 @@ pub fn take(alloc: Global, handle: &mut Handle, files: &mut [u64]) -> Answer
     ensures closed { StaysClosed handle.old.value handle.new.value result }
     ensures answered { IsAnswered handle.old.value handle.new.value (call.Take (length files.old)) result }
     ensures front { (m : State) → handle.old.value ≡ Some m → BringsFiles m files.old files.new result }
-    ensures kept { result.code ≡ no_memory → files.new ≡ files.old }
+    ensures kept { result.code ≢ 0 → files.new ≡ files.old }
     ensures memory { WantsMemory handle.old.value (call.Take (length files.old)) result }
     ensures numbers { HasNoNumbers result }
     ensures unchanged { StaysAsItWas handle.old.value handle.new.value result }
@@ -29,7 +30,7 @@ pub fn take(alloc: Global, handle: &mut Handle, files: &mut [u64]) -> Answer
     let Some(mut core) = handle.take(alloc) else {
         return Answer::closed();
     };
-    let answer = take_from(&mut core, files);
+    let answer = take_from(&mut core, files.len() as u64, files);
     handle.put(alloc, core);
     answer
 }
@@ -54,15 +55,16 @@ pub fn show(alloc: Global, handle: &mut Handle, id: u64, json: &mut [u8]) -> Ans
     answer
 }
 
-fn take_from(core: &mut Core, files: &mut [u64]) -> Answer
-    ensures answered { IsStepTold core.old core.new (call.Take (length files.old)) result }
-    ensures front { BringsFiles core.old files.old files.new result }
-    ensures kept { result.code ≡ no_memory → files.new ≡ files.old }
-    ensures memory { result.code ≡ no_memory → may_want_memory core.old (call.Take (length files.old)) ≡ true }
+/// Fetches at most `most` files, for each of which the buffer has a place.
+pub(crate) fn take_from(core: &mut Core, most: u64, files: &mut [u64]) -> Answer
+    requires fits { length (files_in (step core.old (call.Take most)).1) ≤ length files.old }
+    ensures answered { IsStepTold core.old core.new (call.Take most) result }
+    ensures front { result.code ≢ no_memory → StandsInFront (files_in (step core.old (call.Take most)).1) files.old files.new }
+    ensures kept { result.code ≢ 0 → files.new ≡ files.old }
+    ensures memory { result.code ≡ no_memory → may_want_memory core.old (call.Take most) ≡ true }
     ensures numbers { HasNoNumbers result }
     ensures unchanged { result.code ≡ no_memory → core.new ≡ core.old }
 {
-    let most = files.len() as u64;
     match core.apply(&Call::Take { most }) {
         Ok(reply) => with_files(&reply, files),
         Err(fault) => of_fault(fault),
@@ -73,6 +75,7 @@ fn take_from(core: &mut Core, files: &mut [u64]) -> Answer
 fn with_files(reply: &Reply, files: &mut [u64]) -> Answer
     requires fits { length (files_of_reply reply.now) ≤ length files.old }
     ensures told { result ≡ reply_told reply.now }
+    ensures code { result.code ≡ 0 }
     ensures front { StandsInFront (files_of_reply reply.now) files.old files.new }
 {
     if let Reply::Taken(taken) = reply {
@@ -90,7 +93,7 @@ fn write_files(taken: &Handed, files: &mut [u64])
     }
 }
 
-fn show_from(alloc: Global, core: &mut Core, id: u64, json: &mut [u8]) -> Answer
+pub(crate) fn show_from(alloc: Global, core: &mut Core, id: u64, json: &mut [u8]) -> Answer
     ensures answered { IsShowTold core.old id (length json.old) result }
     ensures front { BringsJson core.old id json.old json.new result }
     ensures kept { result.code ≢ 0 → json.new ≡ json.old }

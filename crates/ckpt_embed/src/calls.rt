@@ -92,7 +92,7 @@ pub fn restore(
 }
 
 /// Makes a call and tells its answer.
-fn answer(core: &mut Core, call: &Call) -> Answer
+pub(crate) fn answer(core: &mut Core, call: &Call) -> Answer
     ensures answered { IsStepTold core.old core.new call.now result }
     ensures memory { result.code ≡ no_memory → may_want_memory core.old call.now ≡ true }
     ensures never { takes_no_memory call.now ≡ true → result.code ≢ no_memory }
@@ -115,7 +115,7 @@ pub(crate) fn of_fault(fault: CoreFault) -> Answer
     }
 }
 
-fn ack_of(
+pub(crate) fn ack_of(
     alloc: Global,
     now: u64,
     id: u64,
@@ -134,7 +134,12 @@ fn ack_of(
     })
 }
 
-fn restore_of(alloc: Global, now: u64, savepoint: u64, shape: &[u64]) -> Result<Call, ShapeFault>
+pub(crate) fn restore_of(
+    alloc: Global,
+    now: u64,
+    savepoint: u64,
+    shape: &[u64],
+) -> Result<Call, ShapeFault>
     ensures bad { (result ≡ Err ShapeFault.BadShape) ↔ IsBadShape shape.now }
     ensures memory { result ≡ Err ShapeFault.Memory → shape.now ≢ [] }
     ensures value { IfOk result (λ made. made ≡ restore_of now savepoint shape.now) }

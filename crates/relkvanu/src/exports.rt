@@ -160,7 +160,7 @@ pub extern "C" fn relkvanu_take(alloc: Global, handle: &mut Handle, files: &mut 
     ensures closed { StaysClosed handle.old.value handle.new.value result }
     ensures answered { IsAnswered handle.old.value handle.new.value (call.Take (length files.old)) result }
     ensures front { (m : State) → handle.old.value ≡ Some m → BringsFiles m files.old files.new result }
-    ensures kept { result.code ≡ no_memory → files.new ≡ files.old }
+    ensures kept { result.code ≢ 0 → files.new ≡ files.old }
     ensures memory { WantsMemory handle.old.value (call.Take (length files.old)) result }
     ensures numbers { HasNoNumbers result }
     ensures unchanged { StaysAsItWas handle.old.value handle.new.value result }
