@@ -26,6 +26,15 @@
 extern "C" {
 #endif
 
+/* The version of this header. The one constant that rises with each change that a caller sees. */
+#define RELKVANU_VERSION_MAJOR 0
+#define RELKVANU_VERSION_MINOR 1
+#define RELKVANU_VERSION_PATCH 0
+#define RELKVANU_VERSION "0.1.0"
+
+/* The version of the library that is linked, as RELKVANU_VERSION. */
+const char *relkvanu_version(void);
+
 /* {0}: closed */
 typedef struct {
     void *state;

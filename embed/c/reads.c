@@ -1,6 +1,6 @@
 #include "reads.h"
 
-#include "heap.h"
+#include "refusing_heap.h"
 
 #include <inttypes.h>
 #include <stdlib.h>
@@ -31,8 +31,8 @@ static uint64_t number_after(const char *json, const char *name) {
 static struct record shown(struct script *script, uint64_t id) {
     char line[32];
     struct record record = {0};
-    snprintf(line, sizeof line, "show %" PRIu64, id);
-    relkvanu_answer answer = script_call(script, line);
+    int len = snprintf(line, sizeof line, "show %" PRIu64, id);
+    relkvanu_answer answer = script_line(script, line, (size_t)len);
     if (answer.code == RELKVANU_DONE) {
         char *json = strndup((const char *)script->json, answer.a);
         record.is_live = true;
@@ -96,16 +96,21 @@ static bool tick_fits(const struct reads *reads, relkvanu_answer answer) {
     }
 }
 
-static void remember(struct reads *reads, const struct list *fresh) {
-    for (size_t place = 0; place < fresh->len; place++) {
+/* The fresh files of an acknowledgement's line, each of which is counted once however often it comes; how many there are. */
+static uint64_t remember(struct reads *reads, const char *line) {
+    uint64_t fresh = 0;
+    for (const char *word = strchr(line, '+'); word != NULL; word = strchr(word + 1, '+')) {
+        uint64_t file = strtoull(word + 1, NULL, 10);
         size_t at = 0;
-        while (at < reads->files_len && reads->files[at] != fresh->items[place]) {
+        while (at < reads->files_len && reads->files[at] != file) {
             at++;
         }
-        if (at == reads->files_len && at < SCRIPT_LIST) {
-            reads->files[reads->files_len++] = fresh->items[place];
+        if (at == reads->files_len && at < READS_FILES) {
+            reads->files[reads->files_len++] = file;
         }
+        fresh++;
     }
+    return fresh;
 }
 
 /* What an accepted call changes of what the reads tell. */
@@ -120,12 +125,12 @@ static void note(struct reads *reads, struct script *script, const char *line, r
     case RELKVANU_RESTORED_SAVEPOINT: reads->base = answer.b; reads->mode = RELKVANU_MODE_RUNNING; break;
     case RELKVANU_RESTORED_CHECKPOINT:
     case RELKVANU_RESTORED_FRESH: reads->mode = RELKVANU_MODE_RUNNING; break;
-    case RELKVANU_ACK_LATE: reads->owned += answer.a; remember(reads, &script->fresh); break;
+    case RELKVANU_ACK_LATE: reads->owned += answer.a; remember(reads, line); break;
     case RELKVANU_ACK_COMPLETED:
         sscanf(line, "ack %*s %" SCNu64, &id);
         reads->base = shown(script, id).is_savepoint ? reads->base : 0;
         /* fall through */
-    case RELKVANU_ACK_PENDING: reads->owned += script->fresh.len; remember(reads, &script->fresh); break;
+    case RELKVANU_ACK_PENDING: reads->owned += remember(reads, line); break;
     case RELKVANU_TAKEN: reads->taken += answer.a; break;
     case RELKVANU_DELETED: reads->owned--; /* fall through */
     case RELKVANU_UNDELETED: reads->taken--; break;
@@ -165,9 +170,9 @@ bool reads_fit(struct reads *reads, struct script *script, const char *line, rel
     if (answer.code == RELKVANU_DONE) {
         note(reads, script, line, answer);
     }
-    uint64_t requests = relkvanu_requests();
+    uint64_t requests = heap_requests();
     bool fit = tells("mode", relkvanu_mode(&script->handle), reads->mode, 0, 0) && files_fit(reads, &script->handle)
-        && same("memory asked for", relkvanu_requests(), requests);
+        && same("memory asked for", heap_requests(), requests);
     /* all of many records are asked after but a few lines, for time */
     bool are_asked = reads->last <= 64 || reads->lines % 256 == 0;
     reads->lines++;

@@ -5,6 +5,8 @@
 
 #include "script.h"
 
+enum { READS_FILES = 1 << 13 };
+
 /* All zero: a script of which no line was read yet. */
 struct reads {
     uint64_t lines;              /* so many were read */
@@ -14,7 +16,7 @@ struct reads {
     uint64_t base;               /* the savepoint that the job was rolled back to, or 0 */
     uint64_t taken, owned;       /* files that were fetched, and all that the coordinator has */
     uint32_t mode;               /* what relkvanu_mode has to tell */
-    uint64_t files[SCRIPT_LIST]; /* each file that was new once */
+    uint64_t files[READS_FILES]; /* each file that was new once */
     size_t files_len;
 };
 

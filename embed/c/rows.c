@@ -4,7 +4,8 @@
  *
  * The script is run once with the reads compared after each line, once with all memory, and then once for each
  * request for memory, which is refused once: the call that wants it says so, and is made again. */
-#include "heap.h"
+#define _GNU_SOURCE
+#include "refusing_heap.h"
 #include "reads.h"
 #include "script.h"
 
@@ -13,27 +14,23 @@
 #include <string.h>
 
 /* Tells what the line's call answers. It is made again where memory was refused: that happens once. */
-static void obey(struct script *script, char *line, FILE *told) {
-    static char again[SCRIPT_LINE];
-    strcpy(again, line);
-    relkvanu_answer answer = script_call(script, line);
+static void obey(struct script *script, const char *line, size_t len, FILE *told) {
+    relkvanu_answer answer = script_line(script, line, len);
     if (answer.code == RELKVANU_NO_MEMORY) {
-        answer = script_call(script, again);
+        answer = script_line(script, line, len);
     }
     script_tell(script, told, answer);
 }
 
 /* The same with all memory, and whether the reads fit then. */
-static bool obey_and_read(struct script *script, struct reads *reads, char *line, FILE *told) {
-    static char again[SCRIPT_LINE];
-    strcpy(again, line);
+static bool obey_and_read(struct script *script, struct reads *reads, const char *line, size_t len, FILE *told) {
     reads_before(reads, script);
-    relkvanu_answer answer = script_call(script, line);
+    relkvanu_answer answer = script_line(script, line, len);
     script_tell(script, told, answer);
-    if (reads_fit(reads, script, again, answer)) {
+    if (reads_fit(reads, script, line, answer)) {
         return true;
     }
-    fprintf(stderr, "after the line %s\n", again);
+    fprintf(stderr, "after the line %s\n", line);
     return false;
 }
 
@@ -49,8 +46,8 @@ static FILE *opened(const char *path) {
 /* Runs the script, and says whether it told what is wanted, as did the reads where they are to be compared. */
 static bool runs(const char *path, const char *wanted, size_t wanted_len, struct reads *reads, uint64_t refused, uint64_t *requests) {
     static struct script script;
-    static char line[SCRIPT_LINE];
-    char *text = NULL;
+    char *text = NULL, *line = NULL;
+    size_t room = 0;
     size_t len = 0;
     FILE *from = opened(path);
     FILE *told = open_memstream(&text, &len);
@@ -59,19 +56,21 @@ static bool runs(const char *path, const char *wanted, size_t wanted_len, struct
         exit(2);
     }
     memset(&script, 0, sizeof script);
-    relkvanu_refuse(refused);
+    heap_refuse(refused);
     bool fit = true;
-    while (fit && fgets(line, sizeof line, from) != NULL) {
-        line[strcspn(line, "\r\n")] = '\0';
+    while (fit && getline(&line, &room, from) > 0) {
+        size_t line_len = strcspn(line, "\n");
+        line[line_len] = '\0';
         if (reads == NULL) {
-            obey(&script, line, told);
+            obey(&script, line, line_len, told);
         } else {
-            fit = obey_and_read(&script, reads, line, told);
+            fit = obey_and_read(&script, reads, line, line_len, told);
         }
     }
-    *requests = relkvanu_requests();
+    *requests = heap_requests();
     script_close(&script);
     bool shut = script.handle.state == NULL && relkvanu_tick(&script.handle, 0).code == RELKVANU_CLOSED && reads_are_closed(&script.handle);
+    free(line);
     fclose(from);
     fclose(told);
     bool same = fit && shut && len == wanted_len && memcmp(text, wanted, len) == 0;

@@ -2,7 +2,7 @@
  *
  * acks: acknowledgements a second of a job with so many subtasks, from one thread and under a lock from many.
  * files: the bytes that a coordinator has, and how long a trigger and a completion take, at 1000 live files and so on.
- * log: calls a second that are written to a log first, with a sync for each or for many; and their replay.
+ * log: calls a second that are made and written to a log, with a sync for each or for many; and their replay.
  * replay: calls a second of a script. */
 #define _GNU_SOURCE
 #include "script.h"
@@ -186,36 +186,45 @@ static void records(uint64_t subtasks, uint64_t count) {
 
 static struct script script;
 
-static void call(const char *text) {
-    static char line[SCRIPT_LINE];
-    strcpy(line, text);
-    line[strcspn(line, "\n")] = '\0';
-    done(script_call(&script, line));
+/* Makes a call and writes its line; every so many lines are synced. */
+static void logged_call(int log, const relkvanu_call *call, const uint64_t *fresh, size_t fresh_len) {
+    char line[256];
+    relkvanu_answer written = done(relkvanu_call_line(call, fresh, fresh_len, NULL, 0, (uint8_t *)line, sizeof line - 1));
+    done(script_line(&script, line, written.a));
+    line[written.a] = '\n';
+    if (write(log, line, written.a + 1) < 0) {
+        perror("write");
+        exit(1);
+    }
 }
 
-/* Calls a second, where each line is written to the log before its call, and every so many are synced. */
-static void logged(const char *path, uint64_t calls, uint64_t at_once) {
-    char line[256];
-    int log = open(path, O_CREAT | O_TRUNC | O_WRONLY | O_APPEND, 0600);
-    const char *opening[] = {"config 10 0 1 600000 0 1 delete\n", "job 1\n", "start 0\n"};
-    memset(&script, 0, sizeof script);
-    for (int place = 0; place < 3; place++) {
-        dprintf(log, "%s", opening[place]);
-        call(opening[place]);
+static void logged_opening(int log) {
+    relkvanu_settings settings = {10, 0, 1, 600000, 0, 1, false};
+    uint64_t shape = 1;
+    char lines[256];
+    relkvanu_answer written = done(relkvanu_opening_lines(&settings, &shape, 1, 0, (uint8_t *)lines, sizeof lines));
+    if (write(log, lines, written.a) < 0) {
+        perror("write");
+        exit(1);
     }
+    done(relkvanu_open(&script.handle, &settings, &shape, 1, 0, 1, 1, 2));
+}
+
+/* Calls a second, where each is made and then its line written to the log, and every so many are synced. */
+static void logged(const char *path, uint64_t calls, uint64_t at_once) {
+    int log = open(path, O_CREAT | O_TRUNC | O_WRONLY | O_APPEND, 0600);
+    memset(&script, 0, sizeof script);
+    logged_opening(log);
     double start = seconds();
     for (uint64_t nth = 0; nth < calls; nth++) {
-        uint64_t id = nth / 2 + 1, file = 4 * id;
-        if (nth % 2 == 0) {
-            snprintf(line, sizeof line, "tick %" PRIu64 "\n", 10 * id);
-        } else {
-            snprintf(line, sizeof line, "ack %" PRIu64 " %" PRIu64 " 0.0 +%" PRIu64 " +%" PRIu64 " +%" PRIu64 "\n", 10 * id, id, file, file + 1, file + 2);
-        }
-        if (write(log, line, strlen(line)) < 0 || (at_once != 0 && nth % at_once == at_once - 1 && fdatasync(log) != 0)) {
+        uint64_t id = nth / 2 + 1, file = 4 * id, fresh[] = {file, file + 1, file + 2};
+        bool is_tick = nth % 2 == 0;
+        relkvanu_call call = {.kind = is_tick ? RELKVANU_CALL_TICK : RELKVANU_CALL_ACK, .now = 10 * id, .number = is_tick ? 0 : id};
+        logged_call(log, &call, fresh, is_tick ? 0 : 3);
+        if (at_once != 0 && nth % at_once == at_once - 1 && fdatasync(log) != 0) {
             perror(path);
             exit(1);
         }
-        call(line);
     }
     printf("log, %3" PRIu64 " calls synced at once: %.0f calls a second\n", at_once, (double)calls / (seconds() - start));
     close(log);
@@ -223,17 +232,18 @@ static void logged(const char *path, uint64_t calls, uint64_t at_once) {
 }
 
 static void replay(const char *path) {
-    static char line[SCRIPT_LINE];
+    char *line = NULL;
+    size_t room = 0;
     FILE *from = fopen(path, "r");
     uint64_t calls = 0;
     memset(&script, 0, sizeof script);
     double start = seconds();
-    while (fgets(line, sizeof line, from) != NULL) {
-        line[strcspn(line, "\n")] = '\0';
-        done(script_call(&script, line));
+    for (ssize_t len = getline(&line, &room, from); len > 0; len = getline(&line, &room, from)) {
+        done(script_line(&script, line, (size_t)len - (line[len - 1] == '\n')));
         calls++;
     }
     printf("replay: %.0f calls a second\n", (double)calls / (seconds() - start));
+    free(line);
     fclose(from);
     script_close(&script);
 }

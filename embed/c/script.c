@@ -6,21 +6,6 @@
 #include <string.h>
 #include <unistd.h>
 
-static uint64_t number(const char *word) {
-    return strtoull(word, NULL, 10);
-}
-
-static uint64_t next_number(char **rest) {
-    return number(strtok_r(NULL, " ", rest));
-}
-
-static void next_numbers(char **rest, struct list *list) {
-    list->len = 0;
-    for (char *word = strtok_r(NULL, " ", rest); word != NULL; word = strtok_r(NULL, " ", rest)) {
-        list->items[list->len++] = number(word);
-    }
-}
-
 static void tell_tick(FILE *to, relkvanu_answer answer) {
     static const char *const ends[] = {"", "", "held interval", "held at-once", "held pause", "failed"};
     if (answer.what == RELKVANU_TICK_TRIGGERED) {
@@ -41,6 +26,7 @@ static void tell_taken(const struct script *script, FILE *to, uint64_t len) {
 static void tell_done(const struct script *script, FILE *to, relkvanu_answer answer) {
     switch (answer.what) {
     case RELKVANU_OPENED: break;
+    case RELKVANU_SKIPPED: break;
     case RELKVANU_SAVEPOINT_TRIGGERED: fprintf(to, "savepoint triggered %" PRIu64 "\n", answer.a); break;
     case RELKVANU_ACK_PENDING: fprintf(to, "ack pending %" PRIu64 "\n", answer.a); break;
     case RELKVANU_ACK_COMPLETED: fprintf(to, "ack completed %" PRIu64 " %" PRIu64 "\n", answer.a, answer.b); break;
@@ -81,67 +67,30 @@ void script_tell(const struct script *script, FILE *to, relkvanu_answer answer) 
     }
 }
 
-static relkvanu_answer take(struct script *script, uint64_t most) {
-    return relkvanu_take(&script->handle, script->taken, most < SCRIPT_TAKEN ? most : SCRIPT_TAKEN);
+/* The record of a show line, which the library has read: so its digits are those of one number. */
+static uint64_t record_of(const char *line, size_t len) {
+    uint64_t id = 0;
+    for (size_t place = 0; place < len; place++) {
+        id = line[place] >= '0' && line[place] <= '9' ? 10 * id + (uint64_t)(line[place] - '0') : id;
+    }
+    return id;
 }
 
-/* Asks with the buffer that is there, at first a short one, and again with one that is long enough. */
-static relkvanu_answer show(struct script *script, uint64_t id) {
-    relkvanu_answer answer = {RELKVANU_TOO_SHORT, 0, script->json != NULL ? script->json_len : 1, 0};
-    while (answer.code == RELKVANU_TOO_SHORT) {
-        uint8_t *longer = realloc(script->json, answer.a);
+/* Asks with the buffer that is there, or with one that is long enough. */
+static relkvanu_answer show(struct script *script, uint64_t id, size_t bytes) {
+    if (bytes > script->json_len) {
+        uint8_t *longer = realloc(script->json, bytes);
         if (longer == NULL) {
-            answer.code = RELKVANU_NO_MEMORY;
-            return answer;
+            return (relkvanu_answer){RELKVANU_NO_MEMORY, 0, 0, 0};
         }
         script->json = longer;
-        script->json_len = answer.a;
-        answer = relkvanu_show(&script->handle, id, script->json, script->json_len);
+        script->json_len = bytes;
     }
-    return answer;
+    return relkvanu_show(&script->handle, id, script->json, script->json_len);
 }
 
-static relkvanu_answer ack(struct script *script, char **rest) {
-    uint64_t now = next_number(rest), id = next_number(rest);
-    unsigned vertex = 0, index = 0;
-    sscanf(strtok_r(NULL, " ", rest), "%u.%u", &vertex, &index);
-    struct list *fresh = &script->fresh, *reused = &script->reused;
-    fresh->len = reused->len = 0;
-    for (char *word = strtok_r(NULL, " ", rest); word != NULL; word = strtok_r(NULL, " ", rest)) {
-        struct list *list = word[0] == '+' ? fresh : reused;
-        list->items[list->len++] = number(word + 1);
-    }
-    return relkvanu_ack(&script->handle, now, id, vertex, index, fresh->items, fresh->len, reused->items, reused->len);
-}
-
-static relkvanu_answer decline(struct script *script, char **rest) {
-    uint64_t now = next_number(rest), id = next_number(rest);
-    unsigned vertex = 0, index = 0;
-    sscanf(strtok_r(NULL, " ", rest), "%u.%u", &vertex, &index);
-    return relkvanu_decline(&script->handle, now, id, vertex, index);
-}
-
-static relkvanu_answer restore(struct script *script, char **rest) {
-    static struct list shape;
-    uint64_t now = next_number(rest);
-    const char *word = strtok_r(NULL, " ", rest);
-    uint64_t savepoint = strcmp(word, "latest") == 0 ? 0 : number(word);
-    next_numbers(rest, &shape);
-    relkvanu_answer answer = relkvanu_restore(&script->handle, now, savepoint, shape.items, shape.len);
-    if (answer.code == RELKVANU_DONE && shape.len != 0) {
-        script->shape = shape;
-    }
-    return answer;
-}
-
-static void configure(relkvanu_settings *settings, char **rest) {
-    settings->interval = next_number(rest);
-    settings->pause = next_number(rest);
-    settings->at_once = next_number(rest);
-    settings->timeout = next_number(rest);
-    settings->tolerable = next_number(rest);
-    settings->retained = next_number(rest);
-    settings->keep_on_cancel = strcmp(strtok_r(NULL, " ", rest), "keep") == 0;
+static void configure(relkvanu_settings *settings, const uint64_t *numbers) {
+    *settings = (relkvanu_settings){numbers[0], numbers[1], numbers[2], numbers[3], numbers[4], numbers[5], numbers[6] != 0};
 }
 
 static relkvanu_answer start(struct script *script, uint64_t now) {
@@ -150,56 +99,45 @@ static relkvanu_answer start(struct script *script, uint64_t now) {
         perror("getentropy");
         exit(2);
     }
-    return relkvanu_open(&script->handle, &script->settings, script->shape.items, script->shape.len, now, 1, words[0], words[1]);
+    return relkvanu_open(&script->handle, &script->settings, script->shape, script->shape_len, now, 1, words[0], words[1]);
 }
 
-/* The calls whose line has one number. */
-static relkvanu_answer call_with(struct script *script, const char *word, uint64_t n) {
-    static const struct {
-        const char *word;
-        relkvanu_answer (*call)(relkvanu *, uint64_t);
-    } calls[] = {{"tick", relkvanu_tick},       {"savepoint", relkvanu_savepoint}, {"dispose", relkvanu_dispose},
-                 {"cancel", relkvanu_cancel},   {"deleted", relkvanu_deleted},     {"undeleted", relkvanu_undeleted},
-                 {"count", relkvanu_count}};
-    for (size_t place = 0; place < sizeof calls / sizeof calls[0]; place++) {
-        if (strcmp(word, calls[place].word) == 0) {
-            return calls[place].call(&script->handle, n);
-        }
+/* A line that makes no call of the coordinator. */
+static relkvanu_answer opening(struct script *script, const uint8_t *line, size_t len) {
+    uint64_t numbers[SCRIPT_SHAPE];
+    relkvanu_answer says = relkvanu_line_says(line, len, numbers, SCRIPT_SHAPE), opened = {RELKVANU_DONE, RELKVANU_OPENED, 0, 0};
+    if (says.code == RELKVANU_TOO_SHORT) { /* a job line with more vertices than a job has */
+        return (relkvanu_answer){RELKVANU_BAD_ARGUMENT, RELKVANU_BAD_SHAPE, 0, 0};
+    } else if (says.code != RELKVANU_DONE) {
+        return says;
     }
-    fprintf(stderr, "%s begins no line\n", word);
-    exit(2);
+    switch (says.what) {
+    case RELKVANU_LINE_SKIP: return (relkvanu_answer){RELKVANU_DONE, RELKVANU_SKIPPED, 0, 0};
+    case RELKVANU_LINE_CONFIG: configure(&script->settings, numbers); return opened;
+    case RELKVANU_LINE_JOB:
+        memcpy(script->shape, numbers, says.a * sizeof numbers[0]);
+        script->shape_len = says.a;
+        return opened;
+    case RELKVANU_LINE_START: return start(script, numbers[0]);
+    case RELKVANU_LINE_CALL: return (relkvanu_answer){RELKVANU_CLOSED, 0, 0, 0}; /* before the start line */
+    default: return (relkvanu_answer){RELKVANU_BAD_LINE, RELKVANU_FAULT_NO_CALL, 0, 0};
+    }
 }
 
-relkvanu_answer script_call(struct script *script, char *line) {
-    static const relkvanu_answer opened = {RELKVANU_DONE, RELKVANU_OPENED, 0, 0};
-    char *rest = NULL;
-    const char *word = strtok_r(line, " ", &rest);
-    if (word == NULL || word[0] == '#') {
-        return opened;
-    } else if (strcmp(word, "config") == 0) {
-        configure(&script->settings, &rest);
-        return opened;
-    } else if (strcmp(word, "job") == 0) {
-        next_numbers(&rest, &script->shape);
-        return opened;
-    } else if (strcmp(word, "start") == 0) {
-        return start(script, next_number(&rest));
-    } else if (strcmp(word, "take") == 0) {
-        return take(script, next_number(&rest));
-    } else if (strcmp(word, "show") == 0) {
-        return show(script, next_number(&rest));
-    } else if (strcmp(word, "ack") == 0) {
-        return ack(script, &rest);
-    } else if (strcmp(word, "decline") == 0) {
-        return decline(script, &rest);
-    } else if (strcmp(word, "restore") == 0) {
-        return restore(script, &rest);
+relkvanu_answer script_line(struct script *script, const char *line, size_t len) {
+    const uint8_t *bytes = (const uint8_t *)line;
+    relkvanu_answer answer = relkvanu_line(&script->handle, bytes, len, script->taken, SCRIPT_TAKEN);
+    bool is_opening = answer.code == RELKVANU_CLOSED || (answer.code == RELKVANU_BAD_LINE && answer.what == RELKVANU_FAULT_NO_CALL);
+    if (is_opening) {
+        return opening(script, bytes, len);
     }
-    return call_with(script, word, next_number(&rest));
+    /* no take line fetches more than there is place for here, so this is a show line */
+    return answer.code == RELKVANU_TOO_SHORT ? show(script, record_of(line, len), answer.a) : answer;
 }
 
 void script_close(struct script *script) {
     relkvanu_close(&script->handle);
     free(script->json);
     script->json = NULL;
+    script->json_len = 0;
 }

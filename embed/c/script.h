@@ -1,5 +1,5 @@
-/* The lines of a script as calls of the library (docs/SCRIPT.md): for programs that read scripts, and for
- * those that write their calls as one. A line is not tested: it has to be one that the page allows. */
+/* Scripts (docs/SCRIPT.md) by the library's own reader: for programs that run a script, and for those that log their calls as one.
+ * Any line may be given: one with a fault is answered so, and changes nothing. */
 #ifndef RELKVANU_SCRIPT_H
 #define RELKVANU_SCRIPT_H
 
@@ -7,29 +7,25 @@
 
 #include <stdio.h>
 
-enum { SCRIPT_LINE = 1 << 18, SCRIPT_LIST = 1 << 13, SCRIPT_TAKEN = 1 << 16 };
-
-struct list {
-    uint64_t items[SCRIPT_LIST];
-    size_t len;
-};
+enum { SCRIPT_SHAPE = 256, SCRIPT_TAKEN = 1 << 16 };
 
 /* All zero: a script of which no line was read yet. */
 struct script {
     relkvanu handle;
-    relkvanu_settings settings;
-    struct list shape;            /* what the job line or the last restore with parallelisms says */
-    struct list fresh, reused;    /* of the last ack line */
+    relkvanu_settings settings;   /* of the last config line */
+    uint64_t shape[SCRIPT_SHAPE]; /* of the last job line */
+    size_t shape_len;
     uint64_t taken[SCRIPT_TAKEN]; /* what the last take line fetched */
     uint8_t *json;                /* what the last show line answered */
     size_t json_len;
 };
 
-/* Makes the call of a line, which is taken apart. A line that makes none answers RELKVANU_OPENED. A call that
- * found no memory can be made again by the same line. */
-relkvanu_answer script_call(struct script *script, char *line);
+/* Does what a line says, which is given without its newline, and answers as the call does that it makes. A config, a job and a start
+ * line answer RELKVANU_OPENED, or RELKVANU_BAD_ARGUMENT; a line without a call RELKVANU_SKIPPED; one with a fault, and an `all` line,
+ * RELKVANU_BAD_LINE. A call that found no memory can be made again by the same line. */
+relkvanu_answer script_line(struct script *script, const char *line, size_t len);
 
-/* Writes the answer of the last line as it is printed; nothing for an opening. */
+/* Writes the answer of the last line as it is printed; nothing for an opening and a line without a call. */
 void script_tell(const struct script *script, FILE *to, relkvanu_answer answer);
 
 /* Closes the coordinator, and frees what the script holds. */

@@ -19,20 +19,19 @@ class Lost(Exception):
 class Channel(threading.Thread):
     """The task of one subtask, on a worker. Barriers go through the same queue as records."""
 
-    def __init__(self, job: Any, index: int, worker: Worker, client: Client, partitions: Sequence[int], files: Sequence[int]) -> None:
-        super().__init__(name=f"task-{index}", daemon=True)
-        self.job, self.index, self.worker, self.partitions = job, index, worker, list(partitions)
+    def __init__(self, job: Any, subtask: Tuple[int, int], worker: Worker, client: Client, partitions: Sequence[int], files: Sequence[int]) -> None:
+        super().__init__(name="task-%d.%d" % subtask, daemon=True)
+        self.job, self.subtask, self.worker, self.partitions = job, subtask, worker, list(partitions)
         self.queue: "queue.Queue[Message]" = queue.Queue(4)
         self.is_ending = threading.Event()
         self.is_stopping = False  # its next checkpoint is not to come to its end
         self.stops_in: Optional[int] = None  # the first file of that
         self.tells_loss = True
         self.actor = client.submit(
-            Task, str(job.storage), job.seed, self.partitions, list(files),
+            Task, str(job.storage), job.seed, subtask[0], self.partitions, list(files),
             actor=True, workers=[worker.address], allow_other_workers=False, pure=False,
         ).result(timeout=WAIT)
-        self.ends: Dict[int, int] = self.call("offsets")  # of the source
-        self.putting = threading.Lock()
+        self.ends: Dict[int, int] = self.call("offsets")  # of what was put
 
     def call(self, method: str, *arguments: Any) -> Any:
         if self.worker.has_ended():
@@ -45,16 +44,11 @@ class Channel(threading.Thread):
             raise
 
     def advance(self, ends: Dict[int, int]) -> None:
-        """Puts records: those before these offsets."""
-        with self.putting:
-            self.ends.update(ends)
-            self.put(ends)
-
-    def send_barrier(self, id: int, cut: Dict[int, int]) -> None:
-        """Puts a barrier behind the records that were put, and tells how far these go."""
-        with self.putting:
-            cut.update(self.ends)
-            self.put(id)
+        """Puts the records of its partitions before these offsets."""
+        own = {partition: end for partition, end in ends.items() if partition in self.ends}
+        if own:
+            self.ends.update(own)
+            self.put(own)
 
     def put(self, message: Message) -> None:
         """Waits for room. What is put after the end is lost."""
@@ -93,7 +87,7 @@ class Channel(threading.Thread):
         except Lost:
             self.job.delete(numbers)
             if self.tells_loss:
-                self.job.decline(id, self.index)
+                self.job.decline(id, self.subtask)
             raise
 
     def take_part(self, id: int) -> None:
@@ -101,7 +95,7 @@ class Channel(threading.Thread):
         of a record that another task declined: then all is written anew."""
         fresh, reused = self.snapshot(id)
         try:
-            reply = self.job.ack(id, self.index, fresh, reused)
+            reply = self.job.ack(id, self.subtask, fresh, reused)
         except Refused as refusal:
             assert refusal.name == "FileGone", refusal
             self.call("refused")

@@ -1,9 +1,11 @@
 """job.py SECONDS [SEED]: a keyed count as actors on worker processes, with the coordinator in the driver.
 
-A worker process is killed in the middle of a checkpoint, again and again: in turn the driver declines for the
-lost task, or the record expires. The job is restored in a smaller shape on the workers that are left, and in the
-larger one where there is a new worker. At the end the totals and the storage folder have to be exact.
+The job has three vertices of different parallelism, each of which reads the whole stream and counts its part of the keys. A
+worker process is killed in the middle of a checkpoint, again and again: in turn the driver declines for the lost task, or the
+record expires. The job is restored with fewer tasks of one vertex on the workers that are left, and with all where there is a new
+worker. At the end the totals and the storage folder have to be exact.
 """
+import itertools
 import os
 import pathlib
 import random
@@ -12,16 +14,17 @@ import tempfile
 import threading
 import time
 from collections import Counter
-from typing import Any, Callable, Dict, List, Optional, Sequence
+from typing import Any, Callable, Dict, List, Optional, Sequence, Tuple
 
 from channel import Channel
 from cluster import Cluster, wait_for
 from relkvanu import (
-    AckCompleted, Coordinator, DeclineFailed, Failed, Refused, Reply, RestoredCheckpoint, RestoredFresh, Settings, Triggered,
+    AckCompleted, Coordinator, DeclineFailed, Discarder, Failed, Patience, Refused, Reply, RestoredCheckpoint, RestoredFresh,
+    Settings, Triggered,
 )
-from stream import PARTITIONS, State, counted, read
+from stream import PARTITIONS, VERTICES, State, counted, read
 
-WORKERS, LARGE, SMALL = 3, 6, 4  # how many worker processes, and tasks in the larger and the smaller shape
+WORKERS, LARGE, SMALL = 3, (2, 6, 3), (2, 4, 3)  # worker processes, and the larger and the smaller shape of the job
 SETTINGS = Settings(interval=200, timeout=4000, tolerable=0, retained=2)  # milliseconds
 BATCH = 20
 
@@ -35,12 +38,16 @@ class Job:
         self.lock = threading.RLock()  # of the channels and what is counted; the coordinator has its own
         self.channels: List[Channel] = []
         self.next_file = 1
-        self.cuts: Dict[int, Dict[int, int]] = {}  # the source's offsets at the barriers of a record
-        self.replies: Counter = Counter()
+        self.stream = threading.Lock()  # of what is put: a barrier comes behind the same records in each queue
+        self.ends = dict.fromkeys(range(PARTITIONS), 0)  # the source's offsets
+        self.cuts: Dict[int, Dict[int, int]] = {}  # those at the barriers of a record
+        self.replies: "Counter[str]" = Counter()
         self.kills = 0
         self.has_failed, self.has_completed, self.is_over = threading.Event(), threading.Event(), threading.Event()
-        self.coordinator = Coordinator(SETTINGS, [LARGE], self.now())
-        self.threads = [threading.Thread(target=loop, args=(self,), daemon=True) for loop in (timer, source, discarder)]
+        self.coordinator = Coordinator(SETTINGS, LARGE, self.now())
+        self.threads = [threading.Thread(target=loop, args=(self,), daemon=True) for loop in (timer, source)]
+        patience = Patience(batch=16, attempts=100, first_wait=0.01, longest_wait=0.05, idle=0.02)
+        self.discarder = Discarder(self.coordinator, self.discard, patience)
 
     def now(self) -> int:
         return time.monotonic_ns() // 1_000_000
@@ -56,6 +63,13 @@ class Job:
     def delete(self, files: Sequence[int]) -> None:
         for file in files:
             self.path(file).unlink(missing_ok=True)
+
+    def discard(self, file: int) -> None:
+        """Deletes a file. A part of the deletions fails."""
+        with self.lock:
+            if self.chance.random() < 0.125:
+                raise PermissionError(f"file {file} is not to be deleted yet")
+        self.path(file).unlink()
 
     def called(self, call: Callable[..., Reply], *arguments: Any) -> Reply:
         """Makes a call of the coordinator, and notes what it answers."""
@@ -74,11 +88,11 @@ class Job:
             self.has_failed.set()
         return reply
 
-    def ack(self, id: int, index: int, fresh: Sequence[int], reused: Sequence[int]) -> Reply:
-        return self.called(self.coordinator.ack, self.now(), id, 0, index, fresh, reused)
+    def ack(self, id: int, subtask: Tuple[int, int], fresh: Sequence[int], reused: Sequence[int]) -> Reply:
+        return self.called(self.coordinator.ack, self.now(), id, *subtask, fresh, reused)
 
-    def decline(self, id: int, index: int) -> Reply:
-        return self.called(self.coordinator.decline, self.now(), id, 0, index)
+    def decline(self, id: int, subtask: Tuple[int, int]) -> Reply:
+        return self.called(self.coordinator.decline, self.now(), id, *subtask)
 
     def tick(self) -> Optional[Reply]:
         try:
@@ -87,21 +101,30 @@ class Job:
             assert refusal.name == "NotRunning", refusal
             return None
 
-    def start_tasks(self, tasks: int) -> None:
+    def channels_of(self, shape: Sequence[int], files: Dict[Tuple[int, int], Tuple[int, ...]]) -> List[Channel]:
+        """A channel for each subtask, over the files that a record has of its vertex, on the workers in turn."""
+        of_vertex = [[file for (vertex, _), held in files.items() if vertex == of for file in held] for of in range(VERTICES)]
+        subtasks = [(vertex, index) for vertex, tasks in enumerate(shape) for index in range(tasks)]
+        workers = itertools.cycle(self.cluster.workers)
+        return [
+            Channel(self, (vertex, index), next(workers), self.cluster.client, range(index, PARTITIONS, shape[vertex]), of_vertex[vertex])
+            for vertex, index in subtasks
+        ]
+
+    def start_tasks(self, shape: Sequence[int]) -> None:
         """Restores the job in this shape, from what the coordinator answers, on the workers that are there."""
         with self.lock:
-            reply = self.called(self.coordinator.restore, self.now(), None, [tasks])
-            files = [] if isinstance(reply, RestoredFresh) else sum(self.coordinator.show(reply.id).files.values(), ())
-            workers, client = self.cluster.workers, self.cluster.client
+            reply = self.called(self.coordinator.restore, self.now(), None, shape)
+            files = self.coordinator.show(reply.id).files if isinstance(reply, RestoredCheckpoint) else {}
             self.has_failed.clear()
             self.has_completed.clear()
-            self.channels = [
-                Channel(self, index, workers[index % len(workers)], client, range(index, PARTITIONS, tasks), files)
-                for index in range(tasks)
-            ]
-            ends = {partition: end for channel in self.channels for partition, end in channel.ends.items()}
-            assert isinstance(reply, RestoredFresh) or ends == self.cuts[reply.id], "not the states at the barriers"
-            for channel in self.channels:
+            channels = self.channels_of(shape, files)
+            ends = self.cuts[reply.id] if isinstance(reply, RestoredCheckpoint) else dict.fromkeys(range(PARTITIONS), 0)
+            for channel in channels:
+                assert channel.ends == {p: ends[p] for p in channel.partitions}, "not the states at the barriers"
+            with self.stream:
+                self.channels, self.ends = channels, dict(ends)
+            for channel in channels:
                 channel.start()
 
     def stop_tasks(self) -> None:
@@ -111,16 +134,16 @@ class Job:
         for channel in channels:
             channel.stop()
 
-    def restart_tasks(self, tasks: int) -> None:
+    def restart_tasks(self, shape: Sequence[int]) -> None:
         self.stop_tasks()
-        self.start_tasks(tasks)
+        self.start_tasks(shape)
 
-    def complete(self, tasks: int) -> None:
+    def complete(self, shape: Sequence[int]) -> None:
         """Waits until a checkpoint is complete since the tasks were started. Where the job failed, it is restored."""
         while not self.has_completed.is_set():
             wait_for(lambda: self.has_completed.is_set() or self.has_failed.is_set())
             if self.has_failed.is_set():
-                self.restart_tasks(tasks)
+                self.restart_tasks(shape)
 
     def kill_in_checkpoint(self, tells_loss: bool) -> None:
         """Kills a worker when a task of it has written the first file of a checkpoint, and not all. Its tasks are lost:
@@ -160,30 +183,32 @@ class Job:
         self.is_over.set()
         for thread in self.threads:
             thread.join()
+        self.discarder.stop()
         channels = self.channels
         self.stop_tasks()
         records = self.check_counts(channels)
         reply = self.called(self.coordinator.restore, self.now())
         assert isinstance(reply, RestoredCheckpoint), reply
         files = [file for part in self.coordinator.show(reply.id).files.values() for file in part]
-        assert sorted(self.check_state(*read(self.path(file))) for file in files) == list(range(PARTITIONS))
+        held = sorted(self.check_state(*read(self.path(file))) for file in files)
+        assert held == [(vertex, partition) for vertex in range(VERTICES) for partition in range(PARTITIONS)]
         used, waiting = self.check_folder()
         self.report(records, used, waiting)
 
-    def check_state(self, partition: int, state: State) -> int:
-        """What is counted of a partition is what the stream has before its offset."""
-        assert state.counts == counted(self.seed, partition, 0, state.offset), f"partition {partition} is not exact"
-        return partition
+    def check_state(self, partition: int, state: State) -> Tuple[int, int]:
+        """What a vertex counted of a partition is what the stream has before its offset."""
+        assert state.counts == counted(self.seed, state.vertex, partition, 0, state.offset), f"partition {partition} is not exact"
+        return state.vertex, partition
 
     def check_counts(self, channels: Sequence[Channel]) -> int:
-        records = 0
+        """Each vertex has counted all that the source has sent: how many records."""
         for channel in channels:
             offsets, counts = channel.call("offsets"), channel.call("counts")
             assert offsets == channel.ends, "not all records were counted"
             for partition, offset in offsets.items():
-                self.check_state(partition, State(offset, counts[partition]))
-                records += offset
-        return records
+                assert offset == self.ends[partition], "not all that the source has sent"
+                self.check_state(partition, State(channel.subtask[0], offset, counts[partition]))
+        return sum(self.ends.values())
 
     def check_folder(self) -> "tuple[int, int]":
         """The folder has exactly the files that are in use and those that wait or are taken: how many each. No file is
@@ -195,12 +220,12 @@ class Job:
         return len(used), len(waiting)
 
     def report(self, records: int, used: int, waiting: int) -> None:
-        told = self.replies
+        told, discarded = self.replies, self.discarder.told()
         restores = told["RestoredCheckpoint"] + told["RestoredFresh"]
-        print(f"dask: {records} records of {PARTITIONS} partitions counted exactly; {told['AckCompleted']} checkpoints completed")
+        print(f"dask: {records} records of {PARTITIONS} partitions counted exactly by {VERTICES} vertices; {told['AckCompleted']} checkpoints completed")
         print(f"dask: {self.kills} worker processes killed in the middle of a checkpoint; the job failed {told['DeclineFailed']} times by")
         print(f"dask: a decline, {told['Failed']} times as a record expired; {restores} restores, in the shapes {LARGE} and {SMALL}")
-        print(f"dask: {told['AckLate']} late acknowledgements; {told['Deleted']} files deleted, {told['Undeleted']} deletions failed")
+        print(f"dask: {told['AckLate']} late acknowledgements; {discarded.deleted} files deleted, {discarded.failed} deletions failed")
         print(f"dask: the folder had {used + waiting} files: {used} in use, {waiting} for deletion")
 
 
@@ -211,35 +236,23 @@ def timer(job: Job) -> None:
             channels = job.channels
             reply = job.tick() if channels and not job.has_failed.is_set() else None
         if isinstance(reply, Triggered):
-            cut = job.cuts[reply.id] = {}
-            for channel in channels:
-                channel.send_barrier(reply.id, cut)
+            with job.stream:
+                job.cuts[reply.id] = dict(job.ends)
+                for channel in channels:
+                    channel.put(reply.id)
         time.sleep(0.02)
 
 
 def source(job: Job) -> None:
-    """Sends records of a part of the partitions, so that the states of the others are named again."""
+    """Sends records of a part of the partitions to each vertex, so that the states of the others are named again."""
     chance = random.Random(job.seed + 1)
     while not job.is_over.is_set():
-        with job.lock:
-            channels = job.channels
-        for channel in channels:
-            channel.advance({p: channel.ends[p] + BATCH for p in channel.partitions if chance.random() < 0.2})
+        with job.stream:
+            ends = {p: end + BATCH for p, end in job.ends.items() if chance.random() < 0.2} if job.channels else {}
+            job.ends.update(ends)
+            for channel in job.channels:
+                channel.advance(ends)
         time.sleep(0.02)
-
-
-def discarder(job: Job) -> None:
-    """Fetches files, deletes them and reports each. A part of the deletions fails, and is reported so."""
-    chance = random.Random(job.seed + 2)
-    while not job.is_over.is_set():
-        files = job.coordinator.take(16).files
-        for file in files:
-            if chance.random() < 0.125:
-                job.called(job.coordinator.undeleted, file)
-            else:
-                job.delete([file])
-                job.called(job.coordinator.deleted, file)
-        time.sleep(0 if files else 0.02)
 
 
 def main() -> None:

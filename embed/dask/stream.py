@@ -1,10 +1,12 @@
-"""The stream: each partition is a list of keys without an end, which the seed alone says."""
+"""The stream: each partition is a list of keys without an end, which the seed alone says. Each vertex of the job reads all of it, and
+counts a part of the keys."""
 import json
 import pathlib
 import zlib
 from collections import Counter
-from typing import Dict, Tuple
+from typing import Dict, Optional, Tuple
 
+VERTICES = 3
 PARTITIONS = 12
 KEYS = 64
 
@@ -13,28 +15,30 @@ def key(seed: int, partition: int, offset: int) -> int:
     return zlib.crc32(f"{seed} {partition} {offset}".encode()) % KEYS
 
 
-def counted(seed: int, partition: int, first: int, end: int) -> Counter:
-    """How often each key stands in the partition, from one offset to before another."""
-    return Counter(key(seed, partition, offset) for offset in range(first, end))
+def counted(seed: int, vertex: int, partition: int, first: int, end: int) -> "Counter[int]":
+    """How often each key of the vertex stands in the partition, from one offset to before another."""
+    keys = (key(seed, partition, offset) for offset in range(first, end))
+    return Counter(key for key in keys if key % VERTICES == vertex)
 
 
 class State:
-    """What a task has counted of a partition, and how far: the source's offset."""
+    """What a task has counted of a partition for its vertex, and how far: the source's offset."""
 
-    def __init__(self, offset: int = 0, counts: Dict[int, int] = {}) -> None:
+    def __init__(self, vertex: int, offset: int = 0, counts: Optional[Dict[int, int]] = None) -> None:
+        self.vertex = vertex
         self.offset = offset
-        self.counts = Counter(counts)
+        self.counts = Counter(counts or {})
 
     def advance(self, seed: int, partition: int, end: int) -> None:
-        self.counts.update(counted(seed, partition, self.offset, end))
+        self.counts.update(counted(seed, self.vertex, partition, self.offset, end))
         self.offset = end
 
     def write(self, path: pathlib.Path, partition: int) -> None:
         with open(path, "x") as file:
-            json.dump([partition, self.offset, sorted(self.counts.items())], file)
+            json.dump([self.vertex, partition, self.offset, sorted(self.counts.items())], file)
 
 
 def read(path: pathlib.Path) -> Tuple[int, State]:
     """The partition of a state file, and its state."""
-    partition, offset, counts = json.loads(path.read_text())
-    return partition, State(offset, dict(counts))
+    vertex, partition, offset, counts = json.loads(path.read_text())
+    return partition, State(vertex, offset, dict(counts))

@@ -1,4 +1,4 @@
-"""A task: an actor on a worker process, which counts partitions and takes its part of checkpoints."""
+"""A task: an actor on a worker process, which counts the keys of its vertex in its partitions and takes its part of checkpoints."""
 import pathlib
 import time
 from typing import Dict, List, Sequence, Tuple
@@ -9,14 +9,15 @@ from stream import State, read
 class Task:
     """Counts the partitions that it is given. Its calls come one after the other."""
 
-    def __init__(self, storage: str, seed: int, partitions: Sequence[int], files: Sequence[int]) -> None:
-        """Begins with the states of its partitions among the files of a record, and opens each of them."""
+    def __init__(self, storage: str, seed: int, vertex: int, partitions: Sequence[int], files: Sequence[int]) -> None:
+        """Begins with the states of its partitions among the files that a record has of its vertex, and opens each of them."""
         self.storage = pathlib.Path(storage)
         self.seed = seed
-        self.states = {partition: State() for partition in partitions}
+        self.states = {partition: State(vertex) for partition in partitions}
         self.held: Dict[int, int] = {}  # the file that has the state of a partition
         for file in files:
             partition, state = read(self.storage / str(file))
+            assert state.vertex == vertex
             if partition in self.states:
                 self.states[partition] = state
                 self.held[partition] = file
@@ -51,7 +52,8 @@ class Task:
         self.held.update(self.written)
 
     def refused(self) -> None:
-        """The last snapshot was refused: its files are deleted, and nothing is named again."""
+        """The last snapshot was refused, and its files were named for the first time in it: so they are deleted, and nothing
+        is named again."""
         for number in self.written.values():
             (self.storage / str(number)).unlink()
         self.held.clear()

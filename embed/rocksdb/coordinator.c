@@ -40,12 +40,6 @@ void coordinator_step(struct coordinator *c) {
     pthread_mutex_unlock(&c->lock);
 }
 
-static void note_file(struct coordinator *c, uint64_t file) {
-    if (file >= c->next_file) {
-        c->next_file = file + 1;
-    }
-}
-
 static void note_taken(struct coordinator *c, uint64_t len) {
     if (len == 0) {
         return;
@@ -68,26 +62,13 @@ static void note_reported(struct coordinator *c, uint64_t file) {
     CHECK(false, "file %" PRIu64 " was reported and is not taken", file);
 }
 
-static void note_done(struct coordinator *c, uint64_t id, relkvanu_answer answer) {
+static void note_done(struct coordinator *c, relkvanu_answer answer) {
     switch (answer.what) {
     case RELKVANU_TICK_TRIGGERED: c->last = answer.b; break;
-    case RELKVANU_SAVEPOINT_TRIGGERED: c->last = c->savepoint_pending = answer.a; break;
-    case RELKVANU_ACK_COMPLETED:
-        if (id == c->savepoint_pending) {
-            c->savepoint = id;
-            c->savepoint_pending = 0;
-        }
-        break;
-    case RELKVANU_DECLINE_ABORTED:
-        c->savepoint_pending = id == c->savepoint_pending ? 0 : c->savepoint_pending;
-        break;
+    case RELKVANU_SAVEPOINT_TRIGGERED: c->last = answer.a; break;
     case RELKVANU_RESTORED_CHECKPOINT:
     case RELKVANU_RESTORED_SAVEPOINT:
-    case RELKVANU_RESTORED_FRESH:
-        c->savepoint_pending = 0;
-        c->is_rolled_back = c->is_rolled_back || id != 0;
-        c->restored = c->answers[RELKVANU_ACK_COMPLETED];
-        break;
+    case RELKVANU_RESTORED_FRESH: c->restored = c->answers[RELKVANU_ACK_COMPLETED]; break;
     case RELKVANU_TAKEN: note_taken(c, answer.a); break;
     case RELKVANU_DELETED:
     case RELKVANU_UNDELETED: note_reported(c, answer.a); break;
@@ -95,62 +76,140 @@ static void note_done(struct coordinator *c, uint64_t id, relkvanu_answer answer
     }
 }
 
-/* What the driver has to know of the calls, at a replay too. The id is the line's third word, 0 where it is none. */
-static void note(struct coordinator *c, uint64_t id, relkvanu_answer answer) {
-    for (size_t place = 0; place < c->script.fresh.len; place++) {
-        note_file(c, c->script.fresh.items[place]);
-    }
+/* What the driver has to know of the calls, at a replay too. */
+static void note(struct coordinator *c, relkvanu_answer answer) {
     c->calls++;
     if (answer.code == RELKVANU_REFUSED) {
         c->refused++;
         c->gone += answer.what == RELKVANU_FILE_GONE;
     } else {
-        CHECK(answer.code == RELKVANU_DONE, "a call answers code %" PRIu32, answer.code);
+        CHECK(answer.code == RELKVANU_DONE, "a call answers code %" PRIu32 ", what %" PRIu32, answer.code, answer.what);
         c->answers[answer.what]++;
-        note_done(c, id, answer);
+        note_done(c, answer);
     }
 }
 
-/* Makes the call of a line. */
-static relkvanu_answer obey(struct coordinator *c, char *line) {
-    uint64_t id = 0;
-    sscanf(line, "%*s %*u %" SCNu64, &id);
-    relkvanu_answer answer = script_call(&c->script, line);
-    note(c, id, answer);
-    return answer;
+/* Writes bytes to the log and syncs them. */
+static void append(struct coordinator *c, const char *bytes, size_t len) {
+    write_whole(c->log, bytes, len);
+    CHECK(fdatasync(c->log) == 0, "the log can't be synced: %s", strerror(errno));
 }
 
-/* Writes a line to the log and syncs it, then makes its call. */
-static relkvanu_answer logged(struct coordinator *c, char *line) {
-    size_t len = strlen(line);
-    CHECK(len + 1 < SCRIPT_LINE, "a line is too long");
-    line[len] = '\n';
+/* Writes what the engine has to know after a replay. */
+static void append_note(struct coordinator *c, const char *name, uint64_t number) {
+    char text[64];
+    append(c, text, (size_t)snprintf(text, sizeof text, "# %s %" PRIu64 "\n", name, number));
+}
+
+static void read_note(struct coordinator *c, const char *line) {
+    uint64_t number = 0;
+    if (sscanf(line, "# files %" SCNu64, &number) == 1) {
+        c->next_file = c->files_end = number;
+    } else if (sscanf(line, "# tasks %" SCNu64, &number) == 1) {
+        c->tasks = (unsigned)number;
+    }
+}
+
+/* Does what a line of the log says. */
+static void obey(struct coordinator *c, const char *line, size_t len) {
+    relkvanu_answer answer = script_line(&c->script, line, len);
+    CHECK(answer.code != RELKVANU_BAD_LINE, "the log has a line that can't be read: %.*s", (int)(len < 80 ? len : 80), line);
+    if (answer.code == RELKVANU_DONE && answer.what == RELKVANU_SKIPPED) {
+        read_note(c, line);
+    } else if (answer.code != RELKVANU_DONE || answer.what != RELKVANU_OPENED) {
+        note(c, answer);
+    }
+}
+
+/* Writes the line of a call, makes the call that it says, and logs it where it changed something. A line that would be too long is
+ * a fault of the engine: it is neither cut nor made. A call that found no memory is made again before any other, under the lock. */
+static relkvanu_answer logged(struct coordinator *c, const relkvanu_call *call, const uint64_t *first, size_t first_len, const uint64_t *second, size_t second_len) {
+    relkvanu_answer written = relkvanu_call_line(call, first, first_len, second, second_len, (uint8_t *)c->line, LINE);
+    CHECK(written.code == RELKVANU_DONE, "a call has no line: code %" PRIu32 ", what %" PRIu32, written.code, written.what);
+    size_t len = written.a;
+    relkvanu_answer answer = script_line(&c->script, c->line, len);
+    while (answer.code == RELKVANU_NO_MEMORY) {
+        sleep_ms(100);
+        answer = script_line(&c->script, c->line, len);
+    }
+    note(c, answer);
+    if (answer.code != RELKVANU_DONE) {
+        return answer;
+    }
+    may_die_at(c, AFTER_A_CALL);
+    c->line[len] = '\n';
     if (dies_at(c, HALF_A_LINE)) {
-        write_whole(c->log, line, len / 2);
+        write_whole(c->log, c->line, len / 2);
         die();
     }
-    write_whole(c->log, line, len + 1);
-    CHECK(fdatasync(c->log) == 0, "the log can't be synced: %s", strerror(errno));
-    may_die_at(c, BEFORE_A_CALL);
-    line[len] = '\0';
-    relkvanu_answer answer = obey(c, line);
-    may_die_at(c, AFTER_A_CALL);
+    append(c, c->line, len + 1);
+    may_die_at(c, AFTER_A_LINE);
     return answer;
 }
 
-relkvanu_answer coordinator_call(struct coordinator *c, const char *format, ...) {
-    static char line[SCRIPT_LINE];
-    va_list rest;
+static relkvanu_answer called(struct coordinator *c, relkvanu_call call) {
     pthread_mutex_lock(&c->lock);
-    va_start(rest, format);
-    vsnprintf(line, sizeof line - 1, format, rest);
-    va_end(rest);
-    relkvanu_answer answer = logged(c, line);
+    relkvanu_answer answer = logged(c, &call, NULL, 0, NULL, 0);
     pthread_mutex_unlock(&c->lock);
     return answer;
 }
 
-/* Makes the calls of the whole lines of a log, and says how many bytes they have. */
+relkvanu_answer coordinator_tick(struct coordinator *c) {
+    return called(c, (relkvanu_call){.kind = RELKVANU_CALL_TICK, .now = now()});
+}
+
+relkvanu_answer coordinator_savepoint(struct coordinator *c) {
+    return called(c, (relkvanu_call){.kind = RELKVANU_CALL_SAVEPOINT, .now = now()});
+}
+
+relkvanu_answer coordinator_ack(struct coordinator *c, uint64_t id, unsigned index, const uint64_t *fresh, size_t fresh_len, const uint64_t *reused, size_t reused_len) {
+    relkvanu_call call = {.kind = RELKVANU_CALL_ACK, .index = (uint16_t)index, .now = now(), .number = id};
+    pthread_mutex_lock(&c->lock);
+    relkvanu_answer answer = logged(c, &call, fresh, fresh_len, reused, reused_len);
+    pthread_mutex_unlock(&c->lock);
+    return answer;
+}
+
+relkvanu_answer coordinator_decline(struct coordinator *c, uint64_t id, unsigned index) {
+    return called(c, (relkvanu_call){.kind = RELKVANU_CALL_DECLINE, .index = (uint16_t)index, .now = now(), .number = id});
+}
+
+relkvanu_answer coordinator_dispose(struct coordinator *c, uint64_t savepoint) {
+    return called(c, (relkvanu_call){.kind = RELKVANU_CALL_DISPOSE, .number = savepoint});
+}
+
+relkvanu_answer coordinator_restore(struct coordinator *c, uint64_t savepoint, unsigned tasks) {
+    relkvanu_call call = {.kind = RELKVANU_CALL_RESTORE, .now = now(), .number = savepoint};
+    uint64_t shape = tasks;
+    pthread_mutex_lock(&c->lock);
+    if (tasks != 0 && tasks != c->tasks) {
+        append_note(c, "tasks", tasks);
+        c->tasks = tasks;
+    }
+    relkvanu_answer answer = logged(c, &call, &shape, tasks != 0, NULL, 0);
+    pthread_mutex_unlock(&c->lock);
+    return answer;
+}
+
+relkvanu_answer coordinator_cancel(struct coordinator *c) {
+    return called(c, (relkvanu_call){.kind = RELKVANU_CALL_CANCEL, .now = now()});
+}
+
+size_t coordinator_take(struct coordinator *c, uint64_t *files, size_t most) {
+    relkvanu_call call = {.kind = RELKVANU_CALL_TAKE, .number = most};
+    pthread_mutex_lock(&c->lock);
+    relkvanu_answer answer = logged(c, &call, NULL, 0, NULL, 0);
+    memcpy(files, c->script.taken, answer.a * sizeof *files);
+    pthread_mutex_unlock(&c->lock);
+    return answer.a;
+}
+
+void coordinator_report(struct coordinator *c, uint64_t file, bool is_deleted) {
+    relkvanu_answer answer = called(c, (relkvanu_call){.kind = is_deleted ? RELKVANU_CALL_DELETED : RELKVANU_CALL_UNDELETED, .number = file});
+    CHECK(answer.code == RELKVANU_DONE, "the report of file %" PRIu64 " is refused", file);
+}
+
+/* Obeys the whole lines of a log, and says how many bytes they have. */
 static off_t replayed(struct coordinator *c, const char *log) {
     char *line = NULL;
     size_t room = 0;
@@ -158,8 +217,7 @@ static off_t replayed(struct coordinator *c, const char *log) {
     FILE *from = fopen(log, "r");
     CHECK(from != NULL, "%s can't be read: %s", log, strerror(errno));
     for (ssize_t len = getline(&line, &room, from); len > 0 && line[len - 1] == '\n'; len = getline(&line, &room, from)) {
-        line[len - 1] = '\0';
-        obey(c, line);
+        obey(c, line, (size_t)len - 1);
         bytes += len;
     }
     free(line);
@@ -178,6 +236,19 @@ void coordinator_replay(struct coordinator *c, const char *log) {
     replayed(c, log);
 }
 
+/* Begins a new log with the lines that open the coordinator, and does what they say. */
+static void begin(struct coordinator *c) {
+    relkvanu_settings settings = {.interval = 100, .at_once = 2, .timeout = 20000, .tolerable = 2, .retained = 2};
+    uint64_t shape = TASKS;
+    relkvanu_answer written = relkvanu_opening_lines(&settings, &shape, 1, now(), (uint8_t *)c->line, LINE);
+    CHECK(written.code == RELKVANU_DONE, "there are no opening lines: code %" PRIu32, written.code);
+    append(c, c->line, written.a);
+    for (char *line = c->line, *end; line < c->line + written.a; line = end + 1) {
+        end = memchr(line, '\n', (size_t)(c->line + written.a - line));
+        obey(c, line, (size_t)(end - line));
+    }
+}
+
 void coordinator_open(struct coordinator *c, const char *log, struct death death) {
     coordinator_clear(c);
     c->log = open(log, O_CREAT | O_WRONLY | O_APPEND, 0600);
@@ -186,9 +257,7 @@ void coordinator_open(struct coordinator *c, const char *log, struct death death
     CHECK(ftruncate(c->log, whole) == 0, "%s can't be cut off after its last whole line", log);
     c->death = death;
     if (c->script.handle.state == NULL) {
-        coordinator_call(c, "config 100 0 2 20000 2 2 delete");
-        coordinator_call(c, "job %d", TASKS);
-        coordinator_call(c, "start %" PRIu64, now());
+        begin(c);
     }
 }
 
@@ -200,27 +269,23 @@ void coordinator_close(struct coordinator *c) {
     }
 }
 
-size_t coordinator_take(struct coordinator *c, uint64_t *files, size_t most) {
-    char line[32];
-    pthread_mutex_lock(&c->lock);
-    snprintf(line, sizeof line, "take %zu", most);
-    relkvanu_answer answer = logged(c, line);
-    memcpy(files, c->script.taken, answer.a * sizeof *files);
-    pthread_mutex_unlock(&c->lock);
-    return answer.a;
-}
-
 /* Show and count change nothing, so they are not logged. */
 char *coordinator_show(struct coordinator *c, uint64_t id) {
-    char line[32], *json = NULL;
+    char *json = NULL;
+    relkvanu_answer answer = {RELKVANU_TOO_SHORT, 0, 1024, 0};
     pthread_mutex_lock(&c->lock);
-    snprintf(line, sizeof line, "show %" PRIu64, id);
-    relkvanu_answer answer = script_call(&c->script, line);
-    if (answer.code == RELKVANU_DONE) {
-        json = strndup((const char *)c->script.json, answer.a);
+    while (answer.code == RELKVANU_TOO_SHORT) {
+        size_t len = answer.a;
+        json = realloc(json, len + 1);
         CHECK(json != NULL, "no memory");
+        answer = relkvanu_show(&c->script.handle, id, (uint8_t *)json, len);
     }
     pthread_mutex_unlock(&c->lock);
+    if (answer.code != RELKVANU_DONE) {
+        free(json);
+        return NULL;
+    }
+    json[answer.a] = '\0';
     return json;
 }
 
@@ -234,13 +299,23 @@ uint64_t coordinator_count(struct coordinator *c, uint64_t file) {
 uint64_t coordinator_new_file(struct coordinator *c) {
     pthread_mutex_lock(&c->lock);
     uint64_t file = c->next_file++;
+    if (file >= c->files_end) {
+        c->files_end = file + FILES_AT_ONCE;
+        append_note(c, "files", c->files_end);
+    }
     pthread_mutex_unlock(&c->lock);
     return file;
 }
 
 struct progress coordinator_progress(struct coordinator *c) {
     pthread_mutex_lock(&c->lock);
-    struct progress progress = {c->savepoint, c->savepoint_pending, c->answers[RELKVANU_ACK_COMPLETED] - c->restored, c->is_rolled_back};
+    struct progress progress = {.completed = c->answers[RELKVANU_ACK_COMPLETED] - c->restored, .is_rolled_back = c->answers[RELKVANU_RESTORED_SAVEPOINT] != 0};
+    relkvanu_answer live = relkvanu_live(&c->script.handle, 0);
+    for (size_t place = 1; live.what != RELKVANU_LIVE_NONE; live = relkvanu_live(&c->script.handle, place++)) {
+        if (live.what == RELKVANU_LIVE_SAVEPOINT) {
+            *(live.b == 1 ? &progress.savepoint : &progress.savepoint_pending) = live.a;
+        }
+    }
     pthread_mutex_unlock(&c->lock);
     return progress;
 }

@@ -1,6 +1,9 @@
-/* The coordinator behind a lock, with a log: each call that may change it is a script line (docs/SCRIPT.md), which
- * is written and synced before the call is made. Opened over a log, it makes the calls of all whole lines
- * again, and so has the very state that the process before had, or that of the call it was about to make. */
+/* The coordinator behind a lock, with a log: each call that changed it is a script line (docs/SCRIPT.md), which is written and synced
+ * before the caller is told. The library writes the lines and makes the calls that they say. Opened over a log, it makes the calls of
+ * all whole lines again, and so has the very state that the process before had told of, or that of one call more.
+ *
+ * What the engine has to know and the coordinator does not stands in the log as comments, before it is used: how many tasks the job
+ * is to have, and the end of the file numbers that may have been given. */
 #ifndef ENGINE_COORDINATOR_H
 #define ENGINE_COORDINATOR_H
 
@@ -9,11 +12,11 @@
 
 #include <pthread.h>
 
-enum { REPLIES = 23 };
+enum { REPLIES = 23, LINE = 131072, FILES_AT_ONCE = 1000 };
 
-/* Where the process may kill itself: with half of a line in the log, before its call, after it, or between two steps of
- * a task or of the discarder. */
-enum place { HALF_A_LINE, BEFORE_A_CALL, AFTER_A_CALL, BETWEEN_STEPS, PLACES };
+/* Where the process may kill itself: after a call that is not in the log yet, with half of its line there, with all of it, or
+ * between two steps of a task or of the discarder. */
+enum place { AFTER_A_CALL, HALF_A_LINE, AFTER_A_LINE, BETWEEN_STEPS, PLACES };
 
 /* The process is killed when it comes to the place for the nth time; 0: it is not. */
 struct death {
@@ -26,14 +29,13 @@ struct coordinator {
     struct script script;
     int log;
     struct death death;
-    uint64_t next_file;           /* above all that were named */
+    char line[LINE + 1];          /* the one that is written, and its newline */
+    uint64_t next_file, files_end; /* above all that were named; above all that may be before the log says so */
+    unsigned tasks;               /* that the job is to have; 0: as at first */
     uint64_t last;                /* the greatest number of a record */
-    uint64_t savepoint_pending;   /* 0: none */
-    uint64_t savepoint;           /* the one that is done; 0: none */
-    bool is_rolled_back;
     uint64_t restored;            /* how many checkpoints were complete at the last restore */
     uint64_t answers[REPLIES];    /* how often each was given, */
-    uint64_t refused, gone;       /* and how often a refusal, and that for a file that is gone */
+    uint64_t refused, gone;       /* and how often a refusal by this process, and that for a file that is gone */
     uint64_t calls;
     uint64_t handed_again;        /* files that a message which came twice has handed out once more */
     uint64_t *taken;              /* fetched and not reported */
@@ -47,7 +49,7 @@ struct progress {
     bool is_rolled_back;
 };
 
-/* Opens the log, a new one where there is none: then the coordinator too, by its first lines. */
+/* Opens the log, a new one where there is none: then the coordinator too, for a job of TASKS tasks, by its first lines. */
 void coordinator_open(struct coordinator *c, const char *log, struct death death);
 
 /* Replays a log to compare with. Nothing is written. */
@@ -55,11 +57,27 @@ void coordinator_replay(struct coordinator *c, const char *log);
 
 void coordinator_close(struct coordinator *c);
 
-/* Makes the call of a line, after it was logged. */
-__attribute__((format(printf, 2, 3))) relkvanu_answer coordinator_call(struct coordinator *c, const char *format, ...);
+/* Calls, each of which is logged where it changed something. */
+
+relkvanu_answer coordinator_tick(struct coordinator *c);
+
+relkvanu_answer coordinator_savepoint(struct coordinator *c);
+
+relkvanu_answer coordinator_ack(struct coordinator *c, uint64_t id, unsigned index, const uint64_t *fresh, size_t fresh_len, const uint64_t *reused, size_t reused_len);
+
+relkvanu_answer coordinator_decline(struct coordinator *c, uint64_t id, unsigned index);
+
+relkvanu_answer coordinator_dispose(struct coordinator *c, uint64_t savepoint);
+
+/* From a savepoint, or from the latest where it is 0; with so many tasks from now on, or as many as before where that is 0. */
+relkvanu_answer coordinator_restore(struct coordinator *c, uint64_t savepoint, unsigned tasks);
+
+relkvanu_answer coordinator_cancel(struct coordinator *c);
 
 /* Fetches files for deletion, and says how many. */
 size_t coordinator_take(struct coordinator *c, uint64_t *files, size_t most);
+
+void coordinator_report(struct coordinator *c, uint64_t file, bool is_deleted);
 
 /* The metadata of a live record, to be freed; NULL where the record is not live. */
 char *coordinator_show(struct coordinator *c, uint64_t id);

@@ -4,15 +4,10 @@
 
 enum { AT_ONCE = 16 };
 
-static void report(struct coordinator *c, const char *word, uint64_t file) {
-    relkvanu_answer answer = coordinator_call(c, "%s %" PRIu64, word, file);
-    CHECK(answer.code == RELKVANU_DONE, "%s %" PRIu64 " is refused", word, file);
-}
-
 static void discard(struct coordinator *c, const char *storage, uint64_t file) {
     storage_delete(storage, file);
     coordinator_step(c);
-    report(c, "deleted", file);
+    coordinator_report(c, file, true);
 }
 
 static void *discards(void *with) {
@@ -23,7 +18,7 @@ static void *discards(void *with) {
         size_t len = coordinator_take(c, files, AT_ONCE);
         for (size_t place = 0; place < len; place++) {
             if (chance_below(&discarder->chance, 8) == 0) {
-                report(c, "undeleted", files[place]);
+                coordinator_report(c, files[place], false);
             } else {
                 discard(c, discarder->storage, files[place]);
             }
@@ -46,7 +41,7 @@ void discarder_stop(struct discarder *discarder) {
 void discarder_report(struct coordinator *c, const char *storage) {
     while (c->taken_len != 0) {
         uint64_t file = c->taken[c->taken_len - 1];
-        report(c, storage_has(storage, file) ? "undeleted" : "deleted", file);
+        coordinator_report(c, file, !storage_has(storage, file));
     }
 }
 

@@ -150,17 +150,17 @@ static void start(struct job *job, enum end end) {
     struct coordinator *c = &job->coordinator;
     relkvanu_answer answer;
     if (end == ROLLS_BACK) {
-        answer = coordinator_call(c, "restore %" PRIu64 " %" PRIu64, now(), c->savepoint);
-    } else if (end == RESCALES) {
-        answer = coordinator_call(c, "restore %" PRIu64 " latest %d", now(), OTHER_TASKS);
+        answer = coordinator_restore(c, coordinator_progress(c).savepoint, 0);
     } else {
-        answer = coordinator_call(c, "restore %" PRIu64 " latest", now());
+        /* a new process says how many tasks there are: it may have ended between the note of that and the restore */
+        unsigned tasks = end == RESCALES ? OTHER_TASKS : job->parallelism == 0 ? c->tasks : 0;
+        answer = coordinator_restore(c, 0, tasks);
     }
     CHECK(answer.code == RELKVANU_DONE, "a restore is refused: %" PRIu32, answer.what);
     for (unsigned index = 0; index < TASKS; index++) {
         settle(job, &job->tasks[index]);
     }
-    job->parallelism = (unsigned)c->script.shape.items[0];
+    job->parallelism = c->tasks != 0 ? c->tasks : TASKS;
     empty_folder(job->local);
     for (unsigned index = 0; index < job->parallelism; index++) {
         prepare(job, index);
@@ -230,7 +230,7 @@ static bool has_failed(struct job *job) {
 /* A tick, and a savepoint where it is time for it. */
 static void drive(struct job *job) {
     struct coordinator *c = &job->coordinator;
-    relkvanu_answer answer = coordinator_call(c, "tick %" PRIu64, now());
+    relkvanu_answer answer = coordinator_tick(c);
     if (answer.code == RELKVANU_REFUSED) { /* a decline has failed the job since */
         CHECK(answer.what == RELKVANU_NOT_RUNNING, "a tick is refused: %" PRIu32, answer.what);
         atomic_store(&job->is_failed, true);
@@ -241,7 +241,7 @@ static void drive(struct job *job) {
     }
     struct progress progress = coordinator_progress(c);
     if (has_passed(job, 25) && progress.savepoint == 0 && progress.savepoint_pending == 0) {
-        answer = coordinator_call(c, "savepoint %" PRIu64, now());
+        answer = coordinator_savepoint(c);
         if (answer.code == RELKVANU_DONE) {
             send_barriers(job, answer.a);
         }

@@ -31,19 +31,18 @@ void task_hold(struct task *task, const struct files *files) {
     }
 }
 
-static size_t written(char *line, size_t at, char sign, const struct files *files) {
+static size_t numbers_of(uint64_t *numbers, const struct files *files) {
     for (size_t place = 0; place < files->len; place++) {
-        at += (size_t)sprintf(line + at, " %c%" PRIu64, sign, files->items[place].number);
+        numbers[place] = files->items[place].number;
     }
-    return at;
+    return files->len;
 }
 
 relkvanu_answer task_ack(struct task *task, const struct upload *upload) {
-    static _Thread_local char files[2 * MOST_FILES * 24];
-    files[0] = '\0';
-    written(files, written(files, 0, '+', &upload->fresh), '=', &upload->reused);
+    static _Thread_local uint64_t fresh[MOST_FILES], reused[MOST_FILES];
+    size_t fresh_len = numbers_of(fresh, &upload->fresh), reused_len = numbers_of(reused, &upload->reused);
     coordinator_step(task->coordinator);
-    return coordinator_call(task->coordinator, "ack %" PRIu64 " %" PRIu64 " 0.%u%s", now(), upload->id, task->index, files);
+    return coordinator_ack(task->coordinator, upload->id, task->index, fresh, fresh_len, reused, reused_len);
 }
 
 void task_delete_fresh(struct task *task, const struct upload *upload) {
@@ -81,7 +80,7 @@ static void upload_file(void *with, const char *name) {
 }
 
 static void decline(struct task *task, uint64_t id) {
-    relkvanu_answer answer = coordinator_call(task->coordinator, "decline %" PRIu64 " %" PRIu64 " 0.%u", now(), id, task->index);
+    relkvanu_answer answer = coordinator_decline(task->coordinator, id, task->index);
     CHECK(answer.code == RELKVANU_DONE, "a decline is refused: %" PRIu32, answer.what);
     if (answer.what == RELKVANU_DECLINE_FAILED) {
         atomic_store(task->is_failed, true);
@@ -114,7 +113,7 @@ static bool uploads(struct task *task, uint64_t id, const char *folder) {
     relkvanu_answer answer = task_ack(task, &upload);
     if (answer.code == RELKVANU_REFUSED) {
         CHECK(answer.what == RELKVANU_FILE_GONE, "an acknowledgement is refused: %" PRIu32, answer.what);
-        task_delete_fresh(task, &upload);
+        task_delete_fresh(task, &upload); /* they were named for the first time just now: no accepted one ever named them */
         task->held.len = 0;
         return false;
     }

@@ -1,19 +1,26 @@
 """The coordinator of one job, with a method for each call."""
+import contextlib
 import ctypes
 import os
 import pathlib
 import secrets
 import threading
 from dataclasses import dataclass
-from typing import Any, Optional, Sequence
+from typing import Any, Iterator, Optional, Sequence
 
-from relkvanu.reads import CHOSEN, EXPIRES, LIVE, MISSING, Chosen, FileCounts, Live, Mode
-from relkvanu.replies import MADE, Reply, Shown, Taken
+from relkvanu import header
+from relkvanu.reads import CHOSEN, LIVE, Chosen, FileCounts, Live, Mode
+from relkvanu.replies import MADE, HeldAtOnce, Reply, Shown, Taken
 
-U16, U64, SIZE = ctypes.c_uint16, ctypes.c_uint64, ctypes.c_size_t
-DONE, REFUSED, NO_MEMORY, CLOSED, BAD_ARGUMENT, TOO_SHORT = range(6)
-ARGUMENTS = {1: "AlreadyOpen", 2: "BadConfig", 3: "BadShape", 4: "BadMoment", 5: "BadFirst"}
-NAME_TAKEN, FILE_GONE = 8, 9
+LIBRARY = "librelkvanu.so.0"
+U64 = ctypes.c_uint64
+ARGUMENTS = {
+    header.ALREADY_OPEN: "AlreadyOpen",
+    header.BAD_CONFIG: "BadConfig",
+    header.BAD_SHAPE: "BadShape",
+    header.BAD_MOMENT: "BadMoment",
+    header.BAD_FIRST: "BadFirst",
+}
 
 
 class Refused(Exception):
@@ -55,56 +62,18 @@ class Settings:
     keep_on_cancel: bool = False
 
 
-class _Settings(ctypes.Structure):
-    _fields_ = [(name, U64) for name in ("interval", "pause", "at_once", "timeout", "tolerable", "retained")]
-    _fields_ += [("keep_on_cancel", ctypes.c_bool)]
-
-
-class _Answer(ctypes.Structure):
-    _fields_ = [("code", ctypes.c_uint32), ("what", ctypes.c_uint32), ("a", U64), ("b", U64)]
-
-
-class _Counts(ctypes.Structure):
-    _fields_ = [("code", ctypes.c_uint32), ("in_use", U64), ("waiting", U64), ("taken", U64)]
-
-
-_HANDLE = ctypes.POINTER(ctypes.c_void_p)
-_WORDS = ctypes.POINTER(U64)
-_BYTES = ctypes.POINTER(ctypes.c_uint8)
-_SIGNATURES = {
-    "open": [_HANDLE, ctypes.POINTER(_Settings), _WORDS, SIZE, U64, U64, U64, U64],
-    "tick": [_HANDLE, U64],
-    "savepoint": [_HANDLE, U64],
-    "ack": [_HANDLE, U64, U64, U16, U16, _WORDS, SIZE, _WORDS, SIZE],
-    "decline": [_HANDLE, U64, U64, U16, U16],
-    "dispose": [_HANDLE, U64],
-    "restore": [_HANDLE, U64, U64, _WORDS, SIZE],
-    "cancel": [_HANDLE, U64],
-    "take": [_HANDLE, _WORDS, SIZE],
-    "deleted": [_HANDLE, U64],
-    "undeleted": [_HANDLE, U64],
-    "show": [_HANDLE, U64, _BYTES, SIZE],
-    "count": [_HANDLE, U64],
-    "mode": [_HANDLE],
-    "due": [_HANDLE],
-    "oldest_expiry": [_HANDLE],
-    "choice": [_HANDLE],
-    "live": [_HANDLE, SIZE],
-    "missing": [_HANDLE, U64],
-}
-
-
 def _loaded() -> ctypes.CDLL:
-    top = pathlib.Path(__file__).resolve().parents[3]
-    folder = os.environ.get("RELKVANU_LIB", str(top / "crates/relkvanu/out"))
-    library = ctypes.CDLL(os.path.join(folder, "librelkvanu.so"))
-    for name, signature in _SIGNATURES.items():
-        function = getattr(library, f"relkvanu_{name}")
-        function.argtypes, function.restype = signature, _Answer
-    library.relkvanu_close.argtypes, library.relkvanu_close.restype = [_HANDLE], None
-    library.relkvanu_file_counts.argtypes, library.relkvanu_file_counts.restype = [_HANDLE], _Counts
-    library.relkvanu_refusal_text.argtypes = [ctypes.c_uint32, _BYTES, SIZE]
-    library.relkvanu_refusal_text.restype = SIZE
+    """The library of the folder that RELKVANU_LIB names, else that beside the package, else that of the system."""
+    folder = os.environ.get("RELKVANU_LIB")
+    beside = pathlib.Path(__file__).resolve().parent / LIBRARY
+    if folder is not None:
+        path = os.path.join(folder, LIBRARY)
+    else:
+        path = str(beside) if beside.is_file() else LIBRARY
+    library = ctypes.CDLL(path)
+    for name, (result, parameters) in header.FUNCTIONS.items():
+        function = getattr(library, name)
+        function.argtypes, function.restype = parameters, result
     return library
 
 
@@ -142,30 +111,40 @@ def _name(refusal: int) -> str:
     return bytes(text[:length]).decode()
 
 
-def _done(answer: _Answer) -> _Answer:
-    if answer.code == DONE:
+def _done(answer: header.relkvanu_answer) -> header.relkvanu_answer:
+    if answer.code == header.DONE:
         return answer
-    if answer.code == REFUSED:
-        raise Refused(_name(answer.what), answer.a if answer.what in (NAME_TAKEN, FILE_GONE) else None)
-    if answer.code == NO_MEMORY:
+    if answer.code == header.REFUSED:
+        raise Refused(_name(answer.what), answer.a if answer.what in (header.NAME_TAKEN, header.FILE_GONE) else None)
+    if answer.code == header.NO_MEMORY:
         raise OutOfMemory
-    if answer.code == CLOSED:
+    if answer.code == header.CLOSED:
         raise Closed
     raise BadArgument(ARGUMENTS[answer.what])
 
 
+def version() -> str:
+    """The version of the library that is loaded, as "0.1.0"."""
+    text: bytes = _shared().relkvanu_version()
+    return text.decode()
+
+
 class Coordinator:
-    """The checkpoint coordinator of one job. Threads may share it: a lock of its own lets in one call at a time.
+    """The checkpoint coordinator of one job. Threads may share it: a lock of its own lets in one call at a time. Several
+    calls, between which no other thread's comes, are made in a `with job.locked():`.
 
     Each call raises Refused where the rules refuse it, OutOfMemory where memory ran out, Closed after close(), and
     OverflowError where a number does not fit. Then nothing has changed.
     """
 
     def __init__(self, settings: Settings, shape: Sequence[int], now: int, first: int = 1) -> None:
-        """Opens it at the moment `now`, with the number `first` for its first record. Raises BadArgument."""
-        self._lock = threading.Lock()
-        self._handle = ctypes.c_void_p(None)
-        values = _Settings(*map(_u64, (
+        """Opens it at the moment `now`, for a job with so many subtasks of each vertex. Its first record has the number
+        `first`: 1 for a new job, else one above each that was given before. Raises BadArgument: of the settings first, then
+        of the shape, the moment and the first number."""
+        self._lock = threading.Condition(threading.RLock())
+        self._calls = 0
+        self._handle = header.relkvanu(None)
+        values = header.relkvanu_settings(*map(_u64, (
             settings.interval, settings.pause, settings.at_once, settings.timeout, settings.tolerable, settings.retained,
         )), settings.keep_on_cancel)
         keys = secrets.randbits(64), secrets.randbits(64)
@@ -180,6 +159,29 @@ class Coordinator:
         answer = _done(self._call(name, *arguments))
         return MADE[answer.what](answer.a, answer.b)
 
+    def _moved(self, name: str, *arguments: Any) -> Reply:
+        """A call that may move what a timer waits for."""
+        with self._lock:
+            self._calls += 1
+            self._lock.notify_all()
+            return self._replied(name, *arguments)
+
+    @contextlib.contextmanager
+    def locked(self) -> Iterator[None]:
+        """Keeps other threads' calls out. Deleting, sending and waiting belong outside."""
+        with self._lock:
+            yield
+
+    def calls(self) -> int:
+        """How many times a call was made that may move what a timer waits for."""
+        with self._lock:
+            return self._calls
+
+    def wait_for_call(self, seen: int, timeout: Optional[float] = None) -> None:
+        """Waits until calls() is above `seen`, or so many seconds are over; without a timeout, for as long as it takes."""
+        with self._lock:
+            self._lock.wait_for(lambda: self._calls > seen, timeout)
+
     def close(self) -> None:
         """Lets the coordinator go. A closed one stays closed."""
         with self._lock:
@@ -192,39 +194,43 @@ class Coordinator:
         self.close()
 
     def __del__(self) -> None:
-        if getattr(self, "_handle", None):
+        if getattr(self, "_handle", None) is not None:
             self.close()
 
     def tick(self, now: int) -> Reply:
-        return self._replied("tick", _u64(now))
+        return self._moved("tick", _u64(now))
 
     def savepoint(self, now: int) -> Reply:
-        return self._replied("savepoint", _u64(now))
+        return self._moved("savepoint", _u64(now))
 
     def ack(self, now: int, id: int, vertex: int, index: int, fresh: Sequence[int], reused: Sequence[int] = ()) -> Reply:
-        """Where it is refused, the files still belong to the task that wrote them."""
+        """Where it is accepted, the fresh files belong to the coordinator. Where it is not, the task deletes a file only if
+        no accepted acknowledgement ever named it: not after AlreadyAcknowledged, which answers a repeat, and after NameTaken
+        not those that were named before."""
         subtask = _within(vertex, 16), _within(index, 16)
-        return self._replied("ack", _u64(now), _u64(id), *subtask, _words(fresh), len(fresh), _words(reused), len(reused))
+        return self._moved("ack", _u64(now), _u64(id), *subtask, _words(fresh), len(fresh), _words(reused), len(reused))
 
     def decline(self, now: int, id: int, vertex: int, index: int) -> Reply:
-        return self._replied("decline", _u64(now), _u64(id), _within(vertex, 16), _within(index, 16))
+        return self._moved("decline", _u64(now), _u64(id), _within(vertex, 16), _within(index, 16))
 
     def dispose(self, id: int) -> Reply:
         return self._replied("dispose", _u64(id))
 
     def restore(self, now: int, savepoint: Optional[int] = None, shape: Optional[Sequence[int]] = None) -> Reply:
-        """From a savepoint, or the latest; in a new shape where one is given. An empty one is a BadArgument."""
+        """From a savepoint, or the latest; in a new shape where one is given. An empty one is a BadArgument, as is each
+        bad one, before any refusal."""
         if savepoint == 0:
             raise ValueError("no savepoint has the number 0")
         if shape is not None and len(shape) == 0:
             raise BadArgument("BadShape")
-        return self._replied("restore", _u64(now), _u64(savepoint or 0), _words(shape or ()), len(shape or ()))
+        return self._moved("restore", _u64(now), _u64(savepoint or 0), _words(shape or ()), len(shape or ()))
 
     def cancel(self, now: int) -> Reply:
-        return self._replied("cancel", _u64(now))
+        return self._moved("cancel", _u64(now))
 
     def take(self, most: int) -> Taken:
-        """Fetches at most so many files that wait for deletion."""
+        """Fetches at most so many files that wait for deletion; each is then reported, by deleted() or undeleted(). A
+        repeated acknowledgement that comes late can hand a file out that is gone: it counts as deleted."""
         files = (U64 * max(_u64(most), 1))()
         answer = _done(self._call("take", files, most))
         return Taken(tuple(files[: answer.a]))
@@ -236,9 +242,10 @@ class Coordinator:
         return self._replied("undeleted", _u64(file))
 
     def show(self, id: int) -> Shown:
+        """The metadata of a live record."""
         length = 1024
-        answer = _Answer(code=TOO_SHORT, a=length)
-        while answer.code == TOO_SHORT:
+        answer = header.relkvanu_answer(code=header.TOO_SHORT, a=length)
+        while answer.code == header.TOO_SHORT:
             length = answer.a
             text = (ctypes.c_uint8 * length)()
             answer = self._call("show", _u64(id), text, length)
@@ -254,12 +261,25 @@ class Coordinator:
 
     def due(self) -> int:
         """The moment before which no tick triggers a checkpoint: when to tick next. Calls move it."""
-        return _done(self._call("due")).a
+        moment: int = _done(self._call("due")).a
+        return moment
+
+    def next_tick(self, ticked: Optional[Reply]) -> Optional[int]:
+        """When to tick next, after a tick that replied this (None: it raised) and unless another call comes before: when a
+        checkpoint is due or a pending record expires. While as many are pending as may be, at the expiry alone, as due() has
+        passed; None where nothing changes before a call does, as while the job has failed."""
+        with self._lock:
+            if self.mode() != Mode.RUNNING:
+                return None
+            expiry, due = self.oldest_expiry(), self.due()
+        if isinstance(ticked, HeldAtOnce):
+            return expiry
+        return due if expiry is None else min(due, expiry)
 
     def oldest_expiry(self) -> Optional[int]:
         """The moment from which a pending record is expired, or None where none is pending."""
         answer = _done(self._call("oldest_expiry"))
-        return answer.a if answer.what == EXPIRES else None
+        return answer.a if answer.what == header.EXPIRES else None
 
     def choice(self) -> Optional[Chosen]:
         """The record that a restore of the latest would begin from, or None: from nothing."""
@@ -274,10 +294,10 @@ class Coordinator:
     def missing(self, id: int) -> Optional[int]:
         """How many subtasks of this record have not acknowledged, or None where no such record is pending."""
         answer = _done(self._call("missing", _u64(id)))
-        return answer.a if answer.what == MISSING else None
+        return answer.a if answer.what == header.MISSING else None
 
     def file_counts(self) -> FileCounts:
         counts = self._call("file_counts")
-        if counts.code == CLOSED:
+        if counts.code == header.CLOSED:
             raise Closed
         return FileCounts(counts.in_use, counts.waiting, counts.taken)

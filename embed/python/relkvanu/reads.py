@@ -1,14 +1,16 @@
-"""What the reads tell. The numbers are those of include/relkvanu.h."""
+"""What the reads tell."""
 import enum
 from dataclasses import dataclass
+
+from relkvanu import header
 
 
 class Mode(enum.Enum):
     """What the job is doing."""
 
-    RUNNING = 23
-    FAILED = 24  # too many checkpoints failed in a row: a restore starts the job again
-    CANCELLED = 25  # the job has ended for good
+    RUNNING = header.MODE_RUNNING
+    FAILED = header.MODE_FAILED  # too many checkpoints failed in a row: a restore starts the job again
+    CANCELLED = header.MODE_CANCELLED  # the job has ended for good
 
 
 class Kind(enum.Enum):
@@ -42,7 +44,5 @@ class FileCounts:
     taken: int
 
 
-EXPIRES = 27
-CHOSEN = {29: Kind.CHECKPOINT, 30: Kind.SAVEPOINT}
-LIVE = {32: Kind.CHECKPOINT, 33: Kind.SAVEPOINT}
-MISSING = 35
+CHOSEN = {header.CHOICE_CHECKPOINT: Kind.CHECKPOINT, header.CHOICE_SAVEPOINT: Kind.SAVEPOINT}
+LIVE = {header.LIVE_CHECKPOINT: Kind.CHECKPOINT, header.LIVE_SAVEPOINT: Kind.SAVEPOINT}

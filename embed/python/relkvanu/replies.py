@@ -1,7 +1,9 @@
-"""What the calls answer. The numbers are those of include/relkvanu.h."""
+"""What the calls answer."""
 import json
 from dataclasses import dataclass
 from typing import Any, Callable, Dict, Tuple
+
+from relkvanu import header
 
 
 class Reply:
@@ -66,7 +68,7 @@ class AckCompleted(Reply):
 
 @dataclass(frozen=True)
 class AckLate(Reply):
-    """The record had ended: so many files wait for deletion now."""
+    """The record had ended: so many of the fresh files were handed out for deletion."""
 
     handed_out: int
 
@@ -147,13 +149,14 @@ class Shown(Reply):
 
     @property
     def metadata(self) -> Dict[str, Any]:
-        return json.loads(self.json)
+        metadata: Dict[str, Any] = json.loads(self.json)
+        return metadata
 
     @property
-    def files(self) -> Dict[int, Tuple[int, ...]]:
-        """The files of each subtask of vertex 0, by its index."""
+    def files(self) -> Dict[Tuple[int, int], Tuple[int, ...]]:
+        """The files of each subtask that has acknowledged, by its vertex and its index."""
         acks = ((ack["subtask"].split("."), ack["files"]) for ack in self.metadata["acks"])
-        return {int(index): tuple(files) for (vertex, index), files in acks if vertex == "0"}
+        return {(int(vertex), int(index)): tuple(files) for (vertex, index), files in acks}
 
 
 @dataclass(frozen=True)
@@ -166,24 +169,24 @@ class Counted(Reply):
 
 # How a reply is made of the two numbers of an answer, by its number.
 MADE: Dict[int, Callable[[int, int], Reply]] = {
-    1: Triggered,
-    2: lambda a, b: HeldInterval(a),
-    3: lambda a, b: HeldAtOnce(a),
-    4: lambda a, b: HeldPause(a),
-    5: lambda a, b: Failed(a),
-    6: lambda a, b: SavepointTriggered(a),
-    7: lambda a, b: AckPending(a),
-    8: AckCompleted,
-    9: lambda a, b: AckLate(a),
-    10: lambda a, b: DeclineAborted(a),
-    11: lambda a, b: DeclineFailed(a),
-    12: lambda a, b: DeclineLate(),
-    13: lambda a, b: Disposed(a),
-    14: lambda a, b: RestoredCheckpoint(b, a),
-    15: lambda a, b: RestoredSavepoint(b, a),
-    16: lambda a, b: RestoredFresh(a),
-    17: Cancelled,
-    19: lambda a, b: Deleted(a),
-    20: lambda a, b: Undeleted(a),
-    22: Counted,
+    header.TICK_TRIGGERED: Triggered,
+    header.TICK_HELD_INTERVAL: lambda a, b: HeldInterval(a),
+    header.TICK_HELD_AT_ONCE: lambda a, b: HeldAtOnce(a),
+    header.TICK_HELD_PAUSE: lambda a, b: HeldPause(a),
+    header.TICK_FAILED: lambda a, b: Failed(a),
+    header.SAVEPOINT_TRIGGERED: lambda a, b: SavepointTriggered(a),
+    header.ACK_PENDING: lambda a, b: AckPending(a),
+    header.ACK_COMPLETED: AckCompleted,
+    header.ACK_LATE: lambda a, b: AckLate(a),
+    header.DECLINE_ABORTED: lambda a, b: DeclineAborted(a),
+    header.DECLINE_FAILED: lambda a, b: DeclineFailed(a),
+    header.DECLINE_LATE: lambda a, b: DeclineLate(),
+    header.DISPOSED: lambda a, b: Disposed(a),
+    header.RESTORED_CHECKPOINT: lambda a, b: RestoredCheckpoint(b, a),
+    header.RESTORED_SAVEPOINT: lambda a, b: RestoredSavepoint(b, a),
+    header.RESTORED_FRESH: lambda a, b: RestoredFresh(a),
+    header.CANCELLED: Cancelled,
+    header.DELETED: lambda a, b: Deleted(a),
+    header.UNDELETED: lambda a, b: Undeleted(a),
+    header.COUNTED: Counted,
 }

@@ -61,7 +61,7 @@ class Calls(unittest.TestCase):
             job.ack(1000, 1, 0, 0, files)
             shown = job.show(1)
             self.assertIsInstance(shown, Shown)
-            self.assertEqual(shown.files, {0: files})
+            self.assertEqual(shown.files, {(0, 0): files})
 
     def test_a_closed_one_stays_closed(self):
         job = Coordinator(SETTINGS, [1], 0)
@@ -79,10 +79,10 @@ class Calls(unittest.TestCase):
         with Coordinator(SETTINGS, [2], 0, first=2) as job:
             self.assertEqual(job.tick(2000), Triggered(expired=0, id=2))
             known = set()
-            for index, named in files.items():
-                job.ack(2000, 2, 0, index, [f for f in named if f not in known], [f for f in named if f in known])
+            for subtask, named in files.items():
+                job.ack(2000, 2, *subtask, [f for f in named if f not in known], [f for f in named if f in known])
                 known.update(named)
-            self.assertEqual(job.show(2).files, {0: (1, 2), 1: (2, 3)})
+            self.assertEqual(job.show(2).files, {(0, 0): (1, 2), (0, 1): (2, 3)})
             self.assertEqual([job.count(file).uses for file in (1, 2, 3)], [1, 2, 1])
             self.assertEqual(job.restore(3000), RestoredCheckpoint(id=2, released=0))
 

@@ -133,10 +133,7 @@ fn text(answer: Answer) -> String {
 
 fn refused(fault: Fault) -> String {
     match fault {
-        Fault::Refused(why) if ["NameTaken", "FileGone"].contains(&why.name().as_str()) => {
-            format!("refused {} {}", why.name(), why.file)
-        }
-        Fault::Refused(why) => format!("refused {}", why.name()),
+        Fault::Refused(why) => format!("refused {why}"),
         Fault::BadShape => "refused BadShape".into(),
         other => format!("{other:?}"),
     }
@@ -189,7 +186,7 @@ fn told(job: &mut Coordinator, line: &str) -> Result<String, Fault> {
 
 #[test]
 fn rows() {
-    let folder = Path::new(env!("CARGO_MANIFEST_DIR")).join("../../examples/rows");
+    let folder = Path::new(env!("CARGO_MANIFEST_DIR")).join("../../../examples/rows");
     let mut run = 0;
     for entry in std::fs::read_dir(folder).unwrap() {
         let path = entry.unwrap().path();

@@ -19,7 +19,7 @@ fn live(id: u64, kind: Kind, done: bool) -> Live {
     Live { id, kind, done }
 }
 
-fn records(job: &mut Coordinator) -> Vec<Live> {
+fn records(job: &Coordinator) -> Vec<Live> {
     (0..).map_while(|place| job.live(place)).collect()
 }
 
@@ -46,7 +46,7 @@ fn with_checkpoint_3() -> Coordinator {
 
 #[test]
 fn a_new_coordinator_is_due_after_its_interval() {
-    let mut job = opened(&SETTINGS);
+    let job = opened(&SETTINGS);
     assert_eq!(job.mode(), Mode::Running);
     assert_eq!(job.due(), 1000);
     assert_eq!(job.oldest_expiry(), None);
@@ -68,7 +68,7 @@ fn a_pending_record_expires_and_misses_subtasks() {
     assert_eq!(job.file_counts(), counts(2, 0, 0));
     job.savepoint(1200).unwrap();
     assert_eq!(
-        records(&mut job),
+        records(&job),
         [
             live(1, Kind::Checkpoint, false),
             live(2, Kind::Savepoint, false)
@@ -78,10 +78,10 @@ fn a_pending_record_expires_and_misses_subtasks() {
 
 #[test]
 fn a_completed_checkpoint_is_the_choice() {
-    let mut job = with_checkpoint_3();
+    let job = with_checkpoint_3();
     assert_eq!(job.choice(), Choice::Checkpoint(3));
     assert_eq!(
-        records(&mut job),
+        records(&job),
         [
             live(2, Kind::Savepoint, false),
             live(3, Kind::Checkpoint, true)
@@ -153,5 +153,5 @@ fn a_job_rolled_back_to_a_savepoint_begins_from_it() {
     job.restore(2300, std::num::NonZeroU64::new(2), None)
         .unwrap();
     assert_eq!(job.choice(), Choice::Savepoint(2));
-    assert_eq!(records(&mut job), [live(2, Kind::Savepoint, true)]);
+    assert_eq!(records(&job), [live(2, Kind::Savepoint, true)]);
 }

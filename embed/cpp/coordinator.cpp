@@ -1,0 +1,132 @@
+/* The C++ header, call by call and read by read, with values that are worked out from docs/RULES.md. */
+#include "../../include/relkvanu.hpp"
+
+#include <cstdio>
+#include <cstdlib>
+#include <type_traits>
+#include <vector>
+
+using ckpt::Coordinator;
+
+static_assert(!std::is_copy_constructible_v<Coordinator> && !std::is_copy_assignable_v<Coordinator>);
+static_assert(std::is_nothrow_move_constructible_v<Coordinator> && std::is_nothrow_move_assignable_v<Coordinator>);
+
+static void check(bool holds, const char *what) {
+    if (!holds) {
+        std::fprintf(stderr, "%s does not hold\n", what);
+        std::exit(1);
+    }
+}
+
+#define CHECK(condition) check(condition, #condition)
+
+static relkvanu_settings settings() {
+    relkvanu_settings it{};
+    it.interval = 1000;
+    it.at_once = 2;
+    it.timeout = 5000;
+    it.retained = 1;
+    return it;
+}
+
+static Coordinator opened(std::vector<std::uint64_t> of = {2}) {
+    return std::get<Coordinator>(Coordinator::open(settings(), of, 0));
+}
+
+template <class Answer> static bool is(const Answer &answer, ckpt::error why, std::uint64_t file = 0) {
+    const ckpt::refused *refused = std::get_if<ckpt::refused>(&answer);
+    return refused != nullptr && refused->why == why && refused->file == file;
+}
+
+/* Checkpoint 1 is completed, savepoint 2 is pending, and checkpoint 3 replaces checkpoint 1. */
+static Coordinator with_checkpoint_3() {
+    Coordinator job = opened();
+    const std::vector<std::uint64_t> first{1, 2}, second{3}, third{4}, fourth{5}, reused{1};
+    CHECK(std::get<ckpt::triggered>(job.tick(1000)).id == 1);
+    CHECK(std::get<ckpt::ack_pending>(job.ack(1100, 1, 0, 0, first)).missing == 1);
+    CHECK(std::get<ckpt::savepoint_triggered>(job.savepoint(1200)).id == 2);
+    CHECK(std::get<ckpt::ack_completed>(job.ack(1300, 1, 0, 1, second)).released == 0);
+    CHECK(std::get<ckpt::triggered>(job.tick(2000)).id == 3);
+    CHECK(std::get<ckpt::ack_pending>(job.ack(2100, 3, 0, 0, third, reused)).missing == 1);
+    ckpt::ack_completed completed = std::get<ckpt::ack_completed>(job.ack(2100, 3, 0, 1, fourth));
+    CHECK(completed.dropped == 1 && completed.released == 2); /* the savepoint was triggered before checkpoint 1 was complete, and pins nothing */
+    return job;
+}
+
+static void reads() {
+    Coordinator job = with_checkpoint_3();
+    CHECK(job.mode() == ckpt::mode::running && job.due() == 3000 && job.oldest_expiry() == 6200);
+    CHECK(std::get<ckpt::checkpoint>(job.choice()).id == 3);
+    CHECK(job.live(0)->id == 2 && job.live(0)->is_savepoint && !job.live(0)->is_done);
+    CHECK(job.live(1)->id == 3 && !job.live(1)->is_savepoint && job.live(1)->is_done && !job.live(2));
+    CHECK(job.missing(2) == 2 && !job.missing(3));
+    CHECK(job.count(1) == 1 && job.count(2) == 0);
+    CHECK(std::get<std::string>(job.show(3)).find("\"files\":[1,4]") != std::string::npos);
+}
+
+static void files() {
+    Coordinator job = with_checkpoint_3();
+    std::uint64_t buffer[4];
+    CHECK(std::get<ckpt::cancelled>(job.cancel(2200)).released == 3);
+    relkvanu_counts counts = job.file_counts();
+    CHECK(counts.in_use == 0 && counts.waiting + counts.taken == 5);
+    ckpt::files taken = std::get<ckpt::files>(job.take(buffer));
+    CHECK(taken.size() == 4 && taken.data() == buffer);
+    CHECK(std::get<ckpt::reported>(job.deleted(taken[0])).file == buffer[0]);
+    CHECK(std::get<ckpt::reported>(job.undeleted(taken[1])).file == buffer[1]);
+    CHECK(is(job.deleted(taken[0]), ckpt::error::not_taken));
+    CHECK(std::get<ckpt::files>(job.take({})).empty());
+}
+
+static void restores() {
+    Coordinator job = with_checkpoint_3();
+    const std::vector<std::uint64_t> wider{1, 3}, none, bad(257, 1);
+    CHECK(std::get<ckpt::ack_pending>(job.ack(2200, 2, 0, 0, none)).missing == 1);
+    CHECK(std::get<ckpt::ack_completed>(job.ack(2200, 2, 0, 1, none)).dropped == 0);
+    CHECK(std::get<ckpt::checkpoint>(std::get<ckpt::restored>(job.restore(2300)).from).id == 3);
+    CHECK(std::get<ckpt::savepoint>(std::get<ckpt::restored>(job.roll_back(2300, 2, wider)).from).id == 2);
+    CHECK(is(job.roll_back(2300, 0), ckpt::error::no_such_savepoint));
+    CHECK(is(job.restore(std::uint64_t{1} << 62, bad), ckpt::error::bad_shape)); /* before any refusal */
+    CHECK(is(job.dispose(2), ckpt::error::in_use));
+    CHECK(std::get<ckpt::triggered>(job.tick(4000)).id == 4);
+    CHECK(job.missing(4) == 4);
+    CHECK(std::get<ckpt::decline_failed>(job.decline(4000, 4, 1, 2)).released == 0);
+    CHECK(job.mode() == ckpt::mode::failed && !job.next_tick(job.tick(4000)));
+}
+
+static void refusals() {
+    Coordinator job = opened();
+    const std::vector<std::uint64_t> file{7};
+    job.tick(1000);
+    ckpt::ack_answer answer = job.ack(1000, 1, 0, 0, {}, file);
+    CHECK(is(answer, ckpt::error::file_gone, 7));
+    std::error_code why = std::get<ckpt::refused>(answer).why;
+    CHECK(why.message() == "FileGone" && std::string(why.category().name()) == "relkvanu");
+    CHECK(ckpt::make_error_code(ckpt::error::no_memory) == std::errc::not_enough_memory);
+    Coordinator other = std::move(job);
+    CHECK(!job && other && is(job.tick(1000), ckpt::error::closed));
+    other = opened();
+    CHECK(!other.missing(1));
+    CHECK(is(Coordinator::open(settings(), {}, 0), ckpt::error::bad_shape));
+    CHECK(is(Coordinator::open({}, {}, 0), ckpt::error::bad_config));
+    CHECK(is(Coordinator::open(settings(), file, 0, 0), ckpt::error::bad_first));
+}
+
+static void ticks() {
+    Coordinator job = opened({1});
+    CHECK(job.next_tick(job.tick(0)) == 1000);
+    CHECK(job.next_tick(job.tick(1000)) == 2000);
+    CHECK(job.next_tick(job.tick(2000)) == 3000);
+    ckpt::tick_answer held = job.tick(3000);
+    CHECK(std::holds_alternative<ckpt::held_at_once>(held) && job.next_tick(held) == 6000);
+}
+
+int main() {
+    reads();
+    files();
+    restores();
+    refusals();
+    ticks();
+    CHECK(std::string(relkvanu_version()) == RELKVANU_VERSION);
+    return 0;
+}

@@ -1,0 +1,64 @@
+"""Builds the package's wheel, so that pip needs no index and no other package (PEP 517, PEP 427).
+
+The wheel has librelkvanu.so.0 beside the package where it is found: in the folder that RELKVANU_LIB names, else in `build`
+of this repository, where `make` leaves it.
+"""
+import base64
+import hashlib
+import os
+import pathlib
+import re
+import sysconfig
+import zipfile
+from typing import Any, Dict, Optional
+
+HERE = pathlib.Path(__file__).resolve().parent
+LIBRARY = "librelkvanu.so.0"
+
+
+def version() -> str:
+    """That of the header."""
+    found = re.search(r'^VERSION = "(.*)"$', (HERE / "relkvanu/header.py").read_text(), re.M)
+    assert found is not None
+    return found.group(1)
+
+
+def library() -> Optional[pathlib.Path]:
+    folder = pathlib.Path(os.environ.get("RELKVANU_LIB", HERE.parent.parent / "build"))
+    path = folder / LIBRARY
+    return path if path.is_file() else None
+
+
+def contents() -> Dict[str, bytes]:
+    """The files of the wheel but for its RECORD."""
+    files = {f"relkvanu/{path.name}": path.read_bytes() for path in sorted((HERE / "relkvanu").glob("*.py"))}
+    files["relkvanu/py.typed"] = b""
+    shared = library()
+    tag = "py3-none-any"
+    if shared is not None:
+        files[f"relkvanu/{LIBRARY}"] = shared.read_bytes()
+        tag = "py3-none-" + re.sub(r"[-.]", "_", sysconfig.get_platform())
+    info = f"relkvanu-{version()}.dist-info"
+    told = f"Metadata-Version: 2.1\nName: relkvanu\nVersion: {version()}\nRequires-Python: >=3.8\n"
+    told += "Summary: The checkpoint coordinator of a stream processor\n"
+    files[f"{info}/METADATA"] = told.encode()
+    pure = "true" if shared is None else "false"
+    files[f"{info}/WHEEL"] = f"Wheel-Version: 1.0\nGenerator: relkvanu\nRoot-Is-Purelib: {pure}\nTag: {tag}\n".encode()
+    return files
+
+
+def digest(data: bytes) -> str:
+    return base64.urlsafe_b64encode(hashlib.sha256(data).digest()).rstrip(b"=").decode()
+
+
+def build_wheel(wheel_directory: str, config_settings: Any = None, metadata_directory: Any = None) -> str:
+    files = contents()
+    (info,) = {path.split("/")[0] for path in files if ".dist-info/" in path}
+    lines = [f"{path},sha256={digest(data)},{len(data)}\n" for path, data in files.items()]
+    files[f"{info}/RECORD"] = ("".join(lines) + f"{info}/RECORD,,\n").encode()
+    tag = files[f"{info}/WHEEL"].decode().rsplit("Tag: ", 1)[1].strip()
+    name = f"relkvanu-{version()}-{tag}.whl"
+    with zipfile.ZipFile(os.path.join(wheel_directory, name), "w", zipfile.ZIP_DEFLATED) as wheel:
+        for path, data in files.items():
+            wheel.writestr(path, data)
+    return name

@@ -1,0 +1,117 @@
+"""Threads that delete the files which no record uses any more."""
+import threading
+from dataclasses import dataclass
+from typing import Callable, List, Tuple
+
+from relkvanu.coordinator import Closed, Coordinator, OutOfMemory
+
+
+@dataclass(frozen=True)
+class Patience:
+    """How often and how long a discarder tries; times are seconds."""
+
+    threads: int = 2  # that delete at the same time
+    batch: int = 64  # files that a thread fetches at once
+    attempts: int = 8  # how often a file is tried before it is given up
+    first_wait: float = 0.1  # after the first failure; it doubles with each one
+    longest_wait: float = 10.0
+    idle: float = 1.0  # how long a thread that found no file sleeps
+
+    def __post_init__(self) -> None:
+        if min(self.threads, self.batch, self.attempts) < 1:
+            raise ValueError("threads, batch and attempts are at least 1")
+
+
+@dataclass(frozen=True)
+class Discarded:
+    """What a discarder did. The coordinator holds a file that was given up as taken until the discarder is stopped; then it
+    is reported as not deleted, and waits for the next one."""
+
+    deleted: int
+    failed: int
+    given_up: Tuple[int, ...]
+
+
+class Discarder:
+    """Threads that fetch files, delete them and report each, until stop().
+
+    `delete` deletes the file of a number, or raises OSError; several threads call it at once, each with another file, and
+    none holds the coordinator's lock. A file that is not there (FileNotFoundError) counts as deleted, since a repeated
+    acknowledgement that comes late can hand a deleted file out again.
+    """
+
+    def __init__(self, coordinator: Coordinator, delete: Callable[[int], object], patience: Patience = Patience()) -> None:
+        self._coordinator, self._delete, self._patience = coordinator, delete, patience
+        self._over = threading.Event()
+        self._lock = threading.Lock()  # of what is counted
+        self._deleted = self._failed = 0
+        self._given_up: List[int] = []
+        self._threads = [threading.Thread(target=self._run, name="relkvanu-discarder", daemon=True) for _ in range(patience.threads)]
+        for thread in self._threads:
+            thread.start()
+
+    def told(self) -> Discarded:
+        """What was done up to now."""
+        with self._lock:
+            return Discarded(self._deleted, self._failed, tuple(self._given_up))
+
+    def stop(self) -> Discarded:
+        """Ends the threads, each after the attempt that it makes. Files that were fetched and not deleted wait again."""
+        self._over.set()
+        for thread in self._threads:
+            thread.join()
+        self._threads = []
+        told = self.told()
+        with self._lock:
+            left, self._given_up = self._given_up, []
+        for file in left:
+            self._coordinator.undeleted(file)
+        return told
+
+    def __enter__(self) -> "Discarder":
+        return self
+
+    def __exit__(self, *_: object) -> None:
+        self.stop()
+
+    def _run(self) -> None:
+        while not self._over.is_set():
+            try:
+                files = self._coordinator.take(self._patience.batch).files
+            except OutOfMemory:  # nothing was fetched
+                files = ()
+            except Closed:
+                return
+            if not files:
+                self._over.wait(self._patience.idle)
+            self._discard(list(files))
+
+    def _discard(self, files: List[int]) -> None:
+        """Tries files until each is deleted or was tried as often as may be, or the discarder is stopped."""
+        wait = self._patience.first_wait
+        for attempt in range(1, self._patience.attempts + 1):
+            files = [file for file in files if not self._is_deleted(file)]
+            if files and attempt < self._patience.attempts and self._over.wait(wait):
+                for file in files:
+                    self._coordinator.undeleted(file)
+                return
+            wait = min(2 * wait, self._patience.longest_wait)
+            if not files:
+                return
+        with self._lock:
+            self._given_up += files
+
+    def _is_deleted(self, file: int) -> bool:
+        """Tries a file, and reports it where it is deleted."""
+        try:
+            self._delete(file)
+        except FileNotFoundError:
+            pass
+        except OSError:
+            with self._lock:
+                self._failed += 1
+            return False
+        self._coordinator.deleted(file)
+        with self._lock:
+            self._deleted += 1
+        return True

@@ -1,0 +1,135 @@
+"""What include/relkvanu.h says, made from it by embed/bindings: change the header, and run that."""
+from ctypes import POINTER, Structure, c_bool, c_char_p, c_size_t, c_uint8, c_uint16, c_uint32, c_uint64, c_void_p
+from typing import Any, Dict, List, Tuple
+
+VERSION_MAJOR = 0
+VERSION_MINOR = 1
+VERSION_PATCH = 0
+VERSION = "0.1.0"
+DONE = 0
+REFUSED = 1
+NO_MEMORY = 2
+CLOSED = 3
+BAD_ARGUMENT = 4
+TOO_SHORT = 5
+OPENED = 0
+TICK_TRIGGERED = 1
+TICK_HELD_INTERVAL = 2
+TICK_HELD_AT_ONCE = 3
+TICK_HELD_PAUSE = 4
+TICK_FAILED = 5
+SAVEPOINT_TRIGGERED = 6
+ACK_PENDING = 7
+ACK_COMPLETED = 8
+ACK_LATE = 9
+DECLINE_ABORTED = 10
+DECLINE_FAILED = 11
+DECLINE_LATE = 12
+DISPOSED = 13
+RESTORED_CHECKPOINT = 14
+RESTORED_SAVEPOINT = 15
+RESTORED_FRESH = 16
+CANCELLED = 17
+TAKEN = 18
+DELETED = 19
+UNDELETED = 20
+SHOWN = 21
+COUNTED = 22
+MODE_RUNNING = 23
+MODE_FAILED = 24
+MODE_CANCELLED = 25
+DUE = 26
+EXPIRES = 27
+NONE_PENDING = 28
+CHOICE_CHECKPOINT = 29
+CHOICE_SAVEPOINT = 30
+CHOICE_FRESH = 31
+LIVE_CHECKPOINT = 32
+LIVE_SAVEPOINT = 33
+LIVE_NONE = 34
+MISSING = 35
+NOT_PENDING = 36
+MOMENT_TOO_LARGE = 1
+NOT_RUNNING = 2
+TOO_MANY_FILES = 3
+REPEATED_FILE = 4
+UNKNOWN_CHECKPOINT = 5
+UNKNOWN_SUBTASK = 6
+ALREADY_ACKNOWLEDGED = 7
+NAME_TAKEN = 8
+FILE_GONE = 9
+NO_SUCH_SAVEPOINT = 10
+IN_USE = 11
+TOO_MANY_SAVEPOINTS = 12
+NOT_TAKEN = 13
+NO_SUCH_RECORD = 14
+IDS_USED_UP = 15
+ALREADY_OPEN = 1
+BAD_CONFIG = 2
+BAD_SHAPE = 3
+BAD_MOMENT = 4
+BAD_FIRST = 5
+
+
+class relkvanu(Structure):
+    _fields_ = [
+        ("state", c_void_p),
+    ]
+
+
+class relkvanu_settings(Structure):
+    _fields_ = [
+        ("interval", c_uint64),
+        ("pause", c_uint64),
+        ("at_once", c_uint64),
+        ("timeout", c_uint64),
+        ("tolerable", c_uint64),
+        ("retained", c_uint64),
+        ("keep_on_cancel", c_bool),
+    ]
+
+
+class relkvanu_answer(Structure):
+    _fields_ = [
+        ("code", c_uint32),
+        ("what", c_uint32),
+        ("a", c_uint64),
+        ("b", c_uint64),
+    ]
+
+
+class relkvanu_counts(Structure):
+    _fields_ = [
+        ("code", c_uint32),
+        ("in_use", c_uint64),
+        ("waiting", c_uint64),
+        ("taken", c_uint64),
+    ]
+
+
+# Of each function, its result and its parameters.
+FUNCTIONS: Dict[str, Tuple[Any, List[Any]]] = {
+    "relkvanu_version": (c_char_p, []),
+    "relkvanu_open": (relkvanu_answer, [POINTER(relkvanu), POINTER(relkvanu_settings), POINTER(c_uint64), c_size_t, c_uint64, c_uint64, c_uint64, c_uint64]),
+    "relkvanu_close": (None, [POINTER(relkvanu)]),
+    "relkvanu_tick": (relkvanu_answer, [POINTER(relkvanu), c_uint64]),
+    "relkvanu_savepoint": (relkvanu_answer, [POINTER(relkvanu), c_uint64]),
+    "relkvanu_ack": (relkvanu_answer, [POINTER(relkvanu), c_uint64, c_uint64, c_uint16, c_uint16, POINTER(c_uint64), c_size_t, POINTER(c_uint64), c_size_t]),
+    "relkvanu_decline": (relkvanu_answer, [POINTER(relkvanu), c_uint64, c_uint64, c_uint16, c_uint16]),
+    "relkvanu_dispose": (relkvanu_answer, [POINTER(relkvanu), c_uint64]),
+    "relkvanu_restore": (relkvanu_answer, [POINTER(relkvanu), c_uint64, c_uint64, POINTER(c_uint64), c_size_t]),
+    "relkvanu_cancel": (relkvanu_answer, [POINTER(relkvanu), c_uint64]),
+    "relkvanu_take": (relkvanu_answer, [POINTER(relkvanu), POINTER(c_uint64), c_size_t]),
+    "relkvanu_deleted": (relkvanu_answer, [POINTER(relkvanu), c_uint64]),
+    "relkvanu_undeleted": (relkvanu_answer, [POINTER(relkvanu), c_uint64]),
+    "relkvanu_show": (relkvanu_answer, [POINTER(relkvanu), c_uint64, POINTER(c_uint8), c_size_t]),
+    "relkvanu_count": (relkvanu_answer, [POINTER(relkvanu), c_uint64]),
+    "relkvanu_mode": (relkvanu_answer, [POINTER(relkvanu)]),
+    "relkvanu_due": (relkvanu_answer, [POINTER(relkvanu)]),
+    "relkvanu_oldest_expiry": (relkvanu_answer, [POINTER(relkvanu)]),
+    "relkvanu_choice": (relkvanu_answer, [POINTER(relkvanu)]),
+    "relkvanu_live": (relkvanu_answer, [POINTER(relkvanu), c_size_t]),
+    "relkvanu_missing": (relkvanu_answer, [POINTER(relkvanu), c_uint64]),
+    "relkvanu_file_counts": (relkvanu_counts, [POINTER(relkvanu)]),
+    "relkvanu_refusal_text": (c_size_t, [c_uint32, POINTER(c_uint8), c_size_t]),
+}

@@ -1,0 +1,108 @@
+"""The discarder's threads, and what a timer waits for."""
+import threading
+import time
+import unittest
+
+from relkvanu import Cancelled, Coordinator, Discarded, Discarder, FileCounts, HeldAtOnce, Patience, Refused, Settings, Triggered, version
+
+SETTINGS = Settings(interval=1000, timeout=5000)
+QUICK = Patience(batch=4, attempts=3, first_wait=0.001, longest_wait=0.004, idle=0.001)
+
+
+def cancelled(test):
+    """A cancelled job: its files 1 to 20 wait for deletion."""
+    job = Coordinator(SETTINGS, [1], 0)
+    job.tick(1000)
+    job.ack(1000, 1, 0, 0, range(1, 21))
+    test.assertEqual(job.cancel(1000), Cancelled(dropped=1, released=20))
+    return job
+
+
+def wait_for(condition):
+    end = time.monotonic() + 30
+    while not condition():
+        assert time.monotonic() < end, "what is waited for does not come"
+        time.sleep(0.001)
+
+
+class Discarding(unittest.TestCase):
+    def test_it_deletes_retries_and_gives_up(self):
+        tries = []
+
+        def delete(file):
+            tries.append(file)
+            if file == 1 or (file == 2 and tries.count(2) <= 2):
+                raise PermissionError
+            if file == 3:
+                raise FileNotFoundError
+
+        with cancelled(self) as job:
+            discarder = Discarder(job, delete, QUICK)
+            wait_for(lambda: discarder.told() == Discarded(19, 5, (1,)))
+            self.assertEqual(job.file_counts(), FileCounts(0, 0, 1), "it is not tried for ever")
+            self.assertEqual(discarder.stop(), Discarded(19, 5, (1,)))
+            self.assertEqual(job.file_counts(), FileCounts(0, 1, 0), "the next one may try it")
+            self.assertEqual(sorted(tries), sorted([*range(1, 21), 1, 1, 2, 2]))
+
+    def test_one_that_is_stopped_leaves_no_file_taken(self):
+        def fails(file):
+            raise PermissionError
+
+        with cancelled(self) as job:
+            with Discarder(job, fails, Patience(batch=4, attempts=3, first_wait=3600)) as discarder:
+                wait_for(lambda: discarder.told().failed == 8)
+                self.assertEqual(job.file_counts(), FileCounts(0, 12, 8))
+            self.assertEqual(job.file_counts(), FileCounts(0, 20, 0))
+
+    def test_patience_has_limits(self):
+        self.assertRaises(ValueError, Patience, attempts=0)
+
+
+class Waiting(unittest.TestCase):
+    def test_the_next_tick_is_when_something_can_happen(self):
+        with Coordinator(SETTINGS, [1], 0) as job:
+            self.assertEqual(job.next_tick(job.tick(0)), 1000)
+            self.assertEqual(job.next_tick(job.tick(1000)), 2000)
+            held = job.tick(2000)
+            self.assertEqual(held, HeldAtOnce(expired=0))
+            self.assertEqual(job.next_tick(held), 6000)
+            self.assertIsNone(job.next_tick(job.tick(6000)))
+            self.assertRaises(Refused, job.tick, 7000)
+            self.assertIsNone(job.next_tick(None))
+            job.restore(7000)
+            self.assertEqual(job.next_tick(job.tick(7000)), 8000)
+
+    def test_a_call_wakes_who_waits_and_a_report_does_not(self):
+        with cancelled(self) as job:
+            seen = job.calls()
+            job.take(1)
+            job.deleted(1)
+            self.assertEqual(job.calls(), seen)
+            start = time.monotonic()
+            job.wait_for_call(seen, 0.02)
+            self.assertGreaterEqual(time.monotonic() - start, 0.02)
+            waiter = threading.Thread(target=job.wait_for_call, args=(seen,))
+            waiter.start()
+            self.assertRaises(Refused, job.tick, 2000)
+            waiter.join(30)
+            self.assertFalse(waiter.is_alive())
+
+    def test_calls_under_one_lock_have_none_between(self):
+        with Coordinator(SETTINGS, [1], 0) as job:
+            with job.locked():
+                self.assertEqual(job.tick(1000), Triggered(expired=0, id=1))
+                other = threading.Thread(target=job.ack, args=(1000, 1, 0, 0, [1]))
+                other.start()
+                time.sleep(0.01)
+                self.assertEqual(job.missing(1), 1)
+            other.join(30)
+            self.assertEqual(job.missing(1), None)
+
+    def test_the_version_is_that_of_the_header(self):
+        from relkvanu import header
+
+        self.assertEqual(version(), header.VERSION)
+
+
+if __name__ == "__main__":
+    unittest.main()

@@ -1,0 +1,181 @@
+//! What calls and reads answer.
+use relkvanu_sys as sys;
+
+/// What the job would restart from.
+#[derive(Clone, Copy, Debug, PartialEq, Eq, Hash)]
+pub enum Choice {
+    Checkpoint(u64),
+    Savepoint(u64),
+    Fresh,
+}
+
+/// What the job is doing.
+#[derive(Clone, Copy, Debug, PartialEq, Eq, Hash)]
+pub enum Mode {
+    Running,
+    /// Too many checkpoints failed in a row: a restore starts the job again.
+    Failed,
+    /// The job has ended for good.
+    Cancelled,
+}
+
+/// Whom a record belongs to: a checkpoint to the coordinator, a savepoint to a user.
+#[derive(Clone, Copy, Debug, PartialEq, Eq, Hash)]
+pub enum Kind {
+    Checkpoint,
+    Savepoint,
+}
+
+/// A live record: its number, its kind, and whether it is done or pending.
+#[derive(Clone, Copy, Debug, PartialEq, Eq, Hash)]
+pub struct Live {
+    pub id: u64,
+    pub kind: Kind,
+    pub done: bool,
+}
+
+/// How many files live records use, each counted once, wait for deletion, and were fetched for it and
+/// are not yet reported.
+#[derive(Clone, Copy, Debug, PartialEq, Eq, Hash)]
+pub struct FileCounts {
+    pub in_use: u64,
+    pub waiting: u64,
+    pub taken: u64,
+}
+
+/// What a call that was made answered.
+#[derive(Clone, Copy, Debug, PartialEq, Eq, Hash)]
+pub enum Answer {
+    /// There is a new pending checkpoint; so many records have expired before.
+    Triggered {
+        expired: u64,
+        id: u64,
+    },
+    /// It is too early for a checkpoint.
+    HeldInterval {
+        expired: u64,
+    },
+    /// As many checkpoints are pending as may be: none is triggered until one ends.
+    HeldAtOnce {
+        expired: u64,
+    },
+    /// The last completion is too short ago.
+    HeldPause {
+        expired: u64,
+    },
+    /// Too many checkpoints failed in a row: the job fails over, and is to be restored.
+    Failed {
+        expired: u64,
+    },
+    SavepointTriggered(u64),
+    AckPending {
+        missing: u64,
+    },
+    /// The record is complete.
+    AckCompleted {
+        dropped: u64,
+        released: u64,
+    },
+    /// The record had ended: so many of the fresh files were handed out for deletion.
+    AckLate {
+        handed_out: u64,
+    },
+    /// The record is dropped.
+    DeclineAborted {
+        released: u64,
+    },
+    /// The record is dropped, and the job fails over: it is to be restored.
+    DeclineFailed {
+        released: u64,
+    },
+    /// The record had ended.
+    DeclineLate,
+    Disposed {
+        released: u64,
+    },
+    /// The job begins again from this record.
+    Restored {
+        from: Choice,
+        released: u64,
+    },
+    Cancelled {
+        dropped: u64,
+        released: u64,
+    },
+    Deleted(u64),
+    Undeleted(u64),
+    Counted {
+        file: u64,
+        uses: u64,
+    },
+}
+
+/// The answer of a call that was made and that writes to no buffer.
+pub(crate) fn answer(told: sys::relkvanu_answer) -> Answer {
+    let sys::relkvanu_answer { what, a, b, .. } = told;
+    match what {
+        sys::RELKVANU_TICK_TRIGGERED => Answer::Triggered { expired: a, id: b },
+        sys::RELKVANU_TICK_HELD_INTERVAL => Answer::HeldInterval { expired: a },
+        sys::RELKVANU_TICK_HELD_AT_ONCE => Answer::HeldAtOnce { expired: a },
+        sys::RELKVANU_TICK_HELD_PAUSE => Answer::HeldPause { expired: a },
+        sys::RELKVANU_TICK_FAILED => Answer::Failed { expired: a },
+        sys::RELKVANU_SAVEPOINT_TRIGGERED => Answer::SavepointTriggered(a),
+        sys::RELKVANU_ACK_PENDING => Answer::AckPending { missing: a },
+        sys::RELKVANU_ACK_COMPLETED => Answer::AckCompleted {
+            dropped: a,
+            released: b,
+        },
+        sys::RELKVANU_ACK_LATE => Answer::AckLate { handed_out: a },
+        sys::RELKVANU_DECLINE_ABORTED => Answer::DeclineAborted { released: a },
+        sys::RELKVANU_DECLINE_FAILED => Answer::DeclineFailed { released: a },
+        sys::RELKVANU_DECLINE_LATE => Answer::DeclineLate,
+        sys::RELKVANU_DISPOSED => Answer::Disposed { released: a },
+        sys::RELKVANU_RESTORED_CHECKPOINT => restored(Choice::Checkpoint(b), a),
+        sys::RELKVANU_RESTORED_SAVEPOINT => restored(Choice::Savepoint(b), a),
+        sys::RELKVANU_RESTORED_FRESH => restored(Choice::Fresh, a),
+        sys::RELKVANU_CANCELLED => Answer::Cancelled {
+            dropped: a,
+            released: b,
+        },
+        sys::RELKVANU_DELETED => Answer::Deleted(a),
+        sys::RELKVANU_UNDELETED => Answer::Undeleted(a),
+        sys::RELKVANU_COUNTED => Answer::Counted { file: a, uses: b },
+        other => unreachable!("reply {other} of a call without a buffer"),
+    }
+}
+
+fn restored(from: Choice, released: u64) -> Answer {
+    Answer::Restored { from, released }
+}
+
+pub(crate) fn mode(told: sys::relkvanu_answer) -> Mode {
+    match told.what {
+        sys::RELKVANU_MODE_RUNNING => Mode::Running,
+        sys::RELKVANU_MODE_FAILED => Mode::Failed,
+        sys::RELKVANU_MODE_CANCELLED => Mode::Cancelled,
+        other => unreachable!("mode {other}"),
+    }
+}
+
+pub(crate) fn choice(told: sys::relkvanu_answer) -> Choice {
+    match told.what {
+        sys::RELKVANU_CHOICE_CHECKPOINT => Choice::Checkpoint(told.a),
+        sys::RELKVANU_CHOICE_SAVEPOINT => Choice::Savepoint(told.a),
+        sys::RELKVANU_CHOICE_FRESH => Choice::Fresh,
+        other => unreachable!("choice {other}"),
+    }
+}
+
+pub(crate) fn live(told: sys::relkvanu_answer) -> Option<Live> {
+    let kind = match told.what {
+        sys::RELKVANU_LIVE_CHECKPOINT => Kind::Checkpoint,
+        sys::RELKVANU_LIVE_SAVEPOINT => Kind::Savepoint,
+        sys::RELKVANU_LIVE_NONE => return None,
+        other => unreachable!("kind {other}"),
+    };
+    Some(Live {
+        id: told.a,
+        kind,
+        done: told.b == 1,
+    })
+}

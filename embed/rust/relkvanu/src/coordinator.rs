@@ -1,0 +1,325 @@
+//! The coordinator of one job, for one thread at a time.
+use crate::answer::{self, Answer, Choice, FileCounts, Live, Mode};
+use crate::fault::{done, Fault};
+use relkvanu_sys as sys;
+use std::cell::UnsafeCell;
+use std::collections::hash_map::RandomState;
+use std::hash::BuildHasher;
+use std::num::NonZeroU64;
+
+/// How a job takes checkpoints; durations are milliseconds.
+#[derive(Clone, Copy, Debug, PartialEq, Eq, Hash)]
+pub struct Settings {
+    /// 10 to 2^40: between two triggers.
+    pub interval: u64,
+    /// 0 to 2^40: between a completion and the next trigger.
+    pub pause: u64,
+    /// 1 to 64 checkpoints that may be pending.
+    pub at_once: u64,
+    /// 1 to 2^40: after which a pending record expires.
+    pub timeout: u64,
+    /// 0 to 1000 failed checkpoints in a row.
+    pub tolerable: u64,
+    /// 1 to 1000 completed checkpoints that are kept.
+    pub retained: u64,
+    /// Whether they are kept when the job is cancelled.
+    pub keep_on_cancel: bool,
+}
+
+impl From<&Settings> for sys::relkvanu_settings {
+    fn from(settings: &Settings) -> Self {
+        sys::relkvanu_settings {
+            interval: settings.interval,
+            pause: settings.pause,
+            at_once: settings.at_once,
+            timeout: settings.timeout,
+            tolerable: settings.tolerable,
+            retained: settings.retained,
+            keep_on_cancel: settings.keep_on_cancel,
+        }
+    }
+}
+
+/// The checkpoint coordinator of one job.
+///
+/// The library allows one call at a time for each handle, reads among them: a read takes the state out of its handle and
+/// puts it back. So a `Coordinator` is `Send` and not `Sync`, and its reads take `&self`: of one thread, one call runs at a
+/// time. Threads share it as a [`SharedCoordinator`](crate::SharedCoordinator).
+///
+/// ```compile_fail
+/// fn is_sync<T: Sync>() {}
+/// is_sync::<relkvanu::Coordinator>();
+/// ```
+#[derive(Debug)]
+pub struct Coordinator {
+    handle: UnsafeCell<sys::relkvanu>,
+}
+
+// SAFETY: a handle may move between threads, as the header says; the library's check proves it. The memory behind it
+// is the handle's alone, and any thread may free what another allocated.
+unsafe impl Send for Coordinator {}
+
+impl Drop for Coordinator {
+    fn drop(&mut self) {
+        // SAFETY: the handle is as the library last left it, and nobody else has it.
+        unsafe { sys::relkvanu_close(self.handle.get()) }
+    }
+}
+
+type Called = Result<Answer, Fault>;
+
+fn called(told: sys::relkvanu_answer) -> Called {
+    done(told).map(answer::answer)
+}
+
+/// Calls. One that answers a [`Fault`] has changed nothing.
+impl Coordinator {
+    /// Opens a coordinator at the moment `now`, for a job with so many subtasks of each vertex: 1 to 256 vertices, at most
+    /// 4096 subtasks. Its first record has the number `first`: 1 for a new job, else one above each that was given before.
+    ///
+    /// The settings are tested first, then the shape, the moment and the first number. Takes memory for the coordinator.
+    pub fn open(
+        settings: &Settings,
+        shape: &[u64],
+        now: u64,
+        first: u64,
+    ) -> Result<Coordinator, Fault> {
+        let opened = Coordinator {
+            handle: UnsafeCell::new(sys::relkvanu {
+                state: std::ptr::null_mut(),
+            }),
+        };
+        // the system's random source, which std keeps for its own maps
+        let words = RandomState::new();
+        // SAFETY: the handle is all zero; the settings and the slice outlive the call, which keeps none of them.
+        let told = unsafe {
+            sys::relkvanu_open(
+                opened.handle.get(),
+                &settings.into(),
+                shape.as_ptr(),
+                shape.len(),
+                now,
+                first,
+                words.hash_one(0),
+                words.hash_one(1),
+            )
+        };
+        done(told).map(|_| opened)
+    }
+
+    /// The handle for a call: the library's own, which is used by one call at a time.
+    fn handle(&mut self) -> *mut sys::relkvanu {
+        self.handle.get_mut()
+    }
+
+    /// Time has passed: records past their timeout expire, and a checkpoint is triggered where one is due.
+    pub fn tick(&mut self, now: u64) -> Called {
+        // SAFETY: the handle is as the library last left it, and `&mut self` keeps other calls away.
+        called(unsafe { sys::relkvanu_tick(self.handle(), now) })
+    }
+
+    /// A user wants a savepoint.
+    pub fn savepoint(&mut self, now: u64) -> Called {
+        // SAFETY: as in `tick`.
+        called(unsafe { sys::relkvanu_savepoint(self.handle(), now) })
+    }
+
+    /// The acknowledgement of a subtask, which is a vertex and an index: it wrote the fresh files for it, and names the
+    /// reused ones again. The files may stand in any order; at most 4096 in all.
+    ///
+    /// Where it is accepted, the fresh files belong to the coordinator. Where it is not, the task deletes a file only if no
+    /// accepted acknowledgement ever named it: not after [`AlreadyAcknowledged`](crate::Refusal::AlreadyAcknowledged), which
+    /// answers a repeat, and after [`NameTaken`](crate::Refusal::NameTaken) not the files that were named before.
+    pub fn ack(
+        &mut self,
+        now: u64,
+        id: u64,
+        subtask: (u16, u16),
+        fresh: &[u64],
+        reused: &[u64],
+    ) -> Called {
+        // SAFETY: as in `tick`; the slices outlive the call, which keeps none of them.
+        called(unsafe {
+            sys::relkvanu_ack(
+                self.handle(),
+                now,
+                id,
+                subtask.0,
+                subtask.1,
+                fresh.as_ptr(),
+                fresh.len(),
+                reused.as_ptr(),
+                reused.len(),
+            )
+        })
+    }
+
+    /// A subtask can't take its part of a record. The job may fail over by it.
+    pub fn decline(&mut self, now: u64, id: u64, subtask: (u16, u16)) -> Called {
+        // SAFETY: as in `tick`.
+        called(unsafe { sys::relkvanu_decline(self.handle(), now, id, subtask.0, subtask.1) })
+    }
+
+    /// A user lets a completed savepoint go.
+    pub fn dispose(&mut self, id: u64) -> Called {
+        // SAFETY: as in `tick`.
+        called(unsafe { sys::relkvanu_dispose(self.handle(), id) })
+    }
+
+    /// Restores the job from a savepoint, or from the latest where there is none, in a new shape where one is given. An
+    /// empty shape is a bad one. A bad shape is told before any refusal.
+    pub fn restore(
+        &mut self,
+        now: u64,
+        savepoint: Option<NonZeroU64>,
+        shape: Option<&[u64]>,
+    ) -> Called {
+        if shape.is_some_and(<[u64]>::is_empty) {
+            return Err(Fault::BadShape);
+        }
+        let shape = shape.unwrap_or(&[]);
+        // SAFETY: as in `tick`; the slice outlives the call, which does not keep it.
+        called(unsafe {
+            sys::relkvanu_restore(
+                self.handle(),
+                now,
+                savepoint.map_or(0, NonZeroU64::get),
+                shape.as_ptr(),
+                shape.len(),
+            )
+        })
+    }
+
+    /// The job ends for good.
+    pub fn cancel(&mut self, now: u64) -> Called {
+        // SAFETY: as in `tick`.
+        called(unsafe { sys::relkvanu_cancel(self.handle(), now) })
+    }
+
+    /// Fetches files that wait for deletion, at most as many as the buffer has places, and answers those that it wrote
+    /// there. Each is then reported, by [`deleted`](Self::deleted) or [`undeleted`](Self::undeleted). A repeated
+    /// acknowledgement that comes late can hand a file out that is gone: it counts as deleted.
+    pub fn take<'a>(&mut self, files: &'a mut [u64]) -> Result<&'a [u64], Fault> {
+        // SAFETY: as in `tick`; the buffer is borrowed for writing, and has as many places as is said.
+        let told = unsafe { sys::relkvanu_take(self.handle(), files.as_mut_ptr(), files.len()) };
+        done(told).map(|told| &files[..told.a as usize])
+    }
+
+    /// A fetched file is deleted.
+    pub fn deleted(&mut self, file: u64) -> Called {
+        // SAFETY: as in `tick`.
+        called(unsafe { sys::relkvanu_deleted(self.handle(), file) })
+    }
+
+    /// A fetched file could not be deleted: it waits again.
+    pub fn undeleted(&mut self, file: u64) -> Called {
+        // SAFETY: as in `tick`.
+        called(unsafe { sys::relkvanu_undeleted(self.handle(), file) })
+    }
+}
+
+/// Reads. None changes anything. All but [`show`](Self::show) and [`count`](Self::count) can't fail.
+impl Coordinator {
+    /// The handle for a read, which takes the state out and puts it back: so it has to be writable, though nothing changes.
+    fn read_handle(&self) -> *mut sys::relkvanu {
+        self.handle.get()
+    }
+
+    /// The metadata of a live record, as JSON (`docs/SCRIPT.md`).
+    pub fn show(&self, id: u64) -> Result<String, Fault> {
+        let mut json = vec![0; 1024];
+        loop {
+            // SAFETY: the handle is as the library last left it; `Coordinator` is not `Sync`, so no other call runs. The
+            // buffer is this function's own, and has as many bytes as is said.
+            let told = unsafe {
+                sys::relkvanu_show(self.read_handle(), id, json.as_mut_ptr(), json.len())
+            };
+            if told.code == sys::RELKVANU_TOO_SHORT {
+                json.resize(told.a as usize, 0);
+                continue;
+            }
+            json.truncate(done(told)?.a as usize);
+            return Ok(String::from_utf8_lossy(&json).into_owned());
+        }
+    }
+
+    /// How many uses a file has.
+    pub fn count(&self, file: u64) -> Called {
+        // SAFETY: the handle is as the library last left it; `Coordinator` is not `Sync`, so no other call runs.
+        called(unsafe { sys::relkvanu_count(self.read_handle(), file) })
+    }
+
+    /// What the job is doing.
+    pub fn mode(&self) -> Mode {
+        // SAFETY: as in `count`.
+        answer::mode(read(unsafe { sys::relkvanu_mode(self.read_handle()) }))
+    }
+
+    /// The moment from which neither the interval nor the pause holds a checkpoint back: no tick before
+    /// it triggers one. From then on one does, unless the job does not run or as many are pending as may be. Calls move it.
+    pub fn due(&self) -> u64 {
+        // SAFETY: as in `count`.
+        read(unsafe { sys::relkvanu_due(self.read_handle()) }).a
+    }
+
+    /// When to tick next, after a tick that answered this and unless another call comes before: when a checkpoint is due
+    /// or a pending record expires. While as many are pending as may be, at the expiry alone, as `due` has passed; `None`
+    /// where nothing changes before a call does, as while the job has failed.
+    pub fn next_tick(&self, ticked: &Result<Answer, Fault>) -> Option<u64> {
+        if self.mode() != Mode::Running {
+            return None;
+        }
+        let expiry = self.oldest_expiry();
+        match ticked {
+            Ok(Answer::HeldAtOnce { .. }) => expiry,
+            _ => Some(expiry.map_or(self.due(), |expiry| expiry.min(self.due()))),
+        }
+    }
+
+    /// The moment from which a pending record is expired, or `None` where none is pending.
+    pub fn oldest_expiry(&self) -> Option<u64> {
+        // SAFETY: as in `count`.
+        let told = read(unsafe { sys::relkvanu_oldest_expiry(self.read_handle()) });
+        (told.what == sys::RELKVANU_EXPIRES).then_some(told.a)
+    }
+
+    /// The record that a restore of the latest would begin from.
+    pub fn choice(&self) -> Choice {
+        // SAFETY: as in `count`.
+        answer::choice(read(unsafe { sys::relkvanu_choice(self.read_handle()) }))
+    }
+
+    /// The live record at this place, from 0, where they stand in rising number, or `None` past the
+    /// last. Searches for each record before it too.
+    pub fn live(&self, place: usize) -> Option<Live> {
+        // SAFETY: as in `count`.
+        answer::live(read(unsafe {
+            sys::relkvanu_live(self.read_handle(), place)
+        }))
+    }
+
+    /// How many subtasks of this record have not acknowledged, or `None` where no record of this number
+    /// is pending.
+    pub fn missing(&self, id: u64) -> Option<u64> {
+        // SAFETY: as in `count`.
+        let told = read(unsafe { sys::relkvanu_missing(self.read_handle(), id) });
+        (told.what == sys::RELKVANU_MISSING).then_some(told.a)
+    }
+
+    /// How many files live records use, wait for deletion, and were fetched for it.
+    pub fn file_counts(&self) -> FileCounts {
+        // SAFETY: as in `count`.
+        let told = unsafe { sys::relkvanu_file_counts(self.read_handle()) };
+        assert_eq!(told.code, sys::RELKVANU_DONE, "the handle is open");
+        FileCounts {
+            in_use: told.in_use,
+            waiting: told.waiting,
+            taken: told.taken,
+        }
+    }
+}
+
+fn read(told: sys::relkvanu_answer) -> sys::relkvanu_answer {
+    assert_eq!(told.code, sys::RELKVANU_DONE, "the handle is open");
+    told
+}

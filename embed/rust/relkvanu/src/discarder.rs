@@ -1,0 +1,218 @@
+//! Threads that delete the files which no record uses any more.
+use crate::fault::{Fault, Refusal};
+use crate::shared::SharedCoordinator;
+use std::io;
+use std::num::NonZeroU32;
+use std::sync::{Arc, Condvar, Mutex, MutexGuard, PoisonError};
+use std::thread::{Builder, JoinHandle};
+use std::time::Duration;
+
+/// How often and how long a [`Discarder`] tries.
+#[derive(Clone, Copy, Debug, PartialEq, Eq)]
+pub struct Patience {
+    /// Threads that delete at the same time.
+    pub threads: NonZeroU32,
+    /// Files that a thread fetches at once.
+    pub batch: NonZeroU32,
+    /// How often a file is tried before it is given up.
+    pub attempts: NonZeroU32,
+    /// The wait after the first failure; it doubles with each one.
+    pub first_wait: Duration,
+    /// The longest wait after a failure.
+    pub longest_wait: Duration,
+    /// How long a thread that found no file sleeps before it asks again.
+    pub idle: Duration,
+}
+
+impl Default for Patience {
+    /// Two threads of 64 files each, 8 attempts with waits from 100 ms to 10 s, and a look each second.
+    fn default() -> Patience {
+        let number = |n| NonZeroU32::new(n).unwrap_or(NonZeroU32::MIN);
+        Patience {
+            threads: number(2),
+            batch: number(64),
+            attempts: number(8),
+            first_wait: Duration::from_millis(100),
+            longest_wait: Duration::from_secs(10),
+            idle: Duration::from_secs(1),
+        }
+    }
+}
+
+/// What a discarder did.
+#[derive(Clone, Debug, Default, PartialEq, Eq)]
+pub struct Discarded {
+    /// Files that were deleted, and reported so.
+    pub deleted: u64,
+    /// Attempts that failed.
+    pub failed: u64,
+    /// Files that were tried as often as may be. The coordinator holds them as taken until the discarder is stopped; then
+    /// they are reported as not deleted, and wait for the next one.
+    pub given_up: Vec<u64>,
+}
+
+#[derive(Debug, Default)]
+struct State {
+    is_over: bool,
+    told: Discarded,
+}
+
+/// What the threads share.
+struct Shared {
+    coordinator: SharedCoordinator,
+    patience: Patience,
+    state: Mutex<State>,
+    over: Condvar,
+}
+
+/// Threads that fetch files, delete them and report each. They run until [`stop`](Self::stop) or until this is dropped.
+///
+/// A file is deleted outside the coordinator's lock. One that is not there counts as deleted, since a repeated
+/// acknowledgement that comes late can hand a deleted file out again.
+pub struct Discarder {
+    shared: Arc<Shared>,
+    threads: Vec<JoinHandle<()>>,
+}
+
+impl Discarder {
+    /// Starts the threads. `delete` deletes the file of a number; several threads call it at once, each with another
+    /// file.
+    ///
+    /// Fails where the system starts no thread; then none runs.
+    pub fn start<D>(
+        coordinator: SharedCoordinator,
+        patience: Patience,
+        delete: D,
+    ) -> io::Result<Discarder>
+    where
+        D: Fn(u64) -> io::Result<()> + Send + Sync + 'static,
+    {
+        let shared = Arc::new(Shared {
+            coordinator,
+            patience,
+            state: Mutex::default(),
+            over: Condvar::new(),
+        });
+        let delete = Arc::new(delete);
+        let mut discarder = Discarder {
+            shared: Arc::clone(&shared),
+            threads: Vec::new(),
+        };
+        for _ in 0..patience.threads.get() {
+            let (shared, delete) = (Arc::clone(&shared), Arc::clone(&delete));
+            let builder = Builder::new().name("relkvanu-discarder".into());
+            let thread = builder.spawn(move || shared.run(&*delete))?;
+            discarder.threads.push(thread);
+        }
+        Ok(discarder)
+    }
+
+    /// What was done up to now.
+    pub fn told(&self) -> Discarded {
+        self.shared.lock().told.clone()
+    }
+
+    /// Ends the threads, each after the attempt that it makes, and answers what was done. Files that were fetched and not
+    /// deleted wait again.
+    pub fn stop(mut self) -> Discarded {
+        self.end();
+        self.told()
+    }
+
+    fn end(&mut self) {
+        self.shared.lock().is_over = true;
+        self.shared.over.notify_all();
+        for thread in self.threads.drain(..) {
+            // one that has panicked told so itself
+            let _ = thread.join();
+        }
+        let given_up = self.shared.lock().told.given_up.clone();
+        for file in given_up {
+            self.shared.report(file, false);
+        }
+    }
+}
+
+impl Drop for Discarder {
+    fn drop(&mut self) {
+        if !self.threads.is_empty() {
+            self.end();
+        }
+    }
+}
+
+impl Shared {
+    fn lock(&self) -> MutexGuard<'_, State> {
+        self.state.lock().unwrap_or_else(PoisonError::into_inner)
+    }
+
+    /// Waits so long, or until the discarder is stopped: whether it is.
+    fn is_over_after(&self, wait: Duration) -> bool {
+        let (state, _) = self
+            .over
+            .wait_timeout_while(self.lock(), wait, |state| !state.is_over)
+            .unwrap_or_else(PoisonError::into_inner);
+        state.is_over
+    }
+
+    /// A thread: takes files until it is stopped.
+    fn run(&self, delete: &dyn Fn(u64) -> io::Result<()>) {
+        let mut buffer = vec![0; self.patience.batch.get() as usize];
+        let mut wait = Duration::ZERO;
+        while !self.is_over_after(wait) {
+            // a take that finds no memory has fetched nothing: it is tried again as where no file waits
+            let files = self.coordinator.take(&mut buffer).unwrap_or_default();
+            wait = if files.is_empty() {
+                self.patience.idle
+            } else {
+                Duration::ZERO
+            };
+            self.discard(files.to_vec(), delete);
+        }
+    }
+
+    /// Tries files until each is deleted or was tried as often as may be, or the discarder is stopped.
+    fn discard(&self, mut files: Vec<u64>, delete: &dyn Fn(u64) -> io::Result<()>) {
+        let mut wait = self.patience.first_wait;
+        for attempt in 1..=self.patience.attempts.get() {
+            files.retain(|file| !self.is_deleted(*file, delete));
+            if files.is_empty() {
+                return;
+            }
+            if attempt < self.patience.attempts.get() && self.is_over_after(wait) {
+                files.iter().for_each(|file| self.report(*file, false));
+                return;
+            }
+            wait = (wait * 2).min(self.patience.longest_wait);
+        }
+        self.lock().told.given_up.append(&mut files);
+    }
+
+    /// Tries a file, and reports it where it is deleted.
+    fn is_deleted(&self, file: u64, delete: &dyn Fn(u64) -> io::Result<()>) -> bool {
+        let is_gone = match delete(file) {
+            Ok(()) => true,
+            Err(fault) => fault.kind() == io::ErrorKind::NotFound,
+        };
+        if is_gone {
+            self.report(file, true);
+        }
+        let mut state = self.lock();
+        state.told.deleted += u64::from(is_gone);
+        state.told.failed += u64::from(!is_gone);
+        is_gone
+    }
+
+    /// Reports a file that was taken here. Only one that somebody else has reported is refused, and then there is nothing
+    /// to do: these two calls take no memory.
+    fn report(&self, file: u64, is_deleted: bool) {
+        let told = match is_deleted {
+            true => self.coordinator.deleted(file),
+            false => self.coordinator.undeleted(file),
+        };
+        debug_assert!(matches!(
+            told,
+            Ok(_) | Err(Fault::Refused(Refusal::NotTaken))
+        ));
+    }
+}

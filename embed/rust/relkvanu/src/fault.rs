@@ -1,0 +1,160 @@
+//! Why a call changed nothing.
+use relkvanu_sys as sys;
+use std::error::Error;
+use std::fmt;
+
+/// Why the rules refuse a call. They are tested in the order in which they stand here.
+#[derive(Clone, Copy, Debug, PartialEq, Eq, Hash)]
+pub enum Refusal {
+    MomentTooLarge,
+    NotRunning,
+    TooManyFiles,
+    RepeatedFile,
+    UnknownCheckpoint,
+    UnknownSubtask,
+    /// The subtask has acknowledged this record. The files may be those of its first message: they are not to be deleted.
+    AlreadyAcknowledged,
+    /// A fresh file with this number is known. It may be in use: it is not to be deleted.
+    NameTaken(u64),
+    /// A reused file is not present any more: the task writes its state anew, under a new number.
+    FileGone(u64),
+    NoSuchSavepoint,
+    InUse,
+    TooManySavepoints,
+    NotTaken,
+    NoSuchRecord,
+    IdsUsedUp,
+}
+
+impl Refusal {
+    pub(crate) fn of(told: sys::relkvanu_answer) -> Refusal {
+        match told.what {
+            sys::RELKVANU_MOMENT_TOO_LARGE => Refusal::MomentTooLarge,
+            sys::RELKVANU_NOT_RUNNING => Refusal::NotRunning,
+            sys::RELKVANU_TOO_MANY_FILES => Refusal::TooManyFiles,
+            sys::RELKVANU_REPEATED_FILE => Refusal::RepeatedFile,
+            sys::RELKVANU_UNKNOWN_CHECKPOINT => Refusal::UnknownCheckpoint,
+            sys::RELKVANU_UNKNOWN_SUBTASK => Refusal::UnknownSubtask,
+            sys::RELKVANU_ALREADY_ACKNOWLEDGED => Refusal::AlreadyAcknowledged,
+            sys::RELKVANU_NAME_TAKEN => Refusal::NameTaken(told.a),
+            sys::RELKVANU_FILE_GONE => Refusal::FileGone(told.a),
+            sys::RELKVANU_NO_SUCH_SAVEPOINT => Refusal::NoSuchSavepoint,
+            sys::RELKVANU_IN_USE => Refusal::InUse,
+            sys::RELKVANU_TOO_MANY_SAVEPOINTS => Refusal::TooManySavepoints,
+            sys::RELKVANU_NOT_TAKEN => Refusal::NotTaken,
+            sys::RELKVANU_NO_SUCH_RECORD => Refusal::NoSuchRecord,
+            sys::RELKVANU_IDS_USED_UP => Refusal::IdsUsedUp,
+            other => unreachable!("refusal {other}"),
+        }
+    }
+
+    /// The number of the refusal in the header.
+    pub fn number(&self) -> u32 {
+        match self {
+            Refusal::MomentTooLarge => sys::RELKVANU_MOMENT_TOO_LARGE,
+            Refusal::NotRunning => sys::RELKVANU_NOT_RUNNING,
+            Refusal::TooManyFiles => sys::RELKVANU_TOO_MANY_FILES,
+            Refusal::RepeatedFile => sys::RELKVANU_REPEATED_FILE,
+            Refusal::UnknownCheckpoint => sys::RELKVANU_UNKNOWN_CHECKPOINT,
+            Refusal::UnknownSubtask => sys::RELKVANU_UNKNOWN_SUBTASK,
+            Refusal::AlreadyAcknowledged => sys::RELKVANU_ALREADY_ACKNOWLEDGED,
+            Refusal::NameTaken(_) => sys::RELKVANU_NAME_TAKEN,
+            Refusal::FileGone(_) => sys::RELKVANU_FILE_GONE,
+            Refusal::NoSuchSavepoint => sys::RELKVANU_NO_SUCH_SAVEPOINT,
+            Refusal::InUse => sys::RELKVANU_IN_USE,
+            Refusal::TooManySavepoints => sys::RELKVANU_TOO_MANY_SAVEPOINTS,
+            Refusal::NotTaken => sys::RELKVANU_NOT_TAKEN,
+            Refusal::NoSuchRecord => sys::RELKVANU_NO_SUCH_RECORD,
+            Refusal::IdsUsedUp => sys::RELKVANU_IDS_USED_UP,
+        }
+    }
+
+    /// The file that is to blame, where it is one.
+    pub fn file(&self) -> Option<u64> {
+        match self {
+            Refusal::NameTaken(file) | Refusal::FileGone(file) => Some(*file),
+            _ => None,
+        }
+    }
+
+    /// The name of the refusal, as `NotRunning`.
+    pub fn name(&self) -> String {
+        let mut text = [0; 32];
+        // SAFETY: the buffer is this function's own, and has as many bytes as is said.
+        let len =
+            unsafe { sys::relkvanu_refusal_text(self.number(), text.as_mut_ptr(), text.len()) };
+        String::from_utf8_lossy(&text[..len]).into_owned()
+    }
+}
+
+/// The name, and the file that is to blame, as `NameTaken 7`.
+impl fmt::Display for Refusal {
+    fn fmt(&self, f: &mut fmt::Formatter<'_>) -> fmt::Result {
+        f.write_str(&self.name())?;
+        match self.file() {
+            Some(file) => write!(f, " {file}"),
+            None => Ok(()),
+        }
+    }
+}
+
+impl Error for Refusal {}
+
+/// Why a call has changed nothing.
+#[derive(Clone, Copy, Debug, PartialEq, Eq, Hash)]
+pub enum Fault {
+    /// The rules refuse the call.
+    Refused(Refusal),
+    /// Memory ran out. The same call can be made again; where calls are logged, before any other.
+    Memory,
+    /// A value of the settings is outside its limits.
+    BadConfig,
+    /// A shape is outside its limits. At a restore this is told before any refusal.
+    BadShape,
+    /// The moment of an opening is above 2^62 - 1.
+    BadMoment,
+    /// The first number of an opening is not within 1 to 2^62 - 1.
+    BadFirst,
+}
+
+impl From<Refusal> for Fault {
+    fn from(why: Refusal) -> Fault {
+        Fault::Refused(why)
+    }
+}
+
+impl fmt::Display for Fault {
+    fn fmt(&self, f: &mut fmt::Formatter<'_>) -> fmt::Result {
+        match self {
+            Fault::Refused(why) => write!(f, "the call is refused: {why}"),
+            Fault::Memory => f.write_str("out of memory"),
+            Fault::BadConfig => f.write_str("a value of the settings is outside its limits"),
+            Fault::BadShape => f.write_str("the shape is outside its limits"),
+            Fault::BadMoment => f.write_str("the opening moment is above 2^62 - 1"),
+            Fault::BadFirst => f.write_str("the first number is not within 1 to 2^62 - 1"),
+        }
+    }
+}
+
+impl Error for Fault {
+    fn source(&self) -> Option<&(dyn Error + 'static)> {
+        match self {
+            Fault::Refused(why) => Some(why),
+            _ => None,
+        }
+    }
+}
+
+/// The answer of a call that was made, or why it changed nothing.
+pub(crate) fn done(told: sys::relkvanu_answer) -> Result<sys::relkvanu_answer, Fault> {
+    Err(match (told.code, told.what) {
+        (sys::RELKVANU_DONE, _) => return Ok(told),
+        (sys::RELKVANU_REFUSED, _) => Fault::Refused(Refusal::of(told)),
+        (sys::RELKVANU_NO_MEMORY, _) => Fault::Memory,
+        (sys::RELKVANU_BAD_ARGUMENT, sys::RELKVANU_BAD_CONFIG) => Fault::BadConfig,
+        (sys::RELKVANU_BAD_ARGUMENT, sys::RELKVANU_BAD_SHAPE) => Fault::BadShape,
+        (sys::RELKVANU_BAD_ARGUMENT, sys::RELKVANU_BAD_MOMENT) => Fault::BadMoment,
+        (sys::RELKVANU_BAD_ARGUMENT, sys::RELKVANU_BAD_FIRST) => Fault::BadFirst,
+        (code, what) => unreachable!("code {code} {what} of an open handle"),
+    })
+}

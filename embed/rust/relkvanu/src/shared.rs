@@ -1,0 +1,197 @@
+//! The coordinator of one job, for any number of threads.
+use crate::answer::{Answer, Choice, FileCounts, Live, Mode};
+use crate::coordinator::{Coordinator, Settings};
+use crate::fault::Fault;
+use std::num::NonZeroU64;
+use std::sync::{Arc, Condvar, Mutex, MutexGuard, PoisonError};
+use std::time::Duration;
+
+type Called = Result<Answer, Fault>;
+
+/// A coordinator under a mutex, and how many calls were made under it.
+#[derive(Debug)]
+struct Inner {
+    coordinator: Coordinator,
+    calls: u64,
+}
+
+#[derive(Debug)]
+struct Shared {
+    inner: Mutex<Inner>,
+    called: Condvar,
+}
+
+/// A coordinator that threads share: a clone is the same one. Each method locks it for one call; [`with`](Self::with) for
+/// several, between which no other thread's call comes.
+///
+/// The lock is let go before a method answers, so the arms of a `match` over an answer may call again.
+#[derive(Clone, Debug)]
+pub struct SharedCoordinator {
+    shared: Arc<Shared>,
+}
+
+impl From<Coordinator> for SharedCoordinator {
+    fn from(coordinator: Coordinator) -> SharedCoordinator {
+        let inner = Mutex::new(Inner {
+            coordinator,
+            calls: 0,
+        });
+        SharedCoordinator {
+            shared: Arc::new(Shared {
+                inner,
+                called: Condvar::new(),
+            }),
+        }
+    }
+}
+
+impl SharedCoordinator {
+    /// Opens a coordinator, as [`Coordinator::open`].
+    pub fn open(
+        settings: &Settings,
+        shape: &[u64],
+        now: u64,
+        first: u64,
+    ) -> Result<SharedCoordinator, Fault> {
+        Coordinator::open(settings, shape, now, first).map(SharedCoordinator::from)
+    }
+
+    /// The lock. A thread that panics under it leaves the coordinator between two calls, so it is sound all the same.
+    fn lock(&self) -> MutexGuard<'_, Inner> {
+        self.shared
+            .inner
+            .lock()
+            .unwrap_or_else(PoisonError::into_inner)
+    }
+
+    /// Does what is given under one lock, and wakes who waits for a call. Deleting, sending and waiting belong outside.
+    pub fn with<T>(&self, calls: impl FnOnce(&mut Coordinator) -> T) -> T {
+        let mut inner = self.lock();
+        inner.calls += 1;
+        let told = calls(&mut inner.coordinator);
+        drop(inner);
+        self.shared.called.notify_all();
+        told
+    }
+
+    /// A call that moves no moment which a timer waits for, so nobody is woken.
+    fn quietly<T>(&self, call: impl FnOnce(&mut Coordinator) -> T) -> T {
+        call(&mut self.lock().coordinator)
+    }
+
+    /// Reads under one lock.
+    pub fn read<T>(&self, reads: impl FnOnce(&Coordinator) -> T) -> T {
+        reads(&self.lock().coordinator)
+    }
+
+    /// How many times a call was made that may move what a timer waits for, or [`with`](Self::with), which may make one.
+    pub fn calls(&self) -> u64 {
+        self.lock().calls
+    }
+
+    /// Waits until [`calls`](Self::calls) is above `seen`, or the time is over; without one, for as long as it takes.
+    pub fn wait_for_call(&self, seen: u64, longest: Option<Duration>) {
+        let is_unseen = |inner: &mut Inner| inner.calls <= seen;
+        let inner = self.lock();
+        match longest {
+            Some(longest) => drop(
+                self.shared
+                    .called
+                    .wait_timeout_while(inner, longest, is_unseen),
+            ),
+            None => drop(self.shared.called.wait_while(inner, is_unseen)),
+        }
+    }
+}
+
+/// The calls and reads of [`Coordinator`], each under the lock.
+impl SharedCoordinator {
+    pub fn tick(&self, now: u64) -> Called {
+        self.with(|it| it.tick(now))
+    }
+
+    pub fn savepoint(&self, now: u64) -> Called {
+        self.with(|it| it.savepoint(now))
+    }
+
+    /// Whose the files are then: [`Coordinator::ack`].
+    pub fn ack(
+        &self,
+        now: u64,
+        id: u64,
+        subtask: (u16, u16),
+        fresh: &[u64],
+        reused: &[u64],
+    ) -> Called {
+        self.with(|it| it.ack(now, id, subtask, fresh, reused))
+    }
+
+    pub fn decline(&self, now: u64, id: u64, subtask: (u16, u16)) -> Called {
+        self.with(|it| it.decline(now, id, subtask))
+    }
+
+    pub fn dispose(&self, id: u64) -> Called {
+        self.quietly(|it| it.dispose(id))
+    }
+
+    pub fn restore(
+        &self,
+        now: u64,
+        savepoint: Option<NonZeroU64>,
+        shape: Option<&[u64]>,
+    ) -> Called {
+        self.with(|it| it.restore(now, savepoint, shape))
+    }
+
+    pub fn cancel(&self, now: u64) -> Called {
+        self.with(|it| it.cancel(now))
+    }
+
+    pub fn take<'a>(&self, files: &'a mut [u64]) -> Result<&'a [u64], Fault> {
+        self.quietly(|it| it.take(files))
+    }
+
+    pub fn deleted(&self, file: u64) -> Called {
+        self.quietly(|it| it.deleted(file))
+    }
+
+    pub fn undeleted(&self, file: u64) -> Called {
+        self.quietly(|it| it.undeleted(file))
+    }
+
+    pub fn show(&self, id: u64) -> Result<String, Fault> {
+        self.read(|it| it.show(id))
+    }
+
+    pub fn count(&self, file: u64) -> Called {
+        self.read(|it| it.count(file))
+    }
+
+    pub fn mode(&self) -> Mode {
+        self.read(Coordinator::mode)
+    }
+
+    pub fn due(&self) -> u64 {
+        self.read(Coordinator::due)
+    }
+
+    pub fn oldest_expiry(&self) -> Option<u64> {
+        self.read(Coordinator::oldest_expiry)
+    }
+
+    pub fn choice(&self) -> Choice {
+        self.read(Coordinator::choice)
+    }
+
+    pub fn live(&self, place: usize) -> Option<Live> {
+        self.read(|it| it.live(place))
+    }
+
+    pub fn missing(&self, id: u64) -> Option<u64> {
+        self.read(|it| it.missing(id))
+    }
+
+    pub fn file_counts(&self) -> FileCounts {
+        self.read(Coordinator::file_counts)
+    }
+}

@@ -1,0 +1,159 @@
+//! What threads share: a coordinator, and the discarder's threads over it.
+use relkvanu::{
+    Answer, Discarder, Fault, FileCounts, Patience, Refusal, Settings, SharedCoordinator,
+};
+use std::error::Error;
+use std::io;
+use std::num::NonZeroU32;
+use std::sync::atomic::{AtomicU32, Ordering::SeqCst};
+use std::thread;
+use std::time::{Duration, Instant};
+
+const SETTINGS: Settings = Settings {
+    interval: 1000,
+    pause: 0,
+    at_once: 1,
+    timeout: 5000,
+    tolerable: 0,
+    retained: 1,
+    keep_on_cancel: false,
+};
+
+fn quick(attempts: u32) -> Patience {
+    Patience {
+        attempts: NonZeroU32::new(attempts).unwrap(),
+        batch: NonZeroU32::new(4).unwrap(),
+        first_wait: Duration::from_millis(1),
+        longest_wait: Duration::from_millis(4),
+        idle: Duration::from_millis(1),
+        ..Patience::default()
+    }
+}
+
+/// A cancelled job: its files 1 to 20 wait for deletion.
+fn cancelled() -> SharedCoordinator {
+    let job = SharedCoordinator::open(&SETTINGS, &[1], 0, 1).unwrap();
+    let files: Vec<u64> = (1..=20).collect();
+    job.tick(1000).unwrap();
+    job.ack(1000, 1, (0, 0), &files, &[]).unwrap();
+    let told = Answer::Cancelled {
+        dropped: 1,
+        released: 20,
+    };
+    assert_eq!(job.cancel(1000), Ok(told));
+    job
+}
+
+fn wait_for(condition: impl Fn() -> bool) {
+    let end = Instant::now() + Duration::from_secs(30);
+    while !condition() {
+        assert!(Instant::now() < end, "what is waited for does not come");
+        thread::sleep(Duration::from_millis(1));
+    }
+}
+
+fn counts(waiting: u64, taken: u64) -> FileCounts {
+    FileCounts {
+        in_use: 0,
+        waiting,
+        taken,
+    }
+}
+
+#[test]
+fn a_discarder_deletes_retries_and_gives_up() {
+    let job = cancelled();
+    let tries = AtomicU32::new(0);
+    let delete = move |file| match file {
+        1 => Err(io::ErrorKind::PermissionDenied.into()),
+        2 if tries.fetch_add(1, SeqCst) < 2 => Err(io::ErrorKind::Interrupted.into()),
+        3 => Err(io::ErrorKind::NotFound.into()),
+        _ => Ok(()),
+    };
+    let discarder = Discarder::start(job.clone(), quick(3), delete).unwrap();
+    wait_for(|| discarder.told().given_up == [1] && discarder.told().deleted == 19);
+    assert_eq!(job.file_counts(), counts(0, 1), "it is not tried for ever");
+    let told = discarder.stop();
+    assert_eq!((told.deleted, told.failed), (19, 3 + 2));
+    assert_eq!(job.file_counts(), counts(1, 0), "the next one may try it");
+}
+
+#[test]
+fn a_discarder_that_is_stopped_leaves_no_file_taken() {
+    let job = cancelled();
+    let fails = |_| Err(io::ErrorKind::PermissionDenied.into());
+    let patience = Patience {
+        first_wait: Duration::from_secs(3600),
+        ..quick(3)
+    };
+    let discarder = Discarder::start(job.clone(), patience, fails).unwrap();
+    wait_for(|| discarder.told().failed == 8);
+    assert_eq!(job.file_counts(), counts(12, 8));
+    drop(discarder);
+    assert_eq!(job.file_counts(), counts(20, 0));
+}
+
+#[test]
+fn threads_acknowledge_at_the_same_time() {
+    let job = SharedCoordinator::open(&SETTINGS, &[64], 0, 1).unwrap();
+    job.tick(1000).unwrap();
+    thread::scope(|scope| {
+        for first in (0..64).step_by(8) {
+            let job = job.clone();
+            scope.spawn(move || {
+                for index in first..first + 8 {
+                    job.ack(1000, 1, (0, index), &[u64::from(index)], &[])
+                        .unwrap();
+                }
+            });
+        }
+    });
+    assert_eq!(job.file_counts().in_use, 64);
+    assert_eq!(job.missing(1), None);
+}
+
+#[test]
+fn a_call_wakes_who_waits_and_a_report_does_not() {
+    let job = cancelled();
+    let seen = job.calls();
+    job.take(&mut [0]).unwrap();
+    job.deleted(1).unwrap();
+    assert_eq!(job.calls(), seen);
+    let start = Instant::now();
+    job.wait_for_call(seen, Some(Duration::from_millis(20)));
+    assert!(start.elapsed() >= Duration::from_millis(20));
+    thread::scope(|scope| {
+        scope.spawn(|| job.wait_for_call(seen, None));
+        assert!(job.tick(2000).is_err());
+    });
+}
+
+#[test]
+fn the_next_tick_is_when_something_can_happen() {
+    let job = SharedCoordinator::open(&SETTINGS, &[1], 0, 1).unwrap();
+    let next = |now| {
+        job.with(|it| {
+            let ticked = it.tick(now);
+            it.next_tick(&ticked)
+        })
+    };
+    assert_eq!(next(0), Some(1000), "the first is due");
+    assert_eq!(next(1000), Some(2000), "triggered: the second is due");
+    assert_eq!(next(2000), Some(6000), "held: the first expires");
+    assert_eq!(next(6000), None, "failed: there is nothing to wait for");
+    assert_eq!(next(7000), None, "refused");
+    job.restore(7000, None, None).unwrap();
+    assert_eq!(next(7000), Some(8000));
+}
+
+#[test]
+fn a_refusal_says_what_it_is() {
+    let job = SharedCoordinator::open(&SETTINGS, &[1], 0, 1).unwrap();
+    job.tick(1000).unwrap();
+    let fault = job.ack(1000, 1, (0, 0), &[], &[8, 7]).unwrap_err();
+    assert_eq!(fault, Fault::Refused(Refusal::FileGone(7)));
+    assert_eq!(fault.to_string(), "the call is refused: FileGone 7");
+    assert_eq!(fault.source().unwrap().to_string(), "FileGone 7");
+    assert_eq!(job.deleted(7), Err(Refusal::NotTaken.into()));
+    assert_eq!(relkvanu::version(), env!("CARGO_PKG_VERSION"));
+}

@@ -1,0 +1,388 @@
+/* The coordinator of a stream processor's checkpoints, for C++17: a coordinator that owns its handle, answers as std::variant,
+ * refusals as std::error_code. It stands over relkvanu.h, which says what each call does and what a caller keeps; the namespace
+ * is ckpt, since C has the name relkvanu.
+ *
+ * One call at a time for each coordinator, reads among them: a read takes the state out of its handle and puts it back, so reads
+ * are not const. Threads share one under the engine's own mutex. Nothing here throws but std::bad_alloc, from show and messages.
+ */
+#ifndef RELKVANU_HPP
+#define RELKVANU_HPP
+
+#include "relkvanu.h"
+
+#include <cassert>
+#include <cstddef>
+#include <cstdint>
+#include <optional>
+#include <random>
+#include <string>
+#include <system_error>
+#include <type_traits>
+#include <utility>
+#include <variant>
+
+namespace ckpt {
+
+/* A run of elements that somebody else owns: std::span is C++20's. An empty one may have no address. */
+template <class T> class span {
+public:
+    constexpr span() noexcept = default;
+    constexpr span(T *first, std::size_t len) noexcept : first_(first), len_(len) {}
+    template <std::size_t N> constexpr span(T (&all)[N]) noexcept : first_(all), len_(N) {}
+    template <class Container, class = std::enable_if_t<std::is_convertible_v<decltype(std::declval<Container &>().data()), T *>>>
+    constexpr span(Container &all) noexcept : first_(all.data()), len_(all.size()) {}
+
+    constexpr T *data() const noexcept { return first_; }
+    constexpr std::size_t size() const noexcept { return len_; }
+    constexpr bool empty() const noexcept { return len_ == 0; }
+    constexpr T *begin() const noexcept { return first_; }
+    constexpr T *end() const noexcept { return first_ + len_; }
+    constexpr T &operator[](std::size_t place) const noexcept { return first_[place]; }
+
+private:
+    T *first_ = nullptr;
+    std::size_t len_ = 0;
+};
+
+using files = span<const std::uint64_t>;
+using shape = span<const std::uint64_t>;
+
+/* Why a call changed nothing: the header's code and what, as one number. */
+enum class error : int {
+    moment_too_large = RELKVANU_REFUSED << 8 | RELKVANU_MOMENT_TOO_LARGE,
+    not_running = RELKVANU_REFUSED << 8 | RELKVANU_NOT_RUNNING,
+    too_many_files = RELKVANU_REFUSED << 8 | RELKVANU_TOO_MANY_FILES,
+    repeated_file = RELKVANU_REFUSED << 8 | RELKVANU_REPEATED_FILE,
+    unknown_checkpoint = RELKVANU_REFUSED << 8 | RELKVANU_UNKNOWN_CHECKPOINT,
+    unknown_subtask = RELKVANU_REFUSED << 8 | RELKVANU_UNKNOWN_SUBTASK,
+    already_acknowledged = RELKVANU_REFUSED << 8 | RELKVANU_ALREADY_ACKNOWLEDGED,
+    name_taken = RELKVANU_REFUSED << 8 | RELKVANU_NAME_TAKEN,
+    file_gone = RELKVANU_REFUSED << 8 | RELKVANU_FILE_GONE,
+    no_such_savepoint = RELKVANU_REFUSED << 8 | RELKVANU_NO_SUCH_SAVEPOINT,
+    in_use = RELKVANU_REFUSED << 8 | RELKVANU_IN_USE,
+    too_many_savepoints = RELKVANU_REFUSED << 8 | RELKVANU_TOO_MANY_SAVEPOINTS,
+    not_taken = RELKVANU_REFUSED << 8 | RELKVANU_NOT_TAKEN,
+    no_such_record = RELKVANU_REFUSED << 8 | RELKVANU_NO_SUCH_RECORD,
+    ids_used_up = RELKVANU_REFUSED << 8 | RELKVANU_IDS_USED_UP,
+    no_memory = RELKVANU_NO_MEMORY << 8, /* the same call can be made again */
+    closed = RELKVANU_CLOSED << 8,       /* the coordinator was moved from */
+    bad_config = RELKVANU_BAD_ARGUMENT << 8 | RELKVANU_BAD_CONFIG,
+    bad_shape = RELKVANU_BAD_ARGUMENT << 8 | RELKVANU_BAD_SHAPE,
+    bad_moment = RELKVANU_BAD_ARGUMENT << 8 | RELKVANU_BAD_MOMENT,
+    bad_first = RELKVANU_BAD_ARGUMENT << 8 | RELKVANU_BAD_FIRST,
+};
+
+class error_category_type final : public std::error_category {
+public:
+    const char *name() const noexcept override { return "relkvanu"; }
+
+    std::string message(int value) const override {
+        std::uint8_t text[32];
+        if (value >> 8 == RELKVANU_REFUSED) {
+            std::size_t len = relkvanu_refusal_text(static_cast<std::uint32_t>(value & 0xff), text, sizeof text);
+            return std::string(reinterpret_cast<const char *>(text), len);
+        }
+        switch (static_cast<error>(value)) {
+        case error::no_memory: return "out of memory";
+        case error::closed: return "closed";
+        case error::bad_config: return "BadConfig";
+        case error::bad_shape: return "BadShape";
+        case error::bad_moment: return "BadMoment";
+        case error::bad_first: return "BadFirst";
+        default: return "unknown";
+        }
+    }
+
+    std::error_condition default_error_condition(int value) const noexcept override {
+        if (static_cast<error>(value) == error::no_memory) {
+            return std::errc::not_enough_memory;
+        }
+        return std::error_condition(value, *this);
+    }
+};
+
+inline const std::error_category &error_category() noexcept {
+    static const error_category_type it;
+    return it;
+}
+
+inline std::error_code make_error_code(error it) noexcept {
+    return std::error_code(static_cast<int>(it), error_category());
+}
+
+/* Nothing has changed. The file is that to blame for name_taken and file_gone, else 0. */
+struct refused {
+    std::error_code why;
+    std::uint64_t file = 0;
+};
+
+struct triggered { std::uint64_t expired, id; };
+struct held_interval { std::uint64_t expired; };
+struct held_at_once { std::uint64_t expired; };
+struct held_pause { std::uint64_t expired; };
+struct failed { std::uint64_t expired; }; /* the job fails over, and is to be restored */
+struct savepoint_triggered { std::uint64_t id; };
+struct ack_pending { std::uint64_t missing; };
+struct ack_completed { std::uint64_t dropped, released; };
+struct ack_late { std::uint64_t handed_out; };
+struct decline_aborted { std::uint64_t released; };
+struct decline_failed { std::uint64_t released; }; /* the job fails over, and is to be restored */
+struct decline_late {};
+struct disposed { std::uint64_t released; };
+struct cancelled { std::uint64_t dropped, released; };
+struct reported { std::uint64_t file; };
+
+/* What a job begins again from. */
+struct checkpoint { std::uint64_t id; };
+struct savepoint { std::uint64_t id; };
+struct fresh {};
+using choice = std::variant<fresh, checkpoint, savepoint>;
+struct restored { choice from; std::uint64_t released; };
+
+/* The answer of each call: the last alternative is that nothing has changed. */
+using tick_answer = std::variant<triggered, held_interval, held_at_once, held_pause, failed, refused>;
+using savepoint_answer = std::variant<savepoint_triggered, refused>;
+using ack_answer = std::variant<ack_pending, ack_completed, ack_late, refused>;
+using decline_answer = std::variant<decline_aborted, decline_failed, decline_late, refused>;
+using dispose_answer = std::variant<disposed, refused>;
+using restore_answer = std::variant<restored, refused>;
+using cancel_answer = std::variant<cancelled, refused>;
+using take_answer = std::variant<files, refused>;
+using report_answer = std::variant<reported, refused>;
+using show_answer = std::variant<std::string, refused>;
+
+enum class mode { running, failed, cancelled };
+
+struct live_record {
+    std::uint64_t id;
+    bool is_savepoint, is_done;
+};
+
+/* The coordinator of one job. One that was moved from is closed: its calls are refused as error::closed, and it has no reads. */
+class Coordinator {
+public:
+    /* Opens one, whose first record has the number first: 1 for a new job, else one above each that was given before. */
+    static std::variant<Coordinator, refused> open(const relkvanu_settings &settings, shape of, std::uint64_t now, std::uint64_t first = 1) {
+        Coordinator it;
+        std::random_device random;
+        auto word = [&random] { return std::uint64_t{random()} << 32 | random(); };
+        relkvanu_answer told = relkvanu_open(&it.handle_, &settings, list(of), of.size(), now, first, word(), word());
+        if (told.code != RELKVANU_DONE) {
+            return refusal(told);
+        }
+        return std::variant<Coordinator, refused>(std::move(it));
+    }
+
+    Coordinator(const Coordinator &) = delete;
+    Coordinator &operator=(const Coordinator &) = delete;
+    Coordinator(Coordinator &&other) noexcept : handle_(std::exchange(other.handle_, relkvanu{})) {}
+
+    Coordinator &operator=(Coordinator &&other) noexcept {
+        if (this != &other) {
+            relkvanu_close(&handle_);
+            handle_ = std::exchange(other.handle_, relkvanu{});
+        }
+        return *this;
+    }
+
+    ~Coordinator() { relkvanu_close(&handle_); }
+
+    explicit operator bool() const noexcept { return handle_.state != nullptr; }
+
+    tick_answer tick(std::uint64_t now) {
+        relkvanu_answer told = relkvanu_tick(&handle_, now);
+        if (told.code != RELKVANU_DONE) {
+            return refusal(told);
+        }
+        switch (told.what) {
+        case RELKVANU_TICK_TRIGGERED: return triggered{told.a, told.b};
+        case RELKVANU_TICK_HELD_INTERVAL: return held_interval{told.a};
+        case RELKVANU_TICK_HELD_AT_ONCE: return held_at_once{told.a};
+        case RELKVANU_TICK_HELD_PAUSE: return held_pause{told.a};
+        default: return failed{told.a};
+        }
+    }
+
+    savepoint_answer savepoint(std::uint64_t now) {
+        relkvanu_answer told = relkvanu_savepoint(&handle_, now);
+        return told.code == RELKVANU_DONE ? savepoint_answer(savepoint_triggered{told.a}) : refusal(told);
+    }
+
+    /* Where it is refused, the task deletes a file only if no accepted acknowledgement ever named it: not after
+     * already_acknowledged, and after name_taken not those that were named before. */
+    ack_answer ack(std::uint64_t now, std::uint64_t id, std::uint16_t vertex, std::uint16_t index, files fresh, files reused = {}) {
+        relkvanu_answer told = relkvanu_ack(&handle_, now, id, vertex, index, list(fresh), fresh.size(), list(reused), reused.size());
+        if (told.code != RELKVANU_DONE) {
+            return refusal(told);
+        }
+        switch (told.what) {
+        case RELKVANU_ACK_PENDING: return ack_pending{told.a};
+        case RELKVANU_ACK_COMPLETED: return ack_completed{told.a, told.b};
+        default: return ack_late{told.a};
+        }
+    }
+
+    decline_answer decline(std::uint64_t now, std::uint64_t id, std::uint16_t vertex, std::uint16_t index) {
+        relkvanu_answer told = relkvanu_decline(&handle_, now, id, vertex, index);
+        if (told.code != RELKVANU_DONE) {
+            return refusal(told);
+        }
+        switch (told.what) {
+        case RELKVANU_DECLINE_ABORTED: return decline_aborted{told.a};
+        case RELKVANU_DECLINE_FAILED: return decline_failed{told.a};
+        default: return decline_late{};
+        }
+    }
+
+    dispose_answer dispose(std::uint64_t id) {
+        relkvanu_answer told = relkvanu_dispose(&handle_, id);
+        return told.code == RELKVANU_DONE ? dispose_answer(disposed{told.a}) : refusal(told);
+    }
+
+    /* From the latest, in the shape that the job has, or in another where one is given. A bad shape is told before any refusal. */
+    restore_answer restore(std::uint64_t now, shape of = {}) { return restore_from(now, 0, of); }
+
+    /* Rolls back to a savepoint. There is none of number 0. */
+    restore_answer roll_back(std::uint64_t now, std::uint64_t savepoint, shape of = {}) {
+        if (savepoint == 0) {
+            return refused{make_error_code(error::no_such_savepoint)};
+        }
+        return restore_from(now, savepoint, of);
+    }
+
+    cancel_answer cancel(std::uint64_t now) {
+        relkvanu_answer told = relkvanu_cancel(&handle_, now);
+        return told.code == RELKVANU_DONE ? cancel_answer(cancelled{told.a, told.b}) : refusal(told);
+    }
+
+    /* Fetches files that wait for deletion into a buffer, at most as many as it has places. */
+    take_answer take(span<std::uint64_t> buffer) {
+        std::uint64_t none = 0;
+        relkvanu_answer told = relkvanu_take(&handle_, buffer.empty() ? &none : buffer.data(), buffer.size());
+        return told.code == RELKVANU_DONE ? take_answer(files(buffer.data(), static_cast<std::size_t>(told.a))) : refusal(told);
+    }
+
+    report_answer deleted(std::uint64_t file) { return report(relkvanu_deleted(&handle_, file)); }
+
+    report_answer undeleted(std::uint64_t file) { return report(relkvanu_undeleted(&handle_, file)); }
+
+    /* The metadata of a live record, as JSON. */
+    show_answer show(std::uint64_t id) {
+        std::string json(1024, '\0');
+        relkvanu_answer told = relkvanu_show(&handle_, id, bytes(json), json.size());
+        while (told.code == RELKVANU_TOO_SHORT) {
+            json.resize(static_cast<std::size_t>(told.a));
+            told = relkvanu_show(&handle_, id, bytes(json), json.size());
+        }
+        if (told.code != RELKVANU_DONE) {
+            return refusal(told);
+        }
+        json.resize(static_cast<std::size_t>(told.a));
+        return json;
+    }
+
+    /* Reads, of one that is not closed. */
+
+    std::uint64_t count(std::uint64_t file) { return read(relkvanu_count(&handle_, file)).b; }
+
+    ckpt::mode mode() {
+        switch (read(relkvanu_mode(&handle_)).what) {
+        case RELKVANU_MODE_RUNNING: return ckpt::mode::running;
+        case RELKVANU_MODE_FAILED: return ckpt::mode::failed;
+        default: return ckpt::mode::cancelled;
+        }
+    }
+
+    std::uint64_t due() { return read(relkvanu_due(&handle_)).a; }
+
+    std::optional<std::uint64_t> oldest_expiry() {
+        relkvanu_answer told = read(relkvanu_oldest_expiry(&handle_));
+        return told.what == RELKVANU_EXPIRES ? std::optional(told.a) : std::nullopt;
+    }
+
+    /* When to tick next, after a tick that answered this and unless another call comes before: when a checkpoint is due or a pending
+     * record expires. While as many are pending as may be, at the expiry alone; none where nothing changes before a call does. */
+    std::optional<std::uint64_t> next_tick(const tick_answer &ticked) {
+        if (mode() != ckpt::mode::running) {
+            return std::nullopt;
+        }
+        std::optional<std::uint64_t> expiry = oldest_expiry();
+        if (std::holds_alternative<held_at_once>(ticked)) {
+            return expiry;
+        }
+        return expiry && *expiry < due() ? expiry : due();
+    }
+
+    ckpt::choice choice() {
+        relkvanu_answer told = read(relkvanu_choice(&handle_));
+        switch (told.what) {
+        case RELKVANU_CHOICE_CHECKPOINT: return ckpt::checkpoint{told.a};
+        case RELKVANU_CHOICE_SAVEPOINT: return ckpt::savepoint{told.a};
+        default: return ckpt::fresh{};
+        }
+    }
+
+    std::optional<live_record> live(std::size_t place) {
+        relkvanu_answer told = read(relkvanu_live(&handle_, place));
+        if (told.what == RELKVANU_LIVE_NONE) {
+            return std::nullopt;
+        }
+        return live_record{told.a, told.what == RELKVANU_LIVE_SAVEPOINT, told.b == 1};
+    }
+
+    std::optional<std::uint64_t> missing(std::uint64_t id) {
+        relkvanu_answer told = read(relkvanu_missing(&handle_, id));
+        return told.what == RELKVANU_MISSING ? std::optional(told.a) : std::nullopt;
+    }
+
+    relkvanu_counts file_counts() {
+        relkvanu_counts told = relkvanu_file_counts(&handle_);
+        assert(told.code == RELKVANU_DONE);
+        return told;
+    }
+
+private:
+    relkvanu handle_ = {};
+
+    Coordinator() = default;
+
+    /* The library takes no null pointer, also where a length is 0. */
+    static const std::uint64_t *list(files of) {
+        static const std::uint64_t none = 0;
+        return of.empty() ? &none : of.data();
+    }
+
+    static std::uint8_t *bytes(std::string &text) { return reinterpret_cast<std::uint8_t *>(text.data()); }
+
+    static refused refusal(relkvanu_answer told) {
+        std::uint32_t what = told.code == RELKVANU_REFUSED || told.code == RELKVANU_BAD_ARGUMENT ? told.what : 0;
+        return refused{make_error_code(static_cast<error>(told.code << 8 | what)), told.code == RELKVANU_REFUSED ? told.a : 0};
+    }
+
+    static relkvanu_answer read(relkvanu_answer told) {
+        assert(told.code == RELKVANU_DONE);
+        return told;
+    }
+
+    static report_answer report(relkvanu_answer told) {
+        return told.code == RELKVANU_DONE ? report_answer(reported{told.a}) : refusal(told);
+    }
+
+    restore_answer restore_from(std::uint64_t now, std::uint64_t savepoint, shape of) {
+        relkvanu_answer told = relkvanu_restore(&handle_, now, savepoint, list(of), of.size());
+        if (told.code != RELKVANU_DONE) {
+            return refusal(told);
+        }
+        switch (told.what) {
+        case RELKVANU_RESTORED_CHECKPOINT: return restored{ckpt::checkpoint{told.b}, told.a};
+        case RELKVANU_RESTORED_SAVEPOINT: return restored{ckpt::savepoint{told.b}, told.a};
+        default: return restored{ckpt::fresh{}, told.a};
+        }
+    }
+};
+
+} // namespace ckpt
+
+template <> struct std::is_error_code_enum<ckpt::error> : std::true_type {};
+
+#endif
