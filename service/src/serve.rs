@@ -7,8 +7,8 @@ use crate::http::{self, App};
 use crate::log;
 use crate::metrics::Metrics;
 use crate::model::Clock;
-use crate::store::{Lite, LiteReader, Reader, Store};
-use crate::writer::{Board, Jobs, Message, Writer, START_AGAIN};
+use crate::store::{Lite, LiteReader, Pg, PgReader, Reader, Store};
+use crate::writer::{Board, Jobs, Message, StartError, Writer, START_AGAIN};
 use sd_notify::NotifyState;
 use std::path::Path;
 use std::process::ExitCode;
@@ -20,8 +20,8 @@ use tokio::signal::unix::{signal, SignalKind};
 
 /// The exit status of a configuration or a log that no further start can mend.
 const NOT_TO_START: u8 = 78;
-/// How long one try to lead may take, and the rest after it.
-const LEAD_TRY: Duration = Duration::from_millis(200);
+/// How often a standby follows the log and tries to lead.
+const LEAD_EACH: Duration = Duration::from_millis(100);
 /// How often systemd hears that the writer is at work.
 const WATCHDOG: Duration = Duration::from_secs(5);
 /// How long the writer may take for its last group.
@@ -29,16 +29,13 @@ const STOP_WITHIN: Duration = Duration::from_secs(10);
 
 pub fn run(given: &cli::Serve) -> ExitCode {
     let ended = Config::of(given).map_err(Stop::Never).and_then(serve);
-    match ended {
+    match ended.map_err(Stop::parts) {
         Ok(()) => ExitCode::SUCCESS,
-        Err(Stop::Never(why)) => told(&why, NOT_TO_START),
-        Err(Stop::Again(why)) => told(&why, START_AGAIN.try_into().unwrap_or(1)),
+        Err((why, status)) => {
+            log::error(&why);
+            ExitCode::from(status)
+        }
     }
-}
-
-fn told(why: &str, status: u8) -> ExitCode {
-    log::error(why);
-    ExitCode::from(status)
 }
 
 /// Why the service ended.
@@ -46,6 +43,16 @@ enum Stop {
     /// A further start would end in the same way.
     Never(String),
     Again(String),
+}
+
+impl Stop {
+    /// The reason, and the exit status.
+    fn parts(self) -> (String, u8) {
+        match self {
+            Stop::Never(why) => (why, NOT_TO_START),
+            Stop::Again(why) => (why, START_AGAIN),
+        }
+    }
 }
 
 fn serve(config: Config) -> Result<(), Stop> {
@@ -84,14 +91,14 @@ fn serve(config: Config) -> Result<(), Stop> {
 fn open_store(config: &Config) -> Result<Box<dyn Store>, String> {
     match &config.database {
         Database::Sqlite(path) => Ok(Box::new(Lite::open(path)?)),
-        Database::Postgres(_) => Err("database: PostgreSQL is not here yet".to_string()),
+        Database::Postgres(url) => Ok(Box::new(Pg::open(url, &config.advertise, config.lease)?)),
     }
 }
 
 fn open_reader(config: &Config) -> Result<Box<dyn Reader>, String> {
     match &config.database {
         Database::Sqlite(path) => Ok(Box::new(LiteReader::open(path)?)),
-        Database::Postgres(_) => Err("database: PostgreSQL is not here yet".to_string()),
+        Database::Postgres(url) => Ok(Box::new(PgReader::open(url)?)),
     }
 }
 
@@ -117,42 +124,50 @@ struct Leader {
 }
 
 impl Leader {
-    /// Ends the process where the log can't be made to jobs.
+    /// Ends the process where it can't lead.
     fn run(mut self) {
-        let jobs = self.lead().unwrap_or_else(|why| {
+        let jobs = self.lead().unwrap_or_else(|stop| {
+            let (why, status) = stop.parts();
             log::error(&why);
-            std::process::exit(i32::from(NOT_TO_START))
+            std::process::exit(i32::from(status))
         });
         let writer = Writer::new(self.store, jobs, Arc::clone(&self.board), Arc::clone(&self.metrics));
-        // publishing comes before the first request
-        self.board.beat();
+        // the writer has published all jobs, so that the first request finds them
         self.board.open();
         log::info(&format!("serves on {}", self.listen));
         writer.run(&self.messages);
     }
 
     /// Follows the log until this process may write, so that a take-over has little to read.
-    fn lead(&mut self) -> Result<Jobs, String> {
+    fn lead(&mut self) -> Result<Jobs, Stop> {
         let mut jobs = Jobs::default();
         let (started, mut calls) = (Instant::now(), 0);
+        let mut waits = false;
         loop {
             calls += self.catch_up(&mut jobs)?;
-            if let Some(epoch) = self.store.lead(LEAD_TRY)? {
+            let asked = Instant::now();
+            if let Some(epoch) = self.store.lead().map_err(Stop::Again)? {
                 calls += self.catch_up(&mut jobs)?;
                 self.board.lead(epoch);
-                let took = started.elapsed().as_millis();
-                log::info(&format!("leads epoch={epoch} jobs={} calls={calls} after_ms={took}", jobs.len()));
+                let (took, over) = (started.elapsed().as_millis(), asked.elapsed().as_millis());
+                let jobs_there = jobs.len();
+                log::info(&format!("leads epoch={epoch} jobs={jobs_there} calls={calls} start_ms={took} take_over_ms={over}"));
                 return Ok(jobs);
             }
-            std::thread::sleep(LEAD_TRY);
+            if !waits {
+                log::info(&format!("another process leads; follows jobs={} calls={calls}", jobs.len()));
+                waits = true;
+            }
+            std::thread::sleep(LEAD_EACH);
         }
     }
-}
 
-impl Leader {
-    fn catch_up(&mut self, jobs: &mut Jobs) -> Result<u64, String> {
+    fn catch_up(&mut self, jobs: &mut Jobs) -> Result<u64, Stop> {
         let board = &self.board;
-        jobs.catch_up(self.reader.as_mut(), &|| board.beat()).map_err(|error| error.to_string())
+        jobs.catch_up(self.reader.as_mut(), &|| board.beat()).map_err(|error| match error {
+            StartError::Unread(_) => Stop::Again(error.to_string()),
+            _ => Stop::Never(error.to_string()),
+        })
     }
 }
 

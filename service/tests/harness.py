@@ -45,10 +45,11 @@ class Server:
             self.wait_ready()
         return self
 
-    def wait_ready(self, seconds=30):
+    def wait_ready(self, seconds=30, kept=False):
+        """Waits until it answers; it may end meanwhile where somebody starts it again."""
         until = time.monotonic() + seconds
         while time.monotonic() < until:
-            if self.process.poll() is not None:
+            if self.process.poll() is not None and not kept:
                 raise AssertionError(f"the service ended with {self.process.returncode}: {self.log()[-600:]}")
             if self.get("/readyz")[0] == 200:
                 return
@@ -97,7 +98,7 @@ class Server:
             told = json.loads(text)
         except ValueError:
             told = text.decode(errors="replace")
-        return answer.status, dict(answer.getheaders()), told
+        return answer.status, {name.lower(): value for name, value in answer.getheaders()}, told
 
 
 @contextmanager

@@ -49,7 +49,7 @@ def browser(width, height):
 
     options = webdriver.ChromeOptions()
     options.binary_location = shutil.which("chromium")
-    for word in ["--headless=new", "--no-sandbox", "--disable-gpu", "--disable-dev-shm-usage", f"--window-size={width},{height}"]:
+    for word in ["--headless=new", "--no-sandbox", "--disable-gpu", "--disable-dev-shm-usage", "--hide-scrollbars", f"--window-size={width},{height}"]:
         options.add_argument(word)
     options.set_capability("goog:loggingPrefs", {"browser": "ALL"})
     return webdriver.Chrome(service=Driver(shutil.which("chromedriver")), options=options)
@@ -70,7 +70,8 @@ def picture(page, name):
         import base64
 
         time.sleep(1.5)
-        shot = page.execute_cdp_cmd("Page.captureScreenshot", {"captureBeyondViewport": True, "format": "png"})
+        size = page.execute_script("const it = document.documentElement; return {x: 0, y: 0, width: it.clientWidth, height: it.scrollHeight, scale: 1}")
+        shot = page.execute_cdp_cmd("Page.captureScreenshot", {"captureBeyondViewport": True, "format": "png", "clip": size})
         with open(f"{PICTURES}/{name}.png", "wb") as it:
             it.write(base64.b64decode(shot["data"]))
 

@@ -67,7 +67,7 @@ class Writer(threading.Thread):
         if kind < 0.25 and done:
             return [dispose(done[0])]
         if kind < 0.30:
-            return [restore(shape=[2, self.random.randint(1, 4)])]
+            return [restore(shape=[state["shape"][0], self.random.randint(1, 8)])]
         if kind < 0.35:
             return [ack(1, "0.0", self.files(1))]  # late
         time.sleep(0.002)

@@ -6,7 +6,7 @@ function colour(name) {
 }
 
 function axes(title) {
-  const ticks = { color: colour("faint"), maxTicksLimit: 6, maxRotation: 0 };
+  const ticks = { color: colour("faint"), maxTicksLimit: 6, maxRotation: 0, autoSkipPadding: 24 };
   const grid = { color: colour("line") };
   return {
     x: { ticks: { ...ticks, autoSkip: true }, grid: { display: false } },

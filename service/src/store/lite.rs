@@ -1,5 +1,5 @@
 //! The log in one SQLite file: a write-ahead log, synced at each commit.
-use super::rows::{Failure, Group, Keyed, LogPage, Reader, Store, Written};
+use super::rows::{Failure, Group, Keyed, LogPage, Reader, Store, Written, COLUMNS, IS_EVENT};
 use crate::model::{Entry, Opening, Settings};
 use rusqlite::{params, Connection, ErrorCode, OpenFlags, OptionalExtension, Row};
 use std::fs::File;
@@ -7,7 +7,6 @@ use std::path::{Path, PathBuf};
 use std::time::Duration;
 
 const SCHEMA: &str = include_str!("../../sql/lite.sql");
-const COLUMNS: &str = "job, seq, at, record, line, answer, ended, waiting";
 const BUSY: Duration = Duration::from_secs(2);
 /// No lease has to be renewed: this only bounds how long the writer sleeps.
 const BEAT: Duration = Duration::from_secs(5);
@@ -46,7 +45,7 @@ fn locked(path: &Path) -> Result<File, String> {
 }
 
 impl Store for Lite {
-    fn lead(&mut self, _patience: Duration) -> Result<Option<u64>, String> {
+    fn lead(&mut self) -> Result<Option<u64>, String> {
         Ok(Some(1))
     }
 
@@ -77,6 +76,12 @@ impl Store for Lite {
     fn beat(&self) -> Duration {
         BEAT
     }
+
+    fn lease(&self) -> Option<Duration> {
+        None
+    }
+
+    fn release(&mut self) {}
 }
 
 /// One transaction. It is rolled back where this returns an error.
@@ -149,7 +154,7 @@ impl Reader for LiteReader {
     }
 
     fn events(&mut self, job: i64, after: u64, most: u32) -> Result<LogPage, String> {
-        let rest = format!("job = ? and seq > ? and {} order by seq limit ?", super::rows::IS_EVENT);
+        let rest = format!("job = ? and seq > ? and {} order by seq limit ?", IS_EVENT);
         self.entries(&rest, &[&job, &signed(after), &most])
     }
 

@@ -42,8 +42,8 @@ pub type Written = Result<(), Failure>;
 
 /// The writer's connection.
 pub trait Store: Send {
-    /// Waits until this process may write, and returns its epoch. `patience` is how long one try may take.
-    fn lead(&mut self, patience: Duration) -> Result<Option<u64>, String>;
+    /// Tries to lead: the epoch in which this process may write from now on, or `None` where another one leads.
+    fn lead(&mut self) -> Result<Option<u64>, String>;
 
     /// Commits a group, or renews the lease where it is empty.
     fn commit(&mut self, group: &Group) -> Written;
@@ -56,12 +56,21 @@ pub trait Store: Send {
 
     /// How long the writer may wait before it has to commit again, an empty group too.
     fn beat(&self) -> Duration;
+
+    /// For how long after a commit began nobody else leads; `None`: for ever.
+    fn lease(&self) -> Option<Duration>;
+
+    /// Lets another process lead at once.
+    fn release(&mut self);
 }
 
 /// Which rows of `call` an engine hears of: all but acknowledgements and declines that end no record, held ticks and the
 /// outbox's calls.
 pub const IS_EVENT: &str = "(answer like 'ack completed%' or line like 'tick %' and answer not like '%held%' or ended is not null \
     or line like 'savepoint %' or line like 'restore %' or line like 'cancel %')";
+
+/// The columns of an [`Entry`].
+pub const COLUMNS: &str = "job, seq, at, record, line, answer, ended, waiting";
 
 /// A part of a log, in order.
 pub type LogPage = Vec<Entry>;

@@ -5,7 +5,7 @@ mod round;
 mod state;
 mod timer;
 
-pub use jobs::Jobs;
+pub use jobs::{Jobs, StartError};
 pub use message::{Board, CallsDone, Created, Key, Message, Read, ReadDone};
 pub use state::{JobState, RecordState};
 
@@ -30,7 +30,7 @@ const TICK_AGAIN: u64 = 1000;
 const KEEP_KEYS: u64 = 24 * 3_600_000;
 const FORGET_EACH: Duration = Duration::from_secs(60);
 /// The exit status after which the service is to be started again.
-pub const START_AGAIN: i32 = 75;
+pub const START_AGAIN: u8 = 75;
 
 pub struct Writer {
     store: Box<dyn Store>,
@@ -74,6 +74,7 @@ impl Writer {
             let stop = round.stop;
             self.answer(round);
             if stop {
+                self.store.release();
                 return;
             }
         }
@@ -180,24 +181,37 @@ impl Writer {
         if group.is_empty() && self.committed.elapsed() < self.store.beat() {
             return;
         }
-        let started = Instant::now();
+        self.write(group);
+        self.forget_keys();
+    }
+
+    fn write(&mut self, group: &Group) {
+        let first = Instant::now();
+        let mut started = first;
         loop {
             match self.store.commit(group) {
                 Ok(()) => break,
-                Err(Failure::Again(why)) if started.elapsed() < RETRY_FOR => {
+                Err(Failure::Again(why)) if first.elapsed() < RETRY_FOR => {
                     log::warn(&format!("commit is tried again: {why}"));
                     self.board.beat();
                     std::thread::sleep(RETRY_EACH);
+                    started = Instant::now();
                 }
                 Err(Failure::Again(why) | Failure::Lost(why)) => lose(&why),
             }
         }
-        self.committed = Instant::now();
+        self.committed = started;
         self.board.beat();
         if !group.entries.is_empty() {
-            self.metrics.commit(group.entries.len(), started.elapsed());
+            self.metrics.commit(group.entries.len(), first.elapsed());
         }
-        self.forget_keys();
+    }
+
+    /// A leader tells what its jobs are at only while it surely leads.
+    fn renew(&mut self) {
+        if self.store.lease().is_some_and(|lease| self.committed.elapsed() >= lease) {
+            self.write(&Group::default());
+        }
     }
 
     fn forget_keys(&mut self) {
@@ -212,6 +226,10 @@ impl Writer {
 
     /// Tells what was committed. Nobody who has gone away is missed.
     fn answer(&mut self, round: Round) {
+        // a refusal needs no commit, but is true of a leader's jobs alone
+        if !round.done.is_empty() || !round.created.is_empty() {
+            self.renew();
+        }
         for place in &round.touched {
             self.publish(*place);
         }
@@ -225,6 +243,7 @@ impl Writer {
             let _ = reply.send(created);
         }
         for (read, reply) in round.reads {
+            self.renew();
             let _ = reply.send(state::read(&mut self.jobs, read, self.clock.now()));
         }
     }
@@ -249,5 +268,5 @@ fn ended_or_triggered(outcome: &Outcome) -> bool {
 /// Ends the process: nothing of the group was answered, and the next start reads what was committed.
 fn lose(why: &str) -> ! {
     log::error(&format!("the group was not committed, or that is not known; nothing of it was answered: {why}"));
-    std::process::exit(START_AGAIN)
+    std::process::exit(i32::from(START_AGAIN))
 }
