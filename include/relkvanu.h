@@ -8,12 +8,23 @@
  * - A handle is all zero, or as the library last left it. It is not copied, and its field is not
  *   touched.
  * - One call at a time for each handle. It may move between threads under the engine's own lock.
- * - No pointer is null, also where a length is 0. Each is aligned, and has as many elements as said.
+ * - Each pointer is aligned, and has as many elements as said. A program that includes this header may pass a
+ *   null pointer where the length is 0, and may close NULL; no other pointer is null. The symbols of the library
+ *   take no null pointer at all, also where a length is 0: a binding that loads them by name passes the address
+ *   of any aligned element there.
  * - What a call writes overlaps nothing else that it is given.
  * - No call from a signal handler.
  *
  * The library keeps none of the caller's memory, and hands out none but the handle.
  * Moments are milliseconds, at most 2^62 - 1.
+ *
+ * Whose a file is: a task deletes a file only if no accepted acknowledgement ever named it. A file that an
+ * accepted acknowledgement named, also a late one, belongs to the coordinator, which hands it out for deletion
+ * once no record uses it. A refused acknowledgement hands nothing over, and takes nothing back: after
+ * RELKVANU_ALREADY_ACKNOWLEDGED and RELKVANU_NAME_TAKEN its files may belong to the coordinator from an earlier one.
+ *
+ * What a declaration below says of memory: a call that takes none never answers RELKVANU_NO_MEMORY. Each call on a
+ * closed handle answers RELKVANU_CLOSED and changes nothing.
  */
 #ifndef RELKVANU_H
 #define RELKVANU_H
@@ -51,7 +62,7 @@ typedef struct {
 } relkvanu_settings;
 
 typedef struct {
-    uint32_t code; /* one of RELKVANU_DONE to RELKVANU_TOO_SHORT */
+    uint32_t code; /* one of RELKVANU_DONE to RELKVANU_BAD_LINE */
     uint32_t what; /* which reply, refusal or bad argument */
     uint64_t a, b; /* its numbers, as said at its constant; else 0 */
 } relkvanu_answer;
@@ -63,13 +74,23 @@ typedef struct {
     uint64_t taken;   /* files that were fetched, and are not yet reported */
 } relkvanu_counts;
 
+/* A call by its kind, for relkvanu_call_line. A field that the kind has no use for is not read. */
+typedef struct {
+    uint32_t kind;   /* RELKVANU_CALL_TICK to RELKVANU_CALL_COUNT */
+    uint16_t vertex; /* with index: the subtask of an ack or a decline */
+    uint16_t index;
+    uint64_t now;    /* the moment of a call that has one */
+    uint64_t number; /* of the record or the file; of a restore the savepoint or 0; of a take how many files */
+} relkvanu_call;
+
 /* code */
 #define RELKVANU_DONE 0u         /* the call was made: what is a reply */
 #define RELKVANU_REFUSED 1u      /* nothing has changed: what is a refusal */
-#define RELKVANU_NO_MEMORY 2u    /* nothing has changed: make the same call again later */
-#define RELKVANU_CLOSED 3u       /* the handle has no coordinator */
+#define RELKVANU_NO_MEMORY 2u    /* nothing has changed, what, a and b are 0: make the same call again later */
+#define RELKVANU_CLOSED 3u       /* the handle has no coordinator; what, a and b are 0 */
 #define RELKVANU_BAD_ARGUMENT 4u /* nothing has changed: what is an argument */
-#define RELKVANU_TOO_SHORT 5u    /* nothing has changed: the buffer has to have a bytes */
+#define RELKVANU_TOO_SHORT 5u    /* nothing has changed: the buffer has to have a places; what and b are 0 */
+#define RELKVANU_BAD_LINE 6u     /* nothing has changed: what is a fault of a line */
 
 /* what, where code is RELKVANU_DONE */
 #define RELKVANU_OPENED 0u
@@ -81,7 +102,7 @@ typedef struct {
 #define RELKVANU_SAVEPOINT_TRIGGERED 6u /* a: number */
 #define RELKVANU_ACK_PENDING 7u         /* a: subtasks missing */
 #define RELKVANU_ACK_COMPLETED 8u       /* a: records dropped, b: files released */
-#define RELKVANU_ACK_LATE 9u            /* a: files that wait for deletion now */
+#define RELKVANU_ACK_LATE 9u            /* a: fresh files that this call handed out for deletion */
 #define RELKVANU_DECLINE_ABORTED 10u    /* a: files released */
 #define RELKVANU_DECLINE_FAILED 11u     /* a: files released */
 #define RELKVANU_DECLINE_LATE 12u
@@ -112,6 +133,16 @@ typedef struct {
 #define RELKVANU_MISSING 35u         /* a: subtasks */
 #define RELKVANU_NOT_PENDING 36u
 
+/* what, where a line of a script is RELKVANU_DONE */
+#define RELKVANU_SKIPPED 37u     /* the line makes no call, since it has no words or is a comment */
+#define RELKVANU_LINE_SKIP 38u   /* a: 0 */
+#define RELKVANU_LINE_CONFIG 39u /* a: 7, the numbers at the buffer's front: those of relkvanu_settings, in its order */
+#define RELKVANU_LINE_JOB 40u    /* a: the numbers at the buffer's front: the parallelism of each vertex */
+#define RELKVANU_LINE_START 41u  /* a: 1, the number at the buffer's front: the moment */
+#define RELKVANU_LINE_CALL 42u   /* a: 0 */
+#define RELKVANU_LINE_ALL 43u    /* a: 4, the numbers at the buffer's front: moment, record, threads, first file */
+#define RELKVANU_WRITTEN 44u     /* a: bytes at the buffer's front */
+
 /* what, where code is RELKVANU_REFUSED; they are tested in this order */
 #define RELKVANU_MOMENT_TOO_LARGE 1u
 #define RELKVANU_NOT_RUNNING 2u
@@ -135,42 +166,115 @@ typedef struct {
 #define RELKVANU_BAD_SHAPE 3u
 #define RELKVANU_BAD_MOMENT 4u
 #define RELKVANU_BAD_FIRST 5u
+#define RELKVANU_BAD_KIND 6u
+
+/* what, where code is RELKVANU_BAD_LINE: the first fault from the left */
+#define RELKVANU_FAULT_TOO_LONG 1u /* a line has at most 131072 bytes */
+#define RELKVANU_FAULT_WORD 2u     /* a word that does not belong there */
+#define RELKVANU_FAULT_MISSING 3u  /* the line ends before a place that it needs */
+#define RELKVANU_FAULT_NUMBER 4u   /* not a number, or not a subtask */
+#define RELKVANU_FAULT_EXTRA 5u    /* a word follows the last place */
+#define RELKVANU_FAULT_NO_CALL 6u  /* a config, job, start or all line: it was read, and makes no call */
+
+/* kind of a call */
+#define RELKVANU_CALL_TICK 1u
+#define RELKVANU_CALL_SAVEPOINT 2u
+#define RELKVANU_CALL_ACK 3u
+#define RELKVANU_CALL_DECLINE 4u
+#define RELKVANU_CALL_DISPOSE 5u
+#define RELKVANU_CALL_RESTORE 6u
+#define RELKVANU_CALL_CANCEL 7u
+#define RELKVANU_CALL_TAKE 8u
+#define RELKVANU_CALL_DELETED 9u
+#define RELKVANU_CALL_UNDELETED 10u
+#define RELKVANU_CALL_SHOW 11u
+#define RELKVANU_CALL_COUNT 12u
 
 /* Gives a closed handle a coordinator, from the moment now on, whose first record has the number
  * first, 1 to 2^62 - 1. The shape is the parallelism of each vertex: 1 to 256, at least 1 each, at
  * most 4096 in sum. The two words come from a source of random numbers: they key the maps of files,
- * so that no choice of file numbers makes calls slow. They change no answer. */
+ * so that no choice of file numbers makes calls slow. They change no answer.
+ *
+ * RELKVANU_OPENED; or RELKVANU_BAD_ARGUMENT, and the handle stays as it was: RELKVANU_ALREADY_OPEN,
+ * RELKVANU_BAD_CONFIG, RELKVANU_BAD_SHAPE, RELKVANU_BAD_MOMENT, RELKVANU_BAD_FIRST, tested in this order. Takes memory: after
+ * RELKVANU_NO_MEMORY the handle is closed, as before. */
 relkvanu_answer relkvanu_open(relkvanu *handle, const relkvanu_settings *settings, const uint64_t *shape, size_t shape_len, uint64_t now, uint64_t first, uint64_t first_word, uint64_t second_word);
 
 /* Lets the coordinator go, and frees its memory. A closed handle stays closed. */
 void relkvanu_close(relkvanu *handle);
 
+/* Time has passed: records that are too old expire, and a checkpoint is triggered where one is due.
+ *
+ * RELKVANU_TICK_TRIGGERED to RELKVANU_TICK_FAILED. Refused: RELKVANU_MOMENT_TOO_LARGE, RELKVANU_NOT_RUNNING, RELKVANU_IDS_USED_UP.
+ * Takes memory only where it triggers. */
 relkvanu_answer relkvanu_tick(relkvanu *handle, uint64_t now);
 
+/* Triggers a savepoint, of which at most 1000 are pending or done.
+ *
+ * RELKVANU_SAVEPOINT_TRIGGERED. Refused: RELKVANU_MOMENT_TOO_LARGE, RELKVANU_NOT_RUNNING, RELKVANU_TOO_MANY_SAVEPOINTS,
+ * RELKVANU_IDS_USED_UP. Takes memory. */
 relkvanu_answer relkvanu_savepoint(relkvanu *handle, uint64_t now);
 
-/* The files may stand in any order. Where the call is refused, they still belong to the task. */
+/* The subtask vertex.index has taken its part of record id: fresh are the files that it wrote, reused those of an
+ * earlier record that it uses again, at most 4096 together. They may stand in any order.
+ *
+ * RELKVANU_ACK_PENDING, RELKVANU_ACK_COMPLETED or RELKVANU_ACK_LATE: the fresh files belong to the coordinator now. Refused:
+ * RELKVANU_MOMENT_TOO_LARGE, RELKVANU_TOO_MANY_FILES, RELKVANU_REPEATED_FILE, RELKVANU_UNKNOWN_CHECKPOINT, RELKVANU_UNKNOWN_SUBTASK,
+ * RELKVANU_ALREADY_ACKNOWLEDGED, RELKVANU_NAME_TAKEN, RELKVANU_FILE_GONE: then the task deletes none of the files that an accepted
+ * acknowledgement ever named. Takes memory for a copy of the two lists first, so it may answer RELKVANU_NO_MEMORY also
+ * where it would be refused. */
 relkvanu_answer relkvanu_ack(relkvanu *handle, uint64_t now, uint64_t id, uint16_t vertex, uint16_t index, const uint64_t *fresh, size_t fresh_len, const uint64_t *reused, size_t reused_len);
 
+/* The subtask vertex.index could not take its part of record id.
+ *
+ * RELKVANU_DECLINE_ABORTED, RELKVANU_DECLINE_FAILED (too many checkpoints failed in a row) or RELKVANU_DECLINE_LATE. Refused:
+ * RELKVANU_MOMENT_TOO_LARGE, RELKVANU_UNKNOWN_CHECKPOINT, RELKVANU_UNKNOWN_SUBTASK. Takes no memory. */
 relkvanu_answer relkvanu_decline(relkvanu *handle, uint64_t now, uint64_t id, uint16_t vertex, uint16_t index);
 
+/* A user lets the completed savepoint id go.
+ *
+ * RELKVANU_DISPOSED. Refused: RELKVANU_NO_SUCH_SAVEPOINT, RELKVANU_IN_USE. Takes no memory. */
 relkvanu_answer relkvanu_dispose(relkvanu *handle, uint64_t id);
 
-/* From a savepoint, or the latest where savepoint is 0. In a new shape where shape_len is not 0. */
+/* The job begins again: from a savepoint, or from the latest where savepoint is 0; in a new shape where
+ * shape_len is not 0, with the limits of relkvanu_open, else in the shape that it has.
+ *
+ * RELKVANU_RESTORED_CHECKPOINT, RELKVANU_RESTORED_SAVEPOINT or RELKVANU_RESTORED_FRESH. RELKVANU_BAD_ARGUMENT with RELKVANU_BAD_SHAPE is tested
+ * first. Refused: RELKVANU_MOMENT_TOO_LARGE, RELKVANU_NOT_RUNNING (cancelled), RELKVANU_NO_SUCH_SAVEPOINT. Takes memory for a copy of
+ * the shape first, so it may answer RELKVANU_NO_MEMORY also where it would be refused; without a shape it takes none. */
 relkvanu_answer relkvanu_restore(relkvanu *handle, uint64_t now, uint64_t savepoint, const uint64_t *shape, size_t shape_len);
 
+/* The job ends for good.
+ *
+ * RELKVANU_CANCELLED. Refused: RELKVANU_MOMENT_TOO_LARGE, RELKVANU_NOT_RUNNING (cancelled). Takes no memory. */
 relkvanu_answer relkvanu_cancel(relkvanu *handle, uint64_t now);
 
-/* Fetches at most files_len files that wait for deletion, and writes them to the front of files. */
+/* Fetches at most files_len files that wait for deletion, those that have waited longest, and writes them to the
+ * front of files. Each is to be reported, by relkvanu_deleted or relkvanu_undeleted.
+ *
+ * RELKVANU_TAKEN, where a is 0 if none waits. Never refused. Takes memory: after RELKVANU_NO_MEMORY the files still
+ * wait, and the buffer has not changed. */
 relkvanu_answer relkvanu_take(relkvanu *handle, uint64_t *files, size_t files_len);
 
+/* A fetched file is deleted: the coordinator forgets it.
+ *
+ * RELKVANU_DELETED. Refused: RELKVANU_NOT_TAKEN. Takes no memory. */
 relkvanu_answer relkvanu_deleted(relkvanu *handle, uint64_t file);
 
+/* A fetched file could not be deleted: it waits again, behind all others.
+ *
+ * RELKVANU_UNDELETED. Refused: RELKVANU_NOT_TAKEN. Takes no memory. */
 relkvanu_answer relkvanu_undeleted(relkvanu *handle, uint64_t file);
 
-/* Writes the metadata of a live record as JSON, without a zero at its end. */
+/* Writes the metadata of a live record as JSON, without a zero at its end.
+ *
+ * RELKVANU_SHOWN; RELKVANU_TOO_SHORT, where a is how many bytes it has: ask again with a buffer of that many. Refused:
+ * RELKVANU_NO_SUCH_RECORD. Takes memory, also where the buffer is too short. Only RELKVANU_SHOWN changes the buffer. */
 relkvanu_answer relkvanu_show(relkvanu *handle, uint64_t id, uint8_t *json, size_t json_len);
 
+/* How many parts of live records use a file.
+ *
+ * RELKVANU_COUNTED. Never refused. Takes no memory. */
 relkvanu_answer relkvanu_count(relkvanu *handle, uint64_t file);
 
 /* Reads. None takes memory or changes anything; on an open handle each is RELKVANU_DONE. */
@@ -204,6 +308,124 @@ relkvanu_counts relkvanu_file_counts(relkvanu *handle);
 /* The name of the refusal with this number, as "NotRunning", without a zero at its end: its length,
  * which is 0 where no refusal has the number. It is written where text_len is at least that. */
 size_t relkvanu_refusal_text(uint32_t what, uint8_t *text, size_t text_len);
+
+/* Lines of a script, which docs/SCRIPT.md defines: for a log of calls that is replayed, and for programs that read scripts. A
+ * line is the bytes before its newline, at most 131072 of them; a carriage return at its end is dropped. There is no
+ * limit of how many lines a log has. */
+
+/* Makes the call that a line says, and answers as the function of that call does.
+ *
+ * A take line writes at most as many files as it says to the front of files; where files_len is below what it would
+ * fetch, the answer is RELKVANU_TOO_SHORT, where a is how many places it needs, and nothing has changed. A show line answers as
+ * relkvanu_show with an empty buffer. A restore line in a shape that no job has is RELKVANU_BAD_ARGUMENT with RELKVANU_BAD_SHAPE.
+ * RELKVANU_SKIPPED where the line has no words or is a comment; RELKVANU_BAD_LINE where it can't be read, or makes no call.
+ * Only RELKVANU_TAKEN changes the buffer. Takes memory as the call does, and for the lists of an ack, job or restore line,
+ * so that such a line may answer RELKVANU_NO_MEMORY also where the call would be refused. */
+relkvanu_answer relkvanu_line(relkvanu *handle, const uint8_t *line, size_t line_len, uint64_t *files, size_t files_len);
+
+/* Tells which line it is, RELKVANU_LINE_SKIP to RELKVANU_LINE_ALL, and writes the numbers of a line that makes no call to the front
+ * of numbers, in the line's order; keep is 1 and delete is 0. No number is tested against the limits of a job.
+ *
+ * RELKVANU_TOO_SHORT, where a is how many places it needs; RELKVANU_BAD_LINE with the fault. Both leave the buffer. A restore line in
+ * a shape that no job has is RELKVANU_LINE_CALL: relkvanu_line says what is wrong with it. Takes memory for the lists of an
+ * ack, job or restore line alone. */
+relkvanu_answer relkvanu_line_says(const uint8_t *line, size_t line_len, uint64_t *numbers, size_t numbers_len);
+
+/* Writes the line of a call, without a newline and without a zero at its end. What is written is read as that call.
+ *
+ * first and second are the fresh and the reused files of an ack, in any order; first is the new shape of a restore, or
+ * empty. RELKVANU_WRITTEN; RELKVANU_TOO_SHORT, where a is how many bytes it needs; RELKVANU_BAD_ARGUMENT with RELKVANU_BAD_KIND or
+ * RELKVANU_BAD_SHAPE; RELKVANU_BAD_LINE with RELKVANU_FAULT_TOO_LONG where no line may be as long: it is never cut. Only RELKVANU_WRITTEN
+ * changes the buffer. Takes memory. */
+relkvanu_answer relkvanu_call_line(const relkvanu_call *call, const uint64_t *first, size_t first_len, const uint64_t *second, size_t second_len, uint8_t *line, size_t line_len);
+
+/* Writes the lines config, job and start of a coordinator that begins with the number 1, each with its newline.
+ *
+ * RELKVANU_WRITTEN; RELKVANU_TOO_SHORT, where a is how many bytes it needs; RELKVANU_BAD_ARGUMENT where relkvanu_open answers so, with
+ * the same argument: RELKVANU_BAD_CONFIG, RELKVANU_BAD_SHAPE or RELKVANU_BAD_MOMENT. Only RELKVANU_WRITTEN changes the buffer. Takes
+ * memory. */
+relkvanu_answer relkvanu_opening_lines(const relkvanu_settings *settings, const uint64_t *shape, size_t shape_len, uint64_t now, uint8_t *lines, size_t lines_len);
+
+/* Null pointers. The symbols of the library take none. A program that includes this header calls these functions by
+ * the symbols' names: an empty list or buffer is never passed on, only the address of an element that nobody reads. */
+
+static inline const uint64_t *relkvanu_list_of(const uint64_t *list, size_t len) {
+    static const uint64_t none = 0;
+    return len == 0 ? &none : list;
+}
+
+static inline uint64_t *relkvanu_places_of(uint64_t *places, size_t len) {
+    static uint64_t none = 0;
+    return len == 0 ? &none : places;
+}
+
+static inline uint8_t *relkvanu_bytes_of(uint8_t *bytes, size_t len) {
+    static uint8_t none = 0;
+    return len == 0 ? &none : bytes;
+}
+
+static inline const uint8_t *relkvanu_text_of(const uint8_t *text, size_t len) {
+    static const uint8_t none = 0;
+    return len == 0 ? &none : text;
+}
+
+static inline relkvanu_answer relkvanu_open_nullable(relkvanu *handle, const relkvanu_settings *settings, const uint64_t *shape, size_t shape_len, uint64_t now, uint64_t first, uint64_t first_word, uint64_t second_word) {
+    return relkvanu_open(handle, settings, relkvanu_list_of(shape, shape_len), shape_len, now, first, first_word, second_word);
+}
+
+static inline void relkvanu_close_nullable(relkvanu *handle) {
+    if (handle) {
+        relkvanu_close(handle);
+    }
+}
+
+static inline relkvanu_answer relkvanu_ack_nullable(relkvanu *handle, uint64_t now, uint64_t id, uint16_t vertex, uint16_t index, const uint64_t *fresh, size_t fresh_len, const uint64_t *reused, size_t reused_len) {
+    return relkvanu_ack(handle, now, id, vertex, index, relkvanu_list_of(fresh, fresh_len), fresh_len, relkvanu_list_of(reused, reused_len), reused_len);
+}
+
+static inline relkvanu_answer relkvanu_restore_nullable(relkvanu *handle, uint64_t now, uint64_t savepoint, const uint64_t *shape, size_t shape_len) {
+    return relkvanu_restore(handle, now, savepoint, relkvanu_list_of(shape, shape_len), shape_len);
+}
+
+static inline relkvanu_answer relkvanu_take_nullable(relkvanu *handle, uint64_t *files, size_t files_len) {
+    return relkvanu_take(handle, relkvanu_places_of(files, files_len), files_len);
+}
+
+static inline relkvanu_answer relkvanu_show_nullable(relkvanu *handle, uint64_t id, uint8_t *json, size_t json_len) {
+    return relkvanu_show(handle, id, relkvanu_bytes_of(json, json_len), json_len);
+}
+
+static inline size_t relkvanu_refusal_text_nullable(uint32_t what, uint8_t *text, size_t text_len) {
+    return relkvanu_refusal_text(what, relkvanu_bytes_of(text, text_len), text_len);
+}
+
+static inline relkvanu_answer relkvanu_line_nullable(relkvanu *handle, const uint8_t *line, size_t line_len, uint64_t *files, size_t files_len) {
+    return relkvanu_line(handle, relkvanu_text_of(line, line_len), line_len, relkvanu_places_of(files, files_len), files_len);
+}
+
+static inline relkvanu_answer relkvanu_line_says_nullable(const uint8_t *line, size_t line_len, uint64_t *numbers, size_t numbers_len) {
+    return relkvanu_line_says(relkvanu_text_of(line, line_len), line_len, relkvanu_places_of(numbers, numbers_len), numbers_len);
+}
+
+static inline relkvanu_answer relkvanu_call_line_nullable(const relkvanu_call *call, const uint64_t *first, size_t first_len, const uint64_t *second, size_t second_len, uint8_t *line, size_t line_len) {
+    return relkvanu_call_line(call, relkvanu_list_of(first, first_len), first_len, relkvanu_list_of(second, second_len), second_len, relkvanu_bytes_of(line, line_len), line_len);
+}
+
+static inline relkvanu_answer relkvanu_opening_lines_nullable(const relkvanu_settings *settings, const uint64_t *shape, size_t shape_len, uint64_t now, uint8_t *lines, size_t lines_len) {
+    return relkvanu_opening_lines(settings, relkvanu_list_of(shape, shape_len), shape_len, now, relkvanu_bytes_of(lines, lines_len), lines_len);
+}
+
+#define relkvanu_open relkvanu_open_nullable
+#define relkvanu_close relkvanu_close_nullable
+#define relkvanu_ack relkvanu_ack_nullable
+#define relkvanu_restore relkvanu_restore_nullable
+#define relkvanu_take relkvanu_take_nullable
+#define relkvanu_show relkvanu_show_nullable
+#define relkvanu_refusal_text relkvanu_refusal_text_nullable
+#define relkvanu_line relkvanu_line_nullable
+#define relkvanu_line_says relkvanu_line_says_nullable
+#define relkvanu_call_line relkvanu_call_line_nullable
+#define relkvanu_opening_lines relkvanu_opening_lines_nullable
 
 #ifdef __cplusplus
 }

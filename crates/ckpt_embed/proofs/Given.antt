@@ -1,6 +1,7 @@
 -- What a coordinator that changed nothing is told to have answered.
 use Rattle.std.proofs.Common.{◌≡◌, ◌≢◌, refl, sym, ap, ◌∙◌, subst, arith}
-use Rattle.std.specs.Prelude.{◌≤◌, ℕ, Option, Some, None, Ok, Err, Result, OnErr, ◌↔◌, List, length}
+use Rattle.std.specs.Prelude.{◌≤◌, ℕ, min, true, false, Option, Some, None, Err, Result, OnErr, ◌↔◌, List, length}
+use Rattle.std.proofs.lemmas.Bool.{both_ways}
 use Rattle.std.proofs.lemmas.List.{length-take}
 use Rattle.ckpt_ids.specs.declared.call.Call.{Call}
 use Rattle.ckpt_ids.specs.declared.reply.Reply.{Reply}
@@ -10,11 +11,13 @@ use Rattle.ckpt_ids.specs.declared.reply.Answer.TheVariants.{Done, Refused as Re
 use Rattle.ckpt_ids.specs.declared.call.Call.TheVariants as call
 use Rattle.ckpt_core.specs.declared.coordinator.CoreFault.{CoreFault}
 use Rattle.ckpt_core.specs.declared.coordinator.CoreFault.TheVariants.{Refused, Memory}
+use Rattle.ckpt_core.specs.Memory.{answer_wants, may_want_memory}
 use Rattle.ckpt_core.specs.Refusals.{refusal}
 use Rattle.ckpt_core.specs.State.{State}
 use Rattle.ckpt_core.specs.Steps.{step, effect, take_files, Stepped, unless_refused}
-use Rattle.ckpt_embed.specs.Buffers.{files_in, files_of_reply, StandsInFront}
-use Rattle.ckpt_embed.specs.Told.{fault_told, refusal_told, told, is_closed, no_memory}
+use Rattle.ckpt_embed.specs.Buffers.{files_in, StandsInFront}
+use Rattle.ckpt_embed.specs.Calls.{takes_no_memory}
+use Rattle.ckpt_embed.specs.Told.{fault_told, refusal_told, told, no_memory}
 use Rattle.ckpt_embed.specs.declared.answer.Answer.{Answer}
 
 pub refused_step : (m : State) (call : Call) (why : Why) → refusal m call ≡ Some why → step m call ≡ (m, Refused-answer why)
@@ -39,37 +42,6 @@ fault_in_front m call r (Refused why) old is refused other =
     subst (λ (a : ids.Answer). StandsInFront (files_in a) old old) stepped (refl, refl)
 fault_in_front m call r Memory old is refused other = absurd (other refl)
 
-abbrev fault_in : Result Reply CoreFault → Answer
-fault_in (Ok reply) = is_closed
-fault_in (Err f) = fault_told f
-
--- the refusal that the step makes is the one that is told
-pub fault_is : (m : State) (call : Call) (r : Result Reply CoreFault) (f : CoreFault) (why : Why) → r ≡ Err f
-    → ((why : Why) → (r ≡ Err (Refused why)) ↔ (refusal m call ≡ Some why))
-    → refusal m call ≡ Some why → fault_told f ≡ refusal_told why
-fault_is m call r f why is refused so =
-    subst (λ (r' : Result Reply CoreFault). fault_in r' ≡ refusal_told why) is (subst (λ (r' : Result Reply CoreFault). fault_in r' ≡ refusal_told why) (sym ((refused why).1 so)) refl)
-
-abbrev is_done : ids.Answer → Type 0
-is_done (Done reply) = Unit {0}
-is_done (Refused-answer why) = ⊥
-
--- what is refused is not done
-pub not_refused : (m m' : State) (call : Call) (reply : Reply) (why : Why) → step m call ≡ (m', Done reply) → refusal m call ≡ Some why → ⊥
-not_refused m m' call reply why done so =
-    subst is_done (ap (λ (s : Stepped). s.1) (sym done ∙ refused_step m call why so)) tt
-
-taken_at_most : (m : State) (n : ℕ) (w : Option Why) → length (files_in (unless_refused m (call.Take n) w).1) ≤ n
-unfolding effect take_files
-taken_at_most m n (Some why) = omega arith
-taken_at_most m n None = subst (λ (k : ℕ). k ≤ n) (sym (length-take n m.waiting)) (omega arith)
-
--- a take brings no more files than it asks for
-pub take_fits : (m m' : State) (n : ℕ) (reply : Reply) → step m (call.Take n) ≡ (m', Done reply) → length (files_of_reply reply) ≤ n
-unfolding step
-take_fits m m' n reply done =
-    subst (λ (s : Stepped). length (files_in s.1) ≤ n) done (taken_at_most m n (refusal m (call.Take n)))
-
 shows_leave : (m : State) (id : ℕ) (w : Option Why) → (unless_refused m (call.Show id) w).0 ≡ m
 unfolding effect
 shows_leave m id (Some why) = refl
@@ -79,3 +51,47 @@ shows_leave m id None = refl
 pub show_leaves : (m m' : State) (id : ℕ) (reply : Reply) → step m (call.Show id) ≡ (m', Done reply) → m' ≡ m
 unfolding step
 show_leaves m m' id reply done = sym (ap (λ (s : Stepped). s.0) done) ∙ shows_leave m id (refusal m (call.Show id))
+
+-- what is told where the call changed nothing, by a telling that gives each refusal as it is
+pub fault_told_as : (T : ids.Answer → Answer) → ((why : Why) → T (Refused-answer why) ≡ refusal_told why)
+    → (m : State) (call : Call) (r : Result Reply CoreFault) (f : CoreFault) → r ≡ Err f
+    → ((why : Why) → (r ≡ Err (Refused why)) ↔ (refusal m call ≡ Some why))
+    → (fault_told f).code ≢ no_memory → fault_told f ≡ T (step m call).1
+fault_told_as T gives m call r (Refused why) is refused other =
+    sym (gives why) ∙ ap (λ (s : Stepped). T s.1) (sym (refused_step m call why ((refused why).0 is)))
+fault_told_as T gives m call r Memory is refused other = absurd (other refl)
+
+never_answers : (call : Call) → takes_no_memory call ≡ true → (answer : ids.Answer) → answer_wants call answer ≡ false
+never_answers call none (Refused-answer why) = refl
+never_answers (call.Decline now id subtask) none (Done reply) = refl
+never_answers (call.Dispose id) none (Done reply) = refl
+never_answers (call.Restore now target None) none (Done reply) = refl
+never_answers (call.Cancel now) none (Done reply) = refl
+never_answers (call.Deleted file) none (Done reply) = refl
+never_answers (call.Undeleted file) none (Done reply) = refl
+never_answers (call.Count file) none (Done reply) = refl
+never_answers (call.Tick now) none (Done reply) = absurd (both_ways false refl none)
+never_answers (call.Savepoint now) none (Done reply) = absurd (both_ways false refl none)
+never_answers (call.Ack now id subtask fresh reused) none (Done reply) = absurd (both_ways false refl none)
+never_answers (call.Restore now target (Some shape)) none (Done reply) = absurd (both_ways false refl none)
+never_answers (call.Take most) none (Done reply) = absurd (both_ways false refl none)
+never_answers (call.Show id) none (Done reply) = absurd (both_ways false refl none)
+
+-- the calls that take no memory want none
+pub never_wants : (m : State) (call : Call) → takes_no_memory call ≡ true → may_want_memory m call ≡ true → ⊥
+never_wants m call none wants = both_ways (may_want_memory m call) (never_answers call none (step m call).1) wants
+
+takes_some : (m : State) (n : ℕ) → refusal m (call.Take n) ≡ None → length (files_in (step m (call.Take n)).1) ≡ min n (length m.waiting)
+unfolding step effect take_files
+takes_some m n none = ap (λ (w : Option Why). length (files_in (unless_refused m (call.Take n) w).1)) none ∙ length-take n m.waiting
+
+never_refused : (m : State) (n : ℕ) → refusal m (call.Take n) ≡ None
+unfolding refusal
+never_refused m n = refl
+
+-- how many files a take brings
+pub take_brings : (m : State) (n : ℕ) → length (files_in (step m (call.Take n)).1) ≡ min n (length m.waiting)
+take_brings m n = takes_some m n (never_refused m n)
+
+pub take_at_most : (m : State) (n : ℕ) → length (files_in (step m (call.Take n)).1) ≤ n
+take_at_most m n = subst (λ (k : ℕ). k ≤ n) (sym (take_brings m n)) (omega arith)

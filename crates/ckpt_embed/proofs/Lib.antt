@@ -1,3 +1,4 @@
 pub mod Front
 pub mod Given
+pub mod Openings
 pub mod Words

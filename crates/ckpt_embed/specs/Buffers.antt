@@ -1,12 +1,10 @@
 -- What a call writes into the caller's buffer.
-use Rattle.std.specs.Prelude.{◌≡◌, ◌≢◌, ◌<◌, ℕ, List, [], length, take, drop, Some}
+use Rattle.std.specs.Prelude.{◌≡◌, ◌≢◌, ℕ, nat_lt, if◌then◌else◌, List, [], length, take, drop}
 use Rattle.ckpt_ids.specs.declared.call.Call.TheVariants as call
-use Rattle.ckpt_ids.specs.declared.reply.Refusal.{Refusal}
 use Rattle.ckpt_ids.specs.declared.reply.Reply.{Reply}
 use Rattle.ckpt_ids.specs.declared.reply.Reply.TheVariants.{Taken, Shown}
 use Rattle.ckpt_ids.specs.declared.reply.Answer as ids
 use Rattle.ckpt_ids.specs.declared.reply.Answer.TheVariants.{Done, Refused}
-use Rattle.ckpt_core.specs.Refusals.{refusal}
 use Rattle.ckpt_core.specs.State.{State}
 use Rattle.ckpt_core.specs.Steps.{step}
 use Rattle.ckpt_texts.specs.MetadataTexts.{metadata_bytes}
@@ -31,14 +29,18 @@ abbrev pub json_in : ids.Answer → List ℕ
 json_in (Done reply) = json_of_reply reply
 json_in (Refused why) = []
 
--- with how many bytes of JSON it brings
-abbrev pub show_reply_told : Reply → Answer
-show_reply_told (Shown metadata) = done 21 (length (metadata_bytes metadata)) 0
-show_reply_told reply = reply_told reply
+-- what is told of JSON where the buffer has so many places: how many bytes it has
+abbrev pub json_told : List ℕ → ℕ → Answer
+json_told json places = if nat_lt places (length json) then too_short (length json) else done 21 (length json) 0
 
-abbrev pub show_told : ids.Answer → Answer
-show_told (Done reply) = show_reply_told reply
-show_told (Refused why) = refusal_told why
+abbrev pub show_reply_told : Reply → ℕ → Answer
+show_reply_told (Shown metadata) places = json_told (metadata_bytes metadata) places
+show_reply_told reply places = reply_told reply
+
+-- what is told of a show where the buffer has so many places
+abbrev pub show_told : ids.Answer → ℕ → Answer
+show_told (Done reply) places = show_reply_told reply places
+show_told (Refused why) places = refusal_told why
 
 -- the list stands at the front of the buffer, whose other places have not changed
 abbrev pub StandsInFront : List ℕ → List ℕ → List ℕ → Type 0
@@ -48,19 +50,10 @@ StandsInFront list old new = (take (length list) new ≡ list) × (drop (length 
 abbrev pub BringsFiles : State → List ℕ → List ℕ → Answer → Type 0
 BringsFiles m old new answer = answer.code ≢ no_memory → StandsInFront (files_in (step m (call.Take (length old))).1) old new
 
+-- a show is told with the JSON's length, or how many places the buffer would need, or why it is refused; unless memory ran out
+abbrev pub IsShowTold : State → ℕ → ℕ → Answer → Type 0
+IsShowTold m id places answer = answer.code ≢ no_memory → answer ≡ show_told (step m (call.Show id)).1 places
+
 -- the metadata that a show brings stands at the front of the buffer
 abbrev pub BringsJson : State → ℕ → List ℕ → List ℕ → Answer → Type 0
-BringsJson m id old new answer =
-    answer.code ≡ 0 → (answer ≡ show_told (step m (call.Show id)).1) × StandsInFront (json_in (step m (call.Show id)).1) old new
-
--- a show is refused as the definition says
-abbrev pub IsShowRefused : State → ℕ → Answer → Type 0
-IsShowRefused m id answer = (why : Refusal) → refusal m (call.Show id) ≡ Some why → answer ≡ refusal_told why
-
--- JSON that the buffer has too few places for, and how many it needs
-abbrev pub NeedsPlaces : List ℕ → List ℕ → Answer → Type 0
-NeedsPlaces json buffer answer = answer.code ≡ 5 → (answer ≡ too_short (length json)) × (length buffer < answer.a)
-
--- JSON that stands at the front of the buffer, with what is told of it
-abbrev pub IsWritten : List ℕ → Answer → List ℕ → List ℕ → Answer → Type 0
-IsWritten json told old new answer = answer.code ≡ 0 → (answer ≡ told) × StandsInFront json old new
+BringsJson m id old new answer = answer.code ≡ 0 → StandsInFront (json_in (step m (call.Show id)).1) old new

@@ -1,5 +1,5 @@
 -- What a call through a handle leaves and answers.
-use Rattle.std.specs.Prelude.{◌≡◌, ◌≢◌, ℕ, true, false, ◌==◌, if◌then◌else◌, List, [], ◌∷◌, Option, Some, None}
+use Rattle.std.specs.Prelude.{◌≡◌, ◌≢◌, ℕ, Bool, true, false, ◌==◌, if◌then◌else◌, List, [], ◌∷◌, Option, Some, None, is_none}
 use Rattle.ckpt_ids.specs.declared.subtask.SubtaskId.{SubtaskId}
 use Rattle.ckpt_ids.specs.declared.call.Call.{Call}
 use Rattle.ckpt_ids.specs.declared.call.Call.TheVariants as call
@@ -11,13 +11,17 @@ use Rattle.ckpt_core.specs.Memory.{may_want_memory}
 use Rattle.ckpt_core.specs.State.{State}
 use Rattle.ckpt_core.specs.Steps.{step}
 use Rattle.ckpt_embed.specs.declared.answer.Answer.{Answer}
-use Rattle.ckpt_embed.specs.Told.{told, is_closed, bad_argument, no_memory}
+use Rattle.ckpt_embed.specs.Told.{told, is_closed, bad_argument, no_memory, out_of_memory}
 
 -- a closed handle stays closed, and says so
 abbrev pub StaysClosed : Option State → Option State → Answer → Type 0
 StaysClosed old new answer = old ≡ None → (answer ≡ is_closed) × (new ≡ None)
 
--- the coordinator makes the step and tells its answer
+-- the coordinator makes the step and tells its answer, whatever memory there is
+abbrev pub IsMade : Option State → Option State → Call → Answer → Type 0
+IsMade old new call answer = (m : State) → old ≡ Some m → (new ≡ Some (step m call).0) × (answer ≡ told (step m call).1)
+
+-- the coordinator makes the step and tells its answer, unless memory ran out
 abbrev pub IsAnswered : Option State → Option State → Call → Answer → Type 0
 IsAnswered old new call answer =
     (m : State) → old ≡ Some m → answer.code ≢ no_memory → (new ≡ Some (step m call).0) × (answer ≡ told (step m call).1)
@@ -25,6 +29,21 @@ IsAnswered old new call answer =
 -- a step that a core has made, and tells
 abbrev pub IsStepTold : State → State → Call → Answer → Type 0
 IsStepTold old new call answer = answer.code ≢ no_memory → (new ≡ (step old call).0) × (answer ≡ told (step old call).1)
+
+-- an answer of no memory has no numbers
+abbrev pub HasNoNumbers : Answer → Type 0
+HasNoNumbers answer = answer.code ≡ no_memory → answer ≡ out_of_memory
+
+-- the calls that take no memory, whatever they are answered
+abbrev pub takes_no_memory : Call → Bool
+takes_no_memory (call.Decline now id subtask) = true
+takes_no_memory (call.Dispose id) = true
+takes_no_memory (call.Restore now target shape) = is_none shape
+takes_no_memory (call.Cancel now) = true
+takes_no_memory (call.Deleted file) = true
+takes_no_memory (call.Undeleted file) = true
+takes_no_memory (call.Count file) = true
+takes_no_memory call = false
 
 -- want of memory is told of no other calls
 abbrev pub WantsMemory : Option State → Call → Answer → Type 0

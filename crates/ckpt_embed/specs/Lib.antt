@@ -1,7 +1,9 @@
 pub mod Buffers
 pub mod Calls
 pub mod Kept
+pub mod Lines
 pub mod Names
 pub mod Opening
 pub mod Reads
 pub mod Told
+pub mod Writing

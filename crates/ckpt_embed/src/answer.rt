@@ -1,4 +1,5 @@
 ghost use Rattle.std.specs.Prelude.{◌≡◌};
+ghost use Rattle.ckpt_embed.specs.Lines.{bad_line};
 ghost use Rattle.ckpt_embed.specs.Told.{refusal_told, reply_told, restore_told, tick_told, done, refused, out_of_memory, is_closed, bad_argument, too_short};
 
 use ckpt_ids::{Choice, FileId, Refusal, Reply, TickEnd};
@@ -27,6 +28,8 @@ pub const CLOSED: u32 = 3;
 pub const BAD_ARGUMENT: u32 = 4;
 /// The buffer is too short, and nothing has changed.
 pub const TOO_SHORT: u32 = 5;
+/// The line makes no call, or would be too long to be read, and nothing has changed.
+pub const BAD_LINE: u32 = 6;
 
 impl Answer {
     /// The answer of a call that was made.
@@ -89,6 +92,18 @@ impl Answer {
         }
     }
 
+    /// The answer to a line that makes no call.
+    pub(crate) fn bad_line(what: u32) -> Answer
+        ensures { result ≡ bad_line what }
+    {
+        Answer {
+            code: BAD_LINE,
+            what,
+            a: 0,
+            b: 0,
+        }
+    }
+
     /// A refusal, with the file that it names.
     pub(crate) fn of_refusal(why: Refusal) -> Answer
         ensures { result ≡ refusal_told why }
@@ -114,7 +129,8 @@ impl Answer {
 
     /// A reply. The files of a take and the metadata of a show are not in it.
     pub(crate) fn of_reply(reply: &Reply) -> Answer
-        ensures { result ≡ reply_told reply.now }
+        ensures told { result ≡ reply_told reply.now }
+        ensures code { result.code ≡ 0 }
     {
         match reply {
             Reply::Ticked { expired, end } => of_tick(*expired, *end),
@@ -153,7 +169,8 @@ fn refused(what: u32, file: u64) -> Answer
 }
 
 fn of_tick(expired: u32, end: TickEnd) -> Answer
-    ensures { result ≡ tick_told expired end }
+    ensures told { result ≡ tick_told expired end }
+    ensures code { result.code ≡ 0 }
 {
     let expired = u64::from(expired);
     match end {
@@ -166,7 +183,8 @@ fn of_tick(expired: u32, end: TickEnd) -> Answer
 }
 
 fn of_restore(from: Choice, released: u64) -> Answer
-    ensures { result ≡ restore_told from released }
+    ensures told { result ≡ restore_told from released }
+    ensures code { result.code ≡ 0 }
 {
     match from {
         Choice::Checkpoint(id) => Answer::done(14, released, id.0),

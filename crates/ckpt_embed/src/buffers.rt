@@ -1,11 +1,12 @@
-ghost use Rattle.std.specs.Prelude.{◌≡◌, ◌≢◌, ◌≤◌, length, Some};
+ghost use Rattle.std.specs.Prelude.{◌≡◌, ◌≢◌, ◌≤◌, true, length, Some};
 ghost use Rattle.ckpt_ids.specs.declared.call.Call.TheVariants as call;
+ghost use Rattle.ckpt_core.specs.Memory.{may_want_memory};
 ghost use Rattle.ckpt_core.specs.State.{State};
 ghost use Rattle.ckpt_core.specs.Steps.{step};
 ghost use Rattle.ckpt_texts.specs.MetadataTexts.{metadata_bytes};
-ghost use Rattle.ckpt_embed.specs.Buffers.{BringsFiles, BringsJson, IsShowRefused, IsWritten, NeedsPlaces, StandsInFront, files_of_reply, json_in, json_of_reply, show_reply_told};
-ghost use Rattle.ckpt_embed.specs.Calls.{StaysClosed, IsAnswered, IsStepTold, StaysAsItWas};
-ghost use Rattle.ckpt_embed.specs.Told.{done, no_memory, reply_told};
+ghost use Rattle.ckpt_embed.specs.Buffers.{BringsFiles, BringsJson, IsShowTold, StandsInFront, files_in, files_of_reply, json_of_reply, json_told, show_reply_told};
+ghost use Rattle.ckpt_embed.specs.Calls.{HasNoNumbers, IsAnswered, IsStepTold, StaysAsItWas, StaysClosed, WantsMemory};
+ghost use Rattle.ckpt_embed.specs.Told.{no_memory, reply_told};
 
 use crate::answer::Answer;
 use crate::calls::of_fault;
@@ -21,13 +22,15 @@ pub fn take(alloc: Global, handle: &mut Handle, files: &mut [u64]) -> Answer
     ensures closed { StaysClosed handle.old.value handle.new.value result }
     ensures answered { IsAnswered handle.old.value handle.new.value (call.Take (length files.old)) result }
     ensures front { (m : State) → handle.old.value ≡ Some m → BringsFiles m files.old files.new result }
-    ensures kept { result.code ≡ no_memory → files.new ≡ files.old }
+    ensures kept { result.code ≢ 0 → files.new ≡ files.old }
+    ensures memory { WantsMemory handle.old.value (call.Take (length files.old)) result }
+    ensures numbers { HasNoNumbers result }
     ensures unchanged { StaysAsItWas handle.old.value handle.new.value result }
 {
     let Some(mut core) = handle.take(alloc) else {
         return Answer::closed();
     };
-    let answer = take_from(&mut core, files);
+    let answer = take_from(&mut core, files.len() as u64, files);
     handle.put(alloc, core);
     answer
 }
@@ -37,10 +40,11 @@ pub fn take(alloc: Global, handle: &mut Handle, files: &mut [u64]) -> Answer
 /// Where the buffer is too short, it says how many bytes the metadata has: ask again.
 pub fn show(alloc: Global, handle: &mut Handle, id: u64, json: &mut [u8]) -> Answer
     ensures closed { StaysClosed handle.old.value handle.new.value result }
-    ensures answered { (m : State) → handle.old.value ≡ Some m → BringsJson m id json.old json.new result }
-    ensures refused { (m : State) → handle.old.value ≡ Some m → IsShowRefused m id result }
-    ensures too_short { (m : State) → handle.old.value ≡ Some m → NeedsPlaces (json_in (step m (call.Show id)).1) json.old result }
+    ensures answered { (m : State) → handle.old.value ≡ Some m → IsShowTold m id (length json.old) result }
+    ensures front { (m : State) → handle.old.value ≡ Some m → BringsJson m id json.old json.new result }
     ensures kept { result.code ≢ 0 → json.new ≡ json.old }
+    ensures memory { WantsMemory handle.old.value (call.Show id) result }
+    ensures numbers { HasNoNumbers result }
     ensures unchanged { handle.new.value ≡ handle.old.value }
 {
     let Some(mut core) = handle.take(alloc) else {
@@ -51,13 +55,16 @@ pub fn show(alloc: Global, handle: &mut Handle, id: u64, json: &mut [u8]) -> Ans
     answer
 }
 
-fn take_from(core: &mut Core, files: &mut [u64]) -> Answer
-    ensures answered { IsStepTold core.old core.new (call.Take (length files.old)) result }
-    ensures front { BringsFiles core.old files.old files.new result }
-    ensures kept { result.code ≡ no_memory → files.new ≡ files.old }
+/// Fetches at most `most` files, for each of which the buffer has a place.
+pub(crate) fn take_from(core: &mut Core, most: u64, files: &mut [u64]) -> Answer
+    requires fits { length (files_in (step core.old (call.Take most)).1) ≤ length files.old }
+    ensures answered { IsStepTold core.old core.new (call.Take most) result }
+    ensures front { result.code ≢ no_memory → StandsInFront (files_in (step core.old (call.Take most)).1) files.old files.new }
+    ensures kept { result.code ≢ 0 → files.new ≡ files.old }
+    ensures memory { result.code ≡ no_memory → may_want_memory core.old (call.Take most) ≡ true }
+    ensures numbers { HasNoNumbers result }
     ensures unchanged { result.code ≡ no_memory → core.new ≡ core.old }
 {
-    let most = files.len() as u64;
     match core.apply(&Call::Take { most }) {
         Ok(reply) => with_files(&reply, files),
         Err(fault) => of_fault(fault),
@@ -68,6 +75,7 @@ fn take_from(core: &mut Core, files: &mut [u64]) -> Answer
 fn with_files(reply: &Reply, files: &mut [u64]) -> Answer
     requires fits { length (files_of_reply reply.now) ≤ length files.old }
     ensures told { result ≡ reply_told reply.now }
+    ensures code { result.code ≡ 0 }
     ensures front { StandsInFront (files_of_reply reply.now) files.old files.new }
 {
     if let Reply::Taken(taken) = reply {
@@ -85,11 +93,12 @@ fn write_files(taken: &Handed, files: &mut [u64])
     }
 }
 
-fn show_from(alloc: Global, core: &mut Core, id: u64, json: &mut [u8]) -> Answer
-    ensures answered { BringsJson core.old id json.old json.new result }
-    ensures refused { IsShowRefused core.old id result }
-    ensures too_short { NeedsPlaces (json_in (step core.old (call.Show id)).1) json.old result }
+pub(crate) fn show_from(alloc: Global, core: &mut Core, id: u64, json: &mut [u8]) -> Answer
+    ensures answered { IsShowTold core.old id (length json.old) result }
+    ensures front { BringsJson core.old id json.old json.new result }
     ensures kept { result.code ≢ 0 → json.new ≡ json.old }
+    ensures memory { result.code ≡ no_memory → may_want_memory core.old (call.Show id) ≡ true }
+    ensures numbers { HasNoNumbers result }
     ensures unchanged { core.new ≡ core.old }
 {
     match core.apply(&Call::Show {
@@ -102,9 +111,10 @@ fn show_from(alloc: Global, core: &mut Core, id: u64, json: &mut [u8]) -> Answer
 
 /// Tells a reply, and writes its metadata to the front of the buffer, where it is long enough.
 fn with_json(alloc: Global, reply: &Reply, json: &mut [u8]) -> Answer
-    ensures written { IsWritten (json_of_reply reply.now) (show_reply_told reply.now) json.old json.new result }
-    ensures too_short { NeedsPlaces (json_of_reply reply.now) json.old result }
+    ensures told { result.code ≢ no_memory → result ≡ show_reply_told reply.now (length json.old) }
+    ensures front { result.code ≡ 0 → StandsInFront (json_of_reply reply.now) json.old json.new }
     ensures kept { result.code ≢ 0 → json.new ≡ json.old }
+    ensures numbers { HasNoNumbers result }
 {
     match reply {
         Reply::Shown(metadata) => write_json(alloc, metadata, json),
@@ -113,9 +123,10 @@ fn with_json(alloc: Global, reply: &Reply, json: &mut [u8]) -> Answer
 }
 
 fn write_json(alloc: Global, metadata: &Metadata, json: &mut [u8]) -> Answer
-    ensures written { IsWritten (metadata_bytes metadata.now) (done 21 (length (metadata_bytes metadata.now)) 0) json.old json.new result }
-    ensures too_short { NeedsPlaces (metadata_bytes metadata.now) json.old result }
+    ensures told { result.code ≢ no_memory → result ≡ json_told (metadata_bytes metadata.now) (length json.old) }
+    ensures front { result.code ≡ 0 → StandsInFront (metadata_bytes metadata.now) json.old json.new }
     ensures kept { result.code ≢ 0 → json.new ≡ json.old }
+    ensures numbers { HasNoNumbers result }
 {
     let Ok(text) = metadata_text(alloc, metadata) else {
         return Answer::out_of_memory();

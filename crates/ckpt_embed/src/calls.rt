@@ -1,7 +1,7 @@
-ghost use Rattle.std.specs.Prelude.{◌≡◌, ◌≢◌, true, None, Some, Err, IfOk, ◌↔◌};
+ghost use Rattle.std.specs.Prelude.{◌≡◌, ◌≢◌, ◌↔◌, true, [], None, Some, Err, IfOk};
 ghost use Rattle.ckpt_ids.specs.Ascending.{ascending};
 ghost use Rattle.ckpt_core.specs.Memory.{may_want_memory};
-ghost use Rattle.ckpt_embed.specs.Calls.{StaysClosed, IsAnswered, WantsMemory, StaysAsItWas, IsRefusedAs, IsBadShape, IsStepTold, ack_of, restore_of, target_of};
+ghost use Rattle.ckpt_embed.specs.Calls.{HasNoNumbers, IsAnswered, IsBadShape, IsRefusedAs, IsStepTold, StaysAsItWas, StaysClosed, WantsMemory, ack_of, restore_of, takes_no_memory, target_of};
 ghost use Rattle.ckpt_embed.specs.Told.{bad_shape, fault_told, no_memory};
 
 use crate::answer::Answer;
@@ -21,6 +21,8 @@ pub fn call(alloc: Global, handle: &mut Handle, call: &Call) -> Answer
     ensures closed { StaysClosed handle.old.value handle.new.value result }
     ensures answered { IsAnswered handle.old.value handle.new.value call.now result }
     ensures memory { WantsMemory handle.old.value call.now result }
+    ensures never { takes_no_memory call.now ≡ true → result.code ≢ no_memory }
+    ensures numbers { HasNoNumbers result }
     ensures unchanged { StaysAsItWas handle.old.value handle.new.value result }
 {
     let Some(mut core) = handle.take(alloc) else {
@@ -45,6 +47,7 @@ pub fn ack(
 ) -> Answer
     ensures closed { StaysClosed handle.old.value handle.new.value result }
     ensures answered { IsAnswered handle.old.value handle.new.value (ack_of now id subtask fresh.now reused.now) result }
+    ensures numbers { HasNoNumbers result }
     ensures unchanged { StaysAsItWas handle.old.value handle.new.value result }
 {
     let Some(mut core) = handle.take(alloc) else {
@@ -72,6 +75,8 @@ pub fn restore(
     ensures closed { StaysClosed handle.old.value handle.new.value result }
     ensures bad_shape { IsBadShape shape.now → IsRefusedAs handle.old.value handle.new.value bad_shape result }
     ensures answered { (IsBadShape shape.now → ⊥) → IsAnswered handle.old.value handle.new.value (restore_of now savepoint shape.now) result }
+    ensures memory { shape.now ≡ [] → result.code ≢ no_memory }
+    ensures numbers { HasNoNumbers result }
     ensures unchanged { StaysAsItWas handle.old.value handle.new.value result }
 {
     let Some(mut core) = handle.take(alloc) else {
@@ -87,9 +92,11 @@ pub fn restore(
 }
 
 /// Makes a call and tells its answer.
-fn answer(core: &mut Core, call: &Call) -> Answer
+pub(crate) fn answer(core: &mut Core, call: &Call) -> Answer
     ensures answered { IsStepTold core.old core.new call.now result }
     ensures memory { result.code ≡ no_memory → may_want_memory core.old call.now ≡ true }
+    ensures never { takes_no_memory call.now ≡ true → result.code ≢ no_memory }
+    ensures numbers { HasNoNumbers result }
     ensures unchanged { result.code ≡ no_memory → core.new ≡ core.old }
 {
     match core.apply(call) {
@@ -108,7 +115,7 @@ pub(crate) fn of_fault(fault: CoreFault) -> Answer
     }
 }
 
-fn ack_of(
+pub(crate) fn ack_of(
     alloc: Global,
     now: u64,
     id: u64,
@@ -127,8 +134,14 @@ fn ack_of(
     })
 }
 
-fn restore_of(alloc: Global, now: u64, savepoint: u64, shape: &[u64]) -> Result<Call, ShapeFault>
+pub(crate) fn restore_of(
+    alloc: Global,
+    now: u64,
+    savepoint: u64,
+    shape: &[u64],
+) -> Result<Call, ShapeFault>
     ensures bad { (result ≡ Err ShapeFault.BadShape) ↔ IsBadShape shape.now }
+    ensures memory { result ≡ Err ShapeFault.Memory → shape.now ≢ [] }
     ensures value { IfOk result (λ made. made ≡ restore_of now savepoint shape.now) }
 {
     let target = target_of(savepoint);

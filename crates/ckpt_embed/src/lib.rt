@@ -10,14 +10,18 @@ pub mod answer;
 pub mod buffers;
 pub mod calls;
 pub mod handle;
+pub mod lines;
 pub mod names;
 pub mod opening;
 pub mod reads;
+pub mod writing;
 
 pub use answer::Answer;
 pub use buffers::{show, take};
 pub use calls::{ack, call, restore};
 pub use handle::Handle;
+pub use lines::{line, line_says};
 pub use names::refusal_text;
 pub use opening::{Settings, close, open};
 pub use reads::{FileCounts, choice, due, file_counts, live, missing, mode, oldest_expiry};
+pub use writing::{CallFields, call_line, opening_lines};

@@ -1,6 +1,9 @@
-ghost use Rattle.std.specs.Prelude.{◌≡◌, None, IfOk, IfErr};
-ghost use Rattle.ckpt_embed.specs.Calls.{StaysAsItWas};
-ghost use Rattle.ckpt_embed.specs.Opening.{opening_of, IsNotOpened, IsOpened, IsOpening, IsWhyNot, StaysOpen};
+ghost use Rattle.std.specs.Prelude.{◌≡◌, ◌≢◌, true, false, None, IfOk, IfErr};
+ghost use Rattle.ckpt_ids.specs.Configuration.{is_within_limits};
+ghost use Rattle.ckpt_ids.specs.Shapes.{is_shape};
+ghost use Rattle.ckpt_embed.specs.Calls.{HasNoNumbers, StaysAsItWas};
+ghost use Rattle.ckpt_embed.specs.Opening.{configuration_of, opening_of, IsNotOpened, IsOpened, IsOpening, IsWhyNot, StaysOpen};
+ghost use Rattle.ckpt_embed.specs.Told.{bad_argument, bad_config, bad_shape, no_memory};
 
 use crate::answer::Answer;
 use crate::calls::BAD_SHAPE;
@@ -14,7 +17,7 @@ const ALREADY_OPEN: u32 = 1;
 
 const BAD_CONFIG: u32 = 2;
 
-const BAD_MOMENT: u32 = 4;
+pub(crate) const BAD_MOMENT: u32 = 4;
 
 const BAD_FIRST: u32 = 5;
 
@@ -55,6 +58,7 @@ pub fn open(
     ensures open { StaysOpen handle.old.value handle.new.value result }
     ensures refused { IsNotOpened handle.old.value handle.new.value (opening_of settings.now shape.now now first) result }
     ensures opened { IsOpened handle.old.value handle.new.value (opening_of settings.now shape.now now first) result }
+    ensures numbers { HasNoNumbers result }
     ensures unchanged { StaysAsItWas handle.old.value handle.new.value result }
 {
     if let Some(core) = handle.take(alloc) {
@@ -87,8 +91,25 @@ fn core_of(
 ) -> Result<Box<Core>, Answer>
     ensures value { IfOk result (λ core. IsOpening (opening_of settings.now shape.now now first) core.value) }
     ensures fault { IfErr result (IsWhyNot (opening_of settings.now shape.now now first)) }
+    ensures numbers { IfErr result HasNoNumbers }
 {
-    let Ok(config) = Config::new(
+    let config = config_of(settings)?;
+    let shape = job_of(alloc, shape)?;
+    match Core::keyed(alloc, config, shape, now, first, secret) {
+        Ok(core) => Box::new(alloc, core).map_err(|_| Answer::out_of_memory()),
+        Err(OpenFault::MomentTooLarge) => Err(Answer::bad_argument(BAD_MOMENT)),
+        Err(OpenFault::BadFirst) => Err(Answer::bad_argument(BAD_FIRST)),
+    }
+}
+
+/// The configuration, or what is answered where a value is outside its limits.
+pub(crate) fn config_of(settings: &Settings) -> Result<Config, Answer>
+    ensures good { IfOk result (λ config. is_within_limits (configuration_of settings.now) ≡ true) }
+    ensures value { IfOk result (λ config. config ≡ configuration_of settings.now) }
+    ensures fault { IfErr result (λ answer. is_within_limits (configuration_of settings.now) ≡ false) }
+    ensures told { IfErr result (λ answer. answer ≡ bad_argument bad_config) }
+{
+    let config = Config::new(
         settings.interval,
         settings.pause,
         settings.at_once,
@@ -96,17 +117,23 @@ fn core_of(
         settings.tolerable,
         settings.retained,
         settings.keep_on_cancel,
-    ) else {
-        return Err(Answer::bad_argument(BAD_CONFIG));
-    };
-    let shape = match Shape::new(alloc, shape) {
-        Ok(shape) => shape,
-        Err(ShapeFault::BadShape) => return Err(Answer::bad_argument(BAD_SHAPE)),
-        Err(ShapeFault::Memory) => return Err(Answer::out_of_memory()),
-    };
-    match Core::keyed(alloc, config, shape, now, first, secret) {
-        Ok(core) => Box::new(alloc, core).map_err(|_| Answer::out_of_memory()),
-        Err(OpenFault::MomentTooLarge) => Err(Answer::bad_argument(BAD_MOMENT)),
-        Err(OpenFault::BadFirst) => Err(Answer::bad_argument(BAD_FIRST)),
+    );
+    match config {
+        Ok(config) => Ok(config),
+        Err(_) => Err(Answer::bad_argument(BAD_CONFIG)),
+    }
+}
+
+/// The shape of these parallelisms, or what is answered where there is none.
+pub(crate) fn job_of(alloc: Global, shape: &[u64]) -> Result<Shape, Answer>
+    ensures good { IfOk result (λ made. is_shape shape.now ≡ true) }
+    ensures value { IfOk result (λ made. made ≡ shape.now) }
+    ensures fault { IfErr result (λ answer. answer.code ≢ no_memory → (is_shape shape.now ≡ false) × (answer ≡ bad_argument bad_shape)) }
+    ensures numbers { IfErr result HasNoNumbers }
+{
+    match Shape::new(alloc, shape) {
+        Ok(shape) => Ok(shape),
+        Err(ShapeFault::BadShape) => Err(Answer::bad_argument(BAD_SHAPE)),
+        Err(ShapeFault::Memory) => Err(Answer::out_of_memory()),
     }
 }

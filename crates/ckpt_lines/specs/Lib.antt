@@ -1,4 +1,5 @@
 pub mod Keywords
+pub mod Meanings
 pub mod Reading
 pub mod Values
 pub mod Words

@@ -1,8 +1,8 @@
-ghost use Rattle.std.specs.Prelude.{◌≡◌, ◌≢◌, ◌<◌, ◌≤◌, None, Some, length};
+ghost use Rattle.std.specs.Prelude.{◌≡◌, ◌≢◌, ◌<◌, ◌≤◌, [], None, Some, length};
 ghost use Rattle.ckpt_ids.specs.declared.call.Call.TheVariants as call;
-ghost use Rattle.ckpt_core.specs.Coordinator.{State, step};
-ghost use Rattle.ckpt_embed.specs.Buffers.{BringsFiles, BringsJson, IsShowRefused, NeedsPlaces, StandsInFront, json_in};
-ghost use Rattle.ckpt_embed.specs.Calls.{StaysClosed, IsAnswered, WantsMemory, StaysAsItWas, IsRefusedAs, IsBadShape, ack_of, restore_of};
+ghost use Rattle.ckpt_core.specs.Coordinator.{State};
+ghost use Rattle.ckpt_embed.specs.Buffers.{BringsFiles, BringsJson, IsShowTold, StandsInFront};
+ghost use Rattle.ckpt_embed.specs.Calls.{HasNoNumbers, IsAnswered, IsBadShape, IsMade, IsRefusedAs, StaysAsItWas, StaysClosed, WantsMemory, ack_of, restore_of};
 ghost use Rattle.ckpt_embed.specs.Names.{refusal_name};
 ghost use Rattle.ckpt_embed.specs.Opening.{opening_of, IsNotOpened, IsOpened, StaysOpen};
 ghost use Rattle.ckpt_embed.specs.Told.{bad_shape, no_memory};
@@ -27,6 +27,7 @@ pub extern "C" fn relkvanu_open(
     ensures open { StaysOpen handle.old.value handle.new.value result }
     ensures refused { IsNotOpened handle.old.value handle.new.value (opening_of settings.now shape.now now first) result }
     ensures opened { IsOpened handle.old.value handle.new.value (opening_of settings.now shape.now now first) result }
+    ensures numbers { HasNoNumbers result }
     ensures unchanged { StaysAsItWas handle.old.value handle.new.value result }
 {
     let secret = Secret::of(first_word, second_word);
@@ -47,6 +48,7 @@ pub extern "C" fn relkvanu_tick(alloc: Global, handle: &mut Handle, now: u64) ->
     ensures closed { StaysClosed handle.old.value handle.new.value result }
     ensures answered { IsAnswered handle.old.value handle.new.value (call.Tick now) result }
     ensures memory { WantsMemory handle.old.value (call.Tick now) result }
+    ensures numbers { HasNoNumbers result }
     ensures unchanged { StaysAsItWas handle.old.value handle.new.value result }
 {
     ckpt_embed::call(alloc, handle, &Call::Tick { now })
@@ -58,6 +60,7 @@ pub extern "C" fn relkvanu_savepoint(alloc: Global, handle: &mut Handle, now: u6
     ensures closed { StaysClosed handle.old.value handle.new.value result }
     ensures answered { IsAnswered handle.old.value handle.new.value (call.Savepoint now) result }
     ensures memory { WantsMemory handle.old.value (call.Savepoint now) result }
+    ensures numbers { HasNoNumbers result }
     ensures unchanged { StaysAsItWas handle.old.value handle.new.value result }
 {
     ckpt_embed::call(alloc, handle, &Call::Savepoint { now })
@@ -77,6 +80,7 @@ pub extern "C" fn relkvanu_ack(
 ) -> Answer
     ensures closed { StaysClosed handle.old.value handle.new.value result }
     ensures answered { IsAnswered handle.old.value handle.new.value (ack_of now id (record { vertex = vertex; index = index }) fresh.now reused.now) result }
+    ensures numbers { HasNoNumbers result }
     ensures unchanged { StaysAsItWas handle.old.value handle.new.value result }
 {
     let subtask = SubtaskId { vertex, index };
@@ -94,9 +98,8 @@ pub extern "C" fn relkvanu_decline(
     index: u16,
 ) -> Answer
     ensures closed { StaysClosed handle.old.value handle.new.value result }
-    ensures answered { IsAnswered handle.old.value handle.new.value (call.Decline now id (record { vertex = vertex; index = index })) result }
-    ensures memory { WantsMemory handle.old.value (call.Decline now id (record { vertex = vertex; index = index })) result }
-    ensures unchanged { StaysAsItWas handle.old.value handle.new.value result }
+    ensures answered { IsMade handle.old.value handle.new.value (call.Decline now id (record { vertex = vertex; index = index })) result }
+    ensures memory { result.code ≢ no_memory }
 {
     let call = Call::Decline {
         now,
@@ -110,9 +113,8 @@ pub extern "C" fn relkvanu_decline(
 #[unsafe(no_mangle)]
 pub extern "C" fn relkvanu_dispose(alloc: Global, handle: &mut Handle, id: u64) -> Answer
     ensures closed { StaysClosed handle.old.value handle.new.value result }
-    ensures answered { IsAnswered handle.old.value handle.new.value (call.Dispose id) result }
-    ensures memory { WantsMemory handle.old.value (call.Dispose id) result }
-    ensures unchanged { StaysAsItWas handle.old.value handle.new.value result }
+    ensures answered { IsMade handle.old.value handle.new.value (call.Dispose id) result }
+    ensures memory { result.code ≢ no_memory }
 {
     ckpt_embed::call(
         alloc,
@@ -135,6 +137,8 @@ pub extern "C" fn relkvanu_restore(
     ensures closed { StaysClosed handle.old.value handle.new.value result }
     ensures bad_shape { IsBadShape shape.now → IsRefusedAs handle.old.value handle.new.value bad_shape result }
     ensures answered { (IsBadShape shape.now → ⊥) → IsAnswered handle.old.value handle.new.value (restore_of now savepoint shape.now) result }
+    ensures memory { shape.now ≡ [] → result.code ≢ no_memory }
+    ensures numbers { HasNoNumbers result }
     ensures unchanged { StaysAsItWas handle.old.value handle.new.value result }
 {
     ckpt_embed::restore(alloc, handle, now, savepoint, shape)
@@ -144,9 +148,8 @@ pub extern "C" fn relkvanu_restore(
 #[unsafe(no_mangle)]
 pub extern "C" fn relkvanu_cancel(alloc: Global, handle: &mut Handle, now: u64) -> Answer
     ensures closed { StaysClosed handle.old.value handle.new.value result }
-    ensures answered { IsAnswered handle.old.value handle.new.value (call.Cancel now) result }
-    ensures memory { WantsMemory handle.old.value (call.Cancel now) result }
-    ensures unchanged { StaysAsItWas handle.old.value handle.new.value result }
+    ensures answered { IsMade handle.old.value handle.new.value (call.Cancel now) result }
+    ensures memory { result.code ≢ no_memory }
 {
     ckpt_embed::call(alloc, handle, &Call::Cancel { now })
 }
@@ -157,7 +160,9 @@ pub extern "C" fn relkvanu_take(alloc: Global, handle: &mut Handle, files: &mut 
     ensures closed { StaysClosed handle.old.value handle.new.value result }
     ensures answered { IsAnswered handle.old.value handle.new.value (call.Take (length files.old)) result }
     ensures front { (m : State) → handle.old.value ≡ Some m → BringsFiles m files.old files.new result }
-    ensures kept { result.code ≡ no_memory → files.new ≡ files.old }
+    ensures kept { result.code ≢ 0 → files.new ≡ files.old }
+    ensures memory { WantsMemory handle.old.value (call.Take (length files.old)) result }
+    ensures numbers { HasNoNumbers result }
     ensures unchanged { StaysAsItWas handle.old.value handle.new.value result }
 {
     ckpt_embed::take(alloc, handle, files)
@@ -167,9 +172,8 @@ pub extern "C" fn relkvanu_take(alloc: Global, handle: &mut Handle, files: &mut 
 #[unsafe(no_mangle)]
 pub extern "C" fn relkvanu_deleted(alloc: Global, handle: &mut Handle, file: u64) -> Answer
     ensures closed { StaysClosed handle.old.value handle.new.value result }
-    ensures answered { IsAnswered handle.old.value handle.new.value (call.Deleted file) result }
-    ensures memory { WantsMemory handle.old.value (call.Deleted file) result }
-    ensures unchanged { StaysAsItWas handle.old.value handle.new.value result }
+    ensures answered { IsMade handle.old.value handle.new.value (call.Deleted file) result }
+    ensures memory { result.code ≢ no_memory }
 {
     ckpt_embed::call(alloc, handle, &Call::Deleted { file: FileId(file) })
 }
@@ -178,9 +182,8 @@ pub extern "C" fn relkvanu_deleted(alloc: Global, handle: &mut Handle, file: u64
 #[unsafe(no_mangle)]
 pub extern "C" fn relkvanu_undeleted(alloc: Global, handle: &mut Handle, file: u64) -> Answer
     ensures closed { StaysClosed handle.old.value handle.new.value result }
-    ensures answered { IsAnswered handle.old.value handle.new.value (call.Undeleted file) result }
-    ensures memory { WantsMemory handle.old.value (call.Undeleted file) result }
-    ensures unchanged { StaysAsItWas handle.old.value handle.new.value result }
+    ensures answered { IsMade handle.old.value handle.new.value (call.Undeleted file) result }
+    ensures memory { result.code ≢ no_memory }
 {
     ckpt_embed::call(alloc, handle, &Call::Undeleted { file: FileId(file) })
 }
@@ -194,10 +197,11 @@ pub extern "C" fn relkvanu_show(
     json: &mut [u8],
 ) -> Answer
     ensures closed { StaysClosed handle.old.value handle.new.value result }
-    ensures answered { (m : State) → handle.old.value ≡ Some m → BringsJson m id json.old json.new result }
-    ensures refused { (m : State) → handle.old.value ≡ Some m → IsShowRefused m id result }
-    ensures too_short { (m : State) → handle.old.value ≡ Some m → NeedsPlaces (json_in (step m (call.Show id)).1) json.old result }
+    ensures answered { (m : State) → handle.old.value ≡ Some m → IsShowTold m id (length json.old) result }
+    ensures front { (m : State) → handle.old.value ≡ Some m → BringsJson m id json.old json.new result }
     ensures kept { result.code ≢ 0 → json.new ≡ json.old }
+    ensures memory { WantsMemory handle.old.value (call.Show id) result }
+    ensures numbers { HasNoNumbers result }
     ensures unchanged { handle.new.value ≡ handle.old.value }
 {
     ckpt_embed::show(alloc, handle, id, json)
@@ -207,9 +211,8 @@ pub extern "C" fn relkvanu_show(
 #[unsafe(no_mangle)]
 pub extern "C" fn relkvanu_count(alloc: Global, handle: &mut Handle, file: u64) -> Answer
     ensures closed { StaysClosed handle.old.value handle.new.value result }
-    ensures answered { IsAnswered handle.old.value handle.new.value (call.Count file) result }
-    ensures memory { WantsMemory handle.old.value (call.Count file) result }
-    ensures unchanged { StaysAsItWas handle.old.value handle.new.value result }
+    ensures answered { IsMade handle.old.value handle.new.value (call.Count file) result }
+    ensures memory { result.code ≢ no_memory }
 {
     ckpt_embed::call(alloc, handle, &Call::Count { file: FileId(file) })
 }

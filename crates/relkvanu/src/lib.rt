@@ -4,4 +4,5 @@
 #![tactic(auto)]
 
 mod exports;
+mod lines;
 mod reads;

@@ -1,0 +1,217 @@
+//! Lines of a script, written into a caller's buffer: of a call, and of an opening.
+
+ghost use Rattle.std.specs.Prelude.{◌≡◌, ◌≢◌, ◌≤◌, None, Ok, Err, IsOk, IfOk, IfErr, length, string_bytes};
+ghost use Rattle.ckpt_ids.specs.declared.call.Call.{Call as Asked};
+ghost use Rattle.ckpt_lines.specs.declared.limits.TheConstants.{LONGEST_LINE};
+ghost use Rattle.ckpt_lines.specs.declared.line.Line.TheVariants as line;
+ghost use Rattle.ckpt_call_lines.specs.CallTexts.{IsReadAs, call_text, config_text, job_text, line_of_call, line_of_config, start_text};
+ghost use Rattle.ckpt_embed.specs.Buffers.{StandsInFront};
+ghost use Rattle.ckpt_embed.specs.Calls.{HasNoNumbers};
+ghost use Rattle.ckpt_embed.specs.Opening.{IsWhyNot, bad_opening, opening_of};
+ghost use Rattle.ckpt_embed.specs.Told.{bad_argument, no_memory};
+ghost use Rattle.ckpt_embed.specs.Writing.{OpeningReadsBack, ReadsBack, call_line_text, call_line_told, given, opening_text, opening_told, text_told};
+
+use crate::answer::Answer;
+use crate::calls::{BAD_SHAPE, ack_of, restore_of};
+use crate::lines::FAULT_TOO_LONG;
+use crate::opening::{BAD_MOMENT, Settings, config_of, job_of};
+use ckpt_call_lines::{call_line as text_of, config_line, job_line, start_line};
+use ckpt_ids::{Call, CheckpointId, Config, FileId, MOMENTS_END, Shape, ShapeFault, SubtaskId};
+use ckpt_lines::LONGEST_LINE;
+use std::alloc::{AllocError, Global};
+
+const CALL_TICK: u32 = 1;
+
+const CALL_SAVEPOINT: u32 = 2;
+
+const CALL_ACK: u32 = 3;
+
+const CALL_DECLINE: u32 = 4;
+
+const CALL_DISPOSE: u32 = 5;
+
+const CALL_RESTORE: u32 = 6;
+
+const CALL_CANCEL: u32 = 7;
+
+const CALL_TAKE: u32 = 8;
+
+const CALL_DELETED: u32 = 9;
+
+const CALL_UNDELETED: u32 = 10;
+
+const CALL_SHOW: u32 = 11;
+
+const CALL_COUNT: u32 = 12;
+
+const BAD_KIND: u32 = 6;
+
+const WRITTEN: u32 = 44;
+
+/// A call by its kind. A field that the kind has no use for is not read.
+#[repr(C)]
+#[derive(Clone, Copy, Debug, PartialEq, Eq)]
+pub struct CallFields {
+    /// 1 to 12: tick, savepoint, ack, decline, dispose, restore, cancel, take, deleted, undeleted, show,
+    /// count.
+    pub kind: u32,
+    /// The subtask of an ack or a decline.
+    pub vertex: u16,
+    pub index: u16,
+    /// The moment, in milliseconds, of a call that has one.
+    pub now: u64,
+    /// The number of the record or the file; of a restore the savepoint, or 0 for the latest; of a take
+    /// how many files.
+    pub number: u64,
+}
+
+/// Writes the line of a call to the front of the buffer, without its newline, where it is long enough.
+///
+/// The lists are the fresh and the reused files of an ack, in any order; the first is the new shape of
+/// a restore, or empty. A line that would be longer than a line may be is a fault. Takes memory.
+pub fn call_line(
+    alloc: Global,
+    fields: &CallFields,
+    first: &[u64],
+    second: &[u64],
+    line: &mut [u8],
+) -> Answer
+    ensures told { result.code ≢ no_memory → result ≡ call_line_told (given fields.entry.now first.now second.now) (length line.old) }
+    ensures front { result.code ≡ 0 → StandsInFront (call_line_text (given fields.entry.now first.now second.now)) line.old line.new }
+    ensures read { ReadsBack (given fields.entry.now first.now second.now) line.new result }
+    ensures kept { result.code ≢ 0 → line.new ≡ line.old }
+    ensures memory { result.code ≡ no_memory → IsOk (given fields.entry.now first.now second.now) }
+    ensures numbers { HasNoNumbers result }
+{
+    let call = match call_of(alloc, fields, first, second) {
+        Ok(call) => call,
+        Err(answer) => return answer,
+    };
+    match text_of(alloc, &call) {
+        Ok(text) => write_text(&text, line),
+        Err(_) => Answer::out_of_memory(),
+    }
+}
+
+/// The call that the fields and the lists give, or what is answered where they give none.
+#[tactic(auto, unfolding(crate::specs::Writing::given))]
+fn call_of(
+    alloc: Global,
+    fields: &CallFields,
+    first: &[u64],
+    second: &[u64],
+) -> Result<Call, Answer>
+    ensures value { IfOk result (λ call. given fields.entry.now first.now second.now ≡ Ok call) }
+    ensures fault { IfErr result (λ answer. answer.code ≢ no_memory → (given fields.entry.now first.now second.now ≡ Err answer.what) × (answer ≡ bad_argument answer.what)) }
+    ensures memory { IfErr result (λ answer. answer.code ≡ no_memory → IsOk (given fields.entry.now first.now second.now)) }
+    ensures numbers { IfErr result HasNoNumbers }
+{
+    let now = fields.now;
+    let id = CheckpointId(fields.number);
+    let file = FileId(fields.number);
+    let subtask = SubtaskId {
+        vertex: fields.vertex,
+        index: fields.index,
+    };
+    match fields.kind {
+        CALL_TICK => Ok(Call::Tick { now }),
+        CALL_SAVEPOINT => Ok(Call::Savepoint { now }),
+        CALL_ACK => match ack_of(alloc, now, id.0, subtask, first, second) {
+            Ok(call) => Ok(call),
+            Err(_) => Err(Answer::out_of_memory()),
+        },
+        CALL_DECLINE => Ok(Call::Decline { now, id, subtask }),
+        CALL_DISPOSE => Ok(Call::Dispose { id }),
+        CALL_RESTORE => match restore_of(alloc, now, fields.number, first) {
+            Ok(call) => Ok(call),
+            Err(ShapeFault::BadShape) => Err(Answer::bad_argument(BAD_SHAPE)),
+            Err(ShapeFault::Memory) => Err(Answer::out_of_memory()),
+        },
+        CALL_CANCEL => Ok(Call::Cancel { now }),
+        CALL_TAKE => Ok(Call::Take {
+            most: fields.number,
+        }),
+        CALL_DELETED => Ok(Call::Deleted { file }),
+        CALL_UNDELETED => Ok(Call::Undeleted { file }),
+        CALL_SHOW => Ok(Call::Show { id }),
+        CALL_COUNT => Ok(Call::Count { file }),
+        _ => Err(Answer::bad_argument(BAD_KIND)),
+    }
+}
+
+/// Writes the lines `config`, `job` and `start` of an opening to the front of the buffer, each with its
+/// newline, where it is long enough.
+///
+/// Answers what [`open`](crate::open) answers to arguments outside their limits. Takes memory.
+pub fn opening_lines(
+    alloc: Global,
+    settings: &Settings,
+    shape: &[u64],
+    now: u64,
+    lines: &mut [u8],
+) -> Answer
+    ensures told { result.code ≢ no_memory → result ≡ opening_told (bad_opening (opening_of settings.now shape.now now 1)) (opening_text (opening_of settings.now shape.now now 1)) (length lines.old) }
+    ensures front { result.code ≡ 0 → StandsInFront (opening_text (opening_of settings.now shape.now now 1)) lines.old lines.new }
+    ensures read { OpeningReadsBack (opening_of settings.now shape.now now 1) result }
+    ensures kept { result.code ≢ 0 → lines.new ≡ lines.old }
+    ensures numbers { HasNoNumbers result }
+{
+    match opening_of(alloc, settings, shape, now) {
+        Ok(text) => write_text(&text, lines),
+        Err(answer) => answer,
+    }
+}
+
+fn opening_of(alloc: Global, settings: &Settings, shape: &[u64], now: u64) -> Result<String, Answer>
+    ensures good { IfOk result (λ text. bad_opening (opening_of settings.now shape.now now 1) ≡ None) }
+    ensures text { IfOk result (λ text. string_bytes text ≡ opening_text (opening_of settings.now shape.now now 1)) }
+    ensures config { IfOk result (λ text. IsReadAs (line_of_config (opening_of settings.now shape.now now 1).config) (config_text (opening_of settings.now shape.now now 1).config)) }
+    ensures job { IfOk result (λ text. IsReadAs (line.Job shape.now) (job_text shape.now)) }
+    ensures start { IfOk result (λ text. IsReadAs (line.Start now) (start_text now)) }
+    ensures fault { IfErr result (IsWhyNot (opening_of settings.now shape.now now 1)) }
+    ensures numbers { IfErr result HasNoNumbers }
+{
+    let config = config_of(settings)?;
+    let shape = job_of(alloc, shape)?;
+    if now >= MOMENTS_END {
+        return Err(Answer::bad_argument(BAD_MOMENT));
+    }
+    match joined(alloc, &config, &shape, now) {
+        Ok(text) => Ok(text),
+        Err(_) => Err(Answer::out_of_memory()),
+    }
+}
+
+#[tactic(auto, unfolding(crate::specs::Writing::opening_text))]
+fn joined(alloc: Global, config: &Config, shape: &Shape, now: u64) -> Result<String, AllocError>
+    ensures text { IfOk result (λ text. string_bytes text ≡ opening_text (record { config = config.now; shape = shape.now; start = now; first = 1 })) }
+    ensures config { IfOk result (λ text. IsReadAs (line_of_config config.now) (config_text config.now)) }
+    ensures job { IfOk result (λ text. IsReadAs (line.Job shape.now) (job_text shape.now)) }
+    ensures start { IfOk result (λ text. IsReadAs (line.Start now) (start_text now)) }
+{
+    let mut text = config_line(alloc, config)?;
+    text.push_str("\n")?;
+    text.push_str(&job_line(alloc, shape)?)?;
+    text.push_str("\n")?;
+    text.push_str(&start_line(alloc, now)?)?;
+    text.push_str("\n")?;
+    Ok(text)
+}
+
+/// Writes a text to the front of the buffer, where it is long enough and no longer than a line may be.
+fn write_text(text: &str, line: &mut [u8]) -> Answer
+    ensures told { result ≡ text_told text.now (length line.old) }
+    ensures front { result.code ≡ 0 → StandsInFront text.now line.old line.new }
+    ensures short { result.code ≡ 0 → length text.now ≤ LONGEST_LINE }
+    ensures kept { result.code ≢ 0 → line.new ≡ line.old }
+{
+    let bytes = text.as_bytes();
+    if bytes.len() > LONGEST_LINE {
+        return Answer::bad_line(FAULT_TOO_LONG);
+    }
+    if line.len() < bytes.len() {
+        return Answer::too_short(bytes.len() as u64);
+    }
+    line[..bytes.len()].copy_from_slice(bytes);
+    Answer::done(WRITTEN, bytes.len() as u64, 0)
+}

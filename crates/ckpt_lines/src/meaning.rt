@@ -1,0 +1,144 @@
+//! What a line says: a call of the coordinator, or what else it is.
+
+ghost use Rattle.std.specs.Prelude.{◌≡◌, ◌≢◌, ◌↔◌, [], true, false, Ok, Err, IfOk};
+ghost use Rattle.ckpt_lines.specs.Meanings.{has_new_shape, is_new_shape, meaning, new_shape};
+
+use crate::line::Line;
+use crate::numbers::Numbers;
+use ckpt_ids::{Call, CheckpointId, Shape, ShapeFault};
+use std::alloc::Global;
+
+/// What a line of a script says. Moments and durations are milliseconds.
+#[derive(Debug, Drop, PartialEq, Eq)]
+pub enum Meaning {
+    /// Nothing: a line without words, or a comment.
+    Skip,
+    /// How the job takes checkpoints. A value may be outside its limits, which are those of
+    /// [`Config::new`](ckpt_ids::Config::new).
+    Config {
+        interval: u64,
+        pause: u64,
+        at_once: u64,
+        timeout: u64,
+        tolerable: u64,
+        retained: u64,
+        keep_on_cancel: bool,
+    },
+    /// The parallelism of each vertex of the job, at least one. They may be no [`Shape`].
+    Job {
+        parallelisms: Numbers,
+    },
+    /// The coordinator opens.
+    Start {
+        now: u64,
+    },
+    /// A call of the coordinator.
+    Call(Call),
+    /// An acknowledgement of each missing subtask of the pending record `id`, with one new file each,
+    /// numbered from `first` on. The calls are spread over threads.
+    All {
+        now: u64,
+        id: CheckpointId,
+        threads: u64,
+        first: u64,
+    },
+}
+
+impl Line {
+    /// What this line says. Each list of the line goes into the answer, and is not copied.
+    ///
+    /// Answers [`ShapeFault::BadShape`] exactly for a `restore` whose parallelisms are not a shape, as
+    /// [`Shape::new`] tells it. Answers [`ShapeFault::Memory`] where memory runs out, on a `restore`
+    /// with parallelisms alone.
+    #[tactic(auto, unfolding(crate::specs::Meanings::meaning, crate::specs::Meanings::restoring))]
+    #[inline(always)]
+    pub fn meaning(self, alloc: Global) -> Result<Meaning, ShapeFault>
+        ensures value { IfOk result (λ said. meaning self ≡ Ok said) }
+        ensures refused { (result ≡ Err ShapeFault.BadShape) ↔ (meaning self ≡ Err ShapeFault.BadShape) }
+        ensures memory { result ≡ Err ShapeFault.Memory → has_new_shape self ≡ true }
+    {
+        let call = match self {
+            Line::Skip => return Ok(Meaning::Skip),
+            Line::Config {
+                interval,
+                pause,
+                at_once,
+                timeout,
+                tolerable,
+                retained,
+                keep_on_cancel,
+            } => {
+                return Ok(Meaning::Config {
+                    interval,
+                    pause,
+                    at_once,
+                    timeout,
+                    tolerable,
+                    retained,
+                    keep_on_cancel,
+                });
+            }
+            Line::Job { parallelisms } => return Ok(Meaning::Job { parallelisms }),
+            Line::Start { now } => return Ok(Meaning::Start { now }),
+            Line::Tick { now } => Call::Tick { now },
+            Line::Savepoint { now } => Call::Savepoint { now },
+            Line::Ack {
+                now,
+                id,
+                subtask,
+                fresh,
+                reused,
+            } => Call::Ack {
+                now,
+                id,
+                subtask,
+                fresh,
+                reused,
+            },
+            Line::Decline { now, id, subtask } => Call::Decline { now, id, subtask },
+            Line::Dispose { id } => Call::Dispose { id },
+            Line::Restore {
+                now,
+                target,
+                parallelisms,
+            } => Call::Restore {
+                now,
+                target,
+                shape: new_shape(alloc, &parallelisms)?,
+            },
+            Line::Cancel { now } => Call::Cancel { now },
+            Line::Take { most } => Call::Take { most },
+            Line::Deleted { file } => Call::Deleted { file },
+            Line::Undeleted { file } => Call::Undeleted { file },
+            Line::Show { id } => Call::Show { id },
+            Line::Count { file } => Call::Count { file },
+            Line::All {
+                now,
+                id,
+                threads,
+                first,
+            } => {
+                return Ok(Meaning::All {
+                    now,
+                    id,
+                    threads,
+                    first,
+                });
+            }
+        };
+        Ok(Meaning::Call(call))
+    }
+}
+
+/// The shape of these parallelisms, or `None` where there is none.
+#[inline(never)]
+fn new_shape(alloc: Global, parallelisms: &Numbers) -> Result<Option<Shape>, ShapeFault>
+    ensures refused { (result ≡ Err ShapeFault.BadShape) ↔ (is_new_shape parallelisms.now ≡ false) }
+    ensures value { IfOk result (λ shape. shape ≡ new_shape parallelisms.now) }
+    ensures memory { result ≡ Err ShapeFault.Memory → parallelisms.now ≢ [] }
+{
+    if parallelisms.is_empty() {
+        return Ok(None);
+    }
+    Ok(Some(Shape::new(alloc, parallelisms.as_slice())?))
+}

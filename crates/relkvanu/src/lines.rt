@@ -1,0 +1,82 @@
+//! Lines of a script through C: what a line says, its call, and a call's line.
+
+ghost use Rattle.std.specs.Prelude.{◌≡◌, ◌≢◌, true, Some, IsOk, length};
+ghost use Rattle.ckpt_core.specs.Coordinator.{State};
+ghost use Rattle.ckpt_lines.specs.Reading.{may_want_memory, reading};
+ghost use Rattle.ckpt_embed.specs.Buffers.{StandsInFront};
+ghost use Rattle.ckpt_embed.specs.Calls.{HasNoNumbers, StaysAsItWas, StaysClosed};
+ghost use Rattle.ckpt_embed.specs.Lines.{BringsLineFiles, IsLineAnswered, LineWantsMemory, says_numbers, says_told};
+ghost use Rattle.ckpt_embed.specs.Opening.{bad_opening, opening_of};
+ghost use Rattle.ckpt_embed.specs.Told.{no_memory};
+ghost use Rattle.ckpt_embed.specs.Writing.{OpeningReadsBack, ReadsBack, call_line_text, call_line_told, given, opening_text, opening_told};
+
+use ckpt_embed::{Answer, CallFields, Handle, Settings};
+use std::alloc::Global;
+
+/// Makes the call that a line of a script says.
+#[unsafe(no_mangle)]
+pub extern "C" fn relkvanu_line(
+    alloc: Global,
+    handle: &mut Handle,
+    line: &[u8],
+    files: &mut [u64],
+) -> Answer
+    ensures closed { StaysClosed handle.old.value handle.new.value result }
+    ensures answered { IsLineAnswered handle.old.value handle.new.value line.now (length files.old) result }
+    ensures front { (m : State) → handle.old.value ≡ Some m → BringsLineFiles m line.now files.old files.new result }
+    ensures kept { result.code ≢ 0 → files.new ≡ files.old }
+    ensures memory { LineWantsMemory handle.old.value line.now result }
+    ensures numbers { HasNoNumbers result }
+    ensures unchanged { StaysAsItWas handle.old.value handle.new.value result }
+{
+    ckpt_embed::line(alloc, handle, line, files)
+}
+
+/// Tells which line of a script it is, and the numbers of one that makes no call.
+#[unsafe(no_mangle)]
+pub extern "C" fn relkvanu_line_says(alloc: Global, line: &[u8], numbers: &mut [u64]) -> Answer
+    ensures told { result.code ≢ no_memory → result ≡ says_told (reading line.now) (length numbers.old) }
+    ensures front { result.code ≡ 0 → StandsInFront (says_numbers (reading line.now)) numbers.old numbers.new }
+    ensures kept { result.code ≢ 0 → numbers.new ≡ numbers.old }
+    ensures memory { result.code ≡ no_memory → may_want_memory line.now ≡ true }
+    ensures numbers { HasNoNumbers result }
+{
+    ckpt_embed::line_says(alloc, line, numbers)
+}
+
+/// Writes the line of a call.
+#[unsafe(no_mangle)]
+pub extern "C" fn relkvanu_call_line(
+    alloc: Global,
+    call: &CallFields,
+    first: &[u64],
+    second: &[u64],
+    line: &mut [u8],
+) -> Answer
+    ensures told { result.code ≢ no_memory → result ≡ call_line_told (given call.entry.now first.now second.now) (length line.old) }
+    ensures front { result.code ≡ 0 → StandsInFront (call_line_text (given call.entry.now first.now second.now)) line.old line.new }
+    ensures read { ReadsBack (given call.entry.now first.now second.now) line.new result }
+    ensures kept { result.code ≢ 0 → line.new ≡ line.old }
+    ensures memory { result.code ≡ no_memory → IsOk (given call.entry.now first.now second.now) }
+    ensures numbers { HasNoNumbers result }
+{
+    ckpt_embed::call_line(alloc, call, first, second, line)
+}
+
+/// Writes the lines of an opening.
+#[unsafe(no_mangle)]
+pub extern "C" fn relkvanu_opening_lines(
+    alloc: Global,
+    settings: &Settings,
+    shape: &[u64],
+    now: u64,
+    lines: &mut [u8],
+) -> Answer
+    ensures told { result.code ≢ no_memory → result ≡ opening_told (bad_opening (opening_of settings.now shape.now now 1)) (opening_text (opening_of settings.now shape.now now 1)) (length lines.old) }
+    ensures front { result.code ≡ 0 → StandsInFront (opening_text (opening_of settings.now shape.now now 1)) lines.old lines.new }
+    ensures read { OpeningReadsBack (opening_of settings.now shape.now now 1) result }
+    ensures kept { result.code ≢ 0 → lines.new ≡ lines.old }
+    ensures numbers { HasNoNumbers result }
+{
+    ckpt_embed::opening_lines(alloc, settings, shape, now, lines)
+}

@@ -1,0 +1,131 @@
+/* hostile MEETING OTHERS: each file has the same count of file numbers, one a line; those of MEETING were chosen against maps that hash
+ * under two words that are 0 (tests/meeting.c). A job whose tasks name them is run with each. Under random words the chosen
+ * numbers cost at most five times what the others cost; under words that are 0 they cost at least ten times as much, so the
+ * first comparison can fail. The cost is the processor time, the best of three runs. */
+#define _GNU_SOURCE
+#include "../../include/relkvanu.h"
+
+#include <inttypes.h>
+#include <stdio.h>
+#include <stdlib.h>
+#include <string.h>
+#include <time.h>
+#include <unistd.h>
+
+enum { MOST_FILES = 1 << 17, OF_ONE_ACKNOWLEDGEMENT = 4000, AT_ONCE = 4096 };
+
+struct numbers {
+    uint64_t items[MOST_FILES];
+    size_t len;
+};
+
+static void fail(const char *what) {
+    fprintf(stderr, "hostile: %s\n", what);
+    exit(2);
+}
+
+/* The answer's first number, where the call was made and answers this. */
+static uint64_t made(relkvanu_answer answer, uint32_t what) {
+    if (answer.code != RELKVANU_DONE || answer.what != what) {
+        fprintf(stderr, "hostile: code %" PRIu32 ", what %" PRIu32 " in place of what %" PRIu32 "\n", answer.code, answer.what, what);
+        exit(2);
+    }
+    return answer.a;
+}
+
+static void read_numbers(const char *path, struct numbers *numbers) {
+    FILE *from = fopen(path, "r");
+    if (from == NULL) {
+        perror(path);
+        exit(2);
+    }
+    numbers->len = 0;
+    while (numbers->len < MOST_FILES && fscanf(from, "%" SCNu64, &numbers->items[numbers->len]) == 1) {
+        numbers->len++;
+    }
+    fclose(from);
+}
+
+/* Each subtask acknowledges the record with the next numbers, or with none. The last one completes it. */
+static void complete(relkvanu *job, uint64_t now, uint64_t id, uint16_t tasks, const struct numbers *files) {
+    for (uint16_t task = 0; task < tasks; task++) {
+        size_t first = (size_t)task * OF_ONE_ACKNOWLEDGEMENT, left = files == NULL ? 0 : files->len - first;
+        size_t len = left < OF_ONE_ACKNOWLEDGEMENT ? left : OF_ONE_ACKNOWLEDGEMENT;
+        const uint64_t *fresh = files == NULL ? NULL : files->items + first;
+        relkvanu_answer answer = relkvanu_ack(job, now, id, 0, task, fresh, len, NULL, 0);
+        made(answer, task + 1 == tasks ? RELKVANU_ACK_COMPLETED : RELKVANU_ACK_PENDING);
+    }
+}
+
+/* Fetches all files, and reports each as deleted, or as not deleted. */
+static uint64_t report_all(relkvanu *job, relkvanu_answer (*report)(relkvanu *, uint64_t), uint32_t what) {
+    static uint64_t files[AT_ONCE];
+    uint64_t waiting = relkvanu_file_counts(job).waiting, told = 0;
+    while (told < waiting) {
+        size_t most = waiting - told < AT_ONCE ? (size_t)(waiting - told) : AT_ONCE;
+        uint64_t fetched = made(relkvanu_take(job, files, most), RELKVANU_TAKEN);
+        for (uint64_t place = 0; place < fetched; place++) {
+            made(report(job, files[place]), what);
+        }
+        told += fetched;
+    }
+    return told;
+}
+
+/* A job in which all files are named, counted, dropped with their record, fetched, given back, fetched and deleted. */
+static void run(const struct numbers *files, const uint64_t words[2]) {
+    relkvanu job = {NULL};
+    relkvanu_settings settings = {1000, 0, 1, 1000000, 0, 1, false};
+    uint64_t shape[] = {(files->len + OF_ONE_ACKNOWLEDGEMENT - 1) / OF_ONE_ACKNOWLEDGEMENT};
+    made(relkvanu_open(&job, &settings, shape, 1, 0, 1, words[0], words[1]), RELKVANU_OPENED);
+    made(relkvanu_tick(&job, 1000), RELKVANU_TICK_TRIGGERED);
+    complete(&job, 1001, 1, (uint16_t)shape[0], files);
+    for (size_t place = 0; place < files->len; place++) {
+        made(relkvanu_count(&job, files->items[place]), RELKVANU_COUNTED);
+    }
+    made(relkvanu_tick(&job, 2000), RELKVANU_TICK_TRIGGERED);
+    complete(&job, 2001, 2, (uint16_t)shape[0], NULL);
+    if (report_all(&job, relkvanu_undeleted, RELKVANU_UNDELETED) != files->len) {
+        fail("not each file was fetched");
+    }
+    if (report_all(&job, relkvanu_deleted, RELKVANU_DELETED) != files->len) {
+        fail("not each file was deleted");
+    }
+    relkvanu_counts counts = relkvanu_file_counts(&job);
+    if (counts.in_use != 0 || counts.waiting != 0 || counts.taken != 0) {
+        fail("a file is left");
+    }
+    relkvanu_close(&job);
+}
+
+/* The least processor time of so many runs, in seconds. */
+static double cost(const struct numbers *files, const uint64_t words[2], int runs) {
+    double best = 0;
+    for (int turn = 0; turn < runs; turn++) {
+        clock_t before = clock();
+        run(files, words);
+        double used = (double)(clock() - before) / CLOCKS_PER_SEC;
+        best = turn == 0 || used < best ? used : best;
+    }
+    return best;
+}
+
+int main(int count, char **paths) {
+    static struct numbers chosen, others;
+    if (count != 3) {
+        fail("two files of numbers are wanted");
+    }
+    read_numbers(paths[1], &chosen);
+    read_numbers(paths[2], &others);
+    if (chosen.len == 0 || chosen.len != others.len) {
+        fail("the two files have not as many numbers");
+    }
+    uint64_t secret[2], zeros[2] = {0, 0};
+    if (getentropy(secret, sizeof secret) != 0) {
+        fail("no random words");
+    }
+    double plain = cost(&others, secret, 3), hidden = cost(&chosen, secret, 3), known = cost(&chosen, zeros, 1);
+    printf("hostile: %zu files, seconds: %.3f of others, %.3f of numbers that meet, %.3f under words that are 0\n", chosen.len, plain, hidden, known);
+    bool is_fast = hidden <= 5 * plain, is_slow = known >= 10 * plain;
+    return is_fast && is_slow ? 0 : 1;
+}
