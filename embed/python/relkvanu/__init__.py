@@ -3,7 +3,8 @@
 librelkvanu.so.0 is looked for in the folder that RELKVANU_LIB names, else beside this file, where an installation puts it, else
 where the system's loader looks. docs/RULES.md says what each call does, and when it is refused.
 """
-from relkvanu.coordinator import BadArgument, Closed, Coordinator, OutOfMemory, Refused, Settings, version
+from relkvanu import lines
+from relkvanu.coordinator import BadArgument, BadLine, Closed, Coordinator, OutOfMemory, Refused, Settings, version
 from relkvanu.discarder import Discarded, Discarder, Patience
 from relkvanu.reads import Chosen, FileCounts, Kind, Live, Mode
 from relkvanu.replies import (
@@ -13,9 +14,9 @@ from relkvanu.replies import (
 )
 
 __all__ = [
-    "AckCompleted", "AckLate", "AckPending", "BadArgument", "Cancelled", "Chosen", "Closed", "Coordinator", "Counted",
+    "AckCompleted", "AckLate", "AckPending", "BadArgument", "BadLine", "Cancelled", "Chosen", "Closed", "Coordinator", "Counted",
     "DeclineAborted", "DeclineFailed", "DeclineLate", "Deleted", "Discarded", "Discarder", "Disposed", "Failed", "FileCounts", "HeldAtOnce",
     "HeldInterval", "HeldPause", "Kind", "Live", "Mode", "OutOfMemory", "Patience", "Refused", "Reply", "RestoredCheckpoint",
     "RestoredFresh", "RestoredSavepoint", "SavepointTriggered", "Settings", "Shown", "Taken", "Triggered", "Undeleted",
-    "version",
+    "lines", "version",
 ]

@@ -14,6 +14,14 @@ from relkvanu.replies import MADE, HeldAtOnce, Reply, Shown, Taken
 
 LIBRARY = "librelkvanu.so.0"
 U64 = ctypes.c_uint64
+FAULTS = {
+    header.FAULT_TOO_LONG: "TooLong",
+    header.FAULT_WORD: "Word",
+    header.FAULT_MISSING: "Missing",
+    header.FAULT_NUMBER: "Number",
+    header.FAULT_EXTRA: "Extra",
+    header.FAULT_NO_CALL: "NoCall",
+}
 ARGUMENTS = {
     header.ALREADY_OPEN: "AlreadyOpen",
     header.BAD_CONFIG: "BadConfig",
@@ -35,6 +43,15 @@ class Refused(Exception):
 
 class BadArgument(ValueError):
     """A value is outside its limits, and nothing has changed: `name` says which, as "BadShape"."""
+
+    def __init__(self, name: str) -> None:
+        super().__init__(name)
+        self.name = name
+
+
+class BadLine(ValueError):
+    """A line of a script can't be read, or a call has none that is short enough; nothing has changed. `name` is the fault, as
+    "Missing"; "NoCall" where the line was read and makes no call."""
 
     def __init__(self, name: str) -> None:
         super().__init__(name)
@@ -105,6 +122,11 @@ def _words(values: Sequence[int]) -> Any:
     return (U64 * max(len(values), 1))(*map(_u64, values))
 
 
+def _settings(settings: Settings) -> header.relkvanu_settings:
+    values = settings.interval, settings.pause, settings.at_once, settings.timeout, settings.tolerable, settings.retained
+    return header.relkvanu_settings(*map(_u64, values), settings.keep_on_cancel)
+
+
 def _name(refusal: int) -> str:
     text = (ctypes.c_uint8 * 32)()
     length = _shared().relkvanu_refusal_text(refusal, text, len(text))
@@ -120,6 +142,8 @@ def _done(answer: header.relkvanu_answer) -> header.relkvanu_answer:
         raise OutOfMemory
     if answer.code == header.CLOSED:
         raise Closed
+    if answer.code == header.BAD_LINE:
+        raise BadLine(FAULTS[answer.what])
     raise BadArgument(ARGUMENTS[answer.what])
 
 
@@ -144,9 +168,7 @@ class Coordinator:
         self._lock = threading.Condition(threading.RLock())
         self._calls = 0
         self._handle = header.relkvanu(None)
-        values = header.relkvanu_settings(*map(_u64, (
-            settings.interval, settings.pause, settings.at_once, settings.timeout, settings.tolerable, settings.retained,
-        )), settings.keep_on_cancel)
+        values = _settings(settings)
         keys = secrets.randbits(64), secrets.randbits(64)
         _done(self._call("open", ctypes.byref(values), _words(shape), len(shape), _u64(now), _u64(first), *keys))
 
@@ -253,6 +275,25 @@ class Coordinator:
 
     def count(self, file: int) -> Reply:
         return self._replied("count", _u64(file))
+
+    def line(self, line: bytes, most: int = 4096) -> Optional[Reply]:
+        """Makes the call that a line of a script says (docs/SCRIPT.md): the bytes before its newline. None where it has no words or
+        is a comment. Raises BadLine where it can't be read or makes no call, and as the call does. A take line fetches at most
+        `most` files; where it would fetch more, that is a ValueError, and nothing has changed."""
+        files = (U64 * max(_u64(most), 1))()
+        text = (ctypes.c_uint8 * max(len(line), 1)).from_buffer_copy(line or b" ")
+        with self._lock:
+            self._calls += 1
+            self._lock.notify_all()
+            answer = self._call("line", text, len(line), files, most)
+            if answer.code == header.TOO_SHORT:
+                words = line.split()
+                if words[0] == b"show":  # the library has read it, so the other word is the record's number
+                    return self.show(int(words[1].lstrip(b"0") or b"0"))
+                raise ValueError(f"the line would fetch {answer.a} files")
+        if _done(answer).what == header.SKIPPED:
+            return None
+        return Taken(tuple(files[: answer.a])) if answer.what == header.TAKEN else MADE[answer.what](answer.a, answer.b)
 
     # Reads: none takes memory or changes anything. Each raises Closed after close(), and nothing else.
 

@@ -12,6 +12,7 @@ NO_MEMORY = 2
 CLOSED = 3
 BAD_ARGUMENT = 4
 TOO_SHORT = 5
+BAD_LINE = 6
 OPENED = 0
 TICK_TRIGGERED = 1
 TICK_HELD_INTERVAL = 2
@@ -49,6 +50,14 @@ LIVE_SAVEPOINT = 33
 LIVE_NONE = 34
 MISSING = 35
 NOT_PENDING = 36
+SKIPPED = 37
+LINE_SKIP = 38
+LINE_CONFIG = 39
+LINE_JOB = 40
+LINE_START = 41
+LINE_CALL = 42
+LINE_ALL = 43
+WRITTEN = 44
 MOMENT_TOO_LARGE = 1
 NOT_RUNNING = 2
 TOO_MANY_FILES = 3
@@ -69,6 +78,25 @@ BAD_CONFIG = 2
 BAD_SHAPE = 3
 BAD_MOMENT = 4
 BAD_FIRST = 5
+BAD_KIND = 6
+FAULT_TOO_LONG = 1
+FAULT_WORD = 2
+FAULT_MISSING = 3
+FAULT_NUMBER = 4
+FAULT_EXTRA = 5
+FAULT_NO_CALL = 6
+CALL_TICK = 1
+CALL_SAVEPOINT = 2
+CALL_ACK = 3
+CALL_DECLINE = 4
+CALL_DISPOSE = 5
+CALL_RESTORE = 6
+CALL_CANCEL = 7
+CALL_TAKE = 8
+CALL_DELETED = 9
+CALL_UNDELETED = 10
+CALL_SHOW = 11
+CALL_COUNT = 12
 
 
 class relkvanu(Structure):
@@ -107,6 +135,16 @@ class relkvanu_counts(Structure):
     ]
 
 
+class relkvanu_call(Structure):
+    _fields_ = [
+        ("kind", c_uint32),
+        ("vertex", c_uint16),
+        ("index", c_uint16),
+        ("now", c_uint64),
+        ("number", c_uint64),
+    ]
+
+
 # Of each function, its result and its parameters.
 FUNCTIONS: Dict[str, Tuple[Any, List[Any]]] = {
     "relkvanu_version": (c_char_p, []),
@@ -132,4 +170,8 @@ FUNCTIONS: Dict[str, Tuple[Any, List[Any]]] = {
     "relkvanu_missing": (relkvanu_answer, [POINTER(relkvanu), c_uint64]),
     "relkvanu_file_counts": (relkvanu_counts, [POINTER(relkvanu)]),
     "relkvanu_refusal_text": (c_size_t, [c_uint32, POINTER(c_uint8), c_size_t]),
+    "relkvanu_line": (relkvanu_answer, [POINTER(relkvanu), POINTER(c_uint8), c_size_t, POINTER(c_uint64), c_size_t]),
+    "relkvanu_line_says": (relkvanu_answer, [POINTER(c_uint8), c_size_t, POINTER(c_uint64), c_size_t]),
+    "relkvanu_call_line": (relkvanu_answer, [POINTER(relkvanu_call), POINTER(c_uint64), c_size_t, POINTER(c_uint64), c_size_t, POINTER(c_uint8), c_size_t]),
+    "relkvanu_opening_lines": (relkvanu_answer, [POINTER(relkvanu_settings), POINTER(c_uint64), c_size_t, c_uint64, POINTER(c_uint8), c_size_t]),
 }

@@ -1,14 +1,15 @@
 """The rows of examples/rows that are lists of calls, through the package.
 
-A row's script is read as docs/SCRIPT.md says; its calls are answered as the lines of its output say.
+The library reads the lines of a row's script; they print what the row's output says.
 """
+import contextlib
 import pathlib
 import unittest
 
 from relkvanu import (
-    AckCompleted, AckLate, AckPending, BadArgument, Cancelled, Coordinator, Counted, DeclineAborted, DeclineFailed,
+    AckCompleted, AckLate, AckPending, BadArgument, BadLine, Cancelled, Coordinator, Counted, DeclineAborted, DeclineFailed,
     DeclineLate, Deleted, Disposed, Failed, HeldAtOnce, HeldInterval, HeldPause, Refused, RestoredCheckpoint,
-    RestoredFresh, RestoredSavepoint, SavepointTriggered, Settings, Shown, Taken, Triggered, Undeleted,
+    RestoredFresh, RestoredSavepoint, SavepointTriggered, Settings, Shown, Taken, Triggered, Undeleted, lines,
 )
 
 ROWS = pathlib.Path(__file__).resolve().parents[3] / "examples/rows"
@@ -38,74 +39,83 @@ TEXTS = {
 }
 
 
-def lines_of(path):
-    """The lines that the script reads as calls: without those whose fault its output tells, and its comments."""
-    told = path.with_suffix(".out").read_text().splitlines()
-    faults = {int(line.split()[1]) for line in told if line.startswith("line ")}
-    lines = path.read_bytes().decode(errors="replace").split("\n")
-    lines = [line.rstrip("\r").split() for number, line in enumerate(lines, 1) if number not in faults]
-    wanted = [line for line in told if not line.startswith("line ")]
-    return [words for words in lines if words and not words[0].startswith("#")], wanted
+def opened(rows):
+    """Opens the job as the config, job and start lines of a row say; None where it has not one of each, then calls alone."""
+    says = []
+    for line in rows:
+        with contextlib.suppress(BadLine):
+            says.append(lines.line_says(line))
+    says = [line for line in says if line != lines.Skip()]
+    kinds = [type(line) for line in says]
+    if {*kinds[:2]} != {Settings, lines.Job} or kinds[2:3] != [lines.Start] or {*kinds[3:]} - {lines.Call}:
+        return None
+    settings, job = (says[0], says[1]) if kinds[0] == Settings else (says[1], says[0])
+    return Coordinator(settings, job.shape, says[2].now)
 
 
-def is_list_of_calls(lines):
-    """Whether there is one opening, and then calls alone, and no `all` line."""
-    firsts = [words[0] for words in lines]
-    return sorted(firsts[:2]) == ["config", "job"] and firsts[2:3] == ["start"] and not (
-        {"config", "job", "start", "all"} & set(firsts[3:])
-    )
-
-
-def number(word):
-    """A number of any length: Python reads no more than 4300 digits."""
-    return int(word.lstrip("0") or "0")
-
-
-def opened(lines):
-    words = {line[0]: line[1:] for line in lines}
-    *values, kept = words["config"]
-    settings = Settings(*map(number, values), keep_on_cancel=kept == "keep")
-    return Coordinator(settings, list(map(number, words["job"])), number(words["start"][0]))
-
-
-def files(words, sign):
-    return [number(word[1:]) for word in words if word[0] == sign]
-
-
-def called(job, name, words):
-    if name == "ack":
-        vertex, index = map(number, words[2].split("."))
-        return job.ack(number(words[0]), number(words[1]), vertex, index, files(words[3:], "+"), files(words[3:], "="))
-    if name == "decline":
-        return job.decline(number(words[0]), number(words[1]), *map(number, words[2].split(".")))
-    if name == "restore":
-        savepoint = None if words[1] == "latest" else number(words[1])
-        return job.restore(number(words[0]), savepoint, list(map(number, words[2:])) or None)
-    if name == "take":
-        return job.take(min(number(words[0]), 1 << 16))
-    return getattr(job, name)(number(words[0]))
-
-
-def text_of(job, name, words):
+def told(job, number, line):
+    """What a line prints: nothing, or a line."""
     try:
-        reply = called(job, name, words)
+        reply = job.line(line)
+    except BadLine as fault:
+        return [] if fault.name == "NoCall" else [f"line {number} fault {fault}"]
     except (Refused, BadArgument) as fault:
-        return f"refused {fault}"
+        return [f"refused {fault}"]
+    if reply is None:
+        return []
     if isinstance(reply, Taken):
-        return " ".join(["take", *map(str, reply.files or ["none"])])
-    return TEXTS[type(reply)].format(reply)
+        return [" ".join(["take", *map(str, reply.files or ["none"])])]
+    return [TEXTS[type(reply)].format(reply)]
 
 
 class Rows(unittest.TestCase):
     def test_rows(self):
         run = 0
         for path in sorted(ROWS.glob("*.in")):
-            lines, wanted = lines_of(path)
-            if is_list_of_calls(lines):
-                with self.subTest(path.stem), opened(lines) as job:
-                    self.assertEqual([text_of(job, name, words) for name, *words in lines[3:]], wanted)
+            rows = path.read_bytes().removesuffix(b"\n").split(b"\n")
+            job = opened(rows)
+            if job is not None:
+                with self.subTest(path.stem), job:
+                    output = [text for number, line in enumerate(rows, 1) for text in told(job, number, line)]
+                    self.assertEqual(output, path.with_suffix(".out").read_text().splitlines())
                 run += 1
         self.assertGreaterEqual(run, 25)
+
+
+class Lines(unittest.TestCase):
+    def test_a_call_is_written_as_its_line(self):
+        self.assertEqual(lines.ack_line(5, 1, 1, 2, [12, 11], [7]), "ack 5 1 1.2 +11 +12 =7")
+        self.assertEqual(lines.tick_line(5), "tick 5")
+        self.assertEqual(lines.savepoint_line(5), "savepoint 5")
+        self.assertEqual(lines.decline_line(5, 1, 0, 3), "decline 5 1 0.3")
+        self.assertEqual(lines.restore_line(5, None, [1, 2]), "restore 5 latest 1 2")
+        self.assertEqual(lines.restore_line(5, 3), "restore 5 3")
+        self.assertEqual((lines.dispose_line(3), lines.cancel_line(5), lines.take_line(9)), ("dispose 3", "cancel 5", "take 9"))
+        self.assertEqual((lines.deleted_line(7), lines.undeleted_line(7)), ("deleted 7", "undeleted 7"))
+        with self.assertRaises(BadLine) as raised:
+            lines.ack_line(5, 1, 0, 0, [(1 << 64) - 1 - place for place in range(9000)])
+        self.assertEqual(raised.exception.name, "TooLong")
+        self.assertRaises(OverflowError, lines.tick_line, 1 << 64)
+        self.assertRaises(BadArgument, lines.restore_line, 5, None, [0])
+
+    def test_a_log_is_made_again(self):
+        settings = Settings(interval=1000, timeout=5000, keep_on_cancel=True)
+        text = lines.opening_lines(settings, [1, 2], 7)
+        self.assertEqual(text, "config 1000 0 1 5000 0 1 keep\njob 1 2\nstart 7\n")
+        says = [lines.line_says(line) for line in text.encode().splitlines()]
+        self.assertEqual(says, [settings, lines.Job((1, 2)), lines.Start(7)])
+        with Coordinator(settings, [1, 2], 7) as job:
+            self.assertEqual(job.line(b"tick 2000"), Triggered(0, 1))
+            self.assertEqual(job.line(b"ack 2000 1 0.0 +1 +2\r"), AckPending(2))
+            self.assertEqual(job.line(b"cancel 2000"), Cancelled(1, 2))
+            self.assertRaises(ValueError, job.line, b"take 9", 1)
+            self.assertEqual(job.line(b"take 9", 2), Taken((1, 2)))
+            self.assertIsNone(job.line(b"# a comment"))
+            self.assertIsNone(job.line(b""))
+            for line, name in ((b"tick", "Missing"), (b"start 7", "NoCall"), (b"tick 1 2", "Extra"), (b"tick" + b" " * (1 << 17), "TooLong")):
+                with self.assertRaises(BadLine) as raised:
+                    job.line(line)
+                self.assertEqual(raised.exception.name, name)
 
 
 if __name__ == "__main__":

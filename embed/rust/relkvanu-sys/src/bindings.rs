@@ -9,14 +9,16 @@ pub const RELKVANU_VERSION: &str = "0.1.0";
 pub const RELKVANU_DONE: u32 = 0;
 /// nothing has changed: what is a refusal
 pub const RELKVANU_REFUSED: u32 = 1;
-/// nothing has changed: make the same call again later
+/// nothing has changed, what, a and b are 0: make the same call again later
 pub const RELKVANU_NO_MEMORY: u32 = 2;
-/// the handle has no coordinator
+/// the handle has no coordinator; what, a and b are 0
 pub const RELKVANU_CLOSED: u32 = 3;
 /// nothing has changed: what is an argument
 pub const RELKVANU_BAD_ARGUMENT: u32 = 4;
-/// nothing has changed: the buffer has to have a bytes
+/// nothing has changed: the buffer has to have a places; what and b are 0
 pub const RELKVANU_TOO_SHORT: u32 = 5;
+/// nothing has changed: what is a fault of a line
+pub const RELKVANU_BAD_LINE: u32 = 6;
 pub const RELKVANU_OPENED: u32 = 0;
 /// a: expired records, b: number
 pub const RELKVANU_TICK_TRIGGERED: u32 = 1;
@@ -34,7 +36,7 @@ pub const RELKVANU_SAVEPOINT_TRIGGERED: u32 = 6;
 pub const RELKVANU_ACK_PENDING: u32 = 7;
 /// a: records dropped, b: files released
 pub const RELKVANU_ACK_COMPLETED: u32 = 8;
-/// a: files that wait for deletion now
+/// a: fresh files that this call handed out for deletion
 pub const RELKVANU_ACK_LATE: u32 = 9;
 /// a: files released
 pub const RELKVANU_DECLINE_ABORTED: u32 = 10;
@@ -85,6 +87,22 @@ pub const RELKVANU_LIVE_NONE: u32 = 34;
 /// a: subtasks
 pub const RELKVANU_MISSING: u32 = 35;
 pub const RELKVANU_NOT_PENDING: u32 = 36;
+/// the line makes no call, since it has no words or is a comment
+pub const RELKVANU_SKIPPED: u32 = 37;
+/// a: 0
+pub const RELKVANU_LINE_SKIP: u32 = 38;
+/// a: 7, the numbers at the buffer's front: those of relkvanu_settings, in its order
+pub const RELKVANU_LINE_CONFIG: u32 = 39;
+/// a: the numbers at the buffer's front: the parallelism of each vertex
+pub const RELKVANU_LINE_JOB: u32 = 40;
+/// a: 1, the number at the buffer's front: the moment
+pub const RELKVANU_LINE_START: u32 = 41;
+/// a: 0
+pub const RELKVANU_LINE_CALL: u32 = 42;
+/// a: 4, the numbers at the buffer's front: moment, record, threads, first file
+pub const RELKVANU_LINE_ALL: u32 = 43;
+/// a: bytes at the buffer's front
+pub const RELKVANU_WRITTEN: u32 = 44;
 pub const RELKVANU_MOMENT_TOO_LARGE: u32 = 1;
 pub const RELKVANU_NOT_RUNNING: u32 = 2;
 pub const RELKVANU_TOO_MANY_FILES: u32 = 3;
@@ -107,6 +125,31 @@ pub const RELKVANU_BAD_CONFIG: u32 = 2;
 pub const RELKVANU_BAD_SHAPE: u32 = 3;
 pub const RELKVANU_BAD_MOMENT: u32 = 4;
 pub const RELKVANU_BAD_FIRST: u32 = 5;
+pub const RELKVANU_BAD_KIND: u32 = 6;
+/// a line has at most 131072 bytes
+pub const RELKVANU_FAULT_TOO_LONG: u32 = 1;
+/// a word that does not belong there
+pub const RELKVANU_FAULT_WORD: u32 = 2;
+/// the line ends before a place that it needs
+pub const RELKVANU_FAULT_MISSING: u32 = 3;
+/// not a number, or not a subtask
+pub const RELKVANU_FAULT_NUMBER: u32 = 4;
+/// a word follows the last place
+pub const RELKVANU_FAULT_EXTRA: u32 = 5;
+/// a config, job, start or all line: it was read, and makes no call
+pub const RELKVANU_FAULT_NO_CALL: u32 = 6;
+pub const RELKVANU_CALL_TICK: u32 = 1;
+pub const RELKVANU_CALL_SAVEPOINT: u32 = 2;
+pub const RELKVANU_CALL_ACK: u32 = 3;
+pub const RELKVANU_CALL_DECLINE: u32 = 4;
+pub const RELKVANU_CALL_DISPOSE: u32 = 5;
+pub const RELKVANU_CALL_RESTORE: u32 = 6;
+pub const RELKVANU_CALL_CANCEL: u32 = 7;
+pub const RELKVANU_CALL_TAKE: u32 = 8;
+pub const RELKVANU_CALL_DELETED: u32 = 9;
+pub const RELKVANU_CALL_UNDELETED: u32 = 10;
+pub const RELKVANU_CALL_SHOW: u32 = 11;
+pub const RELKVANU_CALL_COUNT: u32 = 12;
 
 #[repr(C)]
 #[derive(Clone, Copy, Debug)]
@@ -144,11 +187,21 @@ pub struct relkvanu_counts {
     pub taken: u64,
 }
 
+#[repr(C)]
+#[derive(Clone, Copy, Debug)]
+pub struct relkvanu_call {
+    pub kind: u32,
+    pub vertex: u16,
+    pub index: u16,
+    pub now: u64,
+    pub number: u64,
+}
+
 extern "C" {
     /// The version of the library that is linked, as RELKVANU_VERSION.
     pub fn relkvanu_version() -> *const c_char;
 
-    /// Gives a closed handle a coordinator, from the moment now on, whose first record has the number first, 1 to 2^62 - 1. The shape is the parallelism of each vertex: 1 to 256, at least 1 each, at most 4096 in sum. The two words come from a source of random numbers: they key the maps of files, so that no choice of file numbers makes calls slow. They change no answer.
+    /// Gives a closed handle a coordinator, from the moment now on, whose first record has the number first, 1 to 2^62 - 1. The shape is the parallelism of each vertex: 1 to 256, at least 1 each, at most 4096 in sum. The two words come from a source of random numbers: they key the maps of files, so that no choice of file numbers makes calls slow. They change no answer. RELKVANU_OPENED; or RELKVANU_BAD_ARGUMENT, and the handle stays as it was: RELKVANU_ALREADY_OPEN, RELKVANU_BAD_CONFIG, RELKVANU_BAD_SHAPE, RELKVANU_BAD_MOMENT, RELKVANU_BAD_FIRST, tested in this order. Takes memory: after RELKVANU_NO_MEMORY the handle is closed, as before.
     pub fn relkvanu_open(
         handle: *mut relkvanu,
         settings: *const relkvanu_settings,
@@ -163,11 +216,13 @@ extern "C" {
     /// Lets the coordinator go, and frees its memory. A closed handle stays closed.
     pub fn relkvanu_close(handle: *mut relkvanu);
 
+    /// Time has passed: records that are too old expire, and a checkpoint is triggered where one is due. RELKVANU_TICK_TRIGGERED to RELKVANU_TICK_FAILED. Refused: RELKVANU_MOMENT_TOO_LARGE, RELKVANU_NOT_RUNNING, RELKVANU_IDS_USED_UP. Takes memory only where it triggers.
     pub fn relkvanu_tick(handle: *mut relkvanu, now: u64) -> relkvanu_answer;
 
+    /// Triggers a savepoint, of which at most 1000 are pending or done. RELKVANU_SAVEPOINT_TRIGGERED. Refused: RELKVANU_MOMENT_TOO_LARGE, RELKVANU_NOT_RUNNING, RELKVANU_TOO_MANY_SAVEPOINTS, RELKVANU_IDS_USED_UP. Takes memory.
     pub fn relkvanu_savepoint(handle: *mut relkvanu, now: u64) -> relkvanu_answer;
 
-    /// The files may stand in any order. Where the call is refused, they still belong to the task.
+    /// The subtask vertex.index has taken its part of record id: fresh are the files that it wrote, reused those of an earlier record that it uses again, at most 4096 together. They may stand in any order. RELKVANU_ACK_PENDING, RELKVANU_ACK_COMPLETED or RELKVANU_ACK_LATE: the fresh files belong to the coordinator now. Refused: RELKVANU_MOMENT_TOO_LARGE, RELKVANU_TOO_MANY_FILES, RELKVANU_REPEATED_FILE, RELKVANU_UNKNOWN_CHECKPOINT, RELKVANU_UNKNOWN_SUBTASK, RELKVANU_ALREADY_ACKNOWLEDGED, RELKVANU_NAME_TAKEN, RELKVANU_FILE_GONE: then the task deletes none of the files that an accepted acknowledgement ever named. Takes memory for a copy of the two lists first, so it may answer RELKVANU_NO_MEMORY also where it would be refused.
     pub fn relkvanu_ack(
         handle: *mut relkvanu,
         now: u64,
@@ -180,6 +235,7 @@ extern "C" {
         reused_len: usize,
     ) -> relkvanu_answer;
 
+    /// The subtask vertex.index could not take its part of record id. RELKVANU_DECLINE_ABORTED, RELKVANU_DECLINE_FAILED (too many checkpoints failed in a row) or RELKVANU_DECLINE_LATE. Refused: RELKVANU_MOMENT_TOO_LARGE, RELKVANU_UNKNOWN_CHECKPOINT, RELKVANU_UNKNOWN_SUBTASK. Takes no memory.
     pub fn relkvanu_decline(
         handle: *mut relkvanu,
         now: u64,
@@ -188,9 +244,10 @@ extern "C" {
         index: u16,
     ) -> relkvanu_answer;
 
+    /// A user lets the completed savepoint id go. RELKVANU_DISPOSED. Refused: RELKVANU_NO_SUCH_SAVEPOINT, RELKVANU_IN_USE. Takes no memory.
     pub fn relkvanu_dispose(handle: *mut relkvanu, id: u64) -> relkvanu_answer;
 
-    /// From a savepoint, or the latest where savepoint is 0. In a new shape where shape_len is not 0.
+    /// The job begins again: from a savepoint, or from the latest where savepoint is 0; in a new shape where shape_len is not 0, with the limits of relkvanu_open, else in the shape that it has. RELKVANU_RESTORED_CHECKPOINT, RELKVANU_RESTORED_SAVEPOINT or RELKVANU_RESTORED_FRESH. RELKVANU_BAD_ARGUMENT with RELKVANU_BAD_SHAPE is tested first. Refused: RELKVANU_MOMENT_TOO_LARGE, RELKVANU_NOT_RUNNING (cancelled), RELKVANU_NO_SUCH_SAVEPOINT. Takes memory for a copy of the shape first, so it may answer RELKVANU_NO_MEMORY also where it would be refused; without a shape it takes none.
     pub fn relkvanu_restore(
         handle: *mut relkvanu,
         now: u64,
@@ -199,20 +256,23 @@ extern "C" {
         shape_len: usize,
     ) -> relkvanu_answer;
 
+    /// The job ends for good. RELKVANU_CANCELLED. Refused: RELKVANU_MOMENT_TOO_LARGE, RELKVANU_NOT_RUNNING (cancelled). Takes no memory.
     pub fn relkvanu_cancel(handle: *mut relkvanu, now: u64) -> relkvanu_answer;
 
-    /// Fetches at most files_len files that wait for deletion, and writes them to the front of files.
+    /// Fetches at most files_len files that wait for deletion, those that have waited longest, and writes them to the front of files. Each is to be reported, by relkvanu_deleted or relkvanu_undeleted. RELKVANU_TAKEN, where a is 0 if none waits. Never refused. Takes memory: after RELKVANU_NO_MEMORY the files still wait, and the buffer has not changed.
     pub fn relkvanu_take(
         handle: *mut relkvanu,
         files: *mut u64,
         files_len: usize,
     ) -> relkvanu_answer;
 
+    /// A fetched file is deleted: the coordinator forgets it. RELKVANU_DELETED. Refused: RELKVANU_NOT_TAKEN. Takes no memory.
     pub fn relkvanu_deleted(handle: *mut relkvanu, file: u64) -> relkvanu_answer;
 
+    /// A fetched file could not be deleted: it waits again, behind all others. RELKVANU_UNDELETED. Refused: RELKVANU_NOT_TAKEN. Takes no memory.
     pub fn relkvanu_undeleted(handle: *mut relkvanu, file: u64) -> relkvanu_answer;
 
-    /// Writes the metadata of a live record as JSON, without a zero at its end.
+    /// Writes the metadata of a live record as JSON, without a zero at its end. RELKVANU_SHOWN; RELKVANU_TOO_SHORT, where a is how many bytes it has: ask again with a buffer of that many. Refused: RELKVANU_NO_SUCH_RECORD. Takes memory, also where the buffer is too short. Only RELKVANU_SHOWN changes the buffer.
     pub fn relkvanu_show(
         handle: *mut relkvanu,
         id: u64,
@@ -220,6 +280,7 @@ extern "C" {
         json_len: usize,
     ) -> relkvanu_answer;
 
+    /// How many parts of live records use a file. RELKVANU_COUNTED. Never refused. Takes no memory.
     pub fn relkvanu_count(handle: *mut relkvanu, file: u64) -> relkvanu_answer;
 
     /// What the job is doing: RELKVANU_MODE_RUNNING and so on.
@@ -245,4 +306,42 @@ extern "C" {
 
     /// The name of the refusal with this number, as "NotRunning", without a zero at its end: its length, which is 0 where no refusal has the number. It is written where text_len is at least that.
     pub fn relkvanu_refusal_text(what: u32, text: *mut u8, text_len: usize) -> usize;
+
+    /// Makes the call that a line says, and answers as the function of that call does. A take line writes at most as many files as it says to the front of files; where files_len is below what it would fetch, the answer is RELKVANU_TOO_SHORT, where a is how many places it needs, and nothing has changed. A show line answers as relkvanu_show with an empty buffer. A restore line in a shape that no job has is RELKVANU_BAD_ARGUMENT with RELKVANU_BAD_SHAPE. RELKVANU_SKIPPED where the line has no words or is a comment; RELKVANU_BAD_LINE where it can't be read, or makes no call. Only RELKVANU_TAKEN changes the buffer. Takes memory as the call does, and for the lists of an ack, job or restore line, so that such a line may answer RELKVANU_NO_MEMORY also where the call would be refused.
+    pub fn relkvanu_line(
+        handle: *mut relkvanu,
+        line: *const u8,
+        line_len: usize,
+        files: *mut u64,
+        files_len: usize,
+    ) -> relkvanu_answer;
+
+    /// Tells which line it is, RELKVANU_LINE_SKIP to RELKVANU_LINE_ALL, and writes the numbers of a line that makes no call to the front of numbers, in the line's order; keep is 1 and delete is 0. No number is tested against the limits of a job. RELKVANU_TOO_SHORT, where a is how many places it needs; RELKVANU_BAD_LINE with the fault. Both leave the buffer. A restore line in a shape that no job has is RELKVANU_LINE_CALL: relkvanu_line says what is wrong with it. Takes memory for the lists of an ack, job or restore line alone.
+    pub fn relkvanu_line_says(
+        line: *const u8,
+        line_len: usize,
+        numbers: *mut u64,
+        numbers_len: usize,
+    ) -> relkvanu_answer;
+
+    /// Writes the line of a call, without a newline and without a zero at its end. What is written is read as that call. first and second are the fresh and the reused files of an ack, in any order; first is the new shape of a restore, or empty. RELKVANU_WRITTEN; RELKVANU_TOO_SHORT, where a is how many bytes it needs; RELKVANU_BAD_ARGUMENT with RELKVANU_BAD_KIND or RELKVANU_BAD_SHAPE; RELKVANU_BAD_LINE with RELKVANU_FAULT_TOO_LONG where no line may be as long: it is never cut. Only RELKVANU_WRITTEN changes the buffer. Takes memory.
+    pub fn relkvanu_call_line(
+        call: *const relkvanu_call,
+        first: *const u64,
+        first_len: usize,
+        second: *const u64,
+        second_len: usize,
+        line: *mut u8,
+        line_len: usize,
+    ) -> relkvanu_answer;
+
+    /// Writes the lines config, job and start of a coordinator that begins with the number 1, each with its newline. RELKVANU_WRITTEN; RELKVANU_TOO_SHORT, where a is how many bytes it needs; RELKVANU_BAD_ARGUMENT where relkvanu_open answers so, with the same argument: RELKVANU_BAD_CONFIG, RELKVANU_BAD_SHAPE or RELKVANU_BAD_MOMENT. Only RELKVANU_WRITTEN changes the buffer. Takes memory.
+    pub fn relkvanu_opening_lines(
+        settings: *const relkvanu_settings,
+        shape: *const u64,
+        shape_len: usize,
+        now: u64,
+        lines: *mut u8,
+        lines_len: usize,
+    ) -> relkvanu_answer;
 }

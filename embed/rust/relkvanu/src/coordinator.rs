@@ -108,7 +108,7 @@ impl Coordinator {
     }
 
     /// The handle for a call: the library's own, which is used by one call at a time.
-    fn handle(&mut self) -> *mut sys::relkvanu {
+    pub(crate) fn handle(&mut self) -> *mut sys::relkvanu {
         self.handle.get_mut()
     }
 

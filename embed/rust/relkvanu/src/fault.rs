@@ -1,4 +1,5 @@
 //! Why a call changed nothing.
+use crate::lines::LineFault;
 use relkvanu_sys as sys;
 use std::error::Error;
 use std::fmt;
@@ -115,6 +116,10 @@ pub enum Fault {
     BadMoment,
     /// The first number of an opening is not within 1 to 2^62 - 1.
     BadFirst,
+    /// A line of a script can't be read, or a call has none that is short enough.
+    BadLine(LineFault),
+    /// A `take` line would fetch so many files, and there are not as many places.
+    TooShort { places: u64 },
 }
 
 impl From<Refusal> for Fault {
@@ -132,6 +137,8 @@ impl fmt::Display for Fault {
             Fault::BadShape => f.write_str("the shape is outside its limits"),
             Fault::BadMoment => f.write_str("the opening moment is above 2^62 - 1"),
             Fault::BadFirst => f.write_str("the first number is not within 1 to 2^62 - 1"),
+            Fault::BadLine(why) => write!(f, "the line can't be read: {why}"),
+            Fault::TooShort { places } => write!(f, "the buffer has to have {places} places"),
         }
     }
 }
@@ -140,6 +147,7 @@ impl Error for Fault {
     fn source(&self) -> Option<&(dyn Error + 'static)> {
         match self {
             Fault::Refused(why) => Some(why),
+            Fault::BadLine(why) => Some(why),
             _ => None,
         }
     }
@@ -151,6 +159,7 @@ pub(crate) fn done(told: sys::relkvanu_answer) -> Result<sys::relkvanu_answer, F
         (sys::RELKVANU_DONE, _) => return Ok(told),
         (sys::RELKVANU_REFUSED, _) => Fault::Refused(Refusal::of(told)),
         (sys::RELKVANU_NO_MEMORY, _) => Fault::Memory,
+        (sys::RELKVANU_BAD_LINE, what) => Fault::BadLine(LineFault::of(what)),
         (sys::RELKVANU_BAD_ARGUMENT, sys::RELKVANU_BAD_CONFIG) => Fault::BadConfig,
         (sys::RELKVANU_BAD_ARGUMENT, sys::RELKVANU_BAD_SHAPE) => Fault::BadShape,
         (sys::RELKVANU_BAD_ARGUMENT, sys::RELKVANU_BAD_MOMENT) => Fault::BadMoment,

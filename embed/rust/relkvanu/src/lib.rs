@@ -2,6 +2,7 @@
 //!
 //! - A [`Coordinator`] is owned by one thread at a time. Its calls borrow it for writing, its reads for reading.
 //! - A [`SharedCoordinator`] lets any number of threads call one, under a mutex.
+//! - A [`Call`] is written as a line of a log, and [`Coordinator::line`] makes it again.
 //! - A [`Discarder`] deletes the files that no record uses any more, in threads of its own.
 //!
 //! The coordinator reads no clock and deletes no file by itself: moments, in milliseconds of at most 2^62 - 1, come with
@@ -15,12 +16,14 @@ mod answer;
 mod coordinator;
 mod discarder;
 mod fault;
+mod lines;
 mod shared;
 
 pub use answer::{Answer, Choice, FileCounts, Kind, Live, Mode};
 pub use coordinator::{Coordinator, Settings};
 pub use discarder::{Discarded, Discarder, Patience};
 pub use fault::{Fault, Refusal};
+pub use lines::{opening_lines, Call, Line, LineFault, Said};
 pub use shared::SharedCoordinator;
 
 /// The version of the library that is linked, as "0.1.0".

@@ -2,6 +2,7 @@
 use crate::answer::{Answer, Choice, FileCounts, Live, Mode};
 use crate::coordinator::{Coordinator, Settings};
 use crate::fault::Fault;
+use crate::lines::Said;
 use std::num::NonZeroU64;
 use std::sync::{Arc, Condvar, Mutex, MutexGuard, PoisonError};
 use std::time::Duration;
@@ -157,6 +158,11 @@ impl SharedCoordinator {
 
     pub fn undeleted(&self, file: u64) -> Called {
         self.quietly(|it| it.undeleted(file))
+    }
+
+    /// Makes the call that a line says: [`Coordinator::line`].
+    pub fn line<'a>(&self, line: &[u8], files: &'a mut [u64]) -> Result<Said<'a>, Fault> {
+        self.with(|it| it.line(line, files))
     }
 
     pub fn show(&self, id: u64) -> Result<String, Fault> {

@@ -1,100 +1,46 @@
-//! The rows of `examples/rows` that are lists of calls, through the crate.
-use relkvanu::{Answer, Choice, Coordinator, Fault, Settings};
-use std::fmt::Write;
-use std::num::NonZeroU64;
+//! The rows of `examples/rows` that are lists of calls, through the crate: the library reads the lines.
+use relkvanu::{
+    opening_lines, Answer, Call, Choice, Coordinator, Fault, Line, LineFault, Said, Settings,
+};
 use std::path::Path;
 
-/// A row's calls and what they are answered: without the lines that have a fault.
+/// A row: the lines of its script, and what each one prints.
 struct Row {
-    lines: Vec<String>,
+    lines: Vec<Vec<u8>>,
     wanted: String,
 }
 
 fn row(path: &Path) -> Row {
-    let output = std::fs::read_to_string(path.with_extension("out")).unwrap();
-    let script = String::from_utf8_lossy(&std::fs::read(path).unwrap()).into_owned();
-    let (faults, told): (Vec<&str>, Vec<&str>) = output
-        .lines()
-        .partition(|line| line.starts_with("line ") && line.contains(" fault "));
-    let faulty: Vec<usize> = faults
-        .iter()
-        .map(|line| line.split(' ').nth(1).unwrap().parse().unwrap())
-        .collect();
-    let lines = script
-        .split('\n')
-        .enumerate()
-        .filter(|(place, _)| !faulty.contains(&(place + 1)))
-        .map(|(_, line)| line.trim_end_matches('\r').to_string())
-        .filter(|line| {
-            line.split_whitespace()
-                .next()
-                .is_some_and(|word| !word.starts_with('#'))
-        })
-        .collect();
+    let script = std::fs::read(path).unwrap();
+    let ended = script.strip_suffix(b"\n").unwrap_or(&script);
     Row {
-        lines,
-        wanted: told.iter().map(|line| format!("{line}\n")).collect(),
+        lines: ended
+            .split(|byte| *byte == b'\n')
+            .map(<[u8]>::to_vec)
+            .collect(),
+        wanted: std::fs::read_to_string(path.with_extension("out")).unwrap(),
     }
 }
 
-/// Whether there is one opening, and then calls alone, and no `all` line.
-fn is_list_of_calls(row: &Row) -> bool {
-    let words: Vec<&str> = row
-        .lines
+/// Opens the job as the config, job and start lines of a row say; none where it has not one of each, then calls alone.
+fn opened(lines: &[Vec<u8>]) -> Option<Coordinator> {
+    let says: Vec<Line> = lines
         .iter()
-        .map(|line| line.split(' ').next().unwrap())
+        .filter_map(|line| Line::of(line).ok())
+        .filter(|line| *line != Line::Skip)
         .collect();
-    let opens = |word: &&str| ["config", "job", "start"].contains(word);
-    words.len() >= 3
-        && words[2] == "start"
-        && words[..2].contains(&"config")
-        && words[..2].contains(&"job")
-        && !words[3..].iter().any(|word| opens(word) || *word == "all")
-}
-
-fn numbers(words: &[&str]) -> Vec<u64> {
-    words.iter().map(|word| word.parse().unwrap()).collect()
-}
-
-fn subtask(word: &str) -> (u16, u16) {
-    let (vertex, index) = word.split_once('.').unwrap();
-    (vertex.parse().unwrap(), index.parse().unwrap())
-}
-
-fn files(words: &[&str], sign: char) -> Vec<u64> {
-    words
-        .iter()
-        .filter_map(|word| word.strip_prefix(sign))
-        .map(|word| word.parse().unwrap())
-        .collect()
-}
-
-fn opened(lines: &[String]) -> Coordinator {
-    let words = |name: &str| -> Vec<&str> {
-        let line = lines.iter().find(|line| line.starts_with(name)).unwrap();
-        line.split(' ')
-            .skip(1)
-            .filter(|word| !word.is_empty())
-            .collect()
+    let (settings, shape) = match says.get(..2)? {
+        [Line::Config(settings), Line::Job(shape)] | [Line::Job(shape), Line::Config(settings)] => {
+            (settings, shape)
+        }
+        _ => return None,
     };
-    let config = words("config");
-    let values = numbers(&config[..6]);
-    let settings = Settings {
-        interval: values[0],
-        pause: values[1],
-        at_once: values[2],
-        timeout: values[3],
-        tolerable: values[4],
-        retained: values[5],
-        keep_on_cancel: config[6] == "keep",
-    };
-    Coordinator::open(
-        &settings,
-        &numbers(&words("job")),
-        numbers(&words("start"))[0],
-        1,
-    )
-    .unwrap()
+    match (says.get(2)?, &says[3..]) {
+        (Line::Start(now), calls) if calls.iter().all(|line| *line == Line::Call) => {
+            Some(Coordinator::open(settings, shape, *now, 1).unwrap())
+        }
+        _ => None,
+    }
 }
 
 fn text(answer: Answer) -> String {
@@ -131,57 +77,34 @@ fn text(answer: Answer) -> String {
     }
 }
 
-fn refused(fault: Fault) -> String {
+fn refused(fault: Fault, number: usize) -> String {
     match fault {
         Fault::Refused(why) => format!("refused {why}"),
         Fault::BadShape => "refused BadShape".into(),
+        Fault::BadLine(why) => format!("line {number} fault {why}"),
         other => format!("{other:?}"),
     }
 }
 
-fn taken(job: &mut Coordinator, most: u64) -> Result<String, Fault> {
-    let mut buffer = vec![0; most.min(4096) as usize];
-    let files = job.take(&mut buffer)?;
-    let mut told = String::from("take");
-    for file in files {
-        write!(told, " {file}").unwrap();
+fn taken(files: &[u64]) -> String {
+    match files {
+        [] => "take none".into(),
+        _ => files
+            .iter()
+            .fold(String::from("take"), |text, file| format!("{text} {file}")),
     }
-    Ok(if files.is_empty() {
-        "take none".into()
-    } else {
-        told
-    })
 }
 
-fn told(job: &mut Coordinator, line: &str) -> Result<String, Fault> {
-    let words: Vec<&str> = line.split(' ').filter(|word| !word.is_empty()).collect();
-    let n = |place: usize| words[place].parse::<u64>().unwrap();
-    let answer = match words[0] {
-        "take" => return taken(job, n(1)),
-        "show" => return job.show(n(1)),
-        "tick" => job.tick(n(1)),
-        "savepoint" => job.savepoint(n(1)),
-        "ack" => job.ack(
-            n(1),
-            n(2),
-            subtask(words[3]),
-            &files(&words[4..], '+'),
-            &files(&words[4..], '='),
-        ),
-        "decline" => job.decline(n(1), n(2), subtask(words[3])),
-        "dispose" => job.dispose(n(1)),
-        "restore" => {
-            let savepoint = (words[2] != "latest").then(|| NonZeroU64::new(n(2)).unwrap());
-            let shape = numbers(&words[3..]);
-            job.restore(n(1), savepoint, (!shape.is_empty()).then_some(&shape[..]))
-        }
-        "cancel" => job.cancel(n(1)),
-        "deleted" => job.deleted(n(1)),
-        "undeleted" => job.undeleted(n(1)),
-        "count" => job.count(n(1)),
-        other => panic!("{other} is no call"),
-    };
-    answer.map(text)
+/// What a line prints: nothing, or a line.
+fn told(job: &mut Coordinator, line: &[u8], number: usize) -> Option<String> {
+    let mut files = vec![0; 4096];
+    match job.line(line, &mut files) {
+        Ok(Said::Skipped) | Err(Fault::BadLine(LineFault::NoCall)) => None,
+        Ok(Said::Called(answer)) => Some(text(answer)),
+        Ok(Said::Taken(files)) => Some(taken(files)),
+        Ok(Said::Shown(json)) => Some(json),
+        Err(fault) => Some(refused(fault, number)),
+    }
 }
 
 #[test]
@@ -194,18 +117,114 @@ fn rows() {
             continue;
         }
         let row = row(&path);
-        if !is_list_of_calls(&row) {
+        let Some(mut job) = opened(&row.lines) else {
             continue;
-        }
-        let mut job = opened(&row.lines);
-        let output: String = row.lines[3..]
+        };
+        let output: String = row
+            .lines
             .iter()
-            .map(|line| format!("{}\n", told(&mut job, line).unwrap_or_else(refused)))
+            .enumerate()
+            .filter_map(|(place, line)| told(&mut job, line, place + 1))
+            .map(|line| line + "\n")
             .collect();
         assert_eq!(output, row.wanted, "{}", path.display());
         run += 1;
     }
     assert!(run >= 25, "only {run} rows are lists of calls");
+}
+
+#[test]
+fn a_call_is_written_as_its_line() {
+    let line = |call: Call| call.line().unwrap();
+    let ack = Call::Ack {
+        now: 5,
+        id: 1,
+        subtask: (1, 2),
+        fresh: &[12, 11],
+        reused: &[7],
+    };
+    assert_eq!(line(ack), "ack 5 1 1.2 +11 +12 =7");
+    assert_eq!(line(Call::Tick { now: 5 }), "tick 5");
+    assert_eq!(
+        line(Call::Restore {
+            now: 5,
+            savepoint: None,
+            shape: Some(&[1, 2])
+        }),
+        "restore 5 latest 1 2"
+    );
+    assert_eq!(line(Call::Take { most: 9 }), "take 9");
+    let many: Vec<u64> = (0..9000).map(|place| u64::MAX - place).collect();
+    let long = Call::Ack {
+        now: 5,
+        id: 1,
+        subtask: (0, 0),
+        fresh: &many,
+        reused: &[],
+    };
+    assert_eq!(long.line(), Err(Fault::BadLine(LineFault::TooLong)));
+    let empty = Call::Restore {
+        now: 5,
+        savepoint: None,
+        shape: Some(&[]),
+    };
+    assert_eq!(empty.line(), Err(Fault::BadShape));
+}
+
+#[test]
+fn a_log_is_made_again() {
+    let settings = Settings {
+        interval: 1000,
+        pause: 0,
+        at_once: 1,
+        timeout: 5000,
+        tolerable: 0,
+        retained: 1,
+        keep_on_cancel: true,
+    };
+    let lines = opening_lines(&settings, &[1, 2], 7).unwrap();
+    assert_eq!(lines, "config 1000 0 1 5000 0 1 keep\njob 1 2\nstart 7\n");
+    let says: Vec<Line> = lines
+        .lines()
+        .map(|line| Line::of(line.as_bytes()).unwrap())
+        .collect();
+    assert_eq!(
+        says,
+        [
+            Line::Config(settings),
+            Line::Job(vec![1, 2]),
+            Line::Start(7)
+        ]
+    );
+    let mut job = Coordinator::open(&settings, &[1, 2], 7, 1).unwrap();
+    assert_eq!(
+        job.line(b"tick 2000", &mut []),
+        Ok(Said::Called(Answer::Triggered { expired: 0, id: 1 }))
+    );
+    assert_eq!(
+        job.line(b"ack 2000 1 0.0 +1 +2\r", &mut []),
+        Ok(Said::Called(Answer::AckPending { missing: 2 }))
+    );
+    assert_eq!(
+        job.line(b"cancel 2000", &mut []),
+        Ok(Said::Called(Answer::Cancelled {
+            dropped: 1,
+            released: 2
+        }))
+    );
+    assert_eq!(
+        job.line(b"take 9", &mut [0]),
+        Err(Fault::TooShort { places: 2 })
+    );
+    assert_eq!(job.line(b"take 9", &mut [0, 0]), Ok(Said::Taken(&[1, 2])));
+    assert_eq!(
+        job.line(b"tick", &mut []),
+        Err(Fault::BadLine(LineFault::Missing))
+    );
+    assert_eq!(
+        job.line(b"start 7", &mut []),
+        Err(Fault::BadLine(LineFault::NoCall))
+    );
 }
 
 #[test]

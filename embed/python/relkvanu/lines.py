@@ -1,0 +1,138 @@
+"""Lines of a script (docs/SCRIPT.md): a log of calls, which the library writes and reads. Coordinator.line makes the call of one."""
+import ctypes
+from dataclasses import dataclass
+from typing import Any, Callable, Optional, Sequence, Tuple, Union
+
+from relkvanu import header
+from relkvanu.coordinator import U64, BadArgument, Settings, _done, _settings, _shared, _u64, _within, _words
+
+
+@dataclass(frozen=True)
+class Skip:
+    """A line without words, or a comment."""
+
+
+@dataclass(frozen=True)
+class Job:
+    """The parallelism of each vertex."""
+
+    shape: Tuple[int, ...]
+
+
+@dataclass(frozen=True)
+class Start:
+    now: int
+
+
+@dataclass(frozen=True)
+class Call:
+    """A line that makes a call."""
+
+
+@dataclass(frozen=True)
+class All:
+    now: int
+    id: int
+    threads: int
+    first: int
+
+
+Line = Union[Skip, Settings, Job, Start, Call, All]
+
+
+def line_says(line: bytes) -> Line:
+    """Which line it is, with the numbers of one that makes no call. Raises BadLine. No number is tested against the limits of a
+    job."""
+    text = (ctypes.c_uint8 * max(len(line), 1)).from_buffer_copy(line or b" ")
+    places = 8
+    while True:
+        numbers = (U64 * places)()
+        answer = _shared().relkvanu_line_says(text, len(line), numbers, places)
+        if answer.code != header.TOO_SHORT:
+            break
+        places = answer.a
+    of = numbers[: _done(answer).a]
+    if answer.what == header.LINE_CONFIG:
+        interval, pause, at_once, timeout, tolerable, retained, keep = of
+        return Settings(interval, pause, at_once, timeout, tolerable, retained, bool(keep))
+    if answer.what == header.LINE_JOB:
+        return Job(tuple(of))
+    if answer.what == header.LINE_START:
+        return Start(*of)
+    if answer.what == header.LINE_ALL:
+        return All(*of)
+    return Skip() if answer.what == header.LINE_SKIP else Call()
+
+
+def _written(write: Callable[[Any, int], Any]) -> str:
+    """What is written into a buffer that is long enough."""
+    length = 256
+    while True:
+        text = (ctypes.c_uint8 * length)()
+        answer = write(text, length)
+        if answer.code != header.TOO_SHORT:
+            return bytes(text[: _done(answer).a]).decode()
+        length = answer.a
+
+
+def opening_lines(settings: Settings, shape: Sequence[int], now: int) -> str:
+    """The lines config, job and start of a coordinator that begins with the number 1, each with its newline. Raises BadArgument."""
+    values, words = _settings(settings), _words(shape)
+    return _written(lambda text, length: _shared().relkvanu_opening_lines(ctypes.byref(values), words, len(shape), _u64(now), text, length))
+
+
+def _line(
+    kind: int, now: int = 0, number: int = 0, subtask: Tuple[int, int] = (0, 0), first: Sequence[int] = (), second: Sequence[int] = ()
+) -> str:
+    vertex, index = subtask
+    call = header.relkvanu_call(kind, _within(vertex, 16), _within(index, 16), _u64(now), _u64(number))
+    lists = _words(first), len(first), _words(second), len(second)
+    return _written(lambda text, length: _shared().relkvanu_call_line(ctypes.byref(call), *lists, text, length))
+
+
+# The line of each call, without a newline: it is read again as that call. Each raises BadLine where no line may be as long: none is
+# cut.
+
+
+def tick_line(now: int) -> str:
+    return _line(header.CALL_TICK, now)
+
+
+def savepoint_line(now: int) -> str:
+    return _line(header.CALL_SAVEPOINT, now)
+
+
+def ack_line(now: int, id: int, vertex: int, index: int, fresh: Sequence[int], reused: Sequence[int] = ()) -> str:
+    return _line(header.CALL_ACK, now, id, (vertex, index), fresh, reused)
+
+
+def decline_line(now: int, id: int, vertex: int, index: int) -> str:
+    return _line(header.CALL_DECLINE, now, id, (vertex, index))
+
+
+def dispose_line(id: int) -> str:
+    return _line(header.CALL_DISPOSE, number=id)
+
+
+def restore_line(now: int, savepoint: Optional[int] = None, shape: Optional[Sequence[int]] = None) -> str:
+    if savepoint == 0:
+        raise ValueError("no savepoint has the number 0")
+    if shape is not None and len(shape) == 0:
+        raise BadArgument("BadShape")
+    return _line(header.CALL_RESTORE, now, savepoint or 0, first=shape or ())
+
+
+def cancel_line(now: int) -> str:
+    return _line(header.CALL_CANCEL, now)
+
+
+def take_line(most: int) -> str:
+    return _line(header.CALL_TAKE, number=most)
+
+
+def deleted_line(file: int) -> str:
+    return _line(header.CALL_DELETED, number=file)
+
+
+def undeleted_line(file: int) -> str:
+    return _line(header.CALL_UNDELETED, number=file)
