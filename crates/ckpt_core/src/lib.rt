@@ -12,8 +12,10 @@ mod completions;
 mod coordinator;
 mod drops;
 mod endings;
+mod image;
 mod late_acks;
 pub mod laws;
+mod loading;
 pub mod mode;
 mod opening;
 mod parts;
@@ -25,6 +27,7 @@ mod triggers;
 
 pub use ckpt_hash::Secret;
 pub use coordinator::{Core, CoreFault, OpenFault};
+pub use image::{Image, ImageFault, Saved};
 pub use mode::Mode;
 pub use queries::Live;
 pub use refusals::test_files;

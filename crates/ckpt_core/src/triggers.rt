@@ -93,7 +93,7 @@ impl Parts {
     }
 
     /// Makes room for the number of one more live record among those that end.
-    fn make_room(&mut self) -> Result<(), AllocError>
+    pub(crate) fn make_room(&mut self) -> Result<(), AllocError>
         requires { length (records_in self.old) < 2 ^ 32 }
         ensures room { OnOk result (length (records_in self.old) + 1 ≤ vec_capacity self.new.ended) }
         ensures parts { self.new ≡ record self.old { ended = self.new.ended } }

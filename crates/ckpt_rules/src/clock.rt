@@ -61,6 +61,42 @@ impl Clock {
         }
     }
 
+    /// The clock with these moments: the greatest one seen, the one before which no checkpoint
+    /// starts, and the last completion since the job was started, where there was one.
+    pub fn of(latest: u64, due: u64, completed: Option<u64>) -> Clock
+        requires { IsInRange (record { latest = latest; due = due; completed = completed }) }
+        ensures { result ≡ record { latest = latest; due = due; completed = completed } }
+    {
+        Clock {
+            latest,
+            due,
+            completed,
+        }
+    }
+
+    /// The greatest moment seen.
+    pub fn latest(&self) -> u64
+        ensures value { result ≡ self.now.latest }
+        ensures moments { IsInRange self.now }
+    {
+        self.latest
+    }
+
+    /// The moment from which the interval no longer holds a checkpoint back.
+    pub fn interval_ends(&self) -> u64
+        ensures { result ≡ self.now.due }
+    {
+        self.due
+    }
+
+    /// The moment of the last completed checkpoint since the job was started, or `None` where none
+    /// has completed.
+    pub fn last_completion(&self) -> Option<u64>
+        ensures { result ≡ self.now.completed }
+    {
+        self.completed
+    }
+
     /// The greater of `now` and the greatest moment seen.
     pub fn read(&self, now: u64) -> u64
         requires { now < MOMENTS_END }
