@@ -1,5 +1,5 @@
 -- What an image tells of a state: all but the order of the files that were fetched, which no call tells.
-use Rattle.std.specs.Prelude.{◌≡◌, List, map}
+use Rattle.std.specs.Prelude.{◌≡◌, List, ◌++◌, map}
 use Rattle.ckpt_ids.specs.declared.call.Call.{Call}
 use Rattle.ckpt_ids.specs.Ascending.{ascending}
 use Rattle.ckpt_ids.specs.Records.{Record}
@@ -48,3 +48,8 @@ pub record GoesOnAs (m n : State) (calls : List Call) : Type 0 where
 pub record CanHold (m : State) : Type 0 where
   pub sound : IsSound m
   pub clock : IsInRange (record { latest = m.latest; due = m.due; completed = m.completed })
+
+-- What a log tells is told by its first calls, their image, and the calls after it: the answers of all, and a state that is alike.
+pub record IsCut (m : State) (before after : List Call) : Type 0 where
+  pub answers : answers m (before ++ after) ≡ answers m before ++ answers (settled (replay m before)) after
+  pub state : AreAlike (replay m (before ++ after)) (replay (settled (replay m before)) after)

@@ -1,7 +1,13 @@
 //! What is saved of a coordinator. A coordinator that is made of it goes on as the one that was saved.
+ghost use Rattle.std.specs.Prelude.{◌≡◌, Err, IfOk, OnOk};
+ghost use Rattle.ckpt_core.specs.Images.{CanHold, settled, state_in};
+
+use crate::coordinator::Core;
 use crate::mode::Mode;
+use crate::parts::Parts;
+use ckpt_hash::Secret;
 use ckpt_ids::{CheckpointId, Config, Files, Handed, Metadata, Shape};
-use std::alloc::AllocError;
+use std::alloc::{AllocError, Global};
 use thiserror::Error;
 
 /// A live record of an image.
@@ -67,5 +73,30 @@ impl From<AllocError> for ImageFault {
 
     fn from(_error: AllocError) -> ImageFault {
         ImageFault::Memory
+    }
+}
+
+impl Core {
+    /// The state as an image, with the files that were fetched in ascending order: no call tells
+    /// their own order. Fails only for want of memory.
+    pub fn image(&self) -> Result<Image, AllocError>
+        ensures value { IfOk result (λ image. state_in image ≡ settled self.now) }
+        ensures good { IfOk result (λ image. CanHold (state_in image)) }
+    {
+        self.parts.image()
+    }
+
+    /// The coordinator whose state the image tells, which hashes the files' numbers under a secret
+    /// as [`Core::keyed`] does.
+    ///
+    /// Answers [`ImageFault::Damaged`] only where no coordinator can be in that state, and
+    /// [`ImageFault::Memory`] where memory runs out.
+    pub fn from_image(alloc: Global, image: &Image, secret: Secret) -> Result<Core, ImageFault>
+        ensures value { IfOk result (λ core. core ≡ state_in image.now) }
+        ensures sound { OnOk result (CanHold (state_in image.now)) }
+        ensures damaged { result ≡ Err ImageFault.Damaged → CanHold (state_in image.now) → ⊥ }
+    {
+        let parts = Parts::of_image(alloc, image, secret)?;
+        Ok(Core { parts })
     }
 }

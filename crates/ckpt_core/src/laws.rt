@@ -7,7 +7,7 @@ ghost use Rattle.ckpt_core.specs.State.{State, Opening, opened};
 ghost use Rattle.ckpt_core.specs.Histories.{replay};
 ghost use Rattle.ckpt_core.specs.Soundness.{IsSound};
 ghost use Rattle.ckpt_core.specs.Laws.{Exchange, Part, CanOpen, AreCalls, Balance, Handed, Accounted, UsedNoMore, Outbox, Acknowledgements, Numbers, Savepoints, ChoiceIsLive, PinsStay};
-ghost use Rattle.ckpt_core.specs.Images.{AreAlike, CanHold, GoesOnAs, settled};
+ghost use Rattle.ckpt_core.specs.Images.{AreAlike, CanHold, GoesOnAs, IsCut, settled};
 ghost use Rattle.ckpt_core.specs.Interleavings.{NewFile, SeatedCalls, AnyOrder};
 
 /// Two acknowledgements of different subtasks of one record, one right after the other, go in
@@ -95,4 +95,11 @@ pub fn settling()
 /// same, and stay so.
 pub fn resumes()
     ensures { (m n : State) (calls : List Call) → AreAlike m n → GoesOnAs m n calls }
+{}
+
+/// A log may be cut at each place: the calls before it lead to a state, and the coordinator that is
+/// made of its image answers the calls after it as the one that made all calls did, and is alike
+/// after them.
+pub fn cutting()
+    ensures { (m : State) (before after : List Call) → IsCut m before after }
 {}

@@ -23,6 +23,8 @@ mod pending_records;
 pub mod queries;
 mod reads;
 mod refusals;
+mod reopening;
+mod saving;
 mod triggers;
 
 pub use ckpt_hash::Secret;

@@ -22,7 +22,7 @@ pub(crate) struct Ticked {
 
 impl Parts {
     /// The shape of the records that are triggered next.
-    fn shape(&self) -> &Shape
+    pub(crate) fn shape(&self) -> &Shape
         ensures { result.now ≡ unwrap_or self.now.reshaped self.now.opened.shape }
     {
         match &self.reshaped {

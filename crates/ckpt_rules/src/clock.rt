@@ -38,7 +38,7 @@ fn gap_of(config: &Config) -> u64
 }
 
 /// How many checkpoints may be pending: one, where there is a pause between them.
-fn limit_of(config: &Config) -> u32
+pub fn limit_of(config: &Config) -> u32
     ensures { result ≡ limit config.now }
 {
     if config.pause() > 0 {

@@ -1,13 +1,13 @@
 -- A pending record that comes with acknowledgements and pins, and is newer than all others.
-use Rattle.std.proofs.Common.{◌≡◌, ℕ, ◌+◌, ◌<◌, ◌≤◌, false, ◌&&◌, eqb, ltb, drop, List, [], ◌∷◌, ◌++◌, length, map, refl, sym, ap, subst, ◌∙◌, ⊎_elim, arith}
-use Rattle.std.specs.List.{flat_map}
+use Rattle.std.proofs.Common.{◌≡◌, ℕ, ◌+◌, ◌<◌, ◌≤◌, false, ◌&&◌, ◌||◌, eqb, ltb, drop, List, [], ◌∷◌, ◌++◌, length, map, refl, sym, ap, subst, ◌∙◌, inl, inr, ⊎_elim, arith}
+use Rattle.std.specs.List.{flat_map, list_any}
 use Rattle.std.proofs.lemmas.List.{append-nil, append_assoc, length-append, map-append}
 use Rattle.std.proofs.lemmas.List.Concat.{flat_map-append}
 use Rattle.std.proofs.lemmas.Bool.{ne_eqb, and_left, and_right, cond-false, le-ltb}
 use Rattle.ckpt_ids.specs.declared.ack.Acked.{Acked}
-use Rattle.ckpt_ids.specs.Ordered.{IsIn, in_order}
+use Rattle.ckpt_ids.specs.Ordered.{IsIn, in_order, put}
 use Rattle.ckpt_ids.specs.Records.{Record, Use, Pin, same_holder, uses, uses_of}
-use Rattle.ckpt_ids.proofs.OrderedLemmas.{IsIn-append_left, IsIn-append_cases, IsIn-map, IsIn-in_order, IsIn-from_flat_map}
+use Rattle.ckpt_ids.proofs.OrderedLemmas.{IsIn-append_left, IsIn-append_right, IsIn-append_cases, IsIn-map, IsIn-in_order, IsIn-from_flat_map}
 use Rattle.std.specs.Vec.{vec_capacity}
 use Rattle.ckpt_rules.specs.FailureCount.{FailureCount}
 use Rattle.ckpt_store.specs.Storing.{Stored, retained_of}
@@ -19,7 +19,7 @@ use Rattle.ckpt_core.specs.Inside.Grouped.{is_pin, pins, pins_of, with_pins, gro
 use Rattle.ckpt_core.specs.Inside.Loading.{uses_of_acks, uses_held}
 use Rattle.ckpt_core.proofs.Loaded.Uses.{id_of_acks}
 use Rattle.ckpt_core.proofs.Records.Counts.{map_same}
-use Rattle.ckpt_core.proofs.Records.Grouped.{in_order-newest}
+use Rattle.ckpt_core.proofs.Records.Grouped.{in_order-newest, put_last}
 use Rattle.ckpt_core.proofs.Records.GroupMoves.{pins_of-append, pins_of-none, pins_of-holds}
 use Rattle.ckpt_core.proofs.Using.Order.{from_holds, holds, use_of_record}
 
@@ -165,3 +165,58 @@ pub none_surplus : (n : ℕ) (rs : List Record) (x : Record) → length rs < n �
 none_surplus n rs x fewer =
     let longer : length (rs ++ x ∷ []) ≡ length rs + 1 = length-append rs (x ∷ []) in
     cond-false (ltb n (length (rs ++ x ∷ []))) (drop 1 (rs ++ x ∷ [])) (rs ++ x ∷ []) (le-ltb n (length (rs ++ x ∷ [])) (omega arith))
+
+-- a done savepoint that is newer than all others
+pub loaded_savepoint : (us : List Use) (pending checkpoints savepoints : List Record) (x : Record) (acks : List Acked) (files : List ℕ) → ((r : Record) → IsIn r (grouped us pending checkpoints savepoints) → r.id < x.id) →
+    records_of (us ++ uses_held x.id acks files) pending checkpoints (put id_before x savepoints) ≡ records_of us pending checkpoints savepoints ++ x ∷ []
+loaded_savepoint us pending checkpoints savepoints x acks files newest =
+    let front : List Record = map (with_pins us) pending in
+    let all : List Record = front ++ (checkpoints ++ savepoints) in
+    let older : (y : Record) → IsIn y savepoints → y.id < x.id = λ y h. newest y (IsIn-append_right y front (checkpoints ++ savepoints) (IsIn-append_right y checkpoints savepoints h)) in
+    let P : List Record → Type 0 = λ rs. (r : Record) → IsIn r rs → r.id < x.id in
+    ap (λ rs. in_order id_before (rs ++ (checkpoints ++ put id_before x savepoints))) (others_keep us pending (checkpoints ++ savepoints) x.id acks files newest)
+    ∙ ap (λ rs. in_order id_before (front ++ (checkpoints ++ rs))) (put_last x savepoints older)
+    ∙ ap (in_order id_before) (ap (λ rs. front ++ rs) (sym (append_assoc checkpoints savepoints (x ∷ []))) ∙ sym (append_assoc front (checkpoints ++ savepoints) (x ∷ [])) ∙ sym (append-nil (all ++ x ∷ [])))
+    ∙ in_order-newest x all [] (subst P (sym (append-nil all)) newest)
+    ∙ ap (λ rs. in_order id_before rs ++ x ∷ []) (append-nil all)
+
+-- the parts with a done savepoint more
+pub record HasSavepoint (p q : Parts) (x : Record) : Type 0 where
+  pub registry : q.registry ≡ p.registry ++ uses_held x.id x.acks x.pins
+  pub pending : q.pending ≡ p.pending
+  pub checkpoints : q.store.checkpoints ≡ p.store.checkpoints
+  pub savepoints : q.store.savepoints ≡ put id_before x p.store.savepoints
+  pub retained : q.store.retained ≡ p.store.retained
+  pub opened : q.opened ≡ p.opened
+  pub failures : q.failures ≡ p.failures
+  pub spare : present_in q.registry ≤ q.outbox.spare
+  pub room : length (records_in p) + 1 ≤ vec_capacity q.ended
+
+pub records-savepoint : {p q : Parts} {x : Record} → ((r : Record) → IsIn r (records_in p) → r.id < x.id) → HasSavepoint p q x → records_in q ≡ records_in p ++ x ∷ []
+records-savepoint {p} {q} {x} newest m =
+    let grown : (r : Record) → IsIn r (grouped p.registry p.pending p.store.checkpoints p.store.savepoints) → r.id < x.id = λ r h. newest r (IsIn-in_order id_before r (grouped p.registry p.pending p.store.checkpoints p.store.savepoints) h) in
+    let us : List Use = p.registry ++ uses_held x.id x.acks x.pins in
+    ap (λ vs. records_of vs q.pending q.store.checkpoints q.store.savepoints) m.registry
+    ∙ ap (λ rs. records_of us rs q.store.checkpoints q.store.savepoints) m.pending
+    ∙ ap (λ rs. records_of us p.pending rs q.store.savepoints) m.checkpoints
+    ∙ ap (λ rs. records_of us p.pending p.store.checkpoints rs) m.savepoints
+    ∙ loaded_savepoint p.registry p.pending p.store.checkpoints p.store.savepoints x x.acks x.pins grown
+
+pub tied-savepoint : {p q : Parts} {x : Record} → AreTied p → ((r : Record) → IsIn r (records_in p) → r.id < x.id) → HasSavepoint p q x → AreTied q
+tied-savepoint {p} {q} {x} tied newest m =
+    let all : records_in q ≡ records_in p ++ x ∷ [] = records-savepoint newest m in
+    let longer : length (records_in q) ≡ length (records_in p) + 1 = ap (λ (rs : List Record). length rs) all ∙ length-append (records_in p) (x ∷ []) in
+    record {
+      uses_are = m.registry ∙ ap (λ us. us ++ uses_held x.id x.acks x.pins) tied.uses_are ∙ sym (uses-loaded (records_in p) x) ∙ ap uses (sym all);
+      retained = m.retained ∙ tied.retained ∙ ap (λ (o : Opened). o.config.retained) (sym m.opened);
+      tolerable = ap (λ (f : FailureCount). f.tolerable) m.failures ∙ tied.tolerable ∙ ap (λ (o : Opened). o.config.tolerable) (sym m.opened);
+      spare = m.spare;
+      room = omega (arith, longer, m.room);
+    }
+
+-- no record has a greater number's
+pub absent_newest : (id : ℕ) (rs : List Record) → ((y : Record) → IsIn y rs → y.id < id) → list_any (λ r. eqb r.id id) rs ≡ false
+absent_newest id [] older = refl
+absent_newest id (y ∷ rs) older =
+    let lt : y.id < id = older y (inl refl) in
+    ap (λ b. b || list_any (λ r. eqb r.id id) rs) (ne_eqb y.id id (λ e. omega arith)) ∙ absent_newest id rs (λ z h. older z (inr h))

@@ -1,5 +1,7 @@
 -- What holds of a coordinator's records as a list, and what is tested of one more.
 use Rattle.std.specs.Prelude.{◌≡◌, ℕ, ◌<◌, ◌≤◌, ◌^◌, Bool, true, not, ◌&&◌, List, count_by}
+use Rattle.ckpt_ids.specs.declared.ack.Acked.{Acked}
+use Rattle.ckpt_ids.specs.Ascending.{IsAscendingSet}
 use Rattle.ckpt_ids.specs.Ordered.{IsIn, IsInOrder}
 use Rattle.ckpt_ids.specs.Records.{Record}
 use Rattle.ckpt_rules.specs.Trigger.{limit}
@@ -33,3 +35,15 @@ pub record Joins (o : Opening) (next : ℕ) (rs : List Record) (r : Record) : Ty
   pub at_once : is_pending_checkpoint r ≡ true → count_by is_pending_checkpoint rs < limit o.config
   pub savepoints : not (is_checkpoint r) ≡ true → count_by (λ s. not (is_checkpoint s)) rs < 1000
   pub newer : is_done_checkpoint r ≡ true → count_by is_pending_checkpoint rs ≡ 0
+
+-- what is tested of it by how many there are
+pub record HasRoom (o : Opening) (rs : List Record) (r : Record) : Type 0 where
+  pub retained : is_done_checkpoint r ≡ true → count_by is_done_checkpoint rs < o.config.retained
+  pub at_once : is_pending_checkpoint r ≡ true → count_by is_pending_checkpoint rs < limit o.config
+  pub savepoints : not (is_checkpoint r) ≡ true → count_by (λ s. not (is_checkpoint s)) rs < 1000
+  pub newer : is_done_checkpoint r ≡ true → count_by is_pending_checkpoint rs ≡ 0
+
+-- what is tested of its files
+pub record NamesEachOnce (r : Record) : Type 0 where
+  pub files : (a : Acked) → IsIn a r.acks → IsAscendingSet a.files
+  pub pins : IsAscendingSet r.pins
