@@ -1,6 +1,6 @@
 //! What is saved of a coordinator.
 
-ghost use Rattle.std.specs.Prelude.{◌≡◌, map, IfOk, IsSome, Some};
+ghost use Rattle.std.specs.Prelude.{◌≡◌, ◌+◌, ◌<◌, ◌^◌, map, IfOk, IsSome, Some};
 ghost use Rattle.ckpt_ids.specs.Ordered.{IsIn};
 ghost use Rattle.ckpt_ids.specs.Records.{Record};
 ghost use Rattle.ckpt_core.specs.Images.{record_in, settled, state_in};
@@ -12,6 +12,14 @@ use crate::parts::Parts;
 use crate::queries::Live;
 use ckpt_ids::{CheckpointId, Files};
 use std::alloc::AllocError;
+
+/// The number after this one, which a record has.
+fn next_number(id: CheckpointId) -> CheckpointId
+    requires { id < 2 ^ 62 }
+    ensures { result ≡ id + 1 }
+{
+    CheckpointId(id.0 + 1)
+}
 
 impl Parts {
     /// The files that a live record pins. Fails only for want of memory.
@@ -48,7 +56,7 @@ impl Parts {
         while let Some(live) = self.first_from(lowest) {
             let one = self.save(live)?;
             saved.push(one)?;
-            lowest = CheckpointId(live.id.0 + 1);
+            lowest = next_number(live.id);
         }
         Ok(saved)
     }
