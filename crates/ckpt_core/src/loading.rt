@@ -54,13 +54,7 @@ pub(crate) fn acknowledged(alloc: Global, metadata: &Metadata) -> Result<Pending
     ensures damaged { result ≡ Err ImageFault.Damaged → ((a : Acked) → IsIn a metadata.now.acks → is_subtask metadata.now.shape a.subtask ≡ true) → ⊥ }
 {
     let shape = metadata.shape.copy()?;
-    let mut pending = Pending::new(
-        alloc,
-        metadata.id,
-        metadata.kind,
-        shape,
-        metadata.started,
-    );
+    let mut pending = Pending::new(alloc, metadata.id, metadata.kind, shape, metadata.started);
     for acked in metadata.acks.as_slice() {
         let files = acked.files.copy()?;
         match pending.ack(acked.subtask, files) {

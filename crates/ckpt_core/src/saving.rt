@@ -3,7 +3,7 @@
 ghost use Rattle.std.specs.Prelude.{◌≡◌, ◌+◌, ◌<◌, ◌^◌, map, IfOk, IsSome, Some};
 ghost use Rattle.ckpt_ids.specs.Ordered.{IsIn};
 ghost use Rattle.ckpt_ids.specs.Records.{Record};
-ghost use Rattle.ckpt_core.specs.Images.{record_in, settled, state_in};
+ghost use Rattle.ckpt_core.specs.Images.{CanHold, record_in, settled, state_in};
 ghost use Rattle.ckpt_core.specs.Inside.Parts.{AreSound, records_in, state_of};
 ghost use Rattle.ckpt_core.specs.State.{record_of};
 
@@ -13,8 +13,8 @@ use crate::queries::Live;
 use ckpt_ids::{CheckpointId, Files};
 use std::alloc::AllocError;
 
-/// The number after this one, which a record has.
-fn next_number(id: CheckpointId) -> CheckpointId
+/// The number after that of a record.
+fn number_after(id: CheckpointId) -> CheckpointId
     requires { id < 2 ^ 62 }
     ensures { result ≡ id + 1 }
 {
@@ -23,26 +23,26 @@ fn next_number(id: CheckpointId) -> CheckpointId
 
 impl Parts {
     /// The files that a live record pins. Fails only for want of memory.
-    fn pins_of(&self, live: Live) -> Result<Files, AllocError>
+    fn pins_of(&self, id: CheckpointId, done: bool) -> Result<Files, AllocError>
         requires { AreSound self.now }
-        ensures { IfOk result (λ pins. (r : Record) → IsIn r (records_in self.now) → r.id ≡ live.id → r.done ≡ live.done → pins ≡ r.pins) }
+        ensures { IfOk result (λ pins. (r : Record) → IsIn r (records_in self.now) → r.id ≡ id → r.done ≡ done → pins ≡ r.pins) }
     {
         // what the store and the pending records ensure, which ties their records to the state
         self.recall_groups();
-        if live.done {
+        if done {
             return Ok(Files::of(Vec::new(self.alloc)));
         }
-        self.registry.pins(live.id)
+        self.registry.pins(id)
     }
 
     /// What is saved of a live record. Fails only for want of memory.
-    fn save(&self, live: Live) -> Result<Saved, AllocError>
+    fn save(&self, id: CheckpointId, done: bool) -> Result<Saved, AllocError>
         requires sound { AreSound self.now }
-        requires there { IsSome (record_of (state_of self.now) live.id) }
-        ensures { IfOk result (λ saved. (r : Record) → record_of (state_of self.now) live.id ≡ Some r → live.done ≡ r.done → record_in saved ≡ r) }
+        requires there { IsSome (record_of (state_of self.now) id) }
+        ensures { IfOk result (λ saved. (r : Record) → record_of (state_of self.now) id ≡ Some r → done ≡ r.done → record_in saved ≡ r) }
     {
-        let metadata = self.metadata(live.id)?;
-        let pins = self.pins_of(live)?;
+        let metadata = self.metadata(id)?;
+        let pins = self.pins_of(id, done)?;
         Ok(Saved { metadata, pins })
     }
 
@@ -54,9 +54,10 @@ impl Parts {
         let mut saved = Vec::new(self.alloc);
         let mut lowest = CheckpointId(0);
         while let Some(live) = self.first_from(lowest) {
-            let one = self.save(live)?;
+            let Live { id, kind: _, done } = live;
+            let one = self.save(id, done)?;
             saved.push(one)?;
-            lowest = next_number(live.id);
+            lowest = number_after(id);
         }
         Ok(saved)
     }
@@ -64,7 +65,8 @@ impl Parts {
     /// The state as an image. Fails only for want of memory.
     pub(crate) fn image(&self) -> Result<Image, AllocError>
         requires { AreSound self.now }
-        ensures { IfOk result (λ image. state_in image ≡ settled (state_of self.now)) }
+        ensures value { IfOk result (λ image. state_in image ≡ settled (state_of self.now)) }
+        ensures good { IfOk result (λ image. CanHold (state_in image)) }
     {
         let records = self.saved()?;
         let first_shape = self.opened.shape.copy()?;

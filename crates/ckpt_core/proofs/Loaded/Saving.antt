@@ -1,8 +1,8 @@
 -- What is saved of a live record is that record.
-use Rattle.std.proofs.Common.{◌≡◌, ℕ, zero, suc, ◌+◌, ◌≤◌, Bool, true, false, eqb, List, [], ◌∷◌, ◌++◌, map, take, add-one, arith, refl, sym, ap, subst, ◌∙◌, ⊎_elim, Option, Some, None}
-use Rattle.std.specs.Prelude.{count_by, find, slice_get}
+use Rattle.std.proofs.Common.{rules, ◌≡◌, ℕ, zero, suc, ◌+◌, ◌≤◌, Bool, true, false, eqb, List, [], ◌∷◌, ◌++◌, map, take, add-one, arith, refl, sym, ap, subst, ◌∙◌, ⊎_elim, Option, Some, None}
+use Rattle.std.specs.Prelude.{count_by, find, slice_get, IsSome}
 use Rattle.std.specs.Option.{option_map}
-use Rattle.std.proofs.lemmas.Bool.{both_ways, eq-eqb}
+use Rattle.std.proofs.lemmas.Bool.{both_ways, eq-eqb, leb-true}
 use Rattle.std.proofs.lemmas.List.{take_all}
 use Rattle.ckpt_ids.specs.declared.ack.Metadata.{Metadata}
 use Rattle.ckpt_ids.specs.Ordered.{IsIn, IsInOrder}
@@ -38,8 +38,8 @@ pins_registered p r pending stored h not_done =
     let rest : List Record = p.store.checkpoints ++ p.store.savepoints in
     ⊎_elim
     (λ (k : IsIn r (map (with_pins us) p.pending)).
-        let q = IsIn-from_map (with_pins us) r p.pending k in
-        ap (λ (x : Record). pins_by x.id us) q.2 ∙ ap (λ (x : Record). x.pins) (sym q.2))
+    let q = IsIn-from_map (with_pins us) r p.pending k in
+    ap (λ (x : Record). pins_by x.id us) q.2 ∙ ap (λ (x : Record). x.pins) (sym q.2))
     (λ (k : IsIn r rest). absurd (both_ways r.done not_done (done_in (groups_of p pending stored) r k)))
     (IsIn-append_cases r (map (with_pins us) p.pending) rest (IsIn-from_in_order id_before r (grouped us p.pending p.store.checkpoints p.store.savepoints) h))
 
@@ -93,3 +93,11 @@ saved_all rs n order e =
     let k : ℕ = count_by (is_below n) rs in
     let none : slice_get rs k ≡ None = sym (found_at n rs order) ∙ none_of (find (is_from n) rs) e in
     take_all k rs (past rs k none k (omega arith))
+
+pub some_there : (o : Option Record) (r : Record) → o ≡ Some r → IsSome o
+some_there None r e = absurd (cc)
+some_there (Some q) r e = search rules
+
+-- a record that is found from a number on has a number not below it
+pub found_from : (rs : List Record) (n : ℕ) (r : Record) → find (is_from n) rs ≡ Some r → n ≤ r.id
+found_from rs n r e = leb-true n r.id (IsIn-from_find (is_from n) r rs e).1

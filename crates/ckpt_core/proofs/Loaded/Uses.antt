@@ -120,4 +120,3 @@ in_front b acks i h = let P : List Acked → Type 0 = λ xs. IsIn b xs in subst 
 
 pub take_in_order : (acks : List Acked) (i : ℕ) → AreInSubtaskOrder acks → AreInSubtaskOrder (take i acks)
 take_in_order acks i order = front_in_order (take i acks) (drop i acks) (subst AreInSubtaskOrder (sym (take-append-drop i acks)) order)
-

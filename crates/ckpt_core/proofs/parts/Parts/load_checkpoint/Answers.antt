@@ -54,7 +54,7 @@ complete-requires-clause-above c = λ r h.
     let same : c.reserve.new.self.checkpoints ≡ p.store.checkpoints = ap (λ (s : Stored). s.checkpoints) c.in_ok-reserve.ensures.kept ∙ ap (λ (q : Parts). q.store.checkpoints) c.in_ok-make_room.ensures.parts in
     let P : List Record → Type 0 = λ rs. IsIn r rs in
     c.requires.newest r (IsIn-in_order id_before r (grouped p.registry p.pending p.store.checkpoints p.store.savepoints)
-        (IsIn-append_right r (map (with_pins p.registry) p.pending) (p.store.checkpoints ++ p.store.savepoints) (IsIn-append_left r p.store.checkpoints p.store.savepoints (subst P same h))))
+    (IsIn-append_right r (map (with_pins p.registry) p.pending) (p.store.checkpoints ++ p.store.savepoints) (IsIn-append_left r p.store.checkpoints p.store.savepoints (subst P same h))))
 
 -- room was made, the uses were added, the store took the checkpoint, and room was made for the files
 has_checkpoint : (p made after q : Parts) (x : Record) (s t : Stored) (id : ℕ) (acks : List Acked) (files none : List ℕ)
@@ -90,8 +90,8 @@ returns-clause-records c =
     let after : Parts = record made { store = c.complete.new.self; registry = c.register.new.registry } in
     on_ok c.make_room_for_files.result (c.make_room_for_files.new.self ≡ with_room after 0) _
     (λ ok. records-checkpoint c.requires.newest (has_checkpoint p made after c.make_room_for_files.new.self c.args.done c.reserve.new.self c.complete.new.self c.id.result c.args.acks.now c.of-none.result c.new.result.items
-        c.in_ok-make_room.ensures.parts c.in_ok-make_room.ensures.room c.in_ok-reserve.ensures.kept c.complete.ensures.value c.requires.fewer c.id.ensures.value c.requires.acks c.id.ensures.done.no_pins c.of-none.ensures c.new.ensures.items
-        c.in_ok-register.ensures refl refl refl refl refl ok))
+    c.in_ok-make_room.ensures.parts c.in_ok-make_room.ensures.room c.in_ok-reserve.ensures.kept c.complete.ensures.value c.requires.fewer c.id.ensures.value c.requires.acks c.id.ensures.done.no_pins c.of-none.ensures c.new.ensures.items
+    c.in_ok-register.ensures refl refl refl refl refl ok))
     c.make_room_for_files.ensures.ok
 
 pub returns-clause-tied : goal.returns-clause-tied
@@ -101,6 +101,6 @@ returns-clause-tied c =
     let after : Parts = record made { store = c.complete.new.self; registry = c.register.new.registry } in
     on_ok c.make_room_for_files.result (c.make_room_for_files.new.self ≡ with_room after 0) _
     (λ ok. tied-checkpoint c.requires.tied c.requires.newest (has_checkpoint p made after c.make_room_for_files.new.self c.args.done c.reserve.new.self c.complete.new.self c.id.result c.args.acks.now c.of-none.result c.new.result.items
-        c.in_ok-make_room.ensures.parts c.in_ok-make_room.ensures.room c.in_ok-reserve.ensures.kept c.complete.ensures.value c.requires.fewer c.id.ensures.value c.requires.acks c.id.ensures.done.no_pins c.of-none.ensures c.new.ensures.items
-        c.in_ok-register.ensures refl refl refl refl refl ok))
+    c.in_ok-make_room.ensures.parts c.in_ok-make_room.ensures.room c.in_ok-reserve.ensures.kept c.complete.ensures.value c.requires.fewer c.id.ensures.value c.requires.acks c.id.ensures.done.no_pins c.of-none.ensures c.new.ensures.items
+    c.in_ok-register.ensures refl refl refl refl refl ok))
     c.make_room_for_files.ensures.ok

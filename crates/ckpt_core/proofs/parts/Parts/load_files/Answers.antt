@@ -29,8 +29,7 @@ after_take : (before put after : Queues) (slice files : List ℕ) (n : ℕ) → 
 after_take before put after slice files n none_waits none_taken same count waits takes ok =
     let all : put.waiting ≡ files = waits ∙ ap (λ (xs : List ℕ). xs ++ slice) none_waits ∙ same in
     let none : put.taken ≡ [] = takes ∙ none_taken in
-    let le : length files ≤ n = omega arith in
-    (
+    let le : length files ≤ n = omega arith in (
       ap (λ (q : Queues). q.waiting) ok ∙ ap (drop n) all ∙ drop_all n files le,
       ap (λ (q : Queues). q.taken) ok ∙ ap (λ (xs : List ℕ). xs ++ take n put.waiting) none ∙ ap (take n) all ∙ take_all n files le,
     )
@@ -43,8 +42,8 @@ returns-clause-state c =
     let w : Parts → List ℕ = λ r. r.outbox.waiting in
     let t : Parts → List ℕ = λ r. r.outbox.taken in
     let mid = after_take c.reserve.new.self p2.outbox c.take.new.self c.as_slice.result.now c.args.taken.now c.len-2.result
-        (ap (λ (q : Queues). q.waiting) c.in_ok-reserve.ensures.ok ∙ c.requires.none_waits) (ap (λ (q : Queues). q.taken) c.in_ok-reserve.ensures.ok ∙ c.requires.none_taken)
-        c.as_slice.ensures.files c.len-2.ensures (ap w c.in_ok-put_back.ensures.parts) (ap t c.in_ok-put_back.ensures.parts) c.in_ok-take.ensures.ok in
+    (ap (λ (q : Queues). q.waiting) c.in_ok-reserve.ensures.ok ∙ c.requires.none_waits) (ap (λ (q : Queues). q.taken) c.in_ok-reserve.ensures.ok ∙ c.requires.none_taken)
+    c.as_slice.ensures.files c.len-2.ensures (ap w c.in_ok-put_back.ensures.parts) (ap t c.in_ok-put_back.ensures.parts) c.in_ok-take.ensures.ok in
     let waits : p5.outbox.waiting ≡ c.args.waiting.now =
     ap w c.in_ok-put_back-2.ensures.parts ∙ ap (λ (q : Queues). q.waiting ++ c.as_slice-2.result.now) c.in_ok-reserve-2.ensures.ok ∙ ap (λ (xs : List ℕ). xs ++ c.as_slice-2.result.now) mid.0 ∙ c.as_slice-2.ensures in
     let takes : p5.outbox.taken ≡ c.args.taken.now = ap t c.in_ok-put_back-2.ensures.parts ∙ ap (λ (q : Queues). q.taken) c.in_ok-reserve-2.ensures.ok ∙ mid.1 in
@@ -64,8 +63,8 @@ returns-clause-apart c =
     let w : Parts → List ℕ = λ r. r.outbox.waiting in
     let t : Parts → List ℕ = λ r. r.outbox.taken in
     let mid = after_take c.reserve.new.self p2.outbox c.take.new.self c.as_slice.result.now c.args.taken.now c.len-2.result
-        (ap (λ (q : Queues). q.waiting) c.in_ok-reserve.ensures.ok ∙ c.requires.none_waits) (ap (λ (q : Queues). q.taken) c.in_ok-reserve.ensures.ok ∙ c.requires.none_taken)
-        c.as_slice.ensures.files c.len-2.ensures (ap w c.in_ok-put_back.ensures.parts) (ap t c.in_ok-put_back.ensures.parts) c.in_ok-take.ensures.ok in
+    (ap (λ (q : Queues). q.waiting) c.in_ok-reserve.ensures.ok ∙ c.requires.none_waits) (ap (λ (q : Queues). q.taken) c.in_ok-reserve.ensures.ok ∙ c.requires.none_taken)
+    c.as_slice.ensures.files c.len-2.ensures (ap w c.in_ok-put_back.ensures.parts) (ap t c.in_ok-put_back.ensures.parts) c.in_ok-take.ensures.ok in
     let waits : p5.outbox.waiting ≡ c.args.waiting.now =
     ap w c.in_ok-put_back-2.ensures.parts ∙ ap (λ (q : Queues). q.waiting ++ c.as_slice-2.result.now) c.in_ok-reserve-2.ensures.ok ∙ ap (λ (xs : List ℕ). xs ++ c.as_slice-2.result.now) mid.0 ∙ c.as_slice-2.ensures in
     let takes : p5.outbox.taken ≡ c.args.taken.now = ap t c.in_ok-put_back-2.ensures.parts ∙ ap (λ (q : Queues). q.taken) c.in_ok-reserve-2.ensures.ok ∙ mid.1 in

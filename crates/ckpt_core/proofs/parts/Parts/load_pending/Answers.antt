@@ -48,7 +48,7 @@ add-requires c = record {
       let P : List Record → Type 0 = λ rs. IsIn r rs in
       let it : Record = with_pins p.registry r in
       c.requires.newest it (IsIn-in_order id_before it (grouped p.registry p.pending p.store.checkpoints p.store.savepoints)
-          (IsIn-append_left it (map (with_pins p.registry) p.pending) (p.store.checkpoints ++ p.store.savepoints) (IsIn-map (with_pins p.registry) r p.pending (subst P same h))));
+      (IsIn-append_left it (map (with_pins p.registry) p.pending) (p.store.checkpoints ++ p.store.savepoints) (IsIn-map (with_pins p.registry) r p.pending (subst P same h))));
 }
 
 -- room was made, then the uses and the record were added, then room for the files
@@ -78,7 +78,7 @@ returns-clause-records c =
     let after : Parts = record made { pending = c.add.new.self; registry = c.register.new.registry } in
     on_ok c.make_room_for_files.result (c.make_room_for_files.new.self ≡ with_room after 0) _
     (λ ok. records-more c.requires.tied c.requires.newest (has_more p made after c.make_room_for_files.new.self c.args.pending c.id.result c.args.acks.now c.args.pins.now
-        c.in_ok-make_room.ensures.parts c.in_ok-make_room.ensures.room c.id.ensures.value c.requires.acks c.in_ok-register.ensures c.in_ok-add.ensures.ok refl refl refl refl ok))
+    c.in_ok-make_room.ensures.parts c.in_ok-make_room.ensures.room c.id.ensures.value c.requires.acks c.in_ok-register.ensures c.in_ok-add.ensures.ok refl refl refl refl ok))
     c.make_room_for_files.ensures.ok
 
 pub returns-clause-tied : goal.returns-clause-tied
@@ -88,5 +88,5 @@ returns-clause-tied c =
     let after : Parts = record made { pending = c.add.new.self; registry = c.register.new.registry } in
     on_ok c.make_room_for_files.result (c.make_room_for_files.new.self ≡ with_room after 0) _
     (λ ok. tied-more c.requires.tied c.requires.newest (has_more p made after c.make_room_for_files.new.self c.args.pending c.id.result c.args.acks.now c.args.pins.now
-        c.in_ok-make_room.ensures.parts c.in_ok-make_room.ensures.room c.id.ensures.value c.requires.acks c.in_ok-register.ensures c.in_ok-add.ensures.ok refl refl refl refl ok))
+    c.in_ok-make_room.ensures.parts c.in_ok-make_room.ensures.room c.id.ensures.value c.requires.acks c.in_ok-register.ensures c.in_ok-add.ensures.ok refl refl refl refl ok))
     c.make_room_for_files.ensures.ok

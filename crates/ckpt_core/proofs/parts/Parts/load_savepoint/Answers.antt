@@ -55,8 +55,8 @@ add_savepoint-requires-clause-new c =
     let same : c.reserve.new.self.savepoints ≡ p.store.savepoints = ap (λ (s : Stored). s.savepoints) c.in_ok-reserve.ensures.kept ∙ ap (λ (q : Parts). q.store.savepoints) c.in_ok-make_room.ensures.parts in
     let P : List Record → Type 0 = λ rs. list_any (λ r. eqb r.id c.args.done.id) rs ≡ false in
     subst P (sym same) (absent_newest c.args.done.id p.store.savepoints (λ r h.
-        c.requires.newest r (IsIn-in_order id_before r (grouped p.registry p.pending p.store.checkpoints p.store.savepoints)
-            (IsIn-append_right r (map (with_pins p.registry) p.pending) (p.store.checkpoints ++ p.store.savepoints) (IsIn-append_right r p.store.checkpoints p.store.savepoints h)))))
+    c.requires.newest r (IsIn-in_order id_before r (grouped p.registry p.pending p.store.checkpoints p.store.savepoints)
+    (IsIn-append_right r (map (with_pins p.registry) p.pending) (p.store.checkpoints ++ p.store.savepoints) (IsIn-append_right r p.store.checkpoints p.store.savepoints h)))))
 
 pub add_savepoint-requires-clause-few : goal.add_savepoint-requires-clause-few
 add_savepoint-requires-clause-few c =
@@ -99,8 +99,8 @@ returns-clause-records c =
     let after : Parts = record made { store = c.add_savepoint.new.self; registry = c.register.new.registry } in
     on_ok c.make_room_for_files.result (c.make_room_for_files.new.self ≡ with_room after 0) _
     (λ ok. records-savepoint c.requires.newest (has_savepoint_more p made after c.make_room_for_files.new.self c.args.done c.reserve.new.self c.add_savepoint.new.self c.id.result c.args.acks.now c.of-none.result c.new.result.items
-        c.in_ok-make_room.ensures.parts c.in_ok-make_room.ensures.room c.in_ok-reserve.ensures.kept c.add_savepoint.ensures.value c.id.ensures.value c.requires.acks c.id.ensures.done.no_pins c.of-none.ensures c.new.ensures.items
-        c.in_ok-register.ensures refl refl refl refl refl ok))
+    c.in_ok-make_room.ensures.parts c.in_ok-make_room.ensures.room c.in_ok-reserve.ensures.kept c.add_savepoint.ensures.value c.id.ensures.value c.requires.acks c.id.ensures.done.no_pins c.of-none.ensures c.new.ensures.items
+    c.in_ok-register.ensures refl refl refl refl refl ok))
     c.make_room_for_files.ensures.ok
 
 pub returns-clause-tied : goal.returns-clause-tied
@@ -110,6 +110,6 @@ returns-clause-tied c =
     let after : Parts = record made { store = c.add_savepoint.new.self; registry = c.register.new.registry } in
     on_ok c.make_room_for_files.result (c.make_room_for_files.new.self ≡ with_room after 0) _
     (λ ok. tied-savepoint c.requires.tied c.requires.newest (has_savepoint_more p made after c.make_room_for_files.new.self c.args.done c.reserve.new.self c.add_savepoint.new.self c.id.result c.args.acks.now c.of-none.result c.new.result.items
-        c.in_ok-make_room.ensures.parts c.in_ok-make_room.ensures.room c.in_ok-reserve.ensures.kept c.add_savepoint.ensures.value c.id.ensures.value c.requires.acks c.id.ensures.done.no_pins c.of-none.ensures c.new.ensures.items
-        c.in_ok-register.ensures refl refl refl refl refl ok))
+    c.in_ok-make_room.ensures.parts c.in_ok-make_room.ensures.room c.in_ok-reserve.ensures.kept c.add_savepoint.ensures.value c.id.ensures.value c.requires.acks c.id.ensures.done.no_pins c.of-none.ensures c.new.ensures.items
+    c.in_ok-register.ensures refl refl refl refl refl ok))
     c.make_room_for_files.ensures.ok

@@ -12,5 +12,5 @@ metadata-requires-clause-in_order c = live_in_order c.args.self.now c.requires.s
 pub returns : goal.returns
 returns c = λ r e done.
     let p : Parts = c.args.self.now in
-    let k = looked_up p r c.args.live.id e in
-    saved_record r c.in_ok-metadata.metadata (record_of (state_of p) c.args.live.id) c.in_ok-pins.pins e c.in_ok-metadata.ensures (c.in_ok-pins.ensures r k.0 k.1 (sym done))
+    let k = looked_up p r c.args.id e in
+    saved_record r c.in_ok-metadata.metadata (record_of (state_of p) c.args.id) c.in_ok-pins.pins e c.in_ok-metadata.ensures (c.in_ok-pins.ensures r k.0 k.1 (sym done))
