@@ -59,7 +59,7 @@ fn has_repeats(fresh: &Files, reused: &Files) -> bool
 }
 
 /// Whether a file stands twice. In ascending files it then stands beside itself.
-fn repeats(files: &[FileId]) -> bool
+pub(crate) fn repeats(files: &[FileId]) -> bool
     requires { IsAscending files.now }
     ensures { result ≡ has_repeats files.now }
 {

@@ -1,5 +1,5 @@
 //! A job whose rows are lines of a script, with the text that each prints, as in `examples/rows`.
-use ckpt_core::{Core, CoreFault};
+use ckpt_core::{Core, CoreFault, Image, Secret};
 use ckpt_ids::{Answer, Call, Config, Shape};
 use ckpt_lines::{Line, Numbers, parse_line};
 use ckpt_texts::answer_text;
@@ -42,6 +42,37 @@ impl Job {
         Ok(None)
     }
 
+    /// The same, where the coordinator is saved before each line, and made again of its image.
+    pub(crate) fn first_other_reopened(
+        &mut self,
+        row: &[(&str, &str)],
+    ) -> Result<Option<usize>, AllocError> {
+        for (place, (line, text)) in row.iter().enumerate() {
+            self.reopen()?;
+            if !self.prints(line, text)? {
+                return Ok(Some(place));
+            }
+        }
+        Ok(None)
+    }
+
+    fn reopen(&mut self) -> Result<(), AllocError> {
+        let image = self.image()?;
+        self.core = match opened_from(self.alloc, &image) {
+            Ok(core) => core,
+            Err(_) => opened_from(self.alloc, &image)?,
+        };
+        Ok(())
+    }
+
+    /// What is saved of the coordinator. Where there is no memory it is saved again once.
+    pub(crate) fn image(&self) -> Result<Image, AllocError> {
+        match self.core.image() {
+            Ok(image) => Ok(image),
+            Err(_) => self.core.image(),
+        }
+    }
+
     fn prints(&mut self, line: &str, text: &str) -> Result<bool, AllocError> {
         let call = match call_of(self.alloc, line) {
             Ok(call) => call,
@@ -67,6 +98,14 @@ impl Job {
             Err(CoreFault::Refused(why)) => Ok(Answer::Refused(why)),
             Err(CoreFault::Memory) => Err(AllocError),
         }
+    }
+}
+
+/// The coordinator whose state the image tells. A damaged image is taken for want of memory.
+fn opened_from(alloc: Global, image: &Image) -> Result<Core, AllocError> {
+    match Core::from_image(alloc, image, Secret::fixed()) {
+        Ok(core) => Ok(core),
+        Err(_) => Err(AllocError),
     }
 }
 

@@ -8,6 +8,8 @@ mod checkpoints;
 #[cfg(test)]
 mod embedding;
 #[cfg(test)]
+mod images;
+#[cfg(test)]
 mod job;
 #[cfg(test)]
 mod limits;

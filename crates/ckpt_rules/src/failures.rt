@@ -44,6 +44,13 @@ impl Failures {
         self.tolerable < self.number
     }
 
+    /// How many checkpoints have failed in a row.
+    pub fn number(&self) -> u32
+        ensures { result ≡ self.now.number }
+    {
+        self.number
+    }
+
     /// No failures: a checkpoint completed, or the job was restarted.
     pub fn reset(&mut self)
         ensures { self.new ≡ record self.old { number = 0 } }
