@@ -1,4 +1,4 @@
-//! A job whose rows are lines of a script, with the text that each prints, as in `examples/rows`.
+//! A job whose rows are lines of a script, each with an arrow and the text that it prints.
 use ckpt_core::{Core, CoreFault};
 use ckpt_ids::{Answer, Call, Config, Shape};
 use ckpt_lines::{Line, Numbers, parse_line};
@@ -8,38 +8,45 @@ use std::test::Fail;
 
 /// A job that tells its coordinator what happens.
 #[derive(Drop)]
-pub(crate) struct Job {
+struct Job {
     core: Core,
     alloc: Global,
 }
 
+/// The place of the first line of the row that does not print its text, in a job of one vertex that
+/// opens at 0 with this first number: a checkpoint each second, of which one is retained.
+pub(crate) fn other_line(
+    alloc: Global,
+    parallelism: u64,
+    first: u64,
+    row: &str,
+) -> Result<Option<usize>, Fail> {
+    let config = Config::new(1000, 0, 1, 600_000, 0, 1, false)?;
+    let shape = Shape::new(alloc, &[parallelism])?;
+    let core = Core::new(alloc, config, shape, 0, first)?;
+    let mut job = Job { core, alloc };
+    let other = job.first_other(row)?;
+    Ok(other)
+}
+
 impl Job {
-    /// A job of one vertex that opens at 0 with number 1: a checkpoint each second, of which one is
-    /// retained.
-    pub(crate) fn open(alloc: Global, parallelism: u64) -> Result<Job, Fail> {
-        Job::open_from(alloc, parallelism, 1)
-    }
-
-    /// The same, with this first number.
-    pub(crate) fn open_from(alloc: Global, parallelism: u64, first: u64) -> Result<Job, Fail> {
-        let config = Config::new(1000, 0, 1, 600_000, 0, 1, false)?;
-        let shape = Shape::new(alloc, &[parallelism])?;
-        let core = Core::new(alloc, config, shape, 0, first)?;
-        Ok(Job { core, alloc })
-    }
-
     /// Makes the calls of the row, and answers the place of the first line that does not print its
     /// text. What finds no memory is done again once.
-    pub(crate) fn first_other(
-        &mut self,
-        row: &[(&str, &str)],
-    ) -> Result<Option<usize>, AllocError> {
-        for (place, (line, text)) in row.iter().enumerate() {
-            if !self.prints(line, text)? {
+    fn first_other(&mut self, row: &str) -> Result<Option<usize>, AllocError> {
+        for (place, entry) in row.lines().enumerate() {
+            if !self.tells(entry)? {
                 return Ok(Some(place));
             }
         }
         Ok(None)
+    }
+
+    /// Whether the line before the arrow prints the text after it.
+    fn tells(&mut self, entry: &str) -> Result<bool, AllocError> {
+        match entry.split_once(" -> ") {
+            Some((line, text)) => self.prints(line, text),
+            None => Ok(false),
+        }
     }
 
     fn prints(&mut self, line: &str, text: &str) -> Result<bool, AllocError> {
@@ -82,9 +89,10 @@ fn may_want_memory(call: &Call) -> bool {
     )
 }
 
-/// Whether the text, with its newline, is what is printed of the answer.
+/// Whether the text, with a newline, is what is printed of the answer.
 fn is_told(alloc: Global, answer: &Answer, text: &str) -> Result<bool, AllocError> {
-    Ok(answer_text(alloc, answer)?.as_str() == text)
+    let told = answer_text(alloc, answer)?;
+    Ok(told.as_str().strip_suffix("\n") == Some(text))
 }
 
 /// The call that the line makes. A line that makes none is taken for want of memory.
