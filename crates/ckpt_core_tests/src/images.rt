@@ -8,53 +8,47 @@ use std::test::Fail;
 
 #[test]
 fn goes_on_after_each_line_of_a_row_that_pins_the_choice(rt: HostRuntime) -> Result<(), Fail> {
-    let mut job = Job::open(rt.alloc(), 2)?;
-    let row = [
-        ("tick 1000", "tick expired 0 triggered 1\n"),
-        ("ack 1000 1 0.0 +11", "ack pending 1\n"),
-        ("ack 1000 1 0.1 +12", "ack completed 0 0\n"),
-        ("tick 2000", "tick expired 0 triggered 2\n"),
-        ("savepoint 2000", "savepoint triggered 3\n"),
-        ("ack 2100 3 0.0 +13 =11", "ack pending 1\n"),
-        ("decline 2100 3 0.0", "decline aborted 1\n"),
-        ("ack 2200 3 0.1 +14", "ack late 1\n"),
-        ("take 1", "take 13\n"),
-        ("deleted 13", "deleted 13\n"),
-        ("take 9", "take 14\n"),
-        ("count 11", "count 11 2\n"),
-    ];
-    assert_eq!(rt; job.first_other_reopened(&row)?, None);
+    let mut job = Job::open_from(rt.alloc(), 2, 1)?;
+    let row = "tick 1000 -> tick expired 0 triggered 1
+ack 1000 1 0.0 +11 -> ack pending 1
+ack 1000 1 0.1 +12 -> ack completed 0 0
+tick 2000 -> tick expired 0 triggered 2
+savepoint 2000 -> savepoint triggered 3
+ack 2100 3 0.0 +13 =11 -> ack pending 1
+decline 2100 3 0.0 -> decline aborted 1
+ack 2200 3 0.1 +14 -> ack late 1
+take 1 -> take 13
+deleted 13 -> deleted 13
+take 9 -> take 14
+count 11 -> count 11 2";
+    assert_eq!(rt; job.first_other_reopened(row)?, None);
     Ok(())
 }
 
 #[test]
 fn goes_on_after_each_line_of_a_row_with_a_new_shape(rt: HostRuntime) -> Result<(), Fail> {
-    let mut job = Job::open(rt.alloc(), 1)?;
-    let row = [
-        ("tick 1000", "tick expired 0 triggered 1\n"),
-        ("ack 1000 1 0.0 +11", "ack completed 0 0\n"),
-        ("tick 2000", "tick expired 0 triggered 2\n"),
-        ("restore 2300 latest 1 2", "restored checkpoint 1 0\n"),
-        ("tick 3300", "tick expired 0 triggered 3\n"),
-        ("ack 3300 3 1.1 +12 =11", "ack pending 2\n"),
-    ];
-    assert_eq!(rt; job.first_other_reopened(&row)?, None);
+    let mut job = Job::open_from(rt.alloc(), 1, 1)?;
+    let row = "tick 1000 -> tick expired 0 triggered 1
+ack 1000 1 0.0 +11 -> ack completed 0 0
+tick 2000 -> tick expired 0 triggered 2
+restore 2300 latest 1 2 -> restored checkpoint 1 0
+tick 3300 -> tick expired 0 triggered 3
+ack 3300 3 1.1 +12 =11 -> ack pending 2";
+    assert_eq!(rt; job.first_other_reopened(row)?, None);
     Ok(())
 }
 
 /// The image of a job with checkpoint 1 done, checkpoint 2 pending, savepoint 3 aborted, and its
 /// file 13 waiting.
 fn saved(alloc: Global) -> Result<Image, Fail> {
-    let mut job = Job::open(alloc, 1)?;
-    let row = [
-        ("tick 1000", "tick expired 0 triggered 1\n"),
-        ("ack 1000 1 0.0 +11", "ack completed 0 0\n"),
-        ("tick 2000", "tick expired 0 triggered 2\n"),
-        ("savepoint 2000", "savepoint triggered 3\n"),
-        ("decline 2100 3 0.0", "decline aborted 0\n"),
-        ("ack 2200 3 0.0 +13", "ack late 1\n"),
-    ];
-    job.first_other(&row)?;
+    let mut job = Job::open_from(alloc, 1, 1)?;
+    let row = "tick 1000 -> tick expired 0 triggered 1
+ack 1000 1 0.0 +11 -> ack completed 0 0
+tick 2000 -> tick expired 0 triggered 2
+savepoint 2000 -> savepoint triggered 3
+decline 2100 3 0.0 -> decline aborted 0
+ack 2200 3 0.0 +13 -> ack late 1";
+    job.first_other(row)?;
     Ok(job.image()?)
 }
 

@@ -4,9 +4,9 @@
 #![tactic(auto)]
 
 #[cfg(test)]
-mod checkpoints;
-#[cfg(test)]
 mod embedding;
+#[cfg(test)]
+mod full_size;
 #[cfg(test)]
 mod images;
 #[cfg(test)]
@@ -15,7 +15,5 @@ mod job;
 mod limits;
 #[cfg(test)]
 mod queries;
-#[cfg(test)]
-mod records;
 #[cfg(test)]
 mod refused_memory;
