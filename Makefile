@@ -60,7 +60,7 @@ job:
 	cd crates/ckpt_job && rt run < ../../examples/first-checkpoint.script
 
 demo:
-	(cat demo/SETTINGS; echo duration 60000) | (cd crates/ckpt_demo && rt run)
+	cd crates/ckpt_demo && rt run < ../../demo/SETTINGS
 
 programs:
 	cd crates/ckpt_job && rt run < ../../examples/first-checkpoint.script

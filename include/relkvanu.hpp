@@ -166,7 +166,7 @@ public:
         Coordinator it;
         std::random_device random;
         auto word = [&random] { return std::uint64_t{random()} << 32 | random(); };
-        relkvanu_answer told = relkvanu_open(&it.handle_, &settings, list(of), of.size(), now, first, word(), word());
+        relkvanu_answer told = relkvanu_open(&it.handle_, &settings, of.data(), of.size(), now, first, word(), word());
         if (told.code != RELKVANU_DONE) {
             return refusal(told);
         }
@@ -211,7 +211,7 @@ public:
     /* Where it is refused, the task deletes a file only if no accepted acknowledgement ever named it: not after
      * already_acknowledged, and after name_taken not those that were named before. */
     ack_answer ack(std::uint64_t now, std::uint64_t id, std::uint16_t vertex, std::uint16_t index, files fresh, files reused = {}) {
-        relkvanu_answer told = relkvanu_ack(&handle_, now, id, vertex, index, list(fresh), fresh.size(), list(reused), reused.size());
+        relkvanu_answer told = relkvanu_ack(&handle_, now, id, vertex, index, fresh.data(), fresh.size(), reused.data(), reused.size());
         if (told.code != RELKVANU_DONE) {
             return refusal(told);
         }
@@ -257,8 +257,7 @@ public:
 
     /* Fetches files that wait for deletion into a buffer, at most as many as it has places. */
     take_answer take(span<std::uint64_t> buffer) {
-        std::uint64_t none = 0;
-        relkvanu_answer told = relkvanu_take(&handle_, buffer.empty() ? &none : buffer.data(), buffer.size());
+        relkvanu_answer told = relkvanu_take(&handle_, buffer.data(), buffer.size());
         return told.code == RELKVANU_DONE ? take_answer(files(buffer.data(), static_cast<std::size_t>(told.a))) : refusal(told);
     }
 
@@ -346,12 +345,6 @@ private:
 
     Coordinator() = default;
 
-    /* The library takes no null pointer, also where a length is 0. */
-    static const std::uint64_t *list(files of) {
-        static const std::uint64_t none = 0;
-        return of.empty() ? &none : of.data();
-    }
-
     static std::uint8_t *bytes(std::string &text) { return reinterpret_cast<std::uint8_t *>(text.data()); }
 
     static refused refusal(relkvanu_answer told) {
@@ -369,7 +362,7 @@ private:
     }
 
     restore_answer restore_from(std::uint64_t now, std::uint64_t savepoint, shape of) {
-        relkvanu_answer told = relkvanu_restore(&handle_, now, savepoint, list(of), of.size());
+        relkvanu_answer told = relkvanu_restore(&handle_, now, savepoint, of.data(), of.size());
         if (told.code != RELKVANU_DONE) {
             return refusal(told);
         }

@@ -87,19 +87,27 @@ class Discarder:
             self._discard(list(files))
 
     def _discard(self, files: List[int]) -> None:
-        """Tries files until each is deleted or was tried as often as may be, or the discarder is stopped."""
+        """Tries files until each is deleted or was tried as often as may be, or the discarder is stopped. Those that are left
+        wait again, also where `delete` raises something else than OSError, which ends the thread."""
+        try:
+            self._try(files)
+        finally:
+            for file in files:
+                self._coordinator.undeleted(file)
+
+    def _try(self, files: List[int]) -> None:
+        """Takes the files that are deleted or given up out of the list."""
         wait = self._patience.first_wait
         for attempt in range(1, self._patience.attempts + 1):
-            files = [file for file in files if not self._is_deleted(file)]
-            if files and attempt < self._patience.attempts and self._over.wait(wait):
-                for file in files:
-                    self._coordinator.undeleted(file)
+            for file in files[:]:
+                if self._is_deleted(file):
+                    files.remove(file)
+            if not files or (attempt < self._patience.attempts and self._over.wait(wait)):
                 return
             wait = min(2 * wait, self._patience.longest_wait)
-            if not files:
-                return
         with self._lock:
             self._given_up += files
+        files.clear()
 
     def _is_deleted(self, file: int) -> bool:
         """Tries a file, and reports it where it is deleted."""

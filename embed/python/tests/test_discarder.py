@@ -54,6 +54,19 @@ class Discarding(unittest.TestCase):
                 self.assertEqual(job.file_counts(), FileCounts(0, 12, 8))
             self.assertEqual(job.file_counts(), FileCounts(0, 20, 0))
 
+    def test_a_fault_of_its_caller_leaves_no_file_taken(self):
+        def fails(file):
+            if file in (3, 7):
+                raise KeyError(file)
+
+        hook, threading.excepthook = threading.excepthook, lambda fault: None
+        try:
+            with cancelled(self) as job, Discarder(job, fails, QUICK) as discarder:
+                # 1 and 2 of the first four, then 5 and 6 of the next: both threads have ended, and what they had waits
+                wait_for(lambda: discarder.told().deleted == 4 and job.file_counts() == FileCounts(0, 16, 0))
+        finally:
+            threading.excepthook = hook
+
     def test_patience_has_limits(self):
         self.assertRaises(ValueError, Patience, attempts=0)
 

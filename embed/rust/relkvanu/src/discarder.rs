@@ -76,7 +76,7 @@ pub struct Discarder {
 
 impl Discarder {
     /// Starts the threads. `delete` deletes the file of a number; several threads call it at once, each with another
-    /// file.
+    /// file. Where it panics its thread ends, and what that had fetched waits again.
     ///
     /// Fails where the system starts no thread; then none runs.
     pub fn start<D>(
@@ -141,6 +141,20 @@ impl Drop for Discarder {
     }
 }
 
+/// Files that are fetched and not yet reported. Those that are left wait again, also where `delete` panics.
+struct Batch<'a> {
+    shared: &'a Shared,
+    files: Vec<u64>,
+}
+
+impl Drop for Batch<'_> {
+    fn drop(&mut self) {
+        for file in &self.files {
+            self.shared.report(*file, false);
+        }
+    }
+}
+
 impl Shared {
     fn lock(&self) -> MutexGuard<'_, State> {
         self.state.lock().unwrap_or_else(PoisonError::into_inner)
@@ -172,20 +186,23 @@ impl Shared {
     }
 
     /// Tries files until each is deleted or was tried as often as may be, or the discarder is stopped.
-    fn discard(&self, mut files: Vec<u64>, delete: &dyn Fn(u64) -> io::Result<()>) {
+    fn discard(&self, files: Vec<u64>, delete: &dyn Fn(u64) -> io::Result<()>) {
+        let mut batch = Batch {
+            shared: self,
+            files,
+        };
         let mut wait = self.patience.first_wait;
         for attempt in 1..=self.patience.attempts.get() {
-            files.retain(|file| !self.is_deleted(*file, delete));
-            if files.is_empty() {
+            batch.files.retain(|file| !self.is_deleted(*file, delete));
+            if batch.files.is_empty() {
                 return;
             }
             if attempt < self.patience.attempts.get() && self.is_over_after(wait) {
-                files.iter().for_each(|file| self.report(*file, false));
                 return;
             }
             wait = (wait * 2).min(self.patience.longest_wait);
         }
-        self.lock().told.given_up.append(&mut files);
+        self.lock().told.given_up.append(&mut batch.files);
     }
 
     /// Tries a file, and reports it where it is deleted.

@@ -12,6 +12,8 @@
 //! **Whose files are they.** The files of an accepted acknowledgement belong to the coordinator, also where it came late.
 //! After a refusal a task deletes a file only if no accepted acknowledgement ever named it: after
 //! [`Refusal::AlreadyAcknowledged`] and [`Refusal::NameTaken`] the file may well be in use.
+#![warn(clippy::undocumented_unsafe_blocks)]
+
 mod answer;
 mod coordinator;
 mod discarder;

@@ -94,6 +94,20 @@ fn a_discarder_that_is_stopped_leaves_no_file_taken() {
 }
 
 #[test]
+fn a_discarder_whose_caller_panics_leaves_no_file_taken() {
+    let job = cancelled();
+    let panics = |file| match file {
+        3 | 7 => panic!("file {file}"),
+        _ => Ok(()),
+    };
+    let discarder = Discarder::start(job.clone(), quick(3), panics).unwrap();
+    // 1 and 2 of the first four, then 5 and 6 of the next: both threads have ended, and what they had waits
+    wait_for(|| discarder.told().deleted == 4 && job.file_counts() == counts(16, 0));
+    assert_eq!(discarder.stop().deleted, 4);
+    assert_eq!(job.file_counts(), counts(16, 0));
+}
+
+#[test]
 fn threads_acknowledge_at_the_same_time() {
     let job = SharedCoordinator::open(&SETTINGS, &[64], 0, 1).unwrap();
     job.tick(1000).unwrap();
