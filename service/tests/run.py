@@ -51,7 +51,8 @@ def in_process(name, words):
         passed, failed, skipped = numbers if told.returncode == 0 else (0, 1, 0)
     except (IndexError, ValueError):
         return lines, (0, 1, 0)
-    print("\n".join(line for line in lines[:-1] if not line.startswith("skipped: ")) or f"     {name}: nothing was run", flush=True)
+    for line in (line for line in lines[:-1] if not line.startswith("skipped: ")):
+        print(line, flush=True)
     return lines[:-1], (passed, failed, skipped)
 
 
