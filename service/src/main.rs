@@ -17,8 +17,18 @@ use cli::{Cli, Command};
 use std::process::ExitCode;
 
 fn main() -> ExitCode {
+    abort_on_panic();
     match Cli::parse().command {
         Command::Serve(given) => serve::run(&given),
         Command::Discard(given) => discard::run(&given),
     }
+}
+
+/// A thread that panics ends the process, so that nothing half done goes on: the next start reads what was committed.
+fn abort_on_panic() {
+    let tell = std::panic::take_hook();
+    std::panic::set_hook(Box::new(move |info| {
+        tell(info);
+        std::process::abort()
+    }));
 }

@@ -76,11 +76,24 @@ def test_bad_requests_name_the_field_and_change_nothing():
         return f"{len(BAD) + 3} requests"
 
 
+def raw(server, request):
+    """The answer's first bytes; none where the service waits for more of the request."""
+    with socket.create_connection(("127.0.0.1", server.port), timeout=20) as it:
+        it.sendall(request)
+        it.settimeout(0.05)
+        try:
+            return it.recv(4096)
+        except (socket.timeout, ConnectionResetError):
+            return b""
+
+
 def test_malformed_requests_by_the_thousand():
     chance = random.Random(7)
     good = b'POST /v1/jobs/orders/calls HTTP/1.1\r\nHost: localhost\r\nContent-Type: application/json\r\nContent-Length: 60\r\n\r\n{"calls":[{"call":"ack","id":1,"subtask":"0.0","fresh":[]}]}'
+    seen = {}
     with served() as server:
         server.request("POST", "/v1/jobs", JOB)
+        until(lambda: raw(server, good).startswith(b"HTTP/1.1 200"), 5)  # the request that is made wrong is a good one
         for _ in range(1000):
             wrong = bytearray(good)
             for _ in range(chance.randint(1, 8)):
@@ -92,15 +105,14 @@ def test_malformed_requests_by_the_thousand():
                     del wrong[at : at + chance.randint(1, 40)]
                 else:
                     wrong[at:at] = bytes(chance.randrange(256) for _ in range(chance.randint(1, 40)))
-            with socket.create_connection(("127.0.0.1", server.port), timeout=5) as it:
-                it.sendall(wrong)
-                it.shutdown(socket.SHUT_WR)
-                answer = it.recv(4096)
+            answer = raw(server, wrong)
             assert answer == b"" or answer.startswith(b"HTTP/1.1 "), answer
-            assert not answer.startswith(b"HTTP/1.1 500"), (wrong, answer)
+            assert not answer.startswith(b"HTTP/1.1 5"), (wrong, answer)
+            seen[answer[9:12].decode() or "none"] = seen.get(answer[9:12].decode() or "none", 0) + 1
         assert server.get("/healthz")[0] == 200
         state = server.get("/v1/jobs/orders")[2]
-        return f"1000 requests, {state['seq']} of them calls that were made"
+        assert state["seq"] == 0 and seen.get("400", 0) > 100, (state, seen)
+        return f"1000 requests: {', '.join(f'{count} were answered {status}' for status, count in sorted(seen.items()))}"
 
 
 def test_a_key_makes_calls_once():

@@ -29,20 +29,20 @@ pub async fn answer(app: Arc<App>, request: Request<Body>) -> Reply {
         Ok(()) => dispatch(&app, route, request).await,
         Err(refused) => Err(refused),
     };
-    let reply = reply.unwrap_or_else(|refused| refused);
+    let reply = reply.unwrap_or_else(|refused| *refused);
     app.metrics.request(name, reply.status().as_u16());
     reply
 }
 
-async fn dispatch(app: &App, route: Route, request: Request<Body>) -> Result<Reply, Reply> {
+async fn dispatch(app: &App, route: Route, request: Request<Body>) -> Result<Reply, Box<Reply>> {
     if route.needs_leader() && !app.board.is_ready() {
-        return Err(standby(app).await);
+        return Err(standby(app).await.into());
     }
     match route {
         Route::Asset(asset) => Ok(page::answer(asset)),
         Route::Health => Ok(health(app)),
         Route::Ready if app.board.is_ready() => Ok(text(200, "ready\n")),
-        Route::Ready => Err(standby(app).await),
+        Route::Ready => Err(standby(app).await.into()),
         Route::NewJob => writes::new_job(app, request).await,
         Route::Calls(job) => writes::calls(app, job, request).await,
         read => reads::answer(app, read, request.uri().query().unwrap_or("")).await,
@@ -59,20 +59,20 @@ fn no_route(none: &NoRoute) -> Reply {
 
 /// Whether a request may be made: with its token; or, where there are no tokens, by a program of this machine that names
 /// this machine. A page of another site can do neither, as it can set no such type of content.
-fn admitted(app: &App, route: &Route, headers: &HeaderMap) -> Result<(), Reply> {
+fn admitted(app: &App, route: &Route, headers: &HeaderMap) -> Result<(), Box<Reply>> {
     let Some(access) = route.access() else {
         return Ok(());
     };
     match &app.tokens {
         Some(tokens) if !tokens.allow(headers, access) => {
             let refused = error(401, "Authorization: a token for this is needed, as 'Bearer TOKEN'");
-            return Err(with_header(refused, WWW_AUTHENTICATE, "Bearer"));
+            return Err(with_header(refused, WWW_AUTHENTICATE, "Bearer").into());
         }
-        None if !names_loopback(headers) => return Err(error(403, "Host: names another machine, and there are no tokens")),
+        None if !names_loopback(headers) => return Err(error(403, "Host: names another machine, and there are no tokens").into()),
         _ => {}
     }
     match access {
-        Access::Write if !is_json(headers) => Err(error(415, "Content-Type: is not application/json")),
+        Access::Write if !is_json(headers) => Err(error(415, "Content-Type: is not application/json").into()),
         _ => Ok(()),
     }
 }
@@ -108,7 +108,7 @@ pub fn busy(why: &str) -> Reply {
 
 async fn standby(app: &App) -> Reply {
     let refused = busy("this process does not lead");
-    match app.from_log(|reader| Ok(reader.leader())).await {
+    match app.read_log(|reader| Ok(reader.leader())).await {
         Ok(Some(leader)) => with_header(refused, HeaderName::from_static(LEADER), &leader),
         _ => refused,
     }

@@ -146,6 +146,23 @@ mod tests {
     }
 
     #[test]
+    fn the_description_has_each_route_and_no_other() -> Result<(), serde_json::Error> {
+        let described: serde_json::Value = serde_json::from_str(include_str!("../../web/openapi.json"))?;
+        let paths = described["paths"].as_object().map(|paths| paths.iter().collect::<Vec<_>>()).unwrap_or_default();
+        let methods = |item: &serde_json::Value| item.as_object().map(|item| item.keys().cloned().collect::<Vec<_>>());
+        let described: Vec<(String, String)> = paths
+            .iter()
+            .flat_map(|(path, item)| methods(item).unwrap_or_default().into_iter().map(|method| (method, (*path).clone())))
+            .collect();
+        let mut wanted: Vec<(String, String)> = API.iter().map(|(method, path)| (method.to_string(), path.to_string())).collect();
+        let mut described = described;
+        wanted.sort();
+        described.sort();
+        assert_eq!(described, wanted);
+        Ok(())
+    }
+
+    #[test]
     fn other_paths_are_none() {
         for path in ["", "/x", "/v1", "/v1/jobs/a/b", "/v1/jobs/a/records/1/2", "/v1/jobs/", "/../etc/passwd", "//", "/v1/jobs/a/"] {
             assert!(Route::of(&Method::GET, path).is_err(), "{path}");

@@ -63,32 +63,32 @@ impl Engine {
         Ok(Reply::Taken(files.to_vec()))
     }
 
-    pub fn mode(&mut self) -> Mode {
+    pub fn mode(&self) -> Mode {
         self.0.mode()
     }
 
-    pub fn due(&mut self) -> u64 {
+    pub fn due(&self) -> u64 {
         self.0.due()
     }
 
-    pub fn oldest_expiry(&mut self) -> Option<u64> {
+    pub fn oldest_expiry(&self) -> Option<u64> {
         self.0.oldest_expiry()
     }
 
-    pub fn choice(&mut self) -> Choice {
+    pub fn choice(&self) -> Choice {
         self.0.choice()
     }
 
-    pub fn counts(&mut self) -> FileCounts {
+    pub fn counts(&self) -> FileCounts {
         self.0.file_counts()
     }
 
-    pub fn missing(&mut self, id: u64) -> Option<u64> {
+    pub fn missing(&self, id: u64) -> Option<u64> {
         self.0.missing(id)
     }
 
     /// How many uses a file has; `None` where memory ran out.
-    pub fn uses(&mut self, file: u64) -> Option<u64> {
+    pub fn uses(&self, file: u64) -> Option<u64> {
         match self.0.count(file) {
             Ok(relkvanu::Answer::Counted { uses, .. }) => Some(uses),
             _ => None,
@@ -96,12 +96,12 @@ impl Engine {
     }
 
     /// The metadata of a live record, as JSON; `None` where there is none, or memory ran out.
-    pub fn show(&mut self, id: u64) -> Option<String> {
+    pub fn show(&self, id: u64) -> Option<String> {
         self.0.show(id).ok()
     }
 
-    pub fn live(&mut self) -> Live {
-        let core = &mut self.0;
+    pub fn live(&self) -> Live {
+        let core = &self.0;
         (0..).map_while(|place| core.live(place)).map(|found| (found.id, record(found))).collect()
     }
 }
@@ -149,11 +149,7 @@ fn reply(answer: relkvanu::Answer) -> Result<Reply, Fault> {
 fn fault(fault: relkvanu::Fault) -> Fault {
     match fault {
         relkvanu::Fault::Memory => Fault::Memory,
-        relkvanu::Fault::Refused(refusal) => {
-            let name = refusal.name();
-            let file = matches!(name.as_str(), "NameTaken" | "FileGone").then_some(refusal.file);
-            Fault::Refused { name, file }
-        }
+        relkvanu::Fault::Refused(refusal) => Fault::Refused { name: refusal.name(), file: refusal.file() },
         other => Fault::Refused { name: format!("{other:?}"), file: None },
     }
 }
