@@ -1,3 +1,5 @@
+//! Opening and closing a handle.
+
 ghost use Rattle.std.specs.Prelude.{◌≡◌, ◌≢◌, true, false, None, IfOk, IfErr};
 ghost use Rattle.ckpt_ids.specs.Configuration.{is_within_limits};
 ghost use Rattle.ckpt_ids.specs.Shapes.{is_shape};

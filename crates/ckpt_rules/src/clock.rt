@@ -1,3 +1,5 @@
+//! When the next checkpoint may start.
+
 ghost use Rattle.std.specs.Prelude.{◌≡◌, ◌+◌, ◌*◌, ◌<◌, max, Some, None};
 ghost use Rattle.ckpt_ids.specs.declared.limits.TheConstants.{LONGEST_DURATION, MOMENTS_END};
 ghost use Rattle.ckpt_rules.specs.Moments.{Moments, IsInRange};

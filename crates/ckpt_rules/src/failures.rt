@@ -1,3 +1,5 @@
+//! How many failures in a row a job tolerates.
+
 ghost use Rattle.std.specs.Prelude.{◌≡◌, ◌+◌, ◌<◌, ◌^◌, ◌↔◌, IsTrue};
 ghost use Rattle.ckpt_rules.specs.FailureCount.{FailureCount};
 
