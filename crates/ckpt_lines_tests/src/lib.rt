@@ -5,8 +5,6 @@
 #![tactic(auto)]
 
 #[cfg(test)]
-mod call_lines;
-#[cfg(test)]
 mod lines;
 #[cfg(test)]
 mod texts;
