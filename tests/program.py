@@ -1,5 +1,6 @@
 """What the tests of the built program share: how it is run, over devices that fail, and what they count."""
 import os
+import shutil
 import subprocess
 import sys
 import tempfile
@@ -18,11 +19,15 @@ def program():
 
 def built(source, made, *words):
     """Builds a C file of this folder, and returns what is made, or nothing where there is no C compiler."""
-    words = ["cc", "-O2", "-o", made, f"{TOP}/tests/{source}", *words]
-    try:
-        return made if subprocess.run(words).returncode == 0 else None
-    except FileNotFoundError:
+    if not shutil.which("cc"):
         return None
+    subprocess.run(["cc", "-O2", "-o", made, f"{TOP}/tests/{source}", *words], check=True)
+    return made
+
+
+def skip(tool, what):
+    """Says what is not tested for want of a tool, as the gate reads it."""
+    print(f"skipped: {tool}: {what}", flush=True)
 
 
 def examples():

@@ -1,3 +1,4 @@
+//! The line of a call.
 ghost use Rattle.std.specs.Prelude.{◌≡◌, ◌++◌, IfOk, OnOk, string_bytes};
 ghost use Rattle.ckpt_ids.specs.declared.call.Call.TheVariants.{Ack, Decline, Restore};
 ghost use Rattle.ckpt_call_lines.specs.CallTexts.{call_text, line_of_call, FitsCall, IsReadAs};

@@ -1,3 +1,4 @@
+//! The lines that open a job: `config`, `job` and `start`.
 ghost use Rattle.std.specs.Prelude.{◌≡◌, ◌++◌, IfOk, OnOk, string_bytes};
 ghost use Rattle.ckpt_lines.specs.declared.line.Line.TheVariants.{Job, Start};
 ghost use Rattle.ckpt_call_lines.specs.CallTexts.{config_text, job_text, limits_text, line_of_config, retention_text, start_text, triggers_text, IsReadAs};

@@ -1,3 +1,5 @@
+//! Why there is no picture.
+
 use std::alloc::{AllocError, AllocFailed};
 use thiserror::Error;
 

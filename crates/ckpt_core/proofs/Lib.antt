@@ -4,6 +4,7 @@ pub mod Completing
 pub mod Crossings
 pub mod Ending
 pub mod Histories
+pub mod Loaded
 pub mod Reading
 pub mod Records
 pub mod Reordering

@@ -2,8 +2,10 @@
 pub mod Completing
 pub mod FileFacts
 pub mod Grouped
+pub mod Loading
 pub mod Moving
 pub mod Parts
 pub mod PendingRecords
 pub mod RecordFacts
+pub mod SoundRecords
 pub mod Starting

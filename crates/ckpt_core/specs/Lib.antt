@@ -1,6 +1,7 @@
 pub mod Coordinator
 pub mod FaultTexts
 pub mod Histories
+pub mod Images
 pub mod Inside
 pub mod Interleavings
 pub mod Laws

@@ -1,3 +1,4 @@
+//! Acknowledgements of records that are pending.
 ghost use Rattle.std.specs.Prelude.{◌≡◌, ◌<◌, ◌≤◌, ◌+◌, ◌-◌, ◌++◌, ◌==◌, find, length, IfOk, OnOk, OnErr, IsSome, true};
 ghost use Rattle.ckpt_ids.specs.declared.call.Call.TheVariants as call;
 ghost use Rattle.ckpt_core.specs.Coordinator.{may_want_memory};

@@ -1,3 +1,4 @@
+//! The coordinator as callers see it: how it is opened, and the call that makes all others.
 ghost use Rattle.std.specs.Prelude.{◌≡◌, ◌↔◌, true, false, None, Some, Err, IfOk, OnErr};
 ghost use Rattle.std.specs.Result.{result_err};
 ghost use Rattle.ckpt_ids.specs.declared.reply.Answer.TheVariants.{Done};

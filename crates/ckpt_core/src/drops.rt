@@ -1,3 +1,4 @@
+//! The end of records: their uses are released, and the files that nothing uses are handed out.
 ghost use Rattle.std.specs.Prelude.{◌≡◌, ◌-◌, ◌≤◌, ◌++◌, ◌||◌, ◌==◌, ◌≢◌, ◌+◌, ℕ, [], true, false, find, length, map, Some, IsSome, vec_capacity, vec_len};
 ghost use Rattle.ckpt_core.specs.Inside.FileFacts.{after_end, is_known, is_present, released, without};
 ghost use Rattle.ckpt_core.specs.Inside.Moving.{releasing, without_checkpoints};

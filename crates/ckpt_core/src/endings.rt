@@ -1,3 +1,4 @@
+//! Calls that end records: declines, disposals, restores and the cancellation of the job.
 ghost use Rattle.std.specs.Prelude.{◌≡◌, ℕ, ◌||◌, true, [], length, Some, None, IfOk, OnErr};
 ghost use Rattle.ckpt_ids.specs.declared.call.Target.TheVariants.{Savepoint};
 ghost use Rattle.ckpt_ids.specs.declared.call.Call.TheVariants as call;

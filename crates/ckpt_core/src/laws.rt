@@ -7,6 +7,7 @@ ghost use Rattle.ckpt_core.specs.State.{State, Opening, opened};
 ghost use Rattle.ckpt_core.specs.Histories.{replay};
 ghost use Rattle.ckpt_core.specs.Soundness.{IsSound};
 ghost use Rattle.ckpt_core.specs.Laws.{Exchange, Part, CanOpen, AreCalls, Balance, Handed, Accounted, UsedNoMore, Outbox, Acknowledgements, Numbers, Savepoints, ChoiceIsLive, PinsStay};
+ghost use Rattle.ckpt_core.specs.Images.{AreAlike, CanHold, GoesOnAs, IsCut, settled};
 ghost use Rattle.ckpt_core.specs.Interleavings.{NewFile, SeatedCalls, AnyOrder};
 
 /// Two acknowledgements of different subtasks of one record, one right after the other, go in
@@ -81,4 +82,24 @@ pub fn used_no_more()
 /// Each file is in at most one of present, waiting and taken, and there once.
 pub fn outbox()
     ensures { (o : Opening) (calls : List Call) → CanOpen o → AreCalls calls → Outbox o calls }
+{}
+
+/// A state that a coordinator can be in, with the fetched files in ascending order, is one too, and
+/// differs in that order alone.
+pub fn settling()
+    ensures held { (m : State) → CanHold m → CanHold (settled m) }
+    ensures alike { (m : State) → AreAlike m (settled m) }
+{}
+
+/// Two states that differ in the order of the fetched files alone answer every list of calls the
+/// same, and stay so.
+pub fn resumes()
+    ensures { (m n : State) (calls : List Call) → AreAlike m n → GoesOnAs m n calls }
+{}
+
+/// A log may be cut at each place: the calls before it lead to a state, and the coordinator that is
+/// made of its image answers the calls after it as the one that made all calls did, and is alike
+/// after them.
+pub fn cutting()
+    ensures { (m : State) (before after : List Call) → IsCut m before after }
 {}

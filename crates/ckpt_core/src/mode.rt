@@ -1,3 +1,5 @@
+//! Whether the job runs.
+
 /// What a job is doing.
 #[derive(Clone, Copy, Debug, PartialEq, Eq)]
 pub enum Mode {

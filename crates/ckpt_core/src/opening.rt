@@ -1,3 +1,4 @@
+//! The parts of a coordinator that is opened.
 ghost use Rattle.std.specs.Prelude.{◌≡◌, ◌<◌, ◌≤◌};
 ghost use Rattle.ckpt_ids.specs.declared.limits.TheConstants.{MOMENTS_END, NUMBERS_END};
 ghost use Rattle.ckpt_core.specs.Inside.Parts.{AreSound, state_of};

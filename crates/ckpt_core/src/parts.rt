@@ -1,3 +1,4 @@
+//! The parts that a coordinator is made of.
 use crate::mode::Mode;
 use crate::pending_records::PendingRecords;
 use ckpt_ids::{CheckpointId, Config, Shape};

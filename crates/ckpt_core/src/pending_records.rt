@@ -1,3 +1,4 @@
+//! The pending records, in rising number.
 ghost use Rattle.std.specs.Prelude.{◌≡◌, ℕ, ◌+◌, ◌<◌, ◌≤◌, true, false, not, ◌&&◌, ◌||◌, nat_lt, nat_le, ◌==◌, [], ◌∷◌, ◌++◌, map, filter, find, length, count_by, Some, IfSome, IfNone, IsSome, OnOk, OnErr, option_copied, option_map, vec_capacity, vec_len};
 ghost use Rattle.std.specs.List.{list_any};
 ghost use Rattle.ckpt_core.specs.Inside.PendingRecords.{Expects, acked, retracted};

@@ -4,7 +4,7 @@ ghost use Rattle.std.specs.Prelude.{◌≡◌, length, find, nat_le, option_map,
 ghost use Rattle.ckpt_ids.specs.Records.{missing, uses};
 ghost use Rattle.ckpt_core.specs.Coordinator.{IsSound, choice_of, pending_of};
 ghost use Rattle.ckpt_core.specs.Inside.Parts.{AreSound, present_in, records_in, state_of};
-ghost use Rattle.ckpt_core.specs.Inside.RecordFacts.{IsStored};
+ghost use Rattle.ckpt_core.specs.Inside.RecordFacts.{IsInOrder, IsStored, id_before};
 ghost use Rattle.ckpt_core.specs.Reads.{IsNextExpiry, NoneIsEarlyFrom, NoneTriggersBefore, live_of, next_due, sooner};
 
 use crate::coordinator::Core;
@@ -135,8 +135,8 @@ impl Parts {
     }
 
     /// The first live record from this number on.
-    fn first_from(&self, id: CheckpointId) -> Option<Live>
-        requires { AreSound self.now }
+    pub(crate) fn first_from(&self, id: CheckpointId) -> Option<Live>
+        requires { IsInOrder id_before (records_in self.now) }
         ensures { result ≡ option_map live_of (find (λ r. nat_le id r.id) (records_in self.now)) }
     {
         let pending = self.pending.first_from(id);

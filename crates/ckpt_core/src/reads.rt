@@ -1,3 +1,4 @@
+//! Calls that take, report, show and count.
 ghost use Rattle.std.specs.Prelude.{◌≡◌, Some, IsSome, IfOk, OnErr, option_map};
 ghost use Rattle.ckpt_ids.specs.Records.{metadata_of};
 ghost use Rattle.ckpt_ids.specs.declared.call.Call.TheVariants as call;
@@ -74,7 +75,7 @@ impl Parts {
     }
 
     /// The metadata of a live record, which is pending or done.
-    fn metadata(&self, id: CheckpointId) -> Result<Metadata, AllocError>
+    pub(crate) fn metadata(&self, id: CheckpointId) -> Result<Metadata, AllocError>
         requires in_order { IsInOrder id_before (records_in self.now) }
         requires live { IsSome (record_of (state_of self.now) id) }
         ensures { IfOk result (λ metadata. option_map metadata_of (record_of (state_of self.now) id) ≡ Some metadata) }

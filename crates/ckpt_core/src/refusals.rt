@@ -1,3 +1,4 @@
+//! The tests of a call before it is made: what is refused, in the order of the rules.
 ghost use Rattle.std.specs.Prelude.{◌≡◌, ◌++◌, ◌+◌, ◌==◌, ℕ, List, find, not, nat_le, option_copied, option_map, Option, Some};
 ghost use Rattle.std.specs.List.{list_any};
 ghost use Rattle.std.specs.Result.{result_err};
@@ -58,7 +59,7 @@ fn has_repeats(fresh: &Files, reused: &Files) -> bool
 }
 
 /// Whether a file stands twice. In ascending files it then stands beside itself.
-fn repeats(files: &[FileId]) -> bool
+pub(crate) fn repeats(files: &[FileId]) -> bool
     requires { IsAscending files.now }
     ensures { result ≡ has_repeats files.now }
 {

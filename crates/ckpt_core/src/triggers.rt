@@ -1,3 +1,4 @@
+//! Calls that trigger records: ticks, which let old ones expire first, and savepoints.
 ghost use Rattle.std.specs.Prelude.{◌≡◌, ℕ, ◌<◌, ◌^◌, ◌≤◌, ◌+◌, ◌-◌, [], length, OnOk, unwrap_or, IfOk, OnErr, true, vec_capacity};
 ghost use Rattle.ckpt_ids.specs.declared.call.Call.TheVariants as call;
 ghost use Rattle.ckpt_ids.specs.declared.reply.Answer.TheVariants as answer;
@@ -22,7 +23,7 @@ pub(crate) struct Ticked {
 
 impl Parts {
     /// The shape of the records that are triggered next.
-    fn shape(&self) -> &Shape
+    pub(crate) fn shape(&self) -> &Shape
         ensures { result.now ≡ unwrap_or self.now.reshaped self.now.opened.shape }
     {
         match &self.reshaped {
@@ -93,7 +94,7 @@ impl Parts {
     }
 
     /// Makes room for the number of one more live record among those that end.
-    fn make_room(&mut self) -> Result<(), AllocError>
+    pub(crate) fn make_room(&mut self) -> Result<(), AllocError>
         requires { length (records_in self.old) < 2 ^ 32 }
         ensures room { OnOk result (length (records_in self.old) + 1 ≤ vec_capacity self.new.ended) }
         ensures parts { self.new ≡ record self.old { ended = self.new.ended } }

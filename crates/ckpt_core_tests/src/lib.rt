@@ -4,16 +4,16 @@
 #![tactic(auto)]
 
 #[cfg(test)]
-mod checkpoints;
-#[cfg(test)]
 mod embedding;
+#[cfg(test)]
+mod full_size;
+#[cfg(test)]
+mod images;
 #[cfg(test)]
 mod job;
 #[cfg(test)]
 mod limits;
 #[cfg(test)]
 mod queries;
-#[cfg(test)]
-mod records;
 #[cfg(test)]
 mod refused_memory;

@@ -1,23 +1,19 @@
-use crate::job::Job;
+//! The limits of numbers and of openings.
+use crate::job::other_line;
 use ckpt_core::{Core, OpenFault};
 use ckpt_ids::{Config, Shape};
 use std::alloc::Global;
 use std::process::Abort;
 use std::test::Fail;
 
+const USED_UP: &str = "tick 1000 -> tick expired 0 triggered 4611686018427387903
+ack 1000 4611686018427387903 0.0 +1 -> ack completed 0 0
+tick 2000 -> refused IdsUsedUp
+savepoint 2000 -> refused IdsUsedUp";
+
 #[test]
 fn numbers_are_used_up(rt: HostRuntime) -> Result<(), Fail> {
-    let mut job = Job::open_from(rt.alloc(), 1, (1 << 62) - 1)?;
-    let row = [
-        (
-            "tick 1000",
-            "tick expired 0 triggered 4611686018427387903\n",
-        ),
-        ("ack 1000 4611686018427387903 0.0 +1", "ack completed 0 0\n"),
-        ("tick 2000", "refused IdsUsedUp\n"),
-        ("savepoint 2000", "refused IdsUsedUp\n"),
-    ];
-    assert_eq!(rt; job.first_other(&row)?, None);
+    assert_eq!(rt; other_line(rt.alloc(), 1, (1 << 62) - 1, USED_UP)?, None);
     Ok(())
 }
 

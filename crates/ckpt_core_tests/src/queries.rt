@@ -11,53 +11,42 @@ fn opened(alloc: Global) -> Result<Core, Fail> {
     Ok(Core::new(alloc, config, shape, 0, 1)?)
 }
 
-/// The same job, with checkpoint 1 pending since 1000.
-fn ticked(alloc: Global) -> Result<Core, Fail> {
-    let mut core = opened(alloc)?;
-    core.apply(&Call::Tick { now: 1000 })?;
-    Ok(core)
+/// Whether no file is in use, waits or is taken.
+fn has_no_file(core: &Core) -> bool {
+    core.files_in_use() == 0 && core.files_waiting() == 0 && core.files_taken() == 0
 }
 
-#[test]
-fn a_new_coordinator_waits_for_the_interval(rt: HostRuntime) -> Result<(), Fail> {
-    let core = opened(rt.alloc())?;
-    assert_eq!(rt; core.mode(), Mode::Running);
-    assert_eq!(rt; core.choice(), Choice::Fresh);
-    assert_eq!(rt; core.due(), 1000);
-    assert_eq!(rt; core.oldest_expiry(), None);
-    assert_eq!(rt; core.live(0), None);
-    Ok(())
+/// Whether a new coordinator waits for the interval.
+fn is_new(core: &Core) -> bool {
+    core.mode() == Mode::Running
+        && core.choice() == Choice::Fresh
+        && core.due() == 1000
+        && core.oldest_expiry().is_none()
+        && core.live(0).is_none()
+        && has_no_file(core)
 }
 
-#[test]
-fn a_pending_record_expires_after_its_timeout(rt: HostRuntime) -> Result<(), Fail> {
-    let core = ticked(rt.alloc())?;
-    assert_eq!(rt; core.due(), 2000);
-    assert_eq!(rt; core.oldest_expiry(), Some(601_000));
-    Ok(())
-}
-
-#[test]
-fn a_pending_record_misses_its_subtasks(rt: HostRuntime) -> Result<(), Fail> {
-    let core = ticked(rt.alloc())?;
+/// Whether checkpoint 1 alone is pending since 1000, misses both subtasks and expires in time.
+fn waits(core: &Core) -> bool {
     let first = Live {
         id: CheckpointId(1),
         kind: Kind::Checkpoint,
         done: false,
     };
-    assert_eq!(rt; core.live(0), Some(first));
-    assert_eq!(rt; core.live(1), None);
-    assert_eq!(rt; core.missing(CheckpointId(1)), Some(2));
-    assert_eq!(rt; core.missing(CheckpointId(2)), None);
-    Ok(())
+    core.due() == 2000
+        && core.oldest_expiry() == Some(601_000)
+        && core.live(0) == Some(first)
+        && core.live(1).is_none()
+        && core.missing(CheckpointId(1)) == Some(2)
+        && core.missing(CheckpointId(2)).is_none()
 }
 
 #[test]
-fn a_job_without_files_counts_none(rt: HostRuntime) -> Result<(), Fail> {
-    let core = ticked(rt.alloc())?;
-    assert_eq!(rt; core.files_in_use(), 0);
-    assert_eq!(rt; core.files_waiting(), 0);
-    assert_eq!(rt; core.files_taken(), 0);
+fn a_coordinator_tells_what_it_waits_for(rt: HostRuntime) -> Result<(), Fail> {
+    let mut core = opened(rt.alloc())?;
+    assert!(rt; is_new(&core));
+    core.apply(&Call::Tick { now: 1000 })?;
+    assert!(rt; waits(&core));
     Ok(())
 }
 

@@ -56,8 +56,8 @@ pub(crate) struct Settings {
 }
 
 impl Settings {
-    /// Reads lines of a name and a value. Blank ones are skipped, and those that begin with `#`. What no line says is
-    /// as in `demo/SETTINGS`.
+    /// Reads lines of a name and a value. Blank ones are skipped, and those that begin with `#`. A setting that no
+    /// line names is as usual.
     pub(crate) fn read(alloc: Global, text: &[u8]) -> Result<Settings, DemoFault> {
         let mut settings = Settings::usual(alloc)?;
         let text = str::from_utf8(text).map_err(|_| DemoFault::Input)?;
@@ -72,6 +72,7 @@ impl Settings {
         Ok(settings)
     }
 
+    /// Six tasks for two seconds.
     fn usual(alloc: Global) -> Result<Settings, AllocError> {
         Ok(Settings {
             duration: 2000,

@@ -1,5 +1,5 @@
 -- Why a handle is not opened.
-use Rattle.std.specs.Prelude.{◌≡◌, ◌≢◌, ℕ, not, if◌then◌else◌, List, Option, Some, None}
+use Rattle.std.specs.Prelude.{◌≡◌, ◌≢◌, ℕ, true, not, if◌then◌else◌, List, Option, Some, None}
 use Rattle.ckpt_ids.specs.Configuration.{Configuration, is_within_limits}
 use Rattle.ckpt_ids.specs.Shapes.{is_shape}
 use Rattle.ckpt_core.specs.declared.coordinator.OpenFault.{OpenFault}
@@ -36,6 +36,10 @@ IsWhyNot o answer = answer.code ≢ no_memory → (bad_opening o ≡ Some answer
 -- the coordinator of this opening, of which no argument is bad
 abbrev pub IsOpening : Opening → State → Type 0
 IsOpening o m = (bad_opening o ≡ None) × (m ≡ opened o)
+
+-- memory is wanted only once the configuration and the shape are within their limits
+abbrev pub OpeningWantsMemory : Opening → Answer → Type 0
+OpeningWantsMemory o answer = answer.code ≡ no_memory → (is_within_limits o.config ≡ true) × (is_shape o.shape ≡ true)
 
 -- a handle that is open stays as it is, and says so
 abbrev pub StaysOpen : Option State → Option State → Answer → Type 0

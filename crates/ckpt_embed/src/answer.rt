@@ -1,3 +1,5 @@
+//! What a C program is told: an answer by value, made of a reply, a refusal or a fault.
+
 ghost use Rattle.std.specs.Prelude.{◌≡◌};
 ghost use Rattle.ckpt_embed.specs.Lines.{bad_line};
 ghost use Rattle.ckpt_embed.specs.Told.{refusal_told, reply_told, restore_told, tick_told, done, refused, out_of_memory, is_closed, bad_argument, too_short};

@@ -1,3 +1,5 @@
+//! The calls that write into a caller's buffer: take and show.
+
 ghost use Rattle.std.specs.Prelude.{◌≡◌, ◌≢◌, ◌≤◌, true, length, Some};
 ghost use Rattle.ckpt_ids.specs.declared.call.Call.TheVariants as call;
 ghost use Rattle.ckpt_core.specs.Memory.{may_want_memory};

@@ -1,3 +1,5 @@
+//! The calls through a handle.
+
 ghost use Rattle.std.specs.Prelude.{◌≡◌, ◌≢◌, ◌↔◌, true, [], None, Some, Err, IfOk};
 ghost use Rattle.ckpt_ids.specs.Ascending.{ascending};
 ghost use Rattle.ckpt_core.specs.Memory.{may_want_memory};

@@ -1,3 +1,5 @@
+//! The handle: one pointer to a coordinator, or null.
+
 ghost use Rattle.std.specs.Prelude.{◌≡◌, Option, None, Some};
 ghost use Rattle.std.specs.Option.{option_map};
 ghost use Rattle.ckpt_embed.specs.Kept.{kept};

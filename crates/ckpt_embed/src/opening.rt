@@ -1,8 +1,10 @@
+//! Opening and closing a handle.
+
 ghost use Rattle.std.specs.Prelude.{◌≡◌, ◌≢◌, true, false, None, IfOk, IfErr};
 ghost use Rattle.ckpt_ids.specs.Configuration.{is_within_limits};
 ghost use Rattle.ckpt_ids.specs.Shapes.{is_shape};
 ghost use Rattle.ckpt_embed.specs.Calls.{HasNoNumbers, StaysAsItWas};
-ghost use Rattle.ckpt_embed.specs.Opening.{configuration_of, opening_of, IsNotOpened, IsOpened, IsOpening, IsWhyNot, StaysOpen};
+ghost use Rattle.ckpt_embed.specs.Opening.{configuration_of, opening_of, IsNotOpened, IsOpened, IsOpening, IsWhyNot, OpeningWantsMemory, StaysOpen};
 ghost use Rattle.ckpt_embed.specs.Told.{bad_argument, bad_config, bad_shape, no_memory};
 
 use crate::answer::Answer;
@@ -58,6 +60,7 @@ pub fn open(
     ensures open { StaysOpen handle.old.value handle.new.value result }
     ensures refused { IsNotOpened handle.old.value handle.new.value (opening_of settings.now shape.now now first) result }
     ensures opened { IsOpened handle.old.value handle.new.value (opening_of settings.now shape.now now first) result }
+    ensures memory { OpeningWantsMemory (opening_of settings.now shape.now now first) result }
     ensures numbers { HasNoNumbers result }
     ensures unchanged { StaysAsItWas handle.old.value handle.new.value result }
 {
@@ -91,6 +94,7 @@ fn core_of(
 ) -> Result<Box<Core>, Answer>
     ensures value { IfOk result (λ core. IsOpening (opening_of settings.now shape.now now first) core.value) }
     ensures fault { IfErr result (IsWhyNot (opening_of settings.now shape.now now first)) }
+    ensures memory { IfErr result (OpeningWantsMemory (opening_of settings.now shape.now now first)) }
     ensures numbers { IfErr result HasNoNumbers }
 {
     let config = config_of(settings)?;
@@ -129,6 +133,7 @@ pub(crate) fn job_of(alloc: Global, shape: &[u64]) -> Result<Shape, Answer>
     ensures good { IfOk result (λ made. is_shape shape.now ≡ true) }
     ensures value { IfOk result (λ made. made ≡ shape.now) }
     ensures fault { IfErr result (λ answer. answer.code ≢ no_memory → (is_shape shape.now ≡ false) × (answer ≡ bad_argument bad_shape)) }
+    ensures memory { IfErr result (λ answer. answer.code ≡ no_memory → is_shape shape.now ≡ true) }
     ensures numbers { IfErr result HasNoNumbers }
 {
     match Shape::new(alloc, shape) {

@@ -7,7 +7,7 @@ ghost use Rattle.ckpt_lines.specs.declared.line.Line.TheVariants as line;
 ghost use Rattle.ckpt_call_lines.specs.CallTexts.{IsReadAs, call_text, config_text, job_text, line_of_call, line_of_config, start_text};
 ghost use Rattle.ckpt_embed.specs.Buffers.{StandsInFront};
 ghost use Rattle.ckpt_embed.specs.Calls.{HasNoNumbers};
-ghost use Rattle.ckpt_embed.specs.Opening.{IsWhyNot, bad_opening, opening_of};
+ghost use Rattle.ckpt_embed.specs.Opening.{IsWhyNot, OpeningWantsMemory, bad_opening, opening_of};
 ghost use Rattle.ckpt_embed.specs.Told.{bad_argument, no_memory};
 ghost use Rattle.ckpt_embed.specs.Writing.{OpeningReadsBack, ReadsBack, call_line_text, call_line_told, given, opening_text, opening_told, text_told};
 
@@ -154,6 +154,7 @@ pub fn opening_lines(
     ensures front { result.code ≡ 0 → StandsInFront (opening_text (opening_of settings.now shape.now now 1)) lines.old lines.new }
     ensures read { OpeningReadsBack (opening_of settings.now shape.now now 1) result }
     ensures kept { result.code ≢ 0 → lines.new ≡ lines.old }
+    ensures memory { OpeningWantsMemory (opening_of settings.now shape.now now 1) result }
     ensures numbers { HasNoNumbers result }
 {
     match opening_of(alloc, settings, shape, now) {
@@ -169,6 +170,7 @@ fn opening_of(alloc: Global, settings: &Settings, shape: &[u64], now: u64) -> Re
     ensures job { IfOk result (λ text. IsReadAs (line.Job shape.now) (job_text shape.now)) }
     ensures start { IfOk result (λ text. IsReadAs (line.Start now) (start_text now)) }
     ensures fault { IfErr result (IsWhyNot (opening_of settings.now shape.now now 1)) }
+    ensures memory { IfErr result (OpeningWantsMemory (opening_of settings.now shape.now now 1)) }
     ensures numbers { IfErr result HasNoNumbers }
 {
     let config = config_of(settings)?;

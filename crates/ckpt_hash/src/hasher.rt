@@ -1,3 +1,4 @@
+//! The hasher that a secret makes: it takes in numbers, one after the other.
 ghost use Rattle.std.specs.Prelude.{◌≡◌};
 ghost use Rattle.std.specs.List.{fold};
 ghost use Rattle.std.specs.Hash.FoldHasher.{folded_multiply};

@@ -4,9 +4,9 @@
 //! each look-up visits all of them. A [`Secret`] makes the places depend on two words that nobody
 //! else knows. It is a hash builder: `HashMap::with_hasher(alloc, secret)`.
 //!
-//! A number is joined with the first word by xor and multiplied by the second, and the two halves
-//! of the product are joined by xor. That costs what the standard hasher costs. It is no
-//! cryptographic hash: it serves where no hash is shown to anybody.
+//! A number is joined with the first word by xor and multiplied by the second, which is made odd;
+//! the two halves of the product are joined by xor. That costs what the standard hasher costs. It
+//! is no cryptographic hash: it serves where no hash is shown to anybody.
 #![tactic(auto)]
 
 pub mod hasher;

@@ -1,3 +1,4 @@
+//! The two secret words that a map hashes by.
 ghost use Rattle.std.specs.Prelude.{◌≡◌};
 ghost use Rattle.ckpt_hash.specs.Hashing.{begun, secret_of};
 
@@ -18,12 +19,16 @@ pub struct Secret {
 
 impl Secret {
     /// The secret of two words, which are to come from a source of random numbers.
+    ///
+    /// The multiplier is odd, whatever the second word: under an even one numbers would lose their
+    /// greatest bits, and under 0 all would hash to 0. So two second words that differ in the lowest
+    /// bit alone make the same secret.
     pub fn of(first: u64, second: u64) -> Secret
         ensures { result ≡ secret_of first second }
     {
         Secret {
             seed: first ^ SEED,
-            multiplier: second ^ MULTIPLIER,
+            multiplier: (second ^ MULTIPLIER) | 1,
         }
     }
 

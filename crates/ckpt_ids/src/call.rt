@@ -1,3 +1,5 @@
+//! The calls of a coordinator.
+
 use crate::files::Files;
 use crate::numbers::{CheckpointId, FileId};
 use crate::shape::Shape;

@@ -1,3 +1,5 @@
+//! The numbers of records and files, and the kinds of records.
+
 ghost use Rattle.std.specs.Prelude.{ℕ};
 
 use std::marker::Model;

@@ -1,3 +1,5 @@
+//! The text of a refusal.
+
 use crate::reply::Refusal;
 use std::fmt;
 

@@ -1,3 +1,5 @@
+//! What calls return: replies, refusals, answers.
+
 use crate::ack::Metadata;
 use crate::handed::Handed;
 use crate::numbers::{CheckpointId, FileId};

@@ -1,3 +1,5 @@
+//! The shape of a job: the parallelism of each vertex.
+
 ghost use Rattle.std.specs.Prelude.{◌≡◌, ◌+◌, ◌≤◌, ◌^◌, ◌↔◌, ◌≢◌, Bool, true, false, Ok, Err, None, Some, IsTrue, IsOk, IfOk, OnOk, OnErr, sum, length, nat_le, slice_get, is_some};
 ghost use Rattle.std.specs.List.{list_all};
 ghost use Rattle.ckpt_ids.specs.Shapes.{IsShape, is_shape, is_subtask, subtasks};

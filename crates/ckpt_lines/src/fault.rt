@@ -1,3 +1,4 @@
+//! Why a line can't be read.
 use std::alloc::{AllocError, AllocFailed};
 use thiserror::Error;
 

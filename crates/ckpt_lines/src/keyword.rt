@@ -1,3 +1,4 @@
+//! The first words of lines, and how they are told from their bytes.
 ghost use Rattle.std.specs.Prelude.{◌≡◌, ◌∷◌};
 ghost use Rattle.std.specs.Option.{IfSome};
 ghost use Rattle.ckpt_lines.specs.Keywords.{keyword_of, spelling};

@@ -1,3 +1,4 @@
+//! The lines of a job script, as they are read.
 use crate::numbers::Numbers;
 use ckpt_ids::{CheckpointId, FileId, Files, SubtaskId, Target};
 

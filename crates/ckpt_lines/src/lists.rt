@@ -1,3 +1,4 @@
+//! Lists at the end of a line: numbers, and file words.
 ghost use Rattle.ckpt_lines.specs.Reading.{each, file_places, Reads};
 ghost use Rattle.ckpt_lines.specs.Values.{number};
 

@@ -1,3 +1,4 @@
+//! A list of numbers that a line gives.
 ghost use Rattle.std.specs.Prelude.{◌≡◌, ◌↔◌, [], IsTrue, length, slice_get};
 
 use std::marker::Model;

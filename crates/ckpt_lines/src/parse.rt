@@ -1,3 +1,4 @@
+//! Reads a line from its bytes.
 ghost use Rattle.std.specs.Prelude.{◌≡◌, ◌≢◌, true, IfOk, IfErr};
 ghost use Rattle.std.specs.Str.Lines.{strip_carriage_return};
 ghost use Rattle.ckpt_lines.specs.Reading.{Begins, begins_with_a_list, line_of, may_want_memory, reading, Reads};

@@ -1,3 +1,4 @@
+//! Places of a line that are neither a number nor a list.
 ghost use Rattle.ckpt_lines.specs.Reading.{Gives, subtask_place, retention_place, target_place};
 
 use crate::fault::LineFault;

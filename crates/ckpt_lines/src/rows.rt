@@ -1,3 +1,4 @@
+//! Each kind of line, from the words after its first.
 ghost use Rattle.std.specs.Prelude.{◌≡◌, true};
 ghost use Rattle.ckpt_lines.specs.Keywords.{takes_memory};
 ghost use Rattle.ckpt_lines.specs.Reading.{ack_line, all_line, config_line, decline_line, ended, job_line, number_line, restore_line, row, Reads, IsExact};

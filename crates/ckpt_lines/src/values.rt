@@ -1,3 +1,4 @@
+//! What a single word says: a number, a subtask, a target, a file.
 ghost use Rattle.std.specs.Prelude.{◌≡◌, if◌then◌else◌};
 ghost use Rattle.ckpt_lines.specs.Reading.{IsExact};
 ghost use Rattle.ckpt_lines.specs.declared.values.FileWord.TheVariants.{Fresh, Reused};

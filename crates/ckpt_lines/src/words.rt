@@ -1,3 +1,4 @@
+//! The words of a line, which are taken one after the other.
 ghost use Rattle.std.specs.Prelude.{◌≡◌, ◌≤◌, ◌+◌, false, length, take};
 ghost use Rattle.std.specs.Option.{option_map};
 ghost use Rattle.ckpt_lines.specs.Reading.{Gives, Takes, file_place, number_place};

@@ -1,3 +1,5 @@
+//! The book: a coordinator and the log of all its calls.
+
 ghost use Rattle.std.specs.Prelude.{◌≡◌, ◌↔◌, ℕ, [], length, min, IsTrue, IfOk, IfErr, OnOk, OnErr};
 ghost use Rattle.ckpt_core.specs.Soundness.{IsCall, IsSound};
 ghost use Rattle.ckpt_core.specs.Steps.{step};

@@ -79,17 +79,20 @@ fn wait<R: Wait>(rt: &R, shared: &Shared, seat: &mut Seat, ticket: u64)
     unreachable!()
 }
 
-/// Marks the perch, looks once more, and sleeps until it is woken. Whoever passes the turn raises
-/// `SERVED` first and clears the mark then, so no wake is lost.
+/// Marks the perch, looks once more, sleeps until it is woken, and takes its mark off. Whoever passes
+/// the turn raises `SERVED` first and takes the mark off then, so no wake is lost.
 fn rest<R: Wait>(rt: &R, shared: &Shared, seat: &mut Seat, ticket: u64, perch: usize)
     requires table { (seat.old.table_id ≡ shared.now.table_id) × IsTurns shared.now.table_id }
     requires perch { (4 ≤ perch) × (perch < 68) }
     ensures same { (seat.new.table_id ≡ seat.old.table_id) × (seat.new.me ≡ seat.old.me) }
 {
-    shared.swap::<Stir>(seat, perch, 1);
+    let mark = mark_of(ticket);
+    shared.swap::<Stir>(seat, perch, mark);
     if shared.peek(SERVED) != ticket {
-        shared.park(rt, perch, 1);
+        // A park compares the low half of the word.
+        shared.park(rt, perch, (mark % (1 << 32)) as u32);
     }
+    shared.swap::<Stir>(seat, perch, 0);
 }
 
 /// The word that the ticket's seat sleeps on. No two tickets that wait have the same.
@@ -99,14 +102,34 @@ fn perch_of(ticket: u64) -> usize
     PERCHES + (ticket % 64) as usize
 }
 
-/// Wakes the seat with this ticket, where its perch is marked.
+/// What the ticket's seat marks its perch with: odd, so that also its low half is not 0, and no other
+/// ticket's below [`TICKETS_END`]. So a thread that was cut off while it passed a turn takes no later
+/// ticket's mark off.
+fn mark_of(ticket: u64) -> u64 {
+    ticket.wrapping_mul(2) | 1
+}
+
+/// Wakes the seat with this ticket, whose turn has come, where it sleeps or is about to: without its
+/// mark it does not fall asleep any more.
 fn rouse(shared: &Shared, seat: &mut Seat, ticket: u64)
     requires table { (seat.old.table_id ≡ shared.now.table_id) × IsTurns shared.now.table_id }
     ensures same { (seat.new.table_id ≡ seat.old.table_id) × (seat.new.me ≡ seat.old.me) }
 {
     let perch = perch_of(ticket);
+    let mark = mark_of(ticket);
     // Nearly always nobody sleeps there, and to look costs less than to write.
-    if shared.peek(perch) != 0 && shared.swap::<Stir>(seat, perch, 0) != 0 {
+    if shared.peek(perch) == mark && shared.compare_exchange::<Stir>(seat, perch, mark, 0) == mark {
+        shared.wake_one(perch);
+    }
+}
+
+/// Wakes the seat with this ticket before its turn, where it sleeps. Its mark stays, so whoever passes
+/// the turn to it wakes it then, also where this thread is cut off here.
+fn rouse_early(shared: &Shared, ticket: u64)
+    requires { IsTurns shared.now.table_id }
+{
+    let perch = perch_of(ticket);
+    if shared.peek(perch) == mark_of(ticket) {
         shared.wake_one(perch);
     }
 }
@@ -118,7 +141,7 @@ fn rouse_next(shared: &Shared, seat: &mut Seat, ticket: u64)
     ensures same { (seat.new.table_id ≡ seat.old.table_id) × (seat.new.me ≡ seat.old.me) }
 {
     rouse(shared, seat, ticket.wrapping_add(1));
-    rouse(shared, seat, ticket.wrapping_add(AHEAD));
+    rouse_early(shared, ticket.wrapping_add(AHEAD));
 }
 
 /// Draws a ticket and waits for its turn. Then the seat has the book.

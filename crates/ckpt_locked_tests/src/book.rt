@@ -1,3 +1,4 @@
+//! A book on its own: how it is opened, and what it enters.
 use crate::desk::{begins, completes, counts, is_by, last_ack, open, opened};
 use ckpt_core::OpenFault;
 use std::alloc::Global;

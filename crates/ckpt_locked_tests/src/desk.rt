@@ -2,17 +2,17 @@
 //!
 //! A test lets go of its book by `drop`: one that goes at the end of a function makes the proof of that
 //! function several times as long.
-use ckpt_core::{Core, OpenFault};
+use ckpt_core::OpenFault;
 use ckpt_ids::{
     Answer, Call, CheckpointId, Config, FileId, Files, Refusal, Reply, Shape, SubtaskId, TickEnd,
 };
-use ckpt_locked::{Book, Entry};
+use ckpt_locked::Book;
 use std::alloc::{AllocError, Global};
 use std::test::Fail;
 
-/// A job of one subtask with a checkpoint each second, of which so many are kept.
-fn opening(alloc: Global, retained: u64) -> Result<(Config, Shape), Fail> {
-    let config = Config::new(1000, 0, 1, 600_000, 0, retained, false)?;
+/// A job of one subtask with a checkpoint each second, of which one is kept.
+fn opening(alloc: Global) -> Result<(Config, Shape), Fail> {
+    let config = Config::new(1000, 0, 1, 600_000, 0, 1, false)?;
     let shape = match Shape::new(alloc, &[1]) {
         Ok(shape) => shape,
         Err(_) => Shape::new(alloc, &[1])?,
@@ -20,31 +20,19 @@ fn opening(alloc: Global, retained: u64) -> Result<(Config, Shape), Fail> {
     Ok((config, shape))
 }
 
-/// Opens the book of that job with one checkpoint kept, where the moment and the first number are
-/// within their limits.
+/// Opens the book of that job, where the moment and the first number are within their limits.
 pub(crate) fn opened(alloc: Global, now: u64, first: u64) -> Result<Result<Book, OpenFault>, Fail> {
-    let (config, shape) = opening(alloc, 1)?;
+    let (config, shape) = opening(alloc)?;
     Ok(Book::new(alloc, config, shape, now, first))
 }
 
 /// The book of that job, opened at the moment 0.
-pub(crate) fn open_retaining(alloc: Global, retained: u64) -> Result<Book, Fail> {
-    let (config, shape) = opening(alloc, retained)?;
+pub(crate) fn open(alloc: Global) -> Result<Book, Fail> {
+    let (config, shape) = opening(alloc)?;
     Ok(Book::new(alloc, config, shape, 0, 1)?)
 }
 
-/// That book with one checkpoint kept.
-pub(crate) fn open(alloc: Global) -> Result<Book, Fail> {
-    open_retaining(alloc, 1)
-}
-
-/// The coordinator of that job, opened at the moment 0.
-pub(crate) fn open_core(alloc: Global) -> Result<Core, Fail> {
-    let (config, shape) = opening(alloc, 1)?;
-    Ok(Core::new(alloc, config, shape, 0, 1)?)
-}
-
-pub(crate) fn held() -> Answer {
+fn held() -> Answer {
     Answer::Done(Reply::Ticked {
         expired: 0,
         end: TickEnd::HeldInterval,
@@ -84,7 +72,7 @@ fn completed() -> Answer {
 
 /// What the call is answered; where it finds no memory, what the call that came back is answered, if
 /// nothing was entered and it finds memory now.
-pub(crate) fn entered_by(book: &mut Book, seat: u32, call: Call) -> Option<Answer> {
+fn entered_by(book: &mut Book, seat: u32, call: Call) -> Option<Answer> {
     let entries = book.len();
     match book.apply(seat, call) {
         Ok(answer) => Some(answer),
@@ -124,18 +112,6 @@ pub(crate) fn counts(book: &mut Book, seat: u32, times: u32) -> bool {
         }
     }
     true
-}
-
-pub(crate) fn number_of(id: CheckpointId) -> u64 {
-    id.0
-}
-
-/// The entry at this place, counted from 0.
-pub(crate) fn entry(book: &Book, place: u64) -> Result<&Entry, Fail> {
-    match book.entry(place) {
-        Some(entry) => Ok(entry),
-        None => Err(Fail::new("no entry")),
-    }
 }
 
 /// Whether the call of this entry was made by this seat.

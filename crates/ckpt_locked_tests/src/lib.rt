@@ -1,5 +1,6 @@
-//! Tests of the book and the lock: rows of calls with their answers, and threads that share a lock.
+//! Tests of the book and the lock: each public call once on its happy path, and what comes back where it is refused.
 //!
+//! Rows of calls are run by the program (`examples/rows`), threads that share a lock by `ckpt_storm`.
 //! `docs/DECISIONS.md` says why they stand apart from the crate that they test.
 #![tactic(auto)]
 
@@ -10,14 +11,4 @@ mod desk;
 #[cfg(test)]
 mod forgetting;
 #[cfg(test)]
-mod lines;
-#[cfg(test)]
 mod lock;
-#[cfg(test)]
-mod rows;
-#[cfg(test)]
-mod savepoints;
-#[cfg(test)]
-mod threads;
-#[cfg(test)]
-mod turns;

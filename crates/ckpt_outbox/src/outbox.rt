@@ -1,11 +1,13 @@
+//! The outbox: files that wait for deletion, and those that were fetched for it.
 ghost use Rattle.std.specs.Prelude.{◌≡◌, ◌≤◌, ◌<◌, ◌+◌, ◌-◌, ◌^◌, ◌↔◌, ◌++◌, ◌∷◌, ℕ, [], true, false, max, min, length, take, drop, IsErr, IfOk, OnOk, OnErr};
 ghost use Rattle.std.specs.VecDeque.{deque_capacity};
+ghost use Rattle.ckpt_ids.specs.Ascending.{ascending};
 ghost use Rattle.ckpt_outbox.specs.Queues.{AreDistinct, Queues, is_in, is_known, is_taken, without};
 
-use crate::places::{Index, draw_again, is_taken, next_ticket, note};
+use crate::places::{Index, draw_again, is_taken, next_ticket, note, taken_in, waiting_in};
 use crate::taken::Taken;
 use ckpt_hash::Secret;
-use ckpt_ids::{FileId, Handed};
+use ckpt_ids::{FileId, Files, Handed};
 use std::alloc::{AllocError, Global};
 use std::collections::{HashMap, VecDeque};
 use std::marker::Model;
@@ -197,6 +199,23 @@ impl Outbox {
         self.taken.remove(file);
         self.waiting.push_back_reserved(file);
         Ok(())
+    }
+
+    /// The files that wait, in their order. Fails only for want of memory.
+    pub fn waiting_files(&self) -> Result<Handed, AllocError>
+        ensures { IfOk result (λ files. files ≡ self.now.waiting) }
+    {
+        let files = waiting_in(self.alloc, &self.waiting)?;
+        Ok(Handed::of(files))
+    }
+
+    /// The files that are taken, in ascending order: their own order is not in memory. Looks at
+    /// each file of the outbox. Fails only for want of memory.
+    pub fn taken_files(&self) -> Result<Files, AllocError>
+        ensures { IfOk result (λ files. files ≡ ascending self.now.taken) }
+    {
+        let files = taken_in(self.alloc, &self.index, &self.waiting, self.front)?;
+        Ok(Files::of(files))
     }
 
     /// Whether the file waits or is taken. A look-up.

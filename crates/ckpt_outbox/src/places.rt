@@ -1,4 +1,5 @@
-ghost use Rattle.std.specs.Prelude.{◌≡◌, ◌<◌, ◌≤◌, ◌+◌, ℕ, false, length, get_or, IsTrue, Some, nat_eq};
+//! The index of an outbox: the ticket of each file, and what it tells.
+ghost use Rattle.std.specs.Prelude.{◌≡◌, ◌<◌, ◌≤◌, ◌+◌, ℕ, false, filter, length, get_or, IfOk, IsTrue, OnOk, Some, is_some, nat_eq};
 ghost use Rattle.std.specs.HashMap as hash;
 ghost use Rattle.std.specs.HashMap.{IsUnchanged, Updates, spare};
 ghost use Rattle.ckpt_outbox.specs.Queues.{is_in};
@@ -6,6 +7,7 @@ ghost use Rattle.ckpt_outbox.specs.Places.{IsTicketed, is_apart, ticket};
 
 use ckpt_hash::Secret;
 use ckpt_ids::FileId;
+use std::alloc::{AllocError, Global};
 use std::collections::{HashMap, VecDeque};
 
 /// For each file, the ticket that it drew when it last went to the end of waiting.
@@ -75,4 +77,40 @@ pub(crate) fn draw_again(
         }
         _ => false,
     }
+}
+
+/// The files of the index that do not stand where their tickets say, in the order of the index.
+/// Fails only for want of memory.
+pub(crate) fn taken_in(
+    alloc: Global,
+    index: &Index,
+    waiting: &VecDeque<FileId>,
+    front: u64,
+) -> Result<Vec<FileId>, AllocError>
+    requires { IsTicketed (hash.get nat_eq index.now) front waiting.now.items }
+    ensures files { IfOk result (λ files. files.items ≡ filter (is_apart (hash.get nat_eq index.now) waiting.now.items) (hash.keys index.now)) }
+    ensures unique { OnOk result (hash.IsUnique nat_eq index.now) }
+    ensures has { OnOk result ((file : ℕ) → is_some (hash.get nat_eq index.now file) ≡ is_in file (hash.keys index.now)) }
+{
+    let mut files = Vec::new(alloc);
+    for file in index.keys() {
+        if is_taken(index, waiting, front, *file) {
+            files.push(*file)?;
+        }
+    }
+    Ok(files)
+}
+
+/// The files that wait, in their order. Fails only for want of memory.
+pub(crate) fn waiting_in(
+    alloc: Global,
+    waiting: &VecDeque<FileId>,
+) -> Result<Vec<FileId>, AllocError>
+    ensures { IfOk result (λ files. files.items ≡ waiting.now.items) }
+{
+    let mut files = Vec::with_capacity(alloc, waiting.len())?;
+    for file in waiting {
+        files.push(*file)?;
+    }
+    Ok(files)
 }

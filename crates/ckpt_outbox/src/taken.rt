@@ -1,3 +1,4 @@
+//! The files that are taken: a list for contracts, and at run time their number.
 ghost use Rattle.std.specs.Prelude.{◌≡◌, ◌+◌, ◌<◌, ◌^◌, [], ◌∷◌, ◌++◌, true, false, length};
 ghost use Rattle.std.specs.Option.{option_map_or};
 ghost use Rattle.ckpt_outbox.specs.Changes.{changed, unchanged};

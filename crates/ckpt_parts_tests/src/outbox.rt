@@ -1,3 +1,4 @@
+//! Tests of the outbox: files that are put, taken, returned and deleted.
 ghost use Rattle.std.specs.Prelude.{◌≡◌, ◌++◌, take, drop, IfOk, OnOk, OnErr};
 ghost use Rattle.ckpt_outbox.specs.Queues.{Queues};
 
@@ -152,87 +153,6 @@ fn looks_up_among_many_files(rt: HostRuntime) -> Result<(), Fail> {
     assert!(rt; back.get(0) == Some(FileId(MANY - 1)));
     delete_all(&rt, &mut outbox);
     assert!(rt; has(&outbox, 0, 0));
-    drop(outbox);
-    Ok(())
-}
-
-/// How many files pass the oldest, which is never reported.
-const PASSING: u64 = 2_000;
-
-/// Files are taken one at a time, and all but each tenth are reported at once. So most slots of the
-/// taken are holes, time and again.
-fn pass_the_oldest(rt: &impl Abort, outbox: &mut Outbox) -> Result<(), AllocError> {
-    for number in 0..=PASSING {
-        put_new(rt, outbox, FileId(number))?;
-        takes(rt, outbox, 1, &[FileId(number)])?;
-        if number % 10 != 0 {
-            assert!(rt; deletes(outbox, FileId(number)));
-        }
-        assert!(rt; outbox.is_taken(FileId(0)));
-    }
-    Ok(())
-}
-
-/// The tenths go back, from the last to the first, and come out in that order.
-fn returns_each_tenth(rt: &impl Abort, outbox: &mut Outbox) -> Result<(), AllocError> {
-    for tenth in (0..=PASSING / 10).rev() {
-        let file = FileId(10 * tenth);
-        assert!(rt; returns(outbox, file));
-        assert!(rt; outbox.taken() == tenth);
-        takes(rt, outbox, 1, &[file])?;
-        assert!(rt; deletes(outbox, file));
-        assert!(rt; is_gone(outbox, file));
-    }
-    Ok(())
-}
-
-/// Whether each tenth file is known and taken, and no other.
-fn has_tenths(outbox: &Outbox) -> bool {
-    (0..=PASSING).all(|number| {
-        let file = FileId(number);
-        let is_tenth = number % 10 == 0;
-        outbox.is_taken(file) == is_tenth && outbox.knows(file) == is_tenth
-    })
-}
-
-#[test]
-fn keeps_the_oldest_while_most_are_reported(rt: HostRuntime) -> Result<(), Fail> {
-    let mut outbox = Outbox::new(rt.alloc());
-    pass_the_oldest(&rt, &mut outbox)?;
-    // the file 0 and each tenth file after it
-    assert!(rt; outbox.taken() == 201);
-    assert!(rt; has_tenths(&outbox));
-    returns_each_tenth(&rt, &mut outbox)?;
-    assert!(rt; has(&outbox, 0, 0));
-    drop(outbox);
-    Ok(())
-}
-
-/// An outbox from which nine files were taken, of which five are reported as deleted.
-fn with_four_taken(rt: &impl Abort, alloc: Global) -> Result<Outbox, AllocError> {
-    let mut outbox = Outbox::new(alloc);
-    put_many(rt, &mut outbox, 9)?;
-    let all = take_again(rt, &mut outbox, 9)?;
-    assert!(rt; all.len() == 9);
-    for number in [1, 2, 4, 5, 7] {
-        assert!(rt; deletes(&mut outbox, FileId(number)));
-    }
-    Ok(outbox)
-}
-
-/// More than half of the files are reported, so those that are left move together at the next taking.
-/// Each is known by its new place: they come back in the order in which they are returned.
-#[test]
-fn moves_the_taken_files_together(rt: HostRuntime) -> Result<(), Fail> {
-    let mut outbox = with_four_taken(&rt, rt.alloc())?;
-    put_new(&rt, &mut outbox, FileId(9))?;
-    takes(&rt, &mut outbox, 1, &[FileId(9)])?;
-    assert!(rt; outbox.taken() == 5);
-    let order = [FileId(6), FileId(0), FileId(9), FileId(3), FileId(8)];
-    for file in order {
-        assert!(rt; returns(&mut outbox, file));
-    }
-    takes(&rt, &mut outbox, 9, &order)?;
     drop(outbox);
     Ok(())
 }

@@ -1,6 +1,7 @@
+//! Tests of a record that waits for acknowledgements, and of one that is complete.
 ghost use Rattle.std.specs.Prelude.{◌<◌};
 
-use ckpt_ids::{CheckpointId, FileId, Files, Kind, Metadata, Shape, SubtaskId};
+use ckpt_ids::{CheckpointId, FileId, Files, Kind, Shape, SubtaskId};
 use ckpt_pending::{AckFault, Done, Pending};
 use std::alloc::{AllocError, Global};
 use std::process::Abort;
@@ -15,18 +16,18 @@ fn subtask(index: u16) -> SubtaskId {
     SubtaskId { vertex: 0, index }
 }
 
-// A checkpoint that waits for two subtasks.
+/// A checkpoint that waits for two subtasks.
 fn waiting(alloc: Global) -> Result<Pending, Fail> {
     let shape = Shape::new(alloc, &[2])?;
     Ok(Pending::new(alloc, CheckpointId(1), Kind::Checkpoint, shape, 1000))
 }
 
-/// A new record is of checkpoint 1, and waits for both subtasks since the moment 1000.
-fn is_new(pending: &Pending, shape: &Shape) -> bool {
+/// Whether the record is that of checkpoint 1, which waits for both subtasks since the moment 1000.
+fn is_new(pending: &Pending) -> bool {
     pending.id() == CheckpointId(1)
         && pending.kind() == Kind::Checkpoint
         && pending.started() == 1000
-        && pending.shape() == shape
+        && pending.shape().size() == 2
         && pending.missing() == 2
 }
 
@@ -40,12 +41,18 @@ fn acks(
     Ok(pending.ack(subtask(index), files(alloc, numbers)?))
 }
 
-/// Whether the first of two subtasks alone has acknowledged, and there is no third.
-fn has_first_alone(pending: &Pending) -> bool {
-    pending.has(subtask(0))
-        && !pending.has(subtask(1))
-        && pending.expects(subtask(1))
-        && !pending.expects(subtask(2))
+/// Whether the first subtask acknowledges once, and a third one not at all.
+fn takes_first(alloc: Global, pending: &mut Pending) -> Result<bool, AllocError> {
+    let first = acks(alloc, pending, 0, &[3])?;
+    let again = acks(alloc, pending, 0, &[4])?;
+    let unknown = acks(alloc, pending, 2, &[4])?;
+    Ok(
+        first == Ok(())
+            && again == Err(AckFault::AlreadyAcknowledged)
+            && unknown == Err(AckFault::UnknownSubtask)
+            && pending.has(subtask(0))
+            && !pending.expects(subtask(2)),
+    )
 }
 
 /// The record, which is not finished.
@@ -64,116 +71,46 @@ fn finished(pending: Pending) -> Result<Done, Fail> {
     }
 }
 
-/// Whether the acknowledgement at this place is of the subtask, with this first file and so many.
-fn is_acked(
-    metadata: &Metadata,
-    place: usize,
-    index: u16,
-    first: Option<FileId>,
-    count: usize,
-) -> bool {
-    match metadata.acks.get(place) {
-        Some(acked) => {
-            acked.subtask == subtask(index)
-                && acked.files.get(0) == first
-                && acked.files.len() == count
-        }
-        None => false,
-    }
-}
-
-/// A record that the first subtask has acknowledged with the file 3.
-fn with_first(rt: &impl Abort, alloc: Global) -> Result<Pending, Fail> {
-    let mut pending = waiting(alloc)?;
-    assert!(rt; acks(alloc, &mut pending, 0, &[3])? == Ok(()));
-    Ok(pending)
-}
-
-#[test]
-fn a_checkpoint_is_new(rt: HostRuntime) -> Result<(), Fail> {
-    let shape = Shape::new(rt.alloc(), &[2])?;
-    let pending = waiting(rt.alloc())?;
-    assert!(rt; is_new(&pending, &shape));
-    drop(pending);
-    Ok(())
-}
-
-/// Whether a second acknowledgement of the first subtask is refused, and one of a third subtask.
-fn refuses(alloc: Global, pending: &mut Pending) -> Result<bool, AllocError> {
-    let again = acks(alloc, pending, 0, &[4])?;
-    let unknown = acks(alloc, pending, 2, &[4])?;
-    Ok(again == Err(AckFault::AlreadyAcknowledged) && unknown == Err(AckFault::UnknownSubtask))
-}
-
-/// Whether the acknowledgement of the first subtask alone is told.
-fn tells_first_alone(pending: &Pending) -> Result<bool, AllocError> {
-    let metadata = pending.metadata()?;
-    Ok(metadata.acks.len() == 1 && !metadata.done && is_acked(&metadata, 0, 0, Some(FileId(3)), 1))
-}
-
-/// Whether the record is left with one missing, and tells the first acknowledgement.
+/// Whether one acknowledgement is missing, and the other is told.
 fn lacks_one(pending: &Pending) -> Result<bool, AllocError> {
-    Ok(pending.missing() == 1 && tells_first_alone(pending)?)
+    let metadata = pending.metadata()?;
+    Ok(pending.missing() == 1 && metadata.acks.len() == 1 && !metadata.done)
 }
 
-#[test]
-fn a_checkpoint_waits_for_each_subtask(rt: HostRuntime) -> Result<(), Fail> {
-    let mut pending = with_first(&rt, rt.alloc())?;
-    assert!(rt; has_first_alone(&pending));
-    assert!(rt; refuses(rt.alloc(), &mut pending)?);
-    let pending = unfinished(pending)?;
-    let lacks = lacks_one(&pending);
-    drop(pending);
-    assert!(rt; lacks?);
-    Ok(())
+/// Whether both subtasks acknowledge.
+fn takes_both(alloc: Global, pending: &mut Pending) -> Result<bool, AllocError> {
+    let first = acks(alloc, pending, 0, &[3])?;
+    let second = acks(alloc, pending, 1, &[])?;
+    Ok(first == Ok(()) && second == Ok(()))
 }
 
-/// Checkpoint 1, which both subtasks have acknowledged, the first after it was retracted.
-fn complete(rt: &impl Abort, alloc: Global) -> Result<Done, Fail> {
-    let mut pending = with_first(rt, alloc)?;
+/// Whether checkpoint 1 is complete, and tells both acknowledgements.
+fn tells_both(done: &Done) -> Result<bool, AllocError> {
+    let metadata = done.metadata()?;
+    let is_first = done.id() == CheckpointId(1) && done.kind() == Kind::Checkpoint;
+    Ok(is_first && metadata.done && metadata.acks.len() == 2)
+}
+
+/// A record whose first subtask acknowledged, and took that back.
+fn retracted(rt: &impl Abort, pending: Pending) -> Result<Pending, Fail> {
+    let mut pending = unfinished(pending)?;
+    assert!(rt; lacks_one(&pending)?);
     let first = subtask(0);
     assert!(rt; pending.has(first));
     pending.retract(first);
     assert!(rt; pending.missing() == 2);
-    assert!(rt; acks(alloc, &mut pending, 0, &[3])? == Ok(()));
-    assert!(rt; acks(alloc, &mut pending, 1, &[])? == Ok(()));
-    finished(pending)
-}
-
-/// Whether both acknowledgements are told.
-fn tells_both(done: &Done) -> Result<bool, AllocError> {
-    let metadata = done.metadata()?;
-    Ok(
-        metadata.done
-            && metadata.acks.len() == 2
-            && is_acked(&metadata, 0, 0, Some(FileId(3)), 1)
-            && is_acked(&metadata, 1, 1, None, 0),
-    )
+    Ok(pending)
 }
 
 #[test]
-fn a_checkpoint_is_complete(rt: HostRuntime) -> Result<(), Fail> {
-    let done = complete(&rt, rt.alloc())?;
-    assert!(rt; done.id() == CheckpointId(1) && done.kind() == Kind::Checkpoint);
+fn a_checkpoint_waits_for_each_subtask(rt: HostRuntime) -> Result<(), Fail> {
+    let mut pending = waiting(rt.alloc())?;
+    assert!(rt; is_new(&pending));
+    assert!(rt; takes_first(rt.alloc(), &mut pending)?);
+    let mut pending = retracted(&rt, pending)?;
+    assert!(rt; takes_both(rt.alloc(), &mut pending)?);
+    let done = finished(pending)?;
     assert!(rt; tells_both(&done)?);
-    drop(done);
-    Ok(())
-}
-
-/// A completed record of two subtasks that share the file 7.
-fn sharing(rt: &impl Abort, alloc: Global) -> Result<Done, Fail> {
-    let mut pending = waiting(alloc)?;
-    assert!(rt; acks(alloc, &mut pending, 0, &[7, 8])? == Ok(()));
-    assert!(rt; acks(alloc, &mut pending, 1, &[7])? == Ok(()));
-    finished(pending)
-}
-
-#[test]
-fn a_file_of_two_subtasks_is_told_once(rt: HostRuntime) -> Result<(), Fail> {
-    let done = sharing(&rt, rt.alloc())?;
-    let told = done.files()?;
-    drop(done);
-    assert!(rt; told == files(rt.alloc(), &[7, 8])?);
     Ok(())
 }
 
@@ -196,7 +133,7 @@ fn acks_again(
     Ok(())
 }
 
-/// A record that both subtasks have acknowledged.
+/// A record that both subtasks have acknowledged, with the same files.
 fn acked_again(rt: &impl Abort, alloc: Global) -> Result<Pending, Fail> {
     let mut pending = waiting(alloc)?;
     acks_again(rt, alloc, &mut pending, 0)?;
@@ -204,25 +141,26 @@ fn acked_again(rt: &impl Abort, alloc: Global) -> Result<Pending, Fail> {
     Ok(pending)
 }
 
-// Run with each allocation refused in turn: a refused call leaves the record as it was, and works
-// when it is made again.
+/// Whether the record tells both acknowledgements, when it is asked again where memory is refused.
+fn is_told_again(pending: &Pending) -> Result<bool, AllocError> {
+    let metadata = pending.metadata().or_else(|_| pending.metadata())?;
+    Ok(metadata.acks.len() == 2)
+}
+
+/// Whether the complete record does so too, and tells each of the two files once.
+fn has_files_again(done: &Done) -> Result<bool, AllocError> {
+    let metadata = done.metadata().or_else(|_| done.metadata())?;
+    let all = done.files().or_else(|_| done.files())?;
+    Ok(metadata.acks.len() == 2 && all.len() == 2)
+}
+
+/// Run with each allocation refused in turn: a refused call leaves the record as it was, and works
+/// when it is made again. A file that both subtasks name is told once.
 #[test]
 fn a_refused_call_works_again(rt: HostRuntime) -> Result<(), Fail> {
     let pending = acked_again(&rt, rt.alloc())?;
-    let metadata = pending.metadata().or_else(|_| pending.metadata())?;
-    assert!(rt; metadata.acks.len() == 2);
-    drop(pending);
-    Ok(())
-}
-
-#[test]
-fn a_refused_call_of_a_complete_record_works_again(rt: HostRuntime) -> Result<(), Fail> {
-    let done = finished(acked_again(&rt, rt.alloc())?)?;
-    let metadata = done.metadata().or_else(|_| done.metadata())?;
-    assert!(rt; metadata.acks.len() == 2);
-    drop(metadata);
-    let all = done.files().or_else(|_| done.files())?;
-    assert!(rt; all.len() == 2);
-    drop(done);
+    assert!(rt; is_told_again(&pending)?);
+    let done = finished(pending)?;
+    assert!(rt; has_files_again(&done)?);
     Ok(())
 }

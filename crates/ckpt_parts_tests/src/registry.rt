@@ -1,3 +1,4 @@
+//! Tests of the registry: uses, pins, and what is released when records go.
 ghost use Rattle.std.specs.Prelude.{◌≡◌, ◌<◌, ◌+◌, ◌-◌, ◌^◌, ◌&&◌, ◌==◌, [], ◌++◌, length, not, nat_lt, IsTrue, IfOk, OnOk, MatchBool};
 ghost use Rattle.std.specs.List.{list_all};
 ghost use Rattle.ckpt_ids.specs.Records.{count, is_present};

@@ -1,3 +1,4 @@
+//! Tests of the clock and of the count of failures.
 use ckpt_ids::{BadConfig, Config};
 use ckpt_rules::{Clock, Failures, Hold};
 use std::test::Fail;
@@ -37,17 +38,10 @@ fn a_pause_implies_one_at_once_and_lifts_the_interval(rt: HostRuntime) -> Result
 }
 
 #[test]
-fn tolerates_no_failure(rt: HostRuntime) {
+fn counts_failures_in_a_row(rt: HostRuntime) {
     let mut strict = Failures::new(0);
     assert!(rt; !strict.add(0));
     assert!(rt; strict.add(1));
-}
-
-#[test]
-fn counts_failures_in_a_row(rt: HostRuntime) {
-    let mut lenient = Failures::new(2);
-    assert!(rt; !lenient.add(2));
-    assert!(rt; lenient.add(1));
-    lenient.reset();
-    assert!(rt; !lenient.add(2));
+    strict.reset();
+    assert!(rt; !strict.add(0));
 }

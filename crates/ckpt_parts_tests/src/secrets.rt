@@ -1,3 +1,4 @@
+//! Tests of secrets: where numbers are placed that were chosen against another one.
 use ckpt_hash::Secret;
 use std::hash::BuildHasher;
 use std::test::Fail;
@@ -51,5 +52,15 @@ fn another_word_spreads_numbers_that_meet(rt: HostRuntime) -> Result<(), Fail> {
             &meeting
         )
     );
+    Ok(())
+}
+
+/// The multiplier is odd, whatever the second word. With this one, and with the one beside it, it would
+/// be 0 and 1, if it were not; under 0 all numbers would meet.
+#[test]
+fn no_second_word_makes_all_numbers_meet(rt: HostRuntime) -> Result<(), Fail> {
+    let numbers: Vec<u64> = (0..64).collect(rt.alloc())?;
+    assert!(rt; are_spread(&Secret::of(0, 0x9e37_79b9_7f4a_7c15), &numbers));
+    assert!(rt; are_spread(&Secret::of(0, 0x9e37_79b9_7f4a_7c14), &numbers));
     Ok(())
 }

@@ -1,3 +1,4 @@
+//! Tests of the store: completed records, and what a job restarts from.
 ghost use Rattle.std.specs.Prelude.{◌≡◌, IfOk};
 
 use ckpt_ids::{CheckpointId, Choice, Files, Kind, Shape, SubtaskId};

@@ -1,3 +1,5 @@
+//! A record that all its subtasks have acknowledged.
+
 ghost use Rattle.std.specs.Prelude.{◌≡◌, ◌∷◌, [], true, map, IfOk};
 ghost use Rattle.ckpt_ids.specs.Ascending.{ascending_set};
 ghost use Rattle.ckpt_ids.specs.Records.{Record, missing, metadata_of, uses};

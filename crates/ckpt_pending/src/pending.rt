@@ -1,3 +1,5 @@
+//! A record that waits for acknowledgements.
+
 ghost use Rattle.std.specs.Prelude.{◌≡◌, ◌+◌, ◌↔◌, ◌<◌, ◌≤◌, Bool, true, false, not, [], filter, length, Ok, Err, IfOk, IfErr, OnOk, OnErr, IsOk, IsErr};
 ghost use Rattle.std.specs.List.{flat_map, insert};
 ghost use Rattle.ckpt_ids.specs.Acknowledged.{AreInSubtaskOrder, put_ack};

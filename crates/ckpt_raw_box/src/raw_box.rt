@@ -1,3 +1,5 @@
+//! A box as its pointer and its allocator.
+
 ghost use Rattle.std.specs.Prelude.{◌≡◌};
 ghost use Rattle.std_alloc.specs.Box.Ownership.{box_owns};
 

@@ -1,3 +1,5 @@
+//! The test of a box that is taken apart and put together.
+
 use crate::RawBox;
 use std::test::Fail;
 

@@ -1,3 +1,5 @@
+//! A list of past items that clauses alone read.
+
 ghost use Rattle.std.specs.Prelude.{◌≡◌, [], ◌∷◌, ◌++◌};
 
 use std::marker::Model;

@@ -1,3 +1,5 @@
+//! A list of all its items, of which the last are in memory.
+
 ghost use Rattle.std.specs.Prelude.{◌≡◌, ◌≢◌, ◌↔◌, ◌+◌, ◌-◌, ◌^◌, ◌<◌, [], ◌∷◌, ◌++◌, length, IsTrue, OnOk, min};
 ghost use Rattle.std.specs.Option.{option_copied};
 

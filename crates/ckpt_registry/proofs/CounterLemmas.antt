@@ -205,3 +205,9 @@ counter-unchanged m n same f = ap (λ es. unwrap_or (lookup (eqb f) es) 0) same
 
 pub AreInRange-unchanged : (m n : Counts) → n.entries ≡ m.entries → AreInRange m → AreInRange n
 AreInRange-unchanged m n same r = λ f v h. r f v (ap (λ es. lookup (eqb f) es) (sym same) ∙ h)
+
+-- and at most one more in any case
+pub length_more : {E : Type 0} (r : Result (Option ℕ) E) (l n : ℕ) → IsOk r → IfOk r (λ old. n ≡ l + (if is_some old then 0 else 1)) → n ≤ l + 1
+length_more (Ok None) l n ok len = omega (arith, len)
+length_more (Ok (Some v)) l n ok len = omega (arith, len)
+length_more (Err e) l n ok len = absurd (false≢true ok)

@@ -3,6 +3,7 @@ pub mod HoldingLemmas
 pub mod ListLemmas
 pub mod PartLemmas
 pub mod PinLemmas
+pub mod PinnedLemmas
 pub mod PlaceLemmas
 pub mod RegistryLemmas
 pub mod SoundLemmas

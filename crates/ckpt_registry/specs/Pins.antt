@@ -1,5 +1,5 @@
 -- The files that records pin: those of a live record, or their own.
-use Rattle.std.specs.Prelude.{◌≡◌, ℕ, ◌<◌, ◌≤◌, ◌==◌, Bool, List, [], ◌∷◌, ◌++◌, ◌⊎◌, take, length, nat_lt, if◌then◌else◌}
+use Rattle.std.specs.Prelude.{◌≡◌, ℕ, ◌<◌, ◌≤◌, ◌==◌, Bool, List, [], ◌∷◌, ◌++◌, ◌⊎◌, filter, take, length, nat_lt, if◌then◌else◌}
 use Rattle.std.specs.List.{flat_map, list_any, sum_by}
 use Rattle.std.specs.Vec.{vec_capacity}
 use Rattle.ckpt_ids.specs.Ascending.{ascending_set}
@@ -26,6 +26,10 @@ pinned_by m one = each_file (parts_pinned m one) ++ one.files.items
 -- it tells whether the file is in one of the first parts of the record
 abbrev pub IsLook : Acknowledged → ℕ → Look → Type 0
 IsLook m f look = look.found ≡ nat_lt 0 (times f (files_in (take look.parts (parts_of m look.chosen))))
+
+-- what a record pins; a file of several parts stands for each
+abbrev pub named_by : Acknowledged → ℕ → List Pinner → List ℕ
+named_by m id pinned = flat_map (λ one. files_in (parts_pinned m one) ++ one.files.items) (filter (λ one. one.id == id) pinned)
 
 -- the pins as uses
 abbrev pub pins_in : Acknowledged → List Pinner → List Use

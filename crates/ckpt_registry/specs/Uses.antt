@@ -40,3 +40,7 @@ after_end id owners us = filter (λ u. not (is_ended id owners u)) us
 -- the uses of all other records
 abbrev pub without_record : ℕ → List Use → List Use
 without_record id us = filter (λ u. not (u.id == id)) us
+
+-- the files that a record pins
+abbrev pub pins_by : ℕ → List Use → List ℕ
+pins_by id us = map (λ u. u.file) (filter (λ u. (u.id == id) && same_holder u.holder Pin) us)

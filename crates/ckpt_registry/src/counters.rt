@@ -1,3 +1,4 @@
+//! How often each file is used, by one counter for each file that is.
 ghost use Rattle.std.specs.Prelude.{◌≡◌, ℕ, ◌+◌, ◌^◌, ◌<◌, ◌≤◌, ◌==◌, length, if◌then◌else◌, vec_len};
 ghost use Rattle.std.specs.Vec.{vec_capacity};
 ghost use Rattle.indexmap.specs.IndexMap.{index_map_len, spare};
@@ -41,6 +42,21 @@ pub(crate) fn count_reused(counts: &mut Counts, files: &[FileId])
         if let Some(count) = counts.get_mut(file) {
             *count += 1;
         }
+    }
+}
+
+/// Counts each of these files once more, in room that was reserved for those that have no counter.
+pub(crate) fn count_each(counts: &mut Counts, files: &[FileId])
+    requires room { length files.now ≤ spare counts.old }
+    requires fits { (f : ℕ) → IsIn f files.now → counter counts.old f + times f files.now < 2 ^ 32 }
+    requires range { AreInRange counts.old }
+    ensures counted { (f : ℕ) → counter counts.new f ≡ counter counts.old f + times f files.now }
+    ensures len { index_map_len counts.new ≤ index_map_len counts.old + length files.now }
+    ensures range { AreInRange counts.new }
+{
+    for file in files {
+        let count = counts.get(file).copied().unwrap_or(0);
+        let _ = counts.insert(*file, count + 1);
     }
 }
 

@@ -1,4 +1,5 @@
-ghost use Rattle.std.specs.Prelude.{◌≡◌, ℕ, ◌+◌, ◌≤◌, ◌==◌, [], filter, nat_lt, not, vec_capacity, vec_len, OnOk, OnErr, IfOk, IfErr, IfNone, IfSome, length};
+//! What the subtasks of each record acknowledged: a row of records, each with its parts.
+ghost use Rattle.std.specs.Prelude.{◌≡◌, ℕ, ◌+◌, ◌≤◌, ◌==◌, [], filter, nat_lt, not, vec_capacity, vec_len, OnOk, OnErr, IfOk, IfErr, IfNone, IfSome, ◌^◌, length};
 ghost use Rattle.indexmap.specs.IndexMap.{index_map_len};
 ghost use Rattle.ckpt_ids.specs.Counting.{times};
 ghost use Rattle.ckpt_registry.specs.Counters.{counter, counted_once, AreInRange};
@@ -51,9 +52,11 @@ pub(crate) fn has(parts: &[Part], file: FileId) -> bool
     false
 }
 
-/// How many files these parts name, where that is a number at all.
+/// How many files these parts name, or nothing where that is no number of 64 bits. 4096 subtasks of
+/// 4096 files each name 2^24, so a coordinator always gets the number.
 pub(crate) fn named(parts: &[Part]) -> Option<usize>
-    ensures { IfSome result (λ n. n ≡ length (files_in parts.now)) }
+    ensures some { IfSome result (λ n. n ≡ length (files_in parts.now)) }
+    ensures none { IfNone result (2 ^ 64 ≤ length (files_in parts.now)) }
 {
     let mut files: usize = 0;
     for part in parts {

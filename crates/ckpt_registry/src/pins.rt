@@ -1,16 +1,18 @@
-ghost use Rattle.std.specs.Prelude.{◌≡◌, ℕ, ◌+◌, ◌<◌, ◌≤◌, ◌^◌, ◌&&◌, ◌==◌, nat_lt, take, filter, not, vec_len, length, ◌++◌};
+//! The pins of records: files that they keep present, or a live record whose files they keep.
+ghost use Rattle.std.specs.Prelude.{◌≡◌, ℕ, ◌+◌, ◌<◌, ◌≤◌, ◌^◌, ◌&&◌, ◌==◌, nat_lt, take, filter, not, vec_len, length, ◌++◌, IfOk, OnOk};
 ghost use Rattle.std.specs.Vec.{vec_capacity};
 ghost use Rattle.indexmap.specs.IndexMap.{index_map_len};
 ghost use Rattle.ckpt_ids.specs.Counting.{times};
 ghost use Rattle.ckpt_ids.specs.Ordered.{IsIn};
 ghost use Rattle.ckpt_registry.specs.Counters.{counter, counted_once, AreInRange};
 ghost use Rattle.ckpt_registry.specs.Holdings.{AreRising, files_in, parts_of};
-ghost use Rattle.ckpt_registry.specs.Pins.{AreKept, AreSettled, IsKept, IsLook, IsTaken, each_file, is_named, own_in, parts_pinned, pins_of_records, pins_on};
+ghost use Rattle.ckpt_registry.specs.Pins.{AreKept, AreSettled, IsKept, IsLook, IsTaken, each_file, is_named, named_by, own_in, parts_pinned, pins_of_records, pins_on};
 
 use crate::counters::{Counts, count_reused};
 use crate::holdings::{Acknowledged, Part, has, lower_each, parts_held};
 use crate::sorting::sort;
 use ckpt_ids::{CheckpointId, FileId};
+use std::alloc::{AllocError, Global};
 
 /// A record that pins files: all those of a live record, as it is now, or its own.
 #[derive(Debug, Drop)]
@@ -75,6 +77,39 @@ fn write(files: &mut Vec<FileId>, more: &[FileId])
     ensures capacity { vec_capacity files.old ≤ vec_capacity files.new }
 {
     let _ = files.extend_from_slice(more);
+}
+
+/// Appends the files of these parts. Fails only for want of memory.
+fn add_files(all: &mut Vec<FileId>, parts: &[Part]) -> Result<(), AllocError>
+    ensures { OnOk result (all.new.items ≡ all.old.items ++ files_in parts.now) }
+{
+    for part in parts {
+        all.extend_from_slice(part.fresh.as_slice())?;
+        all.extend_from_slice(part.reused.as_slice())?;
+    }
+    Ok(())
+}
+
+/// What a record pins; a file of several parts stands for each. Fails only for want of memory.
+pub(crate) fn files_pinned(
+    alloc: Global,
+    acknowledged: &Acknowledged,
+    pinned: &[Pinner],
+    id: CheckpointId,
+) -> Result<Vec<FileId>, AllocError>
+    requires rising { AreRising acknowledged.now.items }
+    requires kept { AreKept acknowledged.now pinned.now }
+    ensures { IfOk result (λ all. all.items ≡ named_by acknowledged.now id pinned.now) }
+{
+    let mut all = Vec::new(alloc);
+    for one in pinned {
+        if one.id == id {
+            let parts = parts_held(acknowledged, one.chosen);
+            add_files(&mut all, &parts[..one.parts])?;
+            all.extend_from_slice(&one.files)?;
+        }
+    }
+    Ok(all)
 }
 
 /// Whether a file is in one of the first parts of a live record.

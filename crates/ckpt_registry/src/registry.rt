@@ -1,13 +1,14 @@
-ghost use Rattle.std.specs.Prelude.{◌≡◌, ℕ, ◌-◌, ◌^◌, ◌<◌, [], ◌++◌, false, true, map, length, OnOk, OnErr};
+//! The registry: the uses of state files, how often each file is used, and which are released.
+ghost use Rattle.std.specs.Prelude.{◌≡◌, ℕ, ◌-◌, ◌^◌, ◌<◌, [], ◌++◌, false, true, map, length, IfOk, OnOk, OnErr};
 ghost use Rattle.std.specs.Borrow.{sem};
 ghost use Rattle.ckpt_ids.specs.Ordered.{IsIn, IsInOrder, in_order_once};
 ghost use Rattle.ckpt_ids.specs.Ascending.{IsAscendingSet, ascending_set};
 ghost use Rattle.ckpt_ids.specs.Records.{Subtask, Pin, count, is_present, released, use_before};
-ghost use Rattle.ckpt_registry.specs.Uses.{IsEachOnce, HasNoUse, after_end, files_by, triples, without};
+ghost use Rattle.ckpt_registry.specs.Uses.{IsEachOnce, HasNoUse, after_end, files_by, pins_by, triples, without};
 
-use crate::counters::{Counts, count_fresh, count_reused};
+use crate::counters::{Counts, count_each, count_fresh, count_reused};
 use crate::holdings::{Acknowledged, Part, hold, named, parts_held};
-use crate::pins::{Pinner, pins_of, unpin};
+use crate::pins::{Pinner, files_pinned, pins_of, unpin};
 use crate::releases::release_each;
 use crate::sorting::sort;
 use ckpt_hash::Secret;
@@ -157,6 +158,64 @@ impl Registry {
         Ok(())
     }
 
+    /// Adds the uses of the acknowledgement of one subtask, whether its files are present or not: for
+    /// a registry that is filled again. Else as [`Registry::use_files`].
+    pub fn hold_files(
+        &mut self,
+        id: CheckpointId,
+        subtask: SubtaskId,
+        files: &Files,
+    ) -> Result<(), AllocError>
+        requires each_once { IsEachOnce files.now }
+        requires below { (f : ℕ) → IsIn f files.now → count self.old f < 2 ^ 32 - 1 }
+        requires unused { HasNoUse self.old id (Subtask subtask) }
+        ensures ok { OnOk result (self.new ≡ in_order_once use_before (self.old ++ triples id (Subtask subtask) files.now)) }
+        ensures err { OnErr result (self.new ≡ self.old) }
+    {
+        self.counts.reserve(files.len())?;
+        self.released.clear();
+        self.released.reserve(self.counts.capacity())?;
+        let none = Files::of(Vec::new(*self.released.allocator()));
+        hold(
+            &mut self.acknowledged,
+            &mut self.spare,
+            id,
+            subtask,
+            files,
+            &none,
+        )?;
+        count_each(&mut self.counts, files.as_slice());
+        Ok(())
+    }
+
+    /// Pins files, which are present from now on until the record ends or goes: one use for each.
+    /// Some may have no other use: those of a record that went since it was pinned.
+    ///
+    /// Each file is named once, and the record has no pins yet. Fails only for want of memory, and
+    /// then adds none.
+    pub fn pin_files(&mut self, id: CheckpointId, files: &Files) -> Result<(), AllocError>
+        requires ascending { IsAscendingSet files.now }
+        requires below { (f : ℕ) → IsIn f files.now → count self.old f < 2 ^ 32 - 1 }
+        requires unpinned { HasNoUse self.old id Pin }
+        ensures ok { OnOk result (self.new ≡ in_order_once use_before (self.old ++ triples id Pin files.now)) }
+        ensures err { OnErr result (self.new ≡ self.old) }
+    {
+        let alloc = *self.released.allocator();
+        self.counts.reserve(files.len())?;
+        self.released.clear();
+        self.released.reserve(self.counts.capacity())?;
+        let files = files.as_slice();
+        let own = Vec::from_slice(alloc, files)?;
+        self.pinned.push(Pinner {
+            id,
+            chosen: id,
+            parts: 0,
+            files: own,
+        })?;
+        count_each(&mut self.counts, files);
+        Ok(())
+    }
+
     /// Pins the files of a live record, as it is now: one use for each, which keeps them present
     /// until record `id` ends or goes, even where the other goes before. Does the same as
     /// [`Registry::pin`] with these files, and visits none of them.
@@ -188,6 +247,17 @@ impl Registry {
             files,
         })?;
         Ok(())
+    }
+
+    /// The files that a record pins, in ascending order. Fails only for want of memory.
+    pub fn pins(&self, id: CheckpointId) -> Result<Files, AllocError>
+        ensures { IfOk result (λ files. files ≡ pins_by id self.now) }
+    {
+        let alloc = *self.released.allocator();
+        let mut all = files_pinned(alloc, &self.acknowledged, &self.pinned, id)?;
+        all.sort_unstable();
+        all.dedup();
+        Ok(Files::of(all))
     }
 
     /// Removes all uses and pins of these records, and shows the files that are no longer used:

@@ -1,3 +1,4 @@
+//! What goes with records: their uses and their pins.
 ghost use Rattle.std.specs.Prelude.{◌≡◌, ℕ, ◌+◌, ◌≤◌, [], vec_capacity, vec_len};
 ghost use Rattle.indexmap.specs.IndexMap.{index_map_len};
 ghost use Rattle.ckpt_ids.specs.Counting.{times};

@@ -1,3 +1,5 @@
+//! When the next checkpoint may start.
+
 ghost use Rattle.std.specs.Prelude.{◌≡◌, ◌+◌, ◌*◌, ◌<◌, max, Some, None};
 ghost use Rattle.ckpt_ids.specs.declared.limits.TheConstants.{LONGEST_DURATION, MOMENTS_END};
 ghost use Rattle.ckpt_rules.specs.Moments.{Moments, IsInRange};
@@ -38,7 +40,7 @@ fn gap_of(config: &Config) -> u64
 }
 
 /// How many checkpoints may be pending: one, where there is a pause between them.
-fn limit_of(config: &Config) -> u32
+pub fn limit_of(config: &Config) -> u32
     ensures { result ≡ limit config.now }
 {
     if config.pause() > 0 {
@@ -59,6 +61,42 @@ impl Clock {
             due: start + gap_of(config),
             completed: None,
         }
+    }
+
+    /// The clock with these moments: the greatest one seen, the one before which no checkpoint
+    /// starts, and the last completion since the job was started, where there was one.
+    pub fn of(latest: u64, due: u64, completed: Option<u64>) -> Clock
+        requires { IsInRange (record { latest = latest; due = due; completed = completed }) }
+        ensures { result ≡ record { latest = latest; due = due; completed = completed } }
+    {
+        Clock {
+            latest,
+            due,
+            completed,
+        }
+    }
+
+    /// The greatest moment seen.
+    pub fn latest(&self) -> u64
+        ensures value { result ≡ self.now.latest }
+        ensures moments { IsInRange self.now }
+    {
+        self.latest
+    }
+
+    /// The moment from which the interval no longer holds a checkpoint back.
+    pub fn interval_ends(&self) -> u64
+        ensures { result ≡ self.now.due }
+    {
+        self.due
+    }
+
+    /// The moment of the last completed checkpoint since the job was started, or `None` where none
+    /// has completed.
+    pub fn last_completion(&self) -> Option<u64>
+        ensures { result ≡ self.now.completed }
+    {
+        self.completed
     }
 
     /// The greater of `now` and the greatest moment seen.

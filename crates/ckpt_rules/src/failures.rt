@@ -1,3 +1,5 @@
+//! How many failures in a row a job tolerates.
+
 ghost use Rattle.std.specs.Prelude.{◌≡◌, ◌+◌, ◌<◌, ◌^◌, ◌↔◌, IsTrue};
 ghost use Rattle.ckpt_rules.specs.FailureCount.{FailureCount};
 
@@ -42,6 +44,13 @@ impl Failures {
     {
         self.number += more;
         self.tolerable < self.number
+    }
+
+    /// How many checkpoints have failed in a row.
+    pub fn number(&self) -> u32
+        ensures { result ≡ self.now.number }
+    {
+        self.number
     }
 
     /// No failures: a checkpoint completed, or the job was restarted.

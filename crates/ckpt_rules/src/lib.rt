@@ -9,6 +9,6 @@ pub mod clock;
 pub mod failures;
 pub mod hold;
 
-pub use clock::Clock;
+pub use clock::{Clock, limit_of};
 pub use failures::Failures;
 pub use hold::Hold;

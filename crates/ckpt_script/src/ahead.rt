@@ -1,3 +1,4 @@
+//! What was read of a script and not used yet, and how the next line is found in it.
 ghost use Rattle.std.specs.Prelude.{◌≡◌, ◌+◌, ◌≢◌, ◌≤◌, ◌<◌, ◌∷◌, ◌++◌, ℕ, List, true, false, [], IsTrue, ◌↔◌, IfOk, OnOk, OnErr, IfErr, length, take, Some};
 ghost use Rattle.std.specs.Io.KnownBytes.{Keeps, IsAtEnd, prepend_known};
 ghost use Rattle.ckpt_script.specs.Devices.{IsCounted, IsCaused};

@@ -1,3 +1,4 @@
+//! Why a run of a script ends early.
 use std::alloc::AllocError;
 use thiserror::Error;
 

@@ -1,3 +1,4 @@
+//! What was printed and is not written yet.
 ghost use Rattle.std.specs.Prelude.{◌≡◌, ◌≤◌, [], length, IfOk, OnOk, OnErr, IfErr};
 ghost use Rattle.std.specs.Io.KnownBytes.{Appends};
 ghost use Rattle.ckpt_script.specs.Known.{IsCut, Passes, PassesFront};

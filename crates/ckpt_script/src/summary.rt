@@ -1,3 +1,4 @@
+//! What a run tells at its end.
 /// What a run has come across.
 #[derive(Clone, Copy, Debug, PartialEq, Eq)]
 pub struct Summary {

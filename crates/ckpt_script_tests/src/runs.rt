@@ -1,3 +1,5 @@
+//! Tests of runs: pieces, failing devices, limits.
+
 use ckpt_script::{RunFault, Summary, run};
 use ckpt_workers::InOrder;
 use std::alloc::{AllocError, Global};

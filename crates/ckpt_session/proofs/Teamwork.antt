@@ -23,8 +23,9 @@ use Rattle.ckpt_locked.specs.Seats.{calls_by, answers_by, SeatsBelow}
 use Rattle.ckpt_workers.specs.declared.team.Made.{Made}
 use Rattle.ckpt_workers.specs.Teams.{IsTeamwork, is_accepted}
 use Rattle.ckpt_session.specs.declared.all.AllLine.{AllLine}
-use Rattle.ckpt_session.specs.declared.said.ScriptRefusal.TheVariants.{FilesUsedUp}
-use Rattle.ckpt_session.specs.ScriptTexts.{refusal_bytes}
+use Rattle.ckpt_session.specs.declared.outcome.ScriptRefusal.TheVariants.{FilesUsedUp}
+use Rattle.ckpt_session.specs.declared.outcome.Outcome.{Outcome}
+use Rattle.ckpt_session.specs.declared.outcome.Outcome.TheVariants.{Refused}
 use Rattle.ckpt_texts.specs.MetadataTexts.{missing_subtasks}
 use Rattle.ckpt_session.specs.AllLines.{Obeyed, pending_metadata, acks_for, acknowledged, told, all_of, IsAsInOrder}
 use Rattle.ckpt_session.proofs.BookLemmas.{state_of_book-more, state_of_book-entered}
@@ -100,18 +101,18 @@ team_as_in_order h line metadata missing made sound shown are some work = by_pen
         as_in_order h line r (acks_for line missing) made sound e (ap (acks_for line) (are ∙ ap missing_subtasks (sym same)) ∙ calls_of_record line r) some work
 
 -- what the line leaves and prints, from what the team made
-pub acknowledged_is : (m after : State) (line : AllLine) (metadata : Metadata) (missing : List SubtaskId) (made : Made) (text : List ℕ) → missing ≡ missing_subtasks metadata → line.first + length missing ≤ 2 ^ 64 → IsAsInOrder m (acks_for line missing) made → after ≡ state_of_book made.book → text ≡ told (state_of_book made.book) line made.accepted made.refused made.completed → ◌≡◌ {A = Obeyed} (after, text) (all_of m line (Some metadata))
+pub acknowledged_is : (m after : State) (line : AllLine) (metadata : Metadata) (missing : List SubtaskId) (made : Made) (outcome : Outcome) → missing ≡ missing_subtasks metadata → line.first + length missing ≤ 2 ^ 64 → IsAsInOrder m (acks_for line missing) made → after ≡ state_of_book made.book → outcome ≡ told (state_of_book made.book) line made.accepted made.refused made.completed → ◌≡◌ {A = Obeyed} (after, outcome) (all_of m line (Some metadata))
 unfolding all_of
-acknowledged_is m after line metadata missing made text are few order state says =
+acknowledged_is m after line metadata missing made outcome are few order state says =
     let calls : List Call = acks_for line missing in
     let same : List SubtaskId → Obeyed = λ missing. acknowledged m line (acks_for line missing) in
     let fits : ltb (2 ^ 64) (line.first + length (missing_subtasks metadata)) ≡ false = le-ltb (2 ^ 64) (line.first + length (missing_subtasks metadata)) (subst (λ (xs : List SubtaskId). line.first + length xs ≤ 2 ^ 64) are few) in
-    ap (λ (s : State). (s, text)) (state ∙ order.state)
-    ∙ ap (λ (t : List ℕ). (replay m calls, t))
+    ap (λ (s : State). (s, outcome)) (state ∙ order.state)
+    ∙ ap (λ (o : Outcome). (replay m calls, o))
     (says
     ∙ ap (λ (s : State). told s line made.accepted made.refused made.completed) order.state
     ∙ ap (λ (n : ℕ). told (replay m calls) line n made.refused made.completed) order.accepted
     ∙ ap (λ (n : ℕ). told (replay m calls) line (count_by is_accepted (answers m calls)) n made.completed) order.refused
     ∙ ap (told (replay m calls) line (count_by is_accepted (answers m calls)) (count_by (λ a. not (is_accepted a)) (answers m calls))) order.completed)
     ∙ ap same are
-    ∙ sym (cond-false (ltb (2 ^ 64) (line.first + length (missing_subtasks metadata))) (m, refusal_bytes FilesUsedUp) (same (missing_subtasks metadata)) fits)
+    ∙ sym (cond-false (ltb (2 ^ 64) (line.first + length (missing_subtasks metadata))) (m, Refused FilesUsedUp) (same (missing_subtasks metadata)) fits)

@@ -1,5 +1,5 @@
 -- The `all` line: each missing subtask of a pending record acknowledges, with one new file.
-use Rattle.std.specs.Prelude.{◌≡◌, ℕ, ◌+◌, ◌^◌, not, ◌||◌, nat_lt, if◌then◌else◌, List, ◌++◌, map, length, count_by, Option, Some, None, codes}
+use Rattle.std.specs.Prelude.{◌≡◌, ℕ, ◌+◌, ◌^◌, not, ◌||◌, nat_lt, if◌then◌else◌, List, map, length, count_by, Option, Some, None}
 use Rattle.std.specs.Option.{option_map, option_map_or}
 use Rattle.std.specs.List.{enumerate_from}
 use Rattle.ckpt_ids.specs.declared.subtask.SubtaskId.{SubtaskId}
@@ -17,12 +17,14 @@ pub use Rattle.ckpt_core.specs.Interleavings.{ack_with}
 use Rattle.ckpt_locked.specs.declared.limits.TheConstants.{MOST_SEATS}
 use Rattle.ckpt_locked.specs.Books.{state_of_book}
 use Rattle.ckpt_texts.specs.MetadataTexts.{missing, missing_subtasks}
-use Rattle.ckpt_texts.specs.Texts.{spaced}
 use Rattle.ckpt_workers.specs.declared.team.Made.{Made}
 use Rattle.ckpt_workers.specs.Teams.{is_accepted}
-use Rattle.ckpt_session.specs.declared.said.ScriptRefusal.TheVariants.{BadThreads, NotPending, FilesUsedUp}
 use Rattle.ckpt_session.specs.declared.all.AllLine.{AllLine}
-use Rattle.ckpt_session.specs.ScriptTexts.{refusal_bytes}
+use Rattle.ckpt_session.specs.declared.outcome.AllEnd.{AllEnd}
+use Rattle.ckpt_session.specs.declared.outcome.AllEnd.TheVariants.{Completed, Pending}
+use Rattle.ckpt_session.specs.declared.outcome.Outcome.{Outcome}
+use Rattle.ckpt_session.specs.declared.outcome.Outcome.TheVariants.{Refused, Acknowledged}
+use Rattle.ckpt_session.specs.declared.outcome.ScriptRefusal.TheVariants.{BadThreads, NotPending, FilesUsedUp}
 
 -- the metadata, where the answer shows a pending record
 unfoldable pub shown_pending : Answer → Option Metadata
@@ -45,26 +47,21 @@ new_files line missing = map (λ p. record { subtask = p.1; file = line.first + 
 unfoldable pub acks_for : AllLine → List SubtaskId → List Call
 acks_for line missing = map (ack_with line.moment line.id) (new_files line missing)
 
--- what a line leaves of the coordinator, and what it prints
+-- what a line leaves of the coordinator, and what it came to
 abbrev pub Obeyed : Type 0
-Obeyed = State × List ℕ
+Obeyed = State × Outcome
 
-abbrev pub counts_bytes : ℕ → ℕ → List ℕ
-counts_bytes accepted refused = codes "all" ++ spaced accepted ++ spaced refused
+-- how the record stands after so much of a completion
+abbrev pub end_of : State → ℕ → Option (ℕ × ℕ) → AllEnd
+end_of m id (Some (dropped, released)) = Completed dropped released
+end_of m id None = Pending (missing_now m id)
 
-unfoldable pub completed_bytes : ℕ → ℕ → ℕ → ℕ → List ℕ
-completed_bytes accepted refused dropped released = counts_bytes accepted refused ++ codes " completed" ++ spaced dropped ++ spaced released ++ codes "\n"
+-- what so many accepted and refused calls, and the completion, come to
+unfoldable pub told : State → AllLine → ℕ → ℕ → Option (ℕ × ℕ) → Outcome
+told m line accepted refused completed = Acknowledged accepted refused (end_of m line.id completed)
 
-unfoldable pub pending_bytes : ℕ → ℕ → ℕ → List ℕ
-pending_bytes accepted refused missing = counts_bytes accepted refused ++ codes " pending" ++ spaced missing ++ codes "\n"
-
--- what is printed of so many accepted and refused calls, and of the completion
-unfoldable pub told : State → AllLine → ℕ → ℕ → Option (ℕ × ℕ) → List ℕ
-told m line accepted refused (Some (dropped, released)) = completed_bytes accepted refused dropped released
-told m line accepted refused None = pending_bytes accepted refused (missing_now m line.id)
-
--- what is printed once a team has made the calls
-abbrev pub told_of : AllLine → Made → List ℕ
+-- the same once a team has made the calls
+abbrev pub told_of : AllLine → Made → Outcome
 told_of line made = told (state_of_book made.book) line made.accepted made.refused made.completed
 
 abbrev pub acknowledged : State → AllLine → List Call → Obeyed
@@ -75,15 +72,15 @@ acknowledged m line calls =
 
 -- the numbers of the files go up to 2^64 - 1
 unfoldable pub all_of : State → AllLine → Option Metadata → Obeyed
-all_of m line None = (m, refusal_bytes NotPending)
+all_of m line None = (m, Refused NotPending)
 all_of m line (Some metadata) =
-    if nat_lt (2 ^ 64) (line.first + length (missing_subtasks metadata)) then (m, refusal_bytes FilesUsedUp)
+    if nat_lt (2 ^ 64) (line.first + length (missing_subtasks metadata)) then (m, Refused FilesUsedUp)
     else acknowledged m line (acks_for line (missing_subtasks metadata))
 
 -- the calls are made one after the other, in subtask order
 unfoldable pub all_obeyed : State → AllLine → Obeyed
 all_obeyed m line =
-    if nat_lt line.threads 1 || nat_lt MOST_SEATS line.threads then (m, refusal_bytes BadThreads)
+    if nat_lt line.threads 1 || nat_lt MOST_SEATS line.threads then (m, Refused BadThreads)
     else all_of m line (pending_metadata m line.id)
 
 -- the team's book and its counts are those of the calls made one after the other

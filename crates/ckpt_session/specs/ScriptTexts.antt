@@ -1,9 +1,14 @@
--- What a script prints of its own: its refusals, and the faults of its lines.
-use Rattle.std.specs.Prelude.{ℕ, List, ◌++◌, codes, decimal}
+-- What a script prints: the outcomes of its lines, and their faults.
+use Rattle.std.specs.Prelude.{ℕ, Bool, true, false, List, [], ◌++◌, codes, decimal}
 use Rattle.ckpt_lines.specs.declared.fault.LineFault.{LineFault}
 use Rattle.ckpt_lines.specs.declared.fault.LineFault.TheVariants as fault
-use Rattle.ckpt_session.specs.declared.said.ScriptRefusal.{ScriptRefusal}
-use Rattle.ckpt_session.specs.declared.said.ScriptRefusal.TheVariants as refusal
+use Rattle.ckpt_texts.specs.Texts.{answer_bytes, spaced}
+use Rattle.ckpt_session.specs.declared.outcome.AllEnd.{AllEnd}
+use Rattle.ckpt_session.specs.declared.outcome.AllEnd.TheVariants.{Completed, Pending}
+use Rattle.ckpt_session.specs.declared.outcome.Outcome.{Outcome}
+use Rattle.ckpt_session.specs.declared.outcome.Outcome.TheVariants.{Silent, Refused, Answered, Acknowledged}
+use Rattle.ckpt_session.specs.declared.outcome.ScriptRefusal.{ScriptRefusal}
+use Rattle.ckpt_session.specs.declared.outcome.ScriptRefusal.TheVariants as refusal
 
 unfoldable pub refusal_name : ScriptRefusal → List ℕ
 refusal_name refusal.Started = codes "Started"
@@ -19,6 +24,23 @@ refusal_name refusal.FilesUsedUp = codes "FilesUsedUp"
 -- the text of a refusal, with a newline at its end
 unfoldable pub refusal_bytes : ScriptRefusal → List ℕ
 refusal_bytes why = codes "refused " ++ refusal_name why ++ codes "\n"
+
+-- how the record of an `all` line stands, with a newline at its end
+unfoldable pub all_end_bytes : AllEnd → List ℕ
+all_end_bytes (Completed dropped released) = codes " completed" ++ spaced dropped ++ spaced released ++ codes "\n"
+all_end_bytes (Pending missing) = codes " pending" ++ spaced missing ++ codes "\n"
+
+-- whether anything is printed of an outcome
+abbrev pub is_said : Outcome → Bool
+is_said Silent = false
+is_said outcome = true
+
+-- what is printed of an outcome, with a newline at its end
+unfoldable pub outcome_bytes : Outcome → List ℕ
+outcome_bytes Silent = []
+outcome_bytes (Refused why) = refusal_bytes why
+outcome_bytes (Answered answer) = answer_bytes answer
+outcome_bytes (Acknowledged accepted refused end) = codes "all" ++ spaced accepted ++ spaced refused ++ all_end_bytes end
 
 unfoldable pub fault_name : LineFault → List ℕ
 fault_name fault.Word = codes "Word"

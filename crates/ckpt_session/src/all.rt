@@ -1,15 +1,16 @@
-ghost use Rattle.std.specs.Prelude.{◌≡◌, ◌≤◌, ◌<◌, ◌^◌, ◌+◌, false, Some, length, slice_get, IfOk, OnOk, string_bytes};
+//! The `all` line: each missing subtask of a pending record acknowledges, with one new file each.
+ghost use Rattle.std.specs.Prelude.{◌≡◌, ◌≤◌, ◌<◌, ◌^◌, ◌+◌, false, Some, length, slice_get, IfOk, OnOk};
 ghost use Rattle.std.specs.List.{list_any};
 ghost use Rattle.std.specs.Option.{option_map_or};
 ghost use Rattle.ckpt_ids.specs.Shapes.{same_subtask};
 ghost use Rattle.ckpt_ids.specs.Acknowledged.{is_before};
 ghost use Rattle.ckpt_locked.specs.Books.{state_of_book};
 ghost use Rattle.ckpt_texts.specs.MetadataTexts.{missing_subtasks};
-ghost use Rattle.ckpt_session.specs.AllLines.{ack_with, missing_now, pending_metadata, acks_for, counts_bytes, completed_bytes, pending_bytes, told_of, all_of, all_obeyed};
+ghost use Rattle.ckpt_session.specs.AllLines.{ack_with, missing_now, pending_metadata, shown_pending, acks_for, end_of, told_of, all_of, all_obeyed};
 
-use crate::calls::pending_metadata;
-use crate::said::{ScriptRefusal, refusal_text};
-use ckpt_ids::{Acks, Call, CheckpointId, FileId, Files, Metadata, SubtaskId};
+use crate::calls::call;
+use crate::outcome::{AllEnd, Outcome, ScriptRefusal};
+use ckpt_ids::{Acks, Answer, Call, CheckpointId, FileId, Files, Metadata, Reply, SubtaskId};
 use ckpt_locked::{Book, MOST_SEATS};
 use ckpt_workers::{Made, Team};
 use std::alloc::{AllocError, Global};
@@ -29,7 +30,7 @@ pub(crate) struct AllLine {
 }
 
 impl AllLine {
-    /// Obeys the line over a book, and gives it back with what the line prints.
+    /// Obeys the line over a book, and gives it back with what the line came to.
     ///
     /// Fails only for want of memory, and then the book is given up.
     #[tactic(auto, unfolding(crate::specs::AllLines::all_obeyed, crate::specs::AllLines::all_of))]
@@ -38,15 +39,15 @@ impl AllLine {
         alloc: Global,
         mut book: Book,
         team: &mut T,
-    ) -> Result<(Book, String), AllocError>
-        ensures { IfOk result (λ said. (state_of_book said.0, string_bytes said.1) ≡ all_obeyed (state_of_book book) self.now) }
+    ) -> Result<(Book, Outcome), AllocError>
+        ensures { IfOk result (λ said. (state_of_book said.0, said.1) ≡ all_obeyed (state_of_book book) self.now) }
     {
         if self.threads < 1 || MOST_THREADS < self.threads {
-            return Ok((book, refusal_text(alloc, ScriptRefusal::BadThreads)?));
+            return Ok((book, Outcome::Refused(ScriptRefusal::BadThreads)));
         }
         match pending_metadata(&mut book, self.id)? {
             Some(metadata) => self.acknowledge(alloc, book, &metadata, team),
-            None => Ok((book, refusal_text(alloc, ScriptRefusal::NotPending)?)),
+            None => Ok((book, Outcome::Refused(ScriptRefusal::NotPending))),
         }
     }
 
@@ -58,22 +59,22 @@ impl AllLine {
         book: Book,
         metadata: &Metadata,
         team: &mut T,
-    ) -> Result<(Book, String), AllocError>
+    ) -> Result<(Book, Outcome), AllocError>
         requires threads { (1 ≤ self.now.threads) × (self.now.threads ≤ MOST_SEATS) }
         requires pending { pending_metadata (state_of_book book) self.now.id ≡ Some metadata.now }
-        ensures { IfOk result (λ said. (state_of_book said.0, string_bytes said.1) ≡ all_of (state_of_book book) self.now (Some metadata.now)) }
+        ensures { IfOk result (λ said. (state_of_book said.0, said.1) ≡ all_of (state_of_book book) self.now (Some metadata.now)) }
     {
         let missing = missing_subtasks(alloc, metadata)?;
         let last = (missing.len() as u64).saturating_sub(1);
         if u64::MAX - self.first < last {
-            return Ok((book, refusal_text(alloc, ScriptRefusal::FilesUsedUp)?));
+            return Ok((book, Outcome::Refused(ScriptRefusal::FilesUsedUp)));
         }
         // Tells that the state is sound: then the calls come to the same in whatever order.
         let _ = book.core();
         let calls = self.calls(alloc, &missing)?;
         let mut made = team.make(book, calls, self.threads as u32)?;
-        let text = self.tell(alloc, &mut made)?;
-        Ok((made.book, text))
+        let outcome = self.tell(alloc, &mut made)?;
+        Ok((made.book, outcome))
     }
 
     /// The calls, in the order of the subtasks.
@@ -106,22 +107,48 @@ impl AllLine {
         })
     }
 
-    /// The text, for which a record that is still pending is asked for once more.
+    /// What the calls came to, for which a record that is still pending is asked for once more.
     #[tactic(auto, unfolding(crate::specs::AllLines::told))]
-    fn tell(&self, alloc: Global, made: &mut Made) -> Result<String, AllocError>
+    fn tell(&self, alloc: Global, made: &mut Made) -> Result<Outcome, AllocError>
         ensures state { OnOk result (state_of_book made.new.book ≡ state_of_book made.old.book) }
-        ensures text { IfOk result (λ text. string_bytes text ≡ told_of self.now made.old) }
+        ensures outcome { IfOk result (λ outcome. outcome ≡ told_of self.now made.old) }
     {
-        let (accepted, refused) = (made.accepted, made.refused);
-        match made.completed {
-            Some((dropped, released)) => completed_text(
-                alloc, accepted, refused, dropped, released,
-            ),
+        let end = match made.completed {
+            Some((dropped, released)) => AllEnd::Completed { dropped, released },
             None => {
                 let missing = missing_now(alloc, &mut made.book, self.id)?;
-                pending_text(alloc, accepted, refused, missing)
+                AllEnd::Pending { missing }
             }
-        }
+        };
+        Ok(Outcome::Acknowledged {
+            accepted: made.accepted,
+            refused: made.refused,
+            end,
+        })
+    }
+}
+
+/// The metadata of the record with this number, where it is pending. Asks for it by a call.
+fn pending_metadata(book: &mut Book, id: CheckpointId) -> Result<Option<Metadata>, AllocError>
+    ensures state { OnOk result (state_of_book book.new ≡ state_of_book book.old) }
+    ensures value { IfOk result (λ metadata. metadata ≡ pending_metadata (state_of_book book.old) id) }
+{
+    // Tells that the state is sound, in which a number has one record.
+    let _ = book.core();
+    match call(book, Call::Show { id }) {
+        Ok(answer) => Ok(pending(answer)),
+        Err(_) => Err(AllocError),
+    }
+}
+
+/// The metadata, where the answer shows a pending record.
+#[tactic(auto, unfolding(crate::specs::AllLines::shown_pending))]
+fn pending(answer: Answer) -> Option<Metadata>
+    ensures { result ≡ shown_pending answer }
+{
+    match answer {
+        Answer::Done(Reply::Shown(metadata)) if !metadata.done => Some(metadata),
+        _ => None,
     }
 }
 
@@ -159,41 +186,4 @@ fn has_acknowledged(acks: &Acks, subtask: SubtaskId) -> bool
     acks.as_slice()
         .binary_search_by_key(&subtask, |acked| acked.subtask)
         .is_ok()
-}
-
-#[tactic(auto, unfolding(crate::specs::AllLines::completed_bytes))]
-fn completed_text(
-    alloc: Global,
-    accepted: u64,
-    refused: u64,
-    dropped: u32,
-    released: u64,
-) -> Result<String, AllocError>
-    ensures { IfOk result (λ text. string_bytes text ≡ completed_bytes accepted refused dropped released) }
-{
-    let mut text = counts_text(alloc, accepted, refused)?;
-    write!(text, " completed {dropped} {released}")?;
-    text.push_str("\n")?;
-    Ok(text)
-}
-
-#[tactic(auto, unfolding(crate::specs::AllLines::pending_bytes))]
-fn pending_text(
-    alloc: Global,
-    accepted: u64,
-    refused: u64,
-    missing: u64,
-) -> Result<String, AllocError>
-    ensures { IfOk result (λ text. string_bytes text ≡ pending_bytes accepted refused missing) }
-{
-    let mut text = counts_text(alloc, accepted, refused)?;
-    write!(text, " pending {missing}\n")?;
-    Ok(text)
-}
-
-/// What both texts begin with.
-fn counts_text(alloc: Global, accepted: u64, refused: u64) -> Result<String, AllocError>
-    ensures { IfOk result (λ text. string_bytes text ≡ counts_bytes accepted refused) }
-{
-    format!(in alloc; "all {accepted} {refused}")
 }

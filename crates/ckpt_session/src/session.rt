@@ -1,14 +1,19 @@
-ghost use Rattle.std.specs.Prelude.{◌≡◌, ◌↔◌, ◌++◌, false, true, None, Err, IfOk, OnOk, OnErr, is_err, string_bytes};
-ghost use Rattle.ckpt_session.specs.Sessions.{opening_scene, before_start, configured, shaped, started_so_far, called, restored, new_shape, is_new_shape, all_called, obeyed, said};
+//! A script that is being run: what its lines do, and what they print.
+ghost use Rattle.std.specs.Prelude.{◌≡◌, ◌++◌, true, Ok, Err, None, IfOk, OnOk, OnErr, is_err, option_map, string_bytes};
+ghost use Rattle.std.specs.Option.{option_copied};
+ghost use Rattle.ckpt_locked.specs.Books.{state_of_book};
+ghost use Rattle.ckpt_lines.specs.Meanings.{meaning};
+ghost use Rattle.ckpt_session.specs.ScriptTexts.{outcome_bytes};
+ghost use Rattle.ckpt_session.specs.Sessions.{opening_scene, before_start, after_start, refused, configured, shaped, started_so_far, called, all_called, obeyed, done_by, said};
 
 use crate::all::AllLine;
 use crate::calls::{call, open};
-use crate::said::{ScriptRefusal, write_fault, write_refusal};
+use crate::outcome::{Outcome, ScriptRefusal};
+use crate::texts::{write_fault, write_outcome};
 use ckpt_core::Secret;
-use ckpt_ids::{Call, Config, Shape, ShapeFault, Target};
-use ckpt_lines::{Line, LineFault, Numbers};
+use ckpt_ids::{Call, Config, Shape, ShapeFault};
+use ckpt_lines::{Line, LineFault, Meaning, Numbers};
 use ckpt_locked::Book;
-use ckpt_texts::write_answer;
 use ckpt_workers::Team;
 use std::alloc::{AllocError, Global};
 use std::marker::Model;
@@ -64,6 +69,14 @@ impl Session {
         }
     }
 
+    /// The coordinator of the script with its calls so far, once a `start` was accepted. The calls of
+    /// lines have seat 64, those of an `all` line the seats of its threads.
+    pub fn book(&self) -> Option<&Book>
+        ensures { option_map state_of_book (option_copied result) ≡ self.now.core }
+    {
+        self.book.as_ref()
+    }
+
     /// Obeys the line with this number, and answers what it prints: one text with its newline, or
     /// nothing. A line with a fault changes nothing, nor does one that the script refuses.
     ///
@@ -102,15 +115,29 @@ impl Session {
         ensures given_up { OnErr result (self.new ≡ record self.old { core = None }) }
         ensures memory { line ≡ Err LineFault.Memory → is_err result ≡ true }
     {
-        let answered = match line {
-            Ok(line) => self.obey(text, line, team),
+        let told = match line {
+            Ok(line) => self.tell(text, line, team),
             Err(LineFault::Memory) => Err(AllocError),
             Err(why) => write_fault(text, number, why),
         };
-        if answered.is_err() {
+        if told.is_err() {
             self.give_up();
         }
-        answered
+        told
+    }
+
+    /// Obeys a line, and answers what it came to, for a caller that prints nothing.
+    ///
+    /// Fails only for want of memory, and then the coordinator is given up as by [`Session::say`].
+    pub fn obey<T: Team>(&mut self, line: Line, team: &mut T) -> Result<Outcome, AllocError>
+        ensures done { IfOk result (λ outcome. (self.new, outcome) ≡ done_by self.old line) }
+        ensures given_up { OnErr result (self.new ≡ record self.old { core = None }) }
+    {
+        let outcome = self.follow(line, team);
+        if outcome.is_err() {
+            self.give_up();
+        }
+        outcome
     }
 
     /// Gives the coordinator up. It stands apart, since a local of its size is long to clear.
@@ -121,22 +148,50 @@ impl Session {
         self.book = None;
     }
 
-    /// Obeys a line that could be read.
-    #[tactic(auto, unfolding(crate::specs::Sessions::obeyed))]
-    fn obey<T: Team>(
+    /// Does what a line says, and appends what that prints.
+    fn tell<T: Team>(
         &mut self,
         text: &mut String,
         line: Line,
         team: &mut T,
     ) -> Result<(), AllocError>
-        ensures scene { OnOk result (self.new ≡ (obeyed self.old line).0) }
-        ensures text { OnOk result (string_bytes text.new ≡ string_bytes text.old ++ (obeyed self.old line).1) }
+        ensures scene { OnOk result (self.new ≡ (done_by self.old line).0) }
+        ensures text { OnOk result (string_bytes text.new ≡ string_bytes text.old ++ outcome_bytes (done_by self.old line).1) }
         ensures told { OnErr result ((self.new.config ≡ self.old.config) × (self.new.shape ≡ self.old.shape)) }
     {
-        // The call is made in one place: each place where one is made has a frame of its own to clear.
-        let made = match line {
-            Line::Skip => return Ok(()),
-            Line::Config {
+        // The outcome is told where it lies.
+        let outcome = self.follow(line, team);
+        match &outcome {
+            Ok(outcome) => write_outcome(self.alloc, text, outcome),
+            Err(_) => Err(AllocError),
+        }
+    }
+
+    /// Does what a line says.
+    #[tactic(auto, unfolding(crate::specs::Sessions::obeyed))]
+    #[inline(always)]
+    fn follow<T: Team>(&mut self, line: Line, team: &mut T) -> Result<Outcome, AllocError>
+        ensures done { IfOk result (λ outcome. (self.new, outcome) ≡ done_by self.old line) }
+        ensures told { OnErr result ((self.new.config ≡ self.old.config) × (self.new.shape ≡ self.old.shape)) }
+    {
+        match line.meaning(self.alloc) {
+            Ok(meaning) => self.act(meaning, team),
+            Err(ShapeFault::BadShape) => Ok(self.refuse_shape()),
+            Err(ShapeFault::Memory) => Err(AllocError),
+        }
+    }
+
+    /// Does what is meant.
+    #[tactic(auto, unfolding(crate::specs::Sessions::obeyed))]
+    #[inline(always)]
+    fn act<T: Team>(&mut self, meaning: Meaning, team: &mut T) -> Result<Outcome, AllocError>
+        ensures done { IfOk result (λ outcome. (self.new, outcome) ≡ obeyed self.old (Ok meaning)) }
+        ensures told { OnErr result ((self.new.config ≡ self.old.config) × (self.new.shape ≡ self.old.shape)) }
+    {
+        match meaning {
+            Meaning::Call(made) => self.answer(made),
+            Meaning::Skip => Ok(Outcome::Silent),
+            Meaning::Config {
                 interval,
                 pause,
                 at_once,
@@ -154,39 +209,11 @@ impl Session {
                     retained,
                     keep_on_cancel,
                 );
-                return self.configure(text, config.ok());
+                Ok(self.configure(config.ok()))
             }
-            Line::Job { parallelisms } => return self.reshape(text, &parallelisms),
-            Line::Start { now } => return self.start(text, now),
-            Line::Tick { now } => Call::Tick { now },
-            Line::Savepoint { now } => Call::Savepoint { now },
-            Line::Ack {
-                now,
-                id,
-                subtask,
-                fresh,
-                reused,
-            } => Call::Ack {
-                now,
-                id,
-                subtask,
-                fresh,
-                reused,
-            },
-            Line::Decline { now, id, subtask } => Call::Decline { now, id, subtask },
-            Line::Dispose { id } => Call::Dispose { id },
-            Line::Restore {
-                now,
-                target,
-                parallelisms,
-            } => return self.restore(text, now, target, &parallelisms),
-            Line::Cancel { now } => Call::Cancel { now },
-            Line::Take { most } => Call::Take { most },
-            Line::Deleted { file } => Call::Deleted { file },
-            Line::Undeleted { file } => Call::Undeleted { file },
-            Line::Show { id } => Call::Show { id },
-            Line::Count { file } => Call::Count { file },
-            Line::All {
+            Meaning::Job { parallelisms } => self.reshape(&parallelisms),
+            Meaning::Start { now } => self.start(now),
+            Meaning::All {
                 now,
                 id,
                 threads,
@@ -198,149 +225,108 @@ impl Session {
                     threads,
                     first,
                 };
-                return self.call_all(text, &all, team);
+                self.call_all(&all, team)
             }
-        };
-        self.call(text, made)
+        }
     }
 
     /// Takes a configuration, unless it was outside its limits.
     #[tactic(auto, unfolding(crate::specs::Sessions::configured))]
     #[inline(never)]
-    fn configure(&mut self, text: &mut String, config: Option<Config>) -> Result<(), AllocError>
-        ensures scene { OnOk result (self.new ≡ (before_start self.old (configured self.old config)).0) }
-        ensures text { OnOk result (string_bytes text.new ≡ string_bytes text.old ++ (before_start self.old (configured self.old config)).1) }
-        ensures told { OnErr result ((self.new.config ≡ self.old.config) × (self.new.shape ≡ self.old.shape)) }
+    fn configure(&mut self, config: Option<Config>) -> Outcome
+        ensures { (self.new, result) ≡ before_start self.old (configured self.old config) }
     {
         if self.book.is_some() {
-            return write_refusal(text, ScriptRefusal::Started);
+            return Outcome::Refused(ScriptRefusal::Started);
         }
         if config.is_none() {
-            return write_refusal(text, ScriptRefusal::BadConfig);
+            return Outcome::Refused(ScriptRefusal::BadConfig);
         }
         self.config = config;
-        Ok(())
+        Outcome::Silent
     }
 
     /// Takes a shape.
     #[tactic(auto, unfolding(crate::specs::Sessions::shaped))]
     #[inline(never)]
-    fn reshape(&mut self, text: &mut String, parallelisms: &Numbers) -> Result<(), AllocError>
-        ensures scene { OnOk result (self.new ≡ (before_start self.old (shaped self.old parallelisms.now)).0) }
-        ensures text { OnOk result (string_bytes text.new ≡ string_bytes text.old ++ (before_start self.old (shaped self.old parallelisms.now)).1) }
+    fn reshape(&mut self, parallelisms: &Numbers) -> Result<Outcome, AllocError>
+        ensures done { IfOk result (λ outcome. (self.new, outcome) ≡ before_start self.old (shaped self.old parallelisms.now)) }
         ensures told { OnErr result ((self.new.config ≡ self.old.config) × (self.new.shape ≡ self.old.shape)) }
     {
         if self.book.is_some() {
-            return write_refusal(text, ScriptRefusal::Started);
+            return Ok(Outcome::Refused(ScriptRefusal::Started));
         }
         match Shape::new(self.alloc, parallelisms.as_slice()) {
             Ok(shape) => {
                 self.shape = Some(shape);
-                Ok(())
+                Ok(Outcome::Silent)
             }
-            Err(ShapeFault::BadShape) => write_refusal(text, ScriptRefusal::BadShape),
+            Err(ShapeFault::BadShape) => Ok(Outcome::Refused(ScriptRefusal::BadShape)),
             Err(ShapeFault::Memory) => Err(AllocError),
         }
+    }
+
+    /// What a `restore` is answered whose parallelisms are no shape.
+    #[inline(never)]
+    fn refuse_shape(&self) -> Outcome
+        ensures { (self.now, result) ≡ after_start self.now (refused self.now ScriptRefusal.BadShape) }
+    {
+        if self.book.is_none() {
+            return Outcome::Refused(ScriptRefusal::NotStarted);
+        }
+        Outcome::Refused(ScriptRefusal::BadShape)
     }
 
     /// Opens the book.
     #[tactic(auto, unfolding(crate::specs::Sessions::started))]
     #[inline(never)]
-    fn start(&mut self, text: &mut String, now: u64) -> Result<(), AllocError>
-        ensures scene { OnOk result (self.new ≡ (started_so_far self.old now).0) }
-        ensures text { OnOk result (string_bytes text.new ≡ string_bytes text.old ++ (started_so_far self.old now).1) }
+    fn start(&mut self, now: u64) -> Result<Outcome, AllocError>
+        ensures done { IfOk result (λ outcome. (self.new, outcome) ≡ started_so_far self.old now) }
         ensures told { OnErr result ((self.new.config ≡ self.old.config) × (self.new.shape ≡ self.old.shape)) }
     {
         if self.book.is_some() {
-            return write_refusal(text, ScriptRefusal::Started);
+            return Ok(Outcome::Refused(ScriptRefusal::Started));
         }
         let (Some(config), Some(shape)) = (self.config, &self.shape) else {
-            return write_refusal(text, ScriptRefusal::NotReady);
+            return Ok(Outcome::Refused(ScriptRefusal::NotReady));
         };
         match open(self.alloc, config, shape.copy()?, now, self.secret) {
             Ok(book) => {
                 self.book = Some(book);
-                Ok(())
+                Ok(Outcome::Silent)
             }
-            Err(_) => write_refusal(text, ScriptRefusal::MomentTooLarge),
+            Err(_) => Ok(Outcome::Refused(ScriptRefusal::MomentTooLarge)),
         }
     }
 
     /// Makes a call with the seat of the lines.
     #[tactic(auto, unfolding(crate::specs::Sessions::called))]
     #[inline(always)]
-    fn call(&mut self, text: &mut String, made: Call) -> Result<(), AllocError>
-        ensures scene { OnOk result (self.new ≡ (called self.old self.old.core made).0) }
-        ensures text { OnOk result (string_bytes text.new ≡ string_bytes text.old ++ (called self.old self.old.core made).1) }
+    fn answer(&mut self, made: Call) -> Result<Outcome, AllocError>
+        ensures done { IfOk result (λ outcome. (self.new, outcome) ≡ called self.old self.old.core made) }
         ensures told { OnErr result ((self.new.config ≡ self.old.config) × (self.new.shape ≡ self.old.shape)) }
     {
         match &mut self.book {
-            None => write_refusal(text, ScriptRefusal::NotStarted),
-            Some(book) => {
-                // the answer is told where it lies
-                let given = call(book, made);
-                match &given {
-                    Ok(answer) => write_answer(self.alloc, text, answer),
-                    Err(_) => Err(AllocError),
-                }
-            }
-        }
-    }
-
-    /// Restores the job, in a new shape where there are parallelisms.
-    #[tactic(auto, unfolding(crate::specs::Sessions::restored, crate::specs::Sessions::called))]
-    #[inline(never)]
-    fn restore(
-        &mut self,
-        text: &mut String,
-        now: u64,
-        target: Target,
-        parallelisms: &Numbers,
-    ) -> Result<(), AllocError>
-        ensures scene { OnOk result (self.new ≡ (restored self.old now target parallelisms.now).0) }
-        ensures text { OnOk result (string_bytes text.new ≡ string_bytes text.old ++ (restored self.old now target parallelisms.now).1) }
-        ensures told { OnErr result ((self.new.config ≡ self.old.config) × (self.new.shape ≡ self.old.shape)) }
-    {
-        if self.book.is_none() {
-            return write_refusal(text, ScriptRefusal::NotStarted);
-        }
-        match new_shape(self.alloc, parallelisms) {
-            Ok(shape) => self.call(text, Call::Restore { now, target, shape }),
-            Err(ShapeFault::BadShape) => write_refusal(text, ScriptRefusal::BadShape),
-            Err(ShapeFault::Memory) => Err(AllocError),
+            None => Ok(Outcome::Refused(ScriptRefusal::NotStarted)),
+            Some(book) => match call(book, made) {
+                Ok(answer) => Ok(Outcome::Answered(answer)),
+                Err(_) => Err(AllocError),
+            },
         }
     }
 
     /// Makes the calls of an `all` line.
     #[tactic(auto, unfolding(crate::specs::Sessions::all_called))]
     #[inline(never)]
-    fn call_all<T: Team>(
-        &mut self,
-        text: &mut String,
-        line: &AllLine,
-        team: &mut T,
-    ) -> Result<(), AllocError>
-        ensures scene { OnOk result (self.new ≡ (all_called self.old self.old.core line.now).0) }
-        ensures text { OnOk result (string_bytes text.new ≡ string_bytes text.old ++ (all_called self.old self.old.core line.now).1) }
+    fn call_all<T: Team>(&mut self, line: &AllLine, team: &mut T) -> Result<Outcome, AllocError>
+        ensures done { IfOk result (λ outcome. (self.new, outcome) ≡ all_called self.old self.old.core line.now) }
         ensures told { OnErr result ((self.new.config ≡ self.old.config) × (self.new.shape ≡ self.old.shape)) }
     {
         let Some(book) = self.book.take() else {
-            return write_refusal(text, ScriptRefusal::NotStarted);
+            return Ok(Outcome::Refused(ScriptRefusal::NotStarted));
         };
-        let (book, told) = line.obey(self.alloc, book, team)?;
-        text.push_str(told.as_str())?;
+        let (book, outcome) = line.obey(self.alloc, book, team)?;
         self.book = Some(book);
-        Ok(())
+        Ok(outcome)
     }
-}
-
-/// The shape of these parallelisms, or `None` where there is none.
-fn new_shape(alloc: Global, parallelisms: &Numbers) -> Result<Option<Shape>, ShapeFault>
-    ensures refused { (result ≡ Err ShapeFault.BadShape) ↔ (is_new_shape parallelisms.now ≡ false) }
-    ensures value { IfOk result (λ shape. shape ≡ new_shape parallelisms.now) }
-{
-    if parallelisms.is_empty() {
-        return Ok(None);
-    }
-    Ok(Some(Shape::new(alloc, parallelisms.as_slice())?))
 }

@@ -1,3 +1,5 @@
+//! The done records: retained checkpoints, savepoints and the base.
+
 ghost use Rattle.std.specs.Prelude.{◌≡◌, ℕ, ◌+◌, ◌-◌, ◌^◌, ◌↔◌, ◌<◌, ◌≤◌, Bool, true, false, not, nat_le, ◌==◌, [], ◌∷◌, ◌++◌, length, drop, filter, Ok, Err, Some, None, OnOk, OnErr};
 ghost use Rattle.std.specs.List.{find};
 ghost use Rattle.std.specs.Option.{option_copied};

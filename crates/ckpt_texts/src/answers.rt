@@ -1,3 +1,4 @@
+//! The text of an answer: a reply or a refusal.
 ghost use Rattle.std.specs.Prelude.{◌≡◌, ◌++◌, IfOk, OnOk, string_bytes};
 ghost use Rattle.ckpt_texts.specs.Texts.{answer_bytes};
 

@@ -1,3 +1,4 @@
+//! The metadata of a record, as JSON.
 ghost use Rattle.std.specs.Prelude.{◌≡◌, false, count_by, IfOk, map, slice_get, string_bytes};
 ghost use Rattle.std.specs.Option.{option_map_or};
 ghost use Rattle.ckpt_ids.specs.Acknowledged.{AreInSubtaskOrder};

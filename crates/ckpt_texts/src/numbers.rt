@@ -1,3 +1,4 @@
+//! Numbers within a text.
 ghost use Rattle.std.specs.Prelude.{◌≡◌, ◌++◌, codes, decimal, OnOk, string_bytes};
 
 use itoa::Buffer;

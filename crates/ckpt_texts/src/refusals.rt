@@ -1,3 +1,4 @@
+//! The text of a refusal.
 ghost use Rattle.std.specs.Prelude.{◌≡◌, ◌++◌, codes, OnOk, string_bytes};
 ghost use Rattle.ckpt_texts.specs.Texts.{refusal_bytes};
 

@@ -1,3 +1,4 @@
+//! The text of each reply.
 ghost use Rattle.std.specs.Prelude.{◌≡◌, ◌++◌, codes, flat_map, OnOk, string_bytes};
 ghost use Rattle.ckpt_texts.specs.Texts.{spaced, tick_end_bytes, choice_bytes, taken_bytes, reply_bytes};
 

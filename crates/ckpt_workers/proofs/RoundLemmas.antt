@@ -1,6 +1,6 @@
 -- A round, file by file.
-use Rattle.std.proofs.Common.{◌≡◌, ℕ, ◌+◌, ◌<◌, ◌≤◌, Bool, true, false, cond, List, [], ◌∷◌, ◌++◌, length, refl, sym, ap, ◌∙◌, arith, drop, append_assoc, append-nil}
-use Rattle.std.specs.Prelude.{map, filter, not, count_by, slice_get, Some}
+use Rattle.std.proofs.Common.{◌≡◌, ◌≢◌, ℕ, suc, ◌+◌, ◌<◌, ◌≤◌, Bool, true, false, cond, List, [], ◌∷◌, ◌++◌, length, refl, sym, ap, ◌∙◌, arith, drop, append_assoc, append-nil}
+use Rattle.std.specs.Prelude.{map, filter, not, count_by, slice_get, Option, None, Some}
 use Rattle.std.proofs.lemmas.Option.{get_or_from_slice_get, slice_get_within}
 use Rattle.std.proofs.lemmas.List.{drop_more}
 use Rattle.std.proofs.lemmas.List.{map-append}
@@ -11,14 +11,22 @@ use Rattle.ckpt_ids.specs.declared.reply.Answer.{Answer}
 use Rattle.ckpt_locked.specs.Locks.{Hand, Made}
 use Rattle.ckpt_workers.specs.declared.discard.Round.{Round}
 use Rattle.ckpt_workers.specs.Shifts.{Exchange}
-use Rattle.ckpt_workers.specs.Rounds.{Fate, IsReported, IsTried, Stored, deleted_in, gone_in, report_of}
+use Rattle.ckpt_workers.specs.Rounds.{Fate, IsDiscarded, IsReported, IsTried, Stored, deleted_in, gone_in, report_of}
 use Rattle.ckpt_workers.proofs.ShiftLemmas.{IsShift-none, IsShift-push}
+
+some_left : (left rest : List ℕ) (file : ℕ) → left ≡ file ∷ rest → left ≢ []
+some_left left rest file is none = let n : suc (length rest) ≡ 0 = ap length (sym is ∙ none) in omega arith
+
+never : (b : Bool) → b ≡ false → b ≡ true → ⊥
+never true e t = absurd cc
+never false e t = absurd cc
 
 -- where the files stand before the first is tried
 pub IsReported-none : (files : List ℕ) (gone : Bool) (stored : Stored) (hand : Hand) (round : Round)
-    → round.left ≡ files → round.gone ≡ gone → round.taken ≡ length files → round.deleted ≡ 0 → round.failed ≡ 0
+    → round.left ≡ files → round.gone ≡ gone → round.taken ≡ length files → round.deleted ≡ 0 → round.failed ≡ 0 → round.memory ≡ false
+    → (gone ≡ true → files ≢ [])
     → IsReported files gone stored stored hand hand round
-IsReported-none files gone stored hand round left is_gone taken deleted failed = record {
+IsReported-none files gone stored hand round left is_gone taken deleted failed memory some = record {
   fates = [];
   files_are = sym left;
   told = [];
@@ -31,6 +39,8 @@ IsReported-none files gone stored hand round left is_gone taken deleted failed =
   deleted_is = deleted;
   failed_is = failed;
   failures = omega (arith, failed);
+  memory_left = λ e. absurd (never round.memory memory e);
+  gone_left = λ e none. some (sym is_gone ∙ e) (sym left ∙ none);
 }
 
 -- what storage's list gains by a try
@@ -84,6 +94,8 @@ IsReported-stop files rest file first deleted before mid after old hand was is h
       deleted_is = is_deleted ∙ h.deleted_is;
       failed_is = is_failed ∙ h.failed_is;
       failures = omega arith;
+      memory_left = λ _. some_left is.left rest file is_left;
+      gone_left = λ _. some_left is.left rest file is_left;
     }
 
 count_push : (p : Fate → Bool) (fates : List Fate) (f : Fate) → count_by p (fates ++ f ∷ []) ≡ count_by p fates + cond (p f) 1 0
@@ -112,9 +124,9 @@ opposite false = refl
 pub IsReported-next : (files rest : List ℕ) (file : ℕ) (first deleted : Bool) (before mid after : Stored) (old hand new : Hand) (was is : Round) (answer : Answer)
     → IsReported files first before mid old hand was → was.left ≡ file ∷ rest → IsTried file was.gone mid after deleted
     → Made hand (report_of file deleted) new answer
-    → is.taken ≡ was.taken → is.deleted ≡ was.deleted + cond deleted 1 0 → is.failed ≡ was.failed + cond deleted 0 1 → is.left ≡ rest → is.gone ≡ false
+    → is.taken ≡ was.taken → is.deleted ≡ was.deleted + cond deleted 1 0 → is.failed ≡ was.failed + cond deleted 0 1 → is.left ≡ rest → is.gone ≡ false → is.memory ≡ false
     → IsReported files first before after old new is
-IsReported-next files rest file first deleted before mid after old hand new was is answer h left tried made is_taken more_deleted more_failed is_left is_gone =
+IsReported-next files rest file first deleted before mid after old hand new was is answer h left tried made is_taken more_deleted more_failed is_left is_gone memory =
     let f : Fate = record { file = file; deleted = deleted } in
     let t : Exchange = record { call = report_of file deleted; answer = answer } in
     let gain = tried_gain file rest was.gone deleted mid after tried in
@@ -147,14 +159,16 @@ IsReported-next files rest file first deleted before mid after old hand new was 
       deleted_is = omega (arith, count_push (λ (x : Fate). x.deleted) h.fates f);
       failed_is = omega (arith, count_push (λ (x : Fate). not x.deleted) h.fates f, opposite deleted);
       failures = omega arith;
+      memory_left = λ e. absurd (never is.memory memory e);
+      gone_left = λ e. absurd (never is.gone is_gone e);
     }
 
 -- the same round, told otherwise
 pub IsReported-as : (files : List ℕ) (first : Bool) (before after : Stored) (old new : Hand) (was is : Round)
     → IsReported files first before after old new was
-    → is.taken ≡ was.taken → is.deleted ≡ was.deleted → is.failed ≡ was.failed → is.left ≡ was.left → is.gone ≡ was.gone
+    → is.taken ≡ was.taken → is.deleted ≡ was.deleted → is.failed ≡ was.failed → is.left ≡ was.left → is.gone ≡ was.gone → is.memory ≡ was.memory
     → IsReported files first before after old new is
-IsReported-as files first before after old new was is h taken deleted failed left gone =
+IsReported-as files first before after old new was is h taken deleted failed left gone memory =
     let same : is.failed ≡ was.failed = failed in
     let kept : before.failures + was.failed ≤ after.failures = h.failures in
     record {
@@ -170,9 +184,17 @@ IsReported-as files first before after old new was is h taken deleted failed lef
       deleted_is = deleted ∙ h.deleted_is;
       failed_is = failed ∙ h.failed_is;
       failures = omega arith;
+      memory_left = λ e none. h.memory_left (sym memory ∙ e) (sym left ∙ none);
+      gone_left = λ e none. h.gone_left (sym gone ∙ e) (sym left ∙ none);
     }
 
 -- the file at this place is the first of those that are left
 pub drop_at : (files : List ℕ) (place file : ℕ) → slice_get files place ≡ Some file → drop place files ≡ file ∷ drop (place + 1) files
 drop_at files place file at =
     drop_more files place file (slice_get_within files place file at) ∙ ap (λ f. f ∷ drop (place + 1) files) (get_or_from_slice_get files place file file at)
+
+-- a round that a discarder made can be gone on with
+pub can_resume : (most : ℕ) (before after : Stored) (old new : Hand) (round : Round) (answer : Option Answer)
+    → IsDiscarded most before after old new round answer → round.gone ≡ true → round.left ≢ []
+can_resume most before after old new round None is e = absurd (never round.gone (ap (λ (r : Round). r.gone) is.2) e)
+can_resume most before after old new round (Some answer) is e = is.2.gone_left e

@@ -1,13 +1,14 @@
 -- The work of a team, call by call.
-use Rattle.std.proofs.Common.{◌≡◌, ℕ, ◌+◌, ◌%◌, ◌<◌, ◌≤◌, Bool, true, false, cond, eqb, List, [], ◌∷◌, ◌++◌, length, refl, sym, ap, ◌∙◌, arith, length-append}
+use Rattle.std.proofs.Common.{◌≡◌, ℕ, ◌+◌, ◌%◌, ◌<◌, ◌≤◌, Bool, true, false, cond, eqb, List, [], ◌∷◌, ◌++◌, length, refl, sym, ap, ◌∙◌, arith, append_assoc, append-nil, length-append}
 use Rattle.std.specs.Prelude.{not, count_by, Option, Some, None}
 use Rattle.std.specs.Option.{option_or}
+use Rattle.std.proofs.lemmas.List.{map-append}
 use Rattle.std.proofs.lemmas.List.Sums.{count_by-le-length, sum_by-cons}
 use Rattle.ckpt_ids.proofs.CountLemmas.{count_by-append}
 use Rattle.ckpt_ids.specs.declared.call.Call.{Call}
 use Rattle.ckpt_ids.specs.declared.reply.Answer.{Answer}
 use Rattle.ckpt_locked.specs.declared.book.Entry.{Entry}
-use Rattle.ckpt_locked.specs.Books.{History, answer_to, entered}
+use Rattle.ckpt_locked.specs.Books.{History, answer_to, calls_of, entered}
 use Rattle.ckpt_locked.specs.Seats.{answers_by, calls_by}
 use Rattle.ckpt_locked.proofs.SeatLists.{below-push}
 use Rattle.ckpt_workers.specs.declared.team.Made.{Made}
@@ -67,6 +68,21 @@ IsTeamwork-none old threads made book tally = record {
   refused_is = tally.refused;
   completed_is = tally.completed;
 }
+
+-- no call yet
+pub in_order-none : (old : History) (made : Made) → made.book ≡ old → calls_of made.book.entries ≡ calls_of old.entries ++ []
+in_order-none old made book = ap (λ (h : History). calls_of h.entries) book ∙ sym (append-nil (calls_of old.entries))
+
+-- one more call, at the end
+pub in_order-push : (old : History) (calls : List Call) (before made : Made) (call : Call) (seat : ℕ)
+    → calls_of before.book.entries ≡ calls_of old.entries ++ calls → IsOneMore before seat call made
+    → calls_of made.book.entries ≡ calls_of old.entries ++ (calls ++ call ∷ [])
+in_order-push old calls before made call seat was more =
+    let e : Entry = record { seat = seat; call = call } in
+    ap (λ (h : History). calls_of h.entries) more.book
+    ∙ map-append (λ (x : Entry). x.call) before.book.entries (e ∷ [])
+    ∙ ap (λ l. l ++ call ∷ []) was
+    ∙ append_assoc (calls_of old.entries) calls (call ∷ [])
 
 -- one more call, entered with the seat of its place
 pub IsTeamwork-push : (old : History) (calls : List Call) (threads : ℕ) (before made : Made) (call : Call) (seat : ℕ)

@@ -1,5 +1,5 @@
 -- What a discarder does in a round.
-use Rattle.std.specs.Prelude.{◌≡◌, ℕ, ◌+◌, ◌<◌, ◌≤◌, Bool, true, false, not, if◌then◌else◌, List, [], ◌∷◌, ◌++◌, map, filter, take, length, count_by, Option, Some, None}
+use Rattle.std.specs.Prelude.{◌≡◌, ◌≢◌, ℕ, ◌+◌, ◌<◌, ◌≤◌, Bool, true, false, not, if◌then◌else◌, List, [], ◌∷◌, ◌++◌, map, filter, take, length, count_by, Option, Some, None}
 use Rattle.ckpt_ids.specs.declared.call.Call.{Call}
 use Rattle.ckpt_ids.specs.declared.call.Call.TheVariants.{Take, Deleted, Undeleted}
 use Rattle.ckpt_ids.specs.declared.reply.Reply.TheVariants.{Taken}
@@ -39,7 +39,7 @@ IsTried file false before after true = (after.deleted ≡ before.deleted ++ file
 IsTried file false before after false = (after.deleted ≡ before.deleted) × (before.failures < after.failures)
 
 -- The files were reported in order, from the first on, each as what storage did with it; the rest is left. `gone` says whether storage had
--- deleted the first before: then it is reported and not deleted again.
+-- deleted the first before: then it is reported and not deleted again. Where the round ends for want of memory, or a file is gone, some are left.
 pub record IsReported (files : List ℕ) (gone : Bool) (before after : Stored) (old new : Hand) (round : Round) : Type 0 where
   pub fates : List Fate
   pub files_are : files ≡ map (λ f. f.file) fates ++ round.left
@@ -54,6 +54,8 @@ pub record IsReported (files : List ℕ) (gone : Bool) (before after : Stored) (
   pub deleted_is : round.deleted ≡ count_by (λ f. f.deleted) fates
   pub failed_is : round.failed ≡ count_by (λ f. not f.deleted) fates
   pub failures : before.failures + round.failed ≤ after.failures
+  pub memory_left : round.memory ≡ true → round.left ≢ []
+  pub gone_left : round.gone ≡ true → round.left ≢ []
 
 -- a round ends with all files reported, or for want of memory at the first that is left
 pub record IsEnded (round : Round) : Type 0 where

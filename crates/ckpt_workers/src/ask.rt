@@ -1,3 +1,4 @@
+//! A call that may find no memory.
 ghost use Rattle.std.specs.Prelude.{◌≡◌};
 ghost use Rattle.ckpt_workers.specs.Shifts.{IsAsked};
 

@@ -1,3 +1,4 @@
+//! A discarder: rounds that delete the files that the coordinator hands out.
 ghost use Rattle.std.specs.Prelude.{◌≡◌, ◌≢◌, ◌+◌, ◌^◌, ◌<◌, if◌then◌else◌, [], false, true, Option, Some, length, slice_get};
 ghost use Rattle.std.specs.Bool.{OnFalse, OnTrue};
 ghost use Rattle.ckpt_ids.specs.declared.reply.Answer.{Answer};

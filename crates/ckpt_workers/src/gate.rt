@@ -1,3 +1,4 @@
+//! What workers make their calls through.
 ghost use Rattle.std.specs.Prelude.{◌≡◌, IfErr, IfOk};
 ghost use Rattle.ckpt_locked.specs.Locks.{Lock, Made};
 

@@ -3,6 +3,7 @@
 
 mod ask;
 pub mod discard;
+pub mod each_pass;
 pub mod gate;
 pub mod moments;
 pub mod order;
@@ -14,6 +15,7 @@ pub mod threads;
 pub mod timer;
 
 pub use discard::{Round, discard_round, resume_round};
+pub use each_pass::{Work, work_on_each};
 pub use gate::Gate;
 pub use moments::Moments;
 pub use order::{BadOrder, Order};

@@ -1,3 +1,4 @@
+//! The moments of a timer.
 ghost use Rattle.std.specs.Prelude.{◌≡◌, ◌<◌, ◌++◌, ℕ, List, [], ◌∷◌, IfNone, IfSome};
 
 /// The moments at which a timer ticks, in milliseconds.

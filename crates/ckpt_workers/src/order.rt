@@ -1,3 +1,4 @@
+//! What a task is told to acknowledge.
 ghost use Rattle.std.specs.Prelude.{◌≡◌, IfOk, IsOk, ◌↔◌};
 ghost use Rattle.ckpt_ids.specs.declared.call.Call.TheVariants.{Ack};
 ghost use Rattle.ckpt_workers.specs.Orders.{IsOrder};

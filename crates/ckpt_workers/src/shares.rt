@@ -1,3 +1,4 @@
+//! Shares of calls, each made by a thread of its own.
 ghost use Rattle.std.specs.Prelude.{◌≡◌, Ok, All, IfOk, map, vec_len};
 ghost use Rattle.ckpt_workers.specs.Spreads.{AreTried, AreWorked, IsWorked};
 

@@ -1,3 +1,4 @@
+//! Where a discarder deletes files.
 ghost use Rattle.std.specs.Prelude.{◌≡◌, ◌<◌, ◌≤◌, ◌++◌, [], ◌∷◌, OnErr, OnOk};
 ghost use Rattle.ckpt_workers.specs.Rounds.{Stored};
 

@@ -1,3 +1,4 @@
+//! A task worker: acknowledgements as they are ordered.
 ghost use Rattle.std.specs.Prelude.{◌≡◌, ◌+◌, if◌then◌else◌};
 ghost use Rattle.ckpt_workers.specs.Shifts.{capped};
 ghost use Rattle.ckpt_workers.specs.Tasks.{IsTasked, answers, is_late, is_other, is_taken_in};

@@ -1,6 +1,7 @@
-ghost use Rattle.std.specs.Prelude.{◌≡◌, ◌+◌, ◌^◌, ◌<◌, ◌≤◌, if◌then◌else◌, IfOk, OnOk};
+//! Teams that make a list of calls, and the one that makes them in order.
+ghost use Rattle.std.specs.Prelude.{◌≡◌, ◌+◌, ◌^◌, ◌<◌, ◌≤◌, ◌++◌, if◌then◌else◌, IfOk, OnOk};
 ghost use Rattle.std.specs.Option.{option_or};
-ghost use Rattle.ckpt_locked.specs.Books.{answer_to, entered};
+ghost use Rattle.ckpt_locked.specs.Books.{answer_to, calls_of, entered};
 ghost use Rattle.ckpt_workers.specs.Teams.{IsOneMore, IsTeamwork, is_accepted};
 ghost use Rattle.ckpt_core.specs.Interleavings.{completed_by};
 
@@ -93,7 +94,11 @@ fn completed_by(answer: &Answer) -> Option<(u32, u64)>
 }
 
 impl Team for InOrder {
-    fn make(&mut self, book: Book, calls: Vec<Call>, threads: u32) -> Result<Made, AllocError> {
+    fn make(&mut self, book: Book, calls: Vec<Call>, threads: u32) -> Result<Made, AllocError>
+        requires threads { (0 < threads) × (threads ≤ MOST_SEATS) }
+        ensures made { IfOk result (λ made. IsTeamwork book calls.items threads made) }
+        ensures in_order { IfOk result (λ made. calls_of made.book.entries ≡ calls_of book.entries ++ calls.items) }
+    {
         let count = calls.len();
         let mut made = Made::none(book);
         let mut place = 0;

@@ -1,3 +1,4 @@
+//! A team with a thread for each seat.
 ghost use Rattle.std.specs.Prelude.{◌≡◌, ◌<◌, ◌≤◌, ◌++◌, [], ◌∷◌, length, map, All, IfOk, OnOk};
 ghost use Rattle.ckpt_ids.specs.declared.reply.Answer.{Answer};
 ghost use Rattle.ckpt_locked.specs.Locks.{newcomers, lock_of};

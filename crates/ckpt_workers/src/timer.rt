@@ -1,3 +1,4 @@
+//! A timer worker: a tick at each moment.
 ghost use Rattle.std.specs.Prelude.{◌≡◌, ◌+◌, not, if◌then◌else◌, is_some};
 ghost use Rattle.ckpt_workers.specs.Shifts.{capped};
 ghost use Rattle.ckpt_workers.specs.Timers.{IsTimed, is_refused};

@@ -8,13 +8,8 @@ use std::test::Fail;
 const NO_SEAT: u32 = 64;
 
 /// A job with a checkpoint each second, of which one is kept, opened at the moment 0.
-pub(crate) fn open(
-    alloc: Global,
-    timeout: u64,
-    tolerable: u64,
-    parallelism: u64,
-) -> Result<Book, Fail> {
-    let config = Config::new(1000, 0, 1, timeout, tolerable, 1, false)?;
+pub(crate) fn open(alloc: Global, parallelism: u64) -> Result<Book, Fail> {
+    let config = Config::new(1000, 0, 1, 600_000, 0, 1, false)?;
     let shape = Shape::new(alloc, &[parallelism])?;
     Ok(Book::new(alloc, config, shape, 0, 1)?)
 }
@@ -41,9 +36,33 @@ pub(crate) fn ack(
 }
 
 /// Enters a call in the book.
-pub(crate) fn enter(book: &mut Book, call: Call) -> Result<(), AllocError> {
+fn enter(book: &mut Book, call: Call) -> Result<(), AllocError> {
     match book.apply(NO_SEAT, call) {
         Ok(_) => Ok(()),
         Err(_) => Err(AllocError),
     }
+}
+
+/// A job of so many subtasks whose first checkpoint is pending.
+pub(crate) fn pending(alloc: Global, parallelism: u64) -> Result<Book, Fail> {
+    let mut book = open(alloc, parallelism)?;
+    enter(&mut book, Call::Tick { now: 1000 })?;
+    Ok(book)
+}
+
+/// Triggers a checkpoint and completes it: subtask i acknowledges it with list i of new files.
+pub(crate) fn complete(
+    alloc: Global,
+    book: &mut Book,
+    now: u64,
+    id: u64,
+    files: &[&[u64]],
+) -> Result<(), AllocError> {
+    enter(book, Call::Tick { now })?;
+    let mut index = 0u16;
+    for files in files {
+        enter(book, ack(alloc, now, id, index, files)?)?;
+        index = index.wrapping_add(1);
+    }
+    Ok(())
 }

@@ -1,5 +1,5 @@
 //! What is done with a pass of a gate, and what comes of it.
-ghost use Rattle.std.specs.Prelude.{◌≡◌, IfOk};
+ghost use Rattle.std.specs.Prelude.{◌≡◌, ◌≢◌, [], true, IfOk};
 
 use crate::desk::{Listed, orders};
 use ckpt_ids::{Answer, Call, FileId, Handed, Reply};
@@ -64,7 +64,7 @@ pub(crate) fn tasks<R: Abort + Wait, G: Gate>(
     Ok(pass)
 }
 
-/// A round of a discarder.
+/// A round of a discarder, with which another can go on.
 pub(crate) fn round_of<R: Wait, G: Gate, S: Storage>(
     rt: &R,
     alloc: Global,
@@ -73,13 +73,14 @@ pub(crate) fn round_of<R: Wait, G: Gate, S: Storage>(
     storage: &mut S,
 ) -> (Pass, Round)
     requires { pass.lock ≡ G.lock gate.now }
-    ensures { result.0.lock ≡ G.lock gate.now }
+    ensures pass { result.0.lock ≡ G.lock gate.now }
+    ensures gone { result.1.gone ≡ true → result.1.left ≢ [] }
 {
     discard_round(rt, alloc, gate, pass, storage, 8)
 }
 
 /// The rest of a round, of which the first file may be gone.
-pub(crate) fn rest_of<R: Abort + Wait, G: Gate, S: Storage>(
+pub(crate) fn rest_of<R: Wait, G: Gate, S: Storage>(
     rt: &R,
     gate: &G,
     pass: Pass,
@@ -87,10 +88,10 @@ pub(crate) fn rest_of<R: Abort + Wait, G: Gate, S: Storage>(
     left: Handed,
     gone: bool,
 ) -> (Pass, Round)
-    requires { pass.lock ≡ G.lock gate.now }
+    requires pass { pass.lock ≡ G.lock gate.now }
+    requires gone { gone ≡ true → left ≢ [] }
     ensures { result.0.lock ≡ G.lock gate.now }
 {
-    assert!(rt; !gone || !left.is_empty());
     resume_round(rt, gate, pass, storage, left, gone)
 }
 

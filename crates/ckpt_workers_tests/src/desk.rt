@@ -46,6 +46,20 @@ pub(crate) fn closed<R: Wait>(rt: &R, lock: Locked, passes: Vec<Pass>) -> Result
     }
 }
 
+/// Closes a lock of two passes, and gives the book.
+pub(crate) fn closed_with<R: Wait>(
+    rt: &R,
+    alloc: Global,
+    lock: Locked,
+    first: Pass,
+    second: Pass,
+) -> Result<Book, Fail>
+    requires { (first.lock ≡ lock) × (second.lock ≡ lock) }
+{
+    let passes = vec![in alloc; first, second]?;
+    closed(rt, lock, passes)
+}
+
 /// Gives the moments of a list, in order.
 #[derive(Drop)]
 pub(crate) struct Listed<'a> {

@@ -2,7 +2,7 @@
 //! book at the end.
 ghost use Rattle.std.specs.Prelude.{◌≡◌, All, IfOk};
 
-use crate::books::{ack, enter, open};
+use crate::books::{complete, open};
 use crate::desk::{Disk, Listed, closed, order, three};
 use ckpt_ids::{Call, FileId};
 use ckpt_locked::{Book, Entry, Locked, Pass};
@@ -121,19 +121,10 @@ fn discard<R: Wait, S: Storage>(
     pass
 }
 
-/// Checkpoint 1 is triggered, and completed with the files 1 and 2.
-fn complete(alloc: Global, book: &mut Book) -> Result<(), AllocError> {
-    let left = ack(alloc, 1000, 1, 0, &[1])?;
-    let right = ack(alloc, 1000, 1, 1, &[2])?;
-    enter(book, Call::Tick { now: 1000 })?;
-    enter(book, left)?;
-    enter(book, right)
-}
-
-/// A job of two subtasks whose checkpoint 1 is complete.
+/// A job of two subtasks whose checkpoint 1 is complete, with the files 1 and 2.
 fn with_checkpoint_one(alloc: Global) -> Result<Book, Fail> {
-    let mut book = open(alloc, 600_000, 0, 2)?;
-    complete(alloc, &mut book)?;
+    let mut book = open(alloc, 2)?;
+    complete(alloc, &mut book, 1000, 1, &[&[1], &[2]])?;
     Ok(book)
 }
 

@@ -8,16 +8,16 @@ use std::sync::Wait;
 use std::sync::atomic::{AtomicBool, AtomicU64, Ordering};
 use std::thread::yield_now;
 
-/// Gives one call back as if it had found no memory: the one of this place, counted from 0.
+/// Gives calls back as if they had found no memory: those of these places, counted from 0.
 #[derive(Drop)]
 pub(crate) struct Forgetful {
     pub(crate) locked: Locked,
     calls: AtomicU64,
-    forgets: u64,
+    forgets: [u64; 4],
 }
 
 impl Forgetful {
-    pub(crate) fn new(locked: Locked, forgets: u64) -> Forgetful
+    pub(crate) fn new(locked: Locked, forgets: [u64; 4]) -> Forgetful
         ensures { result.locked ≡ locked }
     {
         Forgetful {
@@ -37,7 +37,8 @@ impl Gate for Forgetful {
         pass: Pass,
         call: Call,
     ) -> Result<(Pass, Answer), (Pass, Call)> {
-        if self.calls.fetch_add(1, Ordering::SeqCst) == self.forgets {
+        let place = self.calls.fetch_add(1, Ordering::SeqCst);
+        if self.forgets.contains(&place) {
             return Err((pass, call));
         }
         self.locked.call(rt, pass, call)

@@ -11,6 +11,8 @@ mod deeds;
 #[cfg(test)]
 mod desk;
 #[cfg(test)]
+mod each_pass;
+#[cfg(test)]
 mod embedding;
 #[cfg(test)]
 mod gates;

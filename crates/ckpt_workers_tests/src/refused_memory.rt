@@ -202,16 +202,6 @@ impl<'a, R: Abort> Storage for Disk<'a, R> {
     }
 }
 
-#[test]
-fn refused_memory_in_a_lock(rt: HostRuntime) -> Result<(), Fail> {
-    let alloc = rt.alloc();
-    let (lock, pass) = lock(&rt, open(alloc)?)?;
-    let pass = first_checkpoint(&rt, alloc, &lock, pass)?;
-    let pass = second_checkpoint(&rt, alloc, &lock, pass)?;
-    assert_eq!(rt; pass.calls(), 4);
-    Ok(())
-}
-
 /// A storage with room for eight files.
 fn with_room<R: Abort>(rt: &R, alloc: Global) -> Result<Disk<'_, R>, AllocError> {
     let mut deleted = listed_again(alloc, &[0; 8])?;

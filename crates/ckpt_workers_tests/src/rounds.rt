@@ -1,42 +1,23 @@
 //! Rounds of the discarder that end early, and go on.
-ghost use Rattle.std.specs.Prelude.{◌≡◌, IfOk};
+ghost use Rattle.std.specs.Prelude.{◌≡◌, ◌≢◌, [], true, IfOk};
 
-use crate::books::{ack, enter, open};
-use crate::deeds::{are, discards, has_taken, is_whole, rest_of, round_of, told};
+use crate::books::{complete, open};
+use crate::deeds::{are, has_taken, is_whole, rest_of, round_of, told};
 use crate::desk::{Disk, two};
 use crate::gates::Forgetful;
 use ckpt_ids::{Call, FileId, Handed};
 use ckpt_locked::{Book, Locked, Pass};
 use ckpt_workers::{Gate, Storage};
-use std::alloc::{AllocError, Global};
+use std::alloc::Global;
 use std::process::Abort;
 use std::sync::Wait;
 use std::test::Fail;
 
-/// Triggers a checkpoint and completes it with new files.
-fn complete(
-    alloc: Global,
-    book: &mut Book,
-    now: u64,
-    id: u64,
-    files: &[u64],
-) -> Result<(), AllocError> {
-    let call = ack(alloc, now, id, 0, files)?;
-    enter(book, Call::Tick { now })?;
-    enter(book, call)
-}
-
-/// A job whose first checkpoint has the files 1, 2 and 3.
-fn with_one_checkpoint(alloc: Global) -> Result<Book, Fail> {
-    let mut book = open(alloc, 600_000, 0, 1)?;
-    complete(alloc, &mut book, 1000, 1, &[1, 2, 3])?;
-    Ok(book)
-}
-
-/// The same job after the second checkpoint, which has released those files.
+/// A job whose first checkpoint had the files 1, 2 and 3, which the second one has released.
 fn with_three_files(alloc: Global) -> Result<Book, Fail> {
-    let mut book = with_one_checkpoint(alloc)?;
-    complete(alloc, &mut book, 2000, 2, &[4])?;
+    let mut book = open(alloc, 1)?;
+    complete(alloc, &mut book, 1000, 1, &[&[1, 2, 3]])?;
+    complete(alloc, &mut book, 2000, 2, &[&[4]])?;
     Ok(book)
 }
 
@@ -46,17 +27,6 @@ fn lock_with_three_files<R: Wait>(rt: &R, alloc: Global) -> Result<(Locked, Pass
 {
     let (lock, pass, _) = two(rt, with_three_files(alloc)?)?;
     Ok((lock, pass))
-}
-
-#[test]
-fn a_file_that_storage_keeps_waits_again(rt: HostRuntime) -> Result<(), Fail> {
-    let alloc = rt.alloc();
-    let (lock, pass) = lock_with_three_files(&rt, alloc)?;
-    let mut disk = Disk::new(&rt, alloc, Some(1));
-    let pass = discards(&rt, alloc, &lock, pass, &mut disk, [3, 2, 1]);
-    discards(&rt, alloc, &lock, pass, &mut disk, [1, 1, 0]);
-    assert!(rt; disk.deleted.as_slice() == [FileId(1), FileId(3), FileId(2)].as_slice());
-    Ok(())
 }
 
 /// A round whose second report finds no memory, and what it leaves.
@@ -69,7 +39,8 @@ fn is_cut_short<R: Abort + Wait, G: Gate, S: Storage>(
     gone: bool,
 ) -> (Pass, Handed)
     requires { pass.lock ≡ G.lock gate.now }
-    ensures { result.0.lock ≡ G.lock gate.now }
+    ensures pass { result.0.lock ≡ G.lock gate.now }
+    ensures gone { gone ≡ true → result.1 ≢ [] }
 {
     let (pass, round) = round_of(rt, alloc, gate, pass, storage);
     assert!(rt; [round.taken, round.deleted, round.failed] == [3, 1, 0]);
@@ -86,7 +57,8 @@ fn goes_on<R: Abort + Wait, G: Gate, S: Storage>(
     left: Handed,
     gone: bool,
 ) -> Pass
-    requires { pass.lock ≡ G.lock gate.now }
+    requires pass { pass.lock ≡ G.lock gate.now }
+    requires gone { gone ≡ true → left ≢ [] }
     ensures { result.lock ≡ G.lock gate.now }
 {
     let (pass, round) = rest_of(rt, gate, pass, storage, left, gone);
@@ -104,7 +76,7 @@ fn is_done_in_two<R: Abort + Wait>(
     gone: bool,
 ) -> Result<(), Fail> {
     let (lock, pass) = lock_with_three_files(rt, alloc)?;
-    let gate = Forgetful::new(lock, 2);
+    let gate = Forgetful::new(lock, [2; 4]);
     let mut disk = Disk::new(rt, alloc, fails_at);
     let (pass, left) = is_cut_short(rt, alloc, &gate, pass, &mut disk, gone);
     assert!(rt; are(&left, &[FileId(2), FileId(3)]));

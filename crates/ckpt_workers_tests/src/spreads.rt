@@ -76,7 +76,7 @@ fn share_of(alloc: Global, pass: Pass, call: Call) -> Result<Share, AllocError>
 #[test]
 fn two_calls_at_once(rt: HostRuntime) -> Result<(), Fail> {
     let alloc = rt.alloc();
-    let (lock, first, second) = two(&rt, open(alloc, 600_000, 0, 1)?)?;
+    let (lock, first, second) = two(&rt, open(alloc, 1)?)?;
     let first = share_of(alloc, first, Call::Tick { now: 999 })?;
     let second = share_of(alloc, second, Call::Tick { now: 999 })?;
     let gate = Meeting::new(lock);
@@ -111,7 +111,7 @@ fn has_counted(report: &Report) -> bool {
 #[test]
 fn each_report_answers_its_share(rt: HostRuntime) -> Result<(), Fail> {
     let alloc = rt.alloc();
-    let (lock, first, second) = two(&rt, open(alloc, 600_000, 0, 1)?)?;
+    let (lock, first, second) = two(&rt, open(alloc, 1)?)?;
     let first = share_of(alloc, first, Call::Tick { now: 999 })?;
     let second = share_of(alloc, second, Call::Count { file: FileId(5) })?;
     let reports = over_lock(&rt, alloc, &lock, first, second)?;
@@ -194,7 +194,7 @@ fn after_two_thousand<R: Threads + Wait + Abort + Sync>(
     rt: &R,
     alloc: Global,
 ) -> Result<Book, Fail> {
-    let (lock, first, second) = two(rt, open(alloc, 600_000, 0, 1)?)?;
+    let (lock, first, second) = two(rt, open(alloc, 1)?)?;
     let first = thousand(alloc, first)?;
     let second = thousand(alloc, second)?;
     let reports = over_lock(rt, alloc, &lock, first, second)?;

@@ -1,20 +1,13 @@
 //! Teams that make the same list of calls.
 ghost use Rattle.std.specs.Prelude.{◌<◌, ◌≤◌};
 
-use crate::books::{ack, enter, open};
+use crate::books::{ack, pending};
 use ckpt_ids::Call;
 use ckpt_locked::Book;
 use ckpt_workers::{InOrder, Made, Team, Threads};
 use std::alloc::{AllocError, Global};
 use std::process::Abort;
 use std::test::Fail;
-
-/// A job of three subtasks whose first checkpoint is pending.
-fn pending(alloc: Global) -> Result<Book, Fail> {
-    let mut book = open(alloc, 600_000, 0, 3)?;
-    enter(&mut book, Call::Tick { now: 1000 })?;
-    Ok(book)
-}
 
 /// The acknowledgements of the three subtasks, each with one new file.
 fn acks(alloc: Global) -> Result<Vec<Call>, AllocError> {
@@ -62,7 +55,7 @@ fn has_completed(made: &Made) -> bool {
 fn made_by(alloc: Global, team: &mut impl Team, threads: u32) -> Result<Made, Fail>
     requires { (0 < threads) × (threads ≤ 64) }
 {
-    let book = pending(alloc)?;
+    let book = pending(alloc, 3)?;
     let calls = acks(alloc)?;
     Ok(team.make(book, calls, threads)?)
 }

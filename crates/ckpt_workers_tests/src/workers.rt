@@ -1,14 +1,12 @@
 //! Timers, tasks and discarders over one lock: what they counted.
-ghost use Rattle.std.specs.Prelude.{◌≡◌, IfOk};
-
-use crate::books::open;
-use crate::deeds::{discards, has_taken, tasks, ticks, told};
-use crate::desk::{Disk, order, three, two};
+use crate::books::{ack, open, pending};
+use crate::deeds::{discards, tasks, ticks};
+use crate::desk::{Disk, closed_with, order, three, two};
 use crate::gates::Forgetful;
-use ckpt_ids::{Answer, Call, FileId, Reply, TickEnd};
-use ckpt_locked::Pass;
-use ckpt_workers::{BadOrder, Gate};
-use std::alloc::Global;
+use ckpt_ids::{Call, FileId};
+use ckpt_locked::Book;
+use ckpt_workers::BadOrder;
+use std::alloc::{AllocError, Global};
 use std::process::Abort;
 use std::sync::Wait;
 use std::test::Fail;
@@ -25,7 +23,7 @@ fn an_order_is_refused_for_its_moment(rt: HostRuntime) -> Result<(), Fail> {
 #[test]
 fn three_workers_share_a_lock(rt: HostRuntime) -> Result<(), Fail> {
     let alloc = rt.alloc();
-    let (lock, timer, task, discarder) = three(&rt, open(alloc, 600_000, 0, 1)?)?;
+    let (lock, timer, task, discarder) = three(&rt, open(alloc, 1)?)?;
     let timer = ticks(&rt, &lock, timer, &[999, 1000], [2, 0, 0]);
     let rows = [(1000, 1, 0, 11), (1001, 1, 0, 11)];
     let task = tasks(&rt, alloc, &lock, task, &rows, [1, 1, 0, 0])?;
@@ -40,62 +38,65 @@ fn three_workers_share_a_lock(rt: HostRuntime) -> Result<(), Fail> {
     Ok(())
 }
 
-fn has_expired(answer: &Answer) -> bool {
-    matches!(
-        answer,
-        Answer::Done(Reply::Ticked {
-            expired: 1,
-            end: TickEnd::HeldInterval
-        })
-    )
+/// How many orders there are: two of each subtask.
+const ORDERS: u16 = 200;
+
+/// The places of the orders that the gate forgets, counted from 0.
+const FORGOTTEN: [u64; 4] = [40, 41, 97, 150];
+
+/// The new file of the order at this place.
+fn file_at(place: u16) -> u64 {
+    1000 + u64::from(place)
 }
 
-/// A checkpoint expires after one of its two subtasks has acknowledged it.
-fn expires<R: Abort + Wait, G: Gate>(
-    rt: &R,
-    alloc: Global,
-    gate: &G,
-    task: Pass,
-    other: Pass,
-) -> Result<(Pass, Pass), Fail>
-    requires task { task.lock ≡ G.lock gate.now }
-    requires other { other.lock ≡ G.lock gate.now }
-    ensures { IfOk result (λ passes. (passes.0.lock ≡ G.lock gate.now) × (passes.1.lock ≡ G.lock gate.now)) }
-{
-    let other = ticks(rt, gate, other, &[1000], [1, 0, 0]);
-    let task = tasks(rt, alloc, gate, task, &[(1000, 1, 0, 11)], [1, 0, 0, 0])?;
-    let (other, answer) = told(rt, gate, other, Call::Tick { now: 1500 })?;
-    assert!(rt; has_expired(&answer));
-    Ok((task, other))
+/// Two orders to acknowledge checkpoint 1 for each of a hundred subtasks, the second ones after the first.
+fn two_of_each(alloc: Global) -> Result<Vec<(u64, u64, u16, u64)>, AllocError> {
+    let mut rows = Vec::new(alloc);
+    for place in 0..ORDERS {
+        rows.push((1000, 1, place % 100, file_at(place)))?;
+    }
+    Ok(rows)
 }
 
-/// Its later acknowledgements are late, and their files are taken with the first.
-fn are_late<R: Abort + Wait, G: Gate>(
-    rt: &R,
-    alloc: Global,
-    gate: &G,
-    task: Pass,
-    other: Pass,
-) -> Result<Pass, Fail>
-    requires task { task.lock ≡ G.lock gate.now }
-    requires other { other.lock ≡ G.lock gate.now }
-    ensures { IfOk result (λ task. task.lock ≡ G.lock gate.now) }
-{
-    let rows = [(1500, 1, 0, 11), (1501, 1, 1, 12)];
-    let task = tasks(rt, alloc, gate, task, &rows, [0, 2, 0, 0])?;
-    let (_other, answer) = told(rt, gate, other, Call::Take { most: 9 })?;
-    assert!(rt; has_taken(&answer, &[FileId(11), FileId(12)]));
-    Ok(task)
+/// Whether the entry at this place has this call, made with the seat of the task.
+fn is_entered(book: &Book, place: u64, call: &Call) -> bool {
+    match book.entry(place) {
+        Some(entry) => entry.seat == 0 && entry.call == *call,
+        None => false,
+    }
 }
 
-/// Acknowledgements of a checkpoint that expired leave their files to be deleted.
+/// Whether the book has the acknowledgements after its tick, in order, but for those that were forgotten, and no more.
+fn are_entered(alloc: Global, book: &Book) -> Result<bool, AllocError> {
+    let mut next = 1u64;
+    for place in 0..ORDERS {
+        if !FORGOTTEN.contains(&u64::from(place)) {
+            let call = ack(alloc, 1000, 1, place % 100, &[file_at(place)])?;
+            if !is_entered(book, next, &call) {
+                return Ok(false);
+            }
+            next = next.wrapping_add(1);
+        }
+    }
+    Ok(book.len() == next)
+}
+
+/// The book after a task had those orders over a gate that forgets four of them.
+fn after_two_hundred<R: Abort + Wait>(rt: &R, alloc: Global) -> Result<Book, Fail> {
+    let (lock, task, other) = two(rt, pending(alloc, 100)?)?;
+    let gate = Forgetful::new(lock, FORGOTTEN);
+    let rows = two_of_each(alloc)?;
+    // Three of the first orders are forgotten, so the checkpoint is complete at the second one of subtask 97.
+    let task = tasks(rt, alloc, &gate, task, rows.as_slice(), [100, 2, 94, 4])?;
+    let Forgetful { locked, .. } = gate;
+    closed_with(rt, alloc, locked, task, other)
+}
+
+/// The first order of each subtask is accepted, or where it was forgotten the second one; other second ones are refused while
+/// the checkpoint is pending, and late once it is complete.
 #[test]
-fn lost_orders_are_late(rt: HostRuntime) -> Result<(), Fail> {
-    let alloc = rt.alloc();
-    let (lock, task, other) = two(&rt, open(alloc, 500, 1, 2)?)?;
-    let (task, other) = expires(&rt, alloc, &lock, task, other)?;
-    let task = are_late(&rt, alloc, &lock, task, other)?;
-    let gate = Forgetful::new(lock, 0);
-    tasks(&rt, alloc, &gate, task, &[(1502, 1, 0, 13)], [0, 0, 0, 1])?;
+fn two_hundred_orders_of_which_four_are_forgotten(rt: HostRuntime) -> Result<(), Fail> {
+    let book = after_two_hundred(&rt, rt.alloc())?;
+    assert!(rt; are_entered(rt.alloc(), &book)?);
     Ok(())
 }

@@ -1,10 +1,12 @@
+//! The exports that open, close and call.
+
 ghost use Rattle.std.specs.Prelude.{◌≡◌, ◌≢◌, ◌<◌, ◌≤◌, [], None, Some, length};
 ghost use Rattle.ckpt_ids.specs.declared.call.Call.TheVariants as call;
 ghost use Rattle.ckpt_core.specs.Coordinator.{State};
 ghost use Rattle.ckpt_embed.specs.Buffers.{BringsFiles, BringsJson, IsShowTold, StandsInFront};
 ghost use Rattle.ckpt_embed.specs.Calls.{HasNoNumbers, IsAnswered, IsBadShape, IsMade, IsRefusedAs, StaysAsItWas, StaysClosed, WantsMemory, ack_of, restore_of};
 ghost use Rattle.ckpt_embed.specs.Names.{refusal_name};
-ghost use Rattle.ckpt_embed.specs.Opening.{opening_of, IsNotOpened, IsOpened, StaysOpen};
+ghost use Rattle.ckpt_embed.specs.Opening.{opening_of, IsNotOpened, IsOpened, OpeningWantsMemory, StaysOpen};
 ghost use Rattle.ckpt_embed.specs.Told.{bad_shape, no_memory};
 
 use ckpt_embed::{Answer, Handle, Settings};
@@ -27,6 +29,7 @@ pub extern "C" fn relkvanu_open(
     ensures open { StaysOpen handle.old.value handle.new.value result }
     ensures refused { IsNotOpened handle.old.value handle.new.value (opening_of settings.now shape.now now first) result }
     ensures opened { IsOpened handle.old.value handle.new.value (opening_of settings.now shape.now now first) result }
+    ensures memory { OpeningWantsMemory (opening_of settings.now shape.now now first) result }
     ensures numbers { HasNoNumbers result }
     ensures unchanged { StaysAsItWas handle.old.value handle.new.value result }
 {

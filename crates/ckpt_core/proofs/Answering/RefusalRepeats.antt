@@ -32,7 +32,7 @@ false_unless false h = refl
 
 -- the test of repeats
 
-test-from_distinct : (xs : List ℕ) → AreDistinct xs → has_repeats xs ≡ false
+pub test-from_distinct : (xs : List ℕ) → AreDistinct xs → has_repeats xs ≡ false
 test-from_distinct [] a = refl
 test-from_distinct (x ∷ xs) a =
     let first : list_any (λ y. eqb x y) xs ≡ false = false_unless (list_any (λ y. eqb x y) xs) (λ e. a.0 (IsIn-from_test x xs e)) in

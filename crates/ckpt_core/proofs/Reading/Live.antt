@@ -108,11 +108,10 @@ first_in_order n xs None f = λ r h. f r (IsIn-from_in_order id_before r xs h)
 first_in_order n xs (Some live) f = ((f.0.0, IsIn-in_order id_before f.0.0 xs f.0.1, f.0.2, f.0.3), λ s h t. f.1 s (IsIn-from_in_order id_before s xs h) t)
 
 -- the first live record from a number on is the soonest of the groups' first
-pub first_live : (p : Parts) (n : ℕ) (a b c : Option Live) → AreSound p → IsInOrder id_before p.pending → IsInOrder id_before p.store.checkpoints → IsInOrder id_before p.store.savepoints
+pub first_live : (p : Parts) (n : ℕ) (a b c : Option Live) → IsInOrder id_before (records_in p) → IsInOrder id_before p.pending → IsInOrder id_before p.store.checkpoints → IsInOrder id_before p.store.savepoints
     → a ≡ option_map live_of (find (is_from n) p.pending) → b ≡ option_map live_of (find (is_from n) p.store.checkpoints) → c ≡ option_map live_of (find (is_from n) p.store.savepoints)
     → sooner a (sooner b c) ≡ option_map live_of (find (is_from n) (records_in p))
-unfolding state_of
-first_live p n a b c sound pending checkpoints savepoints is_a is_b is_c =
+first_live p n a b c order pending checkpoints savepoints is_a is_b is_c =
     let us : List Use = p.registry in
     let cs : List Record = p.store.checkpoints in
     let ss : List Record = p.store.savepoints in
@@ -122,7 +121,7 @@ first_live p n a b c sound pending checkpoints savepoints is_a is_b is_c =
     let first_c : F ss c = subst (F ss) (sym is_c) (first_found_in n ss (find (is_from n) ss) savepoints refl) in
     let done : F (cs ++ ss) (sooner b c) = first_append n cs ss b c first_b first_c in
     let all : F (grouped us p.pending cs ss) (sooner a (sooner b c)) = first_append n (map (with_pins us) p.pending) (cs ++ ss) a (sooner b c) (first_pinned n us p.pending a first_a) done in
-    found_is_first n (records_in p) (sooner a (sooner b c)) sound.sound.in_order (first_in_order n (grouped us p.pending cs ss) (sooner a (sooner b c)) all)
+    found_is_first n (records_in p) (sooner a (sooner b c)) order (first_in_order n (grouped us p.pending cs ss) (sooner a (sooner b c)) all)
 
 -- places
 
@@ -171,7 +170,7 @@ one_more n r (x ∷ xs) order e =
     omega (arith, one_more n r xs order.1 rest, count_by_yes (is_below (r.id + 1)) x xs mine, count_by_yes (is_below n) x xs too) in
     ⊎_elim here later (cases_Bool (is_from n x))
 
-past : (ys : List Record) (k : ℕ) → slice_get ys k ≡ None → (j : ℕ) → k ≤ j → length ys ≤ j
+pub past : (ys : List Record) (k : ℕ) → slice_get ys k ≡ None → (j : ℕ) → k ≤ j → length ys ≤ j
 past [] k e j h = omega arith
 past (y ∷ ys) zero e j h = absurd (cc)
 past (y ∷ ys) (suc k) e zero h = absurd (omega arith)
@@ -186,7 +185,7 @@ none_above n xs order e place h = slice_get_past xs place (past xs (count_by (is
 pub walk_ended : (n place : ℕ) (xs : List Record) (o : Option Live) → IsInOrder id_before xs → count_by (is_below n) xs ≡ place → o ≡ option_map live_of (find (is_from n) xs) → o ≡ option_map live_of (slice_get xs place)
 walk_ended n place xs o order at is = is ∙ ap (option_map live_of) (found_at n xs order ∙ ap (slice_get xs) at)
 
-none_of : (o : Option Record) → None ≡ option_map live_of o → o ≡ None
+pub none_of : (o : Option Record) → None ≡ option_map live_of o → o ≡ None
 none_of None e = refl
 none_of (Some r) e = absurd (cc)
 
@@ -195,7 +194,7 @@ walk_stopped n turn place xs order at further is =
     let none : slice_get xs (count_by (is_below n) xs) ≡ None = sym (found_at n xs order) ∙ none_of (find (is_from n) xs) is in
     sym (ap (option_map live_of) (none_above n xs order none place (omega arith)))
 
-some_of : (live : Live) (o : Option Record) → Some live ≡ option_map live_of o → (r : Record) × (o ≡ Some r) × (live ≡ live_of r)
+pub some_of : (live : Live) (o : Option Record) → Some live ≡ option_map live_of o → (r : Record) × (o ≡ Some r) × (live ≡ live_of r)
 some_of live None e = absurd (cc)
 some_of live (Some r) e = (r, refl, let same : live ≡ live_of r = cc in same)
 

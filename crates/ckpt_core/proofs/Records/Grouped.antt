@@ -133,7 +133,7 @@ in_order-map f same (x ∷ xs) = ap (put id_before (f x)) (in_order-map f same x
 
 -- the newest comes last
 
-put_last : (x : Record) (xs : List Record) → ((y : Record) → IsIn y xs → y.id < x.id) → put id_before x xs ≡ xs ++ x ∷ []
+pub put_last : (x : Record) (xs : List Record) → ((y : Record) → IsIn y xs → y.id < x.id) → put id_before x xs ≡ xs ++ x ∷ []
 put_last x [] newest = refl
 put_last x (y ∷ xs) newest =
     ap (λ b. cond b (y ∷ put id_before x xs) (x ∷ y ∷ xs)) (lt-ltb y.id x.id (newest y (inl refl)))

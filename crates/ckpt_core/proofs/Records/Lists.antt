@@ -15,26 +15,11 @@ use Rattle.ckpt_core.specs.declared.mode.Mode.TheVariants.{Running}
 use Rattle.ckpt_core.specs.State.{State, Opening, is_checkpoint, is_pending, is_done_checkpoint}
 use Rattle.ckpt_core.specs.Refusals.{is_done_savepoint}
 use Rattle.ckpt_core.specs.Soundness.{IsSound, IsRecord, id_before}
+pub use Rattle.ckpt_core.specs.Inside.SoundRecords.{AreSoundRecords, is_pending_checkpoint}
 use Rattle.ckpt_ids.proofs.CountLemmas.{count_by-append, count_by_yes, count_by_no}
 use Rattle.ckpt_core.proofs.Records.Counts.{count_by-le, count_by-changed, IsIn-from_changed}
 use Rattle.ckpt_core.proofs.Ending.Released.{IsIn-from_test, test-from_IsIn}
 use Rattle.ckpt_pending.proofs.SubtaskLemmas.{count_by_same}
-
--- a checkpoint that lacks an acknowledgement
-abbrev pub is_pending_checkpoint : Record → Bool
-is_pending_checkpoint r = is_pending r && is_checkpoint r
-
--- what a state's soundness says of its records
-pub record AreSoundRecords (o : Opening) (next : ℕ) (records : List Record) : Type 0 where
-  pub in_order : IsInOrder id_before records
-  pub from_first : (r : Record) → IsIn r records → o.first ≤ r.id
-  pub below_next : (r : Record) → IsIn r records → r.id < next
-  pub each : (r : Record) → IsIn r records → IsRecord r
-  pub started : (r : Record) → IsIn r records → r.started < 2 ^ 62
-  pub retained : count_by is_done_checkpoint records ≤ o.config.retained
-  pub at_once : count_by is_pending_checkpoint records ≤ limit o.config
-  pub savepoints_to : count_by (λ r. not (is_checkpoint r)) records ≤ 1000
-  pub newer : (r s : Record) → IsIn r records → IsIn s records → is_pending_checkpoint r ≡ true → is_done_checkpoint s ≡ true → s.id < r.id
 
 -- of its outbox
 pub record IsSoundOutbox (records : List Record) (waiting taken : List ℕ) : Type 0 where

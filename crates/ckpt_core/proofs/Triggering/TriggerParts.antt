@@ -153,7 +153,7 @@ one_kind true false = refl
 one_kind false true = refl
 one_kind false false = refl
 
-three_kinds : (rs : List Record) → count_by (λ r. is_pending r && is_checkpoint r) rs + (count_by is_done_checkpoint rs + count_by (λ r. not (is_checkpoint r)) rs) ≡ length rs
+pub three_kinds : (rs : List Record) → count_by (λ r. is_pending r && is_checkpoint r) rs + (count_by is_done_checkpoint rs + count_by (λ r. not (is_checkpoint r)) rs) ≡ length rs
 three_kinds [] = refl
 three_kinds (r ∷ rs) =
     omega (arith, three_kinds rs, one_kind r.done (is_checkpoint r), count_by-cons (λ q. is_pending q && is_checkpoint q) r rs, count_by-cons is_done_checkpoint r rs, count_by-cons (λ q. not (is_checkpoint q)) r rs)

@@ -1,4 +1,4 @@
-use Rattle.std.proofs.Common.{rules}
+use Rattle.std.proofs.Common.{rules, ◌∙◌}
 use Rattle.ckpt_locked.specs.Turns.{base_of}
 use Rattle.ckpt_locked.proofs.Keeps.{stirs}
 use Rattle.ckpt_locked.proofs.steps.rest.Goals as goal
@@ -6,4 +6,9 @@ use Rattle.ckpt_locked.proofs.steps.rest.Goals as goal
 pub swap-requires : goal.swap-requires
 swap-requires g c =
     let table = c.requires.table in
-    (search rules, search rules, stirs (base_of c.args.shared.now.key) _ _ c.args.seat.now.me _ (λ _. 1) c.requires.perch.0)
+    (search rules, search rules, stirs (base_of c.args.shared.now.key) _ _ c.args.seat.now.me _ (λ _. c.mark_of-mark.result) c.requires.perch.0)
+
+pub swap-requires-2 : goal.swap-requires-2
+swap-requires-2 g c =
+    let table = c.requires.table in
+    (c.swap.ensures.0 ∙ table.0, search rules, stirs (base_of c.args.shared.now.key) _ _ c.swap.new.seat.me _ (λ _. 0) c.requires.perch.0)

@@ -1,6 +1,6 @@
 use Rattle.std.proofs.Common.{◌≡◌, ℕ, ◌+◌, Bool, true, false, cond, List, [], length, drop, refl, sym, ap, ◌∙◌, subst, arith}
 use Rattle.std.proofs.lemmas.Bool.{OnFalse_at, OnTrue_at}
-use Rattle.std.proofs.lemmas.List.{drop_all, nil_from_length}
+use Rattle.std.proofs.lemmas.List.{drop_all}
 use Rattle.ckpt_ids.specs.declared.reply.Answer.{Answer}
 use Rattle.ckpt_locked.specs.Locks.{Hand, Made}
 use Rattle.ckpt_workers.specs.declared.discard.Round.{Round}
@@ -16,10 +16,8 @@ loop-place-init g c =
     let files = c.args.files in
     let stored : Stored = g.S.Storage.stored c.args.storage.now in
     record {
-      reported = IsReported-none files c.args.gone stored c.args.pass (round (length files) 0 0 files c.args.gone) refl refl refl refl refl;
+      reported = IsReported-none files c.args.gone stored c.args.pass (round (length files) 0 0 files c.args.gone) refl refl refl refl refl refl c.requires.gone;
       counted = refl;
-      first = λ e. refl;
-      same = λ e. e;
     }
 
 pub returns-then-not-answered-clause-reported : goal.returns-then-not-answered-clause-reported
@@ -56,10 +54,8 @@ loop-place-preserved g c =
     record {
       reported =
           IsReported-next files (drop (l.place + 1) files) c.file_at-file.result c.args.gone c.try_delete-deleted.result before mid after c.args.pass l.pass c.report-next.result.0 was is made.0 l.invariant.reported left c.try_delete-deleted.ensures made.1
-          refl c.add.ensures.deleted c.add.ensures.failed refl refl;
+          refl c.add.ensures.deleted c.add.ensures.failed refl refl refl;
       counted = one_more c.add.new.self.deleted c.add.new.self.failed l.counts.deleted l.counts.failed l.place c.try_delete-deleted.result c.add.ensures.deleted c.add.ensures.failed counted;
-      first = λ e. absurd cc;
-      same = λ e. absurd cc;
     }
   where
     one_more : (d f e h p : ℕ) (b : Bool) → d ≡ e + cond b 1 0 → f ≡ h + cond b 0 1 → e + h ≡ p → d + f ≡ p + 1
@@ -77,6 +73,7 @@ returns-clause-reported g c =
     let at : c.len-count.result ≡ l.place = omega arith in
     IsReported-as files c.args.gone before after c.args.pass l.pass was c.round-2.result l.invariant.reported
     (ap (λ (r : Round). r.taken) told ∙ c.len-count.ensures) (ap (λ (r : Round). r.deleted) told) (ap (λ (r : Round). r.failed) told) (ap (λ (r : Round). r.left) told ∙ c.rest-2.ensures ∙ ap (λ n. drop n files) at) (ap (λ (r : Round). r.gone) told)
+    (ap (λ (r : Round). r.memory) told)
 
 pub returns-clause-ended : goal.returns-clause-ended
 returns-clause-ended g c =
@@ -91,11 +88,12 @@ returns-clause-ended g c =
     let failed : c.round-2.result.failed ≡ l.counts.failed = ap (λ (r : Round). r.failed) told in
     let counted : l.counts.deleted + l.counts.failed ≡ l.place = l.invariant.counted in
     let none : length c.round-2.result.left ≡ 0 = ap length left in
+    let no_more : drop l.place files ≡ [] = drop_all l.place files (omega arith) in
     record {
-      all = λ e. (left, ap (λ (r : Round). r.gone) told ∙ not_gone l.gone files l.place (omega arith) l.invariant.first (λ e. c.requires.gone (l.invariant.same e)));
+      all = λ e. (left, ap (λ (r : Round). r.gone) told ∙ not_gone l.gone (λ t. l.invariant.reported.gone_left t no_more));
       counted = omega arith;
     }
   where
-    not_gone : (gone : Bool) (files : List ℕ) (place : ℕ) → length files ≡ place → (gone ≡ true → place ≡ 0) → (gone ≡ true → files ≡ [] → ⊥) → gone ≡ false
-    not_gone true files place e f r = absurd (r refl (nil_from_length files (e ∙ f refl)))
-    not_gone false files place e f r = refl
+    not_gone : (gone : Bool) → (gone ≡ true → ⊥) → gone ≡ false
+    not_gone true refuted = absurd (refuted refl)
+    not_gone false refuted = refl

@@ -42,3 +42,9 @@ returns c =
     let p = c.args.self.now in
     let all : c.loop.counter ≡ c.args.place = search rules in
     walk_ended c.loop.lowest c.args.place (records_in p) c.first_from-2.result (live_in_order p c.requires) (c.loop.invariant ∙ all) c.first_from-2.ensures
+
+pub first_from-requires : goal.first_from-requires
+first_from-requires c = live_in_order c.args.self.now c.requires
+
+pub first_from-requires-2 : goal.first_from-requires-2
+first_from-requires-2 c = live_in_order c.args.self.now c.requires

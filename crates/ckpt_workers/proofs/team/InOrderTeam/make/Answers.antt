@@ -1,7 +1,7 @@
 use Rattle.std.proofs.Common.{◌%◌, [], ◌∷◌, refl, ap, arith, length-append}
 use Rattle.ckpt_workers.specs.declared.team.Made.{Made}
 use Rattle.ckpt_workers.specs.Teams.{IsTally}
-use Rattle.ckpt_workers.proofs.TeamLemmas.{IsTeamwork-none, IsTeamwork-push}
+use Rattle.ckpt_workers.proofs.TeamLemmas.{IsTeamwork-none, IsTeamwork-push, in_order-none, in_order-push}
 use Rattle.ckpt_workers.proofs.team.InOrderTeam.make.Goals as goal
 
 pub loop-call-init : goal.loop-call-init
@@ -9,7 +9,8 @@ loop-call-init c =
     let made : Made = c.none-made.result in
     let is = c.none-made.ensures in
     let tally : IsTally made [] = record { accepted = ap (λ (m : Made). m.accepted) is; refused = ap (λ (m : Made). m.refused) is; completed = ap (λ (m : Made). m.completed) is } in
-    (tt, tt, refl, IsTeamwork-none c.args.book c.args.threads made (ap (λ (m : Made). m.book) is) tally)
+    let book = ap (λ (m : Made). m.book) is in
+    (tt, tt, refl, IsTeamwork-none c.args.book c.args.threads made book tally, in_order-none c.args.book made book)
 
 pub loop-call-preserved : goal.loop-call-preserved
 loop-call-preserved c =
@@ -18,4 +19,5 @@ loop-call-preserved c =
       tt,
       omega (arith, length-append c.loop-call.yielded (c.in-Some.call ∷ [])),
       IsTeamwork-push c.args.book c.loop-call.yielded c.args.threads c.loop-call.made c.enter.new.self c.in-Some.call (c.loop-call.place % c.args.threads) c.requires.threads.0 (ap (λ k. k % c.args.threads) at) c.loop-call.invariant.3 c.in_ok-enter.ensures,
+      in_order-push c.args.book c.loop-call.yielded c.loop-call.made c.enter.new.self c.in-Some.call (c.loop-call.place % c.args.threads) c.loop-call.invariant.4 c.in_ok-enter.ensures,
     )

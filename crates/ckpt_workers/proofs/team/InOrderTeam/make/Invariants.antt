@@ -1,4 +1,5 @@
-use Rattle.std.proofs.Common.{◌≡◌, length}
+use Rattle.std.proofs.Common.{◌≡◌, ◌++◌, length}
+use Rattle.ckpt_locked.specs.Books.{calls_of}
 use Rattle.ckpt_workers.specs.Teams.{IsTeamwork}
 use Rattle.ckpt_workers.proofs.team.InOrderTeam.make.Given as goal
 
@@ -8,3 +9,4 @@ invariant-loop-call l =
     × (goal.iterator-loop-call).is_finite l.call-iterator
     × (l.place ≡ length l.yielded)
     × IsTeamwork l.fn.book l.yielded l.threads l.made
+    × (calls_of l.made.book.entries ≡ calls_of l.fn.book.entries ++ l.yielded)

@@ -1,0 +1,11 @@
+use denote.Param.Send.{sendable}
+use Rattle.std.proofs.Crossing.{crosses}
+use Rattle.ckpt_locked.proofs.Crossings.{pass_send}
+use Rattle.ckpt_bench.proofs.Crossings.{report_send}
+use Rattle.ckpt_bench.proofs.threads.work_on_all.Goals as goal
+
+pub map_vec-requires-send-J : goal.map_vec-requires-send-J
+map_vec-requires-send-J g c = search (pass_send, sendable, crosses) depth 20
+
+pub map_vec-requires-send-X : goal.map_vec-requires-send-X
+map_vec-requires-send-X g c = search (report_send, sendable, crosses) depth 20

@@ -1,0 +1,127 @@
+//! What the command line asks for.
+use crate::fault::BenchFault;
+use std::env;
+
+/// Calls of all kinds through a lock, each answer compared with a replay.
+#[derive(Clone, Copy)]
+pub(crate) struct StormPlan {
+    pub(crate) threads: u32,
+    /// How many calls each thread makes.
+    pub(crate) calls: u64,
+    pub(crate) seed: u64,
+    /// How many entries the book keeps, where it does not keep all.
+    pub(crate) last: Option<u64>,
+}
+
+/// What measured calls go through.
+#[derive(Clone, Copy)]
+pub(crate) enum Way {
+    Locked,
+    Mutex,
+}
+
+/// Calls that are measured.
+#[derive(Clone, Copy)]
+pub(crate) struct LockPlan {
+    pub(crate) way: Way,
+    pub(crate) threads: u32,
+    /// How many calls each thread makes.
+    pub(crate) calls: u64,
+}
+
+/// Calls through a book, with no lock.
+#[derive(Clone, Copy)]
+pub(crate) struct BookPlan {
+    pub(crate) calls: u64,
+    /// How many entries the book keeps.
+    pub(crate) last: u64,
+}
+
+#[derive(Clone, Copy)]
+pub(crate) enum Plan {
+    Storm(StormPlan),
+    Lock(LockPlan),
+    Book(BookPlan),
+}
+
+/// The number at this place, where the command line goes so far.
+fn optional(words: &[String], place: usize) -> Result<Option<u64>, BenchFault> {
+    let Some(word) = words.get(place) else {
+        return Ok(None);
+    };
+    match word.parse() {
+        Ok(number) => Ok(Some(number)),
+        Err(_) => Err(BenchFault::Usage),
+    }
+}
+
+fn number(words: &[String], place: usize) -> Result<u64, BenchFault> {
+    optional(words, place)?.ok_or(BenchFault::Usage)
+}
+
+fn threads(words: &[String], place: usize) -> Result<u32, BenchFault> {
+    match u32::try_from(number(words, place)?) {
+        Ok(threads) => Ok(threads),
+        Err(_) => Err(BenchFault::Threads),
+    }
+}
+
+fn storm_plan(words: &[String]) -> Result<StormPlan, BenchFault> {
+    Ok(StormPlan {
+        threads: threads(words, 1)?,
+        calls: number(words, 2)?,
+        seed: number(words, 3)?,
+        last: optional(words, 4)?,
+    })
+}
+
+fn way_of(words: &[String]) -> Result<Way, BenchFault> {
+    match words.get(1).map(|word| word.as_str()) {
+        Some("locked") => Ok(Way::Locked),
+        Some("mutex") => Ok(Way::Mutex),
+        _ => Err(BenchFault::Usage),
+    }
+}
+
+fn lock_plan(words: &[String]) -> Result<LockPlan, BenchFault> {
+    Ok(LockPlan {
+        way: way_of(words)?,
+        threads: threads(words, 2)?,
+        calls: number(words, 3)?,
+    })
+}
+
+fn book_plan(words: &[String]) -> Result<BookPlan, BenchFault> {
+    Ok(BookPlan {
+        calls: optional(words, 1)?.unwrap_or(1000),
+        last: optional(words, 2)?.unwrap_or(u64::MAX),
+    })
+}
+
+/// The words after the program's name.
+fn given_words(rt: &HostRuntime) -> Result<Vec<String>, BenchFault> {
+    let Ok(given) = env::args(rt) else {
+        return Err(BenchFault::Memory);
+    };
+    let mut words = Vec::new(rt.alloc());
+    for word in given.skip(1) {
+        if words.push(word).is_err() {
+            return Err(BenchFault::Memory);
+        }
+    }
+    Ok(words)
+}
+
+fn plan_of(words: &[String]) -> Result<Plan, BenchFault> {
+    match words.first().map(|word| word.as_str()) {
+        Some("storm") => Ok(Plan::Storm(storm_plan(words)?)),
+        Some("lock") => Ok(Plan::Lock(lock_plan(words)?)),
+        Some("book") => Ok(Plan::Book(book_plan(words)?)),
+        _ => Err(BenchFault::Usage),
+    }
+}
+
+pub(crate) fn read_plan(rt: &HostRuntime) -> Result<Plan, BenchFault> {
+    let words = given_words(rt)?;
+    plan_of(words.as_slice())
+}

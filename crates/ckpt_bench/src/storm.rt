@@ -1,0 +1,46 @@
+//! A storm of calls through a lock.
+use crate::arguments::StormPlan;
+use crate::fault::BenchFault;
+use crate::replay::{check, open};
+use crate::threads::{Task, run};
+use std::alloc::Global;
+use std::io;
+use std::sync::Wait;
+use std::thread::Threads;
+
+/// Runs the threads, and tells how many calls came back for want of memory.
+fn returned<R: Threads + Wait + Sync>(
+    rt: &R,
+    alloc: Global,
+    plan: &StormPlan,
+) -> Result<u64, BenchFault> {
+    let mut book = open(alloc)?;
+    if let Some(last) = plan.last {
+        book.keep_last(last);
+    }
+    let (book, told) = run(rt, alloc, book, plan.threads, Task::Storm(*plan))?;
+    check(alloc, plan, &book, told.as_slice())
+}
+
+fn tell(rt: &HostRuntime, plan: &StormPlan, returned: u64) -> io::Result<()> {
+    let calls = u64::from(plan.threads).saturating_mul(plan.calls);
+    print!(rt; "{} threads, {calls} calls", plan.threads)?;
+    match plan.last {
+        None => print!(rt; ", each answered as its replay")?,
+        Some(last) => print!(rt; ", the last {last} kept, each answered by the rules")?,
+    }
+    if returned > 0 {
+        print!(rt; "; {returned} found no memory and were made again")?;
+    }
+    println!(rt;)
+}
+
+/// Runs the storm, checks it, and prints what it was.
+pub(crate) fn storm<R: Threads + Wait + Sync>(
+    rt: &R,
+    host: &HostRuntime,
+    plan: &StormPlan,
+) -> Result<(), BenchFault> {
+    let returned = returned(rt, host.alloc(), plan)?;
+    tell(host, plan, returned).map_err(|_| BenchFault::Output)
+}

@@ -1,0 +1,148 @@
+//! A thread for each pass of a lock.
+ghost use Rattle.std.specs.Prelude.{◌≡◌, All, IfOk, map};
+ghost use Rattle.ckpt_locked.specs.Locks.{Lock};
+
+use crate::arguments::StormPlan;
+use crate::fault::BenchFault;
+use crate::through_lock::make;
+use crate::worker::{Board, Told, work};
+use ckpt_locked::{Book, Locked, Pass};
+use std::alloc::{AllocError, Global};
+use std::sync::Wait;
+use std::thread;
+use std::thread::Threads;
+
+/// What each thread does with its pass.
+#[derive(Clone, Copy)]
+pub(crate) enum Task {
+    Storm(StormPlan),
+    /// Makes so many calls, and keeps no answer.
+    Measure { calls: u64 },
+}
+
+/// A pass after its thread's calls, and what they were answered.
+#[derive(Drop)]
+pub(crate) struct Report {
+    pass: Pass,
+    told: Result<Told, AllocError>,
+}
+
+/// What is done with each pass of a lock, by a thread of its own.
+pub(crate) trait Work {
+    ghost lock: { Self → Lock };
+
+    fn work<R: Wait>(&self, rt: &R, pass: Pass) -> Report
+        requires { pass.lock ≡ lock self.now }
+        ensures { result.pass.lock ≡ lock self.now };
+}
+
+/// What the threads share.
+#[derive(Drop)]
+pub(crate) struct Ground {
+    lock: Locked,
+    board: Board,
+    alloc: Global,
+    task: Task,
+}
+
+impl Work for Ground {
+    ghost lock = { λ g. g.lock };
+
+    fn work<R: Wait>(&self, rt: &R, pass: Pass) -> Report {
+        match self.task {
+            Task::Storm(plan) => {
+                let (pass, told) = work(rt, self.alloc, &self.lock, &self.board, plan, pass);
+                Report { pass, told }
+            }
+            Task::Measure { calls } => {
+                let pass = make(rt, &self.lock, pass, calls);
+                let told = Ok(Told::of(self.alloc, &pass));
+                Report { pass, told }
+            }
+        }
+    }
+}
+
+/// Locks the book, runs a thread for each of so many passes, and closes the lock. Gives the book and what each thread was
+/// answered.
+pub(crate) fn run<R: Threads + Wait + Sync>(
+    rt: &R,
+    alloc: Global,
+    book: Book,
+    threads: u32,
+    task: Task,
+) -> Result<(Book, Vec<Told>), BenchFault> {
+    match Locked::new(rt, book, threads) {
+        Ok((lock, passes)) => {
+            let board = Board::new();
+            let ground = Ground {
+                lock,
+                board,
+                alloc,
+                task,
+            };
+            in_threads(rt, ground, passes)
+        }
+        Err((_, fault)) => Err(BenchFault::from(fault)),
+    }
+}
+
+/// Runs a thread for each pass, and closes the lock.
+fn in_threads<R: Threads + Wait + Sync>(
+    rt: &R,
+    ground: Ground,
+    passes: Vec<Pass>,
+) -> Result<(Book, Vec<Told>), BenchFault>
+    requires { All (λ p. p.lock ≡ ground.lock) passes.items }
+{
+    let alloc = ground.alloc;
+    let reports = scatter(rt, &ground, passes)?;
+    let mut told = Vec::with_capacity(alloc, reports.len())?;
+    let passes = part(alloc, reports, &mut told)?;
+    match ground.lock.close(rt, passes) {
+        Ok(book) => Ok((book, told)),
+        Err(_) => Err(BenchFault::Open),
+    }
+}
+/// Does the task with each pass in a thread of its own.
+fn scatter<R: Threads + Wait + Sync>(
+    rt: &R,
+    ground: &Ground,
+    passes: Vec<Pass>,
+) -> Result<Vec<Report>, AllocError>
+    requires { All (λ p. p.lock ≡ ground.now.lock) passes.items }
+    ensures { IfOk result (λ reports. All (λ r. r.pass.lock ≡ ground.now.lock) reports.items) }
+{
+    work_on_all(rt, ground, passes)
+}
+
+/// Does the work with each pass in a thread of its own.
+fn work_on_all<R: Threads + Wait + Sync, W: Work + Sync>(
+    rt: &R,
+    ground: &W,
+    passes: Vec<Pass>,
+) -> Result<Vec<Report>, AllocError>
+    requires { All (λ p. p.lock ≡ W.lock ground.now) passes.items }
+    ensures { IfOk result (λ reports. All (λ r. r.pass.lock ≡ W.lock ground.now) reports.items) }
+{
+    thread::map_vec(
+        rt,
+        passes,
+        &|pass: Pass| -> Report
+            requires { pass.lock ≡ W.lock ground.now }
+            ensures { result.pass.lock ≡ W.lock ground.entry.now }
+        { ground.work(rt, pass) },
+    )
+}
+
+/// Parts the passes from what else the reports tell.
+fn part(alloc: Global, reports: Vec<Report>, told: &mut Vec<Told>) -> Result<Vec<Pass>, AllocError>
+    ensures { IfOk result (λ passes. map (λ r. r.pass) reports.items ≡ passes.items) }
+{
+    let mut passes = Vec::with_capacity(alloc, reports.len())?;
+    for report in reports {
+        passes.push(report.pass)?;
+        told.push(report.told?)?;
+    }
+    Ok(passes)
+}

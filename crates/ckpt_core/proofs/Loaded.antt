@@ -1,0 +1,10 @@
+-- What is made again of an image.
+pub mod Alike
+pub mod Bounds
+pub mod Groups
+pub mod Joining
+pub mod Loads
+pub mod Reopened
+pub mod Saving
+pub mod Settled
+pub mod Uses

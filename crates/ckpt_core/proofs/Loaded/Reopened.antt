@@ -1,0 +1,261 @@
+-- A coordinator that is made of an image, step by step: what the state tells of the parts, and when it can be held.
+use Rattle.std.proofs.Common.{◌≡◌, ◌≢◌, ℕ, ◌+◌, ◌-◌, ◌<◌, ◌≤◌, Bool, true, false, ◌||◌, List, [], ◌∷◌, ◌++◌, length, map, take, drop, get_or, refl, sym, ap, subst, ◌∙◌, inl, inr, ⊎_elim, Option, Some, arith}
+use Rattle.std.proofs.lemmas.Bool.{both_ways}
+use Rattle.std.proofs.lemmas.List.{append_assoc, length-append, take-append-drop, take_more}
+use Rattle.ckpt_ids.specs.Configuration.{IsWithinLimits}
+use Rattle.ckpt_ids.specs.Ordered.{AreDistinct, IsIn}
+use Rattle.ckpt_ids.specs.Records.{Record, Use, is_present, uses}
+use Rattle.ckpt_ids.specs.Shapes.{IsShape}
+use Rattle.ckpt_ids.proofs.OrderedLemmas.{AreDistinct-apart, AreDistinct-left, AreDistinct-right, IsIn-append_cases, IsIn-append_left, IsIn-append_right, IsIn-from_in_order, IsIn-in_order, IsIn-map}
+use Rattle.ckpt_outbox.specs.Queues.{Queues, is_in}
+use Rattle.ckpt_pending.specs.Acknowledging.{IsPending}
+use Rattle.ckpt_store.specs.Storing.{IsStored, Stored}
+use Rattle.ckpt_core.specs.declared.mode.Mode.{Mode}
+use Rattle.ckpt_core.specs.declared.mode.Mode.TheVariants.{Running}
+use Rattle.ckpt_core.specs.declared.parts.Parts.{Parts}
+use Rattle.ckpt_core.specs.declared.image.Saved.{Saved}
+use Rattle.ckpt_core.specs.Images.{CanHold, record_in}
+use Rattle.ckpt_core.specs.Inside.Grouped.{grouped, with_pins}
+use Rattle.ckpt_core.specs.Inside.Loading.{AreFilesApart, HasSoundNumbers, emptied, with_more_waiting}
+use Rattle.ckpt_core.specs.Inside.Parts.{opening_of, records_in, state_of}
+use Rattle.ckpt_core.specs.Inside.SoundRecords.{AreSoundRecords, Joins}
+use Rattle.ckpt_core.specs.Refusals.{is_done_savepoint}
+use Rattle.ckpt_core.specs.Soundness.{id_before}
+use Rattle.ckpt_core.specs.State.{Opening, State}
+use Rattle.ckpt_core.proofs.Ending.Drops.{groups_of}
+use Rattle.ckpt_core.proofs.Ending.Released.{IsIn-from_test}
+use Rattle.ckpt_core.proofs.Loaded.Joining.{joins_from_sound, sound_front}
+use Rattle.ckpt_core.proofs.Records.Lists.{outbox_of, sound_from}
+use Rattle.ckpt_core.proofs.Records.Lookups.{done_in}
+
+-- what the parts have of the state that they stand for
+pub record IsTold (p : Parts) (m : State) : Type 0 where
+  pub opening : opening_of p.opened ≡ m.opening
+  pub mode : p.mode ≡ m.mode
+  pub next : p.next ≡ m.next
+  pub base : p.store.base ≡ m.base
+  pub records : records_in p ≡ m.records
+  pub waiting : p.outbox.waiting ≡ m.waiting
+  pub taken : p.outbox.taken ≡ m.taken
+
+pub told : (p : Parts) (m : State) → state_of p ≡ m → IsTold p m
+unfolding state_of
+told p m e = record {
+  opening = ap (λ (s : State). s.opening) e;
+  mode = ap (λ (s : State). s.mode) e;
+  next = ap (λ (s : State). s.next) e;
+  base = ap (λ (s : State). s.base) e;
+  records = ap (λ (s : State). s.records) e;
+  waiting = ap (λ (s : State). s.waiting) e;
+  taken = ap (λ (s : State). s.taken) e;
+}
+
+-- of parts that differ in the records alone
+pub record IsBeside (p q : Parts) (rs : List Record) : Type 0 where
+  pub opening : opening_of q.opened ≡ opening_of p.opened
+  pub next : q.next ≡ p.next
+  pub base : q.store.base ≡ p.store.base
+  pub records : records_in q ≡ rs
+
+pub beside : (p q : Parts) (rs : List Record) → state_of q ≡ record (state_of p) { records = rs } → IsBeside p q rs
+unfolding state_of
+beside p q rs e = record {
+  opening = ap (λ (s : State). s.opening) e;
+  next = ap (λ (s : State). s.next) e;
+  base = ap (λ (s : State). s.base) e;
+  records = ap (λ (s : State). s.records) e;
+}
+
+pub beside_itself : (p : Parts) (rs : List Record) → records_in p ≡ rs → state_of p ≡ record (state_of p) { records = rs }
+unfolding state_of
+beside_itself p rs e = ap (λ xs. record (state_of p) { records = xs }) e
+
+pub sound_beside : {p q : Parts} {rs : List Record} → IsBeside p q rs → AreSoundRecords (opening_of p.opened) p.next rs → AreSoundRecords (opening_of q.opened) q.next (records_in q)
+sound_beside {p} {q} {rs} b s =
+    let A : Opening → Type 0 = λ o. AreSoundRecords o p.next rs in
+    let B : ℕ → Type 0 = λ n. AreSoundRecords (opening_of q.opened) n rs in
+    let C : List Record → Type 0 = λ xs. AreSoundRecords (opening_of q.opened) q.next xs in
+    subst C (sym b.records) (subst B (sym b.next) (subst A (sym b.opening) s))
+
+pub joins_beside : {p q : Parts} {rs : List Record} (r : Record) → IsBeside p q rs → Joins (opening_of q.opened) q.next (records_in q) r → Joins (opening_of p.opened) p.next rs r
+joins_beside {p} {q} {rs} r b j =
+    let A : Opening → Type 0 = λ o. Joins o p.next rs r in
+    let B : ℕ → Type 0 = λ n. Joins (opening_of q.opened) n rs r in
+    let C : List Record → Type 0 = λ xs. Joins (opening_of q.opened) q.next xs r in
+    subst A b.opening (subst B b.next (subst C b.records j))
+
+pub joins_before : {p q : Parts} {rs : List Record} (r : Record) → IsBeside p q rs → Joins (opening_of p.opened) p.next rs r → Joins (opening_of q.opened) q.next (records_in q) r
+joins_before {p} {q} {rs} r b j =
+    let A : Opening → Type 0 = λ o. Joins o p.next rs r in
+    let B : ℕ → Type 0 = λ n. Joins (opening_of q.opened) n rs r in
+    let C : List Record → Type 0 = λ xs. Joins (opening_of q.opened) q.next xs r in
+    subst C (sym b.records) (subst B (sym b.next) (subst A (sym b.opening) j))
+
+-- one record more
+pub more_beside : (p q n : Parts) (rs : List Record) (r : Record) → state_of q ≡ record (state_of p) { records = rs } → state_of n ≡ record (state_of q) { records = records_in q ++ r ∷ [] } → state_of n ≡ record (state_of p) { records = rs ++ r ∷ [] }
+more_beside p q n rs r e f =
+    let b : IsBeside p q rs = beside p q rs e in
+    f ∙ ap (λ (s : State). record s { records = records_in q ++ r ∷ [] }) e ∙ ap (λ xs. record (state_of p) { records = xs ++ r ∷ [] }) b.records
+
+-- each of a list's sound records joins those before it
+pub joins_in_list : {o : Opening} {next : ℕ} (xs ys : List Record) (r : Record) → AreSoundRecords o next (xs ++ r ∷ ys) → Joins o next xs r
+joins_in_list {o} {next} xs ys r s =
+    let S : List Record → Type 0 = AreSoundRecords o next in
+    joins_from_sound (sound_front (xs ++ r ∷ []) ys (subst S (split xs) s))
+  where
+    split : (zs : List Record) → zs ++ r ∷ ys ≡ (zs ++ r ∷ []) ++ ys
+    split [] = refl
+    split (z ∷ zs) = ap (λ ws. z ∷ ws) (split zs)
+
+pub no_records_sound : (o : Opening) (next : ℕ) → AreSoundRecords o next []
+no_records_sound o next = record {
+  in_order = tt;
+  from_first = λ r h. absurd h;
+  below_next = λ r h. absurd h;
+  each = λ r h. absurd h;
+  started = λ r h. absurd h;
+  retained = omega arith;
+  at_once = omega arith;
+  savepoints_to = omega arith;
+  newer = λ r s h k a b. absurd h;
+}
+
+-- when it can be held
+
+pub can_hold_from : (m : State) → HasSoundNumbers m → IsWithinLimits m.opening.config → IsShape m.shape → AreSoundRecords m.opening m.next m.records → ((id : ℕ) → m.base ≡ Some id → is_done_savepoint m id ≡ true)
+    → (m.mode ≢ Running → (r : Record) → IsIn r m.records → r.done ≡ true) → AreFilesApart (uses m.records) (m.waiting ++ m.taken) → CanHold m
+can_hold_from m n config shape records base idle files = record {
+  sound = sound_from m
+      (record { config = config; shape = shape; latest = n.moments.latest_to; first = n.first; next_from = n.next_from; next_to = n.next_to; base = base; idle = idle; failures = n.failures })
+      records (record { unused = files.unused; apart = files.apart });
+  clock = n.moments;
+}
+
+pub numbers_held : {m : State} → CanHold m → HasSoundNumbers m
+numbers_held h = record { moments = h.clock; first = h.sound.first; next_from = h.sound.next_from; next_to = h.sound.next_to; failures = h.sound.failures }
+
+pub files_held : {m : State} → CanHold m → AreFilesApart (uses m.records) (m.waiting ++ m.taken)
+files_held h = let o = outbox_of h.sound in record { unused = o.unused; apart = o.apart }
+
+-- two states with the same parts
+pub state_same : (a b : State) → a.opening ≡ b.opening → a.shape ≡ b.shape → a.mode ≡ b.mode → a.latest ≡ b.latest → a.due ≡ b.due → a.completed ≡ b.completed → a.failures ≡ b.failures → a.next ≡ b.next → a.base ≡ b.base → a.records ≡ b.records → a.waiting ≡ b.waiting → a.taken ≡ b.taken → a ≡ b
+state_same a b e_opening e_shape e_mode e_latest e_due e_completed e_failures e_next e_base e_records e_waiting e_taken =
+    ap (λ x. record a { opening = x }) e_opening
+    ∙ ap (λ x. record a { opening = b.opening; shape = x }) e_shape
+    ∙ ap (λ x. record a { opening = b.opening; shape = b.shape; mode = x }) e_mode
+    ∙ ap (λ x. record a { opening = b.opening; shape = b.shape; mode = b.mode; latest = x }) e_latest
+    ∙ ap (λ x. record a { opening = b.opening; shape = b.shape; mode = b.mode; latest = b.latest; due = x }) e_due
+    ∙ ap (λ x. record a { opening = b.opening; shape = b.shape; mode = b.mode; latest = b.latest; due = b.due; completed = x }) e_completed
+    ∙ ap (λ x. record a { opening = b.opening; shape = b.shape; mode = b.mode; latest = b.latest; due = b.due; completed = b.completed; failures = x }) e_failures
+    ∙ ap (λ x. record a { opening = b.opening; shape = b.shape; mode = b.mode; latest = b.latest; due = b.due; completed = b.completed; failures = b.failures; next = x }) e_next
+    ∙ ap (λ x. record a { opening = b.opening; shape = b.shape; mode = b.mode; latest = b.latest; due = b.due; completed = b.completed; failures = b.failures; next = b.next; base = x }) e_base
+    ∙ ap (λ x. record a { opening = b.opening; shape = b.shape; mode = b.mode; latest = b.latest; due = b.due; completed = b.completed; failures = b.failures; next = b.next; base = b.base; records = x }) e_records
+    ∙ ap (λ x. record a { opening = b.opening; shape = b.shape; mode = b.mode; latest = b.latest; due = b.due; completed = b.completed; failures = b.failures; next = b.next; base = b.base; records = b.records; waiting = x }) e_waiting
+    ∙ ap (λ x. record a { opening = b.opening; shape = b.shape; mode = b.mode; latest = b.latest; due = b.due; completed = b.completed; failures = b.failures; next = b.next; base = b.base; records = b.records; waiting = b.waiting; taken = x }) e_taken
+
+-- the base
+
+pub with_base : (p : Parts) (b : Option ℕ) → p.store.base ≡ b → state_of p ≡ record (state_of p) { base = b }
+unfolding state_of
+with_base p b e = ap (λ x. record (state_of p) { base = x }) e
+
+pub set_state : (p : Parts) (s : Stored) (b : Option ℕ) → s ≡ record p.store { base = b } → state_of (record p { store = s }) ≡ record (state_of p) { base = b }
+unfolding state_of
+set_state p s b e = ap (λ (x : Stored). state_of (record p { store = x })) e
+
+-- nothing is pending
+
+pub all_done : (p : Parts) (r : Record) → ((q : Record) → IsIn q p.pending → IsPending q) → IsStored p.store → length p.pending ≡ 0 → IsIn r (records_in p) → r.done ≡ true
+all_done p r pending stored none h =
+    let us = p.registry in
+    let rest : List Record = p.store.checkpoints ++ p.store.savepoints in
+    let empty : p.pending ≡ [] = no_items p.pending none in
+    let P : List Record → Type 0 = λ xs. IsIn r (map (with_pins us) xs ++ rest) in
+    done_in (groups_of p pending stored) r (subst P empty (IsIn-from_in_order id_before r (grouped us p.pending p.store.checkpoints p.store.savepoints) h))
+  where
+    no_items : (xs : List Record) → length xs ≡ 0 → xs ≡ []
+    no_items [] e = refl
+    no_items (x ∷ xs) e = absurd (omega arith)
+
+first_of : (xs : List Record) → (length xs ≡ 0 → ⊥) → (r : Record) × IsIn r xs
+first_of [] e = absurd (e refl)
+first_of (x ∷ xs) e = (x, inl refl)
+
+pub not_all_done : (p : Parts) → ((q : Record) → IsIn q p.pending → IsPending q) → (length p.pending ≡ 0 → ⊥) → ((r : Record) → IsIn r (records_in p) → r.done ≡ true) → ⊥
+not_all_done p pending some all =
+    let us = p.registry in
+    let q = first_of p.pending some in
+    let r : Record = with_pins us q.0 in
+    let there : IsIn r (records_in p) = IsIn-in_order id_before r (grouped us p.pending p.store.checkpoints p.store.savepoints) (IsIn-append_left r (map (with_pins us) p.pending) (p.store.checkpoints ++ p.store.savepoints) (IsIn-map (with_pins us) q.0 p.pending q.1)) in
+    both_ways r.done (pending q.0 q.1).not_done (all r there)
+
+-- the files
+
+pub apart_behind : {us : List Use} (xs ys : List ℕ) → AreFilesApart us (xs ++ ys) → AreFilesApart us ys
+apart_behind xs ys a = record { unused = λ f h. a.unused f (IsIn-append_right f xs ys h); apart = AreDistinct-right xs ys a.apart }
+
+-- a file that is known where it is put is in use, or stands twice
+pub known_twice : (us : List Use) (waiting files taken : List ℕ) (i f : ℕ) → i < length files → f ≡ get_or files i f → (is_present us f || is_in f ((waiting ++ take i files) ++ taken)) ≡ true → AreFilesApart us ((waiting ++ files) ++ taken) → ⊥
+known_twice us waiting files taken i f within at known a =
+    let rest : List ℕ = drop (i + 1) files in
+    let split : files ≡ take i files ++ f ∷ rest = sym (take-append-drop (i + 1) files) ∙ ap (λ ys. ys ++ rest) (take_more files i f within ∙ ap (λ z. take i files ++ z ∷ []) (sym at)) ∙ append_assoc (take i files) (f ∷ []) rest in
+    let P : List ℕ → Type 0 = λ xs. IsIn f xs in
+    let here : IsIn f files = subst P (sym split) (IsIn-append_right f (take i files) (f ∷ rest) (inl refl)) in
+    let there : IsIn f ((waiting ++ files) ++ taken) = IsIn-append_left f (waiting ++ files) taken (IsIn-append_right f waiting files here) in
+    let distinct : AreDistinct (waiting ++ files) = AreDistinct-left (waiting ++ files) taken a.apart in
+    let D : List ℕ → Type 0 = λ xs. AreDistinct xs in
+    let seam : AreDistinct ((waiting ++ take i files) ++ f ∷ rest) = subst D (ap (λ xs. waiting ++ xs) split ∙ sym (append_assoc waiting (take i files) (f ∷ rest))) distinct in
+    let unknown : is_in f ((waiting ++ take i files) ++ taken) ≡ true = subst (λ (b : Bool). (b || is_in f ((waiting ++ take i files) ++ taken)) ≡ true) (a.unused f there) known in
+    ⊎_elim
+    (λ (k : IsIn f (waiting ++ take i files)). AreDistinct-apart (waiting ++ take i files) (f ∷ rest) seam f k (inl refl))
+    (λ (k : IsIn f taken). AreDistinct-apart (waiting ++ files) taken a.apart f (IsIn-append_right f waiting files here) k)
+    (IsIn-append_cases f (waiting ++ take i files) taken (IsIn-from_test f ((waiting ++ take i files) ++ taken) unknown))
+
+-- one file more waits
+pub one_more_waits : (p q : Parts) (xs next : List ℕ) (f : ℕ) (o : Queues) → q ≡ with_more_waiting p xs → o ≡ record q.outbox { waiting = q.outbox.waiting ++ f ∷ []; spare = q.outbox.spare - 1 } → next ≡ xs ++ f ∷ [] → record q { outbox = o } ≡ with_more_waiting p next
+one_more_waits p q xs next f o e put is =
+    let longer : length (xs ++ f ∷ []) ≡ length xs + 1 = length-append xs (f ∷ []) in
+    let less : (p.outbox.spare - length xs) - 1 ≡ p.outbox.spare - length (xs ++ f ∷ []) = omega arith in
+    ap (λ (w : Queues). record q { outbox = w }) put
+    ∙ ap (λ (r : Parts). record r { outbox = record r.outbox { waiting = r.outbox.waiting ++ f ∷ []; spare = r.outbox.spare - 1 } }) e
+    ∙ ap (λ (w : List ℕ). record p { outbox = record p.outbox { waiting = w; spare = (p.outbox.spare - length xs) - 1 } }) (append_assoc p.outbox.waiting xs (f ∷ []))
+    ∙ ap (λ (n : ℕ). record p { outbox = record p.outbox { waiting = p.outbox.waiting ++ (xs ++ f ∷ []); spare = n } }) less
+    ∙ ap (with_more_waiting p) (sym is)
+
+pub state_files : (p q : Parts) (o : Queues) (waiting taken : List ℕ) → q ≡ record p { outbox = o } → o.waiting ≡ waiting → o.taken ≡ taken → state_of q ≡ record (state_of p) { waiting = waiting; taken = taken }
+unfolding state_of
+state_files p q o waiting taken e a b =
+    ap state_of e ∙ ap (λ (xs : List ℕ). record (state_of p) { waiting = xs; taken = o.taken }) a ∙ ap (λ (xs : List ℕ). record (state_of p) { waiting = waiting; taken = xs }) b
+
+-- the state, step by step, where the image tells m
+
+pub after_records : (m : State) (p0 p1 : Parts) (slice : List Saved) → state_of p0 ≡ emptied m → state_of p1 ≡ record (state_of p0) { records = map record_in slice } → map record_in slice ≡ m.records → state_of p1 ≡ record (emptied m) { records = m.records }
+after_records m p0 p1 slice e0 e1 same = e1 ∙ ap (λ (s : State). record s { records = map record_in slice }) e0 ∙ ap (λ (rs : List Record). record (emptied m) { records = rs }) same
+
+pub after_base : (m : State) (p1 p2 : Parts) → state_of p1 ≡ record (emptied m) { records = m.records } → state_of p2 ≡ record (state_of p1) { base = m.base } → state_of p2 ≡ record m { waiting = []; taken = [] }
+after_base m p1 p2 e1 e2 = e2 ∙ ap (λ (s : State). record s { base = m.base }) e1
+
+pub after_files : (m : State) (p2 p3 : Parts) → state_of p2 ≡ record m { waiting = []; taken = [] } → state_of p3 ≡ record (state_of p2) { waiting = m.waiting; taken = m.taken } → state_of p3 ≡ m
+after_files m p2 p3 e2 e3 = e3 ∙ ap (λ (s : State). record s { waiting = m.waiting; taken = m.taken }) e2
+
+pub records_held : (m : State) (p0 : Parts) (rs : List Record) → state_of p0 ≡ emptied m → rs ≡ m.records → AreSoundRecords m.opening m.next m.records → AreSoundRecords (opening_of p0.opened) p0.next rs
+records_held m p0 rs e0 same s =
+    let t : IsTold p0 (emptied m) = told p0 (emptied m) e0 in
+    let A : Opening → Type 0 = λ o. AreSoundRecords o m.next m.records in
+    let B : ℕ → Type 0 = λ n. AreSoundRecords (opening_of p0.opened) n m.records in
+    let D : List Record → Type 0 = λ xs. AreSoundRecords (opening_of p0.opened) p0.next xs in
+    subst D (sym same) (subst B (sym t.next) (subst A (sym t.opening) s))
+
+pub records_loaded : (m : State) (p0 : Parts) (rs : List Record) → state_of p0 ≡ emptied m → rs ≡ m.records → AreSoundRecords (opening_of p0.opened) p0.next rs → AreSoundRecords m.opening m.next m.records
+records_loaded m p0 rs e0 same s =
+    let t : IsTold p0 (emptied m) = told p0 (emptied m) e0 in
+    let A : Opening → Type 0 = λ o. AreSoundRecords o m.next m.records in
+    let B : ℕ → Type 0 = λ n. AreSoundRecords (opening_of p0.opened) n m.records in
+    let D : List Record → Type 0 = λ xs. AreSoundRecords (opening_of p0.opened) p0.next xs in
+    subst A t.opening (subst B t.next (subst D same s))
+
+pub idle_held : (m : State) (p : Parts) → IsTold p (record m { waiting = []; taken = [] }) → (m.mode ≢ Running → (r : Record) → IsIn r m.records → r.done ≡ true) → p.mode ≢ Running → (r : Record) → IsIn r (records_in p) → r.done ≡ true
+idle_held m p t idle other r h = let P : List Record → Type 0 = λ xs. IsIn r xs in idle (λ e. other (t.mode ∙ e)) r (subst P t.records h)
+
+pub idle_loaded : (m : State) (p : Parts) → IsTold p (record m { waiting = []; taken = [] }) → (p.mode ≢ Running → (r : Record) → IsIn r (records_in p) → r.done ≡ true) → m.mode ≢ Running → (r : Record) → IsIn r m.records → r.done ≡ true
+idle_loaded m p t idle other r h = let P : List Record → Type 0 = λ xs. IsIn r xs in idle (λ e. other (sym t.mode ∙ e)) r (subst P (sym t.records) h)

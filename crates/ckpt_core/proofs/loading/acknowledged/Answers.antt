@@ -1,0 +1,42 @@
+use Rattle.std.proofs.Common.{◌≡◌, ℕ, ◌+◌, ◌<◌, [], ◌∷◌, ◌++◌, List, true, false, cond, length, take, get_or, refl, sym, ap, subst, ◌∙◌, inl, inr, Err}
+use Rattle.std.proofs.lemmas.List.{take_more}
+use Rattle.std.proofs.lemmas.Bool.{both_ways}
+use Rattle.ckpt_ids.specs.declared.ack.Acked.{Acked}
+use Rattle.ckpt_ids.specs.Acknowledged.{AreInSubtaskOrder, acknowledges_before, put_ack}
+use Rattle.ckpt_ids.specs.Ordered.{IsIn}
+use Rattle.ckpt_ids.specs.Records.{Record, acknowledged}
+use Rattle.ckpt_ids.specs.Shapes.{is_subtask}
+use Rattle.ckpt_ids.proofs.OrderedLemmas.{IsIn-get_or}
+use Rattle.ckpt_pending.specs.Acknowledging.{pending_record}
+use Rattle.ckpt_core.proofs.Loaded.Uses.{before_in, take_in_order}
+use Rattle.ckpt_core.proofs.loading.acknowledged.Goals as goal
+
+-- one that is later than all goes last
+put_last : (xs : List Acked) (a : Acked) → ((b : Acked) → IsIn b xs → acknowledges_before b a ≡ true) → put_ack a xs ≡ xs ++ a ∷ []
+put_last [] a later = refl
+put_last (x ∷ xs) a later = ap (λ b. cond b (x ∷ put_ack a xs) (a ∷ x ∷ xs)) (later x (inl refl)) ∙ ap (λ ys. x ∷ ys) (put_last xs a (λ b h. later b (inr h)))
+
+pub returns-in-Err-UnknownSubtask-clause-damaged : goal.returns-in-Err-UnknownSubtask-clause-damaged
+returns-in-Err-UnknownSubtask-clause-damaged c = λ e all.
+    let items : List Acked = c.as_slice-acked-items.result.now in
+    let a : Acked = c.acked-item.result in
+    let P : Acked → Type 0 = λ b. IsIn b items in
+    let Q : List Acked → Type 0 = λ xs. IsIn a xs in
+    let there : IsIn a c.args.metadata.now.acks = subst Q c.as_slice-acked-items.ensures.acks (subst P (sym c.acked-item.is) (IsIn-get_or items c.loop-acked.acked-index a c.loop-acked-test.true)) in
+    let foreign : is_subtask c.loop-acked.pending.shape a.subtask ≡ false = c.ack.ensures.unknown.0 (c.in-Err-UnknownSubtask.is ∙ ap Err c.in-Err-UnknownSubtask.field-0-is) in
+    both_ways (is_subtask c.args.metadata.now.shape a.subtask) (ap (λ (r : Record). is_subtask r.shape a.subtask) (sym c.loop-acked.invariant) ∙ foreign) (all a there)
+
+pub loop-acked-preserved : goal.loop-acked-preserved
+loop-acked-preserved c =
+    let m = c.args.metadata.now in
+    let items : List Acked = c.as_slice-acked-items.result.now in
+    let i : ℕ = c.loop-acked.acked-index in
+    let a : Acked = c.acked-item.result in
+    let make : List Acked → Record = pending_record m.id m.kind m.shape m.started in
+    let next : take (i + 1) items ≡ take i items ++ a ∷ [] = take_more items i a c.loop-acked-test.true ∙ ap (λ z. take i items ++ z ∷ []) (sym c.acked-item.is) in
+    let order : AreInSubtaskOrder items = subst AreInSubtaskOrder (sym c.as_slice-acked-items.ensures.acks) c.as_slice-acked-items.ensures.order in
+    let front : AreInSubtaskOrder (take i items ++ a ∷ []) = subst AreInSubtaskOrder next (take_in_order items (i + 1) order) in
+    c.in-Ok.ensures.ok
+    ∙ ap (λ (r : Record). acknowledged r a.subtask c.in_ok-files.files) c.loop-acked.invariant
+    ∙ ap (λ (fs : List ℕ). make (put_ack (record { subtask = a.subtask; files = fs }) (take i items))) c.in_ok-files.ensures
+    ∙ ap make (put_last (take i items) a (λ b h. before_in (take i items) a b front h) ∙ sym next)

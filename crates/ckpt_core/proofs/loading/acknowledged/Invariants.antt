@@ -1,0 +1,6 @@
+use Rattle.std.proofs.Common.{◌≡◌, take}
+use Rattle.ckpt_pending.specs.Acknowledging.{pending_record}
+use Rattle.ckpt_core.proofs.loading.acknowledged.Given as goal
+
+abbrev pub invariant-loop-acked : goal.invariant-loop-acked
+invariant-loop-acked l = l.pending ≡ pending_record l.metadata.id l.metadata.kind l.metadata.shape l.metadata.started (take l.acked-index l.acked-items)

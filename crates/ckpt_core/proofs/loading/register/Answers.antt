@@ -1,0 +1,113 @@
+use Rattle.std.proofs.Common.{◌≡◌, ℕ, ◌+◌, ◌<◌, ◌≤◌, ◌-◌, ◌^◌, ◌++◌, ◌∷◌, [], List, length, take, get_or, refl, sym, ap, subst, ◌∙◌, arith, OnOk, Result, Ok, Err}
+use Rattle.std.proofs.lemmas.List.{append-nil, take_more, take_all}
+use Rattle.std.proofs.lemmas.Bool.{eq-eqb}
+use Rattle.ckpt_ids.specs.declared.ack.Acked.{Acked}
+use Rattle.ckpt_ids.specs.Acknowledged.{AreInSubtaskOrder}
+use Rattle.ckpt_ids.specs.Ascending.{IsAscendingSet}
+use Rattle.ckpt_ids.specs.Ordered.{IsIn, in_order_once}
+use Rattle.ckpt_ids.specs.Records.{Use, Subtask, Pin, count, use_before}
+use Rattle.ckpt_ids.proofs.OrderedLemmas.{IsIn-get_or}
+use Rattle.ckpt_registry.specs.Uses.{HasNoUse}
+use Rattle.ckpt_registry.proofs.ListLemmas.{IsEachOnce-from_ascending}
+use Rattle.ckpt_core.specs.Inside.Loading.{uses_of_acks, uses_held}
+use Rattle.ckpt_core.proofs.Using.Order.{holds}
+use Rattle.ckpt_core.proofs.Loaded.Uses.{ack_registered, count_front, in_front, pins_registered, pins_unused, subtask_unused, take_in_order}
+use Rattle.ckpt_core.proofs.loading.register.Goals as goal
+
+-- the next of a list stands behind those before
+next_of : (acks : List Acked) (i : ℕ) (a : Acked) → i < length acks → a ≡ get_or acks i a → take (i + 1) acks ≡ take i acks ++ a ∷ []
+next_of acks i a within at = take_more acks i a within ∙ ap (λ z. take i acks ++ z ∷ []) (sym at)
+
+-- and is one of it
+one_of : (acks : List Acked) (i : ℕ) (a : Acked) → i < length acks → a ≡ get_or acks i a → IsIn a acks
+one_of acks i a within at = let P : Acked → Type 0 = λ b. IsIn b acks in subst P (sym at) (IsIn-get_or acks i a within)
+
+pub loop-acked-init : goal.loop-acked-init
+loop-acked-init c = sym (append-nil c.args.registry.now)
+
+pub hold_files-requires-clause-each_once : goal.hold_files-requires-clause-each_once
+hold_files-requires-clause-each_once c =
+    let P : List Acked → Type 0 = λ xs. IsIn c.acked-item.result xs in
+    let a : Acked = c.acked-item.result in
+    IsEachOnce-from_ascending a.files (c.requires.files a (subst P c.as_slice-acked-items.ensures.acks (one_of c.as_slice-acked-items.result.now c.loop-acked.acked-index a c.loop-acked-test.true c.acked-item.is)))
+
+pub hold_files-requires-clause-below : goal.hold_files-requires-clause-below
+hold_files-requires-clause-below c = λ f h.
+    let acks : List Acked = c.as_slice-acked-items.result.now in
+    let Q : List Acked → Type 0 = λ xs. count (c.args.registry.now ++ uses_held c.args.id xs c.args.pins.now) f < 2 ^ 32 - 1 in
+    let all : Q acks = subst Q (sym c.as_slice-acked-items.ensures.acks) (c.requires.below f) in
+    let now : count c.loop-acked.registry f ≡ count (c.args.registry.now ++ uses_of_acks c.args.id (take c.loop-acked.acked-index acks)) f = ap (λ (us : List Use). count us f) c.loop-acked.invariant in
+    omega (arith, now, all, count_front f c.args.registry.now c.args.id acks c.loop-acked.acked-index c.args.pins.now)
+
+pub hold_files-requires-clause-unused : goal.hold_files-requires-clause-unused
+hold_files-requires-clause-unused c =
+    let acks : List Acked = c.as_slice-acked-items.result.now in
+    let i : ℕ = c.loop-acked.acked-index in
+    let a : Acked = c.acked-item.result in
+    let order : AreInSubtaskOrder acks = subst AreInSubtaskOrder (sym c.as_slice-acked-items.ensures.acks) c.as_slice-acked-items.ensures.order in
+    let front : AreInSubtaskOrder (take i acks ++ a ∷ []) = subst AreInSubtaskOrder (next_of acks i a c.loop-acked-test.true c.acked-item.is) (take_in_order acks (i + 1) order) in
+    let P : List Use → Type 0 = λ us. HasNoUse us c.args.id (Subtask a.subtask) in
+    subst P (sym c.loop-acked.invariant) (subtask_unused c.args.registry.now c.args.id (take i acks) a c.requires.newest front)
+
+pub loop-acked-preserved : goal.loop-acked-preserved
+loop-acked-preserved c =
+    let acks : List Acked = c.as_slice-acked-items.result.now in
+    let i : ℕ = c.loop-acked.acked-index in
+    let a : Acked = c.acked-item.result in
+    let id : ℕ = c.args.id in
+    let old : List Use = c.args.registry.now in
+    let next : take (i + 1) acks ≡ take i acks ++ a ∷ [] = next_of acks i a c.loop-acked-test.true c.acked-item.is in
+    let order : AreInSubtaskOrder acks = subst AreInSubtaskOrder (sym c.as_slice-acked-items.ensures.acks) c.as_slice-acked-items.ensures.order in
+    let front : AreInSubtaskOrder (take i acks ++ a ∷ []) = subst AreInSubtaskOrder next (take_in_order acks (i + 1) order) in
+    let sets : (b : Acked) → IsIn b (take i acks ++ a ∷ []) → IsAscendingSet b.files = λ b h.
+    let P : List Acked → Type 0 = λ xs. IsIn b xs in
+    c.requires.files b (subst P c.as_slice-acked-items.ensures.acks (in_front b acks (i + 1) (subst P (sym next) h))) in
+    c.in_ok-hold_files.ensures.ok
+    ∙ ap (λ (us : List Use). in_order_once use_before (us ++ holds id (Subtask a.subtask) a.files)) c.loop-acked.invariant
+    ∙ ack_registered old id (take i acks) a c.requires.in_order c.requires.newest front sets
+    ∙ ap (λ (xs : List Acked). old ++ uses_of_acks id xs) (sym next)
+
+-- at the end of the loop all are registered
+all_registered : (acks items : List Acked) (i : ℕ) (old now : List Use) (id : ℕ) → items ≡ acks → length items ≤ i → now ≡ old ++ uses_of_acks id (take i items) → now ≡ old ++ uses_of_acks id acks
+all_registered acks items i old now id same end e = e ∙ ap (λ (xs : List Acked). old ++ uses_of_acks id xs) (take_all i items end ∙ same)
+
+-- what holds after a success follows from what does
+on_ok : {T E : Type 0} (r : Result T E) (P Q : Type 0) → (P → Q) → OnOk r P → OnOk r Q
+on_ok (Ok x) P Q f p = f p
+on_ok (Err e) P Q f p = p
+
+pub pin_files-requires-clause-below : goal.pin_files-requires-clause-below
+pin_files-requires-clause-below c = λ f h.
+    let acks : List Acked = c.as_slice-acked-items.result.now in
+    let Q : List Acked → Type 0 = λ xs. count (c.args.registry.now ++ uses_held c.args.id xs c.args.pins.now) f < 2 ^ 32 - 1 in
+    let all : Q acks = subst Q (sym c.as_slice-acked-items.ensures.acks) (c.requires.below f) in
+    let now : count c.loop-acked.registry f ≡ count (c.args.registry.now ++ uses_of_acks c.args.id (take c.loop-acked.acked-index acks)) f = ap (λ (us : List Use). count us f) c.loop-acked.invariant in
+    omega (arith, now, all, count_front f c.args.registry.now c.args.id acks c.loop-acked.acked-index c.args.pins.now)
+
+pub pin_files-requires-clause-unpinned : goal.pin_files-requires-clause-unpinned
+pin_files-requires-clause-unpinned c =
+    let acks : List Acked = c.as_slice-acked-items.result.now in
+    let P : List Use → Type 0 = λ us. HasNoUse us c.args.id Pin in
+    subst P (sym c.loop-acked.invariant) (pins_unused c.args.registry.now c.args.id (take c.loop-acked.acked-index acks) c.requires.newest)
+
+pub returns : goal.returns
+returns c =
+    let id : ℕ = c.args.id in
+    let old : List Use = c.args.registry.now in
+    let acks : List Acked = c.args.acks.now in
+    let pins : List ℕ = c.args.pins.now in
+    let now : c.loop-acked.registry ≡ old ++ uses_of_acks id acks = all_registered acks c.as_slice-acked-items.result.now c.loop-acked.acked-index old c.loop-acked.registry id c.as_slice-acked-items.ensures.acks c.loop-acked-test.false c.loop-acked.invariant in
+    let after : in_order_once use_before (c.loop-acked.registry ++ holds id Pin pins) ≡ old ++ uses_held id acks pins =
+    ap (λ (us : List Use). in_order_once use_before (us ++ holds id Pin pins)) now
+    ∙ pins_registered old id acks pins c.requires.in_order c.requires.newest c.as_slice-acked-items.ensures.order c.requires.files c.requires.pins in
+    on_ok c.pin_files.result _ _ (λ (e : c.pin_files.new.self ≡ in_order_once use_before (c.loop-acked.registry ++ holds id Pin pins)). e ∙ after) c.pin_files.ensures.ok
+
+pub returns-then-is_empty : goal.returns-then-is_empty
+returns-then-is_empty c =
+    let id : ℕ = c.args.id in
+    let old : List Use = c.args.registry.now in
+    let acks : List Acked = c.args.acks.now in
+    let none : c.args.pins.now ≡ [] = c.is_empty.ensures.0 c.if-is_empty.true in
+    all_registered acks c.as_slice-acked-items.result.now c.loop-acked.acked-index old c.loop-acked.registry id c.as_slice-acked-items.ensures.acks c.loop-acked-test.false c.loop-acked.invariant
+    ∙ ap (λ (us : List Use). old ++ us) (sym (append-nil (uses_of_acks id acks)))
+    ∙ ap (λ (fs : List ℕ). old ++ uses_held id acks fs) (sym none)

@@ -1,0 +1,6 @@
+use Rattle.std.proofs.Common.{◌≡◌, ◌++◌, take}
+use Rattle.ckpt_core.specs.Inside.Loading.{uses_of_acks}
+use Rattle.ckpt_core.proofs.loading.register.Given as goal
+
+abbrev pub invariant-loop-acked : goal.invariant-loop-acked
+invariant-loop-acked l = l.registry ≡ l.initial.registry ++ uses_of_acks l.id (take l.acked-index l.acked-items)

@@ -1,0 +1,41 @@
+use Rattle.std.proofs.Common.{◌≡◌, ℕ, ◌+◌, List, [], refl, sym, ap, ◌∙◌, arith}
+use Rattle.ckpt_ids.specs.Records.{Record}
+use Rattle.ckpt_outbox.specs.Queues.{Queues}
+use Rattle.ckpt_rules.specs.FailureCount.{FailureCount}
+use Rattle.ckpt_rules.specs.Moments.{Moments}
+use Rattle.ckpt_store.specs.Storing.{Stored}
+use Rattle.ckpt_core.specs.Inside.Grouped.{records_of}
+use Rattle.ckpt_core.specs.Inside.Parts.{state_of}
+use Rattle.ckpt_core.specs.State.{Opening}
+use Rattle.ckpt_core.proofs.Loaded.Reopened.{state_same}
+use Rattle.ckpt_core.proofs.parts.Parts.begun.Goals as goal
+
+no_records : (us : _) (pending : List Record) (s : Stored) → pending ≡ [] → s.checkpoints ≡ [] → s.savepoints ≡ [] → records_of us pending s.checkpoints s.savepoints ≡ []
+no_records us pending s a b c =
+    ap (λ (rs : List Record). records_of us rs s.checkpoints s.savepoints) a
+    ∙ ap (λ (rs : List Record). records_of us [] rs s.savepoints) b
+    ∙ ap (λ (rs : List Record). records_of us [] [] rs) c
+
+counted : (before after : FailureCount) (tolerable failures : ℕ) → before ≡ record { tolerable = tolerable; number = 0 } → after ≡ record before { number = before.number + failures } → after.number ≡ failures
+counted before after tolerable failures new add =
+    let zero : before.number ≡ 0 = ap (λ (f : FailureCount). f.number) new in
+    let sum : after.number ≡ before.number + failures = ap (λ (f : FailureCount). f.number) add in
+    omega arith
+
+pub returns-clause-state : goal.returns-clause-state
+unfolding state_of
+returns-clause-state c =
+    let i = c.args.image.now in
+    state_same _ _
+    (ap (λ (s : List ℕ). record { config = i.config; shape = s; start = i.start; first = i.first }) c.in_ok-shape.ensures)
+    c.in_ok-reshaped.ensures
+    refl
+    (ap (λ (m : Moments). m.latest) c.of.ensures)
+    (ap (λ (m : Moments). m.due) c.of.ensures)
+    (ap (λ (m : Moments). m.completed) c.of.ensures)
+    (counted c.new-failures.result c.add.new.self c.tolerable.result i.failures c.new-failures.ensures c.add.ensures.number)
+    refl
+    (ap (λ (s : Stored). s.base) c.new.ensures)
+    (no_records c.keyed.result c.new-2.result c.new.result c.new-2.ensures (ap (λ (s : Stored). s.checkpoints) c.new.ensures) (ap (λ (s : Stored). s.savepoints) c.new.ensures))
+    (ap (λ (q : Queues). q.waiting) c.keyed-2.ensures)
+    (ap (λ (q : Queues). q.taken) c.keyed-2.ensures)

@@ -1,0 +1,13 @@
+use Rattle.std.proofs.Common.{◌≡◌, List, map, take}
+use Rattle.ckpt_core.specs.Images.{record_in}
+use Rattle.ckpt_core.specs.Inside.Parts.{AreTied, opening_of, state_of}
+use Rattle.ckpt_core.specs.Inside.SoundRecords.{AreSoundRecords}
+use Rattle.ckpt_core.proofs.parts.Parts.load_all.Given as goal
+
+abbrev pub invariant-loop-saved : goal.invariant-loop-saved
+invariant-loop-saved l = record {
+  state : state_of l.self ≡ record (state_of l.fn.self) { records = map record_in (take l.saved-index l.records) };
+  tied : AreTied l.self;
+  noted : l.self.ended.items ≡ l.fn.self.ended.items;
+  sound : AreSoundRecords (opening_of l.fn.self.opened) l.fn.self.next (map record_in (take l.saved-index l.records));
+}

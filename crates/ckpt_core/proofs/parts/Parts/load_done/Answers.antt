@@ -1,0 +1,82 @@
+use Rattle.std.proofs.Common.{◌≡◌, ℕ, ◌+◌, ◌<◌, ◌≤◌, ◌^◌, Bool, true, not, ◌&&◌, List, [], ◌∷◌, ◌++◌, length, OnOk, Result, Ok, Err, refl, sym, ap, subst, ◌∙◌, arith}
+use Rattle.std.specs.Prelude.{count_by}
+use Rattle.ckpt_ids.specs.declared.ack.Acked.{Acked}
+use Rattle.ckpt_ids.specs.declared.numbers.Kind.{Kind}
+use Rattle.ckpt_ids.specs.declared.numbers.Kind.TheVariants as kind
+use Rattle.ckpt_ids.specs.Ascending.{IsAscendingSet}
+use Rattle.ckpt_ids.specs.Ordered.{IsIn}
+use Rattle.ckpt_ids.specs.Records.{Record}
+use Rattle.ckpt_core.specs.declared.parts.Parts.{Parts}
+use Rattle.ckpt_core.specs.Images.{record_in}
+use Rattle.ckpt_core.specs.Inside.Moving.{with_done}
+use Rattle.ckpt_core.specs.Inside.Parts.{opening_of, records_in, state_of}
+use Rattle.ckpt_core.specs.Inside.SoundRecords.{AreSoundRecords}
+use Rattle.ckpt_core.specs.State.{is_checkpoint}
+use Rattle.ckpt_core.proofs.Ending.Drops.{groups_of}
+use Rattle.ckpt_core.proofs.Loaded.Bounds.{few_records, few_uses}
+use Rattle.ckpt_core.proofs.Loaded.Joining.{joined_records}
+use Rattle.ckpt_core.proofs.Loaded.Loads.{done_checkpoints-groups, state_done}
+use Rattle.ckpt_core.proofs.Records.GroupLookups.{is_checkpoint-kind, is_savepoint-kind, savepoints-groups}
+use Rattle.ckpt_core.proofs.parts.Parts.load_done.Goals as goal
+
+-- what holds after a success follows from what does
+on_both : {T E : Type 0} (r : Result T E) (P Q R : Type 0) → (P → Q → R) → OnOk r P → OnOk r Q → OnOk r R
+on_both (Ok x) P Q R f p q = f p q
+on_both (Err e) P Q R f p q = p
+
+pub load_checkpoint-requires-clause-fewer : goal.load_checkpoint-requires-clause-fewer
+load_checkpoint-requires-clause-fewer c =
+    let p : Parts = c.args.self.now in
+    let x : Record = c.args.done in
+    let its : x.kind ≡ kind.Checkpoint = ap (λ (r : Record). r.kind) c.requires.done ∙ c.in-Checkpoint.is in
+    let yes : (x.done && is_checkpoint x) ≡ true = ap (λ b. b && is_checkpoint x) c.id.ensures.done.is_done ∙ is_checkpoint-kind x its in
+    let counted = done_checkpoints-groups p.registry p.pending p.store.checkpoints p.store.savepoints (groups_of p c.recall.ensures.pending c.base.ensures.stored) in
+    omega (arith, counted, c.requires.joins.retained yes, c.requires.tied.retained)
+
+pub load_checkpoint-requires-clause-files : goal.load_checkpoint-requires-clause-files
+load_checkpoint-requires-clause-files c =
+    let P : Record → Type 0 = λ r. (a : Acked) → IsIn a r.acks → IsAscendingSet a.files in
+    subst P c.requires.done c.requires.joins.is_record.files
+
+pub load_checkpoint-requires-clause-few : goal.load_checkpoint-requires-clause-few
+load_checkpoint-requires-clause-few c =
+    let few = few_records (records_in c.args.self.now) c.retained.ensures.limits c.requires.sound in
+    omega (arith, few)
+
+pub load_checkpoint-requires-clause-below : goal.load_checkpoint-requires-clause-below
+load_checkpoint-requires-clause-below c = few_uses (records_in c.args.self.now ++ c.args.done ∷ []) c.retained.ensures.limits (joined_records c.requires.sound c.requires.joins)
+
+pub load_savepoint-requires-clause-fewer : goal.load_savepoint-requires-clause-fewer
+load_savepoint-requires-clause-fewer c =
+    let p : Parts = c.args.self.now in
+    let counted = savepoints-groups p.registry p.pending p.store.checkpoints p.store.savepoints (groups_of p c.recall.ensures.pending c.base.ensures.stored) in
+    omega (arith, counted, c.requires.sound.savepoints_to)
+
+pub load_savepoint-requires-clause-files : goal.load_savepoint-requires-clause-files
+load_savepoint-requires-clause-files c =
+    let P : Record → Type 0 = λ r. (a : Acked) → IsIn a r.acks → IsAscendingSet a.files in
+    subst P c.requires.done c.requires.joins.is_record.files
+
+pub load_savepoint-requires-clause-few : goal.load_savepoint-requires-clause-few
+load_savepoint-requires-clause-few c =
+    let few = few_records (records_in c.args.self.now) c.retained.ensures.limits c.requires.sound in
+    omega (arith, few)
+
+pub load_savepoint-requires-clause-below : goal.load_savepoint-requires-clause-below
+load_savepoint-requires-clause-below c = few_uses (records_in c.args.self.now ++ c.args.done ∷ []) c.retained.ensures.limits (joined_records c.requires.sound c.requires.joins)
+
+pub returns-in-Checkpoint-clause-state : goal.returns-in-Checkpoint-clause-state
+returns-in-Checkpoint-clause-state c =
+    let p : Parts = c.args.self.now in
+    let q : Parts = c.load_checkpoint.new.self in
+    on_both c.load_checkpoint.result (records_in q ≡ records_in p ++ c.args.done ∷ []) (q ≡ with_done p q) _
+    (λ all rest. state_done p q (records_in p ++ record_in c.args.saved.now ∷ []) rest (all ∙ ap (λ r. records_in p ++ r ∷ []) c.requires.done))
+    c.load_checkpoint.ensures.records c.load_checkpoint.ensures.rest
+
+pub returns-in-Savepoint-clause-state : goal.returns-in-Savepoint-clause-state
+returns-in-Savepoint-clause-state c =
+    let p : Parts = c.args.self.now in
+    let q : Parts = c.load_savepoint.new.self in
+    on_both c.load_savepoint.result (records_in q ≡ records_in p ++ c.args.done ∷ []) (q ≡ with_done p q) _
+    (λ all rest. state_done p q (records_in p ++ record_in c.args.saved.now ∷ []) rest (all ∙ ap (λ r. records_in p ++ r ∷ []) c.requires.done))
+    c.load_savepoint.ensures.records c.load_savepoint.ensures.rest

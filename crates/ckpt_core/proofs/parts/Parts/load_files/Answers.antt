@@ -1,0 +1,82 @@
+use Rattle.std.proofs.Common.{rules, ◌≡◌, ℕ, ◌+◌, ◌≤◌, false, Err, List, [], ◌∷◌, ◌++◌, length, take, drop, refl, sym, ap, subst, ◌∙◌, ⊎_elim, arith}
+use Rattle.std.proofs.lemmas.List.{append-nil, drop_all, take_all}
+use Rattle.ckpt_ids.specs.Ordered.{AreDistinct, IsIn}
+use Rattle.ckpt_ids.specs.Records.{Use, is_present}
+use Rattle.ckpt_ids.proofs.OrderedLemmas.{IsIn-append_cases}
+use Rattle.ckpt_outbox.specs.Queues.{Queues}
+use Rattle.ckpt_core.specs.declared.image.ImageFault.TheVariants.{Damaged}
+use Rattle.ckpt_core.specs.declared.parts.Parts.{Parts}
+use Rattle.ckpt_core.specs.Inside.Loading.{AreFilesApart}
+use Rattle.ckpt_core.proofs.Loaded.Reopened.{apart_behind, state_files}
+use Rattle.ckpt_core.proofs.parts.Parts.load_files.Goals as goal
+
+-- files put into the empty outbox
+alone : (waiting slice taken files : List ℕ) → waiting ≡ [] → taken ≡ [] → slice ≡ files → (waiting ++ slice) ++ taken ≡ files
+alone waiting slice taken files a b s = ap (λ (xs : List ℕ). (xs ++ slice) ++ taken) a ∙ ap (λ (xs : List ℕ). slice ++ xs) b ∙ append-nil slice ∙ s
+
+pub returns-in_err-put_back-clause-damaged : goal.returns-in_err-put_back-clause-damaged
+returns-in_err-put_back-clause-damaged c = λ h a.
+    let p : Parts = c.args.self.now in
+    let bad : c.put_back.result ≡ Err Damaged = search rules in
+    let empty : c.reserve.new.self.waiting ≡ [] = ap (λ (q : Queues). q.waiting) c.in_ok-reserve.ensures.ok ∙ c.requires.none_waits in
+    let none : c.reserve.new.self.taken ≡ [] = ap (λ (q : Queues). q.taken) c.in_ok-reserve.ensures.ok ∙ c.requires.none_taken in
+    let P : List ℕ → Type 0 = λ xs. AreFilesApart p.registry xs in
+    c.put_back.ensures.damaged bad (subst P (sym (alone c.reserve.new.self.waiting c.as_slice.result.now c.reserve.new.self.taken c.args.taken.now empty none c.as_slice.ensures.files)) (apart_behind c.args.waiting.now c.args.taken.now a))
+
+-- the queues after the fetched files were put and taken again
+after_take : (before put after : Queues) (slice files : List ℕ) (n : ℕ) → before.waiting ≡ [] → before.taken ≡ [] → slice ≡ files → n ≡ length files → put.waiting ≡ before.waiting ++ slice → put.taken ≡ before.taken
+    → after ≡ record put { waiting = drop n put.waiting; taken = put.taken ++ take n put.waiting } → (after.waiting ≡ []) × (after.taken ≡ files)
+after_take before put after slice files n none_waits none_taken same count waits takes ok =
+    let all : put.waiting ≡ files = waits ∙ ap (λ (xs : List ℕ). xs ++ slice) none_waits ∙ same in
+    let none : put.taken ≡ [] = takes ∙ none_taken in
+    let le : length files ≤ n = omega arith in (
+      ap (λ (q : Queues). q.waiting) ok ∙ ap (drop n) all ∙ drop_all n files le,
+      ap (λ (q : Queues). q.taken) ok ∙ ap (λ (xs : List ℕ). xs ++ take n put.waiting) none ∙ ap (take n) all ∙ take_all n files le,
+    )
+
+pub returns-clause-state : goal.returns-clause-state
+returns-clause-state c =
+    let p : Parts = c.args.self.now in
+    let p2 : Parts = c.put_back.new.self in
+    let p5 : Parts = c.put_back-2.new.self in
+    let w : Parts → List ℕ = λ r. r.outbox.waiting in
+    let t : Parts → List ℕ = λ r. r.outbox.taken in
+    let mid = after_take c.reserve.new.self p2.outbox c.take.new.self c.as_slice.result.now c.args.taken.now c.len-2.result
+    (ap (λ (q : Queues). q.waiting) c.in_ok-reserve.ensures.ok ∙ c.requires.none_waits) (ap (λ (q : Queues). q.taken) c.in_ok-reserve.ensures.ok ∙ c.requires.none_taken)
+    c.as_slice.ensures.files c.len-2.ensures (ap w c.in_ok-put_back.ensures.parts) (ap t c.in_ok-put_back.ensures.parts) c.in_ok-take.ensures.ok in
+    let waits : p5.outbox.waiting ≡ c.args.waiting.now =
+    ap w c.in_ok-put_back-2.ensures.parts ∙ ap (λ (q : Queues). q.waiting ++ c.as_slice-2.result.now) c.in_ok-reserve-2.ensures.ok ∙ ap (λ (xs : List ℕ). xs ++ c.as_slice-2.result.now) mid.0 ∙ c.as_slice-2.ensures in
+    let takes : p5.outbox.taken ≡ c.args.taken.now = ap t c.in_ok-put_back-2.ensures.parts ∙ ap (λ (q : Queues). q.taken) c.in_ok-reserve-2.ensures.ok ∙ mid.1 in
+    let o : Queues = c.make_room_for_files.new.self.outbox in
+    let frame : c.make_room_for_files.new.self ≡ record p { outbox = o } =
+    c.in_ok-make_room_for_files.ensures.ok
+    ∙ ap (λ (x : Queues). record p5 { outbox = x }) (ap (λ (r : Parts). r.outbox) (sym c.in_ok-make_room_for_files.ensures.ok))
+    ∙ ap (λ (r : Parts). record r { outbox = o }) c.in_ok-put_back-2.ensures.parts
+    ∙ ap (λ (r : Parts). record r { outbox = o }) c.in_ok-put_back.ensures.parts in
+    state_files p c.make_room_for_files.new.self o c.args.waiting.now c.args.taken.now frame (ap w c.in_ok-make_room_for_files.ensures.ok ∙ waits) (ap t c.in_ok-make_room_for_files.ensures.ok ∙ takes)
+
+pub returns-clause-apart : goal.returns-clause-apart
+returns-clause-apart c =
+    let p : Parts = c.args.self.now in
+    let p2 : Parts = c.put_back.new.self in
+    let p5 : Parts = c.put_back-2.new.self in
+    let w : Parts → List ℕ = λ r. r.outbox.waiting in
+    let t : Parts → List ℕ = λ r. r.outbox.taken in
+    let mid = after_take c.reserve.new.self p2.outbox c.take.new.self c.as_slice.result.now c.args.taken.now c.len-2.result
+    (ap (λ (q : Queues). q.waiting) c.in_ok-reserve.ensures.ok ∙ c.requires.none_waits) (ap (λ (q : Queues). q.taken) c.in_ok-reserve.ensures.ok ∙ c.requires.none_taken)
+    c.as_slice.ensures.files c.len-2.ensures (ap w c.in_ok-put_back.ensures.parts) (ap t c.in_ok-put_back.ensures.parts) c.in_ok-take.ensures.ok in
+    let waits : p5.outbox.waiting ≡ c.args.waiting.now =
+    ap w c.in_ok-put_back-2.ensures.parts ∙ ap (λ (q : Queues). q.waiting ++ c.as_slice-2.result.now) c.in_ok-reserve-2.ensures.ok ∙ ap (λ (xs : List ℕ). xs ++ c.as_slice-2.result.now) mid.0 ∙ c.as_slice-2.ensures in
+    let takes : p5.outbox.taken ≡ c.args.taken.now = ap t c.in_ok-put_back-2.ensures.parts ∙ ap (λ (q : Queues). q.taken) c.in_ok-reserve-2.ensures.ok ∙ mid.1 in
+    let same : p2.registry ≡ p.registry = ap (λ (r : Parts). r.registry) c.in_ok-put_back.ensures.parts in
+    let D : List ℕ → Type 0 = λ xs. AreDistinct xs in
+    record {
+      unused = λ f h.
+          let P : List ℕ → Type 0 = λ xs. IsIn f xs in
+          let U : List Use → Type 0 = λ us. is_present us f ≡ false in
+          ⊎_elim
+          (λ (k : IsIn f c.args.waiting.now). subst U same (c.in_ok-put_back-2.ensures.unused f (subst P (sym c.as_slice-2.ensures) k)))
+          (λ (k : IsIn f c.args.taken.now). c.in_ok-put_back.ensures.unused f (subst P (sym c.as_slice.ensures.files) k))
+          (IsIn-append_cases f c.args.waiting.now c.args.taken.now h);
+      apart = subst D (ap (λ (xs : List ℕ). xs ++ p5.outbox.taken) waits ∙ ap (λ (xs : List ℕ). c.args.waiting.now ++ xs) takes) c.in_ok-put_back-2.ensures.apart;
+    }

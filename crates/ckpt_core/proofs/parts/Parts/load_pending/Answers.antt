@@ -1,0 +1,92 @@
+use Rattle.std.proofs.Common.{◌≡◌, ℕ, ◌+◌, ◌<◌, ◌≤◌, ◌^◌, ◌-◌, max, [], ◌∷◌, ◌++◌, List, length, map, OnOk, Result, Ok, Err, refl, sym, ap, subst, ◌∙◌, arith}
+use Rattle.std.specs.Vec.{vec_capacity}
+use Rattle.ckpt_ids.specs.declared.ack.Acked.{Acked}
+use Rattle.ckpt_ids.specs.Ordered.{IsIn}
+use Rattle.ckpt_ids.specs.Records.{Record, Use, count, uses}
+use Rattle.ckpt_ids.proofs.OrderedLemmas.{IsIn-append_left, IsIn-in_order, IsIn-map}
+use Rattle.ckpt_core.specs.declared.parts.Parts.{Parts}
+use Rattle.ckpt_core.specs.Inside.Grouped.{grouped, with_pins}
+use Rattle.ckpt_core.specs.Inside.Loading.{uses_held}
+use Rattle.ckpt_core.specs.Inside.Moving.{with_room}
+use Rattle.ckpt_core.specs.Inside.Parts.{AreTied, present_in, records_in}
+use Rattle.ckpt_core.specs.Soundness.{id_before}
+use Rattle.ckpt_core.proofs.Loaded.Groups.{HasMore, older_uses, records-more, tied-more, uses-loaded}
+use Rattle.ckpt_core.proofs.parts.Parts.load_pending.Goals as goal
+
+-- what holds after a success follows from what does
+on_ok : {T E : Type 0} (r : Result T E) (P Q : Type 0) → (P → Q) → OnOk r P → OnOk r Q
+on_ok (Ok x) P Q f p = f p
+on_ok (Err e) P Q f p = p
+
+pub register-requires-clause-newest : goal.register-requires-clause-newest
+register-requires-clause-newest c = λ u h.
+    let p : Parts = c.args.self.now in
+    let same : c.make_room.new.self.registry ≡ p.registry = ap (λ (q : Parts). q.registry) c.in_ok-make_room.ensures.parts in
+    let P : List Use → Type 0 = λ us. IsIn u us in
+    omega (arith, c.id.ensures.value, older_uses p.registry (records_in p) c.args.pending.id c.requires.tied.uses_are c.requires.newest u (subst P same h))
+
+pub register-requires-clause-below : goal.register-requires-clause-below
+register-requires-clause-below c = λ f.
+    let p : Parts = c.args.self.now in
+    let rs : List Record = records_in p in
+    let pins : List ℕ = c.args.pins.now in
+    let x : Record = record c.args.pending { pins = pins } in
+    let same : c.make_room.new.self.registry ≡ uses rs = ap (λ (q : Parts). q.registry) c.in_ok-make_room.ensures.parts ∙ c.requires.tied.uses_are in
+    let all : c.make_room.new.self.registry ++ uses_held c.id.result c.args.acks.now pins ≡ uses (rs ++ x ∷ []) =
+    ap (λ (us : List Use). us ++ uses_held c.id.result c.args.acks.now pins) same
+    ∙ ap (λ (id : ℕ). uses rs ++ uses_held id c.args.acks.now pins) c.id.ensures.value
+    ∙ ap (λ (acks : List Acked). uses rs ++ uses_held c.args.pending.id acks pins) c.requires.acks
+    ∙ sym (uses-loaded rs x) in
+    let P : List Use → Type 0 = λ us. count us f < 2 ^ 32 - 1 in
+    subst P (sym all) (c.requires.below f)
+
+pub add-requires : goal.add-requires
+add-requires c = record {
+  newest = λ r h.
+      let p : Parts = c.args.self.now in
+      let same : c.make_room.new.self.pending ≡ p.pending = ap (λ (q : Parts). q.pending) c.in_ok-make_room.ensures.parts in
+      let P : List Record → Type 0 = λ rs. IsIn r rs in
+      let it : Record = with_pins p.registry r in
+      c.requires.newest it (IsIn-in_order id_before it (grouped p.registry p.pending p.store.checkpoints p.store.savepoints)
+      (IsIn-append_left it (map (with_pins p.registry) p.pending) (p.store.checkpoints ++ p.store.savepoints) (IsIn-map (with_pins p.registry) r p.pending (subst P same h))));
+}
+
+-- room was made, then the uses and the record were added, then room for the files
+has_more : (p made after q : Parts) (x : Record) (id : ℕ) (acks : List Acked) (files : List ℕ)
+    → made ≡ record p { ended = made.ended } → length (records_in p) + 1 ≤ vec_capacity made.ended → id ≡ x.id → acks ≡ x.acks
+    → after.registry ≡ made.registry ++ uses_held id acks files → after.pending ≡ made.pending ++ x ∷ [] → after.store ≡ made.store → after.opened ≡ made.opened → after.failures ≡ made.failures → after.ended ≡ made.ended
+    → q ≡ with_room after 0 → HasMore p q x files
+has_more p made after q x id acks files parts room its_id its_acks registry pending store opened failures ended ok =
+    let same : q.registry ≡ after.registry = ap (λ (s : Parts). s.registry) ok in
+    let present : present_in q.registry ≡ present_in after.registry = ap present_in same in
+    let spare : q.outbox.spare ≡ max (present_in after.registry + 0) after.outbox.spare = ap (λ (s : Parts). s.outbox.spare) ok in
+    let capacity : vec_capacity q.ended ≡ vec_capacity made.ended = ap (λ (s : Parts). vec_capacity s.ended) ok ∙ ap (λ v. vec_capacity v) ended in
+    record {
+      registry = same ∙ registry ∙ ap (λ (s : Parts). s.registry ++ uses_held id acks files) parts ∙ ap (λ i. p.registry ++ uses_held i acks files) its_id ∙ ap (λ a. p.registry ++ uses_held x.id a files) its_acks;
+      pending = ap (λ (s : Parts). s.pending) ok ∙ pending ∙ ap (λ (s : Parts). s.pending ++ x ∷ []) parts;
+      store = ap (λ (s : Parts). s.store) ok ∙ store ∙ ap (λ (s : Parts). s.store) parts;
+      opened = ap (λ (s : Parts). s.opened) ok ∙ opened ∙ ap (λ (s : Parts). s.opened) parts;
+      failures = ap (λ (s : Parts). s.failures) ok ∙ failures ∙ ap (λ (s : Parts). s.failures) parts;
+      spare = omega (arith, present, spare);
+      room = omega (arith, capacity, room);
+    }
+
+pub returns-clause-records : goal.returns-clause-records
+returns-clause-records c =
+    let p : Parts = c.args.self.now in
+    let made : Parts = c.make_room.new.self in
+    let after : Parts = record made { pending = c.add.new.self; registry = c.register.new.registry } in
+    on_ok c.make_room_for_files.result (c.make_room_for_files.new.self ≡ with_room after 0) _
+    (λ ok. records-more c.requires.tied c.requires.newest (has_more p made after c.make_room_for_files.new.self c.args.pending c.id.result c.args.acks.now c.args.pins.now
+    c.in_ok-make_room.ensures.parts c.in_ok-make_room.ensures.room c.id.ensures.value c.requires.acks c.in_ok-register.ensures c.in_ok-add.ensures.ok refl refl refl refl ok))
+    c.make_room_for_files.ensures.ok
+
+pub returns-clause-tied : goal.returns-clause-tied
+returns-clause-tied c =
+    let p : Parts = c.args.self.now in
+    let made : Parts = c.make_room.new.self in
+    let after : Parts = record made { pending = c.add.new.self; registry = c.register.new.registry } in
+    on_ok c.make_room_for_files.result (c.make_room_for_files.new.self ≡ with_room after 0) _
+    (λ ok. tied-more c.requires.tied c.requires.newest (has_more p made after c.make_room_for_files.new.self c.args.pending c.id.result c.args.acks.now c.args.pins.now
+    c.in_ok-make_room.ensures.parts c.in_ok-make_room.ensures.room c.id.ensures.value c.requires.acks c.in_ok-register.ensures c.in_ok-add.ensures.ok refl refl refl refl ok))
+    c.make_room_for_files.ensures.ok

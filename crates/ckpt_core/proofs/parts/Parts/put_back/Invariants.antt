@@ -1,0 +1,11 @@
+use Rattle.std.proofs.Common.{◌≡◌, ℕ, ◌-◌, ◌<◌, false, List, ◌++◌, take, length}
+use Rattle.ckpt_ids.specs.Ordered.{IsIn}
+use Rattle.ckpt_ids.specs.Records.{is_present}
+use Rattle.ckpt_core.specs.Inside.Loading.{with_more_waiting}
+use Rattle.ckpt_core.proofs.parts.Parts.put_back.Given as goal
+
+abbrev pub invariant-loop-file : goal.invariant-loop-file
+invariant-loop-file l = record {
+  parts : l.self ≡ with_more_waiting l.fn.self (take l.file-index l.files);
+  unused : (f : ℕ) → IsIn f (take l.file-index l.files) → is_present l.fn.self.registry f ≡ false;
+}

@@ -1,0 +1,16 @@
+use Rattle.std.proofs.Common.{◌≡◌, sym}
+use Rattle.ckpt_core.specs.declared.parts.Parts.{Parts}
+use Rattle.ckpt_core.specs.Inside.Parts.{state_of}
+use Rattle.ckpt_core.specs.State.{record_of}
+use Rattle.ckpt_core.proofs.Loaded.Saving.{looked_up, saved_record}
+use Rattle.ckpt_core.proofs.Reading.Live.{live_in_order}
+use Rattle.ckpt_core.proofs.parts.Parts.save.Goals as goal
+
+pub metadata-requires-clause-in_order : goal.metadata-requires-clause-in_order
+metadata-requires-clause-in_order c = live_in_order c.args.self.now c.requires.sound
+
+pub returns : goal.returns
+returns c = λ r e done.
+    let p : Parts = c.args.self.now in
+    let k = looked_up p r c.args.id e in
+    saved_record r c.in_ok-metadata.metadata (record_of (state_of p) c.args.id) c.in_ok-pins.pins e c.in_ok-metadata.ensures (c.in_ok-pins.ensures r k.0 k.1 (sym done))

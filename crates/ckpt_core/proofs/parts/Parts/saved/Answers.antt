@@ -1,0 +1,76 @@
+use Rattle.std.proofs.Common.{◌≡◌, ℕ, ◌+◌, ◌-◌, ◌<◌, ◌≤◌, ◌^◌, Some, None, List, [], ◌∷◌, ◌++◌, map, take, refl, sym, ap, subst, ◌∙◌, arith}
+use Rattle.std.specs.Prelude.{count_by, find}
+use Rattle.std.specs.Option.{option_map}
+use Rattle.std.proofs.lemmas.List.{map-append}
+use Rattle.ckpt_ids.specs.Ordered.{IsInOrder}
+use Rattle.ckpt_ids.specs.Records.{Record}
+use Rattle.ckpt_core.specs.declared.image.Saved.{Saved}
+use Rattle.ckpt_core.specs.declared.parts.Parts.{Parts}
+use Rattle.ckpt_core.specs.declared.queries.Live.{Live}
+use Rattle.ckpt_core.specs.Images.{record_in}
+use Rattle.ckpt_core.specs.Inside.Parts.{records_in, state_of}
+use Rattle.ckpt_core.specs.Reads.{live_of}
+use Rattle.ckpt_core.specs.Soundness.{id_before}
+use Rattle.ckpt_core.specs.State.{record_of}
+use Rattle.ckpt_core.proofs.Loaded.Saving.{found_from, found_next, saved_all, saved_next, some_there}
+use Rattle.ckpt_core.proofs.Reading.Live.{is_below, is_from, live_bound, live_in_order, none_below_zero}
+use Rattle.ckpt_core.proofs.parts.Parts.saved.Goals as goal
+
+pub first_from-requires : goal.first_from-requires
+first_from-requires c = live_in_order c.args.self.now c.requires
+
+pub loop-live-init : goal.loop-live-init
+loop-live-init c =
+    let rs : List Record = records_in c.args.self.now in
+    record {
+      saved = ap (map record_in) c.new-saved.ensures.items ∙ sym (ap (λ (k : ℕ). take k rs) (none_below_zero rs));
+      bound = omega arith;
+    }
+
+pub save-requires-clause-there : goal.save-requires-clause-there
+save-requires-clause-there c =
+    let p : Parts = c.args.self.now in
+    let live : Live = c.in-Some.live in
+    let q = found_next p c.loop-live.lowest live c.requires (sym c.in-Some.is ∙ c.first_from.ensures) in
+    some_there (record_of (state_of p) live.id) q.0 q.1
+
+pub number_after-lowest-requires : goal.number_after-lowest-requires
+number_after-lowest-requires c = live_bound c.args.self.now c.loop-live.lowest c.in-Some.live c.requires.sound (sym c.in-Some.is ∙ c.first_from.ensures)
+
+pub loop-live-preserved : goal.loop-live-preserved
+loop-live-preserved c =
+    let p : Parts = c.args.self.now in
+    let rs : List Record = records_in p in
+    let n : ℕ = c.loop-live.lowest in
+    let live : Live = c.in-Some.live in
+    let q = found_next p n live c.requires (sym c.in-Some.is ∙ c.first_from.ensures) in
+    let r : Record = q.0 in
+    let one : record_in c.in_ok-one.one ≡ r = c.in_ok-one.ensures r q.1 q.2 in
+    let end : live.id < 2 ^ 62 = live_bound p n live c.requires.sound (sym c.in-Some.is ∙ c.first_from.ensures) in
+    let next : c.number_after-lowest.result ≡ r.id + 1 = c.number_after-lowest.ensures ∙ ap (λ (i : ℕ). i + 1) q.4 in
+    record {
+      saved = ap (map record_in) c.in_ok-push.ensures.items
+          ∙ map-append record_in c.loop-live.saved.items (c.in_ok-one.one ∷ [])
+          ∙ ap (λ (xs : List Record). xs ++ record_in c.in_ok-one.one ∷ []) c.loop-live.invariant.saved
+          ∙ ap (λ (x : Record). take (count_by (is_below n) rs) rs ++ x ∷ []) one
+          ∙ sym (saved_next rs n r (live_in_order p c.requires) q.3)
+          ∙ sym (ap (λ (i : ℕ). take (count_by (is_below i) rs) rs) next);
+      bound = omega (arith, end, c.number_after-lowest.ensures);
+    }
+
+pub loop-live-smaller : goal.loop-live-smaller
+loop-live-smaller c =
+    let p : Parts = c.args.self.now in
+    let n : ℕ = c.loop-live.lowest in
+    let live : Live = c.in-Some.live in
+    let q = found_next p n live c.requires (sym c.in-Some.is ∙ c.first_from.ensures) in
+    let end : live.id < 2 ^ 62 = live_bound p n live c.requires.sound (sym c.in-Some.is ∙ c.first_from.ensures) in
+    let low : n ≤ q.0.id = found_from (records_in p) n q.0 q.3 in
+    let its : live.id ≡ q.0.id = q.4 in
+    omega (arith, end, low, its, c.number_after-lowest.ensures)
+
+pub returns : goal.returns
+returns c =
+    let p : Parts = c.args.self.now in
+    let none : None ≡ option_map live_of (find (is_from c.loop-live.lowest) (records_in p)) = sym c.in_default.is ∙ c.first_from.ensures in
+    c.loop-live.invariant.saved ∙ saved_all (records_in p) c.loop-live.lowest (live_in_order p c.requires) none

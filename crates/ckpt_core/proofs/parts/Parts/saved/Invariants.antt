@@ -1,0 +1,14 @@
+use Rattle.std.proofs.Common.{◌≡◌, ℕ, ◌-◌, ◌≤◌, ◌^◌, map, nat_lt, take}
+use Rattle.std.specs.Prelude.{count_by}
+use Rattle.ckpt_core.specs.Images.{record_in}
+use Rattle.ckpt_core.specs.Inside.Parts.{records_in}
+use Rattle.ckpt_core.proofs.parts.Parts.saved.Given as goal
+
+abbrev pub invariant-loop-live : goal.invariant-loop-live
+invariant-loop-live l = record {
+  saved : map record_in l.saved.items ≡ take (count_by (λ r. nat_lt r.id l.lowest) (records_in l.self)) (records_in l.self);
+  bound : l.lowest ≤ 2 ^ 62;
+}
+
+abbrev pub decreases-loop-live : goal.decreases-loop-live
+decreases-loop-live l = 2 ^ 62 - l.lowest

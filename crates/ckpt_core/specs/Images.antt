@@ -1,0 +1,55 @@
+-- What an image tells of a state: all but the order of the files that were fetched, which no call tells.
+use Rattle.std.specs.Prelude.{◌≡◌, List, ◌++◌, map}
+use Rattle.ckpt_ids.specs.declared.call.Call.{Call}
+use Rattle.ckpt_ids.specs.Ascending.{ascending}
+use Rattle.ckpt_ids.specs.Records.{Record}
+use Rattle.ckpt_rules.specs.Moments.{IsInRange}
+use Rattle.ckpt_core.specs.declared.image.Image.{Image}
+use Rattle.ckpt_core.specs.declared.image.Saved.{Saved}
+use Rattle.ckpt_core.specs.State.{State}
+use Rattle.ckpt_core.specs.Histories.{replay, answers}
+use Rattle.ckpt_core.specs.Soundness.{IsSound}
+
+-- the record that is saved so
+abbrev pub record_in : Saved → Record
+record_in s = record { id = s.metadata.id; kind = s.metadata.kind; done = s.metadata.done; shape = s.metadata.shape; started = s.metadata.started; acks = s.metadata.acks; pins = s.pins }
+
+-- the state that an image tells
+abbrev pub state_in : Image → State
+state_in i = record {
+  opening = record { config = i.config; shape = i.first_shape; start = i.start; first = i.first };
+  shape = i.shape;
+  mode = i.mode;
+  latest = i.latest;
+  due = i.due;
+  completed = i.completed;
+  failures = i.failures;
+  next = i.next;
+  base = i.base;
+  records = map record_in i.records.items;
+  waiting = i.waiting;
+  taken = i.taken;
+}
+
+-- the state with the fetched files in ascending order
+abbrev pub settled : State → State
+settled m = record m { taken = ascending m.taken }
+
+-- the two differ in that order alone
+abbrev pub AreAlike : State → State → Type 0
+AreAlike m n = settled m ≡ settled n
+
+-- both answer these calls the same, and are alike after them
+pub record GoesOnAs (m n : State) (calls : List Call) : Type 0 where
+  pub answers : answers m calls ≡ answers n calls
+  pub state : AreAlike (replay m calls) (replay n calls)
+
+-- a state that a coordinator can be in: sound, and its moments have their place in the clock
+pub record CanHold (m : State) : Type 0 where
+  pub sound : IsSound m
+  pub clock : IsInRange (record { latest = m.latest; due = m.due; completed = m.completed })
+
+-- What a log tells is told by its first calls, their image, and the calls after it: the answers of all, and a state that is alike.
+pub record IsCut (m : State) (before after : List Call) : Type 0 where
+  pub answers : answers m (before ++ after) ≡ answers m before ++ answers (settled (replay m before)) after
+  pub state : AreAlike (replay m (before ++ after)) (replay (settled (replay m before)) after)

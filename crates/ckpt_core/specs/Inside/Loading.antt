@@ -1,0 +1,51 @@
+-- What is made again of an image, record by record.
+use Rattle.std.specs.Prelude.{◌≡◌, ℕ, ◌≤◌, ◌-◌, false, List, [], ◌++◌, length, None}
+use Rattle.std.specs.List.{flat_map}
+use Rattle.ckpt_ids.specs.declared.ack.Acked.{Acked}
+use Rattle.ckpt_ids.specs.declared.limits.TheConstants.{NUMBERS_END}
+use Rattle.ckpt_ids.specs.Ordered.{AreDistinct, IsIn}
+use Rattle.ckpt_ids.specs.Records.{Record, Use, Subtask, Pin, is_present}
+use Rattle.ckpt_pending.specs.Acknowledging.{pending_record}
+use Rattle.ckpt_registry.specs.Uses.{triples}
+use Rattle.ckpt_rules.specs.Moments.{IsInRange}
+use Rattle.ckpt_core.specs.declared.image.Saved.{Saved}
+use Rattle.ckpt_core.specs.declared.mode.Mode.TheVariants.{Running}
+use Rattle.ckpt_core.specs.declared.parts.Parts.{Parts}
+use Rattle.ckpt_core.specs.State.{State}
+
+-- the uses by these acknowledgements of a record
+abbrev pub uses_of_acks : ℕ → List Acked → List Use
+uses_of_acks id acks = flat_map (λ a. triples id (Subtask a.subtask) a.files) acks
+
+-- those by its pins too
+abbrev pub uses_held : ℕ → List Acked → List ℕ → List Use
+uses_held id acks pins = uses_of_acks id acks ++ triples id Pin pins
+
+-- the pending record that has the acknowledgements of a saved one
+abbrev pub IsMade : Record → Saved → Type 0
+IsMade r s = r ≡ pending_record s.metadata.id s.metadata.kind s.metadata.shape s.metadata.started s.metadata.acks
+
+-- the clock has room for the moments
+abbrev pub HasSoundMoments : State → Type 0
+HasSoundMoments m = IsInRange (record { latest = m.latest; due = m.due; completed = m.completed })
+
+-- what is tested of a state beside its records, its base and its files
+pub record HasSoundNumbers (m : State) : Type 0 where
+  pub moments : HasSoundMoments m
+  pub first : 1 ≤ m.opening.first
+  pub next_from : m.opening.first ≤ m.next
+  pub next_to : m.next ≤ NUMBERS_END
+  pub failures : m.mode ≡ Running → m.failures ≤ m.opening.config.tolerable
+
+-- the state without these
+abbrev pub emptied : State → State
+emptied m = record m { base = None; records = []; waiting = []; taken = [] }
+
+-- none of these files is in use, and none stands twice
+pub record AreFilesApart (us : List Use) (files : List ℕ) : Type 0 where
+  pub unused : (f : ℕ) → IsIn f files → is_present us f ≡ false
+  pub apart : AreDistinct files
+
+-- these files wait too, in places that were reserved
+abbrev pub with_more_waiting : Parts → List ℕ → Parts
+with_more_waiting p files = record p { outbox = record p.outbox { waiting = p.outbox.waiting ++ files; spare = p.outbox.spare - length files } }

@@ -1,0 +1,335 @@
+//! A coordinator made again of what an image tells.
+
+ghost use Rattle.std.specs.Prelude.{◌≡◌, ◌↔◌, ℕ, List, ◌<◌, ◌≤◌, ◌^◌, ◌-◌, ◌+◌, [], ◌∷◌, ◌++◌, true, false, map, length, Err, None, IfOk, OnOk, IsTrue};
+ghost use Rattle.ckpt_ids.specs.declared.ack.Acked.{Acked};
+ghost use Rattle.ckpt_ids.specs.declared.numbers.Kind.TheVariants as kind;
+ghost use Rattle.ckpt_ids.specs.Ascending.{IsAscendingSet};
+ghost use Rattle.ckpt_ids.specs.Ordered.{IsIn, IsInOrder};
+ghost use Rattle.ckpt_ids.specs.Records.{Record, Use, count, use_before, uses};
+ghost use Rattle.ckpt_ids.specs.Shapes.{is_subtask};
+ghost use Rattle.ckpt_pending.specs.Acknowledging.{pending_record};
+ghost use Rattle.ckpt_core.specs.Images.{record_in};
+ghost use Rattle.ckpt_core.specs.Inside.Loading.{IsMade, uses_held};
+ghost use Rattle.ckpt_core.specs.Inside.Moving.{with_done};
+ghost use Rattle.ckpt_core.specs.Inside.Parts.{AreTied, opening_of, records_in, state_of};
+ghost use Rattle.ckpt_core.specs.Soundness.{IsRecord};
+ghost use Rattle.ckpt_core.specs.State.{Opening};
+ghost use Rattle.ckpt_core.specs.Inside.SoundRecords.{AreSoundRecords, HasRoom, Joins, NamesEachOnce};
+
+use crate::image::{ImageFault, Saved};
+use crate::parts::Parts;
+use crate::refusals::repeats;
+use ckpt_ids::{Acks, CheckpointId, Files, Kind, MOMENTS_END, MOST_SAVEPOINTS, Metadata};
+use ckpt_pending::{AckFault, Done, Pending};
+use ckpt_registry::Registry;
+use ckpt_rules::limit_of;
+use std::alloc::{AllocError, Global};
+
+/// Adds the uses of a record that is newer than all that have some. Fails only for want of memory.
+pub(crate) fn register(
+    registry: &mut Registry,
+    id: CheckpointId,
+    acks: &Acks,
+    pins: &Files,
+) -> Result<(), AllocError>
+    requires in_order { IsInOrder use_before registry.old }
+    requires newest { (u : Use) → IsIn u registry.old → u.id < id }
+    requires files { (a : Acked) → IsIn a acks.now → IsAscendingSet a.files }
+    requires pins { IsAscendingSet pins.now }
+    requires below { (f : ℕ) → count (registry.old ++ uses_held id acks.now pins.now) f < 2 ^ 32 - 1 }
+    ensures { OnOk result (registry.new ≡ registry.old ++ uses_held id acks.now pins.now) }
+{
+    for acked in acks.as_slice() {
+        registry.hold_files(id, acked.subtask, &acked.files)?;
+    }
+    if pins.is_empty() {
+        return Ok(());
+    }
+    registry.pin_files(id, pins)
+}
+
+/// The record with its acknowledgements, as if it were pending.
+pub(crate) fn acknowledged(alloc: Global, metadata: &Metadata) -> Result<Pending, ImageFault>
+    ensures ok { IfOk result (λ made. made ≡ pending_record metadata.now.id metadata.now.kind metadata.now.shape metadata.now.started metadata.now.acks) }
+    ensures damaged { result ≡ Err ImageFault.Damaged → ((a : Acked) → IsIn a metadata.now.acks → is_subtask metadata.now.shape a.subtask ≡ true) → ⊥ }
+{
+    let shape = metadata.shape.copy()?;
+    let mut pending = Pending::new(alloc, metadata.id, metadata.kind, shape, metadata.started);
+    for acked in metadata.acks.as_slice() {
+        let files = acked.files.copy()?;
+        match pending.ack(acked.subtask, files) {
+            Ok(()) => {}
+            Err(AckFault::UnknownSubtask) => return Err(ImageFault::Damaged),
+            // In subtask order none comes twice.
+            Err(_) => return Err(ImageFault::Memory),
+        }
+    }
+    Ok(pending)
+}
+
+impl Parts {
+    /// Adds a pending record that is newer than all others, with the files that it pins. Fails only
+    /// for want of memory.
+    pub(crate) fn load_pending(
+        &mut self,
+        pending: Pending,
+        acks: &Acks,
+        pins: &Files,
+    ) -> Result<(), AllocError>
+        requires tied { AreTied self.old }
+        requires newest { (r : Record) → IsIn r (records_in self.old) → r.id < pending.id }
+        requires acks { acks.now ≡ pending.acks }
+        requires files { (a : Acked) → IsIn a acks.now → IsAscendingSet a.files }
+        requires pins { IsAscendingSet pins.now }
+        requires few { length (records_in self.old) < 2 ^ 32 }
+        requires below { (f : ℕ) → count (uses (records_in self.old ++ record pending { pins = pins.now } ∷ [])) f < 2 ^ 32 - 1 }
+        ensures records { OnOk result (records_in self.new ≡ records_in self.old ++ record pending { pins = pins.now } ∷ []) }
+        ensures tied { OnOk result (AreTied self.new) }
+        ensures rest { OnOk result (self.new ≡ record self.old { pending = self.new.pending; registry = self.new.registry; outbox = record self.old.outbox { spare = self.new.outbox.spare }; ended = self.new.ended }) }
+        ensures noted { OnOk result (self.new.ended.items ≡ self.old.ended.items) }
+    {
+        // Tells that the uses stand in order.
+        let _ = self.registry.present();
+        self.make_room()?;
+        register(&mut self.registry, pending.id(), acks, pins)?;
+        self.pending.add(pending)?;
+        self.make_room_for_files(0)
+    }
+
+    /// Adds a done checkpoint that is newer than all other records. Fails only for want of memory.
+    pub(crate) fn load_checkpoint(&mut self, done: Done, acks: &Acks) -> Result<(), AllocError>
+        requires tied { AreTied self.old }
+        requires newest { (r : Record) → IsIn r (records_in self.old) → r.id < done.id }
+        requires checkpoint { done.kind ≡ kind.Checkpoint }
+        requires fewer { length self.old.store.checkpoints < self.old.store.retained }
+        requires acks { acks.now ≡ done.acks }
+        requires files { (a : Acked) → IsIn a acks.now → IsAscendingSet a.files }
+        requires few { length (records_in self.old) < 2 ^ 32 }
+        requires below { (f : ℕ) → count (uses (records_in self.old ++ done ∷ [])) f < 2 ^ 32 - 1 }
+        requires base { self.old.store.base ≡ None }
+        ensures records { OnOk result (records_in self.new ≡ records_in self.old ++ done ∷ []) }
+        ensures tied { OnOk result (AreTied self.new) }
+        ensures rest { OnOk result (self.new ≡ with_done self.old self.new) }
+        ensures noted { OnOk result (self.new.ended.items ≡ self.old.ended.items) }
+    {
+        // Tells that the uses stand in order.
+        let _ = self.registry.present();
+        self.make_room()?;
+        self.store.reserve()?;
+        let none = Files::of(Vec::new(self.alloc));
+        register(&mut self.registry, done.id(), acks, &none)?;
+        let _ = self.store.complete(done);
+        self.make_room_for_files(0)
+    }
+
+    /// Adds a done savepoint that is newer than all other records. Fails only for want of memory.
+    pub(crate) fn load_savepoint(&mut self, done: Done, acks: &Acks) -> Result<(), AllocError>
+        requires tied { AreTied self.old }
+        requires newest { (r : Record) → IsIn r (records_in self.old) → r.id < done.id }
+        requires savepoint { done.kind ≡ kind.Savepoint }
+        requires fewer { length self.old.store.savepoints + 1 < 2 ^ 32 }
+        requires acks { acks.now ≡ done.acks }
+        requires files { (a : Acked) → IsIn a acks.now → IsAscendingSet a.files }
+        requires few { length (records_in self.old) < 2 ^ 32 }
+        requires below { (f : ℕ) → count (uses (records_in self.old ++ done ∷ [])) f < 2 ^ 32 - 1 }
+        ensures records { OnOk result (records_in self.new ≡ records_in self.old ++ done ∷ []) }
+        ensures tied { OnOk result (AreTied self.new) }
+        ensures rest { OnOk result (self.new ≡ with_done self.old self.new) }
+        ensures noted { OnOk result (self.new.ended.items ≡ self.old.ended.items) }
+    {
+        // Tells that the uses stand in order.
+        let _ = self.registry.present();
+        self.make_room()?;
+        self.store.reserve()?;
+        let none = Files::of(Vec::new(self.alloc));
+        register(&mut self.registry, done.id(), acks, &none)?;
+        self.store.add_savepoint(done);
+        self.make_room_for_files(0)
+    }
+}
+
+/// Whether each file is above the one before it.
+fn rises(files: &Files) -> bool
+    ensures { IsTrue result ↔ IsAscendingSet files.now }
+{
+    !repeats(files.as_slice())
+}
+
+/// Whether no acknowledgement and no pin of this record names a file twice.
+fn names_each_once(saved: &Saved) -> bool
+    ensures yes { IsTrue result → NamesEachOnce (record_in saved.now) }
+    ensures no { result ≡ false → NamesEachOnce (record_in saved.now) → ⊥ }
+{
+    for acked in saved.metadata.acks.as_slice() {
+        if !rises(&acked.files) {
+            return false;
+        }
+    }
+    rises(&saved.pins)
+}
+
+/// Whether the number is from `first` to below `next`.
+fn lies_in(id: CheckpointId, first: u64, next: u64) -> bool
+    ensures { IsTrue result ↔ ((first ≤ id) × (id < next)) }
+{
+    CheckpointId(first) <= id && id < CheckpointId(next)
+}
+
+/// Whether the moment is before this one.
+fn is_before(moment: u64, end: u64) -> bool
+    ensures { IsTrue result ↔ (moment < end) }
+{
+    moment < end
+}
+
+impl Parts {
+    /// Whether a record may stand behind those that are there, by its number, its moment and the
+    /// limits on how many there are.
+    fn may_join(&self, saved: &Saved) -> bool
+        requires { AreSoundRecords (opening_of self.now.opened) self.now.next (records_in self.now) }
+        ensures yes { IsTrue result → IsRecord (record_in saved.now) → Joins (opening_of self.now.opened) self.now.next (records_in self.now) (record_in saved.now) }
+        ensures no { result ≡ false → Joins (opening_of self.now.opened) self.now.next (records_in self.now) (record_in saved.now) → ⊥ }
+    {
+        if self.first_from(saved.metadata.id).is_some() {
+            return false;
+        }
+        if !lies_in(saved.metadata.id, self.opened.first, self.next) {
+            return false;
+        }
+        if !is_before(saved.metadata.started, MOMENTS_END) {
+            return false;
+        }
+        self.has_room_for(saved)
+    }
+
+    /// Whether one more record of this kind is within the limits on how many there are.
+    fn has_room_for(&self, saved: &Saved) -> bool
+        requires { AreSoundRecords (opening_of self.now.opened) self.now.next (records_in self.now) }
+        ensures yes { IsTrue result → HasRoom (opening_of self.now.opened) (records_in self.now) (record_in saved.now) }
+        ensures no { result ≡ false → HasRoom (opening_of self.now.opened) (records_in self.now) (record_in saved.now) → ⊥ }
+    {
+        // what the pending records ensure: they are not done
+        self.pending.recall();
+        let checkpoints = self.store.checkpoints();
+        let pending = self.pending.checkpoints();
+        let savepoints = self.pending.savepoints() + self.store.savepoints() as usize;
+        match saved.metadata.kind {
+            Kind::Savepoint => savepoints < MOST_SAVEPOINTS,
+            Kind::Checkpoint => {
+                if saved.metadata.done {
+                    pending == 0 && checkpoints < self.opened.config.retained()
+                } else {
+                    pending < limit_of(&self.opened.config) as usize
+                }
+            }
+        }
+    }
+
+    /// Adds a record behind those that are there.
+    pub(crate) fn load(&mut self, saved: &Saved) -> Result<(), ImageFault>
+        requires tied { AreTied self.old }
+        requires sound { AreSoundRecords (opening_of self.old.opened) self.old.next (records_in self.old) }
+        requires base { self.old.store.base ≡ None }
+        ensures state { OnOk result (state_of self.new ≡ record (state_of self.old) { records = records_in self.old ++ record_in saved.now ∷ [] }) }
+        ensures tied { OnOk result (AreTied self.new) }
+        ensures noted { OnOk result (self.new.ended.items ≡ self.old.ended.items) }
+        ensures joins { OnOk result (Joins (opening_of self.old.opened) self.old.next (records_in self.old) (record_in saved.now)) }
+        ensures damaged { result ≡ Err ImageFault.Damaged → Joins (opening_of self.old.opened) self.old.next (records_in self.old) (record_in saved.now) → ⊥ }
+    {
+        if !self.may_join(saved) {
+            return Err(ImageFault::Damaged);
+        }
+        if !names_each_once(saved) {
+            return Err(ImageFault::Damaged);
+        }
+        let pending = acknowledged(self.alloc, &saved.metadata)?;
+        self.load_acknowledged(pending, saved)
+    }
+
+    /// Adds a record, which has its acknowledgements.
+    fn load_acknowledged(&mut self, pending: Pending, saved: &Saved) -> Result<(), ImageFault>
+        requires tied { AreTied self.old }
+        requires sound { AreSoundRecords (opening_of self.old.opened) self.old.next (records_in self.old) }
+        requires base { self.old.store.base ≡ None }
+        requires made { IsMade pending saved.now }
+        requires once { NamesEachOnce (record_in saved.now) }
+        requires place { IsRecord (record_in saved.now) → Joins (opening_of self.old.opened) self.old.next (records_in self.old) (record_in saved.now) }
+        ensures state { OnOk result (state_of self.new ≡ record (state_of self.old) { records = records_in self.old ++ record_in saved.now ∷ [] }) }
+        ensures tied { OnOk result (AreTied self.new) }
+        ensures noted { OnOk result (self.new.ended.items ≡ self.old.ended.items) }
+        ensures joins { OnOk result (Joins (opening_of self.old.opened) self.old.next (records_in self.old) (record_in saved.now)) }
+        ensures damaged { result ≡ Err ImageFault.Damaged → IsRecord (record_in saved.now) → ⊥ }
+    {
+        // Tells that the configuration is within its limits.
+        let _ = self.opened.config.retained();
+        // Tells that the acknowledgements are of the record's subtasks.
+        let _ = pending.missing();
+        match pending.finish() {
+            Ok(done) => {
+                if !saved.metadata.done {
+                    return Err(ImageFault::Damaged);
+                }
+                if !saved.pins.is_empty() {
+                    return Err(ImageFault::Damaged);
+                }
+                // Tells that each subtask has acknowledged.
+                let _ = done.id();
+                self.load_done(done, saved)?;
+            }
+            Err(pending) => {
+                if saved.metadata.done {
+                    return Err(ImageFault::Damaged);
+                }
+                self.load_pending(pending, &saved.metadata.acks, &saved.pins)?;
+            }
+        }
+        Ok(())
+    }
+
+    /// Adds a done record. Fails only for want of memory.
+    fn load_done(&mut self, done: Done, saved: &Saved) -> Result<(), AllocError>
+        requires tied { AreTied self.old }
+        requires sound { AreSoundRecords (opening_of self.old.opened) self.old.next (records_in self.old) }
+        requires base { self.old.store.base ≡ None }
+        requires done { done ≡ record_in saved.now }
+        requires joins { Joins (opening_of self.old.opened) self.old.next (records_in self.old) done }
+        ensures state { OnOk result (state_of self.new ≡ record (state_of self.old) { records = records_in self.old ++ record_in saved.now ∷ [] }) }
+        ensures tied { OnOk result (AreTied self.new) }
+        ensures noted { OnOk result (self.new.ended.items ≡ self.old.ended.items) }
+    {
+        // Tells that the configuration is within its limits.
+        let _ = self.opened.config.retained();
+        // what the store and the pending records ensure, which ties their records to the state
+        let _ = self.store.base();
+        self.pending.recall();
+        let _ = done.id();
+        match saved.metadata.kind {
+            Kind::Checkpoint => self.load_checkpoint(done, &saved.metadata.acks),
+            Kind::Savepoint => self.load_savepoint(done, &saved.metadata.acks),
+        }
+    }
+
+    /// Adds records, one after the other.
+    pub(crate) fn load_all(&mut self, records: &[Saved]) -> Result<(), ImageFault>
+        requires tied { AreTied self.old }
+        requires none { records_in self.old ≡ [] }
+        requires base { self.old.store.base ≡ None }
+        ensures state { OnOk result (state_of self.new ≡ record (state_of self.old) { records = map record_in records.now }) }
+        ensures tied { OnOk result (AreTied self.new) }
+        ensures noted { OnOk result (self.new.ended.items ≡ self.old.ended.items) }
+        ensures sound { OnOk result (AreSoundRecords (opening_of self.old.opened) self.old.next (map record_in records.now)) }
+        ensures damaged { result ≡ Err ImageFault.Damaged → AreSoundRecords (opening_of self.old.opened) self.old.next (map record_in records.now) → ⊥ }
+    {
+        for saved in records {
+            self.load(saved)?;
+        }
+        Ok(())
+    }
+}
+
+/// A list of sound records stays sound with one more exactly where the tests of the next record hold.
+pub(crate) fn joining()
+    ensures joined { (o : Opening) (next : ℕ) (rs : List Record) (r : Record) → AreSoundRecords o next rs → Joins o next rs r → AreSoundRecords o next (rs ++ r ∷ []) }
+    ensures tested { (o : Opening) (next : ℕ) (rs : List Record) (r : Record) → AreSoundRecords o next (rs ++ r ∷ []) → Joins o next rs r }
+    ensures front { (o : Opening) (next : ℕ) (xs ys : List Record) → AreSoundRecords o next (xs ++ ys) → AreSoundRecords o next xs }
+{}

@@ -1,0 +1,188 @@
+//! The parts of a coordinator, made again of an image.
+
+ghost use Rattle.std.specs.Prelude.{◌≡◌, ◌≢◌, ◌<◌, ◌≤◌, ◌-◌, ◌++◌, ℕ, [], true, false, length, Err, None, Some, IfOk, OnOk, IsTrue};
+ghost use Rattle.ckpt_ids.specs.Ordered.{AreDistinct, IsIn};
+ghost use Rattle.ckpt_ids.specs.Records.{Record, is_present};
+ghost use Rattle.ckpt_core.specs.declared.mode.Mode.TheVariants.{Running};
+ghost use Rattle.ckpt_core.specs.Images.{CanHold, state_in};
+ghost use Rattle.ckpt_core.specs.Inside.Loading.{AreFilesApart, HasSoundMoments, HasSoundNumbers, emptied, with_more_waiting};
+ghost use Rattle.ckpt_core.specs.Inside.Parts.{AreSound, AreTied, records_in, state_of};
+ghost use Rattle.ckpt_core.specs.Refusals.{is_done_savepoint};
+
+use crate::image::{Image, ImageFault};
+use crate::mode::Mode;
+use crate::parts::{Opened, Parts};
+use crate::pending_records::PendingRecords;
+use ckpt_hash::Secret;
+use ckpt_ids::{CheckpointId, FileId, Files, Handed, LONGEST_DURATION, MOMENTS_END, NUMBERS_END};
+use ckpt_outbox::Outbox;
+use ckpt_registry::Registry;
+use ckpt_rules::{Clock, Failures};
+use ckpt_store::Store;
+use std::alloc::{AllocError, Global};
+
+/// Whether a clock has room for the moments of an image.
+fn has_sound_moments(image: &Image) -> bool
+    ensures yes { IsTrue result → HasSoundMoments (state_in image.now) }
+    ensures no { result ≡ false → HasSoundMoments (state_in image.now) → ⊥ }
+{
+    if image.latest >= MOMENTS_END || image.due >= MOMENTS_END + 2 * LONGEST_DURATION {
+        return false;
+    }
+    match image.completed {
+        Some(moment) => moment < MOMENTS_END,
+        None => true,
+    }
+}
+
+/// Whether the moments, the numbers and the failures of an image are within their limits.
+fn has_sound_numbers(image: &Image) -> bool
+    ensures yes { IsTrue result → HasSoundNumbers (state_in image.now) }
+    ensures no { result ≡ false → HasSoundNumbers (state_in image.now) → ⊥ }
+{
+    if image.first == 0 || image.next < image.first || image.next > NUMBERS_END {
+        return false;
+    }
+    if image.mode == Mode::Running && image.failures > image.config.tolerable() {
+        return false;
+    }
+    has_sound_moments(image)
+}
+
+impl Parts {
+    /// The parts that an image tells, whose moments, numbers and failures are within their limits,
+    /// but for its records, its base and its files. Fails only for want of memory.
+    pub(crate) fn begun(alloc: Global, image: &Image, secret: Secret) -> Result<Parts, AllocError>
+        requires { HasSoundNumbers (state_in image.now) }
+        ensures state { IfOk result (λ parts. state_of parts ≡ emptied (state_in image.now)) }
+        ensures tied { IfOk result (λ parts. AreTied parts) }
+        ensures none_ended { IfOk result (λ parts. parts.ended.items ≡ []) }
+    {
+        let config = image.config;
+        let shape = image.first_shape.copy()?;
+        let reshaped = image.shape.copy()?;
+        let mut failures = Failures::new(config.tolerable());
+        failures.add(image.failures);
+        Ok(Parts {
+            alloc,
+            clock: Clock::of(image.latest, image.due, image.completed),
+            failures,
+            store: Store::new(alloc, config.retained()),
+            opened: Opened {
+                config,
+                shape,
+                start: image.start,
+                first: image.first,
+            },
+            reshaped: Some(reshaped),
+            mode: image.mode,
+            next: image.next,
+            pending: PendingRecords::new(alloc),
+            registry: Registry::keyed(alloc, secret),
+            outbox: Outbox::keyed(alloc, secret),
+            ended: Vec::new(alloc),
+        })
+    }
+
+    /// Takes the savepoint that the job was rolled back to. The records are loaded.
+    pub(crate) fn load_base(&mut self, base: Option<CheckpointId>) -> Result<(), ImageFault>
+        requires tied { AreTied self.old }
+        requires none { self.old.store.base ≡ None }
+        ensures state { OnOk result (state_of self.new ≡ record (state_of self.old) { base = base }) }
+        ensures tied { OnOk result (AreTied self.new) }
+        ensures rest { self.new ≡ record self.old { store = record self.old.store { base = self.new.store.base } } }
+        ensures there { OnOk result ((id : ℕ) → base ≡ Some id → is_done_savepoint (state_of self.old) id ≡ true) }
+        ensures damaged { result ≡ Err ImageFault.Damaged → ((id : ℕ) → base ≡ Some id → is_done_savepoint (state_of self.old) id ≡ true) → ⊥ }
+    {
+        // what the store and the pending records ensure, which ties their records to the state
+        self.recall_groups();
+        let Some(id) = base else {
+            return Ok(());
+        };
+        if !self.store.has_savepoint(id) {
+            return Err(ImageFault::Damaged);
+        }
+        self.store.set_base(id);
+        Ok(())
+    }
+
+    /// Whether nothing is pending, unless the job runs.
+    pub(crate) fn is_idle(&self) -> bool
+        ensures yes { IsTrue result → self.now.mode ≢ Running → (r : Record) → IsIn r (records_in self.now) → r.done ≡ true }
+        ensures no { result ≡ false → (self.now.mode ≢ Running → (r : Record) → IsIn r (records_in self.now) → r.done ≡ true) → ⊥ }
+    {
+        // what the store and the pending records ensure, which ties their records to the state
+        self.recall_groups();
+        match self.mode {
+            Mode::Running => true,
+            _ => self.pending.len() == 0,
+        }
+    }
+
+    /// Puts files to the end of waiting, in places that are reserved, where each is known nowhere.
+    pub(crate) fn put_back(&mut self, files: &[FileId]) -> Result<(), ImageFault>
+        requires room { length files.now ≤ self.old.outbox.spare }
+        ensures parts { OnOk result (self.new ≡ with_more_waiting self.old files.now) }
+        ensures unused { OnOk result ((f : ℕ) → IsIn f files.now → is_present self.old.registry f ≡ false) }
+        ensures apart { OnOk result (AreDistinct (self.new.outbox.waiting ++ self.new.outbox.taken)) }
+        ensures damaged { result ≡ Err ImageFault.Damaged → AreFilesApart self.old.registry ((self.old.outbox.waiting ++ files.now) ++ self.old.outbox.taken) → ⊥ }
+    {
+        for file in files {
+            if self.knows(*file) {
+                return Err(ImageFault::Damaged);
+            }
+            self.outbox.put(&[*file]);
+        }
+        // Tells that no file stands twice.
+        let _ = self.outbox.knows(FileId(0));
+        Ok(())
+    }
+
+    /// Takes the files that wait and those that were fetched into the empty outbox. The records are
+    /// loaded.
+    pub(crate) fn load_files(&mut self, waiting: &Handed, taken: &Files) -> Result<(), ImageFault>
+        requires tied { AreTied self.old }
+        requires none_waits { self.old.outbox.waiting ≡ [] }
+        requires none_taken { self.old.outbox.taken ≡ [] }
+        ensures state { OnOk result (state_of self.new ≡ record (state_of self.old) { waiting = waiting.now; taken = taken.now }) }
+        ensures tied { OnOk result (AreTied self.new) }
+        ensures noted { OnOk result (self.new.ended.items ≡ self.old.ended.items) }
+        ensures apart { OnOk result (AreFilesApart self.old.registry (waiting.now ++ taken.now)) }
+        ensures damaged { result ≡ Err ImageFault.Damaged → AreFilesApart self.old.registry (waiting.now ++ taken.now) → ⊥ }
+    {
+        self.outbox.reserve(taken.len() as u64)?;
+        self.put_back(taken.as_slice())?;
+        self.outbox.take(taken.len() as u64)?;
+        self.outbox.reserve(waiting.len() as u64)?;
+        self.put_back(waiting.as_slice())?;
+        self.make_room_for_files(0)?;
+        Ok(())
+    }
+
+    /// The parts that an image tells.
+    pub(crate) fn of_image(
+        alloc: Global,
+        image: &Image,
+        secret: Secret,
+    ) -> Result<Parts, ImageFault>
+        ensures sound { IfOk result (λ parts. AreSound parts) }
+        ensures state { IfOk result (λ parts. state_of parts ≡ state_in image.now) }
+        ensures held { OnOk result (CanHold (state_in image.now)) }
+        ensures damaged { result ≡ Err ImageFault.Damaged → CanHold (state_in image.now) → ⊥ }
+    {
+        // Tell that the configuration and the shape are within their limits.
+        let _ = image.config.retained();
+        let _ = image.shape.size();
+        if !has_sound_numbers(image) {
+            return Err(ImageFault::Damaged);
+        }
+        let mut parts = Parts::begun(alloc, image, secret)?;
+        parts.load_all(&image.records)?;
+        parts.load_base(image.base)?;
+        if !parts.is_idle() {
+            return Err(ImageFault::Damaged);
+        }
+        parts.load_files(&image.waiting, &image.taken)?;
+        Ok(parts)
+    }
+}

@@ -1,0 +1,94 @@
+//! What is saved of a coordinator.
+
+ghost use Rattle.std.specs.Prelude.{◌≡◌, ◌+◌, ◌<◌, ◌^◌, map, IfOk, IsSome, Some};
+ghost use Rattle.ckpt_ids.specs.Ordered.{IsIn};
+ghost use Rattle.ckpt_ids.specs.Records.{Record};
+ghost use Rattle.ckpt_core.specs.Images.{CanHold, record_in, settled, state_in};
+ghost use Rattle.ckpt_core.specs.Inside.Parts.{AreSound, records_in, state_of};
+ghost use Rattle.ckpt_core.specs.State.{record_of};
+
+use crate::image::{Image, Saved};
+use crate::parts::Parts;
+use crate::queries::Live;
+use ckpt_ids::{CheckpointId, Files};
+use std::alloc::AllocError;
+
+/// The number after that of a record.
+fn number_after(id: CheckpointId) -> CheckpointId
+    requires { id < 2 ^ 62 }
+    ensures { result ≡ id + 1 }
+{
+    CheckpointId(id.0 + 1)
+}
+
+impl Parts {
+    /// The files that a live record pins. Fails only for want of memory.
+    fn pins_of(&self, id: CheckpointId, done: bool) -> Result<Files, AllocError>
+        requires { AreSound self.now }
+        ensures { IfOk result (λ pins. (r : Record) → IsIn r (records_in self.now) → r.id ≡ id → r.done ≡ done → pins ≡ r.pins) }
+    {
+        // what the store and the pending records ensure, which ties their records to the state
+        self.recall_groups();
+        if done {
+            return Ok(Files::of(Vec::new(self.alloc)));
+        }
+        self.registry.pins(id)
+    }
+
+    /// What is saved of a live record. Fails only for want of memory.
+    fn save(&self, id: CheckpointId, done: bool) -> Result<Saved, AllocError>
+        requires sound { AreSound self.now }
+        requires there { IsSome (record_of (state_of self.now) id) }
+        ensures { IfOk result (λ saved. (r : Record) → record_of (state_of self.now) id ≡ Some r → done ≡ r.done → record_in saved ≡ r) }
+    {
+        let metadata = self.metadata(id)?;
+        let pins = self.pins_of(id, done)?;
+        Ok(Saved { metadata, pins })
+    }
+
+    /// What is saved of all live records, in rising number. Fails only for want of memory.
+    fn saved(&self) -> Result<Vec<Saved>, AllocError>
+        requires { AreSound self.now }
+        ensures { IfOk result (λ saved. map record_in saved.items ≡ records_in self.now) }
+    {
+        let mut saved = Vec::new(self.alloc);
+        let mut lowest = CheckpointId(0);
+        while let Some(live) = self.first_from(lowest) {
+            let Live { id, kind: _, done } = live;
+            let one = self.save(id, done)?;
+            saved.push(one)?;
+            lowest = number_after(id);
+        }
+        Ok(saved)
+    }
+
+    /// The state as an image. Fails only for want of memory.
+    pub(crate) fn image(&self) -> Result<Image, AllocError>
+        requires { AreSound self.now }
+        ensures value { IfOk result (λ image. state_in image ≡ settled (state_of self.now)) }
+        ensures good { IfOk result (λ image. CanHold (state_in image)) }
+    {
+        let records = self.saved()?;
+        let first_shape = self.opened.shape.copy()?;
+        let shape = self.shape().copy()?;
+        let waiting = self.outbox.waiting_files()?;
+        let taken = self.outbox.taken_files()?;
+        Ok(Image {
+            config: self.opened.config,
+            first_shape,
+            start: self.opened.start,
+            first: self.opened.first,
+            shape,
+            mode: self.mode,
+            latest: self.clock.latest(),
+            due: self.clock.interval_ends(),
+            completed: self.clock.last_completion(),
+            failures: self.failures.number(),
+            next: self.next,
+            base: self.store.base(),
+            records,
+            waiting,
+            taken,
+        })
+    }
+}

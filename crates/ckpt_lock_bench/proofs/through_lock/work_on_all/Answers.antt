@@ -1,7 +1,0 @@
-use denote.Param.Send.{sendable}
-use Rattle.std.proofs.Crossing.{crosses}
-use Rattle.ckpt_locked.proofs.Crossings.{pass_send}
-use Rattle.ckpt_lock_bench.proofs.through_lock.work_on_all.Goals as goal
-
-pub map_vec-requires-send-J : goal.map_vec-requires-send-J
-map_vec-requires-send-J g c = search (pass_send, sendable, crosses) depth 20

@@ -1,0 +1,7 @@
+use Rattle.std.proofs.Common.{◌≡◌, ◌++◌, filter, nat_eq}
+use Rattle.std.specs.HashMap as hash
+use Rattle.ckpt_outbox.specs.Places.{is_apart}
+use Rattle.ckpt_outbox.proofs.places.taken_in.Given as goal
+
+abbrev pub invariant-loop-file : goal.invariant-loop-file
+invariant-loop-file l = l.files.items ++ filter (is_apart (hash.get nat_eq l.index) l.waiting.items) l.file-iterator ≡ filter (is_apart (hash.get nat_eq l.index) l.waiting.items) (hash.keys l.index)

@@ -1,0 +1,6 @@
+use Rattle.std.proofs.Common.{◌≡◌, ◌++◌}
+use Rattle.std.specs.VecDeque.Iter.{deque_iter_rest}
+use Rattle.ckpt_outbox.proofs.places.waiting_in.Given as goal
+
+abbrev pub invariant-loop-file : goal.invariant-loop-file
+invariant-loop-file l = l.files.items ++ deque_iter_rest l.file-iterator ≡ l.waiting.items

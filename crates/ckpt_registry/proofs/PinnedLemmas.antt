@@ -1,0 +1,118 @@
+-- What a record pins, told from the uses.
+use Rattle.std.proofs.Common.{◌≡◌, ℕ, Bool, true, false, ◌&&◌, ◌||◌, eqb, leb, ltb, List, [], ◌∷◌, ◌++◌, filter, map, take, refl, sym, ap, subst, ◌∙◌, inl, inr, ⊎_elim, arith}
+use Rattle.std.specs.List.{flat_map}
+use Rattle.std.specs.List.Sorted.{IsPermutation, IsSorted}
+use Rattle.std.specs.List.Retain.{IsFiltered, DiffersFromLast}
+use Rattle.std.specs.Ordering.{nat_cmp}
+use Rattle.std.proofs.lemmas.Bool.{cases_Bool, both_ways, eqb-true, ltb-true, le-leb}
+use Rattle.ckpt_ids.specs.Ascending.{IsAscending, IsAscendingSet, ascending, ascending_set}
+use Rattle.ckpt_ids.specs.Ordered.{IsIn, ComesBefore, IsInOrder, in_order_once}
+use Rattle.ckpt_ids.specs.Records.{Use, Holder, Subtask, Pin, holder_before, same_holder, use_before}
+use Rattle.ckpt_ids.proofs.AscendingLemmas.{ascending_already, numbers_in_order}
+use Rattle.ckpt_ids.proofs.OrderLemmas.{uses_in_order}
+use Rattle.ckpt_ids.proofs.OrderedLemmas.{ComesBefore-at, ComesBefore-from, IsIn-append_left, IsIn-append_right, IsIn-append_cases, IsIn-filter, IsIn-flat_map, IsIn-from_filter, IsIn-from_flat_map, IsIn-from_map, IsIn-from_in_order_once, IsIn-in_order_once, IsIn-map, IsInOrder-filter, IsInOrder-in_order_once, same_from_members}
+use Rattle.ckpt_ids.proofs.SetLemmas.{set-from_dedup}
+use Rattle.ckpt_registry.specs.declared.pins.Pinner.{Pinner}
+use Rattle.ckpt_registry.specs.Holdings.{Acknowledged, files_in, uses_in}
+use Rattle.ckpt_registry.specs.Pins.{each_file, named_by, parts_pinned, pinned_by, pins_in}
+use Rattle.ckpt_registry.specs.Sound.{in_use, stored}
+use Rattle.ckpt_registry.specs.Uses.{pins_by, triples}
+use Rattle.ckpt_registry.proofs.PinLemmas.{uses_in-holder}
+
+and_both : (x y : Bool) → (x && y) ≡ true → (x ≡ true) × (y ≡ true)
+and_both true y e = (refl, e)
+and_both false y e = absurd (both_ways false refl e)
+
+abbrev pins_it : ℕ → Use → Bool
+pins_it id u = eqb u.id id && same_holder u.holder Pin
+
+pins_in_order : (i j f g : ℕ) → i ≡ j → (ltb i j || (eqb i j && ltb f g)) ≡ true → ltb f g ≡ true
+pins_in_order i j f g e t =
+    let rest : Bool = eqb i j && ltb f g in
+    let P : Bool → Type 0 = λ b. (b || rest) ≡ true in
+    ⊎_elim
+    (λ (b : ltb i j ≡ true). absurd (omega (arith, e, ltb-true i j b)))
+    (λ (b : ltb i j ≡ false). let r : rest ≡ true = subst P b t in (and_both (eqb i j) (ltb f g) r).1)
+    (cases_Bool (ltb i j))
+
+by_holders : (i j : ℕ) (h k : Holder) (f g : ℕ) → i ≡ j → same_holder h Pin ≡ true → same_holder k Pin ≡ true → (ltb i j || (eqb i j && (holder_before h k || (same_holder h k && ltb f g)))) ≡ true → ltb f g ≡ true
+by_holders i j (Subtask s) k f g e x y t = absurd (both_ways false refl x)
+by_holders i j Pin (Subtask s) f g e x y t = absurd (both_ways false refl y)
+by_holders i j Pin Pin f g e x y t = pins_in_order i j f g e t
+
+-- two pins of one record are in the order of their files
+later_file : (id : ℕ) (u v : Use) → pins_it id u ≡ true → pins_it id v ≡ true → use_before u v ≡ true → ltb u.file v.file ≡ true
+later_file id u v p q b =
+    let a = and_both (eqb u.id id) (same_holder u.holder Pin) p in
+    let c = and_both (eqb v.id id) (same_holder v.holder Pin) q in
+    let same : u.id ≡ v.id = eqb-true u.id id a.0 ∙ sym (eqb-true v.id id c.0) in
+    by_holders u.id v.id u.holder v.holder u.file v.file same a.1 c.1 b
+
+files_in_order : (id : ℕ) (us : List Use) → IsInOrder use_before us → ((u : Use) → IsIn u us → pins_it id u ≡ true) → IsAscendingSet (map (λ u. u.file) us)
+files_in_order id [] order pins = tt
+files_in_order id (u ∷ us) order pins =
+    let first : (f : ℕ) → IsIn f (map (λ (v : Use). v.file) us) → ltb u.file f ≡ true = λ f h.
+    let q = IsIn-from_map (λ (v : Use). v.file) f us h in
+    let P : ℕ → Type 0 = λ g. ltb u.file g ≡ true in
+    subst P (sym q.2) (later_file id u q.0 (pins u (inl refl)) (pins q.0 (inr q.1)) (ComesBefore-at use_before u q.0 us order.0 q.1)) in
+    (ComesBefore-from ltb u.file (map (λ (v : Use). v.file) us) first, files_in_order id us order.1 (λ v h. pins v (inr h)))
+
+pins_by-ascending : (id : ℕ) (us : List Use) → IsInOrder use_before us → IsAscendingSet (pins_by id us)
+pins_by-ascending id us order = files_in_order id (filter (pins_it id) us) (IsInOrder-filter use_before (pins_it id) us order) (λ u h. (IsIn-from_filter (pins_it id) u us h).1)
+
+abbrev named_one : Acknowledged → Pinner → List ℕ
+named_one m one = files_in (parts_pinned m one) ++ one.files.items
+
+-- what the pinners of the record name is what it pins
+pub named-pins : (m : Acknowledged) (p : List Pinner) (id : ℕ) → ascending_set (named_by m id p) ≡ pins_by id (in_use m p)
+named-pins m p id =
+    let its : Pinner → Bool = λ one. eqb one.id id in
+    let all : List ℕ = named_by m id p in
+    let us : List Use = in_use m p in
+    let forth : (z : ℕ) → IsIn z all → IsIn z (pins_by id us) = λ z h.
+    let q = IsIn-from_flat_map (named_one m) z (filter its p) h in
+    let one : Pinner = q.0 in
+    let k = IsIn-from_filter its one p q.1 in
+    let held : IsIn z (pinned_by m one) = ⊎_elim
+    (λ (i : IsIn z (files_in (parts_pinned m one))). IsIn-append_left z (each_file (parts_pinned m one)) one.files.items (IsIn-in_order_once numbers_in_order z (files_in (parts_pinned m one)) i))
+    (λ (i : IsIn z one.files.items). IsIn-append_right z (each_file (parts_pinned m one)) one.files.items i)
+    (IsIn-append_cases z (files_in (parts_pinned m one)) one.files.items q.2) in
+    let make : ℕ → Use = λ f. record { id = one.id; holder = Pin; file = f } in
+    let among : IsIn (make z) (pins_in m p) = IsIn-flat_map (λ (o : Pinner). triples o.id Pin (pinned_by m o)) one (make z) p k.0 (IsIn-map make z (pinned_by m one) held) in
+    let there : IsIn (make z) us = IsIn-in_order_once uses_in_order (make z) (stored m p) (IsIn-append_right (make z) (uses_in m.items) (pins_in m p) among) in
+    let passes : pins_it id (make z) ≡ true = ap (λ b. b && true) k.1 in
+    IsIn-map (λ (u : Use). u.file) (make z) (filter (pins_it id) us) (IsIn-filter (pins_it id) (make z) us there passes) in
+    let back : (z : ℕ) → IsIn z (pins_by id us) → IsIn z all = λ z h.
+    let q = IsIn-from_map (λ (u : Use). u.file) z (filter (pins_it id) us) h in
+    let u : Use = q.0 in
+    let k = IsIn-from_filter (pins_it id) u us q.1 in
+    let both = and_both (eqb u.id id) (same_holder u.holder Pin) k.1 in
+    let among : IsIn u (pins_in m p) = ⊎_elim
+    (λ (i : IsIn u (uses_in m.items)). absurd (both_ways (same_holder u.holder Pin) (uses_in-holder m.items u i) both.1))
+    (λ (i : IsIn u (pins_in m p)). i)
+    (IsIn-append_cases u (uses_in m.items) (pins_in m p) (IsIn-from_in_order_once use_before u (stored m p) k.0)) in
+    let r = IsIn-from_flat_map (λ (o : Pinner). triples o.id Pin (pinned_by m o)) u p among in
+    let one : Pinner = r.0 in
+    let w = IsIn-from_map (λ (f : ℕ). record { id = one.id; holder = Pin; file = f }) u (pinned_by m one) r.2 in
+    let same : z ≡ w.0 = q.2 ∙ ap (λ (v : Use). v.file) w.2 in
+    let mine : its one ≡ true = ap (λ i. eqb i id) (sym (ap (λ (v : Use). v.id) w.2)) ∙ both.0 in
+    let held : IsIn w.0 (named_one m one) = ⊎_elim
+    (λ (i : IsIn w.0 (each_file (parts_pinned m one))). IsIn-append_left w.0 (files_in (parts_pinned m one)) one.files.items (IsIn-from_in_order_once ltb w.0 (files_in (parts_pinned m one)) i))
+    (λ (i : IsIn w.0 one.files.items). IsIn-append_right w.0 (files_in (parts_pinned m one)) one.files.items i)
+    (IsIn-append_cases w.0 (each_file (parts_pinned m one)) one.files.items w.1) in
+    let P : ℕ → Type 0 = λ f. IsIn f all in
+    subst P (sym same) (IsIn-flat_map (named_one m) one w.0 (filter its p) (IsIn-filter its one p r.1 mine) held) in
+    same_from_members numbers_in_order (ascending_set all) (pins_by id us) (IsInOrder-in_order_once numbers_in_order all) (pins_by-ascending id us (IsInOrder-in_order_once uses_in_order (stored m p)))
+    (λ z h. forth z (IsIn-from_in_order_once ltb z all h))
+    (λ z h. IsIn-in_order_once numbers_in_order z all (back z h))
+
+IsAscending-from_set : (xs : List ℕ) → IsAscendingSet xs → IsAscending xs
+IsAscending-from_set [] h = tt
+IsAscending-from_set (x ∷ xs) h = (ComesBefore-from leb x xs (λ y k. le-leb x y (omega (arith, ltb-true x y (ComesBefore-at ltb x y xs h.0 k)))), IsAscending-from_set xs h.1)
+
+-- what a sort and a `dedup` leave of them
+pub pins-from_dedup : (m : Acknowledged) (p : List Pinner) (id : ℕ) (sorted kept : List ℕ) → IsPermutation (named_by m id p) sorted → IsSorted nat_cmp sorted → IsFiltered (DiffersFromLast eqb) [] sorted kept → ascending kept ≡ pins_by id (in_use m p)
+pins-from_dedup m p id sorted kept moved s filtered =
+    let is : kept ≡ ascending_set (named_by m id p) = set-from_dedup (named_by m id p) sorted kept moved s filtered in
+    let up : IsAscending kept = IsAscending-from_set kept (subst IsAscendingSet (sym is) (IsInOrder-in_order_once numbers_in_order (named_by m id p))) in
+    sym (ascending_already kept up) ∙ is ∙ named-pins m p id

@@ -1,0 +1,13 @@
+use Rattle.std.proofs.Common.{◌≡◌, ℕ, ◌+◌, ◌≤◌, length, take}
+use Rattle.indexmap.specs.IndexMap.{index_map_len, spare}
+use Rattle.ckpt_ids.specs.Counting.{times}
+use Rattle.ckpt_registry.specs.Counters.{counter, AreInRange}
+use Rattle.ckpt_registry.proofs.counters.count_each.Given as goal
+
+abbrev pub invariant-loop-file : goal.invariant-loop-file
+invariant-loop-file l = record {
+  counted : (f : ℕ) → counter l.counts f ≡ counter l.fn.counts f + times f (take l.file-index l.files);
+  len : index_map_len l.counts ≤ index_map_len l.fn.counts + l.file-index;
+  room : length l.files ≤ spare l.counts + l.file-index;
+  range : AreInRange l.counts;
+}

@@ -1,0 +1,6 @@
+use Rattle.std.proofs.Common.{◌≡◌, take}
+use Rattle.ckpt_registry.specs.Pins.{named_by}
+use Rattle.ckpt_registry.proofs.pins.files_pinned.Given as goal
+
+abbrev pub invariant-loop-one : goal.invariant-loop-one
+invariant-loop-one l = l.all.items ≡ named_by l.acknowledged l.id (take l.one-index l.pinned)

@@ -1,0 +1,98 @@
+use Rattle.std.proofs.Common.{◌≡◌, ℕ, ◌+◌, ◌<◌, ◌≤◌, ◌++◌, ◌^◌, List, [], length, sym, ap, subst, ◌∙◌, arith}
+use Rattle.std.specs.Vec.{vec_capacity}
+use Rattle.std.proofs.lemmas.List.{append-nil}
+use Rattle.indexmap.specs.IndexMap.{index_map_len}
+use Rattle.ckpt_ids.specs.Ascending.{ascending}
+use Rattle.ckpt_ids.specs.Counting.{times}
+use Rattle.ckpt_ids.specs.Ordered.{IsIn, in_order_once}
+use Rattle.ckpt_ids.specs.Records.{Use, Subtask, count, use_before}
+use Rattle.ckpt_ids.proofs.ResultLemmas.{on_each_error}
+use Rattle.ckpt_registry.specs.declared.pins.Pinner.{Pinner}
+use Rattle.ckpt_registry.specs.Counters.{counter}
+use Rattle.ckpt_registry.specs.Holdings.{uses_in, uses_of_ack, Adds}
+use Rattle.ckpt_registry.specs.Pins.{pins_in}
+use Rattle.ckpt_registry.specs.Sound.{in_use, stored, StandsOnce}
+use Rattle.ckpt_registry.specs.Uses.{HasNoUse, triples}
+use Rattle.ckpt_registry.proofs.CounterLemmas.{AreInRange-unchanged, counter-unchanged}
+use Rattle.ckpt_registry.proofs.PinLemmas.{pins_in-extended}
+use Rattle.ckpt_registry.proofs.RegistryLemmas.{IsSound-acknowledged, below-in_use, below_more, count-in_use, in_use-added, stored-acknowledged}
+use Rattle.ckpt_registry.proofs.SoundLemmas.{AreCounted-kept}
+use Rattle.ckpt_registry.proofs.registry.Registry.hold_files.Goals as goal
+
+pub count_each-requires-clause-fits : goal.count_each-requires-clause-fits
+count_each-requires-clause-fits c = λ f h.
+    let r = c.self.inside in
+    let P : List ℕ → Type 0 = λ xs. IsIn f xs in
+    let small = c.requires.below f (subst P c.as_slice.ensures.files h) in
+    let named : times f c.as_slice.result.now ≡ times f c.args.files.now = ap (times f) c.as_slice.ensures.files in
+    let same : count (in_use r.acknowledged r.pinned.items) f ≡ count c.args.self.now f = ap (λ (us : List Use). count us f) c.self.view_is in
+    omega (
+      arith,
+      small,
+      named,
+      same,
+      c.requires.each_once f,
+      counter-unchanged r.counts c.reserve.new.self c.in_ok-reserve.ensures.entries f,
+      count-in_use r.acknowledged r.pinned.items r.counts (vec_capacity r.released) c.self.invariant.0 f,
+    )
+
+pub invariant_of-self-in_err-hold : goal.invariant_of-self-in_err-hold
+invariant_of-self-in_err-hold c =
+    let r = c.self.inside in
+    let p : List Pinner = r.pinned.items in
+    let held = c.hold.new.acknowledged in
+    let e = c.in_err-hold.ensures in
+    let same : stored held p ≡ stored r.acknowledged p = ap (λ us. us ++ pins_in held p) e.err ∙ ap (λ us. uses_in r.acknowledged.items ++ us) (pins_in-extended r.acknowledged held p e.extends c.self.invariant.0.parts.kept) in
+    let entries : index_map_len c.reserve.new.self ≡ index_map_len r.counts = ap (λ (es : List (ℕ × ℕ)). length es) c.in_ok-reserve.ensures.entries in (
+      record {
+        parts = AreCounted-kept r.acknowledged held p r.counts c.reserve.new.self e.extends e.ordered e.err (counter-unchanged r.counts c.reserve.new.self c.in_ok-reserve.ensures.entries)
+            (AreInRange-unchanged r.counts c.reserve.new.self c.in_ok-reserve.ensures.entries c.self.invariant.0.parts.range) c.self.invariant.0.parts;
+        once = subst StandsOnce (sym same) c.self.invariant.0.once;
+        has_room = omega (arith, entries, c.in_ok-reserve.ensures.ok, c.len.ensures, c.capacity.ensures, c.in_ok-reserve-2.ensures.ok);
+      },
+      e.spare,
+    )
+
+pub returns-in_err-hold-clause-err : goal.returns-in_err-hold-clause-err
+returns-in_err-hold-clause-err c =
+    let r = c.self.inside in
+    let p : List Pinner = r.pinned.items in
+    let held = c.hold.new.acknowledged in
+    let e = c.in_err-hold.ensures in
+    let same : stored held p ≡ stored r.acknowledged p = ap (λ us. us ++ pins_in held p) e.err ∙ ap (λ us. uses_in r.acknowledged.items ++ us) (pins_in-extended r.acknowledged held p e.extends c.self.invariant.0.parts.kept) in
+    on_each_error c.from_residual-in_err-hold.result _ (ap (in_order_once use_before) same ∙ c.self.view_is)
+
+pub invariant_of-self-2 : goal.invariant_of-self-2
+invariant_of-self-2 c =
+    let r = c.self.inside in
+    let p : List Pinner = r.pinned.items in
+    let files : List ℕ = c.args.files.now in
+    let held = c.hold.new.acknowledged in
+    let all : files ++ c.of-none.result ≡ files = ap (λ xs. files ++ xs) (c.of-none.ensures ∙ ap ascending c.new.ensures.items) ∙ append-nil files in
+    let A : List ℕ → Type 0 = λ xs. Adds (uses_in r.acknowledged.items) (triples c.args.id (Subtask c.args.subtask) xs) (uses_in held.items) in
+    let P : List Use → Type 0 = λ us. HasNoUse us c.args.id (Subtask c.args.subtask) in
+    let Q : List Use → Type 0 = λ us. (f : ℕ) → count us f + times f files < 2 ^ 32 in
+    let B : List Use → Type 0 = λ us. (f : ℕ) → count us f < 2 ^ 32 in
+    let raised : (f : ℕ) → counter c.count_each.new.counts f ≡ counter r.counts f + times f files = λ f.
+    let named : times f c.as_slice.result.now ≡ times f files = ap (times f) c.as_slice.ensures.files in
+    omega (arith, named, c.count_each.ensures.counted f, counter-unchanged r.counts c.reserve.new.self c.in_ok-reserve.ensures.entries f) in
+    let places : length c.as_slice.result.now ≡ length files = ap (λ (xs : List ℕ). length xs) c.as_slice.ensures.files in
+    let fits : index_map_len c.count_each.new.counts ≤ vec_capacity c.reserve-2.new.self = omega (arith, places, c.count_each.ensures.len, c.in_ok-reserve.ensures.ok, c.len.ensures, c.capacity.ensures, c.in_ok-reserve-2.ensures.ok) in
+    let was : B c.args.self.now = subst B c.self.view_is (below-in_use r.acknowledged p r.counts (vec_capacity r.released) c.self.invariant.0) in
+    let small : Q c.args.self.now = below_more c.args.self.now [] files was c.requires.each_once (λ f h. absurd h) c.requires.below in (
+      IsSound-acknowledged r.acknowledged p held r.counts c.count_each.new.counts (vec_capacity r.released) (vec_capacity c.reserve-2.new.self) c.args.id c.args.subtask files c.self.invariant.0 c.in_ok-hold.ensures.ordered c.in_ok-hold.ensures.extends (subst A all c.in_ok-hold.ensures.ok)
+          c.requires.each_once (subst P (sym c.self.view_is) c.requires.unused) raised c.count_each.ensures.range fits (subst Q (sym c.self.view_is) small),
+      c.in_ok-hold.ensures.spare,
+    )
+
+pub returns-clause-ok : goal.returns-clause-ok
+returns-clause-ok c =
+    let r = c.self.inside in
+    let p : List Pinner = r.pinned.items in
+    let files : List ℕ = c.args.files.now in
+    let held = c.hold.new.acknowledged in
+    let all : files ++ c.of-none.result ≡ files = ap (λ xs. files ++ xs) (c.of-none.ensures ∙ ap ascending c.new.ensures.items) ∙ append-nil files in
+    let A : List ℕ → Type 0 = λ xs. Adds (uses_in r.acknowledged.items) (triples c.args.id (Subtask c.args.subtask) xs) (uses_in held.items) in
+    let pins : pins_in held p ≡ pins_in r.acknowledged p = pins_in-extended r.acknowledged held p c.in_ok-hold.ensures.extends c.self.invariant.0.parts.kept in
+    in_use-added r.acknowledged p held p c.args.id (Subtask c.args.subtask) files (stored-acknowledged r.acknowledged p held (triples c.args.id (Subtask c.args.subtask) files) pins (subst A all c.in_ok-hold.ensures.ok))
+    ∙ ap (λ (us : List Use). in_order_once use_before (us ++ triples c.args.id (Subtask c.args.subtask) files)) c.self.view_is

@@ -1,0 +1,17 @@
+use Rattle.std.proofs.Common.{◌≡◌, true, sym, ap, subst, ◌∙◌}
+use Rattle.std.specs.Prelude.{IfOk}
+use Rattle.ckpt_lines.specs.Meanings.{meaning}
+use Rattle.ckpt_session.specs.ScriptTexts.{is_said}
+use Rattle.ckpt_session.specs.Sessions.{Done, done_by}
+use Rattle.ckpt_session.proofs.KeepLemmas.{kept, on_err-then}
+use Rattle.ckpt_session.proofs.session.Session.tell.Goals as goal
+
+pub returns-in-Ok-clause-told : goal.returns-in-Ok-clause-told
+returns-in-Ok-clause-told g c =
+    let scene = c.args.self.now in
+    let left = c.follow-outcome.new.self in
+    let done : ◌≡◌ {A = Done} (left, c.in-Ok.outcome) (done_by scene c.args.line) =
+    subst (λ r. IfOk r (λ outcome. ◌≡◌ {A = Done} (left, outcome) (done_by scene c.args.line))) c.in-Ok.is c.follow-outcome.ensures.done in
+    on_err-then c.write_outcome.result (is_said c.in-Ok.outcome ≡ true) _
+    (λ said. let same = kept scene (meaning c.args.line) (ap (λ (d : Done). is_said d.1) (sym done) ∙ said) in
+    (ap (λ (d : Done). d.0.config) done ∙ same.0, ap (λ (d : Done). d.0.shape) done ∙ same.1)) c.write_outcome.ensures.said

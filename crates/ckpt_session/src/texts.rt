@@ -1,0 +1,95 @@
+//! What a script prints: the outcomes of its lines, and their faults.
+ghost use Rattle.std.specs.Prelude.{◌≡◌, ◌++◌, true, OnErr, OnOk, string_bytes};
+ghost use Rattle.ckpt_session.specs.ScriptTexts.{all_end_bytes, fault_bytes, fault_name, is_said, outcome_bytes, refusal_bytes, refusal_name};
+
+use crate::outcome::{AllEnd, Outcome, ScriptRefusal};
+use ckpt_lines::LineFault;
+use ckpt_texts::write_answer;
+use std::alloc::{AllocError, Global};
+
+/// Appends what is printed of an outcome: one text with its newline, or nothing. Fails only for want
+/// of memory.
+#[tactic(auto, unfolding(crate::specs::ScriptTexts::outcome_bytes))]
+pub(crate) fn write_outcome(
+    alloc: Global,
+    text: &mut String,
+    outcome: &Outcome,
+) -> Result<(), AllocError>
+    ensures text { OnOk result (string_bytes text.new ≡ string_bytes text.old ++ outcome_bytes outcome.now) }
+    ensures said { OnErr result (is_said outcome.now ≡ true) }
+{
+    match outcome {
+        Outcome::Silent => Ok(()),
+        Outcome::Refused(why) => write_refusal(text, *why),
+        Outcome::Answered(answer) => write_answer(alloc, text, answer),
+        Outcome::Acknowledged {
+            accepted,
+            refused,
+            end,
+        } => {
+            write!(text, "all {} {}", *accepted, *refused)?;
+            write_all_end(text, *end)
+        }
+    }
+}
+
+/// Appends how the record of an `all` line stands, with a newline. Fails only for want of memory.
+#[tactic(auto, unfolding(crate::specs::ScriptTexts::all_end_bytes))]
+fn write_all_end(text: &mut String, end: AllEnd) -> Result<(), AllocError>
+    ensures { OnOk result (string_bytes text.new ≡ string_bytes text.old ++ all_end_bytes end) }
+{
+    match end {
+        AllEnd::Completed { dropped, released } => {
+            write!(text, " completed {dropped} {released}\n")
+        }
+        AllEnd::Pending { missing } => write!(text, " pending {missing}\n"),
+    }
+}
+
+/// Appends the text of a refusal, with its newline. Fails only for want of memory.
+#[tactic(auto, unfolding(crate::specs::ScriptTexts::refusal_bytes))]
+fn write_refusal(text: &mut String, why: ScriptRefusal) -> Result<(), AllocError>
+    ensures { OnOk result (string_bytes text.new ≡ string_bytes text.old ++ refusal_bytes why) }
+{
+    write!(text, "refused {}\n", refusal_name(why))
+}
+
+/// Appends the text of the fault of the line with this number, with its newline. Fails only for want
+/// of memory.
+#[tactic(auto, unfolding(crate::specs::ScriptTexts::fault_bytes))]
+pub(crate) fn write_fault(text: &mut String, number: u64, why: LineFault) -> Result<(), AllocError>
+    ensures { OnOk result (string_bytes text.new ≡ string_bytes text.old ++ fault_bytes number why) }
+{
+    write!(text, "line {number} fault {}\n", fault_name(why))
+}
+
+#[tactic(auto, unfolding(crate::specs::ScriptTexts::refusal_name))]
+fn refusal_name(why: ScriptRefusal) -> &'static str
+    ensures { result.now ≡ refusal_name why }
+{
+    match why {
+        ScriptRefusal::Started => "Started",
+        ScriptRefusal::NotStarted => "NotStarted",
+        ScriptRefusal::NotReady => "NotReady",
+        ScriptRefusal::BadConfig => "BadConfig",
+        ScriptRefusal::BadShape => "BadShape",
+        ScriptRefusal::MomentTooLarge => "MomentTooLarge",
+        ScriptRefusal::BadThreads => "BadThreads",
+        ScriptRefusal::NotPending => "NotPending",
+        ScriptRefusal::FilesUsedUp => "FilesUsedUp",
+    }
+}
+
+#[tactic(auto, unfolding(crate::specs::ScriptTexts::fault_name))]
+fn fault_name(why: LineFault) -> &'static str
+    ensures { result.now ≡ fault_name why }
+{
+    match why {
+        LineFault::Word => "Word",
+        LineFault::Number => "Number",
+        LineFault::Missing => "Missing",
+        LineFault::Extra => "Extra",
+        LineFault::TooLong => "TooLong",
+        LineFault::Memory => "Memory",
+    }
+}

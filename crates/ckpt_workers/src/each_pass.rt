@@ -1,0 +1,43 @@
+//! Work with each pass of a lock, by a thread of its own.
+ghost use Rattle.std.specs.Prelude.{◌≡◌, All, IfOk, vec_len};
+ghost use Rattle.ckpt_locked.specs.Locks.{Lock};
+
+use ckpt_locked::Pass;
+use std::alloc::AllocError;
+use std::sync::Wait;
+use std::thread;
+use std::thread::Threads;
+
+/// What a thread does with its pass, beside other threads with theirs. `T` is what it tells then.
+pub trait Work<T> {
+    /// The lock whose passes it takes.
+    ghost lock: { Self → Lock };
+
+    /// Works with a pass of the lock, and gives it back. May wait.
+    fn work<R: Wait>(&self, rt: &R, pass: Pass) -> (Pass, T)
+        requires pass { pass.lock ≡ lock self.now }
+        ensures pass { result.0.lock ≡ lock self.now };
+}
+
+/// Does the work with each pass in a thread of its own. Result i is that of pass i.
+///
+/// Where no thread can be started, the work is done in turn with others', so work that waits for other
+/// work may wait forever there. Fails only for want of memory, and then the passes are given up.
+pub fn work_on_each<R: Threads + Wait + Sync, T: Send + Drop, W: Work<T> + Sync>(
+    rt: &R,
+    work: &W,
+    passes: Vec<Pass>,
+) -> Result<Vec<(Pass, T)>, AllocError>
+    requires passes { All (λ p. p.lock ≡ W.lock work.now) passes.items }
+    ensures count { IfOk result (λ done. vec_len done ≡ vec_len passes) }
+    ensures passes { IfOk result (λ done. All (λ d. d.0.lock ≡ W.lock work.now) done.items) }
+{
+    thread::map_vec(
+        rt,
+        passes,
+        &|pass: Pass| -> (Pass, T)
+            requires { pass.lock ≡ W.lock work.now }
+            ensures { result.0.lock ≡ W.lock work.entry.now }
+        { work.work(rt, pass) },
+    )
+}

@@ -1,0 +1,214 @@
+"""A client of the service: jobs, their calls and their events, over `requests`.
+
+    from relkvanu_service import Service, ack
+
+    service = Service("http://127.0.0.1:7780")
+    job = service.open("orders", {"interval": 60_000}, [2, 1])
+    for event in job.follow():
+        if event["event"] == "triggered":
+            job.call(ack(event["id"], "0.0", fresh=[31]))
+
+A request whose answer is lost is made again, by default for a minute: under its Idempotency-Key where it has one, so that
+the service makes it once. File numbers are integers here, and strings in the API.
+"""
+import time
+import uuid
+
+import requests
+
+__all__ = ["Failed", "Refused", "Service", "Job", "ack", "decline", "restore", "savepoint", "take", "cancel", "dispose", "deleted", "undeleted"]
+
+# Calls whose repeat does its work a second time.
+_ONCE = {"take", "savepoint"}
+
+
+class Failed(Exception):
+    """The service answered with an error: `status`, the `field` that it names, and its text."""
+
+    def __init__(self, status, text, field=None):
+        super().__init__(f"{status}: {text}")
+        self.status, self.field = status, field
+
+
+class Refused(Exception):
+    """The coordinator refused a call, which changed nothing: its `name`, and the `file` that it names."""
+
+    def __init__(self, name, file=None):
+        super().__init__(name if file is None else f"{name} {file}")
+        self.name, self.file = name, file
+
+
+def ack(record, subtask, fresh=(), reused=()):
+    """A subtask has taken its part of a record: its new files, and those of live records that it uses again."""
+    return {"call": "ack", "id": record, "subtask": subtask, "fresh": _texts(fresh), "reused": _texts(reused)}
+
+
+def decline(record, subtask):
+    """A subtask can't take its part of a record."""
+    return {"call": "decline", "id": record, "subtask": subtask}
+
+
+def savepoint():
+    """A savepoint is wanted."""
+    return {"call": "savepoint"}
+
+
+def restore(start="latest", shape=None):
+    """The job begins again, from the latest or from a savepoint, in a new shape where one is given."""
+    return {"call": "restore", "from": start, **({} if shape is None else {"shape": shape})}
+
+
+def dispose(record):
+    """A savepoint is let go."""
+    return {"call": "dispose", "id": record}
+
+
+def cancel():
+    """The job ends for good."""
+    return {"call": "cancel"}
+
+
+def take(most=64):
+    """Fetches files for deletion."""
+    return {"call": "take", "most": most}
+
+
+def deleted(file):
+    """A fetched file is deleted."""
+    return {"call": "deleted", "file": str(file)}
+
+
+def undeleted(file):
+    """A fetched file could not be deleted: it waits again."""
+    return {"call": "undeleted", "file": str(file)}
+
+
+def _texts(files):
+    return [str(file) for file in files]
+
+
+class Service:
+    """A service at a URL, or at several of which one leads. `patience` is how many seconds a request is made again for."""
+
+    def __init__(self, *urls, token=None, patience=60.0):
+        self._urls = [url.rstrip("/") for url in urls]
+        self._patience = patience
+        self._session = requests.Session()
+        if token:
+            self._session.headers["Authorization"] = f"Bearer {token}"
+
+    def open(self, name, settings, shape):
+        """Opens a job, or finds it: the same name, settings and shape give the same job."""
+        self.request("POST", "/v1/jobs", {"name": name, "settings": settings, "shape": shape})
+        return Job(self, name)
+
+    def job(self, name):
+        """A job that is there."""
+        return Job(self, name)
+
+    def jobs(self):
+        """What each job is at."""
+        return self.request("GET", "/v1/jobs")["jobs"]
+
+    def request(self, method, path, body=None, key=None, wait=0):
+        """Makes a request until it is answered, and returns its body. Raises `Failed` where the answer is an error."""
+        until = time.monotonic() + self._patience
+        pause = 0.05
+        while True:
+            try:
+                told = self._once(method, path, body, key, wait)
+                if told.status_code != 503:
+                    return _body(told)
+                error = Failed(503, told.text)
+            except requests.RequestException as lost:
+                error = lost
+            if time.monotonic() > until:
+                raise error
+            self._urls.append(self._urls.pop(0))
+            time.sleep(pause)
+            pause = min(pause * 2, 1.0)
+
+    def _once(self, method, path, body, key, wait):
+        headers = {} if key is None else {"Idempotency-Key": key}
+        return self._session.request(method, self._urls[0] + path, json=body, headers=headers, timeout=(5, 30 + wait))
+
+
+def _body(told):
+    try:
+        body = told.json()
+    except ValueError:
+        body = {"error": told.text}
+    if told.status_code >= 400:
+        raise Failed(told.status_code, body.get("error", told.text), body.get("field"))
+    return body
+
+
+class Job:
+    """A job of a service."""
+
+    def __init__(self, service, name):
+        self._service = service
+        self.name = name
+        self._path = f"/v1/jobs/{name}"
+
+    def calls(self, calls, key=None):
+        """Makes calls in order and returns the answer of each, a refusal too. They are no transaction."""
+        if key is None and any(call["call"] in _ONCE for call in calls):
+            key = uuid.uuid4().hex
+        return self._service.request("POST", f"{self._path}/calls", {"calls": calls}, key)["answers"]
+
+    def call(self, call, key=None):
+        """Makes one call. Raises `Refused` where the coordinator refuses it."""
+        answer = self.calls([call], key)[0]
+        if "refused" in answer:
+            file = answer.get("file")
+            raise Refused(answer["refused"], None if file is None else int(file))
+        if answer.get("no_memory"):
+            raise Failed(507, "memory ran out")
+        return answer
+
+    def state(self):
+        """What the job is at."""
+        return self._get("")
+
+    def records(self, before=None, limit=100):
+        """What became of records, the newest first."""
+        return self._get("/records", limit=limit, **({} if before is None else {"before": before}))["records"]
+
+    def record(self, number):
+        """A record: its metadata, who is missing, and what became of it."""
+        return self._get(f"/records/{number}")
+
+    def file(self, number):
+        """A file: who uses it, and what became of it."""
+        return self._get(f"/files/{number}")
+
+    def files(self, limit=100):
+        """Files that were taken and not reported, and those that were deleted last."""
+        return self._get("/files", limit=limit)
+
+    def log(self, after=0):
+        """Yields the log's entries after a place."""
+        while page := self._get("/log", after=after, limit=1000)["calls"]:
+            yield from page
+            after = page[-1]["seq"]
+
+    def events(self, after=0, wait=0):
+        """The events after a place, once there is one or the seconds are over: the place to go on from, and a list."""
+        told = self._get("/events", after=after, wait=wait)
+        return told["upto"], told["events"]
+
+    def follow(self, after=None):
+        """Yields events for ever, by default those after the last one."""
+        after = self.state()["last_event"] if after is None else after
+        while True:
+            after, events = self.events(after, 25)
+            yield from events
+
+    def take(self, most=64):
+        """Fetches files for deletion."""
+        return [int(file) for file in self.call(take(most))["files"]]
+
+    def _get(self, path, **query):
+        text = "&".join(f"{name}={value}" for name, value in query.items())
+        return self._service.request("GET", self._path + path + (f"?{text}" if text else ""), wait=query.get("wait", 0))

@@ -1,0 +1,91 @@
+//! Calls and their answers.
+use serde_json::{json, Value};
+
+/// A call. A subtask is a vertex and an index.
+#[derive(Clone, Debug, PartialEq, Eq)]
+pub enum Call {
+    Tick,
+    Savepoint,
+    Ack { id: u64, subtask: (u16, u16), fresh: Vec<u64>, reused: Vec<u64> },
+    Decline { id: u64, subtask: (u16, u16) },
+    Dispose { id: u64 },
+    /// From a savepoint, or the latest; in a new shape where one is given.
+    Restore { savepoint: Option<u64>, shape: Option<Vec<u64>> },
+    Cancel,
+    Take { most: u64 },
+    Deleted { file: u64 },
+    Undeleted { file: u64 },
+}
+
+impl Call {
+    pub(crate) fn json(&self) -> Value {
+        let subtask = |(vertex, index): &(u16, u16)| format!("{vertex}.{index}");
+        match self {
+            Call::Tick => json!({"call": "tick"}),
+            Call::Savepoint => json!({"call": "savepoint"}),
+            Call::Ack { id, subtask: of, fresh, reused } => {
+                json!({"call": "ack", "id": id, "subtask": subtask(of), "fresh": texts(fresh), "reused": texts(reused)})
+            }
+            Call::Decline { id, subtask: of } => json!({"call": "decline", "id": id, "subtask": subtask(of)}),
+            Call::Dispose { id } => json!({"call": "dispose", "id": id}),
+            Call::Restore { savepoint, shape } => {
+                json!({"call": "restore", "from": savepoint.map_or(json!("latest"), |id| json!(id)), "shape": shape})
+            }
+            Call::Cancel => json!({"call": "cancel"}),
+            Call::Take { most } => json!({"call": "take", "most": most}),
+            Call::Deleted { file } => json!({"call": "deleted", "file": file.to_string()}),
+            Call::Undeleted { file } => json!({"call": "undeleted", "file": file.to_string()}),
+        }
+    }
+
+    /// Whether a repeat of the call does its work a second time.
+    pub(crate) fn wants_key(&self) -> bool {
+        matches!(self, Call::Take { .. } | Call::Savepoint)
+    }
+}
+
+fn texts(files: &[u64]) -> Vec<String> {
+    files.iter().map(u64::to_string).collect()
+}
+
+/// What became of a call.
+#[derive(Clone, Debug, PartialEq)]
+pub enum Answer {
+    /// The call was made. The reply is the API's, as `{"ack": "pending", "missing": 2}`.
+    Made { seq: Option<u64>, reply: Value },
+    /// The coordinator refused the call, which changed nothing.
+    Refused { name: String, file: Option<u64> },
+    /// Memory ran out: nothing changed.
+    NoMemory,
+    /// A call before it in the same request found no memory.
+    NotMade,
+}
+
+impl Answer {
+    pub(crate) fn of(told: &Value) -> Answer {
+        if let Some(name) = told["refused"].as_str() {
+            let file = told["file"].as_str().and_then(|digits| digits.parse().ok());
+            return Answer::Refused { name: name.to_string(), file };
+        }
+        if told["no_memory"] == true {
+            return Answer::NoMemory;
+        }
+        if told["not_made"] == true {
+            return Answer::NotMade;
+        }
+        Answer::Made { seq: told["seq"].as_u64(), reply: told.clone() }
+    }
+
+    /// The files of a take.
+    pub fn files(&self) -> Option<Vec<u64>> {
+        let Answer::Made { reply, .. } = self else {
+            return None;
+        };
+        reply["files"].as_array()?.iter().map(|file| file.as_str()?.parse().ok()).collect()
+    }
+
+    /// Whether the call completed a record.
+    pub fn is_completed(&self) -> bool {
+        matches!(self, Answer::Made { reply, .. } if reply["ack"] == "completed")
+    }
+}

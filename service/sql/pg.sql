@@ -1,0 +1,15 @@
+-- The tables of a PostgreSQL database of the service.
+create table if not exists job(
+    job bigint primary key, name text not null unique, config text not null, shape text not null,
+    started bigint not null, first bigint not null, library text not null);
+create table if not exists call(
+    job bigint not null, seq bigint not null, at bigint not null, record bigint, line text not null,
+    answer text not null, ended text, waiting bigint not null, primary key(job, seq));
+create index if not exists call_record on call(job, record);
+create table if not exists request(
+    job bigint not null, key text not null, at bigint not null, digest text not null, answers text not null,
+    primary key(job, key));
+create index if not exists request_at on request(at);
+create table if not exists leader(
+    one boolean primary key check (one), epoch bigint not null, holder text not null, until timestamptz not null);
+insert into leader values(true, 0, '', '-infinity') on conflict do nothing

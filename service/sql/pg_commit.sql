@@ -1,0 +1,19 @@
+-- One group in one statement, with the lease and the fence: $1 seconds of the lease, $2 the epoch, then the columns of
+-- `job`, `call` and `request` as arrays. Answers how many rows of each were written; none where another leads.
+with l as (
+    update leader set until = clock_timestamp() + $1::float8 * interval '1 s' where epoch = $2::bigint returning 1
+), j as (
+    insert into job select u.job, u.name, u.config, u.shape, u.started, 1, u.library from l, unnest(
+        $3::bigint[], $4::text[], $5::text[], $6::text[], $7::bigint[], $8::text[]) u(job, name, config, shape, started, library)
+    returning 1
+), c as (
+    insert into call select u.job, u.seq, u.at, u.record, u.line, u.answer, u.ended, u.waiting from l, unnest(
+        $9::bigint[], $10::bigint[], $11::bigint[], $12::bigint[], $13::text[], $14::text[], $15::text[], $16::bigint[])
+        u(job, seq, at, record, line, answer, ended, waiting)
+    returning 1
+), r as (
+    insert into request select u.job, u.key, u.at, u.digest, u.answers from l, unnest(
+        $17::bigint[], $18::text[], $19::bigint[], $20::text[], $21::text[]) u(job, key, at, digest, answers)
+    returning 1
+)
+select (select count(*) from l), (select count(*) from j), (select count(*) from c), (select count(*) from r)

@@ -1,0 +1,66 @@
+//! The command line.
+use clap::{Args, Parser, Subcommand};
+use std::path::PathBuf;
+
+/// A checkpoint coordinator for many jobs: durable, over HTTP.
+#[derive(Parser)]
+#[command(name = "relkvanu", version)]
+pub struct Cli {
+    #[command(subcommand)]
+    pub command: Command,
+}
+
+#[derive(Subcommand)]
+pub enum Command {
+    /// Serve jobs over HTTP
+    Serve(Serve),
+    /// Delete the files that a job hands out, which lie in a folder under their numbers
+    Discard(Discard),
+}
+
+#[derive(Args)]
+pub struct Serve {
+    /// A configuration file in TOML; the options below go before it
+    #[arg(long, value_name = "FILE")]
+    pub config: Option<PathBuf>,
+    /// Address and port [default: 127.0.0.1:7780]
+    #[arg(long, value_name = "ADDRESS")]
+    pub listen: Option<String>,
+    /// An SQLite file, or postgres://.. [default: relkvanu.db]
+    #[arg(long, value_name = "DATABASE")]
+    pub database: Option<String>,
+    /// The SQLite file of the history, which can be deleted: it is made again [default: DATABASE.history]
+    #[arg(long, value_name = "FILE")]
+    pub history: Option<PathBuf>,
+    /// The file of tokens: lines of 'read TOKEN' and 'write TOKEN'
+    #[arg(long, value_name = "FILE")]
+    pub token_file: Option<PathBuf>,
+    /// The address that a standby names to clients [default: http://LISTEN]
+    #[arg(long, value_name = "URL")]
+    pub advertise: Option<String>,
+}
+
+#[derive(Args)]
+pub struct Discard {
+    /// The folder of the files
+    #[arg(long, value_name = "DIR")]
+    pub folder: PathBuf,
+    /// The job
+    #[arg(long, value_name = "NAME")]
+    pub job: String,
+    /// The service
+    #[arg(long, value_name = "URL", default_value = "http://127.0.0.1:7780")]
+    pub url: String,
+    /// A file whose first line is a write token
+    #[arg(long, value_name = "FILE")]
+    pub token_file: Option<PathBuf>,
+    /// What stands before a file's number in its name
+    #[arg(long, default_value = "")]
+    pub prefix: String,
+    /// What stands after a file's number in its name
+    #[arg(long, default_value = "")]
+    pub suffix: String,
+    /// Stop when no file waits
+    #[arg(long)]
+    pub once: bool,
+}

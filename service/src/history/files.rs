@@ -1,0 +1,89 @@
+//! What became of files: who brought each, which call released it, and when it was taken and deleted. The coordinator hands
+//! files out in the order in which they were released, so that a count of each call's files attributes each one.
+use super::tables::Tables;
+use crate::model::{Call, Entry};
+use std::collections::VecDeque;
+
+/// Files that one call released, which wait for deletion.
+#[derive(Clone, Copy, Debug, PartialEq, Eq)]
+pub struct Run {
+    pub place: u64,
+    pub released: u64,
+    pub files: u64,
+}
+
+/// The outbox of one job.
+#[derive(Default)]
+pub struct Outbox {
+    runs: VecDeque<Run>,
+    next: u64,
+}
+
+impl Outbox {
+    /// The outbox of runs that stand in their order.
+    pub fn of(runs: Vec<Run>) -> Outbox {
+        let next = runs.last().map_or(0, |run| run.place + 1);
+        Outbox { runs: runs.into(), next }
+    }
+
+    /// Takes in a call of the log.
+    pub fn follow(&mut self, tables: &Tables, call: &Call, entry: &Entry) -> rusqlite::Result<()> {
+        match call {
+            Call::Ack { fresh, .. } => self.ack(tables, fresh, entry)?,
+            Call::Take { .. } => return self.take(tables, entry),
+            Call::Deleted { file } => return tables.deleted(entry.job, *file, entry.seq),
+            Call::Undeleted { file } => {
+                let released = tables.undeleted(entry.job, *file)?.unwrap_or(entry.seq);
+                return self.push(tables, entry.job, released, 1);
+            }
+            _ => {}
+        }
+        self.push(tables, entry.job, entry.seq, entry.waiting)
+    }
+
+    /// Fresh files come with an acknowledgement; of a late one those alone that were handed out.
+    fn ack(&mut self, tables: &Tables, fresh: &[u64], entry: &Entry) -> rusqlite::Result<()> {
+        let is_late = entry.answer.starts_with("ack late");
+        match is_late {
+            true if entry.waiting == 0 => Ok(()),
+            true => fresh.iter().try_for_each(|file| tables.late(entry.job, *file, entry.seq)),
+            false => fresh.iter().try_for_each(|file| tables.born(entry.job, *file, entry.seq)),
+        }
+    }
+
+    fn push(&mut self, tables: &Tables, job: i64, released: u64, files: u64) -> rusqlite::Result<()> {
+        if files == 0 {
+            return Ok(());
+        }
+        let run = Run { place: self.next, released, files };
+        self.next += 1;
+        self.runs.push_back(run);
+        tables.set_run(job, run)
+    }
+
+    fn take(&mut self, tables: &Tables, entry: &Entry) -> rusqlite::Result<()> {
+        let files = entry.answer.split(' ').skip(1).filter_map(|file| file.parse().ok());
+        for file in files {
+            let released = self.pop(tables, entry.job)?;
+            tables.taken(entry.job, file, released, entry.seq)?;
+        }
+        match self.runs.front() {
+            Some(run) => tables.set_run(entry.job, *run),
+            None => Ok(()),
+        }
+    }
+
+    /// The call that released the file that was waiting longest.
+    fn pop(&mut self, tables: &Tables, job: i64) -> rusqlite::Result<Option<u64>> {
+        let Some(run) = self.runs.front_mut() else {
+            return Ok(None);
+        };
+        run.files -= 1;
+        let Run { place, released, files } = *run;
+        if files == 0 {
+            self.runs.pop_front();
+            tables.drop_run(job, place)?;
+        }
+        Ok(Some(released))
+    }
+}

@@ -1,0 +1,133 @@
+//! The thread that makes the history.
+use super::follow::Follower;
+use super::tables::Tables;
+use crate::log;
+use crate::metrics::Metrics;
+use crate::store::Reader;
+use crate::writer::{Board, JobState, Message, Read, ReadDone};
+use std::collections::HashMap;
+use std::path::PathBuf;
+use std::sync::mpsc::SyncSender;
+use std::sync::Arc;
+use std::time::{Duration, Instant};
+use tokio::sync::oneshot;
+
+const PAGE: u32 = 2000;
+/// How often the board is looked at.
+const LOOK: Duration = Duration::from_millis(100);
+/// How long the thread rests after an error.
+const REST: Duration = Duration::from_secs(5);
+const SAMPLE_EACH: Duration = Duration::from_secs(2);
+/// A sample that says what the one before said is left out for so long, in milliseconds.
+const SAME_FOR: u64 = 60_000;
+/// How long samples are kept, in milliseconds.
+const KEEP_SAMPLES: u64 = 7 * 24 * 3_600_000;
+
+pub struct Historian {
+    pub path: PathBuf,
+    pub reader: Box<dyn Reader>,
+    pub board: Arc<Board>,
+    pub metrics: Arc<Metrics>,
+    pub inbox: SyncSender<Message>,
+    /// Records that ended before this moment are not counted: an earlier process did.
+    pub since: u64,
+}
+
+impl Historian {
+    /// Follows the log for as long as the process lives. After an error it begins again from the tables.
+    pub fn run(mut self) {
+        loop {
+            let worked = Tables::open(&self.path).map_err(|error| error.to_string()).and_then(|tables| {
+                let worked = self.work(&tables);
+                tables.roll_back();
+                worked
+            });
+            if let Err(why) = worked {
+                log::warn(&format!("history {}: {why}", self.path.display()));
+            }
+            std::thread::sleep(REST);
+        }
+    }
+
+    fn work(&mut self, tables: &Tables) -> Result<(), String> {
+        let mut followers: HashMap<i64, Follower> = HashMap::new();
+        let mut samples = Samples::default();
+        loop {
+            for (number, last) in self.board.lengths() {
+                if !followers.contains_key(&number) {
+                    followers.extend(self.follower(tables, number, last)?.map(|follower| (number, follower)));
+                }
+                if let Some(follower) = followers.get_mut(&number).filter(|follower| follower.upto < last) {
+                    self.catch_up(tables, follower)?;
+                }
+            }
+            self.sample(tables, &mut samples)?;
+            std::thread::sleep(LOOK);
+        }
+    }
+
+    fn follower(&mut self, tables: &Tables, number: i64, last: u64) -> Result<Option<Follower>, String> {
+        let openings = self.reader.jobs()?;
+        let Some(opening) = openings.iter().find(|opening| opening.number == number) else {
+            return Ok(None);
+        };
+        Follower::open(tables, self.reader.as_mut(), opening, last).map(Some)
+    }
+
+    /// One page, so that a long log of one job keeps no other waiting.
+    fn catch_up(&mut self, tables: &Tables, follower: &mut Follower) -> Result<(), String> {
+        let page = self.reader.log(follower.job, follower.upto, PAGE)?;
+        let ended = follower.follow(tables, &page).map_err(|error| error.to_string())?;
+        for (at, one) in ended.iter().filter(|(at, _)| *at >= self.since) {
+            debug_assert!(*at >= self.since);
+            self.metrics.record(&follower.name, one.kind.word(), one.how, one.took as f64 / 1000.0);
+        }
+        self.metrics.history(&follower.name, follower.upto);
+        Ok(())
+    }
+
+    /// Writes how many files and pending records each job has.
+    fn sample(&self, tables: &Tables, samples: &mut Samples) -> Result<(), String> {
+        if samples.last.is_some_and(|last| last.elapsed() < SAMPLE_EACH) {
+            return Ok(());
+        }
+        samples.last = Some(Instant::now());
+        let (reply, answer) = oneshot::channel();
+        if self.inbox.try_send(Message::Read(Read::Jobs, reply)).is_err() {
+            return Ok(());
+        }
+        let Ok(ReadDone::Jobs(jobs)) = answer.blocking_recv() else {
+            return Ok(());
+        };
+        let write = || {
+            tables.begin()?;
+            for job in jobs.iter().filter(|job| samples.is_new(job)) {
+                tables.sample(job)?;
+                tables.drop_samples(job.now.saturating_sub(KEEP_SAMPLES))?;
+            }
+            tables.commit()
+        };
+        write().map_err(|error: rusqlite::Error| error.to_string())
+    }
+}
+
+/// What was sampled last.
+#[derive(Default)]
+struct Samples {
+    last: Option<Instant>,
+    said: std::cell::RefCell<HashMap<i64, (u64, [u64; 4])>>,
+}
+
+impl Samples {
+    /// Whether a sample says something new, or the last one is old.
+    fn is_new(&self, job: &JobState) -> bool {
+        let pending = job.pending_checkpoints + job.pending_savepoints;
+        let says = [job.files.in_use, job.files.waiting, job.files.taken, pending as u64];
+        let mut said = self.said.borrow_mut();
+        if said.get(&job.opening.number).is_some_and(|(at, last)| *last == says && job.now < at + SAME_FOR) {
+            return false;
+        }
+        said.insert(job.opening.number, (job.now, says));
+        true
+    }
+}

@@ -1,0 +1,142 @@
+//! Reads of the history.
+use super::tables::bits;
+use rusqlite::{params, Connection, OpenFlags, OptionalExtension, Params, Row};
+use serde::Serialize;
+use std::path::Path;
+use std::time::Duration;
+
+const RECORD: &str = "id, kind, shape, started, finished, how, gone, why, first_ack, last_ack, slowest, acks, missing";
+const FILE: &str = "file, born, released, taken, deleted";
+
+/// What became of a record. Moments are milliseconds of Unix time.
+#[derive(Serialize, Debug)]
+pub struct RecordRow {
+    pub id: i64,
+    pub kind: String,
+    pub shape: Vec<u64>,
+    pub started: i64,
+    /// When it stopped being pending, and how.
+    pub finished: Option<i64>,
+    pub how: String,
+    /// When it stopped being live, and why.
+    pub gone: Option<i64>,
+    pub why: Option<String>,
+    pub first_ack: Option<i64>,
+    pub last_ack: Option<i64>,
+    /// The subtask of the last acknowledgement.
+    pub slowest: Option<String>,
+    pub acks: i64,
+    /// The subtasks that were missing when it ended, at most 32 of them.
+    pub missing: Vec<String>,
+    /// How many more were missing.
+    pub more_missing: u64,
+}
+
+/// What became of a file: places in the log.
+#[derive(Serialize, Debug)]
+pub struct FileRow {
+    pub file: String,
+    pub born: Option<u64>,
+    pub released: Option<u64>,
+    pub taken: Option<u64>,
+    pub deleted: Option<u64>,
+}
+
+#[derive(Serialize, Debug)]
+pub struct Sample {
+    pub at: i64,
+    pub in_use: i64,
+    pub waiting: i64,
+    pub taken: i64,
+    pub pending: i64,
+}
+
+pub struct HistoryReader(Connection);
+
+impl HistoryReader {
+    pub fn open(path: &Path) -> Result<HistoryReader, String> {
+        // the tables are made where they are not there, so that the first read finds them
+        super::tables::Tables::open(path).map_err(|error| format!("{}: {error}", path.display()))?;
+        let flags = OpenFlags::SQLITE_OPEN_READ_ONLY | OpenFlags::SQLITE_OPEN_NO_MUTEX;
+        let opened = Connection::open_with_flags(path, flags).and_then(|connection| {
+            connection.busy_timeout(Duration::from_secs(2))?;
+            Ok(connection)
+        });
+        opened.map(HistoryReader).map_err(|error| format!("{}: {error}", path.display()))
+    }
+
+    fn all<T>(&self, sql: &str, given: impl Params, row: fn(&Row) -> rusqlite::Result<T>) -> Result<Vec<T>, String> {
+        let read = || -> rusqlite::Result<Vec<T>> { self.0.prepare_cached(sql)?.query_map(given, row)?.collect() };
+        read().map_err(|error| error.to_string())
+    }
+
+    /// The records below a number, at most so many, the greatest number first.
+    pub fn records(&self, job: i64, before: u64, most: u64) -> Result<Vec<RecordRow>, String> {
+        let sql = format!("select {RECORD} from record where job = ? and id < ? order by id desc limit ?");
+        self.all(&sql, params![job, i64::try_from(before).unwrap_or(i64::MAX), bits(most)], record_of)
+    }
+
+    pub fn record(&self, job: i64, id: u64) -> Result<Option<RecordRow>, String> {
+        let sql = format!("select {RECORD} from record where job = ? and id = ?");
+        Ok(self.all(&sql, params![job, bits(id)], record_of)?.pop())
+    }
+
+    /// Files that were taken and not reported since, the oldest first, and those that were deleted last.
+    pub fn files(&self, job: i64, most: u64) -> Result<(Vec<FileRow>, Vec<FileRow>), String> {
+        let taken = format!("select {FILE} from file where job = ? and taken is not null and deleted is null order by taken limit ?");
+        let deleted = format!("select {FILE} from file where job = ? and deleted is not null order by deleted desc limit ?");
+        let given = params![job, bits(most)];
+        Ok((self.all(&taken, given, file_of)?, self.all(&deleted, given, file_of)?))
+    }
+
+    pub fn file(&self, job: i64, file: u64) -> Result<Option<FileRow>, String> {
+        let sql = format!("select {FILE} from file where job = ? and file = ?");
+        Ok(self.all(&sql, params![job, bits(file)], file_of)?.pop())
+    }
+
+    /// The last samples after a moment, in their order.
+    pub fn samples(&self, job: i64, after: u64, most: u64) -> Result<Vec<Sample>, String> {
+        let sql = "select at, in_use, waiting, taken, pending from
+            (select * from sample where job = ? and at > ? order by at desc limit ?) order by at";
+        self.all(sql, params![job, i64::try_from(after).unwrap_or(i64::MAX), bits(most)], sample_of)
+    }
+
+    /// How far the history of a job is.
+    pub fn upto(&self, job: i64) -> Result<u64, String> {
+        let found = self.0.query_row("select upto from progress where job = ?", [job], |row| row.get::<_, i64>(0));
+        let found = found.optional().map_err(|error| error.to_string())?;
+        Ok(found.and_then(|upto| u64::try_from(upto).ok()).unwrap_or(0))
+    }
+}
+
+fn record_of(row: &Row) -> rusqlite::Result<RecordRow> {
+    let (shape, missing): (String, Option<String>) = (row.get(2)?, row.get(12)?);
+    let (more, missing): (Vec<_>, Vec<_>) =
+        missing.iter().flat_map(|text| text.split(' ')).map(str::to_string).partition(|word| word.starts_with('+'));
+    Ok(RecordRow {
+        id: row.get(0)?,
+        kind: row.get(1)?,
+        shape: shape.split(' ').filter_map(|word| word.parse().ok()).collect(),
+        started: row.get(3)?,
+        finished: row.get(4)?,
+        how: row.get(5)?,
+        gone: row.get(6)?,
+        why: row.get(7)?,
+        first_ack: row.get(8)?,
+        last_ack: row.get(9)?,
+        slowest: row.get(10)?,
+        acks: row.get(11)?,
+        missing,
+        more_missing: more.first().and_then(|text| text[1..].parse().ok()).unwrap_or(0),
+    })
+}
+
+fn file_of(row: &Row) -> rusqlite::Result<FileRow> {
+    let place = |at: usize| Ok::<_, rusqlite::Error>(row.get::<_, Option<i64>>(at)?.and_then(|seq| u64::try_from(seq).ok()));
+    let file: i64 = row.get(0)?;
+    Ok(FileRow { file: (file as u64).to_string(), born: place(1)?, released: place(2)?, taken: place(3)?, deleted: place(4)? })
+}
+
+fn sample_of(row: &Row) -> rusqlite::Result<Sample> {
+    Ok(Sample { at: row.get(0)?, in_use: row.get(1)?, waiting: row.get(2)?, taken: row.get(3)?, pending: row.get(4)? })
+}

@@ -1,0 +1,178 @@
+//! What became of records: when each was triggered, acknowledged and ended, how, and who was missing.
+use super::tables::Tables;
+use crate::model::{Call, Entry, Kind, Subtask};
+use std::collections::{BTreeMap, BTreeSet, HashSet};
+
+/// How many missing subtasks are named.
+const MOST_NAMED: usize = 32;
+
+/// A record that subtasks are missing of, and what is known of it so far.
+pub struct Pending {
+    pub kind: Kind,
+    pub shape: Vec<u64>,
+    pub started: u64,
+    pub acked: HashSet<Subtask>,
+    pub first_ack: Option<u64>,
+    pub last_ack: Option<u64>,
+    pub slowest: Option<Subtask>,
+}
+
+impl Pending {
+    pub fn new(kind: Kind, shape: Vec<u64>, started: u64) -> Pending {
+        Pending { kind, shape, started, acked: HashSet::new(), first_ack: None, last_ack: None, slowest: None }
+    }
+
+    pub fn ack(&mut self, subtask: Subtask, at: u64) {
+        self.acked.insert(subtask);
+        self.first_ack.get_or_insert(at);
+        self.last_ack = Some(at);
+        self.slowest = Some(subtask);
+    }
+
+    /// The first missing subtasks by name, then how many more there are; `None` where none is missing.
+    fn missing(&self) -> Option<String> {
+        let subtasks = self.shape.iter().zip(0..).flat_map(|(parallelism, vertex)| {
+            (0..*parallelism).map(move |index| Subtask { vertex, index: u16::try_from(index).unwrap_or(u16::MAX) })
+        });
+        let missing: Vec<String> = subtasks.filter(|one| !self.acked.contains(one)).map(|one| one.to_string()).collect();
+        let named = missing[..missing.len().min(MOST_NAMED)].join(" ");
+        match missing.len() {
+            0 => None,
+            count if count > MOST_NAMED => Some(format!("{named} +{}", count - MOST_NAMED)),
+            _ => Some(named),
+        }
+    }
+}
+
+/// How a record stopped being pending.
+pub struct Ended {
+    pub kind: Kind,
+    pub how: &'static str,
+    /// Milliseconds from its trigger on.
+    pub took: u64,
+}
+
+/// The records of one job.
+pub struct Records {
+    pub shape: Vec<u64>,
+    pub timeout: u64,
+    pub pending: BTreeMap<u64, Pending>,
+    /// Pending records of which more is known than the tables have.
+    changed: BTreeSet<u64>,
+}
+
+impl Records {
+    pub fn new(shape: Vec<u64>, timeout: u64) -> Records {
+        Records { shape, timeout, pending: BTreeMap::new(), changed: BTreeSet::new() }
+    }
+
+    /// Takes in a call of the log, and returns which records stopped being pending by it.
+    pub fn follow(&mut self, tables: &Tables, call: &Call, entry: &Entry) -> rusqlite::Result<Vec<Ended>> {
+        let mut ended = Vec::new();
+        if let Call::Ack { id, subtask, .. } = call {
+            ended.extend(self.ack(tables, *id, *subtask, entry)?);
+        }
+        for id in entry.ended.iter().flat_map(|ids| ids.split(' ')).filter_map(|id| id.parse().ok()) {
+            ended.extend(self.end(tables, id, call, entry)?);
+        }
+        if let Call::Restore { shape: Some(shape), .. } = call {
+            self.shape.clone_from(shape);
+        }
+        let kind = match call {
+            Call::Tick if entry.answer.contains("triggered") => Some(Kind::Checkpoint),
+            Call::Savepoint => Some(Kind::Savepoint),
+            _ => None,
+        };
+        if let (Some(kind), Some(id)) = (kind, entry.record) {
+            let pending = Pending::new(kind, self.shape.clone(), entry.at);
+            tables.new_record(entry.job, id, &pending)?;
+            self.pending.insert(id, pending);
+        }
+        Ok(ended)
+    }
+
+    fn ack(&mut self, tables: &Tables, id: u64, subtask: Subtask, entry: &Entry) -> rusqlite::Result<Option<Ended>> {
+        if entry.answer.starts_with("ack late") {
+            return Ok(None);
+        }
+        if let Some(pending) = self.pending.get_mut(&id) {
+            pending.ack(subtask, entry.at);
+            self.changed.insert(id);
+        }
+        if entry.answer.starts_with("ack completed") {
+            return self.finish(tables, id, "completed", entry);
+        }
+        Ok(None)
+    }
+
+    /// A record is live no more, by a call that was made of another or of itself.
+    fn end(&mut self, tables: &Tables, id: u64, call: &Call, entry: &Entry) -> rusqlite::Result<Option<Ended>> {
+        let how = match self.pending.get(&id) {
+            Some(pending) => how_pending_ended(call, entry, id, pending.started.saturating_add(self.timeout)),
+            None => how_done_ended(call),
+        };
+        tables.gone(entry.job, id, entry.at, how)?;
+        self.finish(tables, id, how, entry)
+    }
+
+    /// A pending record is pending no more.
+    fn finish(&mut self, tables: &Tables, id: u64, how: &'static str, entry: &Entry) -> rusqlite::Result<Option<Ended>> {
+        let Some(pending) = self.pending.remove(&id) else {
+            return Ok(None);
+        };
+        self.changed.remove(&id);
+        tables.acks(entry.job, id, &pending)?;
+        tables.finish(entry.job, id, entry.at, how, pending.missing())?;
+        Ok(Some(Ended { kind: pending.kind, how, took: entry.at.saturating_sub(pending.started) }))
+    }
+
+    /// Writes what the tables do not have yet.
+    pub fn write(&mut self, tables: &Tables, job: i64) -> rusqlite::Result<()> {
+        for id in std::mem::take(&mut self.changed) {
+            if let Some(pending) = self.pending.get(&id) {
+                tables.acks(job, id, pending)?;
+            }
+        }
+        Ok(())
+    }
+}
+
+fn how_pending_ended(call: &Call, entry: &Entry, id: u64, expires: u64) -> &'static str {
+    match call {
+        Call::Tick if expires <= entry.at => "expired",
+        Call::Decline { .. } if entry.record == Some(id) => "declined",
+        Call::Tick | Call::Decline { .. } => "failed over",
+        Call::Restore { .. } => "restored",
+        Call::Cancel => "cancelled",
+        _ => "subsumed",
+    }
+}
+
+fn how_done_ended(call: &Call) -> &'static str {
+    match call {
+        Call::Dispose { .. } => "disposed",
+        Call::Restore { .. } => "rolled back",
+        Call::Cancel => "cancelled",
+        _ => "not retained",
+    }
+}
+
+#[cfg(test)]
+mod tests {
+    use super::*;
+
+    #[test]
+    fn names_who_is_missing() {
+        let mut pending = Pending::new(Kind::Checkpoint, vec![1, 3], 0);
+        pending.ack(Subtask { vertex: 1, index: 1 }, 5);
+        assert_eq!(pending.missing().as_deref(), Some("0.0 1.0 1.2"));
+        let many = Pending::new(Kind::Checkpoint, vec![40], 0);
+        assert!(many.missing().is_some_and(|text| text.ends_with("0.31 +8")));
+        for index in 0..3 {
+            pending.ack(Subtask { vertex: 1, index }, 6);
+        }
+        pending.ack(Subtask { vertex: 0, index: 0 }, 7);
+        assert_eq!(pending.missing(), None);
+        assert_eq!((pending.first_ack, pending.last_ack), (Some(5), Some(7)));
+    }
+}

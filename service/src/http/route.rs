@@ -1,0 +1,177 @@
+//! The routes: which paths there are, and what each needs.
+use super::page::{self, Asset};
+use super::wire::{is_name, parse_file};
+use crate::auth::Access;
+use hyper::Method;
+
+/// What a request asks for.
+#[derive(Clone, Debug, PartialEq, Eq)]
+pub enum Route {
+    Asset(&'static Asset),
+    Health,
+    Ready,
+    Metrics,
+    Jobs,
+    NewJob,
+    Job(String),
+    Calls(String),
+    Records(String),
+    Record(String, u64),
+    Files(String),
+    File(String, u64),
+    Log(String),
+    Events(String),
+    Samples(String),
+}
+
+/// Why a path has no route.
+#[derive(Debug, PartialEq, Eq)]
+pub enum NoRoute {
+    /// There is no such path.
+    Path,
+    /// The path is there, but not with this method.
+    Method,
+    /// A part of the path has not the form that it needs.
+    Part(&'static str),
+}
+
+/// All routes of the API, which the description has to have.
+#[cfg(test)]
+pub const API: [(&str, &str); 15] = [
+    ("get", "/healthz"),
+    ("get", "/readyz"),
+    ("get", "/metrics"),
+    ("get", "/openapi.json"),
+    ("get", "/v1/jobs"),
+    ("post", "/v1/jobs"),
+    ("get", "/v1/jobs/{job}"),
+    ("post", "/v1/jobs/{job}/calls"),
+    ("get", "/v1/jobs/{job}/records"),
+    ("get", "/v1/jobs/{job}/records/{id}"),
+    ("get", "/v1/jobs/{job}/files"),
+    ("get", "/v1/jobs/{job}/files/{file}"),
+    ("get", "/v1/jobs/{job}/log"),
+    ("get", "/v1/jobs/{job}/events"),
+    ("get", "/v1/jobs/{job}/samples"),
+];
+
+impl Route {
+    pub fn of(method: &Method, path: &str) -> Result<Route, NoRoute> {
+        let is_get = method == Method::GET || method == Method::HEAD;
+        if let Some(asset) = page::asset(path) {
+            return if is_get { Ok(Route::Asset(asset)) } else { Err(NoRoute::Method) };
+        }
+        let parts: Vec<&str> = path.split('/').skip(1).collect();
+        match (&parts[..], is_get, method == Method::POST) {
+            (["healthz"], true, _) => Ok(Route::Health),
+            (["readyz"], true, _) => Ok(Route::Ready),
+            (["metrics"], true, _) => Ok(Route::Metrics),
+            (["v1", "jobs"], true, _) => Ok(Route::Jobs),
+            (["v1", "jobs"], _, true) => Ok(Route::NewJob),
+            (["healthz" | "readyz" | "metrics"] | ["v1", "jobs"], ..) => Err(NoRoute::Method),
+            (["v1", "jobs", name, rest @ ..], ..) => Route::of_job(name, rest, method, is_get),
+            _ => Err(NoRoute::Path),
+        }
+    }
+
+    fn of_job(name: &str, rest: &[&str], method: &Method, is_get: bool) -> Result<Route, NoRoute> {
+        if !is_name(name) {
+            return Err(NoRoute::Part("job"));
+        }
+        let name = name.to_string();
+        if rest == ["calls"] {
+            return if method == Method::POST { Ok(Route::Calls(name)) } else { Err(NoRoute::Method) };
+        }
+        let route = match rest {
+            [] => Route::Job(name),
+            ["records"] => Route::Records(name),
+            ["records", id] => Route::Record(name, id.parse().map_err(|_| NoRoute::Part("id"))?),
+            ["files"] => Route::Files(name),
+            ["files", file] => Route::File(name, parse_file(file).ok_or(NoRoute::Part("file"))?),
+            ["log"] => Route::Log(name),
+            ["events"] => Route::Events(name),
+            ["samples"] => Route::Samples(name),
+            _ => return Err(NoRoute::Path),
+        };
+        if is_get { Ok(route) } else { Err(NoRoute::Method) }
+    }
+
+    /// What a request needs a token for; `None` where it needs none.
+    pub fn access(&self) -> Option<Access> {
+        match self {
+            Route::Asset(_) | Route::Health | Route::Ready => None,
+            Route::NewJob | Route::Calls(_) => Some(Access::Write),
+            _ => Some(Access::Read),
+        }
+    }
+
+    /// Whether only a leader can answer.
+    pub fn needs_leader(&self) -> bool {
+        !matches!(self, Route::Asset(_) | Route::Health | Route::Ready | Route::Metrics)
+    }
+
+    /// The route's name in the metrics.
+    pub fn name(&self) -> &'static str {
+        match self {
+            Route::Asset(_) => "page",
+            Route::Health => "healthz",
+            Route::Ready => "readyz",
+            Route::Metrics => "metrics",
+            Route::Jobs => "jobs",
+            Route::NewJob => "new_job",
+            Route::Job(_) => "job",
+            Route::Calls(_) => "calls",
+            Route::Records(_) => "records",
+            Route::Record(..) => "record",
+            Route::Files(_) => "files",
+            Route::File(..) => "file",
+            Route::Log(_) => "log",
+            Route::Events(_) => "events",
+            Route::Samples(_) => "samples",
+        }
+    }
+}
+
+#[cfg(test)]
+mod tests {
+    use super::*;
+
+    #[test]
+    fn each_route_of_the_api_is_found() {
+        for (method, path) in API {
+            let path = path.replace("{job}", "orders").replace("{id}", "12").replace("{file}", "31");
+            let method = if method == "post" { Method::POST } else { Method::GET };
+            assert!(Route::of(&method, &path).is_ok(), "{method} {path}");
+        }
+    }
+
+    #[test]
+    fn the_description_has_each_route_and_no_other() -> Result<(), serde_json::Error> {
+        let described: serde_json::Value = serde_json::from_str(include_str!("../../web/openapi.json"))?;
+        let paths = described["paths"].as_object().map(|paths| paths.iter().collect::<Vec<_>>()).unwrap_or_default();
+        let methods = |item: &serde_json::Value| item.as_object().map(|item| item.keys().cloned().collect::<Vec<_>>());
+        let described: Vec<(String, String)> = paths
+            .iter()
+            .flat_map(|(path, item)| methods(item).unwrap_or_default().into_iter().map(|method| (method, (*path).clone())))
+            .collect();
+        let mut wanted: Vec<(String, String)> = API.iter().map(|(method, path)| (method.to_string(), path.to_string())).collect();
+        let mut described = described;
+        wanted.sort();
+        described.sort();
+        assert_eq!(described, wanted);
+        Ok(())
+    }
+
+    #[test]
+    fn other_paths_are_none() {
+        for path in ["", "/x", "/v1", "/v1/jobs/a/b", "/v1/jobs/a/records/1/2", "/v1/jobs/", "/../etc/passwd", "//", "/v1/jobs/a/"] {
+            assert!(Route::of(&Method::GET, path).is_err(), "{path}");
+        }
+        assert_eq!(Route::of(&Method::GET, "/v1/jobs/..%2f/log"), Err(NoRoute::Part("job")));
+        assert_eq!(Route::of(&Method::GET, "/v1/jobs/a/records/x"), Err(NoRoute::Part("id")));
+        assert_eq!(Route::of(&Method::GET, "/v1/jobs/a/files/+1"), Err(NoRoute::Part("file")));
+        assert_eq!(Route::of(&Method::PUT, "/v1/jobs"), Err(NoRoute::Method));
+        assert_eq!(Route::of(&Method::DELETE, "/v1/jobs/a"), Err(NoRoute::Method));
+        assert_eq!(Route::of(&Method::GET, "/v1/jobs/a/calls"), Err(NoRoute::Method));
+    }
+}

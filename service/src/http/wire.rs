@@ -1,0 +1,294 @@
+//! Reads the bodies of requests. Whatever does not fit is named with its place, as `calls[3].fresh[0]`.
+use crate::model::{check_shape, Call, Settings, Subtask, Target, FIELDS};
+use serde_json::{Map, Value};
+
+/// The greatest number that every JSON reader keeps exactly.
+const GREATEST: u64 = 1 << 53;
+const MOST_TAKEN: u64 = 65_536;
+const LONGEST_NAME: usize = 64;
+
+/// What is wrong with a request, and where.
+#[derive(Debug, PartialEq, Eq)]
+pub struct Invalid {
+    pub field: String,
+    pub why: String,
+}
+
+type Checked<T> = Result<T, Invalid>;
+
+/// A JSON object whose members are taken out one by one, so that a member that nobody wants is found.
+struct Members {
+    /// The object's place, with a dot, or nothing for the body itself.
+    place: String,
+    members: Map<String, Value>,
+}
+
+impl Members {
+    fn of(place: &str, value: Value) -> Checked<Members> {
+        match value {
+            Value::Object(members) if place.is_empty() => Ok(Members { place: String::new(), members }),
+            Value::Object(members) => Ok(Members { place: format!("{place}."), members }),
+            _ if place.is_empty() => Err(invalid("body", "is no JSON object")),
+            _ => Err(invalid(place, "is no JSON object")),
+        }
+    }
+
+    fn field(&self, name: &str) -> String {
+        format!("{}{name}", self.place)
+    }
+
+    fn wrong(&self, name: &str, why: &str) -> Invalid {
+        invalid(&self.field(name), why)
+    }
+
+    /// Takes a member out. `null` is no member.
+    fn take(&mut self, name: &str) -> Option<Value> {
+        self.members.remove(name).filter(|value| !value.is_null())
+    }
+
+    fn wanted(&mut self, name: &str) -> Checked<Value> {
+        self.take(name).ok_or_else(|| self.wrong(name, "is missing"))
+    }
+
+    fn text(&mut self, name: &str) -> Checked<String> {
+        match self.wanted(name)? {
+            Value::String(text) => Ok(text),
+            _ => Err(self.wrong(name, "is no string")),
+        }
+    }
+
+    fn number(&mut self, name: &str, least: u64, most: u64) -> Checked<u64> {
+        let value = self.wanted(name)?;
+        let number = value.as_u64().filter(|number| (least..=most).contains(number));
+        number.ok_or_else(|| self.wrong(name, &format!("is no whole number from {least} to {most}")))
+    }
+
+    fn id(&mut self) -> Checked<u64> {
+        self.number("id", 0, GREATEST)
+    }
+
+    fn subtask(&mut self) -> Checked<Subtask> {
+        let text = self.text("subtask")?;
+        text.parse().map_err(|()| self.wrong("subtask", "is no subtask, as \"1.0\""))
+    }
+
+    fn file(&mut self) -> Checked<u64> {
+        let value = self.wanted("file")?;
+        file(&value, || self.field("file"))
+    }
+
+    /// A list of files; none where there is no such member.
+    fn files(&mut self, name: &str) -> Checked<Vec<u64>> {
+        match self.take(name) {
+            None => Ok(Vec::new()),
+            Some(Value::Array(items)) => {
+                let place = |at: usize| format!("{}{name}[{at}]", self.place);
+                items.iter().enumerate().map(|(at, item)| file(item, || place(at))).collect()
+            }
+            Some(_) => Err(self.wrong(name, "is no list of files")),
+        }
+    }
+
+    fn shape(&mut self) -> Checked<Option<Vec<u64>>> {
+        let Some(value) = self.take("shape") else {
+            return Ok(None);
+        };
+        let numbers = value.as_array().and_then(|items| items.iter().map(Value::as_u64).collect::<Option<Vec<u64>>>());
+        let shape = numbers.ok_or_else(|| self.wrong("shape", "is no list of parallelisms"))?;
+        check_shape(&shape).map_err(|why| self.wrong("shape", &why))?;
+        Ok(Some(shape))
+    }
+
+    /// Refuses members that nobody took.
+    fn finish(self) -> Checked<()> {
+        match self.members.keys().next() {
+            Some(name) => Err(self.wrong(name, "is no field here")),
+            None => Ok(()),
+        }
+    }
+}
+
+fn invalid(field: &str, why: &str) -> Invalid {
+    Invalid { field: field.to_string(), why: why.to_string() }
+}
+
+/// A file's number, which is a string, since JSON readers lose the digits of large numbers.
+fn file(value: &Value, place: impl Fn() -> String) -> Checked<u64> {
+    let wrong = |why: &str| invalid(&place(), why);
+    match value {
+        Value::String(digits) => parse_file(digits).ok_or_else(|| wrong("is no file number from 0 to 2^64 - 1")),
+        _ => Err(wrong("is no string; a file's number is one, as \"31\"")),
+    }
+}
+
+/// A file's number in digits.
+pub fn parse_file(digits: &str) -> Option<u64> {
+    digits.bytes().all(|byte| byte.is_ascii_digit()).then(|| digits.parse().ok()).flatten()
+}
+
+fn body(bytes: &[u8]) -> Checked<Members> {
+    let value = serde_json::from_slice(bytes).map_err(|error| invalid("body", &format!("is no JSON: {error}")))?;
+    Members::of("", value)
+}
+
+/// A job that a request wants to open.
+#[derive(Debug, PartialEq, Eq)]
+pub struct NewJob {
+    pub name: String,
+    pub settings: Settings,
+    pub shape: Vec<u64>,
+}
+
+/// Reads the body that opens a job.
+pub fn new_job(bytes: &[u8]) -> Checked<NewJob> {
+    let mut members = body(bytes)?;
+    let name = members.text("name")?;
+    if !is_name(&name) {
+        let why = "is no name: 1 to 64 of a-z, A-Z, 0-9, '-', '_' and '.', and a letter or digit first";
+        return Err(members.wrong("name", why));
+    }
+    let settings = settings(Members::of("settings", members.wanted("settings")?)?)?;
+    let shape = members.shape()?.ok_or_else(|| members.wrong("shape", "is missing"))?;
+    members.finish()?;
+    Ok(NewJob { name, settings, shape })
+}
+
+fn settings(mut members: Members) -> Checked<Settings> {
+    let mut numbers = [0; 6];
+    for (number, field) in numbers.iter_mut().zip(&FIELDS) {
+        *number = match field.default {
+            Some(default) if !members.members.contains_key(field.name) => default,
+            _ => members.number(field.name, field.least, field.most)?,
+        };
+    }
+    let keep_on_cancel = match members.take("keep_on_cancel") {
+        None => false,
+        Some(Value::Bool(keep)) => keep,
+        Some(_) => return Err(members.wrong("keep_on_cancel", "is neither true nor false")),
+    };
+    members.finish()?;
+    Ok(Settings::of(numbers, keep_on_cancel))
+}
+
+/// Whether a text may name a job.
+pub fn is_name(text: &str) -> bool {
+    let may_stand = |byte: u8| byte.is_ascii_alphanumeric() || b"-_.".contains(&byte);
+    let begins = text.bytes().next().is_some_and(|byte| byte.is_ascii_alphanumeric());
+    begins && text.len() <= LONGEST_NAME && text.bytes().all(may_stand)
+}
+
+/// Reads the body of a request with calls, at most `most`.
+pub fn calls(bytes: &[u8], most: usize) -> Checked<Vec<Call>> {
+    let mut members = body(bytes)?;
+    let Value::Array(items) = members.wanted("calls")? else {
+        return Err(members.wrong("calls", "is no list"));
+    };
+    members.finish()?;
+    if items.is_empty() || items.len() > most {
+        return Err(invalid("calls", &format!("has {} calls, not 1 to {most}", items.len())));
+    }
+    items.into_iter().enumerate().map(|(at, item)| Members::of(&format!("calls[{at}]"), item).and_then(call)).collect()
+}
+
+fn call(mut members: Members) -> Checked<Call> {
+    let name = members.text("call")?;
+    let call = match name.as_str() {
+        "tick" => Call::Tick,
+        "savepoint" => Call::Savepoint,
+        "ack" => Call::Ack {
+            id: members.id()?,
+            subtask: members.subtask()?,
+            fresh: members.files("fresh")?,
+            reused: members.files("reused")?,
+        },
+        "decline" => Call::Decline { id: members.id()?, subtask: members.subtask()? },
+        "dispose" => Call::Dispose { id: members.id()? },
+        "restore" => Call::Restore { target: target(&mut members)?, shape: members.shape()? },
+        "cancel" => Call::Cancel,
+        "take" => Call::Take { most: members.number("most", 1, MOST_TAKEN)? },
+        "deleted" => Call::Deleted { file: members.file()? },
+        "undeleted" => Call::Undeleted { file: members.file()? },
+        _ => return Err(members.wrong("call", &format!("{name:?} is no call"))),
+    };
+    members.finish()?;
+    Ok(call)
+}
+
+fn target(members: &mut Members) -> Checked<Target> {
+    match members.wanted("from")? {
+        Value::String(text) if text == "latest" => Ok(Target::Latest),
+        value => match value.as_u64().filter(|id| (1..=GREATEST).contains(id)) {
+            Some(id) => Ok(Target::Savepoint(id)),
+            None => Err(members.wrong("from", "is neither \"latest\" nor the number of a savepoint")),
+        },
+    }
+}
+
+#[cfg(test)]
+mod tests {
+    use super::*;
+
+    fn field_of(body: &str) -> String {
+        calls(body.as_bytes(), 10).map_or_else(|invalid| invalid.field, |calls| format!("{calls:?}"))
+    }
+
+    #[test]
+    fn reads_calls() {
+        let body = r#"{"calls":[{"call":"ack","id":12,"subtask":"1.0","fresh":["31"],"reused":["18446744073709551615"]},
+            {"call":"take","most":64},{"call":"restore","from":3,"shape":[2]},{"call":"restore","from":"latest"}]}"#;
+        let subtask = Subtask { vertex: 1, index: 0 };
+        let wanted = vec![
+            Call::Ack { id: 12, subtask, fresh: vec![31], reused: vec![u64::MAX] },
+            Call::Take { most: 64 },
+            Call::Restore { target: Target::Savepoint(3), shape: Some(vec![2]) },
+            Call::Restore { target: Target::Latest, shape: None },
+        ];
+        assert_eq!(calls(body.as_bytes(), 10), Ok(wanted));
+    }
+
+    #[test]
+    fn names_the_field() {
+        let ack = |rest: &str| field_of(&format!(r#"{{"calls":[{{"call":"tick"}},{{"call":"ack",{rest}}}]}}"#));
+        assert_eq!(ack(r#""subtask":"1.0""#), "calls[1].id");
+        assert_eq!(ack(r#""id":9007199254740993,"subtask":"1.0""#), "calls[1].id");
+        assert_eq!(ack(r#""id":1.5,"subtask":"1.0""#), "calls[1].id");
+        assert_eq!(ack(r#""id":-1,"subtask":"1.0""#), "calls[1].id");
+        assert_eq!(ack(r#""id":1,"subtask":"1""#), "calls[1].subtask");
+        assert_eq!(ack(r#""id":1,"subtask":"1.65536""#), "calls[1].subtask");
+        assert_eq!(ack(r#""id":1,"subtask":"+1.0""#), "calls[1].subtask");
+        assert_eq!(ack(r#""id":1,"subtask":"1.0","fresh":["1",2]"#), "calls[1].fresh[1]");
+        assert_eq!(ack(r#""id":1,"subtask":"1.0","reused":["18446744073709551616"]"#), "calls[1].reused[0]");
+        assert_eq!(ack(r#""id":1,"subtask":"1.0","frsh":["1"]"#), "calls[1].frsh");
+        assert_eq!(ack(r#""id":1,"subtask":"1.0","fresh":{}"#), "calls[1].fresh");
+    }
+
+    #[test]
+    fn names_the_field_of_other_calls() {
+        assert_eq!(field_of("{"), "body");
+        assert_eq!(field_of("[]"), "body");
+        assert_eq!(field_of("{}"), "calls");
+        assert_eq!(field_of(r#"{"calls":[]}"#), "calls");
+        assert_eq!(field_of(r#"{"calls":[{"call":"tick"}],"key":1}"#), "key");
+        assert_eq!(field_of(r#"{"calls":[7]}"#), "calls[0]");
+        assert_eq!(field_of(r#"{"calls":[{"call":"show","id":1}]}"#), "calls[0].call");
+        assert_eq!(field_of(r#"{"calls":[{"call":"take","most":0}]}"#), "calls[0].most");
+        assert_eq!(field_of(r#"{"calls":[{"call":"deleted","file":7}]}"#), "calls[0].file");
+        assert_eq!(field_of(r#"{"calls":[{"call":"restore","from":"last"}]}"#), "calls[0].from");
+        assert_eq!(field_of(r#"{"calls":[{"call":"restore","from":"latest","shape":[0]}]}"#), "calls[0].shape");
+    }
+
+    #[test]
+    fn reads_jobs() {
+        let body = br#"{"name":"orders","settings":{"interval":1000,"retained":2},"shape":[2,1]}"#;
+        let settings = Settings::of([1000, 0, 1, 600_000, 0, 2], false);
+        assert_eq!(new_job(body), Ok(NewJob { name: "orders".to_string(), settings, shape: vec![2, 1] }));
+        let wrong = |body: &str| new_job(body.as_bytes()).err().map(|invalid| invalid.field).unwrap_or_default();
+        assert_eq!(wrong(r#"{"name":"../x","settings":{"interval":1000},"shape":[1]}"#), "name");
+        assert_eq!(wrong(r#"{"name":"x","settings":{},"shape":[1]}"#), "settings.interval");
+        assert_eq!(wrong(r#"{"name":"x","settings":{"interval":9},"shape":[1]}"#), "settings.interval");
+        assert_eq!(wrong(r#"{"name":"x","settings":{"interval":1000,"at_once":65},"shape":[1]}"#), "settings.at_once");
+        assert_eq!(wrong(r#"{"name":"x","settings":{"interval":1000,"every":1},"shape":[1]}"#), "settings.every");
+        assert_eq!(wrong(r#"{"name":"x","settings":{"interval":1000},"shape":[]}"#), "shape");
+        assert_eq!(wrong(r#"{"name":"x","settings":{"interval":1000}}"#), "shape");
+    }
+}

@@ -1,0 +1,84 @@
+//! Requests that change something: a new job, and calls.
+use super::reply::{bad_field, body, error, invalid, json_reply, Reply};
+use super::{no_job, wire, App};
+use crate::model::Call;
+use crate::writer::{CallsDone, Created, Key, Message};
+use http_body::{LengthLimitError, Limited};
+use hyper::header::HeaderMap;
+use hyper::{Body, Request};
+use serde_json::json;
+use sha2::{Digest, Sha256};
+use std::time::Duration;
+
+const KEY: &str = "idempotency-key";
+const LONGEST_KEY: usize = 255;
+
+pub async fn new_job(app: &App, request: Request<Body>) -> Result<Reply, Box<Reply>> {
+    let bytes = read_body(app, request).await?;
+    let wire::NewJob { name, settings, shape } = wire::new_job(&bytes).map_err(|why| invalid(&why))?;
+    let told = json!({"name": name, "settings": settings.json(), "shape": shape});
+    let created = app.ask(|reply| Message::Create { name, settings, shape, reply }).await?;
+    Ok(match created {
+        Created::New => json_reply(201, &told),
+        Created::Same => json_reply(200, &told),
+        Created::Other => bad_name_taken(),
+        Created::NotOpened(why) => error(507, &format!("the job was not opened: {why}")),
+    })
+}
+
+fn bad_name_taken() -> Reply {
+    let why = "name is that of a job with other settings or another shape";
+    json_reply(409, &json!({"error": why, "field": "name"}))
+}
+
+pub async fn calls(app: &App, job: String, request: Request<Body>) -> Result<Reply, Box<Reply>> {
+    app.number(&job)?;
+    let name = key_name(request.headers())?;
+    let bytes = read_body(app, request).await?;
+    let calls = wire::calls(&bytes, app.limits.calls).map_err(|why| invalid(&why))?;
+    if let Some(call) = calls.iter().find(|call| call.wants_key()).filter(|_| name.is_none()) {
+        return Err(key_is_missing(call).into());
+    }
+    let key = name.map(|name| Key { name, digest: digest(&bytes) });
+    let at = job.clone();
+    let done = app.ask(|reply| Message::Calls { job, calls, key, reply }).await?;
+    Ok(match done {
+        CallsDone::Made(outcomes) => body(200, app.board.answers(&outcomes)),
+        CallsDone::Known(answers) => body(200, answers),
+        CallsDone::KeyUsed => json_reply(422, &json!({"error": "Idempotency-Key was used with another body", "field": "Idempotency-Key"})),
+        CallsDone::NoJob => no_job(&at),
+    })
+}
+
+fn key_is_missing(call: &Call) -> Reply {
+    bad_field("Idempotency-Key", &format!("is missing: without it, a {} whose answer is lost is made twice", call.name()))
+}
+
+/// The request's key: 1 to 255 visible characters of ASCII.
+fn key_name(headers: &HeaderMap) -> Result<Option<String>, Box<Reply>> {
+    let Some(value) = headers.get(KEY) else {
+        return Ok(None);
+    };
+    match value.to_str() {
+        Ok(name) if (1..=LONGEST_KEY).contains(&name.len()) => Ok(Some(name.to_string())),
+        _ => Err(bad_field("Idempotency-Key", &format!("has not 1 to {LONGEST_KEY} characters of ASCII")).into()),
+    }
+}
+
+fn digest(bytes: &[u8]) -> String {
+    Sha256::digest(bytes).iter().map(|byte| format!("{byte:02x}")).collect()
+}
+
+/// The whole body, within its limits of bytes and time.
+async fn read_body(app: &App, request: Request<Body>) -> Result<hyper::body::Bytes, Box<Reply>> {
+    let most = app.limits.body_bytes;
+    let limited = Limited::new(request.into_body(), most);
+    let time = Duration::from_secs(app.limits.body_seconds);
+    match tokio::time::timeout(time, hyper::body::to_bytes(limited)).await {
+        Ok(Ok(bytes)) => Ok(bytes),
+        Ok(Err(why)) if why.is::<LengthLimitError>() => Err(error(413, &format!("the body has more than {most} bytes")).into()),
+        Ok(Err(_)) => Err(error(400, "the body ended early").into()),
+        Err(_) => Err(error(408, &format!("the body did not come within {} s", time.as_secs())).into()),
+    }
+}
+

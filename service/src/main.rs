@@ -1,0 +1,34 @@
+//! `relkvanu`: serves checkpoint coordinators over HTTP, and deletes the files that they hand out.
+mod auth;
+mod cli;
+mod config;
+mod discard;
+mod history;
+mod http;
+mod log;
+mod metrics;
+mod model;
+mod serve;
+mod store;
+mod writer;
+
+use clap::Parser;
+use cli::{Cli, Command};
+use std::process::ExitCode;
+
+fn main() -> ExitCode {
+    abort_on_panic();
+    match Cli::parse().command {
+        Command::Serve(given) => serve::run(&given),
+        Command::Discard(given) => discard::run(&given),
+    }
+}
+
+/// A thread that panics ends the process, so that nothing half done goes on: the next start reads what was committed.
+fn abort_on_panic() {
+    let tell = std::panic::take_hook();
+    std::panic::set_hook(Box::new(move |info| {
+        tell(info);
+        std::process::abort()
+    }));
+}

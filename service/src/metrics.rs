@@ -1,0 +1,187 @@
+//! What Prometheus reads: counters and times by the writer, gauges by reads.
+use crate::model::{Mode, Outcome};
+use crate::writer::JobState;
+use prometheus::{
+    Encoder, GaugeVec, Histogram, HistogramOpts, HistogramVec, IntCounterVec, IntGauge, IntGaugeVec, Opts, Registry, TextEncoder,
+};
+use std::time::Duration;
+
+const SECONDS: [f64; 12] = [0.0005, 0.001, 0.002, 0.005, 0.01, 0.02, 0.05, 0.1, 0.25, 0.5, 1.0, 5.0];
+const ROWS: [f64; 8] = [1.0, 4.0, 16.0, 64.0, 256.0, 1024.0, 4096.0, 16384.0];
+const DURATIONS: [f64; 12] = [0.1, 0.25, 0.5, 1.0, 2.5, 5.0, 10.0, 30.0, 60.0, 120.0, 300.0, 600.0];
+
+pub struct Metrics {
+    registry: Registry,
+    calls: IntCounterVec,
+    requests: IntCounterVec,
+    commit_seconds: Histogram,
+    commit_rows: Histogram,
+    leader: IntGauge,
+    connections: IntGauge,
+    records: IntCounterVec,
+    durations: HistogramVec,
+    gauges: Gauges,
+}
+
+/// The gauges of jobs, which are set anew at each scrape.
+struct Gauges {
+    mode: IntGaugeVec,
+    interval: GaugeVec,
+    completed: GaugeVec,
+    opened: GaugeVec,
+    files: IntGaugeVec,
+    pending: IntGaugeVec,
+    log_calls: IntGaugeVec,
+    history: IntGaugeVec,
+}
+
+impl Metrics {
+    pub fn new() -> Result<Metrics, prometheus::Error> {
+        let metrics = Metrics {
+            registry: Registry::new(),
+            calls: counter("relkvanu_calls_total", "Calls, by what became of them.", &["job_name", "call", "outcome"])?,
+            requests: counter("relkvanu_http_requests_total", "HTTP requests, by route and status.", &["route", "status"])?,
+            commit_seconds: histogram("relkvanu_commit_seconds", "How long a commit takes.", &SECONDS)?,
+            commit_rows: histogram("relkvanu_commit_calls", "How many calls share a commit.", &ROWS)?,
+            leader: IntGauge::new("relkvanu_leader", "1 where this process leads.")?,
+            connections: IntGauge::new("relkvanu_http_connections", "Open connections.")?,
+            records: counter("relkvanu_records_total", "Records that ended being pending, by how.", &["job_name", "kind", "how"])?,
+            durations: HistogramVec::new(
+                HistogramOpts::new("relkvanu_completion_seconds", "From a record's trigger to its completion.")
+                    .buckets(DURATIONS.to_vec()),
+                &["job_name", "kind"],
+            )?,
+            gauges: Gauges::new()?,
+        };
+        metrics.register()?;
+        Ok(metrics)
+    }
+
+    fn register(&self) -> Result<(), prometheus::Error> {
+        let registry = &self.registry;
+        for counter in [&self.calls, &self.requests, &self.records] {
+            registry.register(Box::new(counter.clone()))?;
+        }
+        registry.register(Box::new(self.commit_seconds.clone()))?;
+        registry.register(Box::new(self.commit_rows.clone()))?;
+        registry.register(Box::new(self.leader.clone()))?;
+        registry.register(Box::new(self.connections.clone()))?;
+        registry.register(Box::new(self.durations.clone()))?;
+        self.gauges.register(registry)
+    }
+
+    pub fn call(&self, job: &str, call: &str, outcome: &Outcome) {
+        self.calls.with_label_values(&[job, call, outcome.word()]).inc();
+    }
+
+    pub fn commit(&self, calls: usize, took: Duration) {
+        self.commit_seconds.observe(took.as_secs_f64());
+        self.commit_rows.observe(calls as f64);
+    }
+
+    pub fn request(&self, route: &str, status: u16) {
+        self.requests.with_label_values(&[route, &status.to_string()]).inc();
+    }
+
+    /// The gauge of open connections.
+    pub fn connections(&self) -> &IntGauge {
+        &self.connections
+    }
+
+    /// A record ended being pending; `seconds` from its trigger on.
+    pub fn record(&self, job: &str, kind: &str, how: &str, seconds: f64) {
+        self.records.with_label_values(&[job, kind, how]).inc();
+        if how == "completed" {
+            self.durations.with_label_values(&[job, kind]).observe(seconds);
+        }
+    }
+
+    /// How far the history is in a job's log.
+    pub fn history(&self, job: &str, upto: u64) {
+        set(&self.gauges.history, &[job], upto);
+    }
+
+    pub fn lead(&self, leads: bool) {
+        self.leader.set(i64::from(leads));
+    }
+
+    /// All metrics as text, with the gauges of these jobs.
+    pub fn text(&self, jobs: &[JobState]) -> Result<Vec<u8>, prometheus::Error> {
+        for job in jobs {
+            self.gauges.set(job);
+        }
+        let mut text = Vec::new();
+        TextEncoder::new().encode(&self.registry.gather(), &mut text)?;
+        Ok(text)
+    }
+}
+
+impl Gauges {
+    fn new() -> Result<Gauges, prometheus::Error> {
+        Ok(Gauges {
+            mode: gauge("relkvanu_mode", "What the job is doing: 1 running, 2 failed, 3 cancelled.", &["job_name"])?,
+            interval: seconds("relkvanu_interval_seconds", "From one trigger to the next, the pause if it is longer.")?,
+            completed: seconds(
+                "relkvanu_last_completed_timestamp_seconds",
+                "When the last checkpoint completed, in Unix time; before the first, when the job was opened.",
+            )?,
+            opened: seconds("relkvanu_job_opened_timestamp_seconds", "When the job was opened, in Unix time.")?,
+            files: gauge("relkvanu_files", "State files that are in use, wait for deletion, or were taken for it.", &["job_name", "state"])?,
+            pending: gauge("relkvanu_pending_records", "Records that subtasks are missing of.", &["job_name", "kind"])?,
+            log_calls: gauge("relkvanu_log_calls", "Calls in the job's log.", &["job_name"])?,
+            history: gauge("relkvanu_history_calls", "Calls of the log that the history has read.", &["job_name"])?,
+        })
+    }
+
+    fn register(&self, registry: &Registry) -> Result<(), prometheus::Error> {
+        let Gauges { mode, interval, completed, opened, files, pending, log_calls, history } = self;
+        for gauge in [mode, files, pending, log_calls, history] {
+            registry.register(Box::new(gauge.clone()))?;
+        }
+        [interval, completed, opened].into_iter().try_for_each(|gauge| registry.register(Box::new(gauge.clone())))
+    }
+
+    fn set(&self, job: &JobState) {
+        let name = job.opening.name.as_str();
+        let mode = match job.mode {
+            Mode::Running => 1,
+            Mode::Failed => 2,
+            Mode::Cancelled => 3,
+        };
+        set(&self.mode, &[name], mode);
+        let settings = &job.opening.settings;
+        set_seconds(&self.interval, name, settings.interval.max(settings.pause));
+        set_seconds(&self.completed, name, job.last_completed.unwrap_or(job.opening.started));
+        set_seconds(&self.opened, name, job.opening.started);
+        set(&self.files, &[name, "in_use"], job.files.in_use);
+        set(&self.files, &[name, "waiting"], job.files.waiting);
+        set(&self.files, &[name, "taken"], job.files.taken);
+        set(&self.pending, &[name, "checkpoint"], job.pending_checkpoints as u64);
+        set(&self.pending, &[name, "savepoint"], job.pending_savepoints as u64);
+        set(&self.log_calls, &[name], job.seq);
+    }
+}
+
+fn set(gauge: &IntGaugeVec, labels: &[&str], value: u64) {
+    gauge.with_label_values(labels).set(i64::try_from(value).unwrap_or(i64::MAX));
+}
+
+fn set_seconds(gauge: &GaugeVec, job: &str, milliseconds: u64) {
+    gauge.with_label_values(&[job]).set(milliseconds as f64 / 1000.0);
+}
+
+fn seconds(name: &str, help: &str) -> Result<GaugeVec, prometheus::Error> {
+    GaugeVec::new(Opts::new(name, help), &["job_name"])
+}
+
+fn counter(name: &str, help: &str, labels: &[&str]) -> Result<IntCounterVec, prometheus::Error> {
+    IntCounterVec::new(Opts::new(name, help), labels)
+}
+
+fn gauge(name: &str, help: &str, labels: &[&str]) -> Result<IntGaugeVec, prometheus::Error> {
+    IntGaugeVec::new(Opts::new(name, help), labels)
+}
+
+fn histogram(name: &str, help: &str, buckets: &[f64]) -> Result<Histogram, prometheus::Error> {
+    Histogram::with_opts(HistogramOpts::new(name, help).buckets(buckets.to_vec()))
+}

@@ -1,0 +1,75 @@
+//! The calls that change a job.
+use std::fmt;
+use std::str::FromStr;
+
+/// A parallel subtask of a job, written `vertex.index`.
+#[derive(Clone, Copy, Debug, PartialEq, Eq, PartialOrd, Ord, Hash)]
+pub struct Subtask {
+    pub vertex: u16,
+    pub index: u16,
+}
+
+impl fmt::Display for Subtask {
+    fn fmt(&self, f: &mut fmt::Formatter<'_>) -> fmt::Result {
+        write!(f, "{}.{}", self.vertex, self.index)
+    }
+}
+
+impl FromStr for Subtask {
+    type Err = ();
+
+    /// Reads `vertex.index`, two numbers of at most 65535 in digits alone.
+    fn from_str(text: &str) -> Result<Subtask, ()> {
+        let (vertex, index) = text.split_once('.').ok_or(())?;
+        let half = |text: &str| match text.bytes().all(|byte| byte.is_ascii_digit()) {
+            true => text.parse().map_err(|_| ()),
+            false => Err(()),
+        };
+        Ok(Subtask { vertex: half(vertex)?, index: half(index)? })
+    }
+}
+
+/// What a restore begins from.
+#[derive(Clone, Copy, Debug, PartialEq, Eq)]
+pub enum Target {
+    Latest,
+    Savepoint(u64),
+}
+
+/// A call, without the moment that the writer gives it.
+#[derive(Clone, Debug, PartialEq, Eq)]
+pub enum Call {
+    Tick,
+    Savepoint,
+    Ack { id: u64, subtask: Subtask, fresh: Vec<u64>, reused: Vec<u64> },
+    Decline { id: u64, subtask: Subtask },
+    Dispose { id: u64 },
+    Restore { target: Target, shape: Option<Vec<u64>> },
+    Cancel,
+    Take { most: u64 },
+    Deleted { file: u64 },
+    Undeleted { file: u64 },
+}
+
+impl Call {
+    /// The first word of the call's line, and the `call` of a request.
+    pub fn name(&self) -> &'static str {
+        match self {
+            Call::Tick => "tick",
+            Call::Savepoint => "savepoint",
+            Call::Ack { .. } => "ack",
+            Call::Decline { .. } => "decline",
+            Call::Dispose { .. } => "dispose",
+            Call::Restore { .. } => "restore",
+            Call::Cancel => "cancel",
+            Call::Take { .. } => "take",
+            Call::Deleted { .. } => "deleted",
+            Call::Undeleted { .. } => "undeleted",
+        }
+    }
+
+    /// Whether a repeat of this call does its work a second time, so that a lost answer needs a key.
+    pub fn wants_key(&self) -> bool {
+        matches!(self, Call::Savepoint | Call::Take { .. })
+    }
+}

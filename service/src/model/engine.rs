@@ -1,0 +1,155 @@
+//! The proved coordinator of one job: the only module that names the crate of `embed/rust`.
+use super::call::{Call, Target};
+use super::live::{Kind, Live, LiveRecord};
+use super::outcome::{Reply, TickEnd};
+use super::settings::Settings;
+use std::num::NonZeroU64;
+
+pub use relkvanu::{Choice, FileCounts, Mode};
+
+/// Why a call changed nothing.
+pub enum Fault {
+    Refused { name: String, file: Option<u64> },
+    Memory,
+}
+
+/// A job could not be opened: memory ran out, or its settings were refused.
+#[derive(Debug)]
+pub struct NoJob(pub String);
+
+pub struct Engine(relkvanu::Coordinator);
+
+impl Engine {
+    /// Opens a coordinator at the moment `now`. Its first record has the number 1.
+    pub fn open(settings: &Settings, shape: &[u64], now: u64) -> Result<Engine, NoJob> {
+        let settings = relkvanu::Settings {
+            interval: settings.interval,
+            pause: settings.pause,
+            at_once: settings.at_once,
+            timeout: settings.timeout,
+            tolerable: settings.tolerable,
+            retained: settings.retained,
+            keep_on_cancel: settings.keep_on_cancel,
+        };
+        let opened = relkvanu::Coordinator::open(&settings, shape, now, 1);
+        opened.map(Engine).map_err(|fault| NoJob(format!("{fault:?}")))
+    }
+
+    /// Makes a call at the moment `now`.
+    pub fn make(&mut self, call: &Call, now: u64) -> Result<Reply, Fault> {
+        let core = &mut self.0;
+        let made = match call {
+            Call::Tick => core.tick(now),
+            Call::Savepoint => core.savepoint(now),
+            Call::Ack { id, subtask, fresh, reused } => {
+                core.ack(now, *id, (subtask.vertex, subtask.index), fresh, reused)
+            }
+            Call::Decline { id, subtask } => core.decline(now, *id, (subtask.vertex, subtask.index)),
+            Call::Dispose { id } => core.dispose(*id),
+            Call::Restore { target, shape } => core.restore(now, number(*target), shape.as_deref()),
+            Call::Cancel => core.cancel(now),
+            Call::Take { most } => return self.take(*most),
+            Call::Deleted { file } => core.deleted(*file),
+            Call::Undeleted { file } => core.undeleted(*file),
+        };
+        made.map_err(fault).and_then(reply)
+    }
+
+    fn take(&mut self, most: u64) -> Result<Reply, Fault> {
+        let waiting = self.counts().waiting;
+        let places = usize::try_from(most.min(waiting)).unwrap_or(0);
+        let mut buffer = vec![0; places];
+        let files = self.0.take(&mut buffer).map_err(fault)?;
+        Ok(Reply::Taken(files.to_vec()))
+    }
+
+    pub fn mode(&self) -> Mode {
+        self.0.mode()
+    }
+
+    pub fn due(&self) -> u64 {
+        self.0.due()
+    }
+
+    pub fn oldest_expiry(&self) -> Option<u64> {
+        self.0.oldest_expiry()
+    }
+
+    pub fn choice(&self) -> Choice {
+        self.0.choice()
+    }
+
+    pub fn counts(&self) -> FileCounts {
+        self.0.file_counts()
+    }
+
+    pub fn missing(&self, id: u64) -> Option<u64> {
+        self.0.missing(id)
+    }
+
+    /// How many uses a file has; `None` where memory ran out.
+    pub fn uses(&self, file: u64) -> Option<u64> {
+        match self.0.count(file) {
+            Ok(relkvanu::Answer::Counted { uses, .. }) => Some(uses),
+            _ => None,
+        }
+    }
+
+    /// The metadata of a live record, as JSON; `None` where there is none, or memory ran out.
+    pub fn show(&self, id: u64) -> Option<String> {
+        self.0.show(id).ok()
+    }
+
+    pub fn live(&self) -> Live {
+        let core = &self.0;
+        (0..).map_while(|place| core.live(place)).map(|found| (found.id, record(found))).collect()
+    }
+}
+
+fn record(found: relkvanu::Live) -> LiveRecord {
+    let kind = match found.kind {
+        relkvanu::Kind::Checkpoint => Kind::Checkpoint,
+        relkvanu::Kind::Savepoint => Kind::Savepoint,
+    };
+    LiveRecord { id: found.id, kind, done: found.done }
+}
+
+fn number(target: Target) -> Option<NonZeroU64> {
+    match target {
+        Target::Latest => None,
+        Target::Savepoint(id) => NonZeroU64::new(id),
+    }
+}
+
+/// What a call answered. A reply that no call of [`Call`] has counts as refused, under its name.
+fn reply(answer: relkvanu::Answer) -> Result<Reply, Fault> {
+    use relkvanu::Answer as A;
+    Ok(match answer {
+        A::Triggered { expired, id } => Reply::Ticked { expired, end: TickEnd::Triggered(id) },
+        A::HeldInterval { expired } => Reply::Ticked { expired, end: TickEnd::HeldInterval },
+        A::HeldAtOnce { expired } => Reply::Ticked { expired, end: TickEnd::HeldAtOnce },
+        A::HeldPause { expired } => Reply::Ticked { expired, end: TickEnd::HeldPause },
+        A::Failed { expired } => Reply::Ticked { expired, end: TickEnd::Failed },
+        A::SavepointTriggered(id) => Reply::SavepointTriggered(id),
+        A::AckPending { missing } => Reply::AckPending { missing },
+        A::AckCompleted { dropped, released } => Reply::AckCompleted { dropped, released },
+        A::AckLate { handed_out } => Reply::AckLate { handed_out },
+        A::DeclineAborted { released } => Reply::DeclineAborted { released },
+        A::DeclineFailed { released } => Reply::DeclineFailed { released },
+        A::DeclineLate => Reply::DeclineLate,
+        A::Disposed { released } => Reply::Disposed { released },
+        A::Restored { from, released } => Reply::Restored { from, released },
+        A::Cancelled { dropped, released } => Reply::Cancelled { dropped, released },
+        A::Deleted(file) => Reply::Deleted(file),
+        A::Undeleted(file) => Reply::Undeleted(file),
+        A::Counted { .. } => return Err(Fault::Refused { name: "Counted".to_string(), file: None }),
+    })
+}
+
+fn fault(fault: relkvanu::Fault) -> Fault {
+    match fault {
+        relkvanu::Fault::Memory => Fault::Memory,
+        relkvanu::Fault::Refused(refusal) => Fault::Refused { name: refusal.name(), file: refusal.file() },
+        other => Fault::Refused { name: format!("{other:?}"), file: None },
+    }
+}

@@ -1,0 +1,167 @@
+//! One job: its coordinator, its place in the log, and when the timer has to tick it.
+use super::call::Call;
+use super::engine::{Choice, Engine, Fault, Mode, NoJob};
+use super::live::{ended, Kind, Live, LiveRecord};
+use super::outcome::{Outcome, Reply, TickEnd};
+use super::settings::Settings;
+
+/// What a job was opened with, which never changes.
+#[derive(Clone, Debug, PartialEq, Eq)]
+pub struct Opening {
+    /// The job's number in the database.
+    pub number: i64,
+    pub name: String,
+    pub settings: Settings,
+    pub shape: Vec<u64>,
+    /// The moment of the opening.
+    pub started: u64,
+}
+
+/// A row of the log: a call that was made, and its answer.
+#[derive(Clone, Debug, PartialEq, Eq)]
+pub struct Entry {
+    pub job: i64,
+    pub seq: u64,
+    /// The moment of the call.
+    pub at: u64,
+    /// The record that the call is about.
+    pub record: Option<u64>,
+    pub line: String,
+    pub answer: String,
+    /// The numbers of the records that the call ended, with a space between them.
+    pub ended: Option<String>,
+    /// How many files the call added to those that wait for deletion.
+    pub waiting: u64,
+}
+
+pub struct Job {
+    pub opening: Opening,
+    /// The shape that the job has now.
+    pub shape: Vec<u64>,
+    /// How many calls the log has.
+    pub seq: u64,
+    /// When the last checkpoint completed.
+    pub last_completed: Option<u64>,
+    /// The last call that an engine hears of through the events.
+    pub last_event: u64,
+    engine: Engine,
+    live: Live,
+}
+
+impl Job {
+    pub fn open(opening: Opening) -> Result<Job, NoJob> {
+        let engine = Engine::open(&opening.settings, &opening.shape, opening.started)?;
+        let shape = opening.shape.clone();
+        Ok(Job { opening, shape, seq: 0, last_completed: None, last_event: 0, engine, live: Live::new() })
+    }
+
+    /// Makes a call. Where it changed something, there is the row that has to be committed before the call is answered.
+    pub fn call(&mut self, call: &Call, now: u64) -> (Outcome, Option<Entry>) {
+        let waiting = self.engine.counts().waiting;
+        let reply = match self.engine.make(call, now) {
+            Ok(reply) => reply,
+            Err(Fault::Refused { name, file }) => return (Outcome::Refused { name, file }, None),
+            Err(Fault::Memory) => return (Outcome::NoMemory, None),
+        };
+        if reply.changed_nothing() {
+            return (Outcome::Made { seq: None, reply }, None);
+        }
+        self.seq += 1;
+        let entry = self.entry(call, now, &reply, waiting);
+        (Outcome::Made { seq: Some(self.seq), reply }, Some(entry))
+    }
+
+    /// The row of the call that was just made.
+    fn entry(&mut self, call: &Call, now: u64, reply: &Reply, waiting: u64) -> Entry {
+        let record = record_of(call, reply);
+        let ended = self.follow(record, reply);
+        self.note(call, now, record, reply);
+        Entry {
+            job: self.opening.number,
+            seq: self.seq,
+            at: now,
+            record,
+            line: call.line(now),
+            answer: reply.text(),
+            ended,
+            waiting: self.engine.counts().waiting.saturating_sub(waiting),
+        }
+    }
+
+    /// Brings the live records up to date, and tells which ones a call ended. They are read anew where its answer says
+    /// that one became done or went.
+    fn follow(&mut self, record: Option<u64>, reply: &Reply) -> Option<String> {
+        let added = match reply {
+            Reply::Ticked { expired: 0, end: TickEnd::Triggered(_) } => Some(Kind::Checkpoint),
+            Reply::SavepointTriggered(_) => Some(Kind::Savepoint),
+            Reply::Ticked { expired: 0, end } if *end != TickEnd::Failed => return None,
+            Reply::AckPending { .. } | Reply::AckLate { .. } | Reply::DeclineLate => return None,
+            Reply::Taken(_) | Reply::Deleted(_) | Reply::Undeleted(_) => return None,
+            _ => None,
+        };
+        if let (Some(kind), Some(id)) = (added, record) {
+            self.live.insert(id, LiveRecord { id, kind, done: false });
+            return None;
+        }
+        let after = self.engine.live();
+        let gone = ended(&self.live, &after);
+        self.live = after;
+        gone
+    }
+
+    fn note(&mut self, call: &Call, now: u64, record: Option<u64>, reply: &Reply) {
+        let is_checkpoint = record.and_then(|id| self.live.get(&id)).is_some_and(|live| live.kind == Kind::Checkpoint);
+        if matches!(reply, Reply::AckCompleted { .. }) && is_checkpoint {
+            self.last_completed = Some(now);
+        }
+        if let Call::Restore { shape: Some(shape), .. } = call {
+            self.shape.clone_from(shape);
+        }
+        if is_event(reply) {
+            self.last_event = self.seq;
+        }
+    }
+
+    /// The moment at which the timer has to tick: a checkpoint is due and may be triggered, or a record expires.
+    pub fn wake(&mut self) -> Option<u64> {
+        if self.engine.mode() != Mode::Running {
+            return None;
+        }
+        let expiry = self.engine.oldest_expiry();
+        let has_room = self.pending(Kind::Checkpoint) < self.opening.settings.pending_limit();
+        let due = has_room.then(|| self.engine.due());
+        due.into_iter().chain(expiry).min()
+    }
+
+    pub fn pending(&self, kind: Kind) -> usize {
+        self.live.values().filter(|live| live.kind == kind && !live.done).count()
+    }
+
+    pub fn live(&self) -> &Live {
+        &self.live
+    }
+
+    pub fn engine(&mut self) -> &mut Engine {
+        &mut self.engine
+    }
+}
+
+/// The record that a call is about: the one it names, or the one that its answer names.
+fn record_of(call: &Call, reply: &Reply) -> Option<u64> {
+    match (call, reply) {
+        (Call::Ack { id, .. } | Call::Decline { id, .. } | Call::Dispose { id }, _) => Some(*id),
+        (_, Reply::Ticked { end: TickEnd::Triggered(id), .. } | Reply::SavepointTriggered(id)) => Some(*id),
+        (_, Reply::Restored { from: Choice::Checkpoint(id) | Choice::Savepoint(id), .. }) => Some(*id),
+        _ => None,
+    }
+}
+
+/// Whether an engine wants to hear of it: a record was triggered, completed or failed, or the job restored or ended.
+fn is_event(reply: &Reply) -> bool {
+    match reply {
+        Reply::Ticked { expired, end } => *expired > 0 || matches!(end, TickEnd::Triggered(_) | TickEnd::Failed),
+        Reply::SavepointTriggered(_) | Reply::AckCompleted { .. } | Reply::Restored { .. } | Reply::Cancelled { .. } => true,
+        Reply::DeclineAborted { .. } | Reply::DeclineFailed { .. } | Reply::Disposed { .. } => true,
+        _ => false,
+    }
+}

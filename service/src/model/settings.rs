@@ -1,0 +1,122 @@
+//! A job's settings and shape, and their limits, which are those of docs/RULES.md.
+use serde_json::{json, Value};
+use std::fmt::Write;
+
+const LONGEST: u64 = 1 << 40;
+
+/// How a job takes checkpoints. Durations are milliseconds.
+#[derive(Clone, Copy, Debug, PartialEq, Eq)]
+pub struct Settings {
+    pub interval: u64,
+    pub pause: u64,
+    pub at_once: u64,
+    pub timeout: u64,
+    pub tolerable: u64,
+    pub retained: u64,
+    pub keep_on_cancel: bool,
+}
+
+/// A number of the settings: its name, its limits, and Flink's default where there is one.
+pub struct Field {
+    pub name: &'static str,
+    pub least: u64,
+    pub most: u64,
+    pub default: Option<u64>,
+}
+
+/// The numbers of the settings, in the order of the `config` line.
+pub const FIELDS: [Field; 6] = [
+    Field { name: "interval", least: 10, most: LONGEST, default: None },
+    Field { name: "pause", least: 0, most: LONGEST, default: Some(0) },
+    Field { name: "at_once", least: 1, most: 64, default: Some(1) },
+    Field { name: "timeout", least: 1, most: LONGEST, default: Some(600_000) },
+    Field { name: "tolerable", least: 0, most: 1000, default: Some(0) },
+    Field { name: "retained", least: 1, most: 1000, default: Some(1) },
+];
+
+impl Settings {
+    /// The settings of six numbers, in the order of [`FIELDS`].
+    pub fn of(numbers: [u64; 6], keep_on_cancel: bool) -> Settings {
+        let [interval, pause, at_once, timeout, tolerable, retained] = numbers;
+        Settings { interval, pause, at_once, timeout, tolerable, retained, keep_on_cancel }
+    }
+
+    fn numbers(&self) -> [u64; 6] {
+        [self.interval, self.pause, self.at_once, self.timeout, self.tolerable, self.retained]
+    }
+
+    /// The script's `config` line.
+    pub fn line(&self) -> String {
+        let mut line = "config".to_string();
+        for number in self.numbers() {
+            let _ = write!(line, " {number}");
+        }
+        line + if self.keep_on_cancel { " keep" } else { " delete" }
+    }
+
+    /// Reads a line that [`Settings::line`] wrote.
+    pub fn parse(line: &str) -> Option<Settings> {
+        let words: Vec<&str> = line.strip_prefix("config ")?.split(' ').collect();
+        let (keep, numbers) = words.split_last()?;
+        let numbers: Vec<u64> = numbers.iter().map(|word| word.parse().ok()).collect::<Option<_>>()?;
+        Some(Settings::of(numbers.try_into().ok()?, *keep == "keep"))
+    }
+
+    pub fn json(&self) -> Value {
+        let mut object = serde_json::Map::new();
+        for (field, number) in FIELDS.iter().zip(self.numbers()) {
+            object.insert(field.name.to_string(), json!(number));
+        }
+        object.insert("keep_on_cancel".to_string(), json!(self.keep_on_cancel));
+        Value::Object(object)
+    }
+
+    /// How many checkpoints may be pending at once: one where there is a pause.
+    pub fn pending_limit(&self) -> usize {
+        match self.pause {
+            0 => usize::try_from(self.at_once).unwrap_or(usize::MAX),
+            _ => 1,
+        }
+    }
+}
+
+/// Whether the numbers are a shape; if not, what is wrong with them.
+pub fn check_shape(shape: &[u64]) -> Result<(), String> {
+    if shape.is_empty() || shape.len() > 256 {
+        return Err(format!("has {} vertices, not 1 to 256", shape.len()));
+    }
+    if shape.contains(&0) {
+        return Err("has a parallelism of 0; each is at least 1".to_string());
+    }
+    let subtasks = shape.iter().try_fold(0u64, |sum, parallelism| sum.checked_add(*parallelism));
+    match subtasks {
+        Some(1..=4096) => Ok(()),
+        _ => Err("has more than 4096 subtasks".to_string()),
+    }
+}
+
+/// The parallelisms of a shape, with a space between them.
+pub fn shape_words(shape: &[u64]) -> String {
+    shape.iter().map(u64::to_string).collect::<Vec<_>>().join(" ")
+}
+
+#[cfg(test)]
+mod tests {
+    use super::*;
+
+    #[test]
+    fn reads_the_line_that_it_wrote() {
+        let settings = Settings::of([1000, 0, 1, 600_000, 0, 1], true);
+        assert_eq!(settings.line(), "config 1000 0 1 600000 0 1 keep");
+        assert_eq!(Settings::parse(&settings.line()), Some(settings));
+    }
+
+    #[test]
+    fn shapes_have_limits() {
+        assert!(check_shape(&[1, 2]).is_ok());
+        assert!(check_shape(&[4096]).is_ok());
+        for shape in [&[][..], &[0], &[4097], &[u64::MAX, 1], &[1; 257]] {
+            assert!(check_shape(shape).is_err());
+        }
+    }
+}

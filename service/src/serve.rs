@@ -1,0 +1,218 @@
+//! `relkvanu serve`: opens the database, makes the jobs from the log, and serves them until it is stopped.
+use crate::auth::Tokens;
+use crate::cli;
+use crate::config::{Config, Database};
+use crate::history::{Historian, HistoryReader};
+use crate::http::{self, App};
+use crate::log;
+use crate::metrics::Metrics;
+use crate::model::Clock;
+use crate::store::{Lite, LiteReader, Pg, PgReader, Reader, Store};
+use crate::writer::{Board, Jobs, Message, StartError, Writer, START_AGAIN};
+use sd_notify::NotifyState;
+use std::path::Path;
+use std::process::ExitCode;
+use std::sync::mpsc::{sync_channel, Receiver, SyncSender};
+use std::sync::{Arc, Mutex};
+use std::time::{Duration, Instant};
+use tokio::net::TcpListener;
+use tokio::signal::unix::{signal, SignalKind};
+
+/// The exit status of a configuration or a log that no further start can mend.
+const NOT_TO_START: u8 = 78;
+/// How often a standby follows the log and tries to lead.
+const LEAD_EACH: Duration = Duration::from_millis(100);
+/// How often systemd hears that the writer is at work.
+const WATCHDOG: Duration = Duration::from_secs(5);
+/// How long the writer may take for its last group.
+const STOP_WITHIN: Duration = Duration::from_secs(10);
+
+pub fn run(given: &cli::Serve) -> ExitCode {
+    let ended = Config::of(given).map_err(Stop::Never).and_then(serve);
+    match ended.map_err(Stop::parts) {
+        Ok(()) => ExitCode::SUCCESS,
+        Err((why, status)) => {
+            log::error(&why);
+            ExitCode::from(status)
+        }
+    }
+}
+
+/// Why the service ended.
+enum Stop {
+    /// A further start would end in the same way.
+    Never(String),
+    Again(String),
+}
+
+impl Stop {
+    /// The reason, and the exit status.
+    fn parts(self) -> (String, u8) {
+        match self {
+            Stop::Never(why) => (why, NOT_TO_START),
+            Stop::Again(why) => (why, START_AGAIN),
+        }
+    }
+}
+
+fn serve(config: Config) -> Result<(), Stop> {
+    let tokens = config.token_file.as_deref().map(Tokens::read).transpose().map_err(Stop::Never)?;
+    let store = open_store(&config).map_err(Stop::Again)?;
+    let reader = || open_reader(&config).map_err(Stop::Again);
+    let metrics = Arc::new(Metrics::new().map_err(|error| Stop::Never(error.to_string()))?);
+    let board = Arc::new(Board::new());
+    let (inbox, messages) = sync_channel(config.limits.queue);
+    let app = App {
+        board: Arc::clone(&board),
+        metrics: Arc::clone(&metrics),
+        inbox: inbox.clone(),
+        reader: Arc::new(Mutex::new(reader()?)),
+        history: Arc::new(Mutex::new(open_history(&config.history)?)),
+        tokens,
+        limits: config.limits.clone(),
+    };
+    let historian = Historian {
+        path: config.history.clone(),
+        reader: reader()?,
+        board: Arc::clone(&board),
+        metrics: Arc::clone(&metrics),
+        inbox: inbox.clone(),
+        since: Clock::starting_after(0).now(),
+    };
+    let leader = Leader { store, reader: reader()?, board, metrics, messages, listen: config.listen.to_string() };
+    let working = std::thread::spawn(move || leader.run());
+    std::thread::spawn(move || historian.run());
+    answer_requests(app, &config)?;
+    stop_writer(&inbox, &working);
+    log::info("stopped");
+    Ok(())
+}
+
+fn open_store(config: &Config) -> Result<Box<dyn Store>, String> {
+    match &config.database {
+        Database::Sqlite(path) => Ok(Box::new(Lite::open(path)?)),
+        Database::Postgres(url) => Ok(Box::new(Pg::open(url, &config.advertise, config.lease)?)),
+    }
+}
+
+fn open_reader(config: &Config) -> Result<Box<dyn Reader>, String> {
+    match &config.database {
+        Database::Sqlite(path) => Ok(Box::new(LiteReader::open(path)?)),
+        Database::Postgres(url) => Ok(Box::new(PgReader::open(url)?)),
+    }
+}
+
+/// Opens the history. One that can't be read is set aside, since it can be made again.
+fn open_history(path: &Path) -> Result<HistoryReader, Stop> {
+    HistoryReader::open(path).or_else(|why| {
+        log::warn(&format!("history {why}: it is made again"));
+        let mut aside = path.as_os_str().to_owned();
+        aside.push(".bad");
+        std::fs::rename(path, aside).map_err(|error| Stop::Again(format!("{}: {error}", path.display())))?;
+        HistoryReader::open(path).map_err(Stop::Again)
+    })
+}
+
+/// The writer's thread: it waits until it leads, and then works.
+struct Leader {
+    store: Box<dyn Store>,
+    reader: Box<dyn Reader>,
+    board: Arc<Board>,
+    metrics: Arc<Metrics>,
+    messages: Receiver<Message>,
+    listen: String,
+}
+
+impl Leader {
+    /// Ends the process where it can't lead.
+    fn run(mut self) {
+        let jobs = self.lead().unwrap_or_else(|stop| {
+            let (why, status) = stop.parts();
+            log::error(&why);
+            std::process::exit(i32::from(status))
+        });
+        let writer = Writer::new(self.store, jobs, Arc::clone(&self.board), Arc::clone(&self.metrics));
+        // the writer has published all jobs, so that the first request finds them
+        self.board.open();
+        log::info(&format!("serves on {}", self.listen));
+        writer.run(&self.messages);
+    }
+
+    /// Follows the log until this process may write, so that a take-over has little to read.
+    fn lead(&mut self) -> Result<Jobs, Stop> {
+        let mut jobs = Jobs::default();
+        let (started, mut calls) = (Instant::now(), 0);
+        let mut waits = false;
+        loop {
+            calls += self.catch_up(&mut jobs)?;
+            let asked = Instant::now();
+            if let Some(epoch) = self.store.lead().map_err(Stop::Again)? {
+                calls += self.catch_up(&mut jobs)?;
+                self.board.lead(epoch);
+                let (took, over) = (started.elapsed().as_millis(), asked.elapsed().as_millis());
+                let jobs_there = jobs.len();
+                log::info(&format!("leads epoch={epoch} jobs={jobs_there} calls={calls} start_ms={took} take_over_ms={over}"));
+                return Ok(jobs);
+            }
+            if !waits {
+                log::info(&format!("another process leads; follows jobs={} calls={calls}", jobs.len()));
+                waits = true;
+            }
+            std::thread::sleep(LEAD_EACH);
+        }
+    }
+
+    fn catch_up(&mut self, jobs: &mut Jobs) -> Result<u64, Stop> {
+        let board = &self.board;
+        jobs.catch_up(self.reader.as_mut(), &|| board.beat()).map_err(|error| match error {
+            StartError::Unread(_) => Stop::Again(error.to_string()),
+            _ => Stop::Never(error.to_string()),
+        })
+    }
+}
+
+/// Answers requests until the process is told to stop.
+fn answer_requests(app: App, config: &Config) -> Result<(), Stop> {
+    let runtime = tokio::runtime::Builder::new_multi_thread().worker_threads(2).enable_all().build();
+    let runtime = runtime.map_err(|error| Stop::Again(error.to_string()))?;
+    let board = Arc::clone(&app.board);
+    runtime.block_on(async move {
+        let listener = TcpListener::bind(config.listen).await;
+        let listener = listener.map_err(|error| Stop::Again(format!("listen {}: {error}", config.listen)))?;
+        tokio::spawn(tell_systemd(board));
+        http::serve(Arc::new(app), listener, told_to_stop()).await;
+        Ok(())
+    })
+}
+
+/// Tells systemd that the service is ready, a standby too, and while the writer works.
+async fn tell_systemd(board: Arc<Board>) {
+    // without systemd there is nobody to tell
+    let _ = sd_notify::notify(false, &[NotifyState::Ready]);
+    loop {
+        tokio::time::sleep(WATCHDOG).await;
+        if board.silence() < 3 * WATCHDOG {
+            let _ = sd_notify::notify(false, &[NotifyState::Watchdog]);
+        }
+    }
+}
+
+async fn told_to_stop() {
+    let (Ok(mut term), Ok(mut int)) = (signal(SignalKind::terminate()), signal(SignalKind::interrupt())) else {
+        return std::future::pending().await;
+    };
+    tokio::select! {
+        _ = term.recv() => {}
+        _ = int.recv() => {}
+    }
+}
+
+/// Lets the writer commit what it has.
+fn stop_writer(inbox: &SyncSender<Message>, working: &std::thread::JoinHandle<()>) {
+    let until = Instant::now() + STOP_WITHIN;
+    let mut sent = false;
+    while !working.is_finished() && Instant::now() < until {
+        sent = sent || inbox.try_send(Message::Stop).is_ok();
+        std::thread::sleep(Duration::from_millis(5));
+    }
+}

@@ -1,0 +1,11 @@
+//! The log of all jobs in a database: what was committed is what the service is.
+mod lite;
+mod pg;
+mod pg_read;
+mod pq;
+mod rows;
+
+pub use lite::{Lite, LiteReader};
+pub use pg::Pg;
+pub use pg_read::PgReader;
+pub use rows::{Failure, Group, Keyed, Reader, Store};

@@ -1,0 +1,153 @@
+//! The log in PostgreSQL: a lease with an epoch says who writes, and each group is one statement that renews it and is fenced
+//! by it, so that a leader that was stopped holds no lock.
+use super::pq::{Connection, Failed, Parameter, Rows};
+use super::rows::{Failure, Group, Keyed, Store, Written};
+use crate::model::{shape_words, Entry, Opening};
+use std::ffi::CStr;
+use std::time::Duration;
+
+const SCHEMA: &str = include_str!("../../sql/pg.sql");
+const COMMIT: &str = include_str!("../../sql/pg_commit.sql");
+const COMMIT_NAME: &CStr = c"commit_group";
+const LEAD: &str = "update leader set epoch = epoch + 1, holder = $1, until = clock_timestamp() + $2::float8 * interval '1 s'
+    where until < clock_timestamp() returning epoch";
+
+/// The writer's connection, and its lease.
+pub struct Pg {
+    connection: Connection,
+    holder: String,
+    lease: Duration,
+    epoch: u64,
+}
+
+impl Pg {
+    /// Connects, and makes the tables where they are not there. A database that does not sync what it commits is refused.
+    pub fn open(url: &str, holder: &str, lease: Duration) -> Result<Pg, String> {
+        let mut connection = Connection::open(url).map_err(told)?;
+        let fsync = connection.run("show fsync").map_err(told)?;
+        if cell(&fsync, 0) != Some("on") {
+            return Err("fsync is off in this database, so that it can lose what it committed".to_string());
+        }
+        connection.run("set synchronous_commit = on; set statement_timeout = '10s'; set client_min_messages = warning").map_err(told)?;
+        // two that start at once take turns
+        connection.run(&format!("begin; select pg_advisory_xact_lock(7203146); {SCHEMA}; commit")).map_err(told)?;
+        connection.prepare(COMMIT_NAME, COMMIT).map_err(told)?;
+        Ok(Pg { connection, holder: holder.to_string(), lease, epoch: 0 })
+    }
+
+    fn write(&mut self, group: &Group) -> Result<Rows, Failed> {
+        let mut given = vec![Parameter::text(&self.seconds())?, Parameter::text(&self.epoch.to_string())?];
+        given.extend(job_columns(&group.jobs));
+        given.extend(call_columns(&group.entries));
+        given.extend(request_columns(&group.requests));
+        self.connection.run_prepared(COMMIT_NAME, &given)
+    }
+
+    fn seconds(&self) -> String {
+        self.lease.as_secs_f64().to_string()
+    }
+}
+
+impl Store for Pg {
+    fn lead(&mut self) -> Result<Option<u64>, String> {
+        let given = [self.holder.as_str(), &self.seconds()];
+        let rows = self.connection.query(LEAD, &given).map_err(told)?;
+        let epoch = cell(&rows, 0).and_then(|text| text.parse().ok());
+        self.epoch = epoch.unwrap_or(0);
+        Ok(epoch)
+    }
+
+    fn commit(&mut self, group: &Group) -> Written {
+        let rows = self.write(group).map_err(failure)?;
+        let wanted = [1, group.jobs.len(), group.entries.len(), group.requests.len()];
+        let written = (0..4).map(|column| cell(&rows, column).and_then(|text| text.parse().ok()));
+        if written.eq(wanted.into_iter().map(Some)) {
+            return Ok(());
+        }
+        Err(Failure::Lost(format!("another process leads, epoch {} has ended", self.epoch)))
+    }
+
+    fn keyed(&mut self, job: i64, key: &str) -> Result<Option<Keyed>, String> {
+        let sql = "select at, digest, answers from request where job = $1::bigint and key = $2";
+        let rows = self.connection.query(sql, &[&job.to_string(), key]).map_err(told)?;
+        let column = |place: usize| cell(&rows, place).map(str::to_string);
+        let found = column(0).zip(column(1)).zip(column(2));
+        Ok(found.map(|((at, digest), answers)| Keyed { job, key: key.to_string(), at: at.parse().unwrap_or(0), digest, answers }))
+    }
+
+    fn forget_keys(&mut self, before: u64) -> Result<(), String> {
+        let sql = "delete from request where (job, key) in (select job, key from request where at < $1::bigint limit 1000)";
+        self.connection.query(sql, &[&before.to_string()]).map(|_| ()).map_err(told)
+    }
+
+    fn beat(&self) -> Duration {
+        self.lease / 3
+    }
+
+    fn lease(&self) -> Option<Duration> {
+        Some(self.lease)
+    }
+
+    fn release(&mut self) {
+        let sql = "update leader set until = '-infinity' where epoch = $1::bigint";
+        // where this fails the lease ends by itself
+        let _ = self.connection.query(sql, &[&self.epoch.to_string()]);
+    }
+}
+
+fn told(failed: Failed) -> String {
+    failed.text
+}
+
+/// What a failed statement means: one that the database answered was rolled back.
+fn failure(failed: Failed) -> Failure {
+    let Failed { text, state } = failed;
+    match state.as_deref() {
+        // no room or memory, a timeout, a deadlock
+        Some(state) if state.starts_with("53") || matches!(state, "57014" | "40001" | "40P01") => Failure::Again(text),
+        _ => Failure::Lost(text),
+    }
+}
+
+/// A cell of the first row.
+fn cell(rows: &Rows, column: usize) -> Option<&str> {
+    rows.first()?.get(column)?.as_deref()
+}
+
+fn number(number: u64) -> Option<i64> {
+    Some(i64::try_from(number).unwrap_or(i64::MAX))
+}
+
+fn job_columns(jobs: &[Opening]) -> [Parameter; 6] {
+    [
+        Parameter::numbers(jobs.iter().map(|job| Some(job.number))),
+        Parameter::texts(jobs.iter().map(|job| Some(job.name.clone()))),
+        Parameter::texts(jobs.iter().map(|job| Some(job.settings.line()))),
+        Parameter::texts(jobs.iter().map(|job| Some(shape_words(&job.shape)))),
+        Parameter::numbers(jobs.iter().map(|job| number(job.started))),
+        Parameter::texts(jobs.iter().map(|_| Some(env!("CARGO_PKG_VERSION").to_string()))),
+    ]
+}
+
+fn call_columns(entries: &[Entry]) -> [Parameter; 8] {
+    [
+        Parameter::numbers(entries.iter().map(|entry| Some(entry.job))),
+        Parameter::numbers(entries.iter().map(|entry| number(entry.seq))),
+        Parameter::numbers(entries.iter().map(|entry| number(entry.at))),
+        Parameter::numbers(entries.iter().map(|entry| entry.record.and_then(number))),
+        Parameter::texts(entries.iter().map(|entry| Some(entry.line.clone()))),
+        Parameter::texts(entries.iter().map(|entry| Some(entry.answer.clone()))),
+        Parameter::texts(entries.iter().map(|entry| entry.ended.clone())),
+        Parameter::numbers(entries.iter().map(|entry| number(entry.waiting))),
+    ]
+}
+
+fn request_columns(requests: &[Keyed]) -> [Parameter; 5] {
+    [
+        Parameter::numbers(requests.iter().map(|request| Some(request.job))),
+        Parameter::texts(requests.iter().map(|request| Some(request.key.clone()))),
+        Parameter::numbers(requests.iter().map(|request| number(request.at))),
+        Parameter::texts(requests.iter().map(|request| Some(request.digest.clone()))),
+        Parameter::texts(requests.iter().map(|request| Some(request.answers.clone()))),
+    ]
+}

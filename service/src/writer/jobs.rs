@@ -1,0 +1,128 @@
+//! All jobs of the service, brought up to date with the log.
+use crate::model::{parse_line, Entry, Job, NoJob, Opening, Outcome};
+use crate::store::Reader;
+use std::collections::HashMap;
+use std::fmt;
+
+const PAGE: u32 = 10_000;
+
+/// The jobs, each at its place, and their names.
+#[derive(Default)]
+pub struct Jobs {
+    jobs: Vec<Job>,
+    places: HashMap<String, usize>,
+    last_moment: u64,
+}
+
+/// Why the jobs could not be made from the log.
+#[derive(Debug)]
+pub enum StartError {
+    /// The log can't be read.
+    Unread(String),
+    /// A call of the log answers otherwise than the log says, so this library is not the one that wrote it, or the log
+    /// was changed.
+    Differs { job: String, seq: u64, line: String, logged: String, answered: String },
+    /// A call of the log is missing, or can't be read as one.
+    Damaged { job: String, seq: u64, why: String },
+    /// A job can't be opened.
+    NotOpened { job: String, why: String },
+}
+
+impl fmt::Display for StartError {
+    fn fmt(&self, f: &mut fmt::Formatter<'_>) -> fmt::Result {
+        match self {
+            StartError::Unread(why) => write!(f, "the log can't be read: {why}"),
+            StartError::Differs { job, seq, line, logged, answered } => write!(
+                f,
+                "job {job}, call {seq} ({line:?}): the log says {logged:?}, and this program answers {answered:?}"
+            ),
+            StartError::Damaged { job, seq, why } => write!(f, "job {job}, call {seq}: {why}"),
+            StartError::NotOpened { job, why } => write!(f, "job {job} can't be opened: {why}"),
+        }
+    }
+}
+
+impl Jobs {
+    pub fn len(&self) -> usize {
+        self.jobs.len()
+    }
+
+    pub fn at(&mut self, place: usize) -> &mut Job {
+        &mut self.jobs[place]
+    }
+
+    pub fn place(&self, name: &str) -> Option<usize> {
+        self.places.get(name).copied()
+    }
+
+    pub fn all(&mut self) -> impl Iterator<Item = &mut Job> {
+        self.jobs.iter_mut()
+    }
+
+    /// The last moment of the log.
+    pub fn last_moment(&self) -> u64 {
+        self.last_moment
+    }
+
+    /// The number that a new job gets.
+    pub fn next_number(&self) -> i64 {
+        self.jobs.iter().map(|job| job.opening.number).max().unwrap_or(0) + 1
+    }
+
+    /// Opens a job, and returns its place.
+    pub fn open(&mut self, opening: Opening) -> Result<usize, NoJob> {
+        let place = self.jobs.len();
+        self.last_moment = self.last_moment.max(opening.started);
+        let name = opening.name.clone();
+        self.jobs.push(Job::open(opening)?);
+        self.places.insert(name, place);
+        Ok(place)
+    }
+
+    /// Makes the calls that the log has and these jobs have not, and returns how many there were. Each answer is compared.
+    /// `beat` tells now and then that the work goes on.
+    pub fn catch_up(&mut self, reader: &mut dyn Reader, beat: &dyn Fn()) -> Result<u64, StartError> {
+        let mut made = 0;
+        for opening in reader.jobs().map_err(StartError::Unread)? {
+            let place = match self.place(&opening.name) {
+                Some(place) => place,
+                None => self.open(opening.clone()).map_err(|NoJob(why)| StartError::NotOpened { job: opening.name, why })?,
+            };
+            made += self.catch_up_job(place, reader, beat)?;
+        }
+        Ok(made)
+    }
+
+    fn catch_up_job(&mut self, place: usize, reader: &mut dyn Reader, beat: &dyn Fn()) -> Result<u64, StartError> {
+        let job = &mut self.jobs[place];
+        let first = job.seq;
+        loop {
+            beat();
+            let page = reader.log(job.opening.number, job.seq, PAGE).map_err(StartError::Unread)?;
+            if page.is_empty() {
+                return Ok(job.seq - first);
+            }
+            for entry in &page {
+                repeat(job, entry)?;
+                self.last_moment = self.last_moment.max(entry.at);
+            }
+        }
+    }
+}
+
+/// Makes a call of the log again, and compares its answer.
+fn repeat(job: &mut Job, entry: &Entry) -> Result<(), StartError> {
+    let name = job.opening.name.clone();
+    let damaged = |why: String| StartError::Damaged { job: name.clone(), seq: entry.seq, why };
+    if entry.seq != job.seq + 1 {
+        return Err(damaged(format!("call {} is missing", job.seq + 1)));
+    }
+    let (now, call) = parse_line(&entry.line).ok_or_else(|| damaged(format!("{:?} is no call", entry.line)))?;
+    let answered = match job.call(&call, now) {
+        (Outcome::Made { reply, .. }, _) if reply.text() == entry.answer => return Ok(()),
+        (Outcome::Made { reply, .. }, _) => reply.text(),
+        (other, _) => other.json().to_string(),
+    };
+    let (line, logged) = (entry.line.clone(), entry.answer.clone());
+    Err(StartError::Differs { job: name.clone(), seq: entry.seq, line, logged, answered })
+}

@@ -1,0 +1,52 @@
+//! What one commit collects, and who waits for it.
+use super::jobs::Jobs;
+use super::message::{CallsDone, Created, Key, Read, ReadDone};
+use crate::model::{NoJob, Opening, Settings};
+use crate::store::{Group, Keyed};
+use std::collections::{BTreeSet, HashMap};
+use tokio::sync::oneshot::Sender;
+
+#[derive(Default)]
+pub struct Round {
+    pub group: Group,
+    pub done: Vec<(CallsDone, Sender<CallsDone>)>,
+    pub created: Vec<(Created, Sender<Created>)>,
+    pub reads: Vec<(Read, Sender<ReadDone>)>,
+    /// The places of jobs that were called.
+    pub touched: BTreeSet<usize>,
+    /// Jobs whose tick did nothing, and when it is tried again.
+    pub postponed: Vec<(usize, u64)>,
+    pub stop: bool,
+    keys: HashMap<(i64, String), usize>,
+}
+
+impl Round {
+    /// The answers that this round gives under a key.
+    pub fn keyed(&self, job: i64, key: &str) -> Option<Keyed> {
+        let place = self.keys.get(&(job, key.to_string()))?;
+        self.group.requests.get(*place).cloned()
+    }
+
+    /// Keeps a request's answers under its key.
+    pub fn keep(&mut self, job: i64, key: Key, at: u64, answers: String) {
+        self.keys.insert((job, key.name.clone()), self.group.requests.len());
+        self.group.requests.push(Keyed { job, key: key.name, at, digest: key.digest, answers });
+    }
+
+    /// Opens a job of this name, unless there is one.
+    pub fn create(&mut self, jobs: &mut Jobs, name: &str, settings: Settings, shape: Vec<u64>, now: u64) -> Created {
+        if let Some(place) = jobs.place(name) {
+            let opening = &jobs.at(place).opening;
+            return if opening.settings == settings && opening.shape == shape { Created::Same } else { Created::Other };
+        }
+        let opening = Opening { number: jobs.next_number(), name: name.to_string(), settings, shape, started: now };
+        match jobs.open(opening.clone()) {
+            Ok(place) => {
+                self.group.jobs.push(opening);
+                self.touched.insert(place);
+                Created::New
+            }
+            Err(NoJob(why)) => Created::NotOpened(why),
+        }
+    }
+}

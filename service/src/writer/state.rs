@@ -1,0 +1,80 @@
+//! What a job is at, as reads tell it between two commits.
+use super::jobs::Jobs;
+use super::message::{Read, ReadDone};
+use crate::model::{Choice, FileCounts, Job, Kind, LiveRecord, Mode, Opening};
+
+#[derive(Debug)]
+pub struct JobState {
+    pub opening: Opening,
+    /// The shape that the job has now.
+    pub shape: Vec<u64>,
+    pub mode: Mode,
+    pub seq: u64,
+    pub now: u64,
+    pub due: u64,
+    pub oldest_expiry: Option<u64>,
+    pub choice: Choice,
+    pub files: FileCounts,
+    pub last_completed: Option<u64>,
+    pub last_event: u64,
+    pub pending_checkpoints: usize,
+    pub pending_savepoints: usize,
+    /// The live records in rising number, each with how many subtasks are missing.
+    pub live: Vec<(LiveRecord, u64)>,
+}
+
+#[derive(Debug)]
+pub struct RecordState {
+    /// The coordinator's metadata, as JSON; `None` where memory ran out.
+    pub metadata: Option<String>,
+}
+
+/// Reads what is asked for, at the moment `now`.
+pub fn read(jobs: &mut Jobs, read: Read, now: u64) -> ReadDone {
+    match read {
+        Read::Jobs => ReadDone::Jobs(jobs.all().map(|job| state(job, now)).collect()),
+        Read::Job(name) => of(jobs, &name, |job| ReadDone::Job(Box::new(state(job, now)))),
+        Read::Record { job, id } => of(jobs, &job, |job| ReadDone::Record(record(job, id))),
+        Read::File { job, file } => of(jobs, &job, |job| ReadDone::File {
+            uses: job.engine().uses(file),
+            live: job.live().keys().copied().collect(),
+        }),
+    }
+}
+
+fn of(jobs: &mut Jobs, name: &str, read: impl FnOnce(&mut Job) -> ReadDone) -> ReadDone {
+    match jobs.place(name) {
+        Some(place) => read(jobs.at(place)),
+        None => ReadDone::NoJob,
+    }
+}
+
+fn record(job: &mut Job, id: u64) -> Option<RecordState> {
+    job.live().get(&id)?;
+    Some(RecordState { metadata: job.engine().show(id) })
+}
+
+fn state(job: &mut Job, now: u64) -> JobState {
+    let records: Vec<LiveRecord> = job.live().values().copied().collect();
+    let (checkpoints, savepoints) = (job.pending(Kind::Checkpoint), job.pending(Kind::Savepoint));
+    let engine = job.engine();
+    let live = records.iter().map(|record| (*record, engine.missing(record.id).unwrap_or(0))).collect();
+    let (mode, due, oldest_expiry) = (engine.mode(), engine.due(), engine.oldest_expiry());
+    let (choice, files) = (engine.choice(), engine.counts());
+    JobState {
+        opening: job.opening.clone(),
+        shape: job.shape.clone(),
+        mode,
+        seq: job.seq,
+        now,
+        due,
+        oldest_expiry,
+        choice,
+        files,
+        last_completed: job.last_completed,
+        last_event: job.last_event,
+        pending_checkpoints: checkpoints,
+        pending_savepoints: savepoints,
+        live,
+    }
+}

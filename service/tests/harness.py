@@ -1,0 +1,176 @@
+"""What the tests share: a service that is started, killed and stopped, and the oracle that its log is compared with."""
+import json
+import os
+import signal
+import socket
+import subprocess
+import sys
+import tempfile
+import time
+from contextlib import contextmanager
+
+HERE = os.path.dirname(os.path.realpath(__file__))
+SERVICE = os.path.dirname(HERE)
+TOP = os.path.dirname(SERVICE)
+sys.path.insert(0, f"{SERVICE}/client/python")
+
+PROGRAM = os.environ.get("RELKVANU_PROGRAM", f"{SERVICE}/target/debug/relkvanu")
+ORACLE = os.environ.get("RELKVANU_ORACLE", f"{TOP}/crates/ckpt_job/out/ckpt_job")
+
+
+def free_port():
+    with socket.socket() as it:
+        it.bind(("127.0.0.1", 0))
+        return it.getsockname()[1]
+
+
+class Server:
+    """A service in a folder of its own, or over the database of another one."""
+
+    def __init__(self, folder, database=None, args=(), prefix=()):
+        self.folder, self.args, self.prefix = folder, list(args), list(prefix)
+        self.port = free_port()
+        self.url = f"http://127.0.0.1:{self.port}"
+        self.database = database or f"{folder}/relkvanu.db"
+        self.log_path = f"{folder}/log-{self.port}"
+        self.process = None
+
+    def start(self, ready=True):
+        words = [PROGRAM, "serve", "--listen", f"127.0.0.1:{self.port}", "--database", self.database, *self.args]
+        if not any(word.startswith("--history") for word in self.args):
+            words += ["--history", f"{self.folder}/history-{self.port}"]
+        with open(self.log_path, "ab") as log:
+            self.process = subprocess.Popen([*self.prefix, *words], stderr=log, stdout=log, stdin=subprocess.DEVNULL)
+        if ready:
+            self.wait_ready()
+        return self
+
+    def wait_ready(self, seconds=30, kept=False):
+        """Waits until it answers; it may end meanwhile where somebody starts it again."""
+        until = time.monotonic() + seconds
+        while time.monotonic() < until:
+            if self.process.poll() is not None and not kept:
+                raise AssertionError(f"the service ended with {self.process.returncode}: {self.log()[-600:]}")
+            if self.get("/readyz")[0] == 200:
+                return
+            time.sleep(0.01)
+        raise AssertionError(f"the service is not ready: {self.log()[-600:]}")
+
+    def kill(self):
+        self.process.send_signal(signal.SIGKILL)
+        self.process.wait()
+
+    def stop(self):
+        if self.process and self.process.poll() is None:
+            self.process.send_signal(signal.SIGCONT)
+            self.process.terminate()
+            try:
+                self.process.wait(20)
+            except subprocess.TimeoutExpired:
+                self.process.kill()
+                self.process.wait()
+        return self.process and self.process.returncode
+
+    def log(self):
+        with open(self.log_path, encoding="utf-8", errors="replace") as it:
+            return it.read()
+
+    def get(self, path, token=None):
+        return self.request("GET", path, token=token)
+
+    def request(self, method, path, body=None, token=None, headers=()):
+        """A status, the headers and the body; 0 where there is no answer."""
+        import http.client
+
+        connection = http.client.HTTPConnection("127.0.0.1", self.port, timeout=70)
+        sent = {"Content-Type": "application/json", **dict(headers)}
+        if token:
+            sent["Authorization"] = f"Bearer {token}"
+        try:
+            connection.request(method, path, body if body is None or isinstance(body, (str, bytes)) else json.dumps(body), sent)
+            answer = connection.getresponse()
+            text = answer.read()
+        except (OSError, http.client.HTTPException):
+            return 0, {}, None
+        finally:
+            connection.close()
+        try:
+            told = json.loads(text)
+        except ValueError:
+            told = text.decode(errors="replace")
+        return answer.status, {name.lower(): value for name, value in answer.getheaders()}, told
+
+
+@contextmanager
+def folder():
+    with tempfile.TemporaryDirectory(prefix="relkvanu-") as it:
+        yield it
+
+
+@contextmanager
+def served(**given):
+    with folder() as at:
+        server = Server(at, **given).start()
+        try:
+            yield server
+        finally:
+            server.stop()
+
+
+def answer_text(answer):
+    """The script's text of an answer of the API, or None where the call was not made."""
+    if "refused" in answer or "no_memory" in answer or "not_made" in answer:
+        return None
+    if "tick" in answer:
+        end = {"triggered": f"triggered {answer.get('id')}", "held": f"held {answer.get('why')}", "failed": "failed"}
+        return f"tick expired {answer['expired']} {end[answer['tick']]}"
+    if "savepoint" in answer:
+        return f"savepoint triggered {answer['id']}"
+    if "ack" in answer:
+        numbers = {"pending": ["missing"], "completed": ["dropped", "released"], "late": ["handed_out"]}[answer["ack"]]
+        return " ".join(["ack", answer["ack"], *(str(answer[name]) for name in numbers)])
+    if "decline" in answer:
+        return "decline late" if answer["decline"] == "late" else f"decline {answer['decline']} {answer['released']}"
+    if "dispose" in answer:
+        return f"disposed {answer['released']}"
+    if "restore" in answer:
+        start = "fresh" if answer["restore"] == "fresh" else f"{answer['restore']} {answer['id']}"
+        return f"restored {start} {answer['released']}"
+    if "cancel" in answer:
+        return f"cancelled {answer['dropped']} {answer['released']}"
+    if "files" in answer:
+        return "take " + (" ".join(answer["files"]) or "none")
+    return f"deleted {answer['deleted']}" if "deleted" in answer else f"undeleted {answer['undeleted']}"
+
+
+def script(state, shape, log):
+    """The script of a job: its opening, and the lines of its log."""
+    it = state["settings"]
+    keep = "keep" if it["keep_on_cancel"] else "delete"
+    numbers = [it[name] for name in ("interval", "pause", "at_once", "timeout", "tolerable", "retained")]
+    opening = [f"config {' '.join(map(str, numbers))} {keep}", f"job {' '.join(map(str, shape))}", f"start {state['opened']}"]
+    return "\n".join([*opening, *(entry["line"] for entry in log)]) + "\n"
+
+
+def check_log(state, shape, log):
+    """The log is without gaps, and the proved program answers its lines as the service did."""
+    assert [entry["seq"] for entry in log] == list(range(1, len(log) + 1)), "the log has gaps"
+    if not os.path.exists(ORACLE):
+        return None
+    told = subprocess.run([ORACLE], input=script(state, shape, log), stdout=subprocess.PIPE, text=True, check=False)
+    assert told.returncode == 0, f"the oracle ended with {told.returncode}"
+    lines = told.stdout.splitlines()
+    assert len(lines) == len(log), f"{len(lines)} answers of {len(log)} calls"
+    for entry, line in zip(log, lines):
+        assert entry["answer"] == line, f"call {entry['seq']} {entry['line']!r}: {entry['answer']!r}, oracle {line!r}"
+    return len(lines)
+
+
+def until(said, seconds=20, each=0.05):
+    """Waits until `said()` is true, and returns it."""
+    end = time.monotonic() + seconds
+    while time.monotonic() < end:
+        if found := said():
+            return found
+        time.sleep(each)
+    raise AssertionError("it did not come to be in time")

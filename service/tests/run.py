@@ -1,0 +1,79 @@
+"""Runs the service's tests: run.py [WORD..] runs those whose name has one of the words. Two modules run at a time, each in a process of its
+own. The last line counts."""
+import importlib
+import os
+import subprocess
+import sys
+import time
+import traceback
+from concurrent.futures import ThreadPoolExecutor
+
+HERE = os.path.dirname(os.path.realpath(__file__))
+# the longest first
+MODULES = ["test_postgres", "test_page", "test_history", "test_kills", "test_start", "test_load", "test_api", "test_clients", "test_discard", "test_metrics"]
+
+
+class Skipped(Exception):
+    """A test that can't be run here, and why."""
+
+
+def tests(name, words):
+    module = importlib.import_module(name)
+    for word, test in list(vars(module).items()):
+        if word.startswith("test_") and callable(test) and (not words or any(one in f"{name}.{word}" for one in words)):
+            yield f"{name[5:]}: {word[5:].replace('_', ' ')}", test
+
+
+def run_module(name, words):
+    """Runs the tests of a module. The last line has what passed, failed and was skipped."""
+    passed, failed, skipped = 0, 0, 0
+    for title, test in tests(name, words):
+        started = time.monotonic()
+        try:
+            told = test()
+            passed += 1
+            print(f"ok   {title} ({time.monotonic() - started:.1f} s): {told}")
+        except Skipped as why:
+            skipped += 1
+            print(f"skipped: {title}: {why}")
+        except Exception:
+            failed += 1
+            print(f"FAIL {title}\n{traceback.format_exc()}")
+    print(f"{passed} {failed} {skipped}")
+
+
+def in_process(name, words):
+    """The lines of a module's process, and its three numbers. One that ends badly has failed."""
+    told = subprocess.run([sys.executable, __file__, "--module", name, *words], stdout=subprocess.PIPE, stderr=subprocess.STDOUT, text=True, check=False)
+    lines = told.stdout.splitlines()
+    try:
+        numbers = [int(word) for word in lines[-1].split()]
+        passed, failed, skipped = numbers if told.returncode == 0 else (0, 1, 0)
+    except (IndexError, ValueError):
+        return lines, (0, 1, 0)
+    for line in (line for line in lines[:-1] if not line.startswith("skipped: ")):
+        print(line, flush=True)
+    return lines[:-1], (passed, failed, skipped)
+
+
+def main(words):
+    with ThreadPoolExecutor(2) as pool:
+        done = list(pool.map(lambda name: in_process(name, words), MODULES))
+    passed, failed = sum(one[1][0] for one in done), sum(one[1][1] for one in done)
+    for lines, numbers in done:
+        if numbers == (0, 1, 0) and not any(line.startswith("FAIL") for line in lines):
+            print("\n".join(["FAIL a module ended badly", *lines[-20:]]))
+    for line in (line for lines, _ in done for line in lines if line.startswith("skipped: ")):
+        print(line)
+    if passed + failed == 0:
+        failed = 1
+    print(f"{passed} service passed, {failed} failed")
+    return 1 if failed else 0
+
+
+if __name__ == "__main__":
+    sys.modules["run"] = sys.modules["__main__"]
+    if sys.argv[1:2] == ["--module"]:
+        run_module(sys.argv[2], sys.argv[3:])
+    else:
+        sys.exit(main(sys.argv[1:]))

@@ -1,0 +1,250 @@
+"""Requests good and bad: each bad one has a status and names the field, and changes nothing."""
+import random
+import socket
+import time
+
+from harness import check_log, served, until
+
+JOB = {"name": "orders", "settings": {"interval": 1000000}, "shape": [2, 1]}
+ACK = {"call": "ack", "id": 1, "subtask": "0.0"}
+
+# method, path, body, status, field
+BAD = [
+    ("POST", "/v1/jobs", "", 400, "body"),
+    ("POST", "/v1/jobs", "[]", 400, "body"),
+    ("POST", "/v1/jobs", {**JOB, "name": ""}, 400, "name"),
+    ("POST", "/v1/jobs", {**JOB, "name": "a/b"}, 400, "name"),
+    ("POST", "/v1/jobs", {**JOB, "name": "x" * 65}, 400, "name"),
+    ("POST", "/v1/jobs", {**JOB, "name": 7}, 400, "name"),
+    ("POST", "/v1/jobs", {"name": "b", "shape": [1]}, 400, "settings"),
+    ("POST", "/v1/jobs", {**JOB, "name": "b", "settings": {}}, 400, "settings.interval"),
+    ("POST", "/v1/jobs", {**JOB, "name": "b", "settings": {"interval": "10"}}, 400, "settings.interval"),
+    ("POST", "/v1/jobs", {**JOB, "name": "b", "settings": {"interval": 9}}, 400, "settings.interval"),
+    ("POST", "/v1/jobs", {**JOB, "name": "b", "settings": {"interval": 2**40 + 1}}, 400, "settings.interval"),
+    ("POST", "/v1/jobs", {**JOB, "name": "b", "settings": {"interval": 10, "at_once": 0}}, 400, "settings.at_once"),
+    ("POST", "/v1/jobs", {**JOB, "name": "b", "settings": {"interval": 10, "tolerable": 1001}}, 400, "settings.tolerable"),
+    ("POST", "/v1/jobs", {**JOB, "name": "b", "settings": {"interval": 10, "keep_on_cancel": 1}}, 400, "settings.keep_on_cancel"),
+    ("POST", "/v1/jobs", {**JOB, "name": "b", "settings": {"interval": 10, "more": 1}}, 400, "settings.more"),
+    ("POST", "/v1/jobs", {**JOB, "name": "b", "shape": [4097]}, 400, "shape"),
+    ("POST", "/v1/jobs", {**JOB, "name": "b", "shape": [1.5]}, 400, "shape"),
+    ("POST", "/v1/jobs", {**JOB, "name": "b", "shape": [1] * 257}, 400, "shape"),
+    ("POST", "/v1/jobs", {**JOB, "shape": [3]}, 409, "name"),
+    ("POST", "/v1/jobs/none/calls", {"calls": [ACK]}, 404, None),
+    ("POST", "/v1/jobs/orders/calls", {"calls": []}, 400, "calls"),
+    ("POST", "/v1/jobs/orders/calls", {"calls": [ACK] * 1001}, 400, "calls"),
+    ("POST", "/v1/jobs/orders/calls", {"calls": [ACK, {**ACK, "id": 2**53 + 1}]}, 400, "calls[1].id"),
+    ("POST", "/v1/jobs/orders/calls", {"calls": [ACK, {**ACK, "subtask": "0.0.0"}]}, 400, "calls[1].subtask"),
+    ("POST", "/v1/jobs/orders/calls", {"calls": [ACK, {**ACK, "fresh": ["1", "-2"]}]}, 400, "calls[1].fresh[1]"),
+    ("POST", "/v1/jobs/orders/calls", {"calls": [ACK, {**ACK, "fresh": [1]}]}, 400, "calls[1].fresh[0]"),
+    ("POST", "/v1/jobs/orders/calls", {"calls": [{**ACK, "now": 5}]}, 400, "calls[0].now"),
+    ("POST", "/v1/jobs/orders/calls", {"calls": [{"call": "take", "most": 5}]}, 400, "Idempotency-Key"),
+    ("POST", "/v1/jobs/orders/calls", {"calls": [{"call": "savepoint"}]}, 400, "Idempotency-Key"),
+    ("GET", "/v1/jobs/orders/log?after=x", None, 400, "after"),
+    ("GET", "/v1/jobs/orders/log?limit=1001", None, 400, "limit"),
+    ("GET", "/v1/jobs/orders/log?from=1", None, 400, "from"),
+    ("GET", "/v1/jobs/orders/events?wait=61", None, 400, "wait"),
+    ("GET", "/v1/jobs/orders/records/x", None, 400, "id"),
+    ("GET", "/v1/jobs/orders/records/12", None, 404, None),
+    ("GET", "/v1/jobs/orders/files/18446744073709551616", None, 400, "file"),
+    ("GET", "/v1/jobs/none", None, 404, None),
+    ("GET", "/v1/jobs/..%2F..%2Fetc", None, 400, "job"),
+    ("GET", "/../../etc/passwd", None, 404, None),
+    ("DELETE", "/v1/jobs/orders", None, 405, None),
+    ("GET", "/v1/jobs/orders/calls", None, 405, None),
+]
+
+
+def test_bad_requests_name_the_field_and_change_nothing():
+    with served() as server:
+        assert server.request("POST", "/v1/jobs", JOB)[0] == 201
+        assert server.request("POST", "/v1/jobs", JOB)[0] == 200
+        before = server.get("/v1/jobs")[2]["jobs"]
+        for method, path, body, status, field in BAD:
+            told = server.request(method, path, body)
+            assert (told[0], told[2].get("field")) == (status, field), f"{method} {path} {body}: {told}"
+            assert told[2]["error"], path
+        headers = [("Content-Type", "text/plain")]
+        assert server.request("POST", "/v1/jobs", JOB, headers=headers)[0] == 415
+        assert server.request("GET", "/v1/jobs", headers=[("Host", "evil.example")])[0] == 403
+        assert server.request("POST", "/v1/jobs/orders/calls", b"x" * (8 << 20) + b"x")[0] == 413
+        assert server.get("/v1/jobs/orders/log")[2]["calls"] == []
+        after = server.get("/v1/jobs")[2]["jobs"]
+        moving = {"now"}
+        assert [{k: v for k, v in job.items() if k not in moving} for job in before] == [
+            {k: v for k, v in job.items() if k not in moving} for job in after
+        ]
+        return f"{len(BAD) + 3} requests"
+
+
+def raw(server, request):
+    """The answer's first bytes; none where the service waits for more of the request."""
+    with socket.create_connection(("127.0.0.1", server.port), timeout=20) as it:
+        it.sendall(request)
+        it.settimeout(0.05)
+        try:
+            return it.recv(4096)
+        except (socket.timeout, ConnectionResetError):
+            return b""
+
+
+def test_malformed_requests_by_the_thousand():
+    chance = random.Random(7)
+    good = b'POST /v1/jobs/orders/calls HTTP/1.1\r\nHost: localhost\r\nContent-Type: application/json\r\nContent-Length: 60\r\n\r\n{"calls":[{"call":"ack","id":1,"subtask":"0.0","fresh":[]}]}'
+    seen = {}
+    with served() as server:
+        server.request("POST", "/v1/jobs", JOB)
+        until(lambda: raw(server, good).startswith(b"HTTP/1.1 200"), 5)  # the request that is made wrong is a good one
+        for _ in range(1000):
+            wrong = bytearray(good)
+            for _ in range(chance.randint(1, 8)):
+                at = chance.randrange(len(wrong))
+                kind = chance.random()
+                if kind < 0.5:
+                    wrong[at] = chance.randrange(256)
+                elif kind < 0.75:
+                    del wrong[at : at + chance.randint(1, 40)]
+                else:
+                    wrong[at:at] = bytes(chance.randrange(256) for _ in range(chance.randint(1, 40)))
+            answer = raw(server, wrong)
+            assert answer == b"" or answer.startswith(b"HTTP/1.1 "), answer
+            assert not answer.startswith(b"HTTP/1.1 5"), (wrong, answer)
+            seen[answer[9:12].decode() or "none"] = seen.get(answer[9:12].decode() or "none", 0) + 1
+        assert server.get("/healthz")[0] == 200
+        state = server.get("/v1/jobs/orders")[2]
+        assert state["seq"] == 0 and seen.get("400", 0) > 100, (state, seen)
+        return f"1000 requests: {', '.join(f'{count} were answered {status}' for status, count in sorted(seen.items()))}"
+
+
+def test_a_key_makes_calls_once():
+    with served() as server:
+        server.request("POST", "/v1/jobs", {**JOB, "settings": {"interval": 1000000}})
+        path, key = "/v1/jobs/orders/calls", [("Idempotency-Key", "7f3a")]
+        body = {"calls": [{"call": "savepoint"}]}
+        first = server.request("POST", path, body, headers=key)
+        assert first[2]["answers"] == [{"seq": 1, "savepoint": "triggered", "id": 1}], first
+        assert server.request("POST", path, body, headers=key)[2] == first[2]
+        server.kill()
+        server.start()
+        assert server.request("POST", path, body, headers=key)[2] == first[2]
+        other = server.request("POST", path, {"calls": [{"call": "savepoint"}, {"call": "tick"}]}, headers=key)
+        assert (other[0], other[2]["field"]) == (422, "Idempotency-Key"), other
+        again = server.request("POST", path, body, headers=[("Idempotency-Key", "7f3b")])
+        assert again[2]["answers"][0]["id"] == 2
+        for bad in ("", "x" * 256):
+            told = server.request("POST", path, body, headers=[("Idempotency-Key", bad)])
+            assert (told[0], told[2]["field"]) == (400, "Idempotency-Key"), told
+        return "1 key, answered 3 times, once after a kill"
+
+
+def test_refusals_and_large_files():
+    largest = str(2**64 - 1)
+    with served() as server:
+        server.request("POST", "/v1/jobs", {**JOB, "shape": [2]})
+        path, key = "/v1/jobs/orders/calls", [("Idempotency-Key", "a")]
+        calls = [
+            {"call": "savepoint"},
+            {"call": "ack", "id": 1, "subtask": "0.0", "fresh": [largest]},
+            {"call": "ack", "id": 1, "subtask": "0.0", "fresh": ["1"]},
+            {"call": "ack", "id": 1, "subtask": "0.1", "fresh": [largest, "5"]},
+            {"call": "ack", "id": 1, "subtask": "0.1", "reused": ["9"]},
+            {"call": "ack", "id": 2, "subtask": "0.1"},
+            {"call": "ack", "id": 1, "subtask": "1.0"},
+            {"call": "ack", "id": 1, "subtask": "0.1", "reused": [largest]},
+            {"call": "deleted", "file": largest},
+            {"call": "dispose", "id": 1},
+            {"call": "take", "most": 8},
+            {"call": "take", "most": 8},
+            {"call": "deleted", "file": largest},
+        ]
+        told = server.request("POST", path, {"calls": calls}, headers=key)[2]["answers"]
+        assert told == [
+            {"seq": 1, "savepoint": "triggered", "id": 1},
+            {"seq": 2, "ack": "pending", "missing": 1},
+            {"refused": "AlreadyAcknowledged"},
+            {"refused": "NameTaken", "file": largest},
+            {"refused": "FileGone", "file": "9"},
+            {"refused": "UnknownCheckpoint"},
+            {"refused": "UnknownSubtask"},
+            {"seq": 3, "ack": "completed", "dropped": 0, "released": 0},
+            {"refused": "NotTaken"},
+            {"seq": 4, "dispose": "disposed", "released": 1},
+            {"seq": 5, "files": [largest]},
+            {"files": []},
+            {"seq": 6, "deleted": largest},
+        ], told
+        log = server.get("/v1/jobs/orders/log")[2]["calls"]
+        check_log(server.get("/v1/jobs/orders")[2], [2], log)
+        return f"{len(told)} answers"
+
+
+def test_the_timer_triggers_and_expires():
+    with served() as server:
+        settings = {"interval": 100, "timeout": 300, "tolerable": 1}
+        server.request("POST", "/v1/jobs", {"name": "t", "settings": settings, "shape": [1]})
+        first = until(lambda: server.get("/v1/jobs/t/events?after=0&wait=5")[2]["events"], 5)
+        assert first[0]["event"] == "triggered" and first[0]["id"] == 1
+        server.request("POST", "/v1/jobs/t/calls", {"calls": [{"call": "ack", "id": 1, "subtask": "0.0"}]})
+        # nobody acknowledges 2 and 3: each expires, and the second failure is one too many
+        state = until(lambda: (it := server.get("/v1/jobs/t")[2])["mode"] == "failed" and it, 5)
+        log = server.get("/v1/jobs/t/log")[2]["calls"]
+        texts = [entry["answer"] for entry in log]
+        assert texts == [
+            "tick expired 0 triggered 1", "ack completed 0 0", "tick expired 0 triggered 2", "tick expired 1 triggered 3", "tick expired 1 failed",
+        ], texts
+        times = [entry["at"] for entry in log]
+        assert 100 <= times[0] - state["opened"] < 400 and 300 <= times[3] - times[2] < 600 and 300 <= times[4] - times[3] < 600, times
+        time.sleep(0.5)
+        assert server.get("/v1/jobs/t")[2]["seq"] == 5, "a failed job is ticked"
+        server.request("POST", "/v1/jobs/t/calls", {"calls": [{"call": "restore", "from": "latest"}]})
+        until(lambda: server.get("/v1/jobs/t")[2]["seq"] == 7, 5)
+        return "7 calls, 5 of them the timer's"
+
+
+def test_a_slow_client_and_many_connections():
+    slow = ["--config"]
+    with served_with("[limits]\nconnections = 20\nidle_seconds = 1\nbody_seconds = 2\n", slow) as server:
+        server.request("POST", "/v1/jobs", JOB)
+        head = b"POST /v1/jobs/orders/calls HTTP/1.1\r\nHost: localhost\r\nContent-Type: application/json\r\nContent-Length: 100\r\n\r\n"
+        started = time.monotonic()
+        with socket.create_connection(("127.0.0.1", server.port), timeout=10) as it:
+            it.sendall(head)
+            answer = b""
+            while not answer and time.monotonic() < started + 8:
+                try:
+                    it.sendall(b"{")
+                    it.settimeout(0.25)
+                    answer = it.recv(100)
+                except socket.timeout:
+                    pass
+            assert answer.startswith(b"HTTP/1.1 408"), answer
+        with socket.create_connection(("127.0.0.1", server.port), timeout=10) as it:
+            started = time.monotonic()
+            it.sendall(b"GET /healthz HT")
+            assert it.recv(100) == b""
+            assert 0.5 < time.monotonic() - started < 3
+        idle = [socket.create_connection(("127.0.0.1", server.port), timeout=5) for _ in range(60)]
+        # idle connections are closed, so that others come in
+        until(lambda: server.get("/healthz")[0] == 200, 20)
+        for it in idle:
+            it.close()
+        return "a byte each quarter of a second ended with 408; 60 idle connections of 20 places kept nobody out"
+
+
+def served_with(text, args):
+    """A service with a configuration file of this text."""
+    from contextlib import contextmanager
+
+    from harness import Server, folder
+
+    @contextmanager
+    def it():
+        with folder() as at:
+            with open(f"{at}/service.toml", "w", encoding="utf-8") as file:
+                file.write(text)
+            server = Server(at, args=[*args, f"{at}/service.toml"]).start()
+            try:
+                yield server
+            finally:
+                server.stop()
+
+    return it()

@@ -1,0 +1,128 @@
+"""The clients, and the API's description against what the service really answers."""
+import json
+import os
+import subprocess
+import threading
+import time
+
+from harness import PROGRAM, SERVICE, check_log, served, until
+from relkvanu_service import Failed, Refused, Service, ack, decline, deleted, dispose, restore, savepoint, take
+from run import Skipped
+
+ENGINE = f"{os.path.dirname(PROGRAM)}/examples/engine"
+
+
+def as_json_schema(node):
+    """OpenAPI's `nullable` in the words of JSON Schema."""
+    if isinstance(node, list):
+        return [as_json_schema(one) for one in node]
+    if not isinstance(node, dict):
+        return node
+    made = {key: as_json_schema(value) for key, value in node.items() if key != "nullable"}
+    return {"anyOf": [{"type": "null"}, made]} if node.get("nullable") else made
+
+
+def test_answers_fit_the_description():
+    try:
+        import jsonschema
+    except ImportError:
+        raise Skipped("python3-jsonschema is not here") from None
+    with open(f"{SERVICE}/web/openapi.json", encoding="utf-8") as it:
+        described = as_json_schema(json.load(it))
+
+    def fits(method, path, route, body=None, key=None):
+        told = server.request(method, path, body, headers=[("Idempotency-Key", key)] if key else [])
+        operation = described["paths"][route][method.lower()]
+        if body is not None and told[0] in (200, 201):
+            wanted = operation["requestBody"]["content"]["application/json"]["schema"]
+            jsonschema.validate(body, {**wanted, "components": described["components"]})
+        assert str(told[0]) in operation["responses"], (method, path, told)
+        content = operation["responses"][str(told[0])].get("content", {}).get("application/json")
+        if content:
+            jsonschema.validate(told[2], {**content["schema"], "components": described["components"]})
+        return told
+
+    with served() as server:
+        job = "/v1/jobs/{job}"
+        fits("POST", "/v1/jobs", "/v1/jobs", {"name": "a", "settings": {"interval": 10_000}, "shape": [2]})
+        calls = [
+            {"call": "savepoint"}, {"call": "ack", "id": 1, "subtask": "0.0", "fresh": ["1", "2"]}, {"call": "ack", "id": 1, "subtask": "0.1"},
+            {"call": "tick"}, {"call": "savepoint"}, {"call": "decline", "id": 2, "subtask": "0.0"}, {"call": "decline", "id": 2, "subtask": "0.0"},
+            {"call": "ack", "id": 2, "subtask": "0.0", "fresh": ["9"]}, {"call": "restore", "from": 1}, {"call": "restore", "from": "latest", "shape": [1]},
+            {"call": "take", "most": 9}, {"call": "deleted", "file": "9"}, {"call": "undeleted", "file": "9"}, {"call": "dispose", "id": 1},
+            {"call": "cancel"}, {"call": "dispose", "id": 1}, {"call": "ack", "id": 99, "subtask": "0.0"},
+        ]
+        answers = fits("POST", "/v1/jobs/a/calls", f"{job}/calls", {"calls": calls}, "k")[2]["answers"]
+        assert [answer for answer in answers if "refused" in answer] == [
+            {"refused": "NotTaken"}, {"refused": "InUse"}, {"refused": "UnknownCheckpoint"},
+        ], answers
+        until(lambda: server.get("/v1/jobs/a/files")[2]["upto"] == server.get("/v1/jobs/a")[2]["seq"])
+        until(lambda: server.get("/v1/jobs/a/samples")[2]["samples"])
+        for path, route in [
+            ("/v1/jobs", "/v1/jobs"), ("/v1/jobs/a", job), ("/v1/jobs/a/records", f"{job}/records"), ("/v1/jobs/a/records/1", f"{job}/records/{{id}}"),
+            ("/v1/jobs/a/records/2", f"{job}/records/{{id}}"), ("/v1/jobs/a/records/77", f"{job}/records/{{id}}"), ("/v1/jobs/a/files", f"{job}/files"),
+            ("/v1/jobs/a/files/1", f"{job}/files/{{file}}"), ("/v1/jobs/a/files/9", f"{job}/files/{{file}}"), ("/v1/jobs/a/files/5", f"{job}/files/{{file}}"),
+            ("/v1/jobs/a/log", f"{job}/log"), ("/v1/jobs/a/log?limit=x", f"{job}/log"), ("/v1/jobs/a/events", f"{job}/events"),
+            ("/v1/jobs/a/samples", f"{job}/samples"), ("/v1/jobs/b", job), ("/healthz", "/healthz"), ("/readyz", "/readyz"), ("/metrics", "/metrics"),
+            ("/openapi.json", "/openapi.json"),
+        ]:
+            fits("GET", path, route)
+        texts = {entry["answer"] for entry in server.get("/v1/jobs/a/log")[2]["calls"]}
+        check_log(server.get("/v1/jobs/a")[2], [2], server.get("/v1/jobs/a/log")[2]["calls"])
+        return f"20 requests, {len(texts)} kinds of answers"
+
+
+def test_the_client_in_python():
+    with served() as server:
+        service = Service(server.url)
+        job = service.open("orders", {"interval": 60_000}, [1])
+        assert job.call(savepoint()) == {"seq": 1, "savepoint": "triggered", "id": 1}
+        assert job.call(ack(1, "0.0", [2**64 - 1]))["ack"] == "completed"
+        try:
+            job.call(ack(1, "9.9", reused=[5]))
+            job.call(dispose(7))
+            raise AssertionError("it was not refused")
+        except Refused as refused:
+            assert (refused.name, refused.file) == ("NoSuchSavepoint", None)
+        try:
+            job.calls([{"call": "ack", "id": -1, "subtask": "0.0"}])
+            raise AssertionError("it was no error")
+        except Failed as failed:
+            assert (failed.status, failed.field) == (400, "calls[0].id")
+        # a take whose answer is lost: the service is killed meanwhile, and the files come all the same
+        job.call(dispose(1))
+        server.kill()
+        found = []
+        taking = threading.Thread(target=lambda: found.extend(job.take()))
+        taking.start()
+        time.sleep(0.3)
+        server.start()
+        taking.join(30)
+        assert found == [2**64 - 1], found
+        assert job.call(deleted(found[0])) and job.calls([take(5)]) == [{"files": []}]
+        assert job.call(restore())["restore"] == "fresh" and job.call(decline(1, "0.0"))["decline"] == "late"
+        seen = []
+        for event in job.follow(0):
+            seen.append(event["event"])
+            if event["event"] == "restored":
+                break
+        assert seen == ["triggered", "completed", "disposed", "restored"], seen
+        return "calls, refusals, events, and a take over a kill"
+
+
+def test_the_client_in_rust():
+    if not os.path.exists(ENGINE):
+        raise Skipped(f"{ENGINE} is not built")
+    with served() as server:
+        run = subprocess.Popen([ENGINE, server.url, "rust", "20"], stdout=subprocess.PIPE, stderr=subprocess.STDOUT, text=True)
+        until(lambda: (server.get("/v1/jobs/rust")[2] or {}).get("seq", 0) > 40)
+        server.kill()
+        time.sleep(0.3)
+        server.start()
+        told = run.communicate(timeout=60)[0]
+        assert run.returncode == 0 and " checkpoints completed, " in told, told
+        log = []
+        while page := server.get(f"/v1/jobs/rust/log?limit=1000&after={len(log)}")[2]["calls"]:
+            log += page
+        check_log(server.get("/v1/jobs/rust")[2], [2, 3], log)
+        return f"{told.strip()}, over a kill of the service"

@@ -1,0 +1,33 @@
+"""Load by wrk, with the history read and metrics scraped meanwhile."""
+import shutil
+import threading
+
+import load
+from harness import check_log, served
+from relkvanu_service import Service
+from run import Skipped
+
+
+def test_load_by_wrk():
+    if not shutil.which("wrk"):
+        raise Skipped("wrk is not here")
+    with served() as server:
+        over, errors = threading.Event(), []
+
+        def scrape():
+            while not over.wait(0.2):
+                if server.get("/metrics")[0] != 200 or server.get("/healthz")[0] != 200:
+                    errors.append("a scrape failed")
+
+        scraping = threading.Thread(target=scrape)
+        scraping.start()
+        told, made = load.loaded(server, load.WAYS, 3)
+        over.set()
+        scraping.join()
+        assert not errors, errors[:3]
+        job = Service(server.url).job("load")
+        log = list(job.log())
+        assert len(log) >= made
+        compared = check_log(job.state(), [4096], log)
+        rates = ", ".join(f"{rate:.0f}/s with {connections} of {batch}" for connections, batch, rate, _, _ in told)
+        return f"{rates}; {made} acknowledged, {compared} answered alike by ckpt_job"

@@ -1,0 +1,77 @@
+"""Metrics by Prometheus' conventions, the alerts over them, and the unit of systemd."""
+import re
+import shutil
+import subprocess
+
+from harness import SERVICE, served, until
+from relkvanu_service import Service, ack, savepoint
+from run import Skipped
+
+DEPLOY = f"{SERVICE}/deploy"
+
+
+def needed(program):
+    if not shutil.which(program):
+        raise Skipped(f"{program} is not here")
+
+
+def scraped(server):
+    text = server.get("/metrics")[2]
+    return text, {line.rsplit(" ", 1)[0]: float(line.rsplit(" ", 1)[1]) for line in text.splitlines() if not line.startswith("#")}
+
+
+def test_metrics_say_what_was_done():
+    with served() as server:
+        job = Service(server.url).open("orders", {"interval": 3_600_000}, [2])
+        opened = job.state()["opened"] / 1000
+        values = scraped(server)[1]
+        assert abs(values['relkvanu_last_completed_timestamp_seconds{job_name="orders"}'] - opened) < 0.001
+        job.calls([savepoint(), ack(1, "0.0", [1, 2]), ack(1, "0.0", [3]), ack(1, "5.5")])
+        server.get("/nowhere")
+        until(lambda: 'relkvanu_history_calls{job_name="orders"} 2' in scraped(server)[0])
+        text, values = scraped(server)
+        for name, wanted in {
+            'relkvanu_calls_total{call="ack",job_name="orders",outcome="made"}': 1,
+            'relkvanu_calls_total{call="ack",job_name="orders",outcome="refused"}': 2,
+            'relkvanu_calls_total{call="savepoint",job_name="orders",outcome="made"}': 1,
+            'relkvanu_files{job_name="orders",state="in_use"}': 2,
+            'relkvanu_pending_records{job_name="orders",kind="savepoint"}': 1,
+            'relkvanu_pending_records{job_name="orders",kind="checkpoint"}': 0,
+            'relkvanu_interval_seconds{job_name="orders"}': 3600,
+            'relkvanu_mode{job_name="orders"}': 1,
+            'relkvanu_log_calls{job_name="orders"}': 2,
+            'relkvanu_http_requests_total{route="none",status="404"}': 1,
+            "relkvanu_leader": 1,
+        }.items():
+            assert values.get(name) == wanted, (name, values.get(name), wanted)
+        job.calls([ack(1, "0.1")])
+        until(lambda: scraped(server)[1].get('relkvanu_records_total{how="completed",job_name="orders",kind="savepoint"}') == 1)
+        assert scraped(server)[1]['relkvanu_completion_seconds_count{job_name="orders",kind="savepoint"}'] == 1
+        needed("promtool")
+        told = subprocess.run(["promtool", "check", "metrics"], input=text, text=True, stdout=subprocess.PIPE, stderr=subprocess.STDOUT, check=False)
+        assert told.returncode == 0 and not told.stdout.strip(), told.stdout
+        with open(f"{DEPLOY}/alerts.yml", encoding="utf-8") as it:
+            named = set(re.findall(r"relkvanu_[a-z_]+", it.read()))
+        missing = [name for name in named if not re.search(rf"^{name}\b", text, re.M)]
+        assert not missing, f"alerts use what there is not: {missing}"
+        return f"{len(values)} values, and {len(named)} that alerts use"
+
+
+def test_each_alert_fires_and_rests():
+    needed("promtool")
+    told = subprocess.run(["promtool", "test", "rules", "alerts_test.yml"], cwd=DEPLOY, text=True, stdout=subprocess.PIPE, stderr=subprocess.STDOUT, check=False)
+    assert told.returncode == 0, told.stdout
+    with open(f"{DEPLOY}/alerts.yml", encoding="utf-8") as rules, open(f"{DEPLOY}/alerts_test.yml", encoding="utf-8") as tests:
+        alerts, tried = set(re.findall(r"alert: (\w+)", rules.read())), set(re.findall(r"alertname: (\w+)", tests.read()))
+    assert alerts == tried, (alerts, tried)
+    return f"{len(alerts)} alerts"
+
+
+def test_the_unit_is_hardened():
+    needed("systemd-analyze")
+    told = subprocess.run(["systemd-analyze", "security", "--offline=true", f"{DEPLOY}/relkvanu.service"], text=True, stdout=subprocess.PIPE, stderr=subprocess.STDOUT, check=False)
+    found = re.search(r"Overall exposure level for relkvanu.service: ([0-9.]+)", told.stdout)
+    if not found:
+        raise Skipped(f"systemd-analyze does not run here: {told.stdout.strip().splitlines()[-1:]}")
+    assert float(found.group(1)) < 3, found.group(0)
+    return f"exposure {found.group(1)}"

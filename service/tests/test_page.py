@@ -1,0 +1,209 @@
+"""The page in chromium: what it shows of a job that runs, live, in light and dark and at 400 pixels."""
+import os
+import shutil
+import threading
+import time
+
+from harness import served, until
+from run import Skipped
+from relkvanu_service import Service, ack, decline, deleted, savepoint
+
+PICTURES = os.environ.get("RELKVANU_PICTURES")
+
+
+class Engine(threading.Thread):
+    """A small engine: five subtasks that acknowledge each checkpoint, one late, and now and then not at all."""
+
+    def __init__(self, url):
+        super().__init__(daemon=True)
+        self.job = Service(url).open("orders", {"interval": 250, "timeout": 700, "tolerable": 100, "retained": 2}, [2, 3])
+        self.over, self.number, self.completed = threading.Event(), 0, 0
+
+    def run(self):
+        after = 0
+        while not self.over.is_set():
+            after, events = self.job.events(after, 1)
+            for event in events:
+                if event["event"] == "triggered" and not self.over.is_set():
+                    self.take_part(event["id"])
+
+    def take_part(self, record):
+        self.number += 1
+        subtasks = ["0.0", "0.1", "1.0", "1.1", "1.2"]
+        if self.number % 9 == 4:
+            self.job.calls([decline(record, "1.1")])
+            return
+        slow = None if self.number % 7 == 5 else subtasks[-1]
+        for place, subtask in enumerate(subtasks[:-1]):
+            self.job.calls([ack(record, subtask, [record * 100 + place])])
+        if slow is None:
+            return  # 1.2 never acknowledges, and the checkpoint expires
+        time.sleep(0.02 * (self.number % 5))
+        self.job.calls([ack(record, slow, [record * 100 + 9])])
+        self.completed += 1
+
+
+def browser(width, height):
+    from selenium import webdriver
+    from selenium.webdriver.chrome.service import Service as Driver
+
+    options = webdriver.ChromeOptions()
+    options.binary_location = shutil.which("chromium")
+    for word in ["--headless=new", "--no-sandbox", "--disable-gpu", "--disable-dev-shm-usage", "--hide-scrollbars", f"--window-size={width},{height}"]:
+        options.add_argument(word)
+    options.set_capability("goog:loggingPrefs", {"browser": "ALL"})
+    return webdriver.Chrome(service=Driver(shutil.which("chromedriver")), options=options)
+
+
+def texts(page, selector):
+    return page.execute_script("return [...document.querySelectorAll(arguments[0])].map(it => it.textContent)", selector)
+
+
+def width(page, wanted, dark):
+    page.execute_cdp_cmd("Emulation.setDeviceMetricsOverride", {"width": wanted, "height": 900, "deviceScaleFactor": 1, "mobile": False})
+    scheme = "dark" if dark else "light"
+    page.execute_cdp_cmd("Emulation.setEmulatedMedia", {"features": [{"name": "prefers-color-scheme", "value": scheme}]})
+
+
+def picture(page, name):
+    if PICTURES:
+        import base64
+
+        time.sleep(1.5)
+        size = page.execute_script("const it = document.documentElement; return {x: 0, y: 0, width: it.clientWidth, height: it.scrollHeight, scale: 1}")
+        shot = page.execute_cdp_cmd("Page.captureScreenshot", {"captureBeyondViewport": True, "format": "png", "clip": size})
+        with open(f"{PICTURES}/{name}.png", "wb") as it:
+            it.write(base64.b64decode(shot["data"]))
+
+
+def contrast(page):
+    """The least contrast of the text on its ground, as WCAG counts it."""
+    return page.execute_script("""
+        const light = (text) => {
+          const [r, g, b] = text.match(/[0-9.]+/g).slice(0, 3).map(v => v / 255).map(v => v <= 0.03928 ? v / 12.92 : ((v + 0.055) / 1.055) ** 2.4);
+          return 0.2126 * r + 0.7152 * g + 0.0722 * b;
+        };
+        const ground = (it) => {
+          for (; it; it = it.parentElement) {
+            const c = getComputedStyle(it).backgroundColor;
+            if (!c.startsWith("rgba") || !c.endsWith(" 0)")) return c;
+          }
+          return "rgb(255, 255, 255)";
+        };
+        let least = 21;
+        for (const it of document.querySelectorAll("h1,h2,h3,h4,p,dt,dd,td,th,a,span,button,li")) {
+          if (!it.textContent.trim() || it.closest("[hidden]")) continue;
+          const [a, b] = [light(getComputedStyle(it).color), light(ground(it))].sort((x, y) => y - x);
+          least = Math.min(least, (a + 0.05) / (b + 0.05));
+        }
+        return least;""")
+
+
+def look_up(page, file):
+    page.execute_script("""
+        document.getElementById("file").replaceChildren();
+        document.getElementById("file-number").value = arguments[0];
+        document.getElementById("file-form").requestSubmit();""", str(file))
+    return until(lambda: "".join(texts(page, "#file")), 10)
+
+
+def test_what_the_page_shows():
+    try:
+        import selenium  # noqa: F401
+    except ImportError:
+        raise Skipped("python3-selenium is not here") from None
+    if not (shutil.which("chromium") and shutil.which("chromedriver")):
+        raise Skipped("chromium is not here")
+    with served() as server:
+        engine = Engine(server.url)
+        engine.start()
+        users = Service(server.url).open("users", {"interval": 3_600_000}, [1])
+        users.calls([savepoint()])
+        page = browser(1200, 900)
+        try:
+            return looked_at(page, server, engine)
+        finally:
+            engine.over.set()
+            page.quit()
+
+
+def looked_at(page, server, engine):
+    job = engine.job
+    until(lambda: engine.completed >= 8, 30)
+    files = job.take(3)
+    job.calls([deleted(file) for file in files[:2]])
+    page.get(f"{server.url}/#/jobs/orders")
+    until(lambda: texts(page, "#jobs a") == ["orders running", "users running"], 20)
+    until(lambda: len(texts(page, "#records tr")) >= 10, 20)
+    first = texts(page, '[data-fact="Calls in the log"]')[0]
+
+    # live, without reloading: the number of calls rises, and the newest record is the service's
+    until(lambda: int(texts(page, '[data-fact="Calls in the log"]')[0]) > int(first) + 10, 20)
+    until(lambda: texts(page, "#records tr td:first-child")[0] == str(job.records()[0]["id"]), 20, 0.01)
+
+    # each row says what the API says
+    rows = page.execute_script("return [...document.querySelectorAll('#records tr')].map(r => [...r.children].map(c => c.textContent))")
+    told = {str(record["id"]): record for record in job.records()}
+    hows = set()
+    for row in rows[3:]:
+        record = told[row[0]]
+        assert row[6] == record["kind"] and row[1] == record["how"], (row, record)
+        hows.add(row[1])
+        if record["how"] == "expired":
+            assert row[3] == "1.2", row
+        if record["how"] == "completed":
+            assert row[4] == "1.2" and row[3] == "", row
+    assert {"completed", "expired", "declined"} <= hows, hows
+    bars = page.execute_script("const c = Chart.getChart('durations').data; return c.labels.map((l, i) => [l, c.datasets[0].data[i]])")
+    assert len(bars) >= 10, bars
+    for label, seconds in bars[:-2]:
+        if label in told and told[label]["finished"]:
+            assert abs(seconds - (told[label]["finished"] - told[label]["started"]) / 1000) < 0.002, (label, seconds)
+    lines = page.execute_script("return Chart.getChart('counts').data.datasets.map(d => [d.label, d.data.length])")
+    assert [line[0] for line in lines] == ["in use", "waiting", "taken"] and lines[0][1] >= 1, lines
+
+    # a record whose subtask is missing
+    until(lambda: any("missing: 1.2" in text for text in texts(page, "#pending li")), 30, 0.05)
+
+    # files: one that was deleted says why, one in use by whom
+    text = look_up(page, files[0])
+    assert "0 uses" in text and "Written" in text and "Why: record" in text and "dropped" in text and "Deleted" in text, text
+    assert texts(page, "#taken button") == [str(files[2])], texts(page, "#taken")
+    assert set(texts(page, "#deleted button")) == {str(file) for file in files[:2]}
+    until(lambda: job.state()["choice"]["kind"] == "checkpoint", 20)
+    used = job.record(job.state()["choice"]["id"])
+    if used["live"]:
+        file = used["live"]["acks"][0]["files"][0]
+        text = look_up(page, file)
+        assert f"File {file}: " in text and "Written" in text, text
+    assert "No call has named it" in look_up(page, 999999999)
+
+    # nothing that the policy refuses, no error
+    wrong = [entry["message"] for entry in page.get_log("browser") if entry["level"] == "SEVERE"]
+    assert not wrong, wrong
+    look_up(page, files[0])
+    picture(page, "service-page")
+    least = [contrast(page)]
+    width(page, 1200, True)
+    page.refresh()
+    until(lambda: len(texts(page, "#records tr")) >= 10, 20)
+    least.append(contrast(page))
+    picture(page, "service-page-dark")
+    width(page, 400, False)
+    page.refresh()
+    until(lambda: len(texts(page, "#records tr")) >= 10, 20)
+    time.sleep(0.5)
+    wide = page.execute_script("return document.documentElement.scrollWidth")
+    assert wide <= 400, f"{wide} pixels wide at 400"
+    least.append(contrast(page))
+    picture(page, "service-page-narrow")
+    assert min(least) >= 4.5, least
+    page.get(f"{server.url}/#/jobs/users")
+    until(lambda: texts(page, "#job-name") == ["users"] and any("savepoint 1" in text for text in texts(page, "#pending li")), 20)
+
+    # the service goes away and comes back
+    server.kill()
+    until(lambda: texts(page, "#status")[0] == "the service does not answer", 20)
+    server.start()
+    until(lambda: texts(page, "#status")[0].startswith("live"), 20)
+    return f"{len(rows)} records, {len(bars)} bars, least contrast {min(least):.1f}, 400 pixels wide at 400"

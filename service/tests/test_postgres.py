@@ -1,0 +1,126 @@
+"""Over PostgreSQL: kills, a database that stops, and a standby that takes over from a leader that was killed, stopped, or cut off."""
+import os
+import random
+import signal
+import threading
+import time
+
+import kills
+from harness import Server, folder, until
+from postgres import postgres
+from relkvanu_service import Service
+
+LEASE = 2
+
+
+class Kept(threading.Thread):
+    """Starts a service again where it ended with 75, as systemd does."""
+
+    def __init__(self, server):
+        super().__init__(daemon=True)
+        self.server, self.over, self.ended = server, threading.Event(), []
+
+    def run(self):
+        while not self.over.is_set():
+            status = self.server.process.poll()
+            if status is not None:
+                self.ended.append(status)
+                self.server.start(ready=False)
+            time.sleep(0.05)
+
+
+def test_kills():
+    with postgres() as database:
+        told = kills.run(int(os.environ.get("RELKVANU_KILLS_PG", "15")), database.url, "lease_seconds = 1\n")
+        assert database.sql("select count(*) > 0 from call") == "t"
+        return told
+
+
+def test_a_database_that_stops():
+    with postgres() as database, folder() as at:
+        with open(f"{at}/service.toml", "w", encoding="utf-8") as it:
+            it.write("lease_seconds = 1\n")
+        server = Server(at, database.url, ["--config", f"{at}/service.toml"]).start()
+        kept, told = Kept(server), []
+        kept.start()
+        with kills.writers_at([server.url], told):
+            for mode in ("immediate", "fast", "immediate"):
+                time.sleep(0.7)
+                database.stop(mode)
+                time.sleep(0.5)
+                database.start()
+                server.wait_ready(kept=True)
+            # the connection of the writer alone
+            database.sql("select pg_terminate_backend(pid) from pg_stat_activity where application_name = 'relkvanu' and query like '%$9::bigint%'")
+            time.sleep(0.5)
+            server.wait_ready(kept=True)
+        kept.over.set()
+        kept.join()
+        server.stop()
+        assert len(kept.ended) >= 4 and set(kept.ended) == {75}, kept.ended
+        return f"3 stops of the database and 1 cut connection, {told[0]}"
+
+
+def leads(server):
+    return server.process.poll() is None and server.get("/readyz")[0] == 200
+
+
+def test_take_over():
+    config = f"lease_seconds = {LEASE}\n"
+    with postgres() as database, folder() as at:
+        with open(f"{at}/service.toml", "w", encoding="utf-8") as it:
+            it.write(config)
+        servers = [Server(at, database.url, ["--config", f"{at}/service.toml"]) for _ in range(2)]
+        servers[0].start()
+        servers[1].start(ready=False)
+        until(lambda: "another process leads" in servers[1].log())
+        assert servers[1].get("/healthz")[0] == 200
+        told = servers[1].request("GET", "/v1/jobs")
+        assert told[0] == 503 and told[1]["retry-after"] == "1" and told[1]["relkvanu-leader"] == servers[0].url, told
+        assert "relkvanu_leader 0" in servers[1].get("/metrics")[2] and "relkvanu_leader 1" in servers[0].get("/metrics")[2]
+        found, times, epochs = [], [], []
+        with kills.writers_at([server.url for server in servers], found):
+            for way in ("stop", "kill", "stop", "cut"):
+                leader = next(server for server in servers if leads(server))
+                standby = next(server for server in servers if server is not leader)
+                time.sleep(0.6)
+                epochs.append(int(database.sql("select epoch from leader")))
+                started = time.monotonic()
+                if way == "cut":
+                    database.sql("select pg_terminate_backend(pid) from pg_stat_activity where application_name = 'relkvanu' and query like '%$9::bigint%'")
+                else:
+                    leader.process.send_signal(signal.SIGSTOP if way == "stop" else signal.SIGKILL)
+                until(lambda: leads(standby), 20, 0.01)
+                times.append(time.monotonic() - started)
+                time.sleep(random.uniform(0, 0.5))
+                leader.process.send_signal(signal.SIGCONT) if leader.process.poll() is None else None
+                # one that was stopped finds out with its first group, or its first read, and answers nothing of it
+                status = leader.process.wait(20)
+                assert status == (-9 if way == "kill" else 75), (way, status, leader.log()[-400:])
+                leader.start(ready=False)
+        assert epochs == sorted(set(epochs)), epochs
+        # one that is stopped in good order lets the other lead at once
+        leader = next(server for server in servers if leads(server))
+        standby = next(server for server in servers if server is not leader)
+        until(lambda: "another process leads" in standby.log().rsplit("epoch", 1)[-1])
+        started = time.monotonic()
+        assert leader.stop() == 0
+        until(lambda: leads(standby), 20, 0.01)
+        handed = time.monotonic() - started
+        assert handed < 1.5, handed
+        jobs = Service(standby.url).jobs()
+        assert {job["name"] for job in jobs} == {"orders", "users"}
+        standby.stop()
+        assert max(times[:3]) < LEASE + 1.5, times
+        return f"leads again after {', '.join(f'{it:.2f}' for it in times)} s with a lease of {LEASE} s, {handed:.2f} s after a stop in good order; {found[0]}"
+
+
+def test_a_database_that_does_not_sync_is_refused():
+    with postgres() as database, folder() as at:
+        database.stop("fast")
+        database.start("-o", "-c fsync=off")
+        server = Server(at, database.url)
+        server.start(ready=False)
+        status = server.process.wait(20)
+        assert status == 75 and "fsync is off" in server.log(), (status, server.log())
+        return "fsync=off"

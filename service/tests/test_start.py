@@ -1,0 +1,146 @@
+"""How the service starts: with what it may not, over logs that were changed, and over a full disk."""
+import os
+import sqlite3
+import subprocess
+import time
+
+from harness import PROGRAM, Server, check_log, folder, served, until
+from run import Skipped
+
+JOB = {"name": "orders", "settings": {"interval": 50}, "shape": [1]}
+
+
+def refused(args, status, text):
+    told = subprocess.run([PROGRAM, "serve", *args], stderr=subprocess.PIPE, stdout=subprocess.PIPE, text=True, timeout=20, check=False)
+    assert told.returncode == status, (args, told)
+    assert text in told.stderr, (args, told.stderr)
+
+
+def test_bad_configurations_are_named():
+    with folder() as at:
+        def file(name, text):
+            with open(f"{at}/{name}", "w", encoding="utf-8") as it:
+                it.write(text)
+            return f"{at}/{name}"
+
+        database = ["--database", f"{at}/x.db"]
+        refused([*database, "--listen", "0.0.0.0:0"], 78, "token_file")
+        refused([*database, "--listen", "here"], 78, "listen")
+        refused(["--config", file("a", "listn = 'x'")], 78, "listn")
+        refused(["--config", file("b", "[limits]\ncalls = 0")], 78, "limits.calls")
+        refused(["--config", f"{at}/none"], 78, "none")
+        refused([*database, "--listen", "127.0.0.1:0", "--token-file", file("c", "read short")], 78, "line 1")
+        refused(["--database", f"{at}/no/x.db", "--listen", "127.0.0.1:0"], 75, "no/x.db")
+        told = subprocess.run([PROGRAM, "--version"], stdout=subprocess.PIPE, text=True, check=True)
+        assert told.stdout.startswith("relkvanu "), told
+        return "7 configurations"
+
+
+def test_tokens():
+    with folder() as at:
+        with open(f"{at}/token", "w", encoding="utf-8") as it:
+            it.write("read " + "r" * 20 + "\nwrite " + "w" * 20 + "\n")
+        server = Server(at, args=["--token-file", f"{at}/token"]).start()
+        read, write = "r" * 20, "w" * 20
+        for token, method, path, status in [
+            (None, "GET", "/v1/jobs", 401), ("x" * 20, "GET", "/v1/jobs", 401), (read, "GET", "/v1/jobs", 200),
+            (write, "GET", "/v1/jobs", 200), (None, "POST", "/v1/jobs", 401), (read, "POST", "/v1/jobs", 401),
+            (write, "POST", "/v1/jobs", 201), (None, "GET", "/metrics", 401), (read, "GET", "/metrics", 200),
+            (None, "GET", "/healthz", 200), (None, "GET", "/readyz", 200), (None, "GET", "/", 200),
+        ]:
+            told = server.request(method, path, JOB if method == "POST" else None, token)
+            assert told[0] == status, (token, method, path, told)
+        assert write not in server.log() and read not in server.log()
+        server.stop()
+        return "12 requests"
+
+
+def driven(server, calls=20):
+    """A job with some calls in its log."""
+    server.request("POST", "/v1/jobs", JOB)
+    until(lambda: server.get("/v1/jobs/orders")[2]["seq"] >= 1)
+    for number in range(calls):
+        live = server.get("/v1/jobs/orders")[2]["live"]
+        pending = [record["id"] for record in live if not record["done"]]
+        if pending:
+            ack = {"call": "ack", "id": pending[0], "subtask": "0.0", "fresh": [str(1000 + number)]}
+            server.request("POST", "/v1/jobs/orders/calls", {"calls": [ack]})
+        time.sleep(0.02)
+
+
+def test_a_log_that_answers_otherwise_stops_the_start():
+    with folder() as at:
+        server = Server(at).start()
+        driven(server)
+        server.stop()
+        base = sqlite3.connect(server.database)
+        was = base.execute("select seq, answer from call where answer like 'ack completed%' order by seq limit 1").fetchone()
+        base.execute("update call set answer = 'ack completed 7 7' where seq = ?", (was[0],))
+        base.commit()
+        args = ["--database", server.database, "--listen", "127.0.0.1:0"]
+        refused(args, 78, f'job orders, call {was[0]} ')
+        refused(args, 78, f'the log says "ack completed 7 7", and this program answers "{was[1]}"')
+        base.execute("update call set answer = ? where seq = ?", (was[1], was[0]))
+        base.execute("delete from call where seq = 2")
+        base.commit()
+        refused(args, 78, "job orders, call 3: call 2 is missing")
+        base.execute("update call set seq = 2, line = 'tock 1' where seq = 3")
+        base.commit()
+        refused(args, 78, '"tock 1" is no call')
+        return "an answer, a gap and a line"
+
+
+def test_two_processes_of_one_database():
+    with served() as server:
+        refused(["--database", server.database, "--listen", "127.0.0.1:0"], 75, "another process serves this database")
+        return "the second ended with 75"
+
+
+def test_a_stop_loses_nothing():
+    with folder() as at:
+        server = Server(at).start()
+        driven(server, 30)
+        before = server.get("/v1/jobs/orders/log?limit=1000")[2]["calls"]
+        assert server.stop() == 0
+        server.start()
+        after = server.get("/v1/jobs/orders/log?limit=1000")[2]["calls"]
+        assert after[: len(before)] == before
+        check_log(server.get("/v1/jobs/orders")[2], [1], after)
+        server.stop()
+        return f"{len(before)} calls"
+
+
+def test_a_full_disk():
+    """The database lies on a file system of 600 KiB. The process ends with 75 and answers nothing that it has not kept; where there is room
+    again, it goes on."""
+    with folder() as at:
+        os.mkdir(f"{at}/small")
+        if os.geteuid() != 0 or subprocess.run(["mount", "-t", "tmpfs", "-o", "size=2m", "tmpfs", f"{at}/small"], stderr=subprocess.DEVNULL, check=False).returncode:
+            raise Skipped("a small file system can't be mounted here")
+        server = Server(at, database=f"{at}/small/x.db")
+        try:
+            server.start()
+            server.request("POST", "/v1/jobs", {**JOB, "settings": {"interval": 10, "at_once": 64}})
+            kept, number = 0, 0
+            ack = {"call": "ack", "subtask": "0.0"}
+            until(lambda: server.get("/v1/jobs/orders")[2]["seq"] >= 1)
+            while server.process.poll() is None and number < 5000:
+                number += 1
+                # a late acknowledgement is always made
+                calls = [{**ack, "id": 1, "fresh": [str(number * 1000 + one) for one in range(200)]} for _ in range(1)]
+                told = server.request("POST", "/v1/jobs/orders/calls", {"calls": calls})
+                if told[0] == 200:
+                    kept = max([kept] + [answer["seq"] for answer in told[2]["answers"] if "seq" in answer])
+            assert server.process.wait(30) == 75, server.log()[-500:]
+            assert "is tried again" in server.log(), server.log()[-500:]
+            subprocess.run(["mount", "-o", "remount,size=64m", f"{at}/small"], check=True)
+            server.start()
+            log = []
+            while page := server.get(f"/v1/jobs/orders/log?limit=1000&after={len(log)}")[2]["calls"]:
+                log += page
+            assert len(log) >= kept > 50, (len(log), kept)
+            check_log(server.get("/v1/jobs/orders")[2], [1], log)
+            return f"{kept} calls were acknowledged before the disk was full, and all were there after"
+        finally:
+            server.stop()
+            subprocess.run(["umount", f"{at}/small"], check=False)

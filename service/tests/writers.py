@@ -1,0 +1,115 @@
+"""Writers that drive jobs as engines do, badly at times, and keep what they were answered."""
+import random
+import threading
+import time
+
+import harness  # noqa: F401 (it finds the client)
+from relkvanu_service import Failed, Service, ack, decline, deleted, dispose, restore, savepoint, take, undeleted
+
+SETTINGS = {"interval": 40, "at_once": 2, "timeout": 1500, "tolerable": 2, "retained": 2}
+SHAPE = [2, 3]
+
+
+class Writer(threading.Thread):
+    """Calls one job until it is told to stop. `made` has each acknowledged call, by its place in the log."""
+
+    def __init__(self, urls, job, number):
+        super().__init__(daemon=True)
+        self.service = Service(*urls, patience=60)
+        self.job = self.service.job(job)
+        self.name_of_job = job
+        self.random = random.Random(number)
+        self.next_file = (number + 1) << 40
+        self.made, self.refused, self.errors = {}, 0, []
+        self.over = threading.Event()
+
+    def run(self):
+        while not self.over.is_set():
+            try:
+                self.turn()
+            except Failed as failed:
+                if failed.status != 404:  # a record may have ended since it was seen
+                    self.errors.append(str(failed))
+                    return
+
+    def files(self, count):
+        self.next_file += count
+        return list(range(self.next_file - count, self.next_file))
+
+    def turn(self):
+        state = self.job.state()
+        if state["mode"] == "failed":
+            return self.send([restore()])
+        pending = [record for record in state["live"] if not record["done"]]
+        if pending and self.random.random() < 0.9:
+            return self.acknowledge(state, self.random.choice(pending)["id"])
+        return self.send(self.other(state))
+
+    def acknowledge(self, state, record):
+        """Most of the missing subtasks acknowledge, with new files and some of the last checkpoint's."""
+        told = self.job.record(record)
+        last = state["choice"].get("id")
+        held = {}
+        if last and (live := self.job.record(last)["live"]):
+            held = {entry["subtask"]: entry["files"] for entry in live["acks"]}
+        missing = told["missing"] or ["0.0"]
+        chosen = missing if self.random.random() < 0.7 else self.random.sample(missing, self.random.randint(1, len(missing)))
+        calls = [ack(record, subtask, self.files(2), held.get(subtask, [])[:2]) for subtask in chosen]
+        if self.random.random() < 0.05:
+            calls.append(decline(record, chosen[0]))
+        self.send(calls)
+
+    def other(self, state):
+        done = [record["id"] for record in state["live"] if record["kind"] == "savepoint" and record["done"]]
+        kind = self.random.random()
+        if kind < 0.15:
+            return [savepoint()]
+        if kind < 0.25 and done:
+            return [dispose(done[0])]
+        if kind < 0.30:
+            return [restore(shape=[state["shape"][0], self.random.randint(1, 8)])]
+        if kind < 0.35:
+            return [ack(1, "0.0", self.files(1))]  # late
+        time.sleep(0.002)
+        return [take(self.random.randint(1, 32))]
+
+    def send(self, calls):
+        answers = self.job.calls(calls)
+        for call, answer in zip(calls, answers):
+            if "seq" in answer:
+                self.made[answer["seq"]] = (call, answer)
+            elif "refused" in answer:
+                self.refused += 1
+        files = [file for answer in answers for file in answer.get("files", [])]
+        if files:
+            self.send([deleted(file) if self.random.random() < 0.8 else undeleted(file) for file in files])
+
+
+def same_call(call, line):
+    """Whether a line of the log is this call."""
+    words = line.split(" ")
+    if call["call"] != words[0]:
+        return False
+    if words[0] == "ack":
+        fresh, reused = ({word[1:] for word in words[4:] if word[0] == sign} for sign in "+=")
+        return [str(call["id"]), call["subtask"]] == words[2:4] and set(call["fresh"]) == fresh and set(call["reused"]) == reused
+    if words[0] in ("deleted", "undeleted"):
+        return words[1] == call["file"]
+    return True
+
+
+def check(writers, service, job, shape):
+    """Each acknowledged call stands in the log where it was said to, with its answer, and the oracle says the same. Returns
+    how many were acknowledged, how many the log has, and how many answers the oracle gave."""
+    log = list(service.job(job).log())
+    own = [writer for writer in writers if writer.name_of_job == job]
+    seen = set()
+    for writer in own:
+        assert not writer.errors, writer.errors[:3]
+        for seq, (call, answer) in writer.made.items():
+            assert seq not in seen, f"place {seq} was given twice"
+            seen.add(seq)
+            entry = log[seq - 1]
+            assert same_call(call, entry["line"]), f"{seq}: {call} is {entry['line']}"
+            assert harness.answer_text(answer) == entry["answer"], f"{seq}: {answer} is {entry['answer']}"
+    return len(seen), len(log), harness.check_log(service.job(job).state(), shape, log)
