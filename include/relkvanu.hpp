@@ -16,6 +16,7 @@
 #include <optional>
 #include <random>
 #include <string>
+#include <string_view>
 #include <system_error>
 #include <type_traits>
 #include <utility>
@@ -70,6 +71,14 @@ enum class error : int {
     bad_shape = RELKVANU_BAD_ARGUMENT << 8 | RELKVANU_BAD_SHAPE,
     bad_moment = RELKVANU_BAD_ARGUMENT << 8 | RELKVANU_BAD_MOMENT,
     bad_first = RELKVANU_BAD_ARGUMENT << 8 | RELKVANU_BAD_FIRST,
+    bad_kind = RELKVANU_BAD_ARGUMENT << 8 | RELKVANU_BAD_KIND,
+    too_short = RELKVANU_TOO_SHORT << 8, /* the buffer has to have more places */
+    line_too_long = RELKVANU_BAD_LINE << 8 | RELKVANU_FAULT_TOO_LONG,
+    line_word = RELKVANU_BAD_LINE << 8 | RELKVANU_FAULT_WORD,
+    line_missing = RELKVANU_BAD_LINE << 8 | RELKVANU_FAULT_MISSING,
+    line_number = RELKVANU_BAD_LINE << 8 | RELKVANU_FAULT_NUMBER,
+    line_extra = RELKVANU_BAD_LINE << 8 | RELKVANU_FAULT_EXTRA,
+    line_no_call = RELKVANU_BAD_LINE << 8 | RELKVANU_FAULT_NO_CALL,
 };
 
 class error_category_type final : public std::error_category {
@@ -89,6 +98,14 @@ public:
         case error::bad_shape: return "BadShape";
         case error::bad_moment: return "BadMoment";
         case error::bad_first: return "BadFirst";
+        case error::bad_kind: return "BadKind";
+        case error::too_short: return "the buffer is too short";
+        case error::line_too_long: return "TooLong";
+        case error::line_word: return "Word";
+        case error::line_missing: return "Missing";
+        case error::line_number: return "Number";
+        case error::line_extra: return "Extra";
+        case error::line_no_call: return "NoCall";
         default: return "unknown";
         }
     }
@@ -110,11 +127,18 @@ inline std::error_code make_error_code(error it) noexcept {
     return std::error_code(static_cast<int>(it), error_category());
 }
 
-/* Nothing has changed. The file is that to blame for name_taken and file_gone, else 0. */
+/* Nothing has changed. The file is that to blame for name_taken and file_gone, else 0; places are those that a buffer has to have
+ * where it is too_short, else 0. */
 struct refused {
     std::error_code why;
-    std::uint64_t file = 0;
+    std::uint64_t file = 0, places = 0;
 };
+
+inline refused refusal(relkvanu_answer told) {
+    bool has_what = told.code == RELKVANU_REFUSED || told.code == RELKVANU_BAD_ARGUMENT || told.code == RELKVANU_BAD_LINE;
+    error why = static_cast<error>(told.code << 8 | (has_what ? told.what : 0));
+    return refused{make_error_code(why), told.code == RELKVANU_REFUSED ? told.a : 0, told.code == RELKVANU_TOO_SHORT ? told.a : 0};
+}
 
 struct triggered { std::uint64_t expired, id; };
 struct held_interval { std::uint64_t expired; };
@@ -150,6 +174,12 @@ using cancel_answer = std::variant<cancelled, refused>;
 using take_answer = std::variant<files, refused>;
 using report_answer = std::variant<reported, refused>;
 using show_answer = std::variant<std::string, refused>;
+
+/* What a line of a script did: nothing; the call, with the answer of its own function in relkvanu.h; a take; a show. */
+struct skipped {};
+struct answered { relkvanu_answer answer; };
+using line_answer = std::variant<skipped, answered, files, std::string, refused>;
+using text_answer = std::variant<std::string, refused>;
 
 enum class mode { running, failed, cancelled };
 
@@ -280,6 +310,24 @@ public:
         return json;
     }
 
+    /* Makes the call that a line of a script says (docs/SCRIPT.md): the bytes before its newline. A take line fetches into the buffer;
+     * where it would fetch more than there are places for, it is refused as error::too_short. */
+    line_answer line(std::string_view text, span<std::uint64_t> buffer = {}) {
+        relkvanu_answer told = relkvanu_line(&handle_, reinterpret_cast<const std::uint8_t *>(text.data()), text.size(), buffer.data(), buffer.size());
+        if (told.code == RELKVANU_TOO_SHORT && text.find("show") != text.npos) {
+            show_answer shown = show(number_in(text));
+            std::string *json = std::get_if<std::string>(&shown);
+            return json != nullptr ? line_answer(std::move(*json)) : line_answer(std::get<refused>(shown));
+        } else if (told.code != RELKVANU_DONE) {
+            return refusal(told);
+        }
+        switch (told.what) {
+        case RELKVANU_SKIPPED: return skipped{};
+        case RELKVANU_TAKEN: return files(buffer.data(), static_cast<std::size_t>(told.a));
+        default: return answered{told};
+        }
+    }
+
     /* Reads, of one that is not closed. */
 
     std::uint64_t count(std::uint64_t file) { return read(relkvanu_count(&handle_, file)).b; }
@@ -347,9 +395,13 @@ private:
 
     static std::uint8_t *bytes(std::string &text) { return reinterpret_cast<std::uint8_t *>(text.data()); }
 
-    static refused refusal(relkvanu_answer told) {
-        std::uint32_t what = told.code == RELKVANU_REFUSED || told.code == RELKVANU_BAD_ARGUMENT ? told.what : 0;
-        return refused{make_error_code(static_cast<error>(told.code << 8 | what)), told.code == RELKVANU_REFUSED ? told.a : 0};
+    /* The number of a line that has one, which the library has read. */
+    static std::uint64_t number_in(std::string_view text) {
+        std::uint64_t number = 0;
+        for (char each : text) {
+            number = each >= '0' && each <= '9' ? 10 * number + static_cast<std::uint64_t>(each - '0') : number;
+        }
+        return number;
     }
 
     static relkvanu_answer read(relkvanu_answer told) {
@@ -373,6 +425,34 @@ private:
         }
     }
 };
+
+/* What is written into a buffer that is long enough. */
+template <class Write> text_answer written(Write write) {
+    std::string text(256, '\0');
+    relkvanu_answer told = write(reinterpret_cast<std::uint8_t *>(text.data()), text.size());
+    while (told.code == RELKVANU_TOO_SHORT) {
+        text.resize(static_cast<std::size_t>(told.a));
+        told = write(reinterpret_cast<std::uint8_t *>(text.data()), text.size());
+    }
+    if (told.code != RELKVANU_DONE) {
+        return refusal(told);
+    }
+    text.resize(static_cast<std::size_t>(told.a));
+    return text;
+}
+
+/* The line of a call, without a newline. First are the fresh files of an ack or the shape of a restore, second the reused files. One
+ * that would be longer than a line may be is refused as error::line_too_long: none is cut. */
+inline text_answer call_line(const relkvanu_call &call, span<const std::uint64_t> first = {}, files second = {}) {
+    return written([&](std::uint8_t *text, std::size_t len) {
+        return relkvanu_call_line(&call, first.data(), first.size(), second.data(), second.size(), text, len);
+    });
+}
+
+/* The lines config, job and start of a coordinator that begins with the number 1, each with its newline. */
+inline text_answer opening_lines(const relkvanu_settings &settings, shape of, std::uint64_t now) {
+    return written([&](std::uint8_t *text, std::size_t len) { return relkvanu_opening_lines(&settings, of.data(), of.size(), now, text, len); });
+}
 
 } // namespace ckpt
 

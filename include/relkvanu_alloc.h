@@ -13,7 +13,7 @@
  * - A block has at least size bytes, and its address is a multiple of align. Nobody else writes to it until it is given back.
  * - What rattle_realloc gives has the first kept bytes of the old block, which is given back by that; what its other bytes are does
  *   not matter. Where there is no memory, the old block stays as it is.
- * - No memory is an ordinary answer: the call of the library that asked then answers RELKVANU_NO_MEMORY and changes nothing.
+ * - No memory is an ordinary answer: a call of the library that can't do without answers RELKVANU_NO_MEMORY and changes nothing.
  *   rattle_dealloc always succeeds.
  * - The three belong to one allocator. They may be called by several threads at once, one for each handle that is in a call,
  *   and a block may be given back by another thread than the one that asked for it.

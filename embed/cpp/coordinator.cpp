@@ -121,8 +121,36 @@ static void ticks() {
     CHECK(std::holds_alternative<ckpt::held_at_once>(held) && job.next_tick(held) == 6000);
 }
 
+static void lines() {
+    Coordinator job = opened({1, 2});
+    const std::vector<std::uint64_t> fresh{12, 11}, reused{7}, of{1, 2}, many(9000, ~std::uint64_t{0});
+    std::uint64_t buffer[2];
+    relkvanu_call call{};
+    call.kind = RELKVANU_CALL_ACK;
+    call.vertex = 1;
+    call.index = 1;
+    call.now = 5;
+    call.number = 1;
+    CHECK(std::get<std::string>(ckpt::call_line(call, fresh, reused)) == "ack 5 1 1.1 +11 +12 =7");
+    CHECK(is(ckpt::call_line(call, many), ckpt::error::line_too_long));
+    call.kind = 0;
+    CHECK(is(ckpt::call_line(call), ckpt::error::bad_kind));
+    CHECK(std::get<std::string>(ckpt::opening_lines(settings(), of, 7)) == "config 1000 0 2 5000 0 1 delete\njob 1 2\nstart 7\n");
+    CHECK(std::get<ckpt::answered>(job.line("tick 1000")).answer.what == RELKVANU_TICK_TRIGGERED);
+    CHECK(std::get<ckpt::answered>(job.line("ack 1000 1 0.0 +1 +2\r")).answer.a == 2);
+    CHECK(std::get<std::string>(job.line("show 1")).find("\"files\":[1,2]") != std::string::npos);
+    CHECK(std::holds_alternative<ckpt::skipped>(job.line("# a comment")) && std::holds_alternative<ckpt::skipped>(job.line("")));
+    CHECK(is(job.line("tick"), ckpt::error::line_missing) && is(job.line("start 7"), ckpt::error::line_no_call));
+    CHECK(is(job.line("tick x"), ckpt::error::line_number) && is(job.line("Tick 1"), ckpt::error::line_word));
+    CHECK(is(job.line("show 9"), ckpt::error::no_such_record) && is(job.line("tick 1 2"), ckpt::error::line_extra));
+    CHECK(std::get<ckpt::answered>(job.line("cancel 1000")).answer.what == RELKVANU_CANCELLED);
+    CHECK(is(job.line("take 9"), ckpt::error::too_short) && std::get<ckpt::refused>(job.line("take 9")).places == 2);
+    CHECK(std::get<ckpt::files>(job.line("take 9", buffer)).size() == 2 && buffer[0] == 1 && buffer[1] == 2);
+}
+
 int main() {
     reads();
+    lines();
     files();
     restores();
     refusals();
