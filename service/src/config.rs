@@ -103,7 +103,10 @@ impl Config {
             }
         }
         if self.token_file.is_none() && !self.listen.ip().is_loopback() {
-            return Err(format!("listen: {} can be reached from other machines, so a token_file is needed", self.listen));
+            return Err(format!(
+                "listen: {} can be reached from other machines, so a token_file is needed",
+                self.listen
+            ));
         }
         Ok(self)
     }

@@ -2,7 +2,8 @@
 use crate::model::{Mode, Outcome};
 use crate::writer::JobState;
 use prometheus::{
-    Encoder, GaugeVec, Histogram, HistogramOpts, HistogramVec, IntCounterVec, IntGauge, IntGaugeVec, Opts, Registry, TextEncoder,
+    Encoder, GaugeVec, Histogram, HistogramOpts, HistogramVec, IntCounterVec, IntGauge, IntGaugeVec, Opts, Registry,
+    TextEncoder,
 };
 use std::time::Duration;
 
@@ -40,12 +41,20 @@ impl Metrics {
         let metrics = Metrics {
             registry: Registry::new(),
             calls: counter("relkvanu_calls_total", "Calls, by what became of them.", &["job_name", "call", "outcome"])?,
-            requests: counter("relkvanu_http_requests_total", "HTTP requests, by route and status.", &["route", "status"])?,
+            requests: counter(
+                "relkvanu_http_requests_total",
+                "HTTP requests, by route and status.",
+                &["route", "status"],
+            )?,
             commit_seconds: histogram("relkvanu_commit_seconds", "How long a commit takes.", &SECONDS)?,
             commit_rows: histogram("relkvanu_commit_calls", "How many calls share a commit.", &ROWS)?,
             leader: IntGauge::new("relkvanu_leader", "1 where this process leads.")?,
             connections: IntGauge::new("relkvanu_http_connections", "Open connections.")?,
-            records: counter("relkvanu_records_total", "Records that ended being pending, by how.", &["job_name", "kind", "how"])?,
+            records: counter(
+                "relkvanu_records_total",
+                "Records that ended being pending, by how.",
+                &["job_name", "kind", "how"],
+            )?,
             durations: HistogramVec::new(
                 HistogramOpts::new("relkvanu_completion_seconds", "From a record's trigger to its completion.")
                     .buckets(DURATIONS.to_vec()),
@@ -126,7 +135,11 @@ impl Gauges {
                 "When the last checkpoint completed, in Unix time; before the first, when the job was opened.",
             )?,
             opened: seconds("relkvanu_job_opened_timestamp_seconds", "When the job was opened, in Unix time.")?,
-            files: gauge("relkvanu_files", "State files that are in use, wait for deletion, or were taken for it.", &["job_name", "state"])?,
+            files: gauge(
+                "relkvanu_files",
+                "State files that are in use, wait for deletion, or were taken for it.",
+                &["job_name", "state"],
+            )?,
             pending: gauge("relkvanu_pending_records", "Records that subtasks are missing of.", &["job_name", "kind"])?,
             log_calls: gauge("relkvanu_log_calls", "Calls in the job's log.", &["job_name"])?,
             history: gauge("relkvanu_history_calls", "Calls of the log that the history has read.", &["job_name"])?,

@@ -151,7 +151,9 @@ impl Leader {
                 self.board.lead(epoch);
                 let (took, over) = (started.elapsed().as_millis(), asked.elapsed().as_millis());
                 let jobs_there = jobs.len();
-                log::info(&format!("leads epoch={epoch} jobs={jobs_there} calls={calls} start_ms={took} take_over_ms={over}"));
+                log::info(&format!(
+                    "leads epoch={epoch} jobs={jobs_there} calls={calls} start_ms={took} take_over_ms={over}"
+                ));
                 return Ok(jobs);
             }
             if !waits {

@@ -83,8 +83,11 @@ impl HistoryReader {
 
     /// Files that were taken and not reported since, the oldest first, and those that were deleted last.
     pub fn files(&self, job: i64, most: u64) -> Result<(Vec<FileRow>, Vec<FileRow>), String> {
-        let taken = format!("select {FILE} from file where job = ? and taken is not null and deleted is null order by taken limit ?");
-        let deleted = format!("select {FILE} from file where job = ? and deleted is not null order by deleted desc limit ?");
+        let taken = format!(
+            "select {FILE} from file where job = ? and taken is not null and deleted is null order by taken limit ?"
+        );
+        let deleted =
+            format!("select {FILE} from file where job = ? and deleted is not null order by deleted desc limit ?");
         let given = params![job, bits(most)];
         Ok((self.all(&taken, given, file_of)?, self.all(&deleted, given, file_of)?))
     }
@@ -132,9 +135,16 @@ fn record_of(row: &Row) -> rusqlite::Result<RecordRow> {
 }
 
 fn file_of(row: &Row) -> rusqlite::Result<FileRow> {
-    let place = |at: usize| Ok::<_, rusqlite::Error>(row.get::<_, Option<i64>>(at)?.and_then(|seq| u64::try_from(seq).ok()));
+    let place =
+        |at: usize| Ok::<_, rusqlite::Error>(row.get::<_, Option<i64>>(at)?.and_then(|seq| u64::try_from(seq).ok()));
     let file: i64 = row.get(0)?;
-    Ok(FileRow { file: (file as u64).to_string(), born: place(1)?, released: place(2)?, taken: place(3)?, deleted: place(4)? })
+    Ok(FileRow {
+        file: (file as u64).to_string(),
+        born: place(1)?,
+        released: place(2)?,
+        taken: place(3)?,
+        deleted: place(4)?,
+    })
 }
 
 fn sample_of(row: &Row) -> rusqlite::Result<Sample> {

@@ -34,7 +34,8 @@ impl Pending {
         let subtasks = self.shape.iter().zip(0..).flat_map(|(parallelism, vertex)| {
             (0..*parallelism).map(move |index| Subtask { vertex, index: u16::try_from(index).unwrap_or(u16::MAX) })
         });
-        let missing: Vec<String> = subtasks.filter(|one| !self.acked.contains(one)).map(|one| one.to_string()).collect();
+        let missing: Vec<String> =
+            subtasks.filter(|one| !self.acked.contains(one)).map(|one| one.to_string()).collect();
         let named = missing[..missing.len().min(MOST_NAMED)].join(" ");
         match missing.len() {
             0 => None,
@@ -116,7 +117,13 @@ impl Records {
     }
 
     /// A pending record is pending no more.
-    fn finish(&mut self, tables: &Tables, id: u64, how: &'static str, entry: &Entry) -> rusqlite::Result<Option<Ended>> {
+    fn finish(
+        &mut self,
+        tables: &Tables,
+        id: u64,
+        how: &'static str,
+        entry: &Entry,
+    ) -> rusqlite::Result<Option<Ended>> {
         let Some(pending) = self.pending.remove(&id) else {
             return Ok(None);
         };

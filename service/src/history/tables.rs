@@ -43,7 +43,8 @@ impl Tables {
     /// How far the history of a job is, and its shape there.
     pub fn progress(&self, job: i64) -> rusqlite::Result<Option<(u64, Vec<u64>)>> {
         let sql = "select upto, shape from progress where job = ?";
-        let found: Option<(i64, String)> = self.0.query_row(sql, [job], |row| Ok((row.get(0)?, row.get(1)?))).optional()?;
+        let found: Option<(i64, String)> =
+            self.0.query_row(sql, [job], |row| Ok((row.get(0)?, row.get(1)?))).optional()?;
         Ok(found.map(|(upto, shape)| (unsigned(upto), shape.split(' ').filter_map(|word| word.parse().ok()).collect())))
     }
 
@@ -53,14 +54,15 @@ impl Tables {
 
     /// Forgets a job, so that its history is made anew.
     pub fn forget(&self, job: i64) -> rusqlite::Result<()> {
-        ["progress", "record", "file", "queue"].iter().try_for_each(|table| {
-            self.0.execute(&format!("delete from {table} where job = ?"), [job]).map(|_| ())
-        })
+        ["progress", "record", "file", "queue"]
+            .iter()
+            .try_for_each(|table| self.0.execute(&format!("delete from {table} where job = ?"), [job]).map(|_| ()))
     }
 
     /// The records that were pending, without their acknowledgements.
     pub fn pending(&self, job: i64) -> rusqlite::Result<Vec<(u64, Pending)>> {
-        let mut query = self.0.prepare("select id, kind, shape, started from record where job = ? and how = 'pending'")?;
+        let mut query =
+            self.0.prepare("select id, kind, shape, started from record where job = ? and how = 'pending'")?;
         let rows = query.query_map([job], |row| {
             let (kind, shape): (String, String) = (row.get(1)?, row.get(2)?);
             let kind = if kind == "savepoint" { Kind::Savepoint } else { Kind::Checkpoint };
@@ -90,7 +92,10 @@ impl Tables {
     }
 
     pub fn gone(&self, job: i64, id: u64, at: u64, why: &str) -> rusqlite::Result<()> {
-        self.run("update record set gone = ?3, why = ?4 where job = ?1 and id = ?2", params![job, signed(id), signed(at), why])
+        self.run(
+            "update record set gone = ?3, why = ?4 where job = ?1 and id = ?2",
+            params![job, signed(id), signed(at), why],
+        )
     }
 
     /// A file is registered, whatever had its number before.
@@ -120,7 +125,8 @@ impl Tables {
     pub fn undeleted(&self, job: i64, file: u64) -> rusqlite::Result<Option<u64>> {
         self.run("update file set taken = null where job = ?1 and file = ?2", params![job, bits(file)])?;
         let sql = "select released from file where job = ? and file = ?";
-        let found: Option<Option<i64>> = self.0.query_row(sql, params![job, bits(file)], |row| row.get(0)).optional()?;
+        let found: Option<Option<i64>> =
+            self.0.query_row(sql, params![job, bits(file)], |row| row.get(0)).optional()?;
         Ok(found.flatten().map(unsigned))
     }
 

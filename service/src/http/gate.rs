@@ -68,7 +68,9 @@ fn admitted(app: &App, route: &Route, headers: &HeaderMap) -> Result<(), Box<Rep
             let refused = error(401, "Authorization: a token for this is needed, as 'Bearer TOKEN'");
             return Err(with_header(refused, WWW_AUTHENTICATE, "Bearer").into());
         }
-        None if !names_loopback(headers) => return Err(error(403, "Host: names another machine, and there are no tokens").into()),
+        None if !names_loopback(headers) => {
+            return Err(error(403, "Host: names another machine, and there are no tokens").into())
+        }
         _ => {}
     }
     match access {

@@ -32,7 +32,9 @@ pub async fn answer(app: &App, route: Route, query: &str) -> Result<Reply, Box<R
         Route::Log(job) => log(app, &job, query).await,
         Route::Events(job) => events(app, &job, query).await,
         Route::Samples(job) => samples(app, &job, query).await,
-        Route::Asset(_) | Route::Health | Route::Ready | Route::NewJob | Route::Calls(_) => Err(error(404, "is no read").into()),
+        Route::Asset(_) | Route::Health | Route::Ready | Route::NewJob | Route::Calls(_) => {
+            Err(error(404, "is no read").into())
+        }
     }
 }
 
@@ -77,7 +79,8 @@ async fn records(app: &App, job: &str, query: &str) -> Result<Reply, Box<Reply>>
     let before = Parameter { name: "before", most: u64::MAX, default: u64::MAX };
     let [before, most] = numbers(query, [before, limit(MOST_ROWS, 100)])?;
     let number = app.number(job)?;
-    let (records, upto) = app.read_history(move |history| Ok((history.records(number, before, most)?, history.upto(number)?))).await?;
+    let (records, upto) =
+        app.read_history(move |history| Ok((history.records(number, before, most)?, history.upto(number)?))).await?;
     Ok(json_reply(200, &json!({"upto": upto, "records": records})))
 }
 
@@ -114,7 +117,8 @@ fn parts(live: Option<RecordState>) -> Result<RecordParts, Box<Reply>> {
 async fn files(app: &App, job: &str, query: &str) -> Result<Reply, Box<Reply>> {
     let [most] = numbers(query, [limit(MOST_ROWS, 100)])?;
     let number = app.number(job)?;
-    let ((taken, deleted), upto) = app.read_history(move |history| Ok((history.files(number, most)?, history.upto(number)?))).await?;
+    let ((taken, deleted), upto) =
+        app.read_history(move |history| Ok((history.files(number, most)?, history.upto(number)?))).await?;
     Ok(json_reply(200, &json!({"upto": upto, "taken": taken, "deleted": deleted})))
 }
 
@@ -142,7 +146,10 @@ async fn one_file(app: &App, job: String, file: u64, query: &str) -> Result<Repl
         .await?;
     let pins = uses.map(|uses| uses.saturating_sub(by.len() as u64));
     let history = history.map(|row| render::file_history(&row, &entries));
-    Ok(json_reply(200, &json!({"file": file.to_string(), "uses": uses, "pins": pins, "used_by": by, "history": history})))
+    Ok(json_reply(
+        200,
+        &json!({"file": file.to_string(), "uses": uses, "pins": pins, "used_by": by, "history": history}),
+    ))
 }
 
 async fn log(app: &App, job: &str, query: &str) -> Result<Reply, Box<Reply>> {

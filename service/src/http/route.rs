@@ -93,7 +93,11 @@ impl Route {
             ["samples"] => Route::Samples(name),
             _ => return Err(NoRoute::Path),
         };
-        if is_get { Ok(route) } else { Err(NoRoute::Method) }
+        if is_get {
+            Ok(route)
+        } else {
+            Err(NoRoute::Method)
+        }
     }
 
     /// What a request needs a token for; `None` where it needs none.
@@ -152,9 +156,12 @@ mod tests {
         let methods = |item: &serde_json::Value| item.as_object().map(|item| item.keys().cloned().collect::<Vec<_>>());
         let described: Vec<(String, String)> = paths
             .iter()
-            .flat_map(|(path, item)| methods(item).unwrap_or_default().into_iter().map(|method| (method, (*path).clone())))
+            .flat_map(|(path, item)| {
+                methods(item).unwrap_or_default().into_iter().map(|method| (method, (*path).clone()))
+            })
             .collect();
-        let mut wanted: Vec<(String, String)> = API.iter().map(|(method, path)| (method.to_string(), path.to_string())).collect();
+        let mut wanted: Vec<(String, String)> =
+            API.iter().map(|(method, path)| (method.to_string(), path.to_string())).collect();
         let mut described = described;
         wanted.sort();
         described.sort();
@@ -164,7 +171,17 @@ mod tests {
 
     #[test]
     fn other_paths_are_none() {
-        for path in ["", "/x", "/v1", "/v1/jobs/a/b", "/v1/jobs/a/records/1/2", "/v1/jobs/", "/../etc/passwd", "//", "/v1/jobs/a/"] {
+        for path in [
+            "",
+            "/x",
+            "/v1",
+            "/v1/jobs/a/b",
+            "/v1/jobs/a/records/1/2",
+            "/v1/jobs/",
+            "/../etc/passwd",
+            "//",
+            "/v1/jobs/a/",
+        ] {
             assert!(Route::of(&Method::GET, path).is_err(), "{path}");
         }
         assert_eq!(Route::of(&Method::GET, "/v1/jobs/..%2f/log"), Err(NoRoute::Part("job")));

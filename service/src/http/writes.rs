@@ -45,13 +45,18 @@ pub async fn calls(app: &App, job: String, request: Request<Body>) -> Result<Rep
     Ok(match done {
         CallsDone::Made(outcomes) => body(200, app.board.answers(&outcomes)),
         CallsDone::Known(answers) => body(200, answers),
-        CallsDone::KeyUsed => json_reply(422, &json!({"error": "Idempotency-Key was used with another body", "field": "Idempotency-Key"})),
+        CallsDone::KeyUsed => {
+            json_reply(422, &json!({"error": "Idempotency-Key was used with another body", "field": "Idempotency-Key"}))
+        }
         CallsDone::NoJob => no_job(&at),
     })
 }
 
 fn key_is_missing(call: &Call) -> Reply {
-    bad_field("Idempotency-Key", &format!("is missing: without it, a {} whose answer is lost is made twice", call.name()))
+    bad_field(
+        "Idempotency-Key",
+        &format!("is missing: without it, a {} whose answer is lost is made twice", call.name()),
+    )
 }
 
 /// The request's key: 1 to 255 visible characters of ASCII.
@@ -76,9 +81,10 @@ async fn read_body(app: &App, request: Request<Body>) -> Result<hyper::body::Byt
     let time = Duration::from_secs(app.limits.body_seconds);
     match tokio::time::timeout(time, hyper::body::to_bytes(limited)).await {
         Ok(Ok(bytes)) => Ok(bytes),
-        Ok(Err(why)) if why.is::<LengthLimitError>() => Err(error(413, &format!("the body has more than {most} bytes")).into()),
+        Ok(Err(why)) if why.is::<LengthLimitError>() => {
+            Err(error(413, &format!("the body has more than {most} bytes")).into())
+        }
         Ok(Err(_)) => Err(error(400, "the body ended early").into()),
         Err(_) => Err(error(408, &format!("the body did not come within {} s", time.as_secs())).into()),
     }
 }
-

@@ -160,7 +160,10 @@ fn record_of(call: &Call, reply: &Reply) -> Option<u64> {
 fn is_event(reply: &Reply) -> bool {
     match reply {
         Reply::Ticked { expired, end } => *expired > 0 || matches!(end, TickEnd::Triggered(_) | TickEnd::Failed),
-        Reply::SavepointTriggered(_) | Reply::AckCompleted { .. } | Reply::Restored { .. } | Reply::Cancelled { .. } => true,
+        Reply::SavepointTriggered(_)
+        | Reply::AckCompleted { .. }
+        | Reply::Restored { .. }
+        | Reply::Cancelled { .. } => true,
         Reply::DeclineAborted { .. } | Reply::DeclineFailed { .. } | Reply::Disposed { .. } => true,
         _ => false,
     }

@@ -105,7 +105,9 @@ mod tests {
         for call in calls {
             assert_eq!(parse_line(&call.line(1234)), Some((1234, call)));
         }
-        for call in [Call::Dispose { id: 4 }, Call::Take { most: 64 }, Call::Deleted { file: 9 }, Call::Undeleted { file: 9 }] {
+        for call in
+            [Call::Dispose { id: 4 }, Call::Take { most: 64 }, Call::Deleted { file: 9 }, Call::Undeleted { file: 9 }]
+        {
             assert_eq!(parse_line(&call.line(1234)), Some((0, call)));
         }
     }

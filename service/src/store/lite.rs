@@ -54,7 +54,9 @@ impl Store for Lite {
             return Ok(());
         }
         write(&mut self.connection, group).map_err(|error| match error.sqlite_error_code() {
-            Some(ErrorCode::DiskFull | ErrorCode::DatabaseBusy | ErrorCode::DatabaseLocked) => Failure::Again(error.to_string()),
+            Some(ErrorCode::DiskFull | ErrorCode::DatabaseBusy | ErrorCode::DatabaseLocked) => {
+                Failure::Again(error.to_string())
+            }
             _ => Failure::Lost(error.to_string()),
         })
     }
@@ -92,7 +94,14 @@ fn write(connection: &mut Connection, group: &Group) -> rusqlite::Result<()> {
         for job in &group.jobs {
             let shape = crate::model::shape_words(&job.shape);
             let line = job.settings.line();
-            insert.execute(params![job.number, job.name, line, shape, signed(job.started), env!("CARGO_PKG_VERSION")])?;
+            insert.execute(params![
+                job.number,
+                job.name,
+                line,
+                shape,
+                signed(job.started),
+                env!("CARGO_PKG_VERSION")
+            ])?;
         }
         let mut insert = transaction.prepare_cached("insert into call values(?, ?, ?, ?, ?, ?, ?, ?)")?;
         for entry in &group.entries {

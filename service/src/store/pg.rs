@@ -9,7 +9,8 @@ use std::time::Duration;
 const SCHEMA: &str = include_str!("../../sql/pg.sql");
 const COMMIT: &str = include_str!("../../sql/pg_commit.sql");
 const COMMIT_NAME: &CStr = c"commit_group";
-const LEAD: &str = "update leader set epoch = epoch + 1, holder = $1, until = clock_timestamp() + $2::float8 * interval '1 s'
+const LEAD: &str =
+    "update leader set epoch = epoch + 1, holder = $1, until = clock_timestamp() + $2::float8 * interval '1 s'
     where until < clock_timestamp() returning epoch";
 
 /// The writer's connection, and its lease.
@@ -28,7 +29,9 @@ impl Pg {
         if cell(&fsync, 0) != Some("on") {
             return Err("fsync is off in this database, so that it can lose what it committed".to_string());
         }
-        connection.run("set synchronous_commit = on; set statement_timeout = '10s'; set client_min_messages = warning").map_err(told)?;
+        connection
+            .run("set synchronous_commit = on; set statement_timeout = '10s'; set client_min_messages = warning")
+            .map_err(told)?;
         // two that start at once take turns
         connection.run(&format!("begin; select pg_advisory_xact_lock(7203146); {SCHEMA}; commit")).map_err(told)?;
         connection.prepare(COMMIT_NAME, COMMIT).map_err(told)?;
@@ -72,11 +75,18 @@ impl Store for Pg {
         let rows = self.connection.query(sql, &[&job.to_string(), key]).map_err(told)?;
         let column = |place: usize| cell(&rows, place).map(str::to_string);
         let found = column(0).zip(column(1)).zip(column(2));
-        Ok(found.map(|((at, digest), answers)| Keyed { job, key: key.to_string(), at: at.parse().unwrap_or(0), digest, answers }))
+        Ok(found.map(|((at, digest), answers)| Keyed {
+            job,
+            key: key.to_string(),
+            at: at.parse().unwrap_or(0),
+            digest,
+            answers,
+        }))
     }
 
     fn forget_keys(&mut self, before: u64) -> Result<(), String> {
-        let sql = "delete from request where (job, key) in (select job, key from request where at < $1::bigint limit 1000)";
+        let sql =
+            "delete from request where (job, key) in (select job, key from request where at < $1::bigint limit 1000)";
         self.connection.query(sql, &[&before.to_string()]).map(|_| ()).map_err(told)
     }
 

@@ -32,7 +32,9 @@ impl PgReader {
 
 fn connect(url: &str) -> Result<Connection, String> {
     let mut connection = Connection::open(url).map_err(|failed| failed.text)?;
-    connection.run("set statement_timeout = '60s'; set default_transaction_read_only = on").map_err(|failed| failed.text)?;
+    connection
+        .run("set statement_timeout = '60s'; set default_transaction_read_only = on")
+        .map_err(|failed| failed.text)?;
     Ok(connection)
 }
 

@@ -144,7 +144,8 @@ unsafe fn cells(result: *const PGresult) -> Rows {
 }
 
 fn text(given: &str) -> Result<CString, Failed> {
-    CString::new(given).map_err(|_| Failed { text: "a text has a zero byte".to_string(), state: Some("22021".to_string()) })
+    CString::new(given)
+        .map_err(|_| Failed { text: "a text has a zero byte".to_string(), state: Some("22021".to_string()) })
 }
 
 fn count(length: usize) -> c_int {

@@ -66,7 +66,8 @@ pub trait Store: Send {
 
 /// Which rows of `call` an engine hears of: all but acknowledgements and declines that end no record, held ticks and the
 /// outbox's calls.
-pub const IS_EVENT: &str = "(answer like 'ack completed%' or line like 'tick %' and answer not like '%held%' or ended is not null \
+pub const IS_EVENT: &str =
+    "(answer like 'ack completed%' or line like 'tick %' and answer not like '%held%' or ended is not null \
     or line like 'savepoint %' or line like 'restore %' or line like 'cancel %')";
 
 /// The columns of an [`Entry`].

@@ -86,7 +86,9 @@ impl Jobs {
         for opening in reader.jobs().map_err(StartError::Unread)? {
             let place = match self.place(&opening.name) {
                 Some(place) => place,
-                None => self.open(opening.clone()).map_err(|NoJob(why)| StartError::NotOpened { job: opening.name, why })?,
+                None => {
+                    self.open(opening.clone()).map_err(|NoJob(why)| StartError::NotOpened { job: opening.name, why })?
+                }
             };
             made += self.catch_up_job(place, reader, beat)?;
         }

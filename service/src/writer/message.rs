@@ -57,7 +57,10 @@ pub enum ReadDone {
     /// A live record, or `None` where none has the number.
     Record(Option<RecordState>),
     /// How many uses the file has, and which records are live.
-    File { uses: Option<u64>, live: Vec<u64> },
+    File {
+        uses: Option<u64>,
+        live: Vec<u64>,
+    },
     NoJob,
 }
 
@@ -80,7 +83,13 @@ struct Watched {
 impl Board {
     pub fn new() -> Board {
         let jobs = RwLock::new(HashMap::new());
-        Board { ready: AtomicBool::new(false), epoch: AtomicU64::new(0), beat: AtomicU64::new(0), started: Instant::now(), jobs }
+        Board {
+            ready: AtomicBool::new(false),
+            epoch: AtomicU64::new(0),
+            beat: AtomicU64::new(0),
+            started: Instant::now(),
+            jobs,
+        }
     }
 
     /// This process leads, in this epoch.

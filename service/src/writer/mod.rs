@@ -48,7 +48,8 @@ impl Writer {
     pub fn new(store: Box<dyn Store>, jobs: Jobs, board: Arc<Board>, metrics: Arc<Metrics>) -> Writer {
         let clock = Clock::starting_after(jobs.last_moment());
         let now = Instant::now();
-        let mut writer = Writer { store, jobs, clock, timer: Timer::default(), board, metrics, forgot: now, committed: now };
+        let mut writer =
+            Writer { store, jobs, clock, timer: Timer::default(), board, metrics, forgot: now, committed: now };
         for place in 0..writer.jobs.len() {
             writer.publish(place);
         }

@@ -6,15 +6,34 @@ use serde_json::{json, Value};
 pub enum Call {
     Tick,
     Savepoint,
-    Ack { id: u64, subtask: (u16, u16), fresh: Vec<u64>, reused: Vec<u64> },
-    Decline { id: u64, subtask: (u16, u16) },
-    Dispose { id: u64 },
+    Ack {
+        id: u64,
+        subtask: (u16, u16),
+        fresh: Vec<u64>,
+        reused: Vec<u64>,
+    },
+    Decline {
+        id: u64,
+        subtask: (u16, u16),
+    },
+    Dispose {
+        id: u64,
+    },
     /// From a savepoint, or the latest; in a new shape where one is given.
-    Restore { savepoint: Option<u64>, shape: Option<Vec<u64>> },
+    Restore {
+        savepoint: Option<u64>,
+        shape: Option<Vec<u64>>,
+    },
     Cancel,
-    Take { most: u64 },
-    Deleted { file: u64 },
-    Undeleted { file: u64 },
+    Take {
+        most: u64,
+    },
+    Deleted {
+        file: u64,
+    },
+    Undeleted {
+        file: u64,
+    },
 }
 
 impl Call {

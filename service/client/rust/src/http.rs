@@ -78,7 +78,13 @@ impl Requests {
         self.request(Method::POST, path, Some(body.to_string()), key).await
     }
 
-    async fn request(&self, method: Method, path: &str, body: Option<String>, key: Option<&str>) -> Result<Value, Error> {
+    async fn request(
+        &self,
+        method: Method,
+        path: &str,
+        body: Option<String>,
+        key: Option<&str>,
+    ) -> Result<Value, Error> {
         let until = Instant::now() + PATIENCE;
         let mut pause = FIRST_PAUSE;
         loop {
@@ -96,7 +102,14 @@ impl Requests {
         }
     }
 
-    async fn once(&self, method: Method, url: &str, path: &str, body: Option<String>, key: Option<&str>) -> Result<Value, Error> {
+    async fn once(
+        &self,
+        method: Method,
+        url: &str,
+        path: &str,
+        body: Option<String>,
+        key: Option<&str>,
+    ) -> Result<Value, Error> {
         let mut request = Request::builder().method(method).uri(format!("{url}{path}"));
         request = request.header(CONTENT_TYPE, "application/json");
         if let Some(token) = &self.token {
@@ -105,7 +118,9 @@ impl Requests {
         if let Some(key) = key {
             request = request.header("idempotency-key", key);
         }
-        let request = request.body(body.map_or_else(Body::empty, Body::from)).map_err(|error| Error::Address(error.to_string()))?;
+        let request = request
+            .body(body.map_or_else(Body::empty, Body::from))
+            .map_err(|error| Error::Address(error.to_string()))?;
         let unreached = |error: hyper::Error| Error::Unreached(error.to_string());
         let answer = self.client.request(request).await.map_err(unreached)?;
         let status = answer.status().as_u16();
@@ -122,7 +137,9 @@ fn told(status: u16, bytes: &[u8]) -> Result<Value, Error> {
             let text = |name: &str| value[name].as_str().map(str::to_string);
             Err(Error::Status { status, text: text("error").unwrap_or_default(), field: text("field") })
         }
-        Err(_) if status >= 400 => Err(Error::Status { status, text: String::from_utf8_lossy(bytes).into_owned(), field: None }),
+        Err(_) if status >= 400 => {
+            Err(Error::Status { status, text: String::from_utf8_lossy(bytes).into_owned(), field: None })
+        }
         Err(error) => Err(Error::Answer(format!("is no JSON: {error}"))),
     }
 }
