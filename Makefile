@@ -16,9 +16,6 @@ LIBRARY = build/librelkvanu.a build/librelkvanu.so.0
 PROGRAMS = ckpt_job ckpt_chart ckpt_demo
 VERSION := $(shell sed -n 's/^\#define RELKVANU_VERSION "\(.*\)"/\1/p' include/relkvanu.h)
 HEADERS = include/relkvanu.h include/relkvanu.hpp include/relkvanu_alloc.h
-# What the toolchain proves and builds; a release has no crates, and the library instead.
-ARCHIVE := $(if $(wildcard crates),crates/relkvanu/out/librelkvanu.a)
-SOURCES := $(wildcard crates/*/src/*.rt crates/*/src/*/*.rt crates/*/specs/*.antt)
 into = $(DESTDIR)$(PREFIX)
 filled = sed -e 's|@PREFIX@|$(PREFIX)|g' -e 's|@VERSION@|$(VERSION)|g'
 
@@ -26,13 +23,19 @@ filled = sed -e 's|@PREFIX@|$(PREFIX)|g' -e 's|@VERSION@|$(VERSION)|g'
 
 library: $(LIBRARY)
 
-crates/relkvanu/out/librelkvanu.a: $(SOURCES)
+# A release has no crates: its library is there already, and nothing builds it again.
+ifneq ($(wildcard crates),)
+ARCHIVE = crates/relkvanu/out/librelkvanu.a
+SOURCES := $(wildcard crates/*/src/*.rt crates/*/src/*/*.rt crates/*/specs/*.antt)
+
+$(ARCHIVE): $(SOURCES)
 	embed/archive
 
 build/librelkvanu.a: $(ARCHIVE) embed/c/heap.c embed/c/version.c include/relkvanu.h include/relkvanu_alloc.h packaging/relkvanu.map
 	embed/library build $(ARCHIVE)
 
 build/librelkvanu.so.0: build/librelkvanu.a
+endif
 
 install: $(LIBRARY)
 	$(INSTALL) -d $(into)/include $(into)/lib/pkgconfig $(into)/lib/cmake/relkvanu $(into)/bin
