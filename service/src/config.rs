@@ -29,6 +29,8 @@ pub struct Limits {
     pub connections: usize,
     /// Bytes of a request's body.
     pub body_bytes: usize,
+    /// Bytes of all bodies that are read or worked on at once.
+    pub all_bodies_bytes: usize,
     /// Calls of a request.
     pub calls: usize,
     /// Requests that wait for the writer.
@@ -41,7 +43,15 @@ pub struct Limits {
 
 impl Default for Limits {
     fn default() -> Limits {
-        Limits { connections: 1024, body_bytes: 8 << 20, calls: 1000, queue: 4096, idle_seconds: 30, body_seconds: 30 }
+        Limits {
+            connections: 1024,
+            body_bytes: 8 << 20,
+            all_bodies_bytes: 64 << 20,
+            calls: 1000,
+            queue: 4096,
+            idle_seconds: 30,
+            body_seconds: 30,
+        }
     }
 }
 
@@ -91,6 +101,7 @@ impl Config {
         let numbers = [
             ("limits.connections", limits.connections as u64, 1, 100_000),
             ("limits.body_bytes", limits.body_bytes as u64, 1024, 1 << 30),
+            ("limits.all_bodies_bytes", limits.all_bodies_bytes as u64, limits.body_bytes as u64, 1 << 32),
             ("limits.calls", limits.calls as u64, 1, 4096),
             ("limits.queue", limits.queue as u64, 1, 1 << 20),
             ("limits.idle_seconds", limits.idle_seconds, 1, 3600),

@@ -17,6 +17,7 @@ use std::sync::{Arc, Mutex};
 use std::time::{Duration, Instant};
 use tokio::net::TcpListener;
 use tokio::signal::unix::{signal, SignalKind};
+use tokio::sync::Semaphore;
 
 /// The exit status of a configuration or a log that no further start can mend.
 const NOT_TO_START: u8 = 78;
@@ -57,6 +58,8 @@ impl Stop {
 
 fn serve(config: Config) -> Result<(), Stop> {
     let tokens = config.token_file.as_deref().map(Tokens::read).transpose().map_err(Stop::Never)?;
+    // before the lease is taken: a second process at this address never leads
+    let listener = listening(&config)?;
     let store = open_store(&config).map_err(Stop::Again)?;
     let reader = || open_reader(&config).map_err(Stop::Again);
     let metrics = Arc::new(Metrics::new().map_err(|error| Stop::Never(error.to_string()))?);
@@ -69,6 +72,7 @@ fn serve(config: Config) -> Result<(), Stop> {
         reader: Arc::new(Mutex::new(reader()?)),
         history: Arc::new(Mutex::new(open_history(&config.history)?)),
         tokens,
+        bodies: Arc::new(Semaphore::new(config.limits.all_bodies_bytes.div_ceil(http::BODY_UNIT))),
         limits: config.limits.clone(),
     };
     let historian = Historian {
@@ -82,7 +86,7 @@ fn serve(config: Config) -> Result<(), Stop> {
     let leader = Leader { store, reader: reader()?, board, metrics, messages, listen: config.listen.to_string() };
     let working = std::thread::spawn(move || leader.run());
     std::thread::spawn(move || historian.run());
-    answer_requests(app, &config)?;
+    answer_requests(app, listener)?;
     stop_writer(&inbox, &working);
     log::info("stopped");
     Ok(())
@@ -167,20 +171,26 @@ impl Leader {
     fn catch_up(&mut self, jobs: &mut Jobs) -> Result<u64, Stop> {
         let board = &self.board;
         jobs.catch_up(self.reader.as_mut(), &|| board.beat()).map_err(|error| match error {
-            StartError::Unread(_) => Stop::Again(error.to_string()),
+            StartError::Unread(_) | StartError::NoMemory { .. } => Stop::Again(error.to_string()),
             _ => Stop::Never(error.to_string()),
         })
     }
 }
 
+fn listening(config: &Config) -> Result<std::net::TcpListener, Stop> {
+    let told = |error: std::io::Error| Stop::Again(format!("listen {}: {error}", config.listen));
+    let listener = std::net::TcpListener::bind(config.listen).map_err(told)?;
+    listener.set_nonblocking(true).map_err(told)?;
+    Ok(listener)
+}
+
 /// Answers requests until the process is told to stop.
-fn answer_requests(app: App, config: &Config) -> Result<(), Stop> {
-    let runtime = tokio::runtime::Builder::new_multi_thread().worker_threads(2).enable_all().build();
-    let runtime = runtime.map_err(|error| Stop::Again(error.to_string()))?;
+fn answer_requests(app: App, listener: std::net::TcpListener) -> Result<(), Stop> {
+    let told = |error: std::io::Error| Stop::Again(error.to_string());
+    let runtime = tokio::runtime::Builder::new_multi_thread().worker_threads(2).enable_all().build().map_err(told)?;
     let board = Arc::clone(&app.board);
     runtime.block_on(async move {
-        let listener = TcpListener::bind(config.listen).await;
-        let listener = listener.map_err(|error| Stop::Again(format!("listen {}: {error}", config.listen)))?;
+        let listener = TcpListener::from_std(listener).map_err(told)?;
         tokio::spawn(tell_systemd(board));
         http::serve(Arc::new(app), listener, told_to_stop()).await;
         Ok(())

@@ -1,4 +1,5 @@
 """What the tests share: a service that is started, killed and stopped, and the oracle that its log is compared with."""
+import atexit
 import json
 import os
 import signal
@@ -41,6 +42,7 @@ class Server:
             words += ["--history", f"{self.folder}/history-{self.port}"]
         with open(self.log_path, "ab") as log:
             self.process = subprocess.Popen([*self.prefix, *words], stderr=log, stdout=log, stdin=subprocess.DEVNULL)
+        atexit.register(self.process.kill)  # a test that fails leaves none behind
         if ready:
             self.wait_ready()
         return self

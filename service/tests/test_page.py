@@ -16,7 +16,7 @@ class Engine(threading.Thread):
 
     def __init__(self, url):
         super().__init__(daemon=True)
-        self.job = Service(url).open("orders", {"interval": 250, "timeout": 700, "tolerable": 100, "retained": 2}, [2, 3])
+        self.job = Service(url).open("orders", {"interval": 250, "timeout": 1000, "tolerable": 100, "retained": 2}, [2, 3])
         self.over, self.number, self.completed = threading.Event(), 0, 0
 
     def run(self):
@@ -150,7 +150,7 @@ def looked_at(page, server, engine):
         assert row[6] == record["kind"] and row[1] == record["how"], (row, record)
         hows.add(row[1])
         if record["how"] == "expired":
-            assert row[3] == "1.2", row
+            assert row[3] == ", ".join(record["missing"]) and "1.2" in record["missing"], (row, record)
         if record["how"] == "completed":
             assert row[4] == "1.2" and row[3] == "", row
     assert {"completed", "expired", "declined"} <= hows, hows

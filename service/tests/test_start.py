@@ -1,10 +1,13 @@
 """How the service starts: with what it may not, over logs that were changed, and over a full disk."""
 import os
+import shutil
 import sqlite3
 import subprocess
+import threading
 import time
 
 from harness import PROGRAM, Server, check_log, folder, served, until
+from relkvanu_service import Service
 from run import Skipped
 
 JOB = {"name": "orders", "settings": {"interval": 50}, "shape": [1]}
@@ -108,6 +111,30 @@ def test_a_stop_loses_nothing():
         check_log(server.get("/v1/jobs/orders")[2], [1], after)
         server.stop()
         return f"{len(before)} calls"
+
+
+def test_a_backup_of_a_service_that_runs():
+    with folder() as at:
+        server = Server(at).start()
+        driven(server, 30)
+        copy = f"{at}/copy.db"
+        if not shutil.which("sqlite3"):
+            raise Skipped("sqlite3 is not here")
+        over = threading.Event()
+        driving = threading.Thread(target=lambda: [driven(server, 5) for _ in iter(over.is_set, True)])
+        driving.start()
+        first = server.get("/v1/jobs/orders")[2]["seq"]
+        subprocess.run(["sqlite3", server.database, f".backup {copy}"], check=True)
+        over.set()
+        driving.join()
+        last = list(Service(server.url).job("orders").log())
+        server.stop()
+        restored = Server(at, database=copy).start()
+        log = list(Service(restored.url).job("orders").log())
+        restored.stop()
+        kept = [entry for entry in log if entry["seq"] <= len(last) and entry["at"] <= last[-1]["at"]]
+        assert len(kept) >= first and log[:first] == last[:first], (len(log), first)
+        return f"{len(kept)} of {len(last)} calls in the copy, {first} before it was made"
 
 
 def test_a_full_disk():

@@ -21,6 +21,7 @@ class Writer(threading.Thread):
         self.random = random.Random(number)
         self.next_file = (number + 1) << 40
         self.made, self.refused, self.errors = {}, 0, []
+        self.no_memory, self.not_made = 0, 0
         self.over = threading.Event()
 
     def run(self):
@@ -28,7 +29,8 @@ class Writer(threading.Thread):
             try:
                 self.turn()
             except Failed as failed:
-                if failed.status != 404:  # a record may have ended since it was seen
+                # a record may have ended since it was seen; memory may have run out while it was read
+                if failed.status not in (404, 507):
                     self.errors.append(str(failed))
                     return
 
@@ -78,8 +80,9 @@ class Writer(threading.Thread):
         for call, answer in zip(calls, answers):
             if "seq" in answer:
                 self.made[answer["seq"]] = (call, answer)
-            elif "refused" in answer:
-                self.refused += 1
+            self.refused += "refused" in answer
+            self.no_memory += "no_memory" in answer
+            self.not_made += "not_made" in answer
         files = [file for answer in answers for file in answer.get("files", [])]
         if files:
             self.send([deleted(file) if self.random.random() < 0.8 else undeleted(file) for file in files])

@@ -21,7 +21,10 @@ use crate::writer::{Board, Message, Read, ReadDone};
 use reply::{error, Reply};
 use std::sync::mpsc::{SyncSender, TrySendError};
 use std::sync::{Arc, Mutex};
-use tokio::sync::oneshot;
+use tokio::sync::{oneshot, Semaphore};
+
+/// The unit in which room for bodies is counted, in bytes.
+pub const BODY_UNIT: usize = 1024;
 
 /// What the requests work with.
 pub struct App {
@@ -31,6 +34,8 @@ pub struct App {
     pub reader: Arc<Mutex<Box<dyn Reader>>>,
     pub history: Arc<Mutex<HistoryReader>>,
     pub tokens: Option<Tokens>,
+    /// Room for the bodies of all requests, in units of [`BODY_UNIT`] bytes.
+    pub bodies: Arc<Semaphore>,
     pub limits: Limits,
 }
 

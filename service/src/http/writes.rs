@@ -1,20 +1,23 @@
 //! Requests that change something: a new job, and calls.
 use super::reply::{bad_field, body, error, invalid, json_reply, Reply};
-use super::{no_job, wire, App};
+use super::{gate, no_job, wire, App, BODY_UNIT};
 use crate::model::Call;
 use crate::writer::{CallsDone, Created, Key, Message};
 use http_body::{LengthLimitError, Limited};
+use hyper::body::{Bytes, HttpBody};
 use hyper::header::HeaderMap;
 use hyper::{Body, Request};
 use serde_json::json;
 use sha2::{Digest, Sha256};
+use std::sync::Arc;
 use std::time::Duration;
+use tokio::sync::OwnedSemaphorePermit;
 
 const KEY: &str = "idempotency-key";
 const LONGEST_KEY: usize = 255;
 
 pub async fn new_job(app: &App, request: Request<Body>) -> Result<Reply, Box<Reply>> {
-    let bytes = read_body(app, request).await?;
+    let (bytes, _room) = read_body(app, request).await?;
     let wire::NewJob { name, settings, shape } = wire::new_job(&bytes).map_err(|why| invalid(&why))?;
     let told = json!({"name": name, "settings": settings.json(), "shape": shape});
     let created = app.ask(|reply| Message::Create { name, settings, shape, reply }).await?;
@@ -34,7 +37,7 @@ fn bad_name_taken() -> Reply {
 pub async fn calls(app: &App, job: String, request: Request<Body>) -> Result<Reply, Box<Reply>> {
     app.number(&job)?;
     let name = key_name(request.headers())?;
-    let bytes = read_body(app, request).await?;
+    let (bytes, _room) = read_body(app, request).await?;
     let calls = wire::calls(&bytes, app.limits.calls).map_err(|why| invalid(&why))?;
     if let Some(call) = calls.iter().find(|call| call.wants_key()).filter(|_| name.is_none()) {
         return Err(key_is_missing(call).into());
@@ -74,17 +77,39 @@ fn digest(bytes: &[u8]) -> String {
     Sha256::digest(bytes).iter().map(|byte| format!("{byte:02x}")).collect()
 }
 
-/// The whole body, within its limits of bytes and time.
-async fn read_body(app: &App, request: Request<Body>) -> Result<hyper::body::Bytes, Box<Reply>> {
+/// The whole body, within its limits of bytes and time, and its room, which is taken until the request is answered.
+async fn read_body(app: &App, request: Request<Body>) -> Result<(Bytes, OwnedSemaphorePermit), Box<Reply>> {
     let most = app.limits.body_bytes;
-    let limited = Limited::new(request.into_body(), most);
+    let length = request.body().size_hint().upper().and_then(|length| usize::try_from(length).ok()).unwrap_or(most);
     let time = Duration::from_secs(app.limits.body_seconds);
+    if length > most {
+        // a client that still sends would not read the answer; one that sends for too long gets none
+        let _ = tokio::time::timeout(time, pass_over(request.into_body(), 4 * most)).await;
+        return Err(too_long(most).into());
+    }
+    let units = u32::try_from(length.div_ceil(BODY_UNIT)).unwrap_or(u32::MAX);
+    let room = Arc::clone(&app.bodies).try_acquire_many_owned(units);
+    let room = room.map_err(|_| gate::busy("the bodies of other requests take all room"))?;
+    let limited = Limited::new(request.into_body(), most);
     match tokio::time::timeout(time, hyper::body::to_bytes(limited)).await {
-        Ok(Ok(bytes)) => Ok(bytes),
-        Ok(Err(why)) if why.is::<LengthLimitError>() => {
-            Err(error(413, &format!("the body has more than {most} bytes")).into())
-        }
+        Ok(Ok(bytes)) => Ok((bytes, room)),
+        Ok(Err(why)) if why.is::<LengthLimitError>() => Err(too_long(most).into()),
         Ok(Err(_)) => Err(error(400, "the body ended early").into()),
         Err(_) => Err(error(408, &format!("the body did not come within {} s", time.as_secs())).into()),
     }
+}
+
+/// Reads a body up to a length, and keeps nothing of it.
+async fn pass_over(mut body: Body, most: usize) {
+    let mut length = 0;
+    while let Some(Ok(part)) = body.data().await {
+        length += part.len();
+        if length > most {
+            return;
+        }
+    }
+}
+
+fn too_long(most: usize) -> Reply {
+    error(413, &format!("the body has more than {most} bytes"))
 }

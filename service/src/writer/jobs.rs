@@ -24,6 +24,8 @@ pub enum StartError {
     Differs { job: String, seq: u64, line: String, logged: String, answered: String },
     /// A call of the log is missing, or can't be read as one.
     Damaged { job: String, seq: u64, why: String },
+    /// Memory ran out: a later start may find some.
+    NoMemory { job: String, seq: u64 },
     /// A job can't be opened.
     NotOpened { job: String, why: String },
 }
@@ -37,6 +39,7 @@ impl fmt::Display for StartError {
                 "job {job}, call {seq} ({line:?}): the log says {logged:?}, and this program answers {answered:?}"
             ),
             StartError::Damaged { job, seq, why } => write!(f, "job {job}, call {seq}: {why}"),
+            StartError::NoMemory { job, seq } => write!(f, "job {job}, call {seq}: memory ran out"),
             StartError::NotOpened { job, why } => write!(f, "job {job} can't be opened: {why}"),
         }
     }
@@ -123,6 +126,7 @@ fn repeat(job: &mut Job, entry: &Entry) -> Result<(), StartError> {
     let answered = match job.call(&call, now) {
         (Outcome::Made { reply, .. }, _) if reply.text() == entry.answer => return Ok(()),
         (Outcome::Made { reply, .. }, _) => reply.text(),
+        (Outcome::NoMemory, _) => return Err(StartError::NoMemory { job: name.clone(), seq: entry.seq }),
         (other, _) => other.json().to_string(),
     };
     let (line, logged) = (entry.line.clone(), entry.answer.clone());

@@ -1,0 +1,46 @@
+"""Memory runs out in the library, again and again: calls are answered so, and the log is still the state."""
+import os
+import shutil
+import signal
+import subprocess
+import time
+
+from harness import HERE, PROGRAM, Server, folder, until
+from relkvanu_service import Service
+from run import Skipped
+from writers import SETTINGS, SHAPE, Writer, check
+
+
+def test_no_memory_in_calls():
+    if not (shutil.which("cc") and shutil.which("nm")):
+        raise Skipped("no C compiler is here")
+    with folder() as at:
+        subprocess.run(["cc", "-O2", "-Wall", "-Wextra", "-Werror", "-shared", "-fPIC", "-o", f"{at}/hungry.so", f"{HERE}/hungry.c"], check=True)
+        symbols = dict(reversed(line.split()[::2]) for line in subprocess.run(["nm", PROGRAM], stdout=subprocess.PIPE, text=True, check=True).stdout.splitlines() if line.endswith((" rattle_alloc", " rattle_realloc")))
+        offsets = f"{symbols['rattle_alloc']} {symbols['rattle_realloc']} 2"
+        server = Server(at, prefix=["env", f"LD_PRELOAD={at}/hungry.so", f"HUNGRY={offsets}"]).start()
+        service = Service(server.url)
+        job = service.open("orders", SETTINGS, SHAPE)
+        writers = [Writer([server.url], "orders", number) for number in range(4)]
+        for writer in writers:
+            writer.start()
+        for _ in range(20):
+            time.sleep(0.2)
+            os.kill(server.process.pid, signal.SIGUSR2)
+        for writer in writers:
+            writer.over.set()
+        for writer in writers:
+            writer.join(60)
+        no_memory, not_made = sum(writer.no_memory for writer in writers), sum(writer.not_made for writer in writers)
+        assert no_memory > 20, f"memory ran out {no_memory} times"
+        until(lambda: job.state()["mode"] == "failed", 30)
+        told = check(writers, service, "orders", SHAPE)
+        before = job.state()
+        server.kill()
+        server.prefix = []
+        server.start()
+        after = job.state()
+        for name in ("seq", "files", "live", "mode", "choice"):
+            assert before[name] == after[name], (name, before, after)
+        server.stop()
+        return f"memory ran out in {no_memory} calls, {not_made} after them were not made; {told[0]} acknowledged, {told[2]} answered alike by ckpt_job"
