@@ -283,8 +283,9 @@ relkvanu_answer relkvanu_count(relkvanu *handle, uint64_t file);
 relkvanu_answer relkvanu_mode(relkvanu *handle);
 
 /* RELKVANU_DUE: the moment from which neither the interval nor the pause holds a checkpoint back. No
- * tick before it triggers one; one at it or later does, unless the job does not run, or as many are
- * pending as may be. A call that triggers, completes or restores moves it: ask again after a call. */
+ * tick before it triggers one. A tick at it or later triggers one, unless as many are pending as may be,
+ * the job does not run, or too many checkpoints expire in it, so that the job fails over. A call that
+ * triggers, completes or restores moves it: ask again after a call. */
 relkvanu_answer relkvanu_due(relkvanu *handle);
 
 /* RELKVANU_EXPIRES: the moment from which a pending record is expired; a tick at it ends the record.

@@ -286,7 +286,7 @@ extern "C" {
     /// What the job is doing: RELKVANU_MODE_RUNNING and so on.
     pub fn relkvanu_mode(handle: *mut relkvanu) -> relkvanu_answer;
 
-    /// RELKVANU_DUE: the moment from which neither the interval nor the pause holds a checkpoint back. No tick before it triggers one; one at it or later does, unless the job does not run, or as many are pending as may be. A call that triggers, completes or restores moves it: ask again after a call.
+    /// RELKVANU_DUE: the moment from which neither the interval nor the pause holds a checkpoint back. No tick before it triggers one. A tick at it or later triggers one, unless as many are pending as may be, the job does not run, or too many checkpoints expire in it, so that the job fails over. A call that triggers, completes or restores moves it: ask again after a call.
     pub fn relkvanu_due(handle: *mut relkvanu) -> relkvanu_answer;
 
     /// RELKVANU_EXPIRES: the moment from which a pending record is expired; a tick at it ends the record. RELKVANU_NONE_PENDING where there is none. Looks at each pending record.

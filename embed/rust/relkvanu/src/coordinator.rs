@@ -256,7 +256,8 @@ impl Coordinator {
     }
 
     /// The moment from which neither the interval nor the pause holds a checkpoint back: no tick before
-    /// it triggers one. From then on one does, unless the job does not run or as many are pending as may be. Calls move it.
+    /// it triggers one. From then on one does, unless the job does not run, as many are pending as may be, or so many expire in it
+    /// that the job fails over. Calls move it.
     pub fn due(&self) -> u64 {
         // SAFETY: as in `count`.
         read(unsafe { sys::relkvanu_due(self.read_handle()) }).a
