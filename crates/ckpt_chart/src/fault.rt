@@ -1,5 +1,4 @@
 //! Why there is no picture.
-
 use std::alloc::{AllocError, AllocFailed};
 use thiserror::Error;
 

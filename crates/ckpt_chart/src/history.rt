@@ -1,5 +1,10 @@
 //! What happened to a job, in the order in which it happened. Moments are milliseconds.
-use ckpt_ids::{CheckpointId, Choice, Kind};
+use crate::player::Subject;
+use crate::records::{Cause, acknowledge, close, find};
+use ckpt_core::Core;
+use ckpt_ids::{Answer, CheckpointId, Choice, Kind, Reply, TickEnd};
+use ckpt_session::{AllEnd, Outcome};
+use std::alloc::{AllocError, Global};
 
 /// What a record came to.
 #[derive(Clone, Copy, Debug, PartialEq, Eq)]
@@ -62,10 +67,11 @@ pub(crate) struct Sample {
 /// A run of a job.
 #[derive(Drop)]
 pub(crate) struct History {
+    alloc: Global,
     pub(crate) start: u64,
     /// The greatest moment that the coordinator has seen.
     pub(crate) now: u64,
-    /// How many lines made a call that was accepted, and that was refused.
+    /// How many calls the coordinator accepted, and how many it refused.
     pub(crate) accepted: u64,
     pub(crate) refused: u64,
     pub(crate) records: Vec<Record>,
@@ -85,11 +91,172 @@ impl Record {
 }
 
 impl History {
+    /// A job that starts at this moment.
+    pub(crate) fn begun(alloc: Global, now: u64) -> History {
+        History {
+            alloc,
+            start: now,
+            now,
+            accepted: 0,
+            refused: 0,
+            records: Vec::new(alloc),
+            marks: Vec::new(alloc),
+            samples: Vec::new(alloc),
+        }
+    }
+
+    /// Keeps what a line came to. What the script itself refused is left out.
+    pub(crate) fn keep(
+        &mut self,
+        core: &Core,
+        subject: Subject,
+        outcome: Outcome,
+    ) -> Result<(), AllocError> {
+        match outcome {
+            Outcome::Silent | Outcome::Refused(_) => return Ok(()),
+            Outcome::Answered(Answer::Refused(_)) => {
+                self.tally(subject.now, 0, 1);
+                return Ok(());
+            }
+            Outcome::Answered(Answer::Done(reply)) => {
+                self.tally(subject.now, 1, 0);
+                self.take_in(core, subject.id, &reply)?;
+            }
+            Outcome::Acknowledged {
+                accepted,
+                refused,
+                end,
+            } => {
+                self.tally(subject.now, accepted, refused);
+                self.acknowledged(core, subject.id, accepted, completion(end))?;
+            }
+        }
+        self.sample(core)
+    }
+
+    /// Counts calls of this moment, 0 where they have none.
+    fn tally(&mut self, moment: u64, accepted: u64, refused: u64) {
+        if accepted > 0 {
+            self.now = self.now.max(moment);
+        }
+        self.accepted = self.accepted.saturating_add(accepted);
+        self.refused = self.refused.saturating_add(refused);
+    }
+
+    /// Keeps what a reply says has happened to the record that the call was about, and to others.
+    fn take_in(&mut self, core: &Core, id: CheckpointId, reply: &Reply) -> Result<(), AllocError> {
+        match reply {
+            Reply::Ticked { expired, end } => self.ticked(core, *expired, *end),
+            Reply::SavepointTriggered(id) => self.begin(*id, Kind::Savepoint),
+            Reply::AckPending(_) | Reply::AckLate(_) => self.acknowledged(core, id, 1, None),
+            Reply::AckCompleted { dropped, .. } => self.acknowledged(core, id, 1, Some(*dropped)),
+            Reply::DeclineAborted(_) => {
+                self.close(core, Cause::Decline(id), 1);
+                Ok(())
+            }
+            Reply::DeclineFailed(_) => self.stop(core, Event::FailedOver, Cause::Decline(id)),
+            Reply::Disposed(_) => {
+                self.close(core, Cause::Disposal, 1);
+                Ok(())
+            }
+            Reply::Restored { from, .. } => self.stop(core, Event::Restored(*from), Cause::Stop),
+            Reply::Cancelled { .. } => self.stop(core, Event::Cancelled, Cause::Stop),
+            _ => Ok(()),
+        }
+    }
+
+    fn ticked(&mut self, core: &Core, expired: u32, end: TickEnd) -> Result<(), AllocError> {
+        let cause = Cause::Time { expired };
+        match end {
+            TickEnd::Failed => self.stop(core, Event::FailedOver, cause),
+            TickEnd::Triggered(id) => {
+                self.close(core, cause, expired);
+                self.begin(id, Kind::Checkpoint)
+            }
+            _ => {
+                self.close(core, cause, expired);
+                Ok(())
+            }
+        }
+    }
+
+    /// A record was triggered.
+    fn begin(&mut self, id: CheckpointId, kind: Kind) -> Result<(), AllocError> {
+        let record = Record {
+            id,
+            kind,
+            triggered: self.now,
+            completed: None,
+            ended: None,
+            ending: Ending::Pending,
+            acks: Vec::new(self.alloc),
+        };
+        self.records.push(record)?;
+        Ok(())
+    }
+
+    /// The job stopped, or began again.
+    fn stop(&mut self, core: &Core, event: Event, cause: Cause) -> Result<(), AllocError> {
+        let moment = self.now;
+        self.marks.push(Mark { moment, event })?;
+        self.close(core, cause, u32::MAX);
+        Ok(())
+    }
+
+    /// Ends the records that are gone, at most so many.
+    fn close(&mut self, core: &Core, cause: Cause, most: u32) {
+        close(core, &mut self.records, self.now, &cause, most);
+    }
+
+    /// So many acknowledgements of the record came. Where they completed it, it dropped so many others.
+    fn acknowledged(
+        &mut self,
+        core: &Core,
+        id: CheckpointId,
+        count: u64,
+        completed: Option<u32>,
+    ) -> Result<(), AllocError> {
+        let now = self.now;
+        if let Some(record) = find(&mut self.records, id) {
+            acknowledge(record, now, count)?;
+            if completed.is_some() {
+                record.completed = Some(now);
+                record.ending = Ending::Retained;
+            }
+        }
+        if let Some(dropped) = completed {
+            self.close(core, Cause::Completion, dropped);
+        }
+        Ok(())
+    }
+
+    /// Asks the coordinator for the numbers of files, and keeps them where one has changed.
+    fn sample(&mut self, core: &Core) -> Result<(), AllocError> {
+        let sample = Sample {
+            moment: self.now,
+            in_use: core.files_in_use(),
+            waiting: core.files_waiting(),
+            taken: core.files_taken(),
+        };
+        if self.samples.last() != Some(&sample) {
+            self.samples.push(sample)?;
+        }
+        Ok(())
+    }
+
     /// How many records came to this.
     pub(crate) fn count(&self, ending: Ending) -> usize {
         self.records
             .iter()
             .filter(|record| record.ending == ending)
             .count()
+    }
+}
+
+/// How many records a completion dropped, where there was one.
+fn completion(end: AllEnd) -> Option<u32> {
+    match end {
+        AllEnd::Completed { dropped, .. } => Some(dropped),
+        AllEnd::Pending { .. } => None,
     }
 }

@@ -1,13 +1,12 @@
 //! Draws a job script: reads it on standard input, and writes a picture of it to standard output, as
 //! SVG.
 //!
-//! The script is run through a book, as `ckpt_job` runs it; what each record came to is asked of the
-//! coordinator. Ends with status 0; with 1 where a line had a fault, which standard error tells; with
+//! The script is run through a session, as `ckpt_job` runs it; which records are live and how many files
+//! there are is asked of the coordinator. Ends with status 0; with 1 where a line had a fault, which standard error tells; with
 //! 2 where there is no picture, and then standard error says why.
 #![tactic(auto)]
 
 mod fault;
-mod files;
 mod history;
 mod lanes;
 mod panels;

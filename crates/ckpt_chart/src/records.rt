@@ -1,17 +1,15 @@
 //! Which records have ended, and why.
 use crate::history::{Ending, Record};
-use ckpt_ids::{Answer, Call, CheckpointId};
-use ckpt_locked::{Book, MOST_SEATS};
+use ckpt_core::Core;
+use ckpt_ids::CheckpointId;
 use std::alloc::AllocError;
-
-/// The seat of the calls of the script: one that no lock gives.
-const LINE_SEAT: u32 = MOST_SEATS;
 
 /// Why records end, by the call that ended them.
 #[derive(Clone, Copy)]
 pub(crate) enum Cause {
-    /// Time has passed: records of at least this age have expired.
-    Time { timeout: u64 },
+    /// A tick: so many records were too old, which are the first to have been triggered. The others
+    /// went with the fail-over.
+    Time { expired: u32 },
     Completion,
     Decline(CheckpointId),
     Disposal,
@@ -19,74 +17,56 @@ pub(crate) enum Cause {
     Stop,
 }
 
-/// Makes a call. Fails only for want of memory.
-pub(crate) fn asked(book: &mut Book, call: Call) -> Result<Answer, AllocError> {
-    match book.apply(LINE_SEAT, call) {
-        Ok(answer) => Ok(answer),
-        Err(_) => Err(AllocError),
-    }
-}
-
-/// Ends the records that the book no longer knows.
-pub(crate) fn close(
-    book: &mut Book,
-    records: &mut Vec<Record>,
-    now: u64,
-    cause: Cause,
-) -> Result<(), AllocError> {
+/// Ends the records that the coordinator no longer knows, at most so many. They stand in rising number,
+/// as those of the coordinator do.
+pub(crate) fn close(core: &Core, records: &mut Vec<Record>, now: u64, cause: &Cause, most: u32) {
+    let mut place: usize = 0;
+    let mut gone: u32 = 0;
     for record in records.iter_mut() {
-        if record.ended.is_none() && !is_live(book, record.id)? {
-            record.ending = ending(record, now, cause);
+        if gone == most {
+            break;
+        }
+        if record.ended.is_some() {
+            continue;
+        }
+        if is_at(core, place, record.id) {
+            place = place.saturating_add(1);
+        } else {
+            record.ending = ending(cause, record.id, gone);
             record.ended = Some(now);
+            gone = gone.saturating_add(1);
         }
     }
-    Ok(())
 }
 
-fn is_live(book: &mut Book, id: CheckpointId) -> Result<bool, AllocError> {
-    match asked(book, Call::Show { id })? {
-        Answer::Done(_) => Ok(true),
-        Answer::Refused(_) => Ok(false),
+/// Whether the live record at this place has this number.
+fn is_at(core: &Core, place: usize, id: CheckpointId) -> bool {
+    match core.live(place) {
+        Some(live) => live.id == id,
+        None => false,
     }
 }
 
-fn ending(record: &Record, now: u64, cause: Cause) -> Ending {
+/// What the record came to, where so many have ended before it by the same call.
+fn ending(cause: &Cause, id: CheckpointId, before: u32) -> Ending {
     match cause {
-        Cause::Time { timeout } => {
-            if record.triggered.saturating_add(timeout) <= now {
-                Ending::Expired
-            } else {
-                Ending::Dropped
-            }
-        }
+        Cause::Time { expired } if before < *expired => Ending::Expired,
+        Cause::Decline(declined) if *declined == id => Ending::Declined,
         Cause::Completion => Ending::Subsumed,
-        Cause::Decline(id) => {
-            if id == record.id {
-                Ending::Declined
-            } else {
-                Ending::Dropped
-            }
-        }
         Cause::Disposal => Ending::Disposed,
-        Cause::Stop => Ending::Dropped,
+        _ => Ending::Dropped,
     }
 }
 
-/// An acknowledgement of the record came, which may have completed it.
-pub(crate) fn acknowledge(
-    records: &mut Vec<Record>,
-    id: CheckpointId,
-    now: u64,
-    completes: bool,
-) -> Result<(), AllocError> {
-    for record in records.iter_mut() {
-        if record.id == id {
-            record.acks.push(now)?;
-            if completes {
-                record.completed = Some(now);
-                record.ending = Ending::Retained;
-            }
-        }
+/// The record with this number. The last are looked at first, since most calls are about them.
+pub(crate) fn find(records: &mut Vec<Record>, id: CheckpointId) -> Option<&mut Record> {
+    records.iter_mut().rev().find(|record| record.id == id)
+}
+
+/// So many acknowledgements of the record came.
+pub(crate) fn acknowledge(record: &mut Record, now: u64, count: u64) -> Result<(), AllocError> {
+    for _ in 0..count {
+        record.acks.push(now)?;
     }
     Ok(())
 }
