@@ -1,12 +1,12 @@
 //! A record that all its subtasks have acknowledged.
 
-ghost use Rattle.std.specs.Prelude.{◌≡◌, ◌∷◌, [], true, map, IfOk};
+ghost use Rattle.std.specs.Prelude.{◌≡◌, ◌∷◌, [], true, map, option_copied, IfOk};
 ghost use Rattle.ckpt_ids.specs.Ascending.{ascending_set};
 ghost use Rattle.ckpt_ids.specs.Records.{Record, missing, metadata_of, uses};
-ghost use Rattle.ckpt_pending.specs.Acknowledging.{IsDone, IsPending};
+ghost use Rattle.ckpt_pending.specs.Acknowledging.{IsDone, IsPending, files_from};
 
 use crate::pending::Pending;
-use ckpt_ids::{CheckpointId, Files, Kind, Metadata};
+use ckpt_ids::{CheckpointId, FileId, Files, Kind, Metadata, SubtaskId};
 use std::alloc::AllocError;
 use std::marker::Model;
 
@@ -62,6 +62,14 @@ impl Done {
         let mut metadata = self.record.metadata()?;
         metadata.done = true;
         Ok(metadata)
+    }
+
+    /// The files that this subtask acknowledged, in ascending order, or `None` where the record's
+    /// shape has no such subtask. It is searched by halves.
+    pub fn files_of(&self, subtask: SubtaskId) -> Option<&[FileId]>
+        ensures { option_copied result ≡ files_from self.now subtask }
+    {
+        self.record.files_of(subtask)
     }
 
     /// All files that the subtasks acknowledged, in ascending order, each once. Fails only for

@@ -1,12 +1,12 @@
 //! A record that waits for acknowledgements.
 
-ghost use Rattle.std.specs.Prelude.{◌≡◌, ◌+◌, ◌↔◌, ◌<◌, ◌≤◌, Bool, true, false, not, [], filter, length, Ok, Err, IfOk, IfErr, OnOk, OnErr, IsOk, IsErr};
+ghost use Rattle.std.specs.Prelude.{◌≡◌, ◌+◌, ◌↔◌, ◌<◌, ◌≤◌, Bool, true, false, not, [], filter, length, Ok, Err, IfOk, IfErr, OnOk, OnErr, IsOk, IsErr, option_copied};
 ghost use Rattle.std.specs.List.{flat_map, insert};
 ghost use Rattle.ckpt_ids.specs.Acknowledged.{AreInSubtaskOrder, put_ack};
 ghost use Rattle.ckpt_ids.specs.Ascending.{ascending_set};
 ghost use Rattle.ckpt_ids.specs.Records.{Record, acknowledged, has_acknowledged, missing, metadata_of};
 ghost use Rattle.ckpt_ids.specs.Shapes.{is_subtask, same_subtask};
-ghost use Rattle.ckpt_pending.specs.Acknowledging.{BelongsAt, HasAlready, IsPending, LiesAt, without_ack};
+ghost use Rattle.ckpt_pending.specs.Acknowledging.{BelongsAt, HasAlready, IsPending, LiesAt, files_from, without_ack};
 
 use crate::done::Done;
 use ckpt_ids::{Acked, Acks, CheckpointId, FileId, Files, Kind, Metadata, Shape, SubtaskId};
@@ -134,6 +134,16 @@ impl Pending {
         ensures { result ≡ has_acknowledged self.now subtask }
     {
         place_of(&self.acks, subtask).is_ok()
+    }
+
+    /// The files that this subtask acknowledged, in ascending order, or `None` where it has not
+    /// acknowledged. It is searched by halves.
+    pub fn files_of(&self, subtask: SubtaskId) -> Option<&[FileId]>
+        ensures { option_copied result ≡ files_from self.now subtask }
+    {
+        let place = place_of(&self.acks, subtask).ok()?;
+        let acked = self.acks.get(place)?;
+        Some(acked.files.as_slice())
     }
 
     /// How many subtasks have not acknowledged, at most 4096.
