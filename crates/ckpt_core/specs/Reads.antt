@@ -1,5 +1,5 @@
 -- What a coordinator tells without a call.
-use Rattle.std.specs.Prelude.{◌≡◌, ℕ, ◌<◌, ◌≤◌, max, Bool, true, false, nat_lt, nat_le, if◌then◌else◌, Option, Some, None}
+use Rattle.std.specs.Prelude.{◌≡◌, ℕ, ◌<◌, ◌≤◌, max, Bool, true, false, nat_lt, nat_le, if◌then◌else◌, List, [], Option, Some, None}
 use Rattle.std.specs.List.{list_any}
 use Rattle.ckpt_ids.specs.declared.call.Call.TheVariants.{Tick}
 use Rattle.ckpt_ids.specs.declared.reply.TickEnd.{TickEnd}
@@ -73,3 +73,8 @@ standing_without m id = if nat_lt id m.opening.first then stands.Never else (if 
 -- what a number is
 abbrev pub standing : State → ℕ → Standing
 standing m id = elim (record_of m id) [ Some r ↦ standing_of r | None ↦ standing_without m id ]
+
+-- the files that a record, where there is one, holds beside those of its acknowledgements
+abbrev pub pins_in : Option Record → List ℕ
+pins_in None = []
+pins_in (Some r) = r.pins

@@ -1,17 +1,21 @@
 //! What an engine asks of a coordinator when it recovers: which records are live, what a number is,
-//! and which files a subtask acknowledged. None of it takes memory or changes anything.
+//! which files a record has, and which wait for deletion or were fetched for it. None of it changes
+//! anything. The files that stand in no order in memory take some to be told.
 
-ghost use Rattle.std.specs.Prelude.{◌≡◌, find, nat_le, option_copied, option_map};
+ghost use Rattle.std.specs.Prelude.{◌≡◌, find, nat_le, option_copied, option_map, slice_get, IfOk};
 ghost use Rattle.std.specs.Option.{option_and_then};
+ghost use Rattle.ckpt_ids.specs.Ascending.{ascending};
 ghost use Rattle.ckpt_pending.specs.Acknowledging.{files_from};
-ghost use Rattle.ckpt_core.specs.Inside.Parts.{AreSound, state_of};
-ghost use Rattle.ckpt_core.specs.Reads.{live_of, standing, standing_without};
+ghost use Rattle.ckpt_core.specs.Inside.Parts.{AreSound, records_in, state_of};
+ghost use Rattle.ckpt_core.specs.Reads.{live_of, pins_in, standing, standing_without};
+ghost use Rattle.ckpt_core.specs.Refusals.{pending_of};
 ghost use Rattle.ckpt_core.specs.State.{record_of};
 
 use crate::coordinator::Core;
 use crate::parts::Parts;
 use crate::queries::Live;
-use ckpt_ids::{CheckpointId, FileId, SubtaskId};
+use ckpt_ids::{CheckpointId, FileId, Files, SubtaskId};
+use std::alloc::AllocError;
 
 /// What a number is.
 #[derive(Clone, Copy, Debug, PartialEq, Eq)]
@@ -53,6 +57,34 @@ impl Core {
     {
         self.parts.files_of(id, subtask)
     }
+
+    /// The files that the pending record of this number holds beside those of its acknowledgements,
+    /// in ascending order, each once: those of the choice at its trigger. Empty where no record of
+    /// this number is pending. Fails only for want of memory.
+    #[tactic(auto, unfolding(crate::specs::Inside::Parts::state_of))]
+    pub fn pins_of(&self, id: CheckpointId) -> Result<Files, AllocError>
+        ensures { IfOk result (λ files. files ≡ pins_in (pending_of self.now.records id)) }
+    {
+        self.parts.pins_of_pending(id)
+    }
+
+    /// The file at this place among those that wait for deletion, where the next to be fetched is
+    /// the first, or `None` past the last. Takes constant time.
+    #[tactic(auto, unfolding(crate::specs::Inside::Parts::state_of))]
+    pub fn waiting_file(&self, place: usize) -> Option<FileId>
+        ensures { result ≡ slice_get self.now.waiting place }
+    {
+        self.parts.outbox.waiting_file(place)
+    }
+
+    /// The files that were fetched for deletion and are not yet reported, in ascending order. Looks
+    /// at each file of the outbox. Fails only for want of memory.
+    #[tactic(auto, unfolding(crate::specs::Inside::Parts::state_of))]
+    pub fn taken_files(&self) -> Result<Files, AllocError>
+        ensures { IfOk result (λ files. files ≡ ascending self.now.taken) }
+    {
+        self.parts.outbox.taken_files()
+    }
 }
 
 impl Parts {
@@ -91,5 +123,15 @@ impl Parts {
             return pending.files_of(subtask);
         }
         self.store.get(id)?.files_of(subtask)
+    }
+
+    fn pins_of_pending(&self, id: CheckpointId) -> Result<Files, AllocError>
+        requires { AreSound self.now }
+        ensures { IfOk result (λ files. files ≡ pins_in (pending_of (records_in self.now) id)) }
+    {
+        if self.pending_record(id).is_none() {
+            return Ok(Files::of(Vec::new(self.alloc)));
+        }
+        self.registry.pins(id)
     }
 }

@@ -1,5 +1,5 @@
 //! The outbox: files that wait for deletion, and those that were fetched for it.
-ghost use Rattle.std.specs.Prelude.{◌≡◌, ◌≤◌, ◌<◌, ◌+◌, ◌-◌, ◌^◌, ◌↔◌, ◌++◌, ◌∷◌, ℕ, [], true, false, max, min, length, take, drop, IsErr, IfOk, OnOk, OnErr};
+ghost use Rattle.std.specs.Prelude.{◌≡◌, ◌≤◌, ◌<◌, ◌+◌, ◌-◌, ◌^◌, ◌↔◌, ◌++◌, ◌∷◌, ℕ, [], true, false, max, min, length, take, drop, slice_get, IsErr, IfOk, OnOk, OnErr};
 ghost use Rattle.std.specs.VecDeque.{deque_capacity};
 ghost use Rattle.ckpt_ids.specs.Ascending.{ascending};
 ghost use Rattle.ckpt_outbox.specs.Queues.{AreDistinct, Queues, is_in, is_known, is_taken, without};
@@ -199,6 +199,14 @@ impl Outbox {
         self.taken.remove(file);
         self.waiting.push_back_reserved(file);
         Ok(())
+    }
+
+    /// The file at this place among those that wait, where the next to be fetched is the first, or
+    /// `None` past the last. Takes constant time.
+    pub fn waiting_file(&self, place: usize) -> Option<FileId>
+        ensures { result ≡ slice_get self.now.waiting place }
+    {
+        self.waiting.get(place).copied()
     }
 
     /// The files that wait, in their order. Fails only for want of memory.

@@ -1,11 +1,13 @@
 -- What the look-ups of a number among the pending records and in the store tell of it.
-use Rattle.std.proofs.Common.{◌≡◌, ℕ, Bool, true, false, cond, refl, sym, ap, ◌∙◌, Option, Some, None}
+use Rattle.std.proofs.Common.{◌≡◌, ℕ, Bool, true, false, ◌&&◌, cond, eqb, refl, sym, ap, ◌∙◌, Option, Some, None}
 use Rattle.std.specs.Borrow.{Bor}
 use Rattle.std.specs.Prelude.{find, is_some}
 use Rattle.std.specs.Option.{option_copied, option_map}
+use Rattle.std.proofs.lemmas.Bool.{and_parts, eqb-true}
 use Rattle.ckpt_ids.specs.Ordered.{IsIn, IsInOrder}
 use Rattle.ckpt_ids.specs.Records.{Record}
 use Rattle.ckpt_pending.specs.Acknowledging.{IsPending}
+use Rattle.ckpt_registry.specs.Uses.{pins_by}
 use Rattle.ckpt_store.specs.Storing as storing
 use Rattle.ckpt_store.specs.Storing.{IsStored, Stored}
 use Rattle.ckpt_core.specs.declared.parts.Parts.{Parts}
@@ -13,9 +15,10 @@ use Rattle.ckpt_core.specs.declared.recovery.Standing.{Standing}
 use Rattle.ckpt_core.specs.declared.recovery.Standing.TheVariants as stands
 use Rattle.ckpt_core.specs.Inside.Grouped.{with_pins}
 use Rattle.ckpt_core.specs.Inside.Parts.{records_in, state_of}
-use Rattle.ckpt_core.specs.Reads.{standing, standing_of, standing_without}
+use Rattle.ckpt_core.specs.Reads.{pins_in, standing, standing_of, standing_without}
+use Rattle.ckpt_core.specs.Refusals.{pending_of}
 use Rattle.ckpt_core.specs.Soundness.{id_before}
-use Rattle.ckpt_core.specs.State.{State, record_of}
+use Rattle.ckpt_core.specs.State.{State, is_pending, record_of}
 use Rattle.ckpt_core.proofs.Answering.Reads.{record_there, stored_record}
 use Rattle.ckpt_core.proofs.Records.Counts.{IsIn-from_find}
 use Rattle.ckpt_core.proofs.Records.GroupLookups.{first_found, first_found-some}
@@ -59,3 +62,12 @@ standing_done p id None order stored none e h = absurd (cc)
 
 pub standing_of_none : (p : Parts) (id : ℕ) → record_of (state_of p) id ≡ None → standing_without (state_of p) id ≡ standing (state_of p) id
 standing_of_none p id none = sym (ap (found_standing (state_of p) id) none)
+
+-- the pins of a pending record are what the registry has for its number
+pub pins_found : (p : Parts) (id : ℕ) (o : Option (Bor Record)) → pending_of (records_in p) id ≡ option_map (with_pins p.registry) (option_copied o) → is_some o ≡ true → pins_by id p.registry ≡ pins_in (pending_of (records_in p) id)
+pins_found p id (Some b) e h =
+    let r : Record = b.now in
+    let k = IsIn-from_find (λ (q : Record). is_pending q && eqb q.id id) (with_pins p.registry r) (records_in p) e in
+    let same : r.id ≡ id = eqb-true r.id id (and_parts (is_pending r) (eqb r.id id) k.1).1 in
+    sym (ap pins_in e ∙ ap (λ (n : ℕ). pins_by n p.registry) same)
+pins_found p id None e h = absurd (cc)
