@@ -1,6 +1,6 @@
 //! What an engine asks of a coordinator when it recovers: which records are live, what a number is,
 //! which files a record has, and which wait for deletion or were fetched for it. None of it changes
-//! anything. The files that stand in no order in memory take some to be told.
+//! anything, and only `pins_of` and `taken_files`, which sort what they return, take memory.
 
 ghost use Rattle.std.specs.Prelude.{◌≡◌, find, nat_le, option_copied, option_map, slice_get, IfOk};
 ghost use Rattle.std.specs.Option.{option_and_then};
@@ -26,9 +26,10 @@ pub enum Standing {
     Done,
     /// A record had this number, and it is live no more: it failed, or was dropped.
     Ended,
-    /// The number is the next record's, or above it: no record has had it so far.
+    /// No record has had the number so far: it is the next record's, or above it.
     NotYet,
-    /// The number is below that of the job's first record: no record has had it, and none will.
+    /// No record has had the number, and none will: it is below the first one that the coordinator
+    /// was opened with.
     Never,
 }
 

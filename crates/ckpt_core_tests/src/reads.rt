@@ -151,6 +151,6 @@ fn fetched_files_are_told_in_ascending_order(rt: HostRuntime) -> Result<(), Fail
     let mut core = discarding(rt.alloc())?;
     core.apply(&Call::Take { most: 2 })?;
     let taken = core.taken_files()?;
-    assert!(rt; taken.as_slice() == &[FileId(11), FileId(12), FileId(13)]);
+    assert!(rt; taken.as_slice() == [FileId(11), FileId(12), FileId(13)].as_slice());
     Ok(())
 }
