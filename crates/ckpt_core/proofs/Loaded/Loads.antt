@@ -64,22 +64,6 @@ done_checkpoints-groups us pending checkpoints savepoints groups =
 made_pending : (s : Saved) (made : Record) → IsMade made s → IsPending made → IsPending (pending_record s.metadata.id s.metadata.kind s.metadata.shape s.metadata.started s.metadata.acks)
 made_pending s made e pending = subst IsPending e pending
 
-pub done_is_record : (s : Saved) (made done : Record) → IsMade made s → done ≡ record made { done = true } → IsPending made → IsDone done → NamesEachOnce (record_in s) → s.metadata.done ≡ true → s.pins ≡ [] → IsRecord (record_in s)
-done_is_record s made done e its pending full once is_done no_pins =
-    let m = s.metadata in
-    let p = made_pending s made e pending in
-    let d : IsDone (record (pending_record m.id m.kind m.shape m.started m.acks) { done = true }) = subst IsDone (its ∙ ap (λ (r : Record). record r { done = true }) e) full in
-    record {
-      shape = p.has_shape;
-      acks_in_order = p.in_order;
-      acks_of_subtasks = p.expected;
-      files = once.files;
-      pins = once.pins;
-      pending = λ not_done. absurd (both_ways m.done not_done is_done);
-      full = λ yes. d.full;
-      unpinned = λ yes. no_pins;
-    }
-
 pub pending_is_record : (s : Saved) (made : Record) → IsMade made s → IsPending made → 0 < missing made → NamesEachOnce (record_in s) → s.metadata.done ≡ false → IsRecord (record_in s)
 pending_is_record s made e pending lacks once not_done =
     let m = s.metadata in
@@ -145,9 +129,6 @@ room_pending o rs r its not_done fewer = record {
   savepoints = λ yes. absurd (both_ways (not (is_checkpoint r)) (ap not its) yes);
   newer = λ yes. absurd (both_ways (is_done_checkpoint r) (and_left r.done (is_checkpoint r) not_done) yes);
 }
-
-pub both_true : (a b : Bool) → a ≡ true → b ≡ true → (a && b) ≡ true
-both_true a b e f = ap (λ x. x && b) e ∙ f
 
 pub some_live : (o : Option Live) → is_some o ≡ true → (l : Live) × (o ≡ Some l)
 some_live None e = absurd (cc)

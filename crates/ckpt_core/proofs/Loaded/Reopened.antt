@@ -131,9 +131,6 @@ can_hold_from m n config shape records base idle files = record {
   clock = n.moments;
 }
 
-pub numbers_held : {m : State} → CanHold m → HasSoundNumbers m
-numbers_held h = record { moments = h.clock; first = h.sound.first; next_from = h.sound.next_from; next_to = h.sound.next_to; failures = h.sound.failures }
-
 pub files_held : {m : State} → CanHold m → AreFilesApart (uses m.records) (m.waiting ++ m.taken)
 files_held h = let o = outbox_of h.sound in record { unused = o.unused; apart = o.apart }
 
