@@ -85,6 +85,13 @@ count-parts_of m id f =
 count_by-both : {X : Type 0} (p q : X → Bool) (xs : List X) → count_by p xs ≡ count_by p (filter q xs) + count_by p (filter (λ x. not (q x)) xs)
 count_by-both p q xs = sym (sum_by-filter_both q (λ x. not (q x)) (λ x. refl) (λ x. cond (p x) 1 0) xs)
 
+numbers-filter : (t : ℕ → Bool) (hs : List Holding) → numbers (filter (λ (h : Holding). t h.id) hs) ≡ filter t (numbers hs)
+numbers-filter t [] = refl
+numbers-filter t (h ∷ hs) =
+    let rest : List Holding = filter (λ (o : Holding). t o.id) hs in
+    let Goal : Bool → Type 0 = λ b. numbers (cond b (h ∷ rest) rest) ≡ cond b (h.id ∷ filter t (numbers hs)) (filter t (numbers hs)) in
+    ⊎_elim (λ (e : t h.id ≡ true). subst Goal (sym e) (ap (λ ks. h.id ∷ ks) (numbers-filter t hs))) (λ (e : t h.id ≡ false). subst Goal (sym e) (numbers-filter t hs)) (cases_Bool (t h.id))
+
 -- a record goes
 
 module _ (m n : Acknowledged) (id : ℕ) (gone : n.items ≡ filter (λ (h : Holding). not (eqb h.id id)) m.items) where
