@@ -1,13 +1,13 @@
 -- A record that is loaded: what is tested of it, and the state that has it.
-use Rattle.std.proofs.Common.{◌≡◌, ℕ, ◌+◌, ◌<◌, ◌≤◌, Bool, true, false, not, ◌&&◌, leb, List, [], ◌∷◌, ◌++◌, length, refl, sym, ap, subst, ◌∙◌, arith, Option, Some, None}
+use Rattle.std.proofs.Common.{◌≡◌, ℕ, ◌<◌, Bool, true, false, not, ◌&&◌, leb, List, length, refl, sym, ap, subst, ◌∙◌, arith, Option, Some, None}
 use Rattle.std.specs.Prelude.{count_by, find}
 use Rattle.std.specs.Option.{is_some, option_map}
-use Rattle.std.proofs.lemmas.Bool.{both_ways, and_left, and_right, leb-false, le-leb}
+use Rattle.std.proofs.lemmas.Bool.{both_ways, and_left, and_right, leb-false}
 use Rattle.ckpt_ids.specs.Ordered.{IsIn}
 use Rattle.ckpt_ids.specs.Records.{Record, Use, missing}
 use Rattle.ckpt_ids.proofs.CountLemmas.{count_by-none}
 use Rattle.ckpt_pending.proofs.FullLemmas.{missing_from_full}
-use Rattle.ckpt_pending.specs.Acknowledging.{IsDone, IsPending, pending_record}
+use Rattle.ckpt_pending.specs.Acknowledging.{IsPending, pending_record}
 use Rattle.ckpt_rules.specs.Trigger.{limit}
 use Rattle.ckpt_core.specs.declared.image.Saved.{Saved}
 use Rattle.ckpt_core.specs.declared.parts.Parts.{Parts}
@@ -20,7 +20,7 @@ use Rattle.ckpt_core.specs.Inside.Parts.{records_in, state_of}
 use Rattle.ckpt_core.specs.Inside.SoundRecords.{HasRoom, NamesEachOnce, is_pending_checkpoint}
 use Rattle.ckpt_core.specs.Reads.{live_of}
 use Rattle.ckpt_core.specs.Soundness.{IsRecord}
-use Rattle.ckpt_core.specs.State.{Opening, State, is_checkpoint, is_done_checkpoint, is_pending}
+use Rattle.ckpt_core.specs.State.{Opening, is_checkpoint, is_done_checkpoint, is_pending}
 use Rattle.ckpt_core.proofs.Reading.Live.{is_from}
 use Rattle.ckpt_core.proofs.Records.Counts.{IsIn-from_find, fails-from_find}
 use Rattle.ckpt_core.proofs.Records.GroupLookups.{is_checkpoint-kind, is_savepoint-kind}

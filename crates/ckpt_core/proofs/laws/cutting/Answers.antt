@@ -1,9 +1,8 @@
-use Rattle.std.proofs.Common.{◌≡◌, List, ◌++◌, sym, ap, subst, ◌∙◌}
-use Rattle.ckpt_ids.specs.declared.call.Call.{Call}
+use Rattle.std.proofs.Common.{List, ◌++◌, sym, ap, subst, ◌∙◌}
 use Rattle.ckpt_ids.specs.declared.reply.Answer.{Answer}
 use Rattle.ckpt_core.specs.State.{State}
 use Rattle.ckpt_core.specs.Histories.{replay, answers}
-use Rattle.ckpt_core.specs.Images.{AreAlike, GoesOnAs, IsCut, settled}
+use Rattle.ckpt_core.specs.Images.{AreAlike, GoesOnAs, settled}
 use Rattle.ckpt_core.proofs.Histories.Replays.{answers-append, replay-append}
 use Rattle.ckpt_core.proofs.Loaded.Alike.{go_on_alike}
 use Rattle.ckpt_core.proofs.Loaded.Settled.{settled_alike}

@@ -11,7 +11,7 @@ use Rattle.ckpt_core.specs.declared.parts.Parts.{Parts}
 use Rattle.ckpt_core.specs.Inside.Grouped.{grouped, with_pins}
 use Rattle.ckpt_core.specs.Inside.Loading.{uses_held}
 use Rattle.ckpt_core.specs.Inside.Moving.{with_room}
-use Rattle.ckpt_core.specs.Inside.Parts.{AreTied, present_in, records_in}
+use Rattle.ckpt_core.specs.Inside.Parts.{present_in, records_in}
 use Rattle.ckpt_core.specs.Soundness.{id_before}
 use Rattle.ckpt_core.proofs.Loaded.Groups.{HasCheckpoint, none_surplus, older_uses, records-checkpoint, tied-checkpoint, uses-loaded}
 use Rattle.ckpt_core.proofs.parts.Parts.load_checkpoint.Goals as goal
