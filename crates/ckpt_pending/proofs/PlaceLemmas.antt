@@ -173,8 +173,3 @@ insert_at one (x ∷ acks) (suc place) h =
     let below : is_before x.subtask one.subtask ≡ true = h.1.0 0 x (omega arith) (omega arith) in
     let later : BelongsAt one.subtask acks place = (omega arith, (λ k d l m. h.1.0 (suc k) d (omega arith) (omega arith), λ k d l m. h.1.1 (suc k) d (omega arith) (omega arith))) in
     subst P (sym below) (ap (λ xs. x ∷ xs) (insert_at one acks place later))
-
--- at the end
-pub insert_last : {X : Type 0} (x : X) (xs : List X) → insert xs (length xs) x ≡ xs ++ x ∷ []
-insert_last x [] = refl
-insert_last x (y ∷ xs) = ap (λ ys. y ∷ ys) (insert_last x xs)
