@@ -57,7 +57,7 @@ def test_an_engine_whose_coordinator_is_killed():
         check_made(made, log, set())
         compared = check_log(job.state(), SHAPE, log)
         # the engine has compared the folder with the coordinator; what waits yet is deleted by the service's own command
-        subprocess.run([PROGRAM, "discard", "--once", "--folder", storage, "--job", "dask", "--url", server.url], check=True, timeout=60)
+        subprocess.run([PROGRAM, "discard", "--once", "--folder", storage, "--job", "dask", "--url", server.url], check=True, timeout=60, stderr=subprocess.DEVNULL)
         files = in_use(job)
         assert set(os.listdir(storage)) == files and len(files) == job.state()["files"]["in_use"] > 0, (os.listdir(storage), files)
         server.stop()

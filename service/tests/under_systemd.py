@@ -21,13 +21,14 @@ def property_of(name):
 
 
 def request(method, path, body=None, key="first"):
-    """A status and a body; 0 where there is no answer."""
+    """A status and a body of JSON; 0 where there is no answer."""
     connection = http.client.HTTPConnection("127.0.0.1", 7780, timeout=10)
     headers = {"Authorization": f"Bearer {WRITE}", "Content-Type": "application/json", "Idempotency-Key": key}
     try:
         connection.request(method, path, body and json.dumps(body), headers)
         answer = connection.getresponse()
-        return answer.status, json.loads(answer.read() or "null")
+        text = answer.read()
+        return answer.status, json.loads(text) if path.startswith("/v1/") else None
     except (OSError, http.client.HTTPException):
         return 0, None
     finally:
