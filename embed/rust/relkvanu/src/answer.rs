@@ -1,5 +1,6 @@
 //! What calls and reads answer.
 use relkvanu_sys as sys;
+use std::fmt;
 
 /// What the job would restart from.
 #[derive(Clone, Copy, Debug, PartialEq, Eq, Hash)]
@@ -7,6 +8,17 @@ pub enum Choice {
     Checkpoint(u64),
     Savepoint(u64),
     Fresh,
+}
+
+/// The record as a script names it, as "checkpoint 4" or "fresh".
+impl fmt::Display for Choice {
+    fn fmt(&self, f: &mut fmt::Formatter<'_>) -> fmt::Result {
+        match self {
+            Choice::Checkpoint(id) => write!(f, "checkpoint {id}"),
+            Choice::Savepoint(id) => write!(f, "savepoint {id}"),
+            Choice::Fresh => f.write_str("fresh"),
+        }
+    }
 }
 
 /// What the job is doing.
@@ -24,6 +36,16 @@ pub enum Mode {
 pub enum Kind {
     Checkpoint,
     Savepoint,
+}
+
+/// "checkpoint" or "savepoint".
+impl fmt::Display for Kind {
+    fn fmt(&self, f: &mut fmt::Formatter<'_>) -> fmt::Result {
+        f.write_str(match self {
+            Kind::Checkpoint => "checkpoint",
+            Kind::Savepoint => "savepoint",
+        })
+    }
 }
 
 /// A live record: its number, its kind, and whether it is done or pending.
@@ -108,6 +130,34 @@ pub enum Answer {
         file: u64,
         uses: u64,
     },
+}
+
+/// The line that a script prints (`docs/SCRIPT.md`), as "ack completed 1 2".
+impl fmt::Display for Answer {
+    fn fmt(&self, f: &mut fmt::Formatter<'_>) -> fmt::Result {
+        match *self {
+            Answer::Triggered { expired, id } => write!(f, "tick expired {expired} triggered {id}"),
+            Answer::HeldInterval { expired } => write!(f, "tick expired {expired} held interval"),
+            Answer::HeldAtOnce { expired } => write!(f, "tick expired {expired} held at-once"),
+            Answer::HeldPause { expired } => write!(f, "tick expired {expired} held pause"),
+            Answer::Failed { expired } => write!(f, "tick expired {expired} failed"),
+            Answer::SavepointTriggered(id) => write!(f, "savepoint triggered {id}"),
+            Answer::AckPending { missing } => write!(f, "ack pending {missing}"),
+            Answer::AckCompleted { dropped, released } => {
+                write!(f, "ack completed {dropped} {released}")
+            }
+            Answer::AckLate { handed_out } => write!(f, "ack late {handed_out}"),
+            Answer::DeclineAborted { released } => write!(f, "decline aborted {released}"),
+            Answer::DeclineFailed { released } => write!(f, "decline failed {released}"),
+            Answer::DeclineLate => f.write_str("decline late"),
+            Answer::Disposed { released } => write!(f, "disposed {released}"),
+            Answer::Restored { from, released } => write!(f, "restored {from} {released}"),
+            Answer::Cancelled { dropped, released } => write!(f, "cancelled {dropped} {released}"),
+            Answer::Deleted(file) => write!(f, "deleted {file}"),
+            Answer::Undeleted(file) => write!(f, "undeleted {file}"),
+            Answer::Counted { file, uses } => write!(f, "count {file} {uses}"),
+        }
+    }
 }
 
 /// The answer of a call that was made and that writes to no buffer.
