@@ -4,9 +4,9 @@
 //! each look-up visits all of them. A [`Secret`] makes the places depend on two words that nobody
 //! else knows. It is a hash builder: `HashMap::with_hasher(alloc, secret)`.
 //!
-//! The hash of a number is its xor with the first word, multiplied by the second word, which is made
-//! odd. The two halves of the product are then joined by xor. That costs as much as the standard
-//! hasher. It is not a cryptographic hash: use it only where no hash is shown to anybody.
+//! The hash of a number is its xor with the first word, multiplied by the second word, which is
+//! made odd. The two halves of the product are then joined by xor. That costs as much as the
+//! standard hasher. It is not a cryptographic hash: use it only where no hash is shown to anybody.
 #![tactic(auto)]
 
 pub mod hasher;

@@ -20,9 +20,9 @@ pub struct Secret {
 impl Secret {
     /// A secret of two words. Take them from a source of random numbers.
     ///
-    /// The multiplier is odd, whatever the second word is. With an even one numbers would lose their
-    /// greatest bits, and with 0 all would hash to 0. So two second words that differ only in the
-    /// lowest bit make the same secret.
+    /// The multiplier is odd, whatever the second word is. With an even one numbers would lose
+    /// their greatest bits, and with 0 all would hash to 0. So two second words that differ only in
+    /// the lowest bit make the same secret.
     pub fn of(first: u64, second: u64) -> Secret
         ensures { result ≡ secret_of first second }
     {

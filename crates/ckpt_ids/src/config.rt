@@ -14,10 +14,10 @@ pub struct BadConfig;
 
 /// How a job takes checkpoints.
 ///
-/// Source of the values: the Flink documentation, "Configuration": `execution.checkpointing.interval`,
-/// `.min-pause`, `.max-concurrent-checkpoints`, `.timeout`, `.tolerable-failed-checkpoints`,
-/// `.externalized-checkpoint-retention` and `state.checkpoints.num-retained`. The limits are this
-/// project's own.
+/// Source of the values: the Flink documentation, "Configuration":
+/// `execution.checkpointing.interval`, `.min-pause`, `.max-concurrent-checkpoints`, `.timeout`,
+/// `.tolerable-failed-checkpoints`, `.externalized-checkpoint-retention` and
+/// `state.checkpoints.num-retained`. The limits are this project's own.
 #[derive(Clone, Copy, Debug, PartialEq, Eq)]
 pub struct Config {
     interval: u64,

@@ -67,8 +67,9 @@ impl Model for Shape {
 impl Shape {
     /// A shape with these parallelisms, one for each vertex.
     ///
-    /// Returns [`ShapeFault::BadShape`] exactly unless there are 1 to 256 parallelisms, each at least 1,
-    /// at most 4096 in sum. Otherwise it returns [`ShapeFault::Memory`] if memory runs out.
+    /// Returns [`ShapeFault::BadShape`] exactly unless there are 1 to 256 parallelisms, each at
+    /// least 1, at most 4096 in sum. Otherwise it returns [`ShapeFault::Memory`] if memory runs
+    /// out.
     pub fn new(alloc: Global, list: &[u64]) -> Result<Shape, ShapeFault>
         ensures refused { (result ≡ Err ShapeFault.BadShape) ↔ (is_shape list.now ≡ false) }
         ensures value { IfOk result (λ shape. shape ≡ list.now) }

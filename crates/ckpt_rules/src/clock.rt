@@ -147,8 +147,8 @@ impl Clock {
         }
     }
 
-    /// A checkpoint was triggered `now`. The next is due after the interval, or the pause if that is
-    /// longer.
+    /// A checkpoint was triggered `now`. The next is due after the interval, or the pause if that
+    /// is longer.
     pub fn triggered(&mut self, config: &Config, now: u64)
         requires { now < MOMENTS_END }
         ensures { self.new ≡ record self.old { due = now + gap config.now } }

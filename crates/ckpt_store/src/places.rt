@@ -15,8 +15,8 @@ use std::collections::VecDeque;
 /// The room of a queue when it grows for the first time.
 const FIRST_ROOM: usize = 4;
 
-/// The place of the record with this number, or an `Err` if there is none. Mostly a caller wants the
-/// last or the first, so these two are checked before a binary search.
+/// The place of the record with this number, or an `Err` if there is none. Mostly a caller wants
+/// the last or the first, so these two are checked before a binary search.
 pub(crate) fn place_of(queue: &VecDeque<Done>, id: CheckpointId) -> Result<usize, usize>
     requires { AreRising queue.now.items }
     ensures found { IfOk result (λ place. (place < length queue.now.items) × IsPlaceOf id queue.now.items place) }
@@ -35,8 +35,8 @@ pub(crate) fn place_of(queue: &VecDeque<Done>, id: CheckpointId) -> Result<usize
     queue.binary_search_by_key(&id, |done| done.id())
 }
 
-/// Where a record with this number belongs: before the first whose number is not below it. Mostly that
-/// is the end, so the last record is checked before a binary search.
+/// Where a record with this number belongs: before the first whose number is not below it. Mostly
+/// that is the end, so the last record is checked before a binary search.
 pub(crate) fn place_for(queue: &VecDeque<Done>, id: CheckpointId) -> usize
     requires { AreRising queue.now.items }
     ensures bound { result ≤ length queue.now.items }

@@ -84,11 +84,12 @@ impl Store {
         make_room(&mut self.savepoints)
     }
 
-    /// Adds a completed checkpoint. From then on there is no base. If there are now more checkpoints
-    /// than are retained, drops the one with the least number and returns that number. Takes no memory.
+    /// Adds a completed checkpoint. From then on there is no base. If there are now more
+    /// checkpoints than are retained, drops the one with the least number and returns that number.
+    /// Takes no memory.
     ///
-    /// Conditions: [`Store::reserve`] made room for the record, it is a checkpoint, and its number is
-    /// above those of all other checkpoints.
+    /// Conditions: [`Store::reserve`] made room for the record, it is a checkpoint, and its number
+    /// is above those of all other checkpoints.
     pub fn complete(&mut self, done: Done) -> Option<CheckpointId>
         requires room { 1 ≤ self.old.spare }
         requires checkpoint { done.kind ≡ kind.Checkpoint }
@@ -111,8 +112,8 @@ impl Store {
 
     /// Adds a completed savepoint. Takes no memory.
     ///
-    /// Conditions: [`Store::reserve`] made room for the record, it is a savepoint, no other savepoint has
-    /// its number, and the number of savepoints then fits a `u32`.
+    /// Conditions: [`Store::reserve`] made room for the record, it is a savepoint, no other
+    /// savepoint has its number, and the number of savepoints then fits a `u32`.
     pub fn add_savepoint(&mut self, done: Done)
         requires room { 1 ≤ self.old.spare }
         requires savepoint { done.kind ≡ kind.Savepoint }
@@ -207,7 +208,8 @@ impl Store {
         self.base
     }
 
-    /// Drops the completed checkpoint with the least number, and returns that number. Takes no memory.
+    /// Drops the completed checkpoint with the least number, and returns that number. Takes no
+    /// memory.
     pub fn pop_lowest(&mut self) -> Option<CheckpointId>
         ensures value { self.new ≡ record self.old { checkpoints = drop 1 self.old.checkpoints; spare = self.new.spare } }
         ensures dropped { result ≡ lowest self.old.checkpoints }
