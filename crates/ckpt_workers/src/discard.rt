@@ -56,7 +56,7 @@ pub fn discard_round<R: Wait, G: Gate, S: Storage>(
 /// Goes on with a round that ran out of memory: `left` and `gone` are those of that round.
 ///
 /// It takes no more files. If the first file of `left` is gone already, it is reported as `Deleted`
-/// and not deleted again. Otherwise it is as [`discard_round`].
+/// and not deleted again. It handles the other files as [`discard_round`] does.
 pub fn resume_round<R: Wait, G: Gate, S: Storage>(
     rt: &R,
     gate: &G,
