@@ -1,4 +1,4 @@
-//! What calls and reads answer.
+//! What calls and reads return.
 use relkvanu_sys as sys;
 use std::fmt;
 
@@ -31,7 +31,7 @@ pub enum Mode {
     Cancelled,
 }
 
-/// Whom a record belongs to: a checkpoint to the coordinator, a savepoint to a user.
+/// Whether a record is a checkpoint, which belongs to the coordinator, or a savepoint, which belongs to a user.
 #[derive(Clone, Copy, Debug, PartialEq, Eq, Hash)]
 pub enum Kind {
     Checkpoint,
@@ -56,8 +56,8 @@ pub struct Live {
     pub done: bool,
 }
 
-/// How many files live records use, each counted once, wait for deletion, and were fetched for it and
-/// are not yet reported.
+/// How many files are in use by live records (each counted once), wait for deletion, and were fetched for deletion and
+/// not yet reported.
 #[derive(Clone, Copy, Debug, PartialEq, Eq, Hash)]
 pub struct FileCounts {
     pub in_use: u64,
@@ -65,10 +65,10 @@ pub struct FileCounts {
     pub taken: u64,
 }
 
-/// What a call that was made answered.
+/// The answer to a call that was made.
 #[derive(Clone, Copy, Debug, PartialEq, Eq, Hash)]
 pub enum Answer {
-    /// There is a new pending checkpoint; so many records have expired before.
+    /// A checkpoint was triggered, after this many records expired.
     Triggered {
         expired: u64,
         id: u64,
@@ -77,15 +77,15 @@ pub enum Answer {
     HeldInterval {
         expired: u64,
     },
-    /// As many checkpoints are pending as may be: none is triggered until one ends.
+    /// As many checkpoints are pending as may be. None is triggered until one ends.
     HeldAtOnce {
         expired: u64,
     },
-    /// The last completion is too short ago.
+    /// The pause after the last completion has not passed.
     HeldPause {
         expired: u64,
     },
-    /// Too many checkpoints failed in a row: the job fails over, and is to be restored.
+    /// Too many checkpoints failed in a row: the job fails over. Restore it.
     Failed {
         expired: u64,
     },
@@ -98,7 +98,7 @@ pub enum Answer {
         dropped: u64,
         released: u64,
     },
-    /// The record had ended: so many of the fresh files were handed out for deletion.
+    /// The record had ended. This many of the fresh files were handed out for deletion.
     AckLate {
         handed_out: u64,
     },
@@ -106,7 +106,7 @@ pub enum Answer {
     DeclineAborted {
         released: u64,
     },
-    /// The record is dropped, and the job fails over: it is to be restored.
+    /// The record is dropped, and the job fails over. Restore it.
     DeclineFailed {
         released: u64,
     },
@@ -160,7 +160,7 @@ impl fmt::Display for Answer {
     }
 }
 
-/// The answer of a call that was made and that writes to no buffer.
+/// The answer to a call that was made and that writes to no buffer.
 pub(crate) fn answer(told: sys::relkvanu_answer) -> Answer {
     let sys::relkvanu_answer { what, a, b, .. } = told;
     match what {
