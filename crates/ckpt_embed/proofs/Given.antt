@@ -1,7 +1,6 @@
 -- What a coordinator that changed nothing is told to have answered.
 use Rattle.std.proofs.Common.{◌≡◌, ◌≢◌, refl, sym, ap, ◌∙◌, subst, arith}
-use Rattle.std.specs.Prelude.{◌≤◌, ℕ, min, true, false, Option, Some, None, Err, Result, OnErr, ◌↔◌, List, length}
-use Rattle.std.proofs.lemmas.Bool.{both_ways}
+use Rattle.std.specs.Prelude.{◌≤◌, ℕ, min, Option, Some, None, Err, Result, OnErr, ◌↔◌, List, length}
 use Rattle.std.proofs.lemmas.List.{length-take}
 use Rattle.ckpt_ids.specs.declared.call.Call.{Call}
 use Rattle.ckpt_ids.specs.declared.reply.Reply.{Reply}
@@ -11,12 +10,10 @@ use Rattle.ckpt_ids.specs.declared.reply.Answer.TheVariants.{Done, Refused as Re
 use Rattle.ckpt_ids.specs.declared.call.Call.TheVariants as call
 use Rattle.ckpt_core.specs.declared.coordinator.CoreFault.{CoreFault}
 use Rattle.ckpt_core.specs.declared.coordinator.CoreFault.TheVariants.{Refused, Memory}
-use Rattle.ckpt_core.specs.Memory.{answer_wants, may_want_memory}
 use Rattle.ckpt_core.specs.Refusals.{refusal}
 use Rattle.ckpt_core.specs.State.{State}
 use Rattle.ckpt_core.specs.Steps.{step, effect, take_files, Stepped, unless_refused}
 use Rattle.ckpt_embed.specs.Buffers.{files_in, StandsInFront}
-use Rattle.ckpt_embed.specs.Calls.{takes_no_memory}
 use Rattle.ckpt_embed.specs.Told.{fault_told, refusal_told, told, no_memory}
 use Rattle.ckpt_embed.specs.declared.answer.Answer.{Answer}
 

@@ -10,7 +10,7 @@ use Rattle.ckpt_ids.specs.Ascending.{IsAscending}
 use Rattle.ckpt_ids.specs.Records.{Use, Holder, count, is_present, use_before}
 use Rattle.ckpt_ids.proofs.OrderedLemmas.{IsIn-append_cases, IsIn-from_map, IsIn-from_in_order_once, IsIn-from_filter}
 use Rattle.ckpt_parts_tests.specs.Earlier.{AreBefore, IsFirst, IsPinnable, IsUsable}
-use Rattle.ckpt_registry.specs.Uses.{HasNoUse, triples, is_owned, is_ended, without, after_end}
+use Rattle.ckpt_registry.specs.Uses.{triples, is_owned, is_ended, without, after_end}
 use Rattle.ckpt_ids.proofs.CountLemmas.{count_by-append, IsIn-from_times}
 use Rattle.ckpt_registry.proofs.RegistryLemmas.{IsAscendingSet-from_once}
 use Rattle.ckpt_ids.specs.Counting.{times}

@@ -1,5 +1,5 @@
 -- What a search by halves finds in the row of acknowledgements, and what a change at that place leaves.
-use Rattle.std.proofs.Common.{◌≡◌, ℕ, zero, suc, ◌-◌, ◌<◌, ◌≤◌, Bool, true, false, not, cond, ltb, eqb, length, get_or, List, [], ◌∷◌, ◌++◌, inl, inr, refl, sym, ap, subst, ◌∙◌, ⊎_elim, arith, ◌||◌, ◌&&◌, Result, Ok, Err, IfOk, IfErr, Ordering, Some, None}
+use Rattle.std.proofs.Common.{◌≡◌, ℕ, zero, suc, ◌-◌, ◌<◌, ◌≤◌, Bool, true, false, not, cond, ltb, eqb, length, get_or, List, [], ◌∷◌, inl, inr, refl, sym, ap, subst, ◌∙◌, ⊎_elim, arith, ◌||◌, ◌&&◌, Result, Ok, Err, IfOk, IfErr, Ordering, Some, None}
 use Rattle.std.specs.Prelude.{find}
 use Rattle.std.specs.List.{filter, insert, remove}
 use Rattle.std.specs.List.Sorted.{IsBinarySearchResult, IsSearchInRange}

@@ -1,9 +1,8 @@
 -- Faults and their causes.
-use Rattle.std.proofs.Common.{◌≡◌, ◌≢◌, ℕ, true, refl}
+use Rattle.std.proofs.Common.{◌≡◌, ◌≢◌, refl}
 use Rattle.ckpt_script.specs.declared.fault.RunFault.{RunFault}
 use Rattle.ckpt_script.specs.declared.fault.RunFault.TheVariants.{Read, Write, TooManyLines, Memory}
-use Rattle.ckpt_script.specs.Devices.{Asked, IsCaused, SourceCauses, SinkCauses}
-use Rattle.ckpt_script.specs.Telling.{keeps_lines}
+use Rattle.ckpt_script.specs.Devices.{Asked, SourceCauses}
 
 -- a source that has not failed is the cause of all faults but its own
 pub source_causes : (asked : Asked) (why : RunFault) → why ≢ Read → asked.failures ≡ 0 → SourceCauses asked why

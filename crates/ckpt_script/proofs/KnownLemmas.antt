@@ -1,11 +1,11 @@
 -- What a reader has left, from step to step, where it is known.
-use Rattle.std.proofs.Common.{◌≡◌, ◌≢◌, ℕ, List, [], ◌∷◌, ◌++◌, Bool, true, false, ◌==◌, ◌+◌, take, drop, Option, None, Some, inl, inr, refl, sym, ap, subst, ◌∙◌, append_assoc, append-nil}
+use Rattle.std.proofs.Common.{◌≡◌, ◌≢◌, ℕ, List, [], ◌∷◌, ◌++◌, Bool, true, false, ◌==◌, ◌+◌, take, Option, None, Some, inl, inr, refl, sym, ap, subst, ◌∙◌, append_assoc, append-nil}
 use Rattle.std.specs.Prelude.{IfSome}
 use Rattle.std.proofs.lemmas.Bool.{or_from}
 use Rattle.std.proofs.lemmas.List.Folds.{list_any-append}
 use Rattle.std.specs.Io.KnownBytes.{Keeps, IsAtEnd, prepend_known}
 use Rattle.ckpt_script.specs.Known.{WhereKnown}
-use Rattle.ckpt_script.specs.Lines.{held, newline, has_newline, FindsNewline, Moves, TakesPart, HoldsLine, HoldsPart}
+use Rattle.ckpt_script.specs.Lines.{held, newline, has_newline, Moves, TakesPart, HoldsLine, HoldsPart}
 use Rattle.ckpt_script.proofs.LineLemmas.{take_again}
 
 pub WhereKnown-keeps : (a b c : Option (List ℕ)) (P : List ℕ → List ℕ → Type 0) → WhereKnown a b P → Keeps b c → WhereKnown a c P

@@ -2,7 +2,7 @@
 use Rattle.std.proofs.Common.{◌≡◌, ◌+◌, cond, [], ◌∷◌, ◌++◌, refl, sym, ◌∙◌, subst, All}
 use Rattle.std.specs.Prelude.{Option, Some, None}
 use Rattle.std.proofs.lemmas.List.{map-append}
-use Rattle.std.proofs.lemmas.List.Elements.{All-nil, All-push}
+use Rattle.std.proofs.lemmas.List.Elements.{All-push}
 use Rattle.ckpt_ids.specs.declared.call.Call.{Call}
 use Rattle.ckpt_ids.specs.declared.reply.Answer.{Answer}
 use Rattle.ckpt_locked.specs.Locks.{Hand}
@@ -10,7 +10,7 @@ use Rattle.ckpt_workers.specs.declared.task.Tally.{Tally}
 use Rattle.ckpt_workers.specs.Orders.{IsOrder}
 use Rattle.ckpt_workers.specs.Shifts.{Exchange, IsAsked, IsShift, calls_in, capped}
 use Rattle.ckpt_workers.specs.Tasks.{IsTasked, answers, is_late, is_other, is_taken_in}
-use Rattle.ckpt_workers.proofs.ShiftLemmas.{IsShift-none, IsShift-push}
+use Rattle.ckpt_workers.proofs.ShiftLemmas.{IsShift-push}
 use Rattle.ckpt_workers.proofs.TallyLemmas.{capped-push}
 
 pub IsTasked-push : (old hand new : Hand) (was is : Tally) (call : Call) (answer : Option Answer)

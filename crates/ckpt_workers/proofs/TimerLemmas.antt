@@ -9,7 +9,7 @@ use Rattle.ckpt_locked.specs.Locks.{Hand}
 use Rattle.ckpt_workers.specs.declared.timer.TimerTally.{TimerTally}
 use Rattle.ckpt_workers.specs.Shifts.{Exchange, IsAsked, IsShift, capped}
 use Rattle.ckpt_workers.specs.Timers.{Beat, IsTimed, is_refused, tick_told, ticks_told}
-use Rattle.ckpt_workers.proofs.ShiftLemmas.{IsShift-none, IsShift-push}
+use Rattle.ckpt_workers.proofs.ShiftLemmas.{IsShift-push}
 use Rattle.ckpt_workers.proofs.TallyLemmas.{capped-push}
 
 shift_more : (old : Hand) (told : List Exchange) (mid new : Hand) (now : ℕ) (answer : Option Answer) → IsShift old told mid → IsAsked mid (Tick now) new answer → IsShift old (told ++ tick_told now answer) new

@@ -1,7 +1,7 @@
 -- Calls that read, and those that move a file in the outbox.
 use Rattle.std.proofs.Common.{◌≡◌, ℕ, List, [], ◌∷◌, ◌++◌, take, refl, sym, ap, ◌∙◌, arith, Option, Some, None}
 use Rattle.std.specs.Prelude as prelude
-use Rattle.std.specs.Prelude.{find, IsSome, Result, Ok, Err, IfOk}
+use Rattle.std.specs.Prelude.{find, IsSome}
 use Rattle.std.specs.Borrow.{Bor}
 use Rattle.std.specs.Option.{option_map, option_copied}
 use Rattle.ckpt_ids.specs.declared.ack.Metadata.{Metadata}
