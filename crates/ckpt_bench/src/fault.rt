@@ -4,7 +4,7 @@ use std::alloc::AllocError;
 use thiserror::Error;
 
 /// Why there was no run, or one that did not pass.
-#[derive(Clone, Copy, Debug, PartialEq, Eq, Error)]
+#[derive(Clone, Copy, Debug, Error)]
 pub(crate) enum BenchFault {
     #[error("usage: ckpt_bench storm THREADS CALLS SEED [LAST] | lock locked|mutex THREADS CALLS | book [CALLS [LAST]]")]
     Usage,

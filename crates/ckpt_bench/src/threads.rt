@@ -1,15 +1,14 @@
 //! A thread for each pass of a lock.
 ghost use Rattle.std.specs.Prelude.{◌≡◌, All, IfOk, map};
-ghost use Rattle.ckpt_locked.specs.Locks.{Lock};
 
 use crate::arguments::StormPlan;
 use crate::fault::BenchFault;
 use crate::through_lock::make;
 use crate::worker::{Board, Told, work};
 use ckpt_locked::{Book, Locked, Pass};
+use ckpt_workers::{Work, work_on_each};
 use std::alloc::{AllocError, Global};
 use std::sync::Wait;
-use std::thread;
 use std::thread::Threads;
 
 /// What each thread does with its pass.
@@ -18,22 +17,6 @@ pub(crate) enum Task {
     Storm(StormPlan),
     /// Makes so many calls, and keeps no answer.
     Measure { calls: u64 },
-}
-
-/// A pass after its thread's calls, and what they were answered.
-#[derive(Drop)]
-pub(crate) struct Report {
-    pass: Pass,
-    told: Result<Told, AllocError>,
-}
-
-/// What is done with each pass of a lock, by a thread of its own.
-pub(crate) trait Work {
-    ghost lock: { Self → Lock };
-
-    fn work<R: Wait>(&self, rt: &R, pass: Pass) -> Report
-        requires { pass.lock ≡ lock self.now }
-        ensures { result.pass.lock ≡ lock self.now };
 }
 
 /// What the threads share.
@@ -45,19 +28,17 @@ pub(crate) struct Ground {
     task: Task,
 }
 
-impl Work for Ground {
+impl Work<Result<Told, AllocError>> for Ground {
     ghost lock = { λ g. g.lock };
 
-    fn work<R: Wait>(&self, rt: &R, pass: Pass) -> Report {
+    /// Tells what the thread was answered.
+    fn work<R: Wait>(&self, rt: &R, pass: Pass) -> (Pass, Result<Told, AllocError>) {
         match self.task {
-            Task::Storm(plan) => {
-                let (pass, told) = work(rt, self.alloc, &self.lock, &self.board, plan, pass);
-                Report { pass, told }
-            }
+            Task::Storm(plan) => work(rt, self.alloc, &self.lock, &self.board, plan, pass),
             Task::Measure { calls } => {
                 let pass = make(rt, &self.lock, pass, calls);
-                let told = Ok(Told::of(self.alloc, &pass));
-                Report { pass, told }
+                let told = Told::of(self.alloc, &pass);
+                (pass, Ok(told))
             }
         }
     }
@@ -104,6 +85,10 @@ fn in_threads<R: Threads + Wait + Sync>(
         Err(_) => Err(BenchFault::Open),
     }
 }
+
+/// A pass after its thread's calls, and what they were answered.
+type Report = (Pass, Result<Told, AllocError>);
+
 /// Does the task with each pass in a thread of its own.
 fn scatter<R: Threads + Wait + Sync>(
     rt: &R,
@@ -111,38 +96,19 @@ fn scatter<R: Threads + Wait + Sync>(
     passes: Vec<Pass>,
 ) -> Result<Vec<Report>, AllocError>
     requires { All (λ p. p.lock ≡ ground.now.lock) passes.items }
-    ensures { IfOk result (λ reports. All (λ r. r.pass.lock ≡ ground.now.lock) reports.items) }
+    ensures { IfOk result (λ reports. All (λ r. r.0.lock ≡ ground.now.lock) reports.items) }
 {
-    work_on_all(rt, ground, passes)
-}
-
-/// Does the work with each pass in a thread of its own.
-fn work_on_all<R: Threads + Wait + Sync, W: Work + Sync>(
-    rt: &R,
-    ground: &W,
-    passes: Vec<Pass>,
-) -> Result<Vec<Report>, AllocError>
-    requires { All (λ p. p.lock ≡ W.lock ground.now) passes.items }
-    ensures { IfOk result (λ reports. All (λ r. r.pass.lock ≡ W.lock ground.now) reports.items) }
-{
-    thread::map_vec(
-        rt,
-        passes,
-        &|pass: Pass| -> Report
-            requires { pass.lock ≡ W.lock ground.now }
-            ensures { result.pass.lock ≡ W.lock ground.entry.now }
-        { ground.work(rt, pass) },
-    )
+    work_on_each(rt, ground, passes)
 }
 
 /// Parts the passes from what else the reports tell.
 fn part(alloc: Global, reports: Vec<Report>, told: &mut Vec<Told>) -> Result<Vec<Pass>, AllocError>
-    ensures { IfOk result (λ passes. map (λ r. r.pass) reports.items ≡ passes.items) }
+    ensures { IfOk result (λ passes. map (λ r. r.0) reports.items ≡ passes.items) }
 {
     let mut passes = Vec::with_capacity(alloc, reports.len())?;
     for report in reports {
-        passes.push(report.pass)?;
-        told.push(report.told?)?;
+        passes.push(report.0)?;
+        told.push(report.1?)?;
     }
     Ok(passes)
 }

@@ -7,7 +7,7 @@ use ckpt_session::{AllEnd, Outcome};
 use std::alloc::{AllocError, Global};
 
 /// What a record came to.
-#[derive(Clone, Copy, Debug, PartialEq, Eq)]
+#[derive(Clone, Copy, PartialEq, Eq)]
 pub(crate) enum Ending {
     /// It still waits at the end of the script.
     Pending,

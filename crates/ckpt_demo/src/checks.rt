@@ -1,6 +1,7 @@
 //! What is checked after a run, and told.
 use crate::folder::{listed, tell_files};
 use crate::replay::{Counts, Place, Replay, answer};
+use crate::roles::OTHERS;
 use crate::script::write_script;
 use crate::settings::DemoFault;
 use crate::threads::Ended;
@@ -13,9 +14,6 @@ use std::io;
 /// The seat of the calls that the checks make: one that no lock gives.
 const CHECKER: u32 = MOST_SEATS;
 
-/// Whose the last seats are.
-const OTHERS: [&str; 3] = ["timer", "discarder", "conductor"];
-
 fn sum(calls: &[u64]) -> u64 {
     calls
         .iter()
@@ -26,8 +24,8 @@ fn sum(calls: &[u64]) -> u64 {
 fn tell_calls(rt: &HostRuntime, calls: &[u64]) {
     let (tasks, others) = calls.split_at(calls.len().saturating_sub(OTHERS.len()));
     let _ = eprint!(rt; "calls: tasks {}", sum(tasks));
-    for (who, calls) in OTHERS.iter().zip(others.iter()) {
-        let _ = eprint!(rt; ", {who} {calls}");
+    for (role, calls) in OTHERS.iter().zip(others.iter()) {
+        let _ = eprint!(rt; ", {} {calls}", role.name());
     }
     let _ = eprintln!(rt; "");
 }

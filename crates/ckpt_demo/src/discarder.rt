@@ -28,9 +28,6 @@ fn round<R: Wait>(rt: &R, ground: &Ground, pass: Pass, disk: &mut Disk<'_, R>) -
         gone,
         ..
     } = round;
-    if left.is_empty() {
-        return (pass, taken);
-    }
     let (pass, _) = resume_round(rt, ground, pass, disk, left, gone);
     (pass, taken)
 }

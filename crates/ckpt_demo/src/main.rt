@@ -15,6 +15,7 @@ mod discarder;
 mod folder;
 mod ground;
 mod replay;
+mod roles;
 mod script;
 mod settings;
 mod task;

@@ -1,46 +1,32 @@
 //! A thread for each pass.
-ghost use Rattle.std.specs.Prelude.{◌≡◌, All, IfOk};
-ghost use Rattle.ckpt_locked.specs.Locks.{Lock};
+ghost use Rattle.std.specs.Prelude.{◌≡◌, All, IfOk, map};
 
 use crate::clock::Watch;
 use crate::conductor::conduct;
 use crate::discarder::discard;
 use crate::ground::{Board, Ground};
+use crate::roles::{OTHERS, Role};
 use crate::settings::{DemoFault, Settings};
 use crate::task::work;
 use crate::timer::Beats;
 use ckpt_locked::{Book, Locked, Pass};
-use ckpt_workers::timer_worker;
+use ckpt_workers::{Work, timer_worker, work_on_each};
 use std::alloc::{AllocError, Global};
 use std::sync::Wait;
-use std::thread;
 use std::thread::Threads;
 
-/// How many threads are no tasks.
-const OTHERS: u32 = 3;
-
-/// What is done with each pass, by a thread of its own.
-pub(crate) trait Work {
-    ghost lock: { Self → Lock };
-
-    fn work<R: Wait>(&self, rt: &R, pass: Pass) -> Pass
-        requires { pass.lock ≡ lock self.now }
-        ensures { result.lock ≡ lock self.now };
-}
-
-impl Work for Ground {
+impl Work<()> for Ground {
     ghost lock = { λ g. g.lock };
 
-    fn work<R: Wait>(&self, rt: &R, pass: Pass) -> Pass {
-        let seat = pass.seat();
-        if seat < self.tasks {
-            return work(rt, self, pass);
-        }
-        match seat - self.tasks {
-            0 => tick(rt, self, pass),
-            1 => discard(rt, self, pass),
-            _ => conduct(rt, self, pass),
-        }
+    /// Does what the role of the seat is.
+    fn work<R: Wait>(&self, rt: &R, pass: Pass) -> (Pass, ()) {
+        let pass = match Role::of(pass.seat(), self.tasks) {
+            Role::Task => work(rt, self, pass),
+            Role::Timer => tick(rt, self, pass),
+            Role::Discarder => discard(rt, self, pass),
+            Role::Conductor => conduct(rt, self, pass),
+        };
+        (pass, ())
     }
 }
 
@@ -81,7 +67,7 @@ pub(crate) fn run<R: Threads + Wait + Sync>(
 ) -> Result<Ended, DemoFault> {
     let book = open(host.alloc(), &settings)?;
     let tasks = settings.tasks();
-    let seats = tasks.saturating_add(OTHERS);
+    let seats = tasks.saturating_add(OTHERS.len() as u32);
     let Ok((lock, passes)) = Locked::new(rt, book, seats) else {
         return Err(DemoFault::Limits);
     };
@@ -94,8 +80,31 @@ pub(crate) fn run<R: Threads + Wait + Sync>(
         alloc: host.alloc(),
         tasks,
     };
-    let passes = scatter(rt, &ground, passes)?;
-    close(rt, ground, passes)
+    let reports = scatter(rt, &ground, passes)?;
+    close(rt, ground, reports)
+}
+
+/// Does the work of a run with each pass in a thread of its own.
+fn scatter<R: Threads + Wait + Sync>(
+    rt: &R,
+    ground: &Ground,
+    passes: Vec<Pass>,
+) -> Result<Vec<(Pass, ())>, AllocError>
+    requires { All (λ p. p.lock ≡ ground.now.lock) passes.items }
+    ensures { IfOk result (λ reports. All (λ r. r.0.lock ≡ ground.now.lock) reports.items) }
+{
+    work_on_each(rt, ground, passes)
+}
+
+/// The passes that come back.
+fn passes_of(alloc: Global, reports: Vec<(Pass, ())>) -> Result<Vec<Pass>, AllocError>
+    ensures { IfOk result (λ passes. map (λ r. r.0) reports.items ≡ passes.items) }
+{
+    let mut passes = Vec::with_capacity(alloc, reports.len())?;
+    for report in reports {
+        passes.push(report.0)?;
+    }
+    Ok(passes)
 }
 
 /// How many calls were made with each pass.
@@ -108,9 +117,10 @@ fn calls_with(alloc: Global, passes: &[Pass]) -> Result<Vec<u64>, AllocError> {
 }
 
 /// Closes the lock.
-fn close<R: Wait>(rt: &R, ground: Ground, passes: Vec<Pass>) -> Result<Ended, DemoFault>
-    requires { All (λ p. p.lock ≡ ground.lock) passes.items }
+fn close<R: Wait>(rt: &R, ground: Ground, reports: Vec<(Pass, ())>) -> Result<Ended, DemoFault>
+    requires { All (λ r. r.0.lock ≡ ground.lock) reports.items }
 {
+    let passes = passes_of(ground.alloc, reports)?;
     let calls = calls_with(ground.alloc, passes.as_slice())?;
     let written = ground.board.written();
     match ground.lock.close(rt, passes) {
@@ -122,35 +132,4 @@ fn close<R: Wait>(rt: &R, ground: Ground, passes: Vec<Pass>) -> Result<Ended, De
         }),
         Err(_) => Err(DemoFault::Open),
     }
-}
-
-/// Does the work of a run with each pass in a thread of its own.
-fn scatter<R: Threads + Wait + Sync>(
-    rt: &R,
-    ground: &Ground,
-    passes: Vec<Pass>,
-) -> Result<Vec<Pass>, AllocError>
-    requires { All (λ p. p.lock ≡ ground.now.lock) passes.items }
-    ensures { IfOk result (λ passes. All (λ p. p.lock ≡ ground.now.lock) passes.items) }
-{
-    work_on_all(rt, ground, passes)
-}
-
-/// Does the work with each pass in a thread of its own.
-fn work_on_all<R: Threads + Wait + Sync, W: Work + Sync>(
-    rt: &R,
-    ground: &W,
-    passes: Vec<Pass>,
-) -> Result<Vec<Pass>, AllocError>
-    requires { All (λ p. p.lock ≡ W.lock ground.now) passes.items }
-    ensures { IfOk result (λ passes. All (λ p. p.lock ≡ W.lock ground.now) passes.items) }
-{
-    thread::map_vec(
-        rt,
-        passes,
-        &|pass: Pass| -> Pass
-            requires { pass.lock ≡ W.lock ground.now }
-            ensures { result.lock ≡ W.lock ground.entry.now }
-        { ground.work(rt, pass) },
-    )
 }

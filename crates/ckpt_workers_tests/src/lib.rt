@@ -1,4 +1,7 @@
-//! Tests of workers and teams: rows of what they did over a lock.
+//! Tests of a lock, and of workers and teams over it: rows of what they did.
+//!
+//! A book by itself is run by the programs: `examples/rows` make its calls, `ckpt_bench` forgets its entries. Work with each pass in
+//! a thread of its own is what `ckpt_bench` and `ckpt_demo` do.
 //!
 //! `docs/DECISIONS.md` says why they stand apart from the crate that they test, and which wrong bodies
 //! they alone refuse.
@@ -11,11 +14,11 @@ mod deeds;
 #[cfg(test)]
 mod desk;
 #[cfg(test)]
-mod each_pass;
-#[cfg(test)]
 mod embedding;
 #[cfg(test)]
 mod gates;
+#[cfg(test)]
+mod lock;
 #[cfg(test)]
 mod refused_memory;
 #[cfg(test)]

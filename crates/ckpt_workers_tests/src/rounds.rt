@@ -22,7 +22,7 @@ fn with_three_files(alloc: Global) -> Result<Book, Fail> {
 }
 
 /// A lock over that job.
-fn lock_with_three_files<R: Wait>(rt: &R, alloc: Global) -> Result<(Locked, Pass), Fail>
+pub(crate) fn lock_with_three_files<R: Wait>(rt: &R, alloc: Global) -> Result<(Locked, Pass), Fail>
     ensures { IfOk result (λ made. made.1.lock ≡ made.0) }
 {
     let (lock, pass, _) = two(rt, with_three_files(alloc)?)?;

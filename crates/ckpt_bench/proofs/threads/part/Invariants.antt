@@ -6,4 +6,4 @@ abbrev pub invariant-loop-report : goal.invariant-loop-report
 invariant-loop-report l =
     (goal.iterator-loop-report).can_next l.report-iterator
     × (goal.iterator-loop-report).is_finite l.report-iterator
-    × (map (λ r. r.pass) l.yielded ≡ l.passes.items)
+    × (map (λ r. r.0) l.yielded ≡ l.passes.items)
