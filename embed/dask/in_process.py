@@ -23,6 +23,9 @@ class InProcess:
     def restore(self, shape: Sequence[int]) -> Reply:
         return self.core.restore(self.now(), None, shape)
 
+    def cancel(self) -> None:
+        self.core.cancel(self.now())
+
     def take(self, most: int) -> Taken:
         return self.core.take(most)
 

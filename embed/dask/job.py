@@ -17,7 +17,7 @@ import tempfile
 import threading
 import time
 from collections import Counter
-from typing import Any, Callable, Dict, List, Optional, Sequence, Tuple
+from typing import Any, Callable, Dict, Iterable, List, Sequence, Tuple
 
 from channel import Channel
 from cluster import Cluster, wait_for
@@ -209,13 +209,25 @@ class Job:
         return sum(self.ends.values())
 
     def check_folder(self) -> "tuple[int, int]":
-        """The folder has exactly the files that are in use and those that wait or are taken: how many each. No file is
-        taken, as the discarder has ended; nothing is deleted before the check."""
+        """The folder has exactly the files that are in use and those that wait for deletion: how many each. None is taken, as the
+        discarder has ended."""
         names = {int(path.name) for path in self.storage.iterdir()}
         used = self.coordinator.used(range(1, self.next_file))
         waiting = set(self.coordinator.take(1 << 16).files)
         assert names == used | waiting, (names - used - waiting, (used | waiting) - names)
+        self.delete_taken(waiting)
         return len(used), len(waiting)
+
+    def delete_taken(self, files: Iterable[int]) -> None:
+        for file in files:
+            self.path(file).unlink()
+            self.coordinator.deleted(file)
+
+    def cancel(self) -> None:
+        """Ends the job for good: no file is left."""
+        self.coordinator.cancel()
+        self.delete_taken(self.coordinator.take(1 << 16).files)
+        assert not list(self.storage.iterdir())
 
     def report(self, records: int, used: int, waiting: int) -> None:
         told, discarded = self.replies, self.discarder.told()
@@ -245,7 +257,7 @@ def options() -> argparse.Namespace:
     parser.add_argument("seed", type=int, nargs="?", default=1, help="chooses the records and the victims")
     parser.add_argument("--service", metavar="URL", help="the coordinator is a service; default: a library in the driver")
     parser.add_argument("--job", metavar="NAME", default="dask", help="a job that the service does not have yet")
-    parser.add_argument("--storage", metavar="FOLDER", type=pathlib.Path, help="where the files lie, and stay; default: a folder that goes")
+    parser.add_argument("--storage", metavar="FOLDER", type=pathlib.Path, help="where the files lie, and stay; default: a folder that goes, and the job is cancelled")
     parser.add_argument("--answered", metavar="FILE", type=pathlib.Path, help="gets the calls that the service answered, each with its answer")
     return parser.parse_args()
 
@@ -276,6 +288,8 @@ def main() -> None:
         job = Job(cluster, coordinator, given.storage or pathlib.Path(folder), given.seed)
         job.run(given.seconds)
         job.finish()
+        if not given.storage:
+            job.cancel()
     if given.answered:
         given.answered.write_text(json.dumps(coordinator.answered))
 

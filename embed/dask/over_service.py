@@ -55,6 +55,9 @@ class OverService:
     def restore(self, shape: Sequence[int]) -> Reply:
         return self.reply(service.restore(shape=list(shape)))
 
+    def cancel(self) -> None:
+        self.call(service.cancel())
+
     def take(self, most: int) -> Taken:
         return Taken(tuple(map(int, self.call(service.take(most))["files"])))
 

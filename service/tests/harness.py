@@ -7,6 +7,7 @@ import socket
 import subprocess
 import sys
 import tempfile
+import threading
 import time
 from contextlib import contextmanager
 
@@ -103,6 +104,22 @@ class Server:
         except ValueError:
             told = text.decode(errors="replace")
         return answer.status, {name.lower(): value for name, value in answer.getheaders()}, told
+
+
+class Kept(threading.Thread):
+    """Starts a service again where it ended with 75, as systemd does."""
+
+    def __init__(self, server):
+        super().__init__(daemon=True)
+        self.server, self.over, self.ended = server, threading.Event(), []
+
+    def run(self):
+        while not self.over.is_set():
+            status = self.server.process.poll()
+            if status is not None:
+                self.ended.append(status)
+                self.server.start(ready=False)
+            time.sleep(0.05)
 
 
 @contextmanager

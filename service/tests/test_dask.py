@@ -6,7 +6,7 @@ import signal
 import subprocess
 import time
 
-from harness import PROGRAM, TOP, Server, check_log, folder
+from harness import TOP, Server, check_log, folder
 from relkvanu_service import Service
 from run import Skipped
 from writers import check_made
@@ -21,7 +21,7 @@ def killed_until_ended(server, engine, chance):
     end, kills = time.monotonic() + LONGEST, 0
     while engine.poll() is None:
         assert time.monotonic() < end, "the engine does not end"
-        time.sleep(chance.uniform(0.2, 1.0))
+        time.sleep(chance.uniform(0.3, 1.2))
         server.kill()
         server.start()
         kills += 1
@@ -56,10 +56,9 @@ def test_an_engine_whose_coordinator_is_killed():
             made = [(call, answer) for call, answer in json.load(it) if "seq" in answer]
         check_made(made, log, set())
         compared = check_log(job.state(), SHAPE, log)
-        # the engine has compared the folder with the coordinator; what waits yet is deleted by the service's own command
-        subprocess.run([PROGRAM, "discard", "--once", "--folder", storage, "--job", "dask", "--url", server.url], check=True, timeout=60, stderr=subprocess.DEVNULL)
         files = in_use(job)
-        assert set(os.listdir(storage)) == files and len(files) == job.state()["files"]["in_use"] > 0, (os.listdir(storage), files)
+        assert set(os.listdir(storage)) == files, (os.listdir(storage), files)
+        assert job.state()["files"] == {"in_use": len(files), "waiting": 0, "taken": 0} and files, job.state()
         server.stop()
         completed = sum(answer.get("ack") == "completed" for _, answer in made)
         return f"{kills} kills, {completed} checkpoints completed; {len(made)} acknowledged calls, {compared} answered alike by ckpt_job; the folder has the {len(files)} files in use"

@@ -1,4 +1,4 @@
-"""What test_systemd.py does inside the container. Prints what it found, as JSON; where something is not as it should be, an error."""
+"""What test_unit.py does inside the container. Prints what it found, as JSON; where something is not as it should be, an error."""
 import http.client
 import json
 import os

@@ -88,36 +88,66 @@ fn shape(words: &[&str]) -> Option<Option<Vec<u64>>> {
 #[cfg(test)]
 mod tests {
     use super::*;
+    use std::num::NonZeroU64;
 
-    #[test]
-    fn reads_what_it_wrote() {
-        let subtask = Subtask { vertex: 1, index: 7 };
-        let calls = [
+    const SUBTASK: Subtask = Subtask { vertex: 1, index: 7 };
+
+    fn with_moments() -> Vec<Call> {
+        vec![
             Call::Tick,
             Call::Savepoint,
-            Call::Ack { id: 12, subtask, fresh: vec![31, u64::MAX], reused: vec![11] },
-            Call::Ack { id: 12, subtask, fresh: vec![], reused: vec![] },
-            Call::Decline { id: 3, subtask },
+            Call::Ack { id: 12, subtask: SUBTASK, fresh: vec![31, u64::MAX], reused: vec![11] },
+            Call::Ack { id: 12, subtask: SUBTASK, fresh: vec![], reused: vec![] },
+            Call::Decline { id: 3, subtask: SUBTASK },
             Call::Restore { target: Target::Latest, shape: None },
             Call::Restore { target: Target::Savepoint(4), shape: Some(vec![2, 1]) },
             Call::Cancel,
-        ];
-        for call in calls {
+        ]
+    }
+
+    fn without_moments() -> Vec<Call> {
+        vec![Call::Dispose { id: 4 }, Call::Take { most: 64 }, Call::Deleted { file: 9 }, Call::Undeleted { file: 9 }]
+    }
+
+    #[test]
+    fn reads_what_it_wrote() {
+        for call in with_moments() {
             assert_eq!(parse_line(&call.line(1234)), Some((1234, call)));
         }
-        for call in
-            [Call::Dispose { id: 4 }, Call::Take { most: 64 }, Call::Deleted { file: 9 }, Call::Undeleted { file: 9 }]
-        {
+        for call in without_moments() {
             assert_eq!(parse_line(&call.line(1234)), Some((0, call)));
         }
     }
 
+    /// The line that the library writes of a call.
+    fn of_library(call: &Call, now: u64) -> String {
+        use relkvanu::Call as C;
+        let part = |subtask: &Subtask| (subtask.vertex, subtask.index);
+        let call = match call {
+            Call::Tick => C::Tick { now },
+            Call::Savepoint => C::Savepoint { now },
+            Call::Ack { id, subtask, fresh, reused } => C::Ack { now, id: *id, subtask: part(subtask), fresh, reused },
+            Call::Decline { id, subtask } => C::Decline { now, id: *id, subtask: part(subtask) },
+            Call::Dispose { id } => C::Dispose { id: *id },
+            Call::Restore { target: Target::Latest, shape } => {
+                C::Restore { now, savepoint: None, shape: shape.as_deref() }
+            }
+            Call::Restore { target: Target::Savepoint(id), shape } => {
+                C::Restore { now, savepoint: NonZeroU64::new(*id), shape: shape.as_deref() }
+            }
+            Call::Cancel => C::Cancel { now },
+            Call::Take { most } => C::Take { most: *most },
+            Call::Deleted { file } => C::Deleted { file: *file },
+            Call::Undeleted { file } => C::Undeleted { file: *file },
+        };
+        call.line().unwrap_or_else(|fault| fault.to_string())
+    }
+
     #[test]
-    fn writes_the_lines_of_the_script_language() {
-        let ack = Call::Ack { id: 1, subtask: Subtask { vertex: 1, index: 0 }, fresh: vec![31], reused: vec![11, 12] };
-        assert_eq!(ack.line(1040), "ack 1040 1 1.0 +31 =11 =12");
-        let restore = Call::Restore { target: Target::Latest, shape: Some(vec![2]) };
-        assert_eq!(restore.line(200), "restore 200 latest 2");
+    fn writes_the_lines_that_the_library_writes() {
+        for call in with_moments().iter().chain(&without_moments()) {
+            assert_eq!(call.line(1234), of_library(call, 1234));
+        }
     }
 
     #[test]

@@ -42,7 +42,7 @@ def booted(at):
     return subprocess.run(["timeout", "-k", "5", "120", "systemd-nspawn", *words], stdout=subprocess.PIPE, stderr=subprocess.STDOUT, text=True, errors="replace", check=False)
 
 
-def test_the_unit():
+def test_under_systemd():
     if os.geteuid() != 0 or not shutil.which("systemd-nspawn"):
         raise Skipped("systemd can't be booted here without root and systemd-container")
     with folder() as at:
