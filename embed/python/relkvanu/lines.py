@@ -41,7 +41,7 @@ Line = Union[Skip, Settings, Job, Start, Call, All]
 
 
 def line_says(line: bytes) -> Line:
-    """Which line it is, with the numbers of one that makes no call. Raises BadLine. No number is tested against the limits of a
+    """Which line it is, with the numbers of one that makes no call. Raises BadLine. Checks no number against the limits of a
     job."""
     text = (ctypes.c_uint8 * max(len(line), 1)).from_buffer_copy(line or b" ")
     places = 8
@@ -65,7 +65,7 @@ def line_says(line: bytes) -> Line:
 
 
 def _written(write: Callable[[Any, int], Any]) -> str:
-    """What is written into a buffer that is long enough."""
+    """The result of writing into a buffer that is long enough."""
     length = 256
     while True:
         text = (ctypes.c_uint8 * length)()
@@ -76,7 +76,8 @@ def _written(write: Callable[[Any, int], Any]) -> str:
 
 
 def opening_lines(settings: Settings, shape: Sequence[int], now: int) -> str:
-    """The lines config, job and start of a coordinator that begins with the number 1, each with its newline. Raises BadArgument."""
+    """The lines config, job and start of a coordinator whose first record has the number 1, each with its newline. Raises
+    BadArgument."""
     values, words = _settings(settings), _words(shape)
     return _written(lambda text, length: _shared().relkvanu_opening_lines(ctypes.byref(values), words, len(shape), _u64(now), text, length))
 
@@ -90,7 +91,7 @@ def _line(
     return _written(lambda text, length: _shared().relkvanu_call_line(ctypes.byref(call), *lists, text, length))
 
 
-# The line of each call, without a newline: it is read again as that call. Each raises BadLine where no line may be as long: none is
+# The line of each call, without a newline. It reads back as that call. Each raises BadLine if the line would be too long: none is
 # cut.
 
 
