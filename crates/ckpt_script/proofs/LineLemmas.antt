@@ -1,11 +1,11 @@
 -- Lines of a text, put together from parts of it.
-use Rattle.std.proofs.Common.{◌≡◌, ◌≢◌, ℕ, zero, suc, ◌+◌, ◌-◌, ◌<◌, ◌≤◌, min, true, false, ◌||◌, ◌==◌, nat_lt, List, [], ◌∷◌, ◌++◌, length, take, drop, slice_index, refl, sym, ap, ◌∙◌, ⊎_elim, arith, length-drop}
+use Rattle.std.proofs.Common.{◌≡◌, ◌≢◌, ℕ, zero, suc, ◌+◌, ◌-◌, ◌<◌, ◌≤◌, min, Bool, true, false, ◌||◌, ◌==◌, nat_lt, List, [], ◌∷◌, ◌++◌, length, take, drop, slice_index, refl, sym, ap, ◌∙◌, ⊎_elim, arith, length-append, length-drop}
 use Rattle.std.proofs.lemmas.Bool.{cases_Bool, eqb-true, ltb-true, ltb-false, or_parts, or_from, or_left, or_right, both_ways}
 use Rattle.std.proofs.lemmas.List.Folds.{list_any-append}
 use Rattle.std.specs.List.{slice_range}
 use Rattle.std.proofs.lemmas.List.{take_all, take-take, drop-take, drop-drop, length-take}
 use Rattle.std.proofs.Math.Seq.{take-append-add, take-add}
-use Rattle.ckpt_script.specs.Lines.{newline, onto_first, lines_of, has_newline, whole_lines, held}
+use Rattle.ckpt_script.specs.Lines.{newline, onto_first, lines_of, has_newline, whole_lines, held, Moves}
 
 -- what is held of a line
 
@@ -57,6 +57,19 @@ front-slice_range bytes from to n kept fits e =
     ap (λ (k : ℕ). take k (drop from bytes)) (omega (arith, e))
     ∙ take_both n held (drop from bytes)
     ∙ ap (take held) (sym (take-take n (to - from) (drop from bytes) (omega (arith, short))))
+
+-- how many bytes are left
+
+pub some_bytes : (bytes : List ℕ) → bytes ≢ [] → 0 < length bytes
+some_bytes [] some = absurd (some refl)
+some_bytes (b ∷ bytes) some = omega arith
+
+-- fewer, where a part of a line was moved
+pub moved_fewer : (bytes rest line after : List ℕ) (ends : Bool) → Moves bytes rest line after ends → bytes ≢ [] → length rest < length bytes
+moved_fewer bytes rest line after true moves some =
+    omega (arith, ap (length {A = ℕ}) moves.bytes_before, length-append moves.part (newline ∷ rest))
+moved_fewer bytes rest line after false moves some =
+    omega (arith, some_bytes bytes some, ap (length {A = ℕ}) (moves.none_left refl))
 
 -- where the first newline stands
 

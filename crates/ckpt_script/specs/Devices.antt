@@ -1,8 +1,9 @@
 -- What a source and a sink were asked, how they answered, and which faults follow from it.
-use Rattle.std.specs.Prelude.{◌≡◌, ℕ, ◌+◌, ◌<◌, ◌≤◌, ◌⊎◌, ◌==◌, ⊤, if◌then◌else◌, Result, Ok, Err}
+use Rattle.std.specs.Prelude.{◌≡◌, ℕ, ◌+◌, ◌-◌, ◌<◌, ◌≤◌, ◌⊎◌, ◌==◌, ⊤, if◌then◌else◌, length, Result, Ok, Err}
 use Rattle.ckpt_script.specs.Unread.{Unread}
 use Rattle.ckpt_script.specs.declared.fault.RunFault.{RunFault}
 use Rattle.ckpt_script.specs.declared.fault.RunFault.TheVariants.{Read, Write, TooManyLines, Memory}
+use Rattle.ckpt_script.specs.declared.limits.TheConstants.{MOST_LINES}
 
 -- a source is asked so often at most
 abbrev pub most_reads : ℕ
@@ -16,15 +17,18 @@ pub record Asked : Type 0 where
   pub failures : ℕ
   -- how often it said that nothing is left
   pub ends : ℕ
+  -- how many bytes it gave
+  pub bytes : ℕ
 
 -- it serves a run from here on
 abbrev pub never_asked : Asked
-never_asked = record { times = 0; failures = 0; ends = 0 }
+never_asked = record { times = 0; failures = 0; ends = 0; bytes = 0 }
 
 -- it was asked once more
 abbrev pub asked_again : {E : Type 0} → Asked → Result ℕ E → Asked
-asked_again asked (Ok count) = record { times = asked.times + 1; failures = asked.failures; ends = asked.ends + (if count == 0 then 1 else 0) }
-asked_again asked (Err why) = record { times = asked.times + 1; failures = asked.failures + 1; ends = asked.ends }
+asked_again asked (Ok count) =
+    record { times = asked.times + 1; failures = asked.failures; ends = asked.ends + (if count == 0 then 1 else 0); bytes = asked.bytes + count }
+asked_again asked (Err why) = record { times = asked.times + 1; failures = asked.failures + 1; ends = asked.ends; bytes = asked.bytes }
 
 -- A source that may be asked: not too often yet, and neither after a failure nor after its end.
 pub record MayBeAsked (asked : Asked) : Type 0 where
@@ -37,12 +41,18 @@ pub record IsCounted (asked : Asked) (ahead : Unread) : Type 0 where
   pub times : asked.times + ahead.reads_left ≡ most_reads
   pub none_failed : asked.failures ≡ 0
   pub ends : asked.ends ≡ (if ahead.is_ended then 1 else 0)
+  pub given : length ahead.bytes ≤ asked.bytes
 
--- a run ends by `Read` where its source failed, or was asked too often
+-- how many of the bytes that a source gave have been used: they are not ahead any more
+abbrev pub used : Asked → Unread → ℕ
+used asked ahead = asked.bytes - length ahead.bytes
+
+-- a run ends by `Read` where its source failed or was asked too often, and by `TooManyLines` where it gave more bytes than lines are run:
+-- each of these took a byte at least
 abbrev pub SourceCauses : Asked → RunFault → Type 0
 SourceCauses asked Read = (asked.failures ≡ 1) ⊎ ((asked.failures ≡ 0) × (asked.times ≡ most_reads))
 SourceCauses asked Write = ⊤
-SourceCauses asked TooManyLines = asked.failures ≡ 0
+SourceCauses asked TooManyLines = (asked.failures ≡ 0) × (MOST_LINES < asked.bytes)
 SourceCauses asked Memory = asked.failures ≡ 0
 
 -- and by `Write` where its sink failed

@@ -1,7 +1,7 @@
 //! What was read of a script and not used yet, and how the next line is found in it.
 ghost use Rattle.std.specs.Prelude.{◌≡◌, ◌+◌, ◌≢◌, ◌≤◌, ◌<◌, ◌∷◌, ◌++◌, ℕ, List, true, false, [], IsTrue, ◌↔◌, IfOk, OnOk, OnErr, IfErr, length, take, Some};
 ghost use Rattle.std.specs.Io.KnownBytes.{Keeps, IsAtEnd, prepend_known};
-ghost use Rattle.ckpt_script.specs.Devices.{IsCounted, IsCaused};
+ghost use Rattle.ckpt_script.specs.Devices.{IsCounted, IsCaused, used};
 ghost use Rattle.ckpt_script.specs.Known.{Passes, PassesFront};
 ghost use Rattle.ckpt_script.specs.Lines.{held, FindsNewline, Moves};
 ghost use Rattle.ckpt_script.specs.Reads.{FindsLine, IsAhead, ReadsPart, left_by};
@@ -89,6 +89,8 @@ impl Ahead {
         ensures fewer { OnOk result (self.old.bytes ≡ [] → self.old.is_ended ≡ false → self.new.reads_left + 1 ≡ self.old.reads_left) }
         ensures at_once { OnOk result (self.old.bytes ≡ [] → self.old.is_ended ≡ false → printed.new ≡ []) }
         ensures counted { OnOk result (IsCounted (S.asked source.new) self.new) }
+        ensures bytes_used { OnOk result (used (S.asked source.new) self.new ≡ used (S.asked source.old) self.old) }
+        ensures bytes_given { OnOk result ((S.asked source.old).bytes ≤ (S.asked source.new).bytes) }
         ensures going_on { OnOk result (K.failures sink.new ≡ 0) }
         ensures shown { OnOk result (Passes (K.contents sink.old) (K.contents sink.new) printed.old [] printed.new) }
         ensures fault { IfErr result (λ why. (why ≢ RunFault.TooManyLines) × (why ≢ RunFault.Memory)) }
@@ -116,6 +118,8 @@ impl Ahead {
         ensures filled { OnOk result (self.new.bytes ≡ [] → self.new.is_ended ≡ true) }
         ensures fewer { OnOk result (self.new.reads_left + 1 ≡ self.old.reads_left) }
         ensures counted { OnOk result (IsCounted (S.asked source.new) self.new) }
+        ensures bytes_used { OnOk result (used (S.asked source.new) self.new ≡ (S.asked source.old).bytes) }
+        ensures bytes_given { OnOk result ((S.asked source.old).bytes ≤ (S.asked source.new).bytes) }
         ensures fault { IfErr result (λ why. why ≡ RunFault.Read) }
         ensures unread { OnErr result (self.new.bytes ≡ []) }
         ensures cause { IfErr result (IsCaused (S.asked source.new) 0) }
@@ -157,6 +161,7 @@ impl Ahead {
         ensures stays { IfErr result (λ why. why ≡ RunFault.Read → self.old.is_ended ≡ false) }
         ensures fault { IfErr result (λ why. why ≢ RunFault.TooManyLines) }
         ensures counted { OnOk result (IsCounted (S.asked source.new) self.new) }
+        ensures bytes_used { self.old.bytes ≢ [] → IfOk result (λ newline. used (S.asked source.old) self.old < used (S.asked source.new) (left_by self.new newline)) }
         ensures going_on { OnOk result (K.failures sink.new ≡ 0) }
         ensures shown { OnOk result (Passes (K.contents sink.old) (K.contents sink.new) printed.old [] printed.new) }
         ensures shown_read { IfErr result (λ why. why ≡ RunFault.Read → Passes (K.contents sink.old) (K.contents sink.new) printed.old [] printed.new) }

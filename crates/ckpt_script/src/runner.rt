@@ -1,7 +1,7 @@
 //! A run of a script: reads line after line, obeys it and prints.
 ghost use Rattle.std.specs.Prelude.{◌≡◌, ◌≢◌, ◌≤◌, ◌<◌, ◌+◌, [], Ok, Err, true, false, OnOk, OnErr, IfOk, IfErr};
 ghost use Rattle.std.specs.Io.KnownBytes.{IsAtEnd};
-ghost use Rattle.ckpt_script.specs.Devices.{Asked, IsCounted, IsCaused, SinkCauses, IsReadThrough};
+ghost use Rattle.ckpt_script.specs.Devices.{Asked, IsCounted, IsCaused, SinkCauses, IsReadThrough, used};
 ghost use Rattle.ckpt_script.specs.Known.{Passes, PassesFront};
 ghost use Rattle.ckpt_script.specs.Reads.{IsAhead, left_by};
 ghost use Rattle.ckpt_script.specs.Runs.{reading_next, faults_next, said_next, GoesOn, Stops, EndsBy};
@@ -94,9 +94,11 @@ impl Runner {
         requires counted { IsCounted (S.asked source.old) self.old.ahead }
         requires going_on { K.failures sink.old ≡ 0 }
         requires lines { self.old.summary.lines ≤ MOST_LINES }
+        requires bytes_used { self.old.summary.lines ≤ used (S.asked source.old) self.old.ahead }
         requires faults { self.old.summary.faults ≤ self.old.summary.lines }
         ensures ended { self.new.ahead.is_ended ≡ true → IsAtEnd (S.remaining source.new) }
         ensures lines { OnOk result (self.new.summary.lines ≤ MOST_LINES) }
+        ensures bytes_used { OnOk result (self.new.summary.lines ≤ used (S.asked source.new) self.new.ahead) }
         ensures faults { OnOk result (self.new.summary.faults ≤ self.new.summary.lines) }
         ensures more { IfOk result (λ more. more ≡ true → self.new.summary.lines ≡ self.old.summary.lines + 1) }
         ensures end { IfOk result (λ more. more ≡ false → (self.new.ahead.bytes ≡ []) × (self.new.ahead.is_ended ≡ true)) }
@@ -154,6 +156,7 @@ impl Runner {
         requires counted { IsCounted (S.asked source.old) self.old.ahead }
         requires going_on { K.failures sink.old ≡ 0 }
         requires lines { self.old.summary.lines ≤ MOST_LINES }
+        requires bytes_used { self.old.summary.lines ≤ used (S.asked source.old) self.old.ahead }
         requires faults { self.old.summary.faults ≤ self.old.summary.lines }
         ensures lines { OnOk result (self.new.summary.lines ≤ MOST_LINES) }
         ensures faults { OnOk result (self.new.summary.faults ≤ self.new.summary.lines) }

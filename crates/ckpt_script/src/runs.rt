@@ -19,8 +19,9 @@ use std::io::{Read, Write};
 /// print.
 ///
 /// It is [`run`] over devices that count what they were asked. Each fault has its cause:
-/// [`RunFault::Read`] that the source failed or was asked 2^32 times, [`RunFault::Write`] that the
-/// sink failed. A device that failed is not asked again, and the source not after its end.
+/// [`RunFault::Read`] that the source failed or was asked 2^32 times, [`RunFault::TooManyLines`] that
+/// it gave more than [`MOST_LINES`] bytes, [`RunFault::Write`] that the sink failed. A device that
+/// failed is not asked again, and the source not after its end.
 pub fn run_between<S: Source, K: Sink, T: Team>(
     alloc: Global,
     source: &mut S,
@@ -114,6 +115,7 @@ pub fn run_keyed<R: Read, W: Write, T: Team>(
         times: 0,
         failures: 0,
         ends: 0,
+        bytes: 0,
     };
     let mut sink = CountedWriter {
         writer,

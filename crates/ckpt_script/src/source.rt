@@ -14,7 +14,8 @@ pub struct DeviceFailed;
 pub trait Source {
     // The bytes that it has left, where they are known.
     ghost remaining: { Self → Option (List ℕ) };
-    // How often it was asked, how often it failed, and how often it said that nothing is left.
+    // How often it was asked, how often it failed, how often it said that nothing is left, and how
+    // many bytes it gave.
     ghost asked: { Self → Asked };
     // Which device it is, where it holds a reference to one: no read changes that.
     ghost device: { Self → ℕ } = { λ _. 0 };

@@ -1,4 +1,6 @@
 //! Readers and writers of std as sources and sinks, counted.
+ghost use Rattle.std.specs.Prelude.{◌≤◌, ◌*◌, ◌^◌};
+
 use crate::sink::Sink;
 use crate::source::{DeviceFailed, Source};
 use std::io::{Read, Write};
@@ -10,12 +12,14 @@ pub(crate) struct CountedReader<'a, R> {
     pub(crate) times: u64,
     pub(crate) failures: u64,
     pub(crate) ends: u64,
+    pub(crate) bytes: u128,
+    ghost in_range: { bytes ≤ times * 2 ^ 64 },
 }
 
 impl<'a, R: Read> Source for CountedReader<'a, R> {
     ghost remaining = { λ source. R.remaining source.reader.now };
 
-    ghost asked = { λ source. record { times = source.times; failures = source.failures; ends = source.ends } };
+    ghost asked = { λ source. record { times = source.times; failures = source.failures; ends = source.ends; bytes = source.bytes } };
 
     ghost device = { λ source. source.reader.ghost_name };
 
@@ -24,6 +28,7 @@ impl<'a, R: Read> Source for CountedReader<'a, R> {
         match self.reader.read(buffer) {
             Ok(count) => {
                 self.ends += u64::from(count == 0);
+                self.bytes += count as u128;
                 Ok(count)
             }
             Err(_) => {

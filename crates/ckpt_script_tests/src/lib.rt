@@ -7,3 +7,5 @@
 mod lines;
 #[cfg(test)]
 mod runs;
+#[cfg(test)]
+mod seats;

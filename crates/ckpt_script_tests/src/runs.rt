@@ -167,7 +167,7 @@ fn front(text: &[u8], lines: usize) -> &[u8] {
 }
 
 /// Whether a run ended so, and wrote this. Where memory ran out, it has to have written its front.
-fn is_so(
+pub(crate) fn is_so(
     answer: Result<Summary, RunFault>,
     written: &[u8],
     expected: Result<Summary, RunFault>,

@@ -1,7 +1,7 @@
-use Rattle.std.proofs.Common.{◌≡◌, Bool, true, false, [], subst, sym, ◌∙◌, rules}
+use Rattle.std.proofs.Common.{◌≡◌, ◌≢◌, Bool, true, false, [], subst, sym, ◌∙◌, arith, rules}
 use Rattle.std.specs.Io.KnownBytes.{prepend_known}
 use Rattle.ckpt_script.specs.Lines.{Moves, HoldsLine, HoldsPart}
-use Rattle.ckpt_script.proofs.LineLemmas.{length-take_held}
+use Rattle.ckpt_script.proofs.LineLemmas.{length-take_held, moved_fewer}
 use Rattle.ckpt_script.proofs.KnownLemmas.{WhereKnown-keeps, WhereKnown-moves, WhereKnown-unread, part_goes_on, line_ends, text_ends}
 use Rattle.ckpt_script.proofs.PassesLemmas.{passes_on, on_err, if_err_is}
 use Rattle.ckpt_script.proofs.ahead.Ahead.find_line.Goals as goal
@@ -23,6 +23,8 @@ loop-self-preserved g c =
     (λ all left. HoldsPart all left c.loop-self.line.items) (λ all left. HoldsPart all left c.move_to.new.line.items)
     (λ all z. part_goes_on all c.loop-self.self.bytes c.move_to.new.self.bytes c.loop-self.line.items c.move_to.new.line.items z moves) c.loop-self.invariant.part in
     let filled = c.in_ok-fill-2.ensures in
+    let some : c.loop-self.self.bytes ≢ [] = search rules in
+    let fewer = moved_fewer c.loop-self.self.bytes c.move_to.new.self.bytes c.loop-self.line.items c.move_to.new.line.items false moves some in
     record {
       part = WhereKnown-keeps (prepend_known c.args.self.now.bytes (g.S.Source.remaining c.args.source.now)) (prepend_known c.move_to.new.self.bytes (g.S.Source.remaining c.loop-self.source)) (prepend_known c.fill-in-loop-self.new.self.bytes (g.S.Source.remaining c.fill-in-loop-self.new.source))
           (λ all left. HoldsPart all left c.move_to.new.line.items) part filled.kept;
@@ -31,6 +33,8 @@ loop-self-preserved g c =
       stays = λ e. c.loop-self.invariant.stays (sym c.in_ok-move_to.ensures.ended ∙ filled.stays e);
       filled = filled.filled;
       counted = filled.counted;
+      bytes_used = omega (arith, fewer, c.loop-self.invariant.bytes_used, filled.bytes_used);
+      further = λ _. omega (arith, fewer, c.loop-self.invariant.bytes_used, c.loop-self.invariant.counted.given, filled.bytes_used);
       going_on = filled.going_on;
       same_source = filled.same_source ∙ c.loop-self.invariant.same_source;
       same_sink = filled.same_sink ∙ c.loop-self.invariant.same_sink;

@@ -1,6 +1,6 @@
-use Rattle.std.proofs.Common.{◌≡◌, ◌≤◌, [], true, false, length}
+use Rattle.std.proofs.Common.{◌≡◌, ◌≢◌, ◌<◌, ◌≤◌, [], true, false, length}
 use Rattle.std.specs.Io.KnownBytes.{IsAtEnd, prepend_known}
-use Rattle.ckpt_script.specs.Devices.{IsCounted}
+use Rattle.ckpt_script.specs.Devices.{IsCounted, used}
 use Rattle.ckpt_script.specs.Known.{WhereKnown, Passes}
 use Rattle.ckpt_script.specs.Lines.{held, HoldsPart}
 use Rattle.ckpt_script.proofs.ahead.Ahead.find_line.Given as goal
@@ -14,6 +14,8 @@ invariant-loop-self g l = record {
   stays : l.self.is_ended ≡ false → l.fn.self.is_ended ≡ false;
   filled : l.self.bytes ≡ [] → l.self.is_ended ≡ true;
   counted : IsCounted (g.S.Source.asked l.source) l.self;
+  bytes_used : used (g.S.Source.asked l.fn.source) l.fn.self ≤ used (g.S.Source.asked l.source) l.self;
+  further : l.fn.self.bytes ≢ [] → used (g.S.Source.asked l.fn.source) l.fn.self < (g.S.Source.asked l.source).bytes;
   going_on : g.K.Sink.failures l.sink ≡ 0;
   same_source : g.S.Source.device l.source ≡ g.S.Source.device l.fn.source;
   same_sink : g.K.Sink.device l.sink ≡ g.K.Sink.device l.fn.sink;
