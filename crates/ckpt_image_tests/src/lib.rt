@@ -5,3 +5,5 @@
 
 #[cfg(test)]
 mod reading;
+#[cfg(test)]
+mod writing;
