@@ -1,4 +1,6 @@
 //! Texts that are read as images, and texts that are refused.
+ghost use Rattle.std.specs.Prelude.{◌≡◌, IfOk};
+
 use ckpt_core::{Image, Mode, Saved};
 use ckpt_ids::{
     Acked, Acks, CheckpointId, Config, FileId, Files, Handed, Kind, Metadata, Shape, SubtaskId,
@@ -90,7 +92,10 @@ fn is_saved_so(record: Option<&Saved>, metadata: &Metadata, pins: &Files) -> boo
     }
 }
 
-fn ack(alloc: Global, index: u16, numbers: &[u64]) -> Result<Acked, AllocError> {
+/// The acknowledgement of subtask 0.`index`.
+fn ack(alloc: Global, index: u16, numbers: &[u64]) -> Result<Acked, AllocError>
+    ensures { IfOk result (λ ack. (ack.subtask.vertex ≡ 0) × (ack.subtask.index ≡ index)) }
+{
     let files = files(alloc, numbers)?;
     let subtask = SubtaskId { vertex: 0, index };
     Ok(Acked { subtask, files })
