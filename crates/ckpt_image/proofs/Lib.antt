@@ -1,2 +1,6 @@
 pub mod AckOrder
 pub mod Items
+pub mod OutcomeLemmas
+pub mod Plain
+pub mod RoundTrip
+pub mod TakenLemmas

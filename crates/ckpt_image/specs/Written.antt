@@ -1,6 +1,6 @@
 -- What is written of a state: one JSON object. The members of each object stand in the order of their keys, since
 -- `serde_json` keeps them so. Of two equal states the same is written.
-use Rattle.std.specs.Prelude.{ℕ, List, [], ◌∷◌, map, codes, Option, Some, None}
+use Rattle.std.specs.Prelude.{ℕ, List, [], ◌∷◌, ◌++◌, map, codes, Option, Some, None}
 use Rattle.ckpt_ids.specs.declared.ack.Acked.{Acked}
 use Rattle.ckpt_ids.specs.Configuration.{Configuration}
 use Rattle.ckpt_ids.specs.Records.{Record}
@@ -77,19 +77,26 @@ record_data r =
     ∷ (codes "state", string (state_name r.done))
     ∷ []))
 
-unfoldable pub image_data : State → Data
-image_data m =
-    object (members ((codes "base", optional m.base)
+abbrev pub early_members : State → List (List ℕ × Data)
+early_members m =
+    (codes "base", optional m.base)
     ∷ (codes "clock", clock_data m)
     ∷ (codes "failures", natural m.failures)
     ∷ (codes "mode", string (mode_name m.mode))
     ∷ (codes "next", natural m.next)
-    ∷ (codes "opening", opening_data m.opening)
+    ∷ []
+
+abbrev pub later_members : State → List (List ℕ × Data)
+later_members m =
+    (codes "opening", opening_data m.opening)
     ∷ (codes "outbox", outbox_data m)
     ∷ (codes "records", list (map record_data m.records))
     ∷ (codes "shape", naturals m.shape)
     ∷ (codes "version", natural version)
-    ∷ []))
+    ∷ []
+
+unfoldable pub image_data : State → Data
+image_data m = object (members (early_members m ++ later_members m))
 
 -- the image as JSON without spaces
 unfoldable pub image_bytes : State → List ℕ

@@ -63,7 +63,8 @@ fn ack_value(alloc: Global, acked: &Acked) -> Result<Value, AllocError>
     json!(in alloc; {"files": files, "subtask": subtask})
 }
 
-fn files_value(alloc: Global, files: &Files) -> Result<Value, AllocError>
+/// The numbers of the files as a JSON array, in ascending order. Fails only for want of memory.
+pub fn files_value(alloc: Global, files: &Files) -> Result<Value, AllocError>
     ensures { IfOk result (λ value. view value ≡ list (map natural files.now)) }
 {
     let mut items = Vec::with_capacity(alloc, files.len())?;
@@ -73,7 +74,8 @@ fn files_value(alloc: Global, files: &Files) -> Result<Value, AllocError>
     Ok(Value::from(items))
 }
 
-fn shape_value(alloc: Global, shape: &Shape) -> Result<Value, AllocError>
+/// The parallelisms as a JSON array, one for each vertex. Fails only for want of memory.
+pub fn shape_value(alloc: Global, shape: &Shape) -> Result<Value, AllocError>
     ensures { IfOk result (λ value. view value ≡ list (map natural shape.now)) }
 {
     let mut items = Vec::with_capacity(alloc, shape.vertices() as usize)?;
@@ -125,7 +127,8 @@ fn is_of(acks: &Acks, place: usize, shape: &Shape) -> bool
     }
 }
 
-fn kind_name(kind: Kind) -> &'static str
+/// `checkpoint` or `savepoint`.
+pub fn kind_name(kind: Kind) -> &'static str
     ensures { result.now ≡ kind_name kind }
 {
     match kind {
@@ -134,7 +137,8 @@ fn kind_name(kind: Kind) -> &'static str
     }
 }
 
-fn state_name(done: bool) -> &'static str
+/// `done` or `pending`.
+pub fn state_name(done: bool) -> &'static str
     ensures { result.now ≡ state_name done }
 {
     if done { "done" } else { "pending" }

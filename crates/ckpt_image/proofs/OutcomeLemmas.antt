@@ -1,0 +1,6 @@
+-- What holds anyway holds where a call succeeds.
+use Rattle.std.specs.Prelude.{OnOk, Result, Ok, Err}
+
+pub on_any_ok : {T E : Type 0} (r : Result T E) (P : Type 0) → P → OnOk r P
+on_any_ok (Ok x) P p = p
+on_any_ok (Err e) P p = tt

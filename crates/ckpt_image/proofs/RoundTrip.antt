@@ -1,0 +1,151 @@
+-- What is written of a state is read as the state.
+use Rattle.std.proofs.Common.{◌≡◌, ℕ, ◌<◌, ◌^◌, Bool, true, false, List, [], ◌∷◌, map, refl, sym, ap, ◌∙◌, inl, inr, Some, None, Option}
+use Rattle.std.specs.Prelude.{length, nat_le, nat_lt, option_and_then, sum}
+use Rattle.std.specs.Option.{option_map}
+use Rattle.std.proofs.lemmas.Bool.{le-leb, lt-ltb}
+use Rattle.std.proofs.lemmas.List.Sums.{list_all-from_AllPass}
+use Rattle.ckpt_ids.specs.declared.ack.Acked.{Acked}
+use Rattle.ckpt_ids.specs.declared.limits.TheConstants.{LONGEST_DURATION, MOST_AT_ONCE, MOST_RETAINED, MOST_SUBTASKS, MOST_TOLERABLE, MOST_VERTICES}
+use Rattle.ckpt_ids.specs.declared.numbers.Kind.{Kind}
+use Rattle.ckpt_ids.specs.declared.numbers.Kind.TheVariants.{Checkpoint, Savepoint}
+use Rattle.ckpt_ids.specs.Acknowledged.{AreInSubtaskOrder}
+use Rattle.ckpt_ids.specs.Ascending.{IsAscending, ascending}
+use Rattle.ckpt_ids.specs.Configuration.{Configuration, IsWithinLimits, is_within_limits}
+use Rattle.ckpt_ids.specs.Ordered.{IsIn}
+use Rattle.ckpt_ids.specs.Records.{Record}
+use Rattle.ckpt_ids.specs.Shapes.{IsShape, is_shape}
+use Rattle.ckpt_ids.proofs.AscendingLemmas.{ascending_already}
+use Rattle.ckpt_core.specs.declared.mode.Mode.{Mode}
+use Rattle.ckpt_core.specs.declared.mode.Mode.TheVariants.{Running, Failed, Cancelled}
+use Rattle.ckpt_core.specs.State.{Opening, State}
+use Rattle.ckpt_texts.specs.MetadataTexts.{kind_name, list, natural, state_name}
+use Rattle.serde_json.specs.Data.{Data, string}
+use Rattle.serde_json.specs.View.{items_of}
+use Rattle.ckpt_image.specs.Fits.{AckFits, Fits, RecordFits}
+use Rattle.ckpt_image.specs.Images.{image_of}
+use Rattle.ckpt_image.specs.Members.{ack_of, acks_of, are_in_subtask_order, clock_of, config_of, each, files_of, kind_of, list_of, mode_of, number_below, number_of, only, opening_of, optional_of, outbox_of, saved_of, shape_of, state_of, version_of}
+use Rattle.ckpt_image.specs.Written.{ack_data, clock_data, config_data, image_data, mode_name, naturals, opening_data, optional, outbox_data, record_data}
+
+-- ---- values
+
+passes : {X : Type 0} (test : X → Bool) (x : X) → test x ≡ true → only test x ≡ Some x
+passes test x held = rw held refl
+
+all : {X : Type 0} (one : Data → Option X) (shown : X → Data) (xs : List X) → ((x : X) → IsIn x xs → one (shown x) ≡ Some x) → each one (items_of (map shown xs)) ≡ Some xs
+all one shown [] h = refl
+all {X} one shown (x ∷ xs) h =
+    ap (λ (o : Option X). option_and_then (λ y. option_map (λ ys. y ∷ ys) (each one (items_of (map shown xs)))) o) (h x (inl refl))
+    ∙ ap (option_map (λ ys. x ∷ ys)) (all one shown xs (λ y there. h y (inr there)))
+
+numbers : (ns : List ℕ) → list_of number_of (naturals ns) ≡ Some ns
+numbers ns = all number_of natural ns (λ n there. refl)
+
+below : (end n : ℕ) → n < end → number_below end (natural n) ≡ Some n
+below end n h = passes (λ k. nat_lt k end) n (lt-ltb n end h)
+
+optionals : (o : Option ℕ) → optional_of (optional o) ≡ Some o
+optionals None = refl
+optionals (Some n) = refl
+
+files : (fs : List ℕ) → IsAscending fs → files_of (naturals fs) ≡ Some fs
+unfolding files_of
+files fs order = ap (option_map ascending) (numbers fs) ∙ ap (λ xs. Some xs) (sym (ascending_already fs order))
+
+-- ---- words
+
+kinds : (kind : Kind) → kind_of (string (kind_name kind)) ≡ Some kind
+unfolding kind_of
+kinds Checkpoint = refl
+kinds Savepoint = refl
+
+states : (done : Bool) → state_of (string (state_name done)) ≡ Some done
+unfolding state_of
+states true = refl
+states false = refl
+
+modes : (mode : Mode) → mode_of (string (mode_name mode)) ≡ Some mode
+unfolding mode_of
+modes Running = refl
+modes Failed = refl
+modes Cancelled = refl
+
+-- ---- tests that the types keep
+
+shape_holds : (shape : List ℕ) → IsShape shape → is_shape shape ≡ true
+shape_holds shape s =
+    rw (le-leb 1 (length shape) s.vertices_from, le-leb (length shape) MOST_VERTICES s.vertices_to, list_all-from_AllPass (nat_le 1) shape (λ k d within. le-leb 1 _ (s.each k d within)), le-leb (sum shape) MOST_SUBTASKS s.size_to) refl
+
+limits_hold : (c : Configuration) → IsWithinLimits c → is_within_limits c ≡ true
+limits_hold c l =
+    rw (
+      le-leb 10 c.interval l.interval_from,
+      le-leb c.interval LONGEST_DURATION l.interval_to,
+      le-leb c.pause LONGEST_DURATION l.pause_to,
+      le-leb 1 c.at_once l.at_once_from,
+      le-leb c.at_once MOST_AT_ONCE l.at_once_to,
+      le-leb 1 c.timeout l.timeout_from,
+      le-leb c.timeout LONGEST_DURATION l.timeout_to,
+      le-leb c.tolerable MOST_TOLERABLE l.tolerable_to,
+      le-leb 1 c.retained l.retained_from,
+      le-leb c.retained MOST_RETAINED l.retained_to,
+    ) refl
+
+order_holds : (acks : List Acked) → AreInSubtaskOrder acks → are_in_subtask_order acks ≡ true
+order_holds [] order = refl
+order_holds (a ∷ []) order = refl
+order_holds (a ∷ b ∷ acks) order = rw (order.0.0, order_holds (b ∷ acks) order.1) refl
+
+-- ---- objects
+
+shapes : (shape : List ℕ) → IsShape shape → shape_of (naturals shape) ≡ Some shape
+unfolding shape_of
+shapes shape s = ap (option_and_then (only is_shape)) (numbers shape) ∙ passes is_shape shape (shape_holds shape s)
+
+ack : (a : Acked) → AckFits a → ack_of (ack_data a) ≡ Some a
+unfolding ack_of ack_data
+ack a fits = rw (files a.files fits.files, below (2 ^ 16) a.subtask.index fits.index, below (2 ^ 16) a.subtask.vertex fits.vertex) refl
+
+all_acks : (acks : List Acked) → AreInSubtaskOrder acks → ((a : Acked) → IsIn a acks → AckFits a) → acks_of (list (map ack_data acks)) ≡ Some acks
+unfolding acks_of
+all_acks acks order fit =
+    ap (option_and_then (only are_in_subtask_order)) (all ack_of ack_data acks (λ a there. ack a (fit a there))) ∙ passes are_in_subtask_order acks (order_holds acks order)
+
+one_record : (r : Record) → RecordFits r → saved_of (record_data r) ≡ Some r
+unfolding saved_of record_data
+one_record r fits = rw (all_acks r.acks fits.order fits.acks, kinds r.kind, files r.pins fits.pins, shapes r.shape fits.shape, states r.done) refl
+
+config : (c : Configuration) → IsWithinLimits c → config_of (config_data c) ≡ Some c
+unfolding config_of config_data
+config c limits = passes is_within_limits c (limits_hold c limits)
+
+opening : (o : Opening) → IsWithinLimits o.config → IsShape o.shape → opening_of (opening_data o) ≡ Some o
+unfolding opening_of opening_data
+opening o limits shape = rw (config o.config limits, shapes o.shape shape) refl
+
+clock : (m : State) → clock_of (clock_data m) ≡ Some (record { completed = m.completed; due = m.due; latest = m.latest })
+unfolding clock_of clock_data
+clock m = rw (optionals m.completed) refl
+
+outbox : (m : State) → IsAscending m.taken → outbox_of (outbox_data m) ≡ Some (record { taken = m.taken; waiting = m.waiting })
+unfolding outbox_of outbox_data
+outbox m order = rw (files m.taken order, numbers m.waiting) refl
+
+-- this format
+this_version : version_of (natural 1) ≡ Some 1
+unfolding version_of
+this_version = refl
+
+pub image_reads_back : (m : State) → Fits m → image_of (image_data m) ≡ Some m
+unfolding image_of image_data
+image_reads_back m fits =
+    rw (
+      this_version,
+      optionals m.base,
+      clock m,
+      below (2 ^ 32) m.failures fits.failures,
+      modes m.mode,
+      opening m.opening fits.config fits.first_shape,
+      outbox m fits.taken,
+      all saved_of record_data m.records (λ r there. one_record r (fits.records r there)),
+      shapes m.shape fits.shape,
+    ) refl

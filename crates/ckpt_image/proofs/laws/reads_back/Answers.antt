@@ -1,0 +1,5 @@
+use Rattle.ckpt_image.proofs.RoundTrip.{image_reads_back}
+use Rattle.ckpt_image.proofs.laws.reads_back.Goals as goal
+
+pub returns : goal.returns
+returns c = image_reads_back

@@ -1,0 +1,7 @@
+use Rattle.std.proofs.Common.{◌≡◌, map, take}
+use Rattle.serde_json.specs.View.{view}
+use Rattle.ckpt_texts.specs.MetadataTexts.{natural}
+use Rattle.ckpt_image.proofs.writing.handed_value.Given as goal
+
+abbrev pub invariant-loop-file : goal.invariant-loop-file
+invariant-loop-file l = map view l.items.items ≡ map natural (take l.file-index l.file-items)

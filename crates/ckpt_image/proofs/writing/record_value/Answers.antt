@@ -1,0 +1,9 @@
+use Rattle.ckpt_image.proofs.writing.record_value.Goals as goal
+
+pub returns-in-Ok-json-14-clause-fits : goal.returns-in-Ok-json-14-clause-fits
+returns-in-Ok-json-14-clause-fits c = record {
+  shape = c.vertices.ensures.limits;
+  order = c.in_ok-acks.ensures.order;
+  acks = c.in_ok-acks.ensures.fits;
+  pins = c.as_slice.ensures.ascending;
+}
