@@ -143,6 +143,9 @@ typedef struct {
 #define RELKVANU_LINE_ALL 43u    /* a: 4, the numbers at the buffer's front: moment, record, threads, first file */
 #define RELKVANU_WRITTEN 44u     /* a: bytes at the buffer's front */
 
+/* what, where a save is RELKVANU_DONE */
+#define RELKVANU_SAVED 45u /* a: bytes at the buffer's front */
+
 /* what, where code is RELKVANU_REFUSED; they are tested in this order */
 #define RELKVANU_MOMENT_TOO_LARGE 1u
 #define RELKVANU_NOT_RUNNING 2u
@@ -167,6 +170,7 @@ typedef struct {
 #define RELKVANU_BAD_MOMENT 4u
 #define RELKVANU_BAD_FIRST 5u
 #define RELKVANU_BAD_KIND 6u
+#define RELKVANU_BAD_IMAGE 7u /* the bytes are no image, or no coordinator can be in the state that it tells */
 
 /* what, where code is RELKVANU_BAD_LINE: the first fault from the left */
 #define RELKVANU_FAULT_TOO_LONG 1u /* a line has at most 131072 bytes */
@@ -347,6 +351,22 @@ relkvanu_answer relkvanu_call_line(const relkvanu_call *call, const uint64_t *fi
  * memory. */
 relkvanu_answer relkvanu_opening_lines(const relkvanu_settings *settings, const uint64_t *shape, size_t shape_len, uint64_t now, uint8_t *lines, size_t lines_len);
 
+/* Images: a coordinator that is saved, and opened again. docs/IMAGE.md has the format. */
+
+/* Writes the image of the coordinator as JSON, without a zero at its end: all of its state. A handle that is opened with it
+ * answers every list of calls as this one would.
+ *
+ * RELKVANU_SAVED; RELKVANU_TOO_SHORT, where a is how many bytes it has: ask again with a buffer of that many. Changes nothing but
+ * the buffer, and only RELKVANU_SAVED changes that. Takes memory, also where the buffer is too short. */
+relkvanu_answer relkvanu_save(relkvanu *handle, uint8_t *image, size_t image_len);
+
+/* Gives a closed handle the coordinator that an image tells. The two words are those of relkvanu_open: they need not be the
+ * ones of the coordinator that was saved.
+ *
+ * RELKVANU_OPENED; or RELKVANU_BAD_ARGUMENT, and the handle stays as it was: RELKVANU_ALREADY_OPEN, RELKVANU_BAD_IMAGE. Takes memory: after
+ * RELKVANU_NO_MEMORY the handle is closed, as before. */
+relkvanu_answer relkvanu_open_saved(relkvanu *handle, const uint8_t *image, size_t image_len, uint64_t first_word, uint64_t second_word);
+
 /* Null pointers. The symbols of the library take none. A program that includes this header calls these functions by
  * the symbols' names: an empty list or buffer is never passed on, only the address of an element that nobody reads. */
 
@@ -416,6 +436,14 @@ static inline relkvanu_answer relkvanu_opening_lines_nullable(const relkvanu_set
     return relkvanu_opening_lines(settings, relkvanu_list_of(shape, shape_len), shape_len, now, relkvanu_bytes_of(lines, lines_len), lines_len);
 }
 
+static inline relkvanu_answer relkvanu_save_nullable(relkvanu *handle, uint8_t *image, size_t image_len) {
+    return relkvanu_save(handle, relkvanu_bytes_of(image, image_len), image_len);
+}
+
+static inline relkvanu_answer relkvanu_open_saved_nullable(relkvanu *handle, const uint8_t *image, size_t image_len, uint64_t first_word, uint64_t second_word) {
+    return relkvanu_open_saved(handle, relkvanu_text_of(image, image_len), image_len, first_word, second_word);
+}
+
 #define relkvanu_open relkvanu_open_nullable
 #define relkvanu_close relkvanu_close_nullable
 #define relkvanu_ack relkvanu_ack_nullable
@@ -427,6 +455,8 @@ static inline relkvanu_answer relkvanu_opening_lines_nullable(const relkvanu_set
 #define relkvanu_line_says relkvanu_line_says_nullable
 #define relkvanu_call_line relkvanu_call_line_nullable
 #define relkvanu_opening_lines relkvanu_opening_lines_nullable
+#define relkvanu_save relkvanu_save_nullable
+#define relkvanu_open_saved relkvanu_open_saved_nullable
 
 #ifdef __cplusplus
 }

@@ -72,6 +72,7 @@ enum class error : int {
     bad_moment = RELKVANU_BAD_ARGUMENT << 8 | RELKVANU_BAD_MOMENT,
     bad_first = RELKVANU_BAD_ARGUMENT << 8 | RELKVANU_BAD_FIRST,
     bad_kind = RELKVANU_BAD_ARGUMENT << 8 | RELKVANU_BAD_KIND,
+    bad_image = RELKVANU_BAD_ARGUMENT << 8 | RELKVANU_BAD_IMAGE,
     too_short = RELKVANU_TOO_SHORT << 8, /* the buffer has to have more places */
     line_too_long = RELKVANU_BAD_LINE << 8 | RELKVANU_FAULT_TOO_LONG,
     line_word = RELKVANU_BAD_LINE << 8 | RELKVANU_FAULT_WORD,
@@ -99,6 +100,7 @@ public:
         case error::bad_moment: return "BadMoment";
         case error::bad_first: return "BadFirst";
         case error::bad_kind: return "BadKind";
+        case error::bad_image: return "BadImage";
         case error::too_short: return "the buffer is too short";
         case error::line_too_long: return "TooLong";
         case error::line_word: return "Word";
@@ -188,19 +190,36 @@ struct live_record {
     bool is_savepoint, is_done;
 };
 
+/* What is written into a buffer that is long enough. */
+template <class Write> text_answer written(Write write) {
+    std::string text(256, '\0');
+    relkvanu_answer told = write(reinterpret_cast<std::uint8_t *>(text.data()), text.size());
+    while (told.code == RELKVANU_TOO_SHORT) {
+        text.resize(static_cast<std::size_t>(told.a));
+        told = write(reinterpret_cast<std::uint8_t *>(text.data()), text.size());
+    }
+    if (told.code != RELKVANU_DONE) {
+        return refusal(told);
+    }
+    text.resize(static_cast<std::size_t>(told.a));
+    return text;
+}
+
 /* The coordinator of one job. One that was moved from is closed: its calls are refused as error::closed, and it has no reads. */
 class Coordinator {
 public:
     /* Opens one, whose first record has the number first: 1 for a new job, else one above each that was given before. */
     static std::variant<Coordinator, refused> open(const relkvanu_settings &settings, shape of, std::uint64_t now, std::uint64_t first = 1) {
-        Coordinator it;
-        std::random_device random;
-        auto word = [&random] { return std::uint64_t{random()} << 32 | random(); };
-        relkvanu_answer told = relkvanu_open(&it.handle_, &settings, of.data(), of.size(), now, first, word(), word());
-        if (told.code != RELKVANU_DONE) {
-            return refusal(told);
-        }
-        return std::variant<Coordinator, refused>(std::move(it));
+        return opened([&](relkvanu *handle, std::uint64_t word, std::uint64_t other) {
+            return relkvanu_open(handle, &settings, of.data(), of.size(), now, first, word, other);
+        });
+    }
+
+    /* Opens the one that an image tells: it answers every list of calls as the one that was saved. */
+    static std::variant<Coordinator, refused> open_saved(std::string_view image) {
+        return opened([&](relkvanu *handle, std::uint64_t word, std::uint64_t other) {
+            return relkvanu_open_saved(handle, reinterpret_cast<const std::uint8_t *>(image.data()), image.size(), word, other);
+        });
     }
 
     Coordinator(const Coordinator &) = delete;
@@ -297,17 +316,12 @@ public:
 
     /* The metadata of a live record, as JSON. */
     show_answer show(std::uint64_t id) {
-        std::string json(1024, '\0');
-        relkvanu_answer told = relkvanu_show(&handle_, id, bytes(json), json.size());
-        while (told.code == RELKVANU_TOO_SHORT) {
-            json.resize(static_cast<std::size_t>(told.a));
-            told = relkvanu_show(&handle_, id, bytes(json), json.size());
-        }
-        if (told.code != RELKVANU_DONE) {
-            return refusal(told);
-        }
-        json.resize(static_cast<std::size_t>(told.a));
-        return json;
+        return written([&](std::uint8_t *json, std::size_t len) { return relkvanu_show(&handle_, id, json, len); });
+    }
+
+    /* The image of the coordinator, as JSON (docs/IMAGE.md). */
+    text_answer save() {
+        return written([&](std::uint8_t *image, std::size_t len) { return relkvanu_save(&handle_, image, len); });
     }
 
     /* Makes the call that a line of a script says (docs/SCRIPT.md): the bytes before its newline. A take line fetches into the buffer;
@@ -393,7 +407,17 @@ private:
 
     Coordinator() = default;
 
-    static std::uint8_t *bytes(std::string &text) { return reinterpret_cast<std::uint8_t *>(text.data()); }
+    /* One whose handle is opened so, with two random words. */
+    template <class Open> static std::variant<Coordinator, refused> opened(Open open) {
+        Coordinator it;
+        std::random_device random;
+        auto word = [&random] { return std::uint64_t{random()} << 32 | random(); };
+        relkvanu_answer told = open(&it.handle_, word(), word());
+        if (told.code != RELKVANU_DONE) {
+            return refusal(told);
+        }
+        return std::variant<Coordinator, refused>(std::move(it));
+    }
 
     /* The number of a line that has one, which the library has read. */
     static std::uint64_t number_in(std::string_view text) {
@@ -425,21 +449,6 @@ private:
         }
     }
 };
-
-/* What is written into a buffer that is long enough. */
-template <class Write> text_answer written(Write write) {
-    std::string text(256, '\0');
-    relkvanu_answer told = write(reinterpret_cast<std::uint8_t *>(text.data()), text.size());
-    while (told.code == RELKVANU_TOO_SHORT) {
-        text.resize(static_cast<std::size_t>(told.a));
-        told = write(reinterpret_cast<std::uint8_t *>(text.data()), text.size());
-    }
-    if (told.code != RELKVANU_DONE) {
-        return refusal(told);
-    }
-    text.resize(static_cast<std::size_t>(told.a));
-    return text;
-}
 
 /* The line of a call, without a newline. First are the fresh files of an ack or the shape of a restore, second the reused files. One
  * that would be longer than a line may be is refused as error::line_too_long: none is cut. */

@@ -1,5 +1,6 @@
 pub mod Buffers
 pub mod Calls
+pub mod Images
 pub mod Kept
 pub mod Lines
 pub mod Names

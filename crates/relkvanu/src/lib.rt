@@ -4,5 +4,6 @@
 #![tactic(auto)]
 
 mod exports;
+mod images;
 mod lines;
 mod reads;

@@ -6,7 +6,7 @@ import pathlib
 import secrets
 import threading
 from dataclasses import dataclass
-from typing import Any, Iterator, Optional, Sequence
+from typing import Any, Callable, Iterator, Optional, Sequence, Tuple
 
 from relkvanu import header
 from relkvanu.reads import CHOSEN, LIVE, Chosen, FileCounts, Live, Mode
@@ -28,6 +28,7 @@ ARGUMENTS = {
     header.BAD_SHAPE: "BadShape",
     header.BAD_MOMENT: "BadMoment",
     header.BAD_FIRST: "BadFirst",
+    header.BAD_IMAGE: "BadImage",
 }
 
 
@@ -122,6 +123,16 @@ def _words(values: Sequence[int]) -> Any:
     return (U64 * max(len(values), 1))(*map(_u64, values))
 
 
+def _text(text: bytes) -> Any:
+    """The bytes, or one where there is none, as no pointer may be null."""
+    return (ctypes.c_uint8 * max(len(text), 1)).from_buffer_copy(text or b" ")
+
+
+def _keys() -> Tuple[int, int]:
+    """The secret of a coordinator's maps."""
+    return secrets.randbits(64), secrets.randbits(64)
+
+
 def _settings(settings: Settings) -> header.relkvanu_settings:
     values = settings.interval, settings.pause, settings.at_once, settings.timeout, settings.tolerable, settings.retained
     return header.relkvanu_settings(*map(_u64, values), settings.keep_on_cancel)
@@ -147,6 +158,17 @@ def _done(answer: header.relkvanu_answer) -> header.relkvanu_answer:
     raise BadArgument(ARGUMENTS[answer.what])
 
 
+def _written(write: Callable[[Any, int], Any]) -> str:
+    """What is written into a buffer that is long enough."""
+    length = 256
+    while True:
+        text = (ctypes.c_uint8 * length)()
+        answer = write(text, length)
+        if answer.code != header.TOO_SHORT:
+            return bytes(text[: _done(answer).a]).decode()
+        length = answer.a
+
+
 def version() -> str:
     """The version of the library that is loaded, as "0.1.0"."""
     text: bytes = _shared().relkvanu_version()
@@ -165,12 +187,24 @@ class Coordinator:
         """Opens it at the moment `now`, for a job with so many subtasks of each vertex. Its first record has the number
         `first`: 1 for a new job, else one above each that was given before. Raises BadArgument: of the settings first, then
         of the shape, the moment and the first number."""
+        self._begin()
+        values = _settings(settings)
+        _done(self._call("open", ctypes.byref(values), _words(shape), len(shape), _u64(now), _u64(first), *_keys()))
+
+    @classmethod
+    def open_saved(cls, image: str) -> "Coordinator":
+        """Opens the coordinator that an image tells, which save() gave (docs/IMAGE.md): it answers every list of calls as the one
+        that was saved. Raises BadArgument where the text is no image, or no coordinator can be in the state that it tells."""
+        text = image.encode()
+        opened = cls.__new__(cls)
+        opened._begin()
+        _done(opened._call("open_saved", _text(text), len(text), *_keys()))
+        return opened
+
+    def _begin(self) -> None:
         self._lock = threading.Condition(threading.RLock())
         self._calls = 0
         self._handle = header.relkvanu(None)
-        values = _settings(settings)
-        keys = secrets.randbits(64), secrets.randbits(64)
-        _done(self._call("open", ctypes.byref(values), _words(shape), len(shape), _u64(now), _u64(first), *keys))
 
     def _call(self, name: str, *arguments: Any) -> Any:
         function = getattr(_shared(), f"relkvanu_{name}")
@@ -265,13 +299,11 @@ class Coordinator:
 
     def show(self, id: int) -> Shown:
         """The metadata of a live record."""
-        length = 1024
-        answer = header.relkvanu_answer(code=header.TOO_SHORT, a=length)
-        while answer.code == header.TOO_SHORT:
-            length = answer.a
-            text = (ctypes.c_uint8 * length)()
-            answer = self._call("show", _u64(id), text, length)
-        return Shown(bytes(text[: _done(answer).a]).decode())
+        return Shown(_written(lambda text, length: self._call("show", _u64(id), text, length)))
+
+    def save(self) -> str:
+        """The image of the coordinator, as JSON (docs/IMAGE.md): all of its state."""
+        return _written(lambda text, length: self._call("save", text, length))
 
     def count(self, file: int) -> Reply:
         return self._replied("count", _u64(file))
@@ -281,7 +313,7 @@ class Coordinator:
         is a comment. Raises BadLine where it can't be read or makes no call, and as the call does. A take line fetches at most
         `most` files; where it would fetch more, that is a ValueError, and nothing has changed."""
         files = (U64 * max(_u64(most), 1))()
-        text = (ctypes.c_uint8 * max(len(line), 1)).from_buffer_copy(line or b" ")
+        text = _text(line)
         with self._lock:
             self._calls += 1
             self._lock.notify_all()

@@ -1,6 +1,6 @@
 //! The coordinator of one job, for one thread at a time.
 use crate::answer::{self, Answer, Choice, FileCounts, Live, Mode};
-use crate::fault::{done, Fault};
+use crate::fault::{done, text, Fault};
 use relkvanu_sys as sys;
 use std::cell::UnsafeCell;
 use std::collections::hash_map::RandomState;
@@ -84,6 +84,34 @@ impl Coordinator {
         now: u64,
         first: u64,
     ) -> Result<Coordinator, Fault> {
+        // SAFETY: the handle is all zero; the settings and the slice outlive the call, which keeps none of them.
+        Coordinator::opened(|handle, word, other| unsafe {
+            sys::relkvanu_open(
+                handle,
+                &settings.into(),
+                shape.as_ptr(),
+                shape.len(),
+                now,
+                first,
+                word,
+                other,
+            )
+        })
+    }
+
+    /// Opens the coordinator that an image tells, which [`save`](Self::save) wrote (`docs/IMAGE.md`): it answers every list of
+    /// calls as the one that was saved. Takes memory for the coordinator.
+    pub fn open_saved(image: &[u8]) -> Result<Coordinator, Fault> {
+        // SAFETY: the handle is all zero; the slice outlives the call, which does not keep it.
+        Coordinator::opened(|handle, word, other| unsafe {
+            sys::relkvanu_open_saved(handle, image.as_ptr(), image.len(), word, other)
+        })
+    }
+
+    /// The coordinator whose handle, which is all zero, is opened so, with two random words.
+    fn opened(
+        open: impl FnOnce(*mut sys::relkvanu, u64, u64) -> sys::relkvanu_answer,
+    ) -> Result<Coordinator, Fault> {
         let opened = Coordinator {
             handle: UnsafeCell::new(sys::relkvanu {
                 state: std::ptr::null_mut(),
@@ -91,19 +119,7 @@ impl Coordinator {
         };
         // the system's random source, which std keeps for its own maps
         let words = RandomState::new();
-        // SAFETY: the handle is all zero; the settings and the slice outlive the call, which keeps none of them.
-        let told = unsafe {
-            sys::relkvanu_open(
-                opened.handle.get(),
-                &settings.into(),
-                shape.as_ptr(),
-                shape.len(),
-                now,
-                first,
-                words.hash_one(0),
-                words.hash_one(1),
-            )
-        };
+        let told = open(opened.handle.get(), words.hash_one(0), words.hash_one(1));
         done(told).map(|_| opened)
     }
 
@@ -218,7 +234,7 @@ impl Coordinator {
     }
 }
 
-/// Reads. None changes anything. All but [`show`](Self::show) and [`count`](Self::count) can't fail.
+/// Reads. None changes anything. All but [`show`](Self::show), [`save`](Self::save) and [`count`](Self::count) can't fail.
 impl Coordinator {
     /// The handle for a read, which takes the state out and puts it back: so it has to be writable, though nothing changes.
     fn read_handle(&self) -> *mut sys::relkvanu {
@@ -227,20 +243,19 @@ impl Coordinator {
 
     /// The metadata of a live record, as JSON (`docs/SCRIPT.md`).
     pub fn show(&self, id: u64) -> Result<String, Fault> {
-        let mut json = vec![0; 1024];
-        loop {
-            // SAFETY: the handle is as the library last left it; `Coordinator` is not `Sync`, so no other call runs. The
-            // buffer is this function's own, and has as many bytes as is said.
-            let told = unsafe {
-                sys::relkvanu_show(self.read_handle(), id, json.as_mut_ptr(), json.len())
-            };
-            if told.code == sys::RELKVANU_TOO_SHORT {
-                json.resize(told.a as usize, 0);
-                continue;
-            }
-            json.truncate(done(told)?.a as usize);
-            return Ok(String::from_utf8_lossy(&json).into_owned());
-        }
+        // SAFETY: the handle is as the library last left it; `Coordinator` is not `Sync`, so no other call runs. The
+        // buffer has as many bytes as is said.
+        text(|json| unsafe {
+            sys::relkvanu_show(self.read_handle(), id, json.as_mut_ptr(), json.len())
+        })
+    }
+
+    /// The image of the coordinator, as JSON (`docs/IMAGE.md`): all of its state.
+    pub fn save(&self) -> Result<String, Fault> {
+        // SAFETY: as in `show`.
+        text(|image| unsafe {
+            sys::relkvanu_save(self.read_handle(), image.as_mut_ptr(), image.len())
+        })
     }
 
     /// How many uses a file has.

@@ -1,7 +1,7 @@
 //! Lines of a script (`docs/SCRIPT.md`): a log of calls, which the library writes and reads.
 use crate::answer::{self, Answer};
 use crate::coordinator::{Coordinator, Settings};
-use crate::fault::{done, Fault};
+use crate::fault::{done, text, Fault};
 use relkvanu_sys as sys;
 use std::error::Error;
 use std::fmt;
@@ -144,20 +144,6 @@ pub fn opening_lines(settings: &Settings, shape: &[u64], now: u64) -> Result<Str
             )
         }
     })
-}
-
-/// What is written into a buffer that is long enough.
-fn text(write: impl Fn(&mut [u8]) -> sys::relkvanu_answer) -> Result<String, Fault> {
-    let mut bytes = vec![0; 256];
-    loop {
-        let told = write(&mut bytes);
-        if told.code == sys::RELKVANU_TOO_SHORT {
-            bytes.resize(told.a as usize, 0);
-            continue;
-        }
-        bytes.truncate(done(told)?.a as usize);
-        return Ok(String::from_utf8_lossy(&bytes).into_owned());
-    }
 }
 
 /// A call, to be logged: its line is read again as this call.

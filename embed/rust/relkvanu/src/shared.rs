@@ -57,6 +57,11 @@ impl SharedCoordinator {
         Coordinator::open(settings, shape, now, first).map(SharedCoordinator::from)
     }
 
+    /// Opens the coordinator that an image tells, as [`Coordinator::open_saved`].
+    pub fn open_saved(image: &[u8]) -> Result<SharedCoordinator, Fault> {
+        Coordinator::open_saved(image).map(SharedCoordinator::from)
+    }
+
     /// The lock. A thread that panics under it leaves the coordinator between two calls, so it is sound all the same.
     fn lock(&self) -> MutexGuard<'_, Inner> {
         self.shared
@@ -167,6 +172,11 @@ impl SharedCoordinator {
 
     pub fn show(&self, id: u64) -> Result<String, Fault> {
         self.read(|it| it.show(id))
+    }
+
+    /// The image of the coordinator: [`Coordinator::save`].
+    pub fn save(&self) -> Result<String, Fault> {
+        self.read(|it| it.save())
     }
 
     pub fn count(&self, file: u64) -> Called {
