@@ -1,9 +1,10 @@
 -- What is saved of a handle's coordinator, and the state that a handle is opened in again.
-use Rattle.std.specs.Prelude.{◌≡◌, ◌≢◌, ¬, ℕ, nat_lt, if◌then◌else◌, List, length, Option, Some, None}
+use Rattle.std.specs.Prelude.{◌≡◌, ◌≢◌, ℕ, nat_lt, if◌then◌else◌, List, length, Option, Some, None}
 use Rattle.core.specs.Str.{IsUtf8}
 use Rattle.ckpt_core.specs.Images.{CanHold, settled}
 use Rattle.ckpt_core.specs.State.{State}
-use Rattle.ckpt_image.specs.Images.{image_bytes, image_read}
+use Rattle.ckpt_image.specs.Images.{image_read}
+use Rattle.ckpt_image.specs.Written.{image_bytes}
 use Rattle.ckpt_embed.specs.declared.answer.Answer.{Answer}
 use Rattle.ckpt_embed.specs.Buffers.{StandsInFront}
 use Rattle.ckpt_embed.specs.Told.{bad_argument, bad_image, done, no_memory, too_short}
@@ -30,8 +31,8 @@ IsOpenedSaved old new bytes answer = (m : State) → old ≡ None → answer.cod
 
 -- a closed handle stays closed where the bytes tell no such state, and says so
 abbrev pub IsNotOpenedSaved : Option State → Option State → List ℕ → Answer → Type 0
-IsNotOpenedSaved old new bytes answer = old ≡ None → answer.code ≢ no_memory → ((m : State) → ¬ (Tells bytes m)) → (answer ≡ bad_argument bad_image) × (new ≡ None)
+IsNotOpenedSaved old new bytes answer = old ≡ None → answer.code ≢ no_memory → ((m : State) → Tells bytes m → ⊥) → (answer ≡ bad_argument bad_image) × (new ≡ None)
 
 -- the bytes tell no such state, unless memory ran out
 abbrev pub IsWhyNotSaved : List ℕ → Answer → Type 0
-IsWhyNotSaved bytes answer = answer.code ≢ no_memory → (answer ≡ bad_argument bad_image) × ((m : State) → ¬ (Tells bytes m))
+IsWhyNotSaved bytes answer = answer.code ≢ no_memory → (answer ≡ bad_argument bad_image) × ((m : State) → Tells bytes m → ⊥)

@@ -1,10 +1,11 @@
 //! A coordinator that is saved into a caller's buffer, and a handle that is opened with what was saved.
 
-ghost use Rattle.std.specs.Prelude.{◌≡◌, ◌≢◌, ¬, None, Some, IfOk, IfErr, length, string_bytes};
+ghost use Rattle.std.specs.Prelude.{◌≡◌, ◌≢◌, None, Some, IfOk, IfErr, length, string_bytes};
 ghost use Rattle.core.specs.Str.{IsUtf8};
 ghost use Rattle.ckpt_core.specs.Images.{settled, state_in};
 ghost use Rattle.ckpt_core.specs.State.{State};
-ghost use Rattle.ckpt_image.specs.Images.{image_bytes, image_read};
+ghost use Rattle.ckpt_image.specs.Images.{image_read};
+ghost use Rattle.ckpt_image.specs.Written.{image_bytes};
 ghost use Rattle.ckpt_embed.specs.Buffers.{StandsInFront};
 ghost use Rattle.ckpt_embed.specs.Calls.{HasNoNumbers, StaysAsItWas, StaysClosed};
 ghost use Rattle.ckpt_embed.specs.Images.{BringsImage, IsNotOpenedSaved, IsOpenedSaved, IsSaveTold, IsWhyNotSaved, Tells, saved_told};

@@ -1,0 +1,4 @@
+pub mod Fits
+pub mod Images
+pub mod Members
+pub mod Written
