@@ -1,30 +1,29 @@
 /* The coordinator of a stream processor's checkpoints.
  *
- * Link librelkvanu.a, which `rt lib` leaves in crates/relkvanu/out, and the three functions
- * rattle_alloc, rattle_realloc and rattle_dealloc over one allocator: embed/c/heap.c is that over
- * malloc. docs/EMBEDDING.md has worked examples; docs/RULES.md says what each call does.
+ * Link librelkvanu.a, which `rt lib` builds in crates/relkvanu/out, and the three functions
+ * rattle_alloc, rattle_realloc and rattle_dealloc over one allocator. embed/c/heap.c has them over
+ * malloc. docs/EMBEDDING.md has worked examples. docs/RULES.md says what each call does.
  *
- * What the caller keeps:
- * - A handle is all zero, or as the library last left it. It is not copied, and its field is not
- *   touched.
- * - One call at a time for each handle. It may move between threads under the engine's own lock.
- * - Each pointer is aligned, and has as many elements as said. A program that includes this header may pass a
- *   null pointer where the length is 0, and may close NULL; no other pointer is null. The symbols of the library
- *   take no null pointer at all, also where a length is 0: a binding that loads them by name passes the address
+ * Conditions for the caller:
+ * - A handle is all zero, or as the library last left it. Do not copy it, and do not touch its field.
+ * - Make one call at a time for each handle. It may move between threads under the engine's own lock.
+ * - Each pointer is aligned, and points to as many elements as the call says. A program that includes this header may
+ *   pass a null pointer with length 0, and may close NULL. No other pointer may be null. The symbols of the library
+ *   take no null pointer at all, not even with length 0: a binding that loads them by name passes the address
  *   of any aligned element there.
- * - What a call writes overlaps nothing else that it is given.
- * - No call from a signal handler.
+ * - A buffer that a call writes overlaps nothing else that the call is given.
+ * - Make no call from a signal handler.
  *
- * The library keeps none of the caller's memory, and hands out none but the handle.
+ * The library keeps no pointer to the caller's memory, and gives the caller no memory but the handle.
  * Moments are milliseconds, at most 2^62 - 1.
  *
- * Whose a file is: a task deletes a file only if no accepted acknowledgement ever named it. A file that an
- * accepted acknowledgement named, also a late one, belongs to the coordinator, which hands it out for deletion
- * once no record uses it. A refused acknowledgement hands nothing over, and takes nothing back: after
+ * Who may delete a file: a task deletes a file only if no accepted acknowledgement ever named it. A file that an
+ * accepted acknowledgement named, even a late one, belongs to the coordinator. The coordinator hands it out for deletion
+ * once no record uses it. A refused acknowledgement hands nothing over and takes nothing back. After
  * RELKVANU_ALREADY_ACKNOWLEDGED and RELKVANU_NAME_TAKEN its files may belong to the coordinator from an earlier one.
  *
- * What a declaration below says of memory: a call that takes none never answers RELKVANU_NO_MEMORY. Each call on a
- * closed handle answers RELKVANU_CLOSED and changes nothing.
+ * Memory: a call that takes no memory never returns RELKVANU_NO_MEMORY. Each call on a closed handle returns
+ * RELKVANU_CLOSED and changes nothing.
  */
 #ifndef RELKVANU_H
 #define RELKVANU_H
@@ -37,7 +36,7 @@
 extern "C" {
 #endif
 
-/* The version of this header. The one constant that rises with each change that a caller sees. */
+/* The version of this header. It rises with each change that a caller sees. */
 #define RELKVANU_VERSION_MAJOR 0
 #define RELKVANU_VERSION_MINOR 1
 #define RELKVANU_VERSION_PATCH 0
@@ -57,14 +56,14 @@ typedef struct {
     uint64_t at_once;    /* 1 to 64 checkpoints that may be pending */
     uint64_t timeout;    /* 1 to 2^40 ms after which a pending record expires */
     uint64_t tolerable;  /* 0 to 1000 failed checkpoints in a row */
-    uint64_t retained;   /* 1 to 1000 completed checkpoints that are kept */
-    bool keep_on_cancel; /* whether they are kept when the job is cancelled */
+    uint64_t retained;   /* 1 to 1000 completed checkpoints to keep */
+    bool keep_on_cancel; /* whether to keep them when the job is cancelled */
 } relkvanu_settings;
 
 typedef struct {
     uint32_t code; /* one of RELKVANU_DONE to RELKVANU_BAD_LINE */
     uint32_t what; /* which reply, refusal or bad argument */
-    uint64_t a, b; /* its numbers, as said at its constant; else 0 */
+    uint64_t a, b; /* its numbers, which the comment of its constant describes; otherwise 0 */
 } relkvanu_answer;
 
 typedef struct {
@@ -74,7 +73,7 @@ typedef struct {
     uint64_t taken;   /* files that were fetched, and are not yet reported */
 } relkvanu_counts;
 
-/* A call by its kind, for relkvanu_call_line. A field that the kind has no use for is not read. */
+/* A call by its kind, for relkvanu_call_line. A field that the kind does not use is not read. */
 typedef struct {
     uint32_t kind;   /* RELKVANU_CALL_TICK to RELKVANU_CALL_COUNT */
     uint16_t vertex; /* with index: the subtask of an ack or a decline */
@@ -86,13 +85,13 @@ typedef struct {
 /* code */
 #define RELKVANU_DONE 0u         /* the call was made: what is a reply */
 #define RELKVANU_REFUSED 1u      /* nothing has changed: what is a refusal */
-#define RELKVANU_NO_MEMORY 2u    /* nothing has changed, what, a and b are 0: make the same call again later */
+#define RELKVANU_NO_MEMORY 2u    /* nothing has changed; what, a and b are 0: make the same call again later */
 #define RELKVANU_CLOSED 3u       /* the handle has no coordinator; what, a and b are 0 */
 #define RELKVANU_BAD_ARGUMENT 4u /* nothing has changed: what is an argument */
-#define RELKVANU_TOO_SHORT 5u    /* nothing has changed: the buffer has to have a places; what and b are 0 */
+#define RELKVANU_TOO_SHORT 5u    /* nothing has changed: the buffer needs a places; what and b are 0 */
 #define RELKVANU_BAD_LINE 6u     /* nothing has changed: what is a fault of a line */
 
-/* what, where code is RELKVANU_DONE */
+/* what, if code is RELKVANU_DONE */
 #define RELKVANU_OPENED 0u
 #define RELKVANU_TICK_TRIGGERED 1u      /* a: expired records, b: number */
 #define RELKVANU_TICK_HELD_INTERVAL 2u  /* a: expired records */
@@ -111,13 +110,13 @@ typedef struct {
 #define RELKVANU_RESTORED_SAVEPOINT 15u  /* a: files released, b: number */
 #define RELKVANU_RESTORED_FRESH 16u      /* a: files released */
 #define RELKVANU_CANCELLED 17u           /* a: records dropped, b: files released */
-#define RELKVANU_TAKEN 18u               /* a: files at the buffer's front */
+#define RELKVANU_TAKEN 18u               /* a: files at the start of the buffer */
 #define RELKVANU_DELETED 19u             /* a: file */
 #define RELKVANU_UNDELETED 20u           /* a: file */
-#define RELKVANU_SHOWN 21u               /* a: bytes at the buffer's front */
+#define RELKVANU_SHOWN 21u               /* a: bytes at the start of the buffer */
 #define RELKVANU_COUNTED 22u             /* a: file, b: uses */
 
-/* what, where a read is RELKVANU_DONE */
+/* what, if a read is RELKVANU_DONE */
 #define RELKVANU_MODE_RUNNING 23u
 #define RELKVANU_MODE_FAILED 24u    /* too many checkpoints failed in a row: the job is to be restored */
 #define RELKVANU_MODE_CANCELLED 25u /* the job has ended for good */
@@ -127,26 +126,23 @@ typedef struct {
 #define RELKVANU_CHOICE_CHECKPOINT 29u /* a: number */
 #define RELKVANU_CHOICE_SAVEPOINT 30u  /* a: number */
 #define RELKVANU_CHOICE_FRESH 31u
-#define RELKVANU_LIVE_CHECKPOINT 32u /* a: number, b: 1 where it is done, 0 where it is pending */
-#define RELKVANU_LIVE_SAVEPOINT 33u  /* a: number, b: 1 where it is done, 0 where it is pending */
-#define RELKVANU_LIVE_NONE 34u       /* so many records are not live */
+#define RELKVANU_LIVE_CHECKPOINT 32u /* a: number, b: 1 if it is done, 0 if it is pending */
+#define RELKVANU_LIVE_SAVEPOINT 33u  /* a: number, b: 1 if it is done, 0 if it is pending */
+#define RELKVANU_LIVE_NONE 34u       /* there are fewer live records */
 #define RELKVANU_MISSING 35u         /* a: subtasks */
 #define RELKVANU_NOT_PENDING 36u
 
-/* what, where a line of a script is RELKVANU_DONE */
-#define RELKVANU_SKIPPED 37u     /* the line makes no call, since it has no words or is a comment */
+/* what, if a line of a script is RELKVANU_DONE */
+#define RELKVANU_SKIPPED 37u     /* the line makes no call: it has no words or is a comment */
 #define RELKVANU_LINE_SKIP 38u   /* a: 0 */
-#define RELKVANU_LINE_CONFIG 39u /* a: 7, the numbers at the buffer's front: those of relkvanu_settings, in its order */
-#define RELKVANU_LINE_JOB 40u    /* a: the numbers at the buffer's front: the parallelism of each vertex */
-#define RELKVANU_LINE_START 41u  /* a: 1, the number at the buffer's front: the moment */
+#define RELKVANU_LINE_CONFIG 39u /* a: 7, the numbers at the start of the buffer: those of relkvanu_settings, in its order */
+#define RELKVANU_LINE_JOB 40u    /* a: how many numbers are at the start of the buffer: the parallelism of each vertex */
+#define RELKVANU_LINE_START 41u  /* a: 1, the number at the start of the buffer: the moment */
 #define RELKVANU_LINE_CALL 42u   /* a: 0 */
-#define RELKVANU_LINE_ALL 43u    /* a: 4, the numbers at the buffer's front: moment, record, threads, first file */
-#define RELKVANU_WRITTEN 44u     /* a: bytes at the buffer's front */
+#define RELKVANU_LINE_ALL 43u    /* a: 4, the numbers at the start of the buffer: moment, record, threads, first file */
+#define RELKVANU_WRITTEN 44u     /* a: bytes at the start of the buffer */
 
-/* what, where a save is RELKVANU_DONE */
-#define RELKVANU_SAVED 45u /* a: bytes at the buffer's front */
-
-/* what, where code is RELKVANU_REFUSED; they are tested in this order */
+/* what, if code is RELKVANU_REFUSED; they are checked in this order */
 #define RELKVANU_MOMENT_TOO_LARGE 1u
 #define RELKVANU_NOT_RUNNING 2u
 #define RELKVANU_TOO_MANY_FILES 3u
@@ -163,7 +159,7 @@ typedef struct {
 #define RELKVANU_NO_SUCH_RECORD 14u
 #define RELKVANU_IDS_USED_UP 15u
 
-/* what, where code is RELKVANU_BAD_ARGUMENT */
+/* what, if code is RELKVANU_BAD_ARGUMENT */
 #define RELKVANU_ALREADY_OPEN 1u
 #define RELKVANU_BAD_CONFIG 2u
 #define RELKVANU_BAD_SHAPE 3u
@@ -172,12 +168,12 @@ typedef struct {
 #define RELKVANU_BAD_KIND 6u
 #define RELKVANU_BAD_IMAGE 7u /* the bytes are no image, or no coordinator can be in the state that it tells */
 
-/* what, where code is RELKVANU_BAD_LINE: the first fault from the left */
+/* what, if code is RELKVANU_BAD_LINE: the first fault from the left */
 #define RELKVANU_FAULT_TOO_LONG 1u /* a line has at most 131072 bytes */
 #define RELKVANU_FAULT_WORD 2u     /* a word that does not belong there */
-#define RELKVANU_FAULT_MISSING 3u  /* the line ends before a place that it needs */
+#define RELKVANU_FAULT_MISSING 3u  /* the line ends before a word that it needs */
 #define RELKVANU_FAULT_NUMBER 4u   /* not a number, or not a subtask */
-#define RELKVANU_FAULT_EXTRA 5u    /* a word follows the last place */
+#define RELKVANU_FAULT_EXTRA 5u    /* a word follows the last one */
 #define RELKVANU_FAULT_NO_CALL 6u  /* a config, job, start or all line: it was read, and makes no call */
 
 /* kind of a call */
@@ -194,38 +190,38 @@ typedef struct {
 #define RELKVANU_CALL_SHOW 11u
 #define RELKVANU_CALL_COUNT 12u
 
-/* Gives a closed handle a coordinator, from the moment now on, whose first record has the number
- * first, 1 to 2^62 - 1. The shape is the parallelism of each vertex: 1 to 256, at least 1 each, at
- * most 4096 in sum. The two words come from a source of random numbers: they key the maps of files,
- * so that no choice of file numbers makes calls slow. They change no answer.
+/* Opens a coordinator in a closed handle, from the moment now on. Its first record has the number first, 1 to 2^62 - 1.
+ * The shape is the parallelism of each vertex: 1 to 256 vertices, at least 1 each, at most 4096 in sum. Take the two words
+ * from a source of random numbers: they key the maps of files, so that no choice of file numbers makes calls slow. They
+ * change no answer.
  *
  * RELKVANU_OPENED; or RELKVANU_BAD_ARGUMENT, and the handle stays as it was: RELKVANU_ALREADY_OPEN,
- * RELKVANU_BAD_CONFIG, RELKVANU_BAD_SHAPE, RELKVANU_BAD_MOMENT, RELKVANU_BAD_FIRST, tested in this order. Takes memory: after
+ * RELKVANU_BAD_CONFIG, RELKVANU_BAD_SHAPE, RELKVANU_BAD_MOMENT, RELKVANU_BAD_FIRST, checked in this order. Takes memory: after
  * RELKVANU_NO_MEMORY the handle is closed, as before. */
 relkvanu_answer relkvanu_open(relkvanu *handle, const relkvanu_settings *settings, const uint64_t *shape, size_t shape_len, uint64_t now, uint64_t first, uint64_t first_word, uint64_t second_word);
 
-/* Lets the coordinator go, and frees its memory. A closed handle stays closed. */
+/* Closes the coordinator and frees its memory. A closed handle stays closed. */
 void relkvanu_close(relkvanu *handle);
 
-/* Time has passed: records that are too old expire, and a checkpoint is triggered where one is due.
+/* Time has passed: records that are too old expire, and a checkpoint is triggered if one is due.
  *
  * RELKVANU_TICK_TRIGGERED to RELKVANU_TICK_FAILED. Refused: RELKVANU_MOMENT_TOO_LARGE, RELKVANU_NOT_RUNNING, RELKVANU_IDS_USED_UP.
  * Takes memory only where it triggers. */
 relkvanu_answer relkvanu_tick(relkvanu *handle, uint64_t now);
 
-/* Triggers a savepoint, of which at most 1000 are pending or done.
+/* Triggers a savepoint. At most 1000 savepoints are pending or done.
  *
  * RELKVANU_SAVEPOINT_TRIGGERED. Refused: RELKVANU_MOMENT_TOO_LARGE, RELKVANU_NOT_RUNNING, RELKVANU_TOO_MANY_SAVEPOINTS,
  * RELKVANU_IDS_USED_UP. Takes memory. */
 relkvanu_answer relkvanu_savepoint(relkvanu *handle, uint64_t now);
 
 /* The subtask vertex.index has taken its part of record id: fresh are the files that it wrote, reused those of an
- * earlier record that it uses again, at most 4096 together. They may stand in any order.
+ * earlier record that it uses again, at most 4096 together, in any order.
  *
  * RELKVANU_ACK_PENDING, RELKVANU_ACK_COMPLETED or RELKVANU_ACK_LATE: the fresh files belong to the coordinator now. Refused:
  * RELKVANU_MOMENT_TOO_LARGE, RELKVANU_TOO_MANY_FILES, RELKVANU_REPEATED_FILE, RELKVANU_UNKNOWN_CHECKPOINT, RELKVANU_UNKNOWN_SUBTASK,
- * RELKVANU_ALREADY_ACKNOWLEDGED, RELKVANU_NAME_TAKEN, RELKVANU_FILE_GONE: then the task deletes none of the files that an accepted
- * acknowledgement ever named. Takes memory for a copy of the two lists first, so it may answer RELKVANU_NO_MEMORY also
+ * RELKVANU_ALREADY_ACKNOWLEDGED, RELKVANU_NAME_TAKEN, RELKVANU_FILE_GONE: then the task deletes no file that an accepted
+ * acknowledgement ever named. First copies the two lists, which takes memory, so it may return RELKVANU_NO_MEMORY even
  * where it would be refused. */
 relkvanu_answer relkvanu_ack(relkvanu *handle, uint64_t now, uint64_t id, uint16_t vertex, uint16_t index, const uint64_t *fresh, size_t fresh_len, const uint64_t *reused, size_t reused_len);
 
@@ -235,17 +231,17 @@ relkvanu_answer relkvanu_ack(relkvanu *handle, uint64_t now, uint64_t id, uint16
  * RELKVANU_MOMENT_TOO_LARGE, RELKVANU_UNKNOWN_CHECKPOINT, RELKVANU_UNKNOWN_SUBTASK. Takes no memory. */
 relkvanu_answer relkvanu_decline(relkvanu *handle, uint64_t now, uint64_t id, uint16_t vertex, uint16_t index);
 
-/* A user lets the completed savepoint id go.
+/* A user disposes of the completed savepoint id.
  *
  * RELKVANU_DISPOSED. Refused: RELKVANU_NO_SUCH_SAVEPOINT, RELKVANU_IN_USE. Takes no memory. */
 relkvanu_answer relkvanu_dispose(relkvanu *handle, uint64_t id);
 
-/* The job begins again: from a savepoint, or from the latest where savepoint is 0; in a new shape where
- * shape_len is not 0, with the limits of relkvanu_open, else in the shape that it has.
+/* The job begins again: from a savepoint, or from the latest record if savepoint is 0. With shape_len above 0 it
+ * begins in a new shape, within the limits of relkvanu_open, otherwise in its current shape.
  *
- * RELKVANU_RESTORED_CHECKPOINT, RELKVANU_RESTORED_SAVEPOINT or RELKVANU_RESTORED_FRESH. RELKVANU_BAD_ARGUMENT with RELKVANU_BAD_SHAPE is tested
- * first. Refused: RELKVANU_MOMENT_TOO_LARGE, RELKVANU_NOT_RUNNING (cancelled), RELKVANU_NO_SUCH_SAVEPOINT. Takes memory for a copy of
- * the shape first, so it may answer RELKVANU_NO_MEMORY also where it would be refused; without a shape it takes none. */
+ * RELKVANU_RESTORED_CHECKPOINT, RELKVANU_RESTORED_SAVEPOINT or RELKVANU_RESTORED_FRESH. RELKVANU_BAD_ARGUMENT with RELKVANU_BAD_SHAPE is checked
+ * first. Refused: RELKVANU_MOMENT_TOO_LARGE, RELKVANU_NOT_RUNNING (cancelled), RELKVANU_NO_SUCH_SAVEPOINT. First copies the shape, which
+ * takes memory, so it may return RELKVANU_NO_MEMORY even where it would be refused. Without a shape it takes none. */
 relkvanu_answer relkvanu_restore(relkvanu *handle, uint64_t now, uint64_t savepoint, const uint64_t *shape, size_t shape_len);
 
 /* The job ends for good.
@@ -253,10 +249,10 @@ relkvanu_answer relkvanu_restore(relkvanu *handle, uint64_t now, uint64_t savepo
  * RELKVANU_CANCELLED. Refused: RELKVANU_MOMENT_TOO_LARGE, RELKVANU_NOT_RUNNING (cancelled). Takes no memory. */
 relkvanu_answer relkvanu_cancel(relkvanu *handle, uint64_t now);
 
-/* Fetches at most files_len files that wait for deletion, those that have waited longest, and writes them to the
- * front of files. Each is to be reported, by relkvanu_deleted or relkvanu_undeleted.
+/* Fetches at most files_len files that wait for deletion, the longest waiting first, and writes them to the
+ * start of files. Report each one by relkvanu_deleted or relkvanu_undeleted.
  *
- * RELKVANU_TAKEN, where a is 0 if none waits. Never refused. Takes memory: after RELKVANU_NO_MEMORY the files still
+ * RELKVANU_TAKEN; a is 0 if no file waits. Never refused. Takes memory: after RELKVANU_NO_MEMORY the files still
  * wait, and the buffer has not changed. */
 relkvanu_answer relkvanu_take(relkvanu *handle, uint64_t *files, size_t files_len);
 
@@ -272,103 +268,88 @@ relkvanu_answer relkvanu_undeleted(relkvanu *handle, uint64_t file);
 
 /* Writes the metadata of a live record as JSON, without a zero at its end.
  *
- * RELKVANU_SHOWN; RELKVANU_TOO_SHORT, where a is how many bytes it has: ask again with a buffer of that many. Refused:
- * RELKVANU_NO_SUCH_RECORD. Takes memory, also where the buffer is too short. Only RELKVANU_SHOWN changes the buffer. */
+ * RELKVANU_SHOWN; or RELKVANU_TOO_SHORT, and a is its number of bytes: call again with a buffer of that many. Refused:
+ * RELKVANU_NO_SUCH_RECORD. Takes memory, even if the buffer is too short. Only RELKVANU_SHOWN changes the buffer. */
 relkvanu_answer relkvanu_show(relkvanu *handle, uint64_t id, uint8_t *json, size_t json_len);
 
-/* How many parts of live records use a file.
+/* The number of uses of a file, by acknowledgements and pins of live records.
  *
  * RELKVANU_COUNTED. Never refused. Takes no memory. */
 relkvanu_answer relkvanu_count(relkvanu *handle, uint64_t file);
 
-/* Reads. None takes memory or changes anything; on an open handle each is RELKVANU_DONE. */
+/* Reads. None takes memory or changes anything. On an open handle each returns RELKVANU_DONE. */
 
-/* What the job is doing: RELKVANU_MODE_RUNNING and so on. */
+/* What the job is doing: RELKVANU_MODE_RUNNING, RELKVANU_MODE_FAILED or RELKVANU_MODE_CANCELLED. */
 relkvanu_answer relkvanu_mode(relkvanu *handle);
 
 /* RELKVANU_DUE: the moment from which neither the interval nor the pause holds a checkpoint back. No
- * tick before it triggers one. A tick at it or later triggers one, unless as many are pending as may be,
- * the job does not run, or too many checkpoints expire in it, so that the job fails over. A call that
- * triggers, completes or restores moves it: ask again after a call. */
+ * tick before it triggers one. A tick at it or later triggers one, with three exceptions: as many are pending as may
+ * be, the job is not running, or so many checkpoints expire in the tick that the job fails over. A call that
+ * triggers, completes or restores moves this moment: read it again after a call. */
 relkvanu_answer relkvanu_due(relkvanu *handle);
 
-/* RELKVANU_EXPIRES: the moment from which a pending record is expired; a tick at it ends the record.
- * RELKVANU_NONE_PENDING where there is none. Looks at each pending record. */
+/* RELKVANU_EXPIRES: the moment from which a pending record is expired. A tick at that moment drops the record.
+ * RELKVANU_NONE_PENDING if no record is pending. Visits each pending record. */
 relkvanu_answer relkvanu_oldest_expiry(relkvanu *handle);
 
-/* The record that a restore of the latest would begin from: RELKVANU_CHOICE_CHECKPOINT and so on. */
+/* The record that a restore of the latest would begin from: RELKVANU_CHOICE_CHECKPOINT, RELKVANU_CHOICE_SAVEPOINT or
+ * RELKVANU_CHOICE_FRESH. */
 relkvanu_answer relkvanu_choice(relkvanu *handle);
 
-/* The live record at this place, from 0, where they stand in rising number: RELKVANU_LIVE_CHECKPOINT or
- * RELKVANU_LIVE_SAVEPOINT; RELKVANU_LIVE_NONE past the last. Searches for each record before it too. */
+/* The live record at this place, from 0, in order of their numbers: RELKVANU_LIVE_CHECKPOINT or
+ * RELKVANU_LIVE_SAVEPOINT; RELKVANU_LIVE_NONE past the last. Its time grows with the place. */
 relkvanu_answer relkvanu_live(relkvanu *handle, size_t place);
 
-/* RELKVANU_MISSING: how many subtasks of this record have not acknowledged. RELKVANU_NOT_PENDING where
- * no record of this number is pending. */
+/* RELKVANU_MISSING: how many subtasks of this record have not acknowledged. RELKVANU_NOT_PENDING if no record with this
+ * number is pending. */
 relkvanu_answer relkvanu_missing(relkvanu *handle, uint64_t id);
 
-/* How many files live records use, wait for deletion, and were fetched for it. */
+/* How many files are in use by live records, wait for deletion, and were fetched for deletion. */
 relkvanu_counts relkvanu_file_counts(relkvanu *handle);
 
-/* The name of the refusal with this number, as "NotRunning", without a zero at its end: its length,
- * which is 0 where no refusal has the number. It is written where text_len is at least that. */
+/* Returns the length of the name of the refusal with this number, such as "NotRunning", or 0 if no refusal has the
+ * number. Writes the name, without a zero at its end, if text_len is at least the length. */
 size_t relkvanu_refusal_text(uint32_t what, uint8_t *text, size_t text_len);
 
-/* Lines of a script, which docs/SCRIPT.md defines: for a log of calls that is replayed, and for programs that read scripts. A
- * line is the bytes before its newline, at most 131072 of them; a carriage return at its end is dropped. There is no
- * limit of how many lines a log has. */
+/* Lines of a script, which docs/SCRIPT.md defines: to replay a log of calls, and for programs that read scripts. A
+ * line is the bytes before its newline, at most 131072. A carriage return at its end is dropped. A log may have any
+ * number of lines. */
 
-/* Makes the call that a line says, and answers as the function of that call does.
+/* Makes the call of a line, and returns what the function of that call returns.
  *
- * A take line writes at most as many files as it says to the front of files; where files_len is below what it would
- * fetch, the answer is RELKVANU_TOO_SHORT, where a is how many places it needs, and nothing has changed. A show line answers as
- * relkvanu_show with an empty buffer. A restore line in a shape that no job has is RELKVANU_BAD_ARGUMENT with RELKVANU_BAD_SHAPE.
- * RELKVANU_SKIPPED where the line has no words or is a comment; RELKVANU_BAD_LINE where it can't be read, or makes no call.
- * Only RELKVANU_TAKEN changes the buffer. Takes memory as the call does, and for the lists of an ack, job or restore line,
- * so that such a line may answer RELKVANU_NO_MEMORY also where the call would be refused. */
+ * A take line writes the files that it fetches to the start of files. If it would fetch more than files_len, the
+ * answer is RELKVANU_TOO_SHORT, a is how many places it needs, and nothing has changed. A show line returns what
+ * relkvanu_show returns with an empty buffer. A restore line with a bad shape is RELKVANU_BAD_ARGUMENT with RELKVANU_BAD_SHAPE.
+ * RELKVANU_SKIPPED if the line has no words or is a comment; RELKVANU_BAD_LINE if it can't be read, or makes no call.
+ * Only RELKVANU_TAKEN changes the buffer. Takes memory as the call does, and for the lists of an ack, job or restore line.
+ * So such a line may return RELKVANU_NO_MEMORY even where the call would be refused. */
 relkvanu_answer relkvanu_line(relkvanu *handle, const uint8_t *line, size_t line_len, uint64_t *files, size_t files_len);
 
-/* Tells which line it is, RELKVANU_LINE_SKIP to RELKVANU_LINE_ALL, and writes the numbers of a line that makes no call to the front
- * of numbers, in the line's order; keep is 1 and delete is 0. No number is tested against the limits of a job.
+/* Returns which line it is, RELKVANU_LINE_SKIP to RELKVANU_LINE_ALL, and writes the numbers of a line that makes no call to the start
+ * of numbers, in the line's order; keep is 1 and delete is 0. Checks no number against the limits of a job.
  *
- * RELKVANU_TOO_SHORT, where a is how many places it needs; RELKVANU_BAD_LINE with the fault. Both leave the buffer. A restore line in
- * a shape that no job has is RELKVANU_LINE_CALL: relkvanu_line says what is wrong with it. Takes memory for the lists of an
- * ack, job or restore line alone. */
+ * RELKVANU_TOO_SHORT, and a is how many places it needs; or RELKVANU_BAD_LINE with the fault. Neither changes the buffer. A restore
+ * line with a bad shape is RELKVANU_LINE_CALL: relkvanu_line says what is wrong with it. Takes memory only for the lists of an
+ * ack, job or restore line. */
 relkvanu_answer relkvanu_line_says(const uint8_t *line, size_t line_len, uint64_t *numbers, size_t numbers_len);
 
-/* Writes the line of a call, without a newline and without a zero at its end. What is written is read as that call.
+/* Writes the line of a call, without a newline and without a zero at its end. relkvanu_line reads it as that call.
  *
- * first and second are the fresh and the reused files of an ack, in any order; first is the new shape of a restore, or
- * empty. RELKVANU_WRITTEN; RELKVANU_TOO_SHORT, where a is how many bytes it needs; RELKVANU_BAD_ARGUMENT with RELKVANU_BAD_KIND or
- * RELKVANU_BAD_SHAPE; RELKVANU_BAD_LINE with RELKVANU_FAULT_TOO_LONG where no line may be as long: it is never cut. Only RELKVANU_WRITTEN
+ * For an ack, first and second are the fresh and the reused files, in any order. For a restore, first is the new shape, or
+ * empty. RELKVANU_WRITTEN; RELKVANU_TOO_SHORT, and a is how many bytes it needs; RELKVANU_BAD_ARGUMENT with RELKVANU_BAD_KIND or
+ * RELKVANU_BAD_SHAPE; RELKVANU_BAD_LINE with RELKVANU_FAULT_TOO_LONG if the line would be too long: it is never cut. Only RELKVANU_WRITTEN
  * changes the buffer. Takes memory. */
 relkvanu_answer relkvanu_call_line(const relkvanu_call *call, const uint64_t *first, size_t first_len, const uint64_t *second, size_t second_len, uint8_t *line, size_t line_len);
 
-/* Writes the lines config, job and start of a coordinator that begins with the number 1, each with its newline.
+/* Writes the lines config, job and start of a coordinator whose first record has the number 1, each with its newline.
  *
- * RELKVANU_WRITTEN; RELKVANU_TOO_SHORT, where a is how many bytes it needs; RELKVANU_BAD_ARGUMENT where relkvanu_open answers so, with
+ * RELKVANU_WRITTEN; RELKVANU_TOO_SHORT, and a is how many bytes it needs; RELKVANU_BAD_ARGUMENT where relkvanu_open returns it, with
  * the same argument: RELKVANU_BAD_CONFIG, RELKVANU_BAD_SHAPE or RELKVANU_BAD_MOMENT. Only RELKVANU_WRITTEN changes the buffer. Takes
  * memory. */
 relkvanu_answer relkvanu_opening_lines(const relkvanu_settings *settings, const uint64_t *shape, size_t shape_len, uint64_t now, uint8_t *lines, size_t lines_len);
 
-/* Images: a coordinator that is saved, and opened again. docs/IMAGE.md has the format. */
-
-/* Writes the image of the coordinator as JSON, without a zero at its end: all of its state. A handle that is opened with it
- * answers every list of calls as this one would.
- *
- * RELKVANU_SAVED; RELKVANU_TOO_SHORT, where a is how many bytes it has: ask again with a buffer of that many. Changes nothing but
- * the buffer, and only RELKVANU_SAVED changes that. Takes memory, also where the buffer is too short. */
-relkvanu_answer relkvanu_save(relkvanu *handle, uint8_t *image, size_t image_len);
-
-/* Gives a closed handle the coordinator that an image tells. The two words are those of relkvanu_open: they need not be the
- * ones of the coordinator that was saved.
- *
- * RELKVANU_OPENED; or RELKVANU_BAD_ARGUMENT, and the handle stays as it was: RELKVANU_ALREADY_OPEN, RELKVANU_BAD_IMAGE. Takes memory: after
- * RELKVANU_NO_MEMORY the handle is closed, as before. */
-relkvanu_answer relkvanu_open_saved(relkvanu *handle, const uint8_t *image, size_t image_len, uint64_t first_word, uint64_t second_word);
-
-/* Null pointers. The symbols of the library take none. A program that includes this header calls these functions by
- * the symbols' names: an empty list or buffer is never passed on, only the address of an element that nobody reads. */
+/* Null pointers. The symbols of the library take none. A program that includes this header calls the functions below by
+ * the symbols' names. For an empty list or buffer they pass the address of an element that nobody reads. */
 
 static inline const uint64_t *relkvanu_list_of(const uint64_t *list, size_t len) {
     static const uint64_t none = 0;

@@ -1,9 +1,9 @@
 /* The coordinator of a stream processor's checkpoints, for C++17: a coordinator that owns its handle, answers as std::variant,
- * refusals as std::error_code. It stands over relkvanu.h, which says what each call does and what a caller keeps; the namespace
- * is ckpt, since C has the name relkvanu.
+ * and refusals as std::error_code. It uses relkvanu.h, which says what each call does, and the conditions for the caller. The
+ * namespace is ckpt, because C has the name relkvanu.
  *
- * One call at a time for each coordinator, reads among them: a read takes the state out of its handle and puts it back, so reads
- * are not const. Threads share one under the engine's own mutex. Nothing here throws but std::bad_alloc, from show and messages.
+ * Make one call or read at a time for each coordinator. A read takes the state out of its handle and puts it back, so reads
+ * are not const. Threads share a coordinator under the engine's own mutex. Only std::bad_alloc is thrown, by show and messages.
  */
 #ifndef RELKVANU_HPP
 #define RELKVANU_HPP
@@ -24,7 +24,7 @@
 
 namespace ckpt {
 
-/* A run of elements that somebody else owns: std::span is C++20's. An empty one may have no address. */
+/* A sequence of elements that somebody else owns, since std::span needs C++20. An empty one may have no address. */
 template <class T> class span {
 public:
     constexpr span() noexcept = default;
@@ -65,15 +65,14 @@ enum class error : int {
     not_taken = RELKVANU_REFUSED << 8 | RELKVANU_NOT_TAKEN,
     no_such_record = RELKVANU_REFUSED << 8 | RELKVANU_NO_SUCH_RECORD,
     ids_used_up = RELKVANU_REFUSED << 8 | RELKVANU_IDS_USED_UP,
-    no_memory = RELKVANU_NO_MEMORY << 8, /* the same call can be made again */
+    no_memory = RELKVANU_NO_MEMORY << 8, /* make the same call again */
     closed = RELKVANU_CLOSED << 8,       /* the coordinator was moved from */
     bad_config = RELKVANU_BAD_ARGUMENT << 8 | RELKVANU_BAD_CONFIG,
     bad_shape = RELKVANU_BAD_ARGUMENT << 8 | RELKVANU_BAD_SHAPE,
     bad_moment = RELKVANU_BAD_ARGUMENT << 8 | RELKVANU_BAD_MOMENT,
     bad_first = RELKVANU_BAD_ARGUMENT << 8 | RELKVANU_BAD_FIRST,
     bad_kind = RELKVANU_BAD_ARGUMENT << 8 | RELKVANU_BAD_KIND,
-    bad_image = RELKVANU_BAD_ARGUMENT << 8 | RELKVANU_BAD_IMAGE,
-    too_short = RELKVANU_TOO_SHORT << 8, /* the buffer has to have more places */
+    too_short = RELKVANU_TOO_SHORT << 8, /* the buffer needs more places */
     line_too_long = RELKVANU_BAD_LINE << 8 | RELKVANU_FAULT_TOO_LONG,
     line_word = RELKVANU_BAD_LINE << 8 | RELKVANU_FAULT_WORD,
     line_missing = RELKVANU_BAD_LINE << 8 | RELKVANU_FAULT_MISSING,
@@ -129,8 +128,8 @@ inline std::error_code make_error_code(error it) noexcept {
     return std::error_code(static_cast<int>(it), error_category());
 }
 
-/* Nothing has changed. The file is that to blame for name_taken and file_gone, else 0; places are those that a buffer has to have
- * where it is too_short, else 0. */
+/* Nothing has changed. For name_taken and file_gone, file is the one to blame, otherwise 0. For too_short, places is how many a
+ * buffer needs, otherwise 0. */
 struct refused {
     std::error_code why;
     std::uint64_t file = 0, places = 0;
@@ -146,13 +145,13 @@ struct triggered { std::uint64_t expired, id; };
 struct held_interval { std::uint64_t expired; };
 struct held_at_once { std::uint64_t expired; };
 struct held_pause { std::uint64_t expired; };
-struct failed { std::uint64_t expired; }; /* the job fails over, and is to be restored */
+struct failed { std::uint64_t expired; }; /* the job fails over: restore it */
 struct savepoint_triggered { std::uint64_t id; };
 struct ack_pending { std::uint64_t missing; };
 struct ack_completed { std::uint64_t dropped, released; };
 struct ack_late { std::uint64_t handed_out; };
 struct decline_aborted { std::uint64_t released; };
-struct decline_failed { std::uint64_t released; }; /* the job fails over, and is to be restored */
+struct decline_failed { std::uint64_t released; }; /* the job fails over: restore it */
 struct decline_late {};
 struct disposed { std::uint64_t released; };
 struct cancelled { std::uint64_t dropped, released; };
@@ -165,7 +164,7 @@ struct fresh {};
 using choice = std::variant<fresh, checkpoint, savepoint>;
 struct restored { choice from; std::uint64_t released; };
 
-/* The answer of each call: the last alternative is that nothing has changed. */
+/* The answer to each call. The last alternative says that nothing has changed. */
 using tick_answer = std::variant<triggered, held_interval, held_at_once, held_pause, failed, refused>;
 using savepoint_answer = std::variant<savepoint_triggered, refused>;
 using ack_answer = std::variant<ack_pending, ack_completed, ack_late, refused>;
@@ -190,25 +189,10 @@ struct live_record {
     bool is_savepoint, is_done;
 };
 
-/* What is written into a buffer that is long enough. */
-template <class Write> text_answer written(Write write) {
-    std::string text(256, '\0');
-    relkvanu_answer told = write(reinterpret_cast<std::uint8_t *>(text.data()), text.size());
-    while (told.code == RELKVANU_TOO_SHORT) {
-        text.resize(static_cast<std::size_t>(told.a));
-        told = write(reinterpret_cast<std::uint8_t *>(text.data()), text.size());
-    }
-    if (told.code != RELKVANU_DONE) {
-        return refusal(told);
-    }
-    text.resize(static_cast<std::size_t>(told.a));
-    return text;
-}
-
-/* The coordinator of one job. One that was moved from is closed: its calls are refused as error::closed, and it has no reads. */
+/* The coordinator of one job. A moved-from one is closed: its calls are refused as error::closed, and it has no reads. */
 class Coordinator {
 public:
-    /* Opens one, whose first record has the number first: 1 for a new job, else one above each that was given before. */
+    /* Opens a coordinator. Its first record has the number first: 1 for a new job, otherwise one above all earlier numbers. */
     static std::variant<Coordinator, refused> open(const relkvanu_settings &settings, shape of, std::uint64_t now, std::uint64_t first = 1) {
         return opened([&](relkvanu *handle, std::uint64_t word, std::uint64_t other) {
             return relkvanu_open(handle, &settings, of.data(), of.size(), now, first, word, other);
@@ -257,8 +241,8 @@ public:
         return told.code == RELKVANU_DONE ? savepoint_answer(savepoint_triggered{told.a}) : refusal(told);
     }
 
-    /* Where it is refused, the task deletes a file only if no accepted acknowledgement ever named it: not after
-     * already_acknowledged, and after name_taken not those that were named before. */
+    /* If it is refused, the task deletes a file only if no accepted acknowledgement ever named it: none after
+     * already_acknowledged, and after name_taken none that it named before. */
     ack_answer ack(std::uint64_t now, std::uint64_t id, std::uint16_t vertex, std::uint16_t index, files fresh, files reused = {}) {
         relkvanu_answer told = relkvanu_ack(&handle_, now, id, vertex, index, fresh.data(), fresh.size(), reused.data(), reused.size());
         if (told.code != RELKVANU_DONE) {
@@ -288,7 +272,7 @@ public:
         return told.code == RELKVANU_DONE ? dispose_answer(disposed{told.a}) : refusal(told);
     }
 
-    /* From the latest, in the shape that the job has, or in another where one is given. A bad shape is told before any refusal. */
+    /* From the latest record, in the current shape or a given one. A bad shape is reported before any refusal. */
     restore_answer restore(std::uint64_t now, shape of = {}) { return restore_from(now, 0, of); }
 
     /* Rolls back to a savepoint. There is none of number 0. */
@@ -324,8 +308,8 @@ public:
         return written([&](std::uint8_t *image, std::size_t len) { return relkvanu_save(&handle_, image, len); });
     }
 
-    /* Makes the call that a line of a script says (docs/SCRIPT.md): the bytes before its newline. A take line fetches into the buffer;
-     * where it would fetch more than there are places for, it is refused as error::too_short. */
+    /* Makes the call of a script's line (docs/SCRIPT.md): the bytes before its newline. A take line fetches into the buffer. If it
+     * would fetch more than the buffer has places, it is refused as error::too_short. */
     line_answer line(std::string_view text, span<std::uint64_t> buffer = {}) {
         relkvanu_answer told = relkvanu_line(&handle_, reinterpret_cast<const std::uint8_t *>(text.data()), text.size(), buffer.data(), buffer.size());
         if (told.code == RELKVANU_TOO_SHORT && text.find("show") != text.npos) {
@@ -342,7 +326,7 @@ public:
         }
     }
 
-    /* Reads, of one that is not closed. */
+    /* Reads. The coordinator must not be closed. */
 
     std::uint64_t count(std::uint64_t file) { return read(relkvanu_count(&handle_, file)).b; }
 
@@ -361,8 +345,8 @@ public:
         return told.what == RELKVANU_EXPIRES ? std::optional(told.a) : std::nullopt;
     }
 
-    /* When to tick next, after a tick that answered this and unless another call comes before: when a checkpoint is due or a pending
-     * record expires. While as many are pending as may be, at the expiry alone; none where nothing changes before a call does. */
+    /* The moment of the next tick after a tick with this answer, unless another call comes first: when a checkpoint is due or a
+     * pending record expires. While as many are pending as may be, it is the expiry. None if nothing changes before the next call. */
     std::optional<std::uint64_t> next_tick(const tick_answer &ticked) {
         if (mode() != ckpt::mode::running) {
             return std::nullopt;
@@ -419,7 +403,7 @@ private:
         return std::variant<Coordinator, refused>(std::move(it));
     }
 
-    /* The number of a line that has one, which the library has read. */
+    /* The number of a line that has one. The library has read the line. */
     static std::uint64_t number_in(std::string_view text) {
         std::uint64_t number = 0;
         for (char each : text) {
@@ -450,15 +434,30 @@ private:
     }
 };
 
-/* The line of a call, without a newline. First are the fresh files of an ack or the shape of a restore, second the reused files. One
- * that would be longer than a line may be is refused as error::line_too_long: none is cut. */
+/* The result of writing into a buffer that is long enough. */
+template <class Write> text_answer written(Write write) {
+    std::string text(256, '\0');
+    relkvanu_answer told = write(reinterpret_cast<std::uint8_t *>(text.data()), text.size());
+    while (told.code == RELKVANU_TOO_SHORT) {
+        text.resize(static_cast<std::size_t>(told.a));
+        told = write(reinterpret_cast<std::uint8_t *>(text.data()), text.size());
+    }
+    if (told.code != RELKVANU_DONE) {
+        return refusal(told);
+    }
+    text.resize(static_cast<std::size_t>(told.a));
+    return text;
+}
+
+/* The line of a call, without a newline. first has the fresh files of an ack or the shape of a restore, second the reused files. A
+ * line that would be too long is refused as error::line_too_long: none is cut. */
 inline text_answer call_line(const relkvanu_call &call, span<const std::uint64_t> first = {}, files second = {}) {
     return written([&](std::uint8_t *text, std::size_t len) {
         return relkvanu_call_line(&call, first.data(), first.size(), second.data(), second.size(), text, len);
     });
 }
 
-/* The lines config, job and start of a coordinator that begins with the number 1, each with its newline. */
+/* The lines config, job and start of a coordinator whose first record has the number 1, each with its newline. */
 inline text_answer opening_lines(const relkvanu_settings &settings, shape of, std::uint64_t now) {
     return written([&](std::uint8_t *text, std::size_t len) { return relkvanu_opening_lines(&settings, of.data(), of.size(), now, text, len); });
 }

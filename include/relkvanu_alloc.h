@@ -1,22 +1,22 @@
-/* What librelkvanu.a asks memory of: three functions, which a program may define itself.
+/* The allocator of librelkvanu.a: three functions, which a program may define itself.
  *
- * The installed archive has them over malloc, realloc and free, in a member of their own (embed/c/heap.c): the linker leaves that
- * out where the program defines all three. The archive that `rt lib` leaves has none. librelkvanu.so has its own, over malloc.
+ * The installed archive has them over malloc, realloc and free, in a member of their own (embed/c/heap.c). The linker leaves that
+ * member out if the program defines all three. The archive that `rt lib` builds has none. librelkvanu.so has its own, over malloc.
  *
- * What the library asks for:
- * - align is 1, 2, 4, 8 or 16. size is a number of bytes, at most 2^63 - 1, and may be 0: then there is a block all the same, to be
- *   given back as any other.
- * - rattle_realloc and rattle_dealloc get a block that one of the first two gave and that was not given back since. rattle_realloc
- *   gets the align that the block was asked for with, and kept is at most the old size and at most the new one.
+ * What the library passes:
+ * - align is 1, 2, 4, 8 or 16. size is a number of bytes, at most 2^63 - 1. A size of 0 still gets a block, which is freed like
+ *   any other.
+ * - rattle_realloc and rattle_dealloc get a block that one of the first two returned and that was not freed since. rattle_realloc
+ *   gets the align of the block, and kept is at most the old size and at most the new one.
  *
- * What the program keeps:
- * - A block has at least size bytes, and its address is a multiple of align. Nobody else writes to it until it is given back.
- * - What rattle_realloc gives has the first kept bytes of the old block, which is given back by that; what its other bytes are does
- *   not matter. Where there is no memory, the old block stays as it is.
- * - No memory is an ordinary answer: a call of the library that can't do without answers RELKVANU_NO_MEMORY and changes nothing.
+ * Conditions for the program:
+ * - A block has at least size bytes, and its address is a multiple of align. Nobody else writes to it until it is freed.
+ * - The block that rattle_realloc returns has the first kept bytes of the old block. Its other bytes may have any value. The old
+ *   block is then freed. If there is no memory, the old block stays as it is.
+ * - Running out of memory is an ordinary answer: the call of the library returns RELKVANU_NO_MEMORY and changes nothing.
  *   rattle_dealloc always succeeds.
- * - The three belong to one allocator. They may be called by several threads at once, one for each handle that is in a call,
- *   and a block may be given back by another thread than the one that asked for it.
+ * - The three belong to one allocator. Several threads may call them at once, one for each handle that is in a call.
+ *   One thread may free a block that another one allocated.
  * - They return to their caller, and make no call of the library.
  */
 #ifndef RELKVANU_ALLOC_H
@@ -31,7 +31,7 @@ extern "C" {
 
 typedef struct {
     uint64_t is; /* 1: there is a block; 0: there was no memory */
-    void *at;    /* never NULL; where there was no memory it is not read */
+    void *at;    /* never NULL; not read if there was no memory */
 } relkvanu_block;
 
 relkvanu_block rattle_alloc(size_t size, size_t align);

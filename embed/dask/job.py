@@ -1,11 +1,14 @@
-"""job.py SECONDS [SEED]: a keyed count as actors on worker processes, with the coordinator in the driver.
+"""job.py [OPTIONS] SECONDS [SEED]: a keyed count as actors on worker processes. The coordinator is in the driver, or a service that
+--service names, which may be killed and started again meanwhile.
 
 The job has three vertices of different parallelism, each of which reads the whole stream and counts its part of the keys. A
 worker process is killed in the middle of a checkpoint, again and again: in turn the driver declines for the lost task, or the
 record expires. The job is restored with fewer tasks of one vertex on the workers that are left, and with all where there is a new
 worker. At the end the totals and the storage folder have to be exact.
 """
+import argparse
 import itertools
+import json
 import os
 import pathlib
 import random
@@ -18,22 +21,19 @@ from typing import Any, Callable, Dict, List, Optional, Sequence, Tuple
 
 from channel import Channel
 from cluster import Cluster, wait_for
-from relkvanu import (
-    AckCompleted, Coordinator, DeclineFailed, Discarder, Failed, Patience, Refused, Reply, RestoredCheckpoint, RestoredFresh,
-    Settings, Triggered,
-)
+from relkvanu import AckCompleted, DeclineFailed, Discarder, Failed, Patience, Refused, Reply, RestoredCheckpoint, RestoredFresh
 from stream import PARTITIONS, VERTICES, State, counted, read
 
 WORKERS, LARGE, SMALL = 3, (2, 6, 3), (2, 4, 3)  # worker processes, and the larger and the smaller shape of the job
-SETTINGS = Settings(interval=200, timeout=4000, tolerable=0, retained=2)  # milliseconds
+SETTINGS = {"interval": 200, "timeout": 4000, "tolerable": 0, "retained": 2}  # milliseconds
 BATCH = 20
 
 
 class Job:
     """The driver: a coordinator, and the threads that call it."""
 
-    def __init__(self, cluster: Cluster, storage: pathlib.Path, seed: int) -> None:
-        self.cluster, self.storage, self.seed = cluster, storage, seed
+    def __init__(self, cluster: Cluster, coordinator: Any, storage: pathlib.Path, seed: int) -> None:
+        self.cluster, self.coordinator, self.storage, self.seed = cluster, coordinator, storage, seed
         self.chance = random.Random(seed)
         self.lock = threading.RLock()  # of the channels and what is counted; the coordinator has its own
         self.channels: List[Channel] = []
@@ -44,13 +44,9 @@ class Job:
         self.replies: "Counter[str]" = Counter()
         self.kills = 0
         self.has_failed, self.has_completed, self.is_over = threading.Event(), threading.Event(), threading.Event()
-        self.coordinator = Coordinator(SETTINGS, LARGE, self.now())
-        self.threads = [threading.Thread(target=loop, args=(self,), daemon=True) for loop in (timer, source)]
+        self.threads = [threading.Thread(target=loop, args=(self,), daemon=True) for loop in (coordinator.run, source)]
         patience = Patience(batch=16, attempts=100, first_wait=0.01, longest_wait=0.05, idle=0.02)
         self.discarder = Discarder(self.coordinator, self.discard, patience)
-
-    def now(self) -> int:
-        return time.monotonic_ns() // 1_000_000
 
     def new_files(self, most: int) -> Sequence[int]:
         with self.lock:
@@ -79,27 +75,29 @@ class Job:
             with self.lock:
                 self.replies[refusal.name] += 1
             raise
+        self.note(reply)
+        return reply
+
+    def note(self, reply: Reply) -> None:
         with self.lock:
             self.replies[type(reply).__name__] += 1
-            self.replies["expired"] += getattr(reply, "expired", 0)
         if isinstance(reply, AckCompleted):
             self.has_completed.set()
         elif isinstance(reply, (DeclineFailed, Failed)):
             self.has_failed.set()
-        return reply
 
     def ack(self, id: int, subtask: Tuple[int, int], fresh: Sequence[int], reused: Sequence[int]) -> Reply:
-        return self.called(self.coordinator.ack, self.now(), id, *subtask, fresh, reused)
+        return self.called(self.coordinator.ack, id, subtask, fresh, reused)
 
     def decline(self, id: int, subtask: Tuple[int, int]) -> Reply:
-        return self.called(self.coordinator.decline, self.now(), id, *subtask)
+        return self.called(self.coordinator.decline, id, subtask)
 
-    def tick(self) -> Optional[Reply]:
-        try:
-            return self.called(self.coordinator.tick, self.now())
-        except Refused as refusal:  # a decline has failed the job since
-            assert refusal.name == "NotRunning", refusal
-            return None
+    def send_barriers(self, id: int, channels: Sequence[Channel]) -> None:
+        """Sends the barrier of a record through the queue of each task."""
+        with self.stream:
+            self.cuts[id] = dict(self.ends)
+            for channel in channels:
+                channel.put(id)
 
     def channels_of(self, shape: Sequence[int], files: Dict[Tuple[int, int], Tuple[int, ...]]) -> List[Channel]:
         """A channel for each subtask, over the files that a record has of its vertex, on the workers in turn."""
@@ -114,8 +112,8 @@ class Job:
     def start_tasks(self, shape: Sequence[int]) -> None:
         """Restores the job in this shape, from what the coordinator answers, on the workers that are there."""
         with self.lock:
-            reply = self.called(self.coordinator.restore, self.now(), None, shape)
-            files = self.coordinator.show(reply.id).files if isinstance(reply, RestoredCheckpoint) else {}
+            reply = self.called(self.coordinator.restore, shape)
+            files = self.coordinator.files(reply.id) if isinstance(reply, RestoredCheckpoint) else {}
             self.has_failed.clear()
             self.has_completed.clear()
             channels = self.channels_of(shape, files)
@@ -187,9 +185,9 @@ class Job:
         channels = self.channels
         self.stop_tasks()
         records = self.check_counts(channels)
-        reply = self.called(self.coordinator.restore, self.now())
+        reply = self.called(self.coordinator.restore, LARGE)
         assert isinstance(reply, RestoredCheckpoint), reply
-        files = [file for part in self.coordinator.show(reply.id).files.values() for file in part]
+        files = [file for part in self.coordinator.files(reply.id).values() for file in part]
         held = sorted(self.check_state(*read(self.path(file))) for file in files)
         assert held == [(vertex, partition) for vertex in range(VERTICES) for partition in range(PARTITIONS)]
         used, waiting = self.check_folder()
@@ -214,7 +212,7 @@ class Job:
         """The folder has exactly the files that are in use and those that wait or are taken: how many each. No file is
         taken, as the discarder has ended; nothing is deleted before the check."""
         names = {int(path.name) for path in self.storage.iterdir()}
-        used = {file for file in range(1, self.next_file) if self.coordinator.count(file).uses}
+        used = self.coordinator.used(range(1, self.next_file))
         waiting = set(self.coordinator.take(1 << 16).files)
         assert names == used | waiting, (names - used - waiting, (used | waiting) - names)
         return len(used), len(waiting)
@@ -229,20 +227,6 @@ class Job:
         print(f"dask: the folder had {used + waiting} files: {used} in use, {waiting} for deletion")
 
 
-def timer(job: Job) -> None:
-    """Ticks, and sends a barrier through each task's queue where a checkpoint is triggered."""
-    while not job.is_over.is_set():
-        with job.lock:
-            channels = job.channels
-            reply = job.tick() if channels and not job.has_failed.is_set() else None
-        if isinstance(reply, Triggered):
-            with job.stream:
-                job.cuts[reply.id] = dict(job.ends)
-                for channel in channels:
-                    channel.put(reply.id)
-        time.sleep(0.02)
-
-
 def source(job: Job) -> None:
     """Sends records of a part of the partitions to each vertex, so that the states of the others are named again."""
     chance = random.Random(job.seed + 1)
@@ -255,9 +239,33 @@ def source(job: Job) -> None:
         time.sleep(0.02)
 
 
+def options() -> argparse.Namespace:
+    parser = argparse.ArgumentParser(description=__doc__.partition("\n\n")[0])
+    parser.add_argument("seconds", type=float)
+    parser.add_argument("seed", type=int, nargs="?", default=1, help="chooses the records and the victims")
+    parser.add_argument("--service", metavar="URL", help="the coordinator is a service; default: a library in the driver")
+    parser.add_argument("--job", metavar="NAME", default="dask", help="a job that the service does not have yet")
+    parser.add_argument("--storage", metavar="FOLDER", type=pathlib.Path, help="where the files lie, and stay; default: a folder that goes")
+    parser.add_argument("--answered", metavar="FILE", type=pathlib.Path, help="gets the calls that the service answered, each with its answer")
+    return parser.parse_args()
+
+
+def coordinator_of(given: argparse.Namespace) -> Any:
+    """Each wants what it needs alone: the library, or the client."""
+    if given.service:
+        from over_service import OverService
+
+        return OverService(given.service, given.job, SETTINGS, LARGE)
+    from in_process import InProcess
+
+    return InProcess(SETTINGS, LARGE)
+
+
 def main() -> None:
-    seconds, seed = float(sys.argv[1]), int(sys.argv[2]) if len(sys.argv) > 2 else 1
-    with tempfile.TemporaryDirectory() as storage, Cluster(WORKERS) as cluster:
+    given = options()
+    coordinator = coordinator_of(given)
+    with tempfile.TemporaryDirectory() as folder, Cluster(WORKERS) as cluster:
+
         def end_at_fault(fault: threading.ExceptHookArgs) -> None:
             """A thread that fails ends all: nothing would wait for it."""
             threading.__excepthook__(fault)
@@ -265,10 +273,11 @@ def main() -> None:
             os._exit(1)
 
         threading.excepthook = end_at_fault
-        job = Job(cluster, pathlib.Path(storage), seed)
-        job.run(seconds)
+        job = Job(cluster, coordinator, given.storage or pathlib.Path(folder), given.seed)
+        job.run(given.seconds)
         job.finish()
-        job.coordinator.close()
+    if given.answered:
+        given.answered.write_text(json.dumps(coordinator.answered))
 
 
 if __name__ == "__main__":

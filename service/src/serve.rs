@@ -23,8 +23,10 @@ use tokio::sync::Semaphore;
 const NOT_TO_START: u8 = 78;
 /// How often a standby follows the log and tries to lead.
 const LEAD_EACH: Duration = Duration::from_millis(100);
-/// How often systemd hears that the writer is at work.
+/// How seldom at most systemd hears that the writer is at work.
 const WATCHDOG: Duration = Duration::from_secs(5);
+/// A writer that is silent for so long is stuck.
+const SILENCE: Duration = Duration::from_secs(15);
 /// How long the writer may take for its last group.
 const STOP_WITHIN: Duration = Duration::from_secs(10);
 
@@ -201,11 +203,21 @@ fn answer_requests(app: App, listener: std::net::TcpListener) -> Result<(), Stop
 async fn tell_systemd(board: Arc<Board>) {
     // without systemd there is nobody to tell
     let _ = sd_notify::notify(false, &[NotifyState::Ready]);
+    let each = watchdog();
     loop {
-        tokio::time::sleep(WATCHDOG).await;
-        if board.silence() < 3 * WATCHDOG {
+        tokio::time::sleep(each).await;
+        if board.silence() < SILENCE {
             let _ = sd_notify::notify(false, &[NotifyState::Watchdog]);
         }
+    }
+}
+
+/// Twice in the time in which systemd wants to hear of the service.
+fn watchdog() -> Duration {
+    let mut micros = 0;
+    match sd_notify::watchdog_enabled(false, &mut micros) {
+        true => Duration::from_micros(micros / 2).min(WATCHDOG),
+        false => WATCHDOG,
     }
 }
 

@@ -10,6 +10,8 @@ import tempfile
 import time
 from contextlib import contextmanager
 
+from run import Skipped
+
 HERE = os.path.dirname(os.path.realpath(__file__))
 SERVICE = os.path.dirname(HERE)
 TOP = os.path.dirname(SERVICE)
@@ -107,6 +109,21 @@ class Server:
 def folder():
     with tempfile.TemporaryDirectory(prefix="relkvanu-") as it:
         yield it
+
+
+@contextmanager
+def small_disk(at, size):
+    """A file system of so many bytes, as `mount` has them, in the folder `small`."""
+    path = f"{at}/small"
+    os.chmod(at, 0o755)  # PostgreSQL runs as a user of its own
+    os.mkdir(path)
+    words = ["mount", "-t", "tmpfs", "-o", f"size={size}", "tmpfs", path]
+    if os.geteuid() != 0 or subprocess.run(words, stderr=subprocess.DEVNULL, check=False).returncode:
+        raise Skipped("a small file system can't be mounted here")
+    try:
+        yield path
+    finally:
+        subprocess.run(["umount", "--lazy", path], check=False)
 
 
 @contextmanager

@@ -11,7 +11,9 @@ from run import Skipped
 
 
 class Postgres:
-    def __init__(self, at):
+    """In a folder that is there. The options are those of initdb."""
+
+    def __init__(self, at, *options):
         found = sorted(glob.glob("/usr/lib/postgresql/*/bin/pg_ctl"))
         if not found:
             raise Skipped("PostgreSQL is not here")
@@ -24,7 +26,7 @@ class Postgres:
         if os.geteuid() == 0:
             shutil.chown(self.data, "postgres", "postgres")
             self.user = ["setpriv", f"--reuid={pwd.getpwnam('postgres').pw_uid}", f"--regid={pwd.getpwnam('postgres').pw_gid}", "--clear-groups"]
-        self.run("initdb", "-D", self.data, "-U", "postgres", "-A", "trust", "--no-sync")
+        self.run("initdb", "-D", self.data, "-U", "postgres", "-A", "trust", "--no-sync", *options)
         with open(f"{self.data}/postgresql.conf", "a", encoding="utf-8") as it:
             it.write(f"port = {self.port}\nlisten_addresses = '127.0.0.1'\nunix_socket_directories = ''\nshared_buffers = 32MB\nlog_min_messages = fatal\n")
         self.start()
@@ -42,14 +44,29 @@ class Postgres:
     def stop(self, mode="immediate"):
         self.run("pg_ctl", "-D", self.data, "-w", "-m", mode, "stop")
 
+    def start_again(self):
+        """Starts it where it has ended by itself. Returns whether it runs."""
+        try:
+            self.start()
+        except AssertionError:
+            return False
+        return self.runs()
+
+    def runs(self):
+        try:
+            return self.sql("select 1") == "1"
+        except AssertionError:
+            return False
+
     def sql(self, text):
         return self.run("psql", "-XAtq", self.url, "-c", text).strip()
 
 
 @contextmanager
-def postgres():
-    with folder() as at:
-        it = Postgres(at)
+def postgres(at=None, *options):
+    """In a folder that is there, or one of its own."""
+    with folder() as own:
+        it = Postgres(at or own, *options)
         try:
             yield it
         finally:

@@ -6,7 +6,7 @@ import threading
 import time
 
 import kills
-from harness import Server, folder, until
+from harness import Server, check_log, folder, small_disk, until
 from postgres import postgres
 from relkvanu_service import Service
 
@@ -59,6 +59,74 @@ def test_a_database_that_stops():
         server.stop()
         assert len(kept.ended) >= 4 and set(kept.ended) == {75}, kept.ended
         return f"3 stops of the database and 1 cut connection, {told[0]}"
+
+
+def test_a_full_disk():
+    """The database lies on a file system that fills up: first its tables have no room, then its own log, by which it ends. Where there is
+    room again, all goes on."""
+    with folder() as at, small_disk(at, "96m") as small, postgres(small, "--wal-segsize=1") as database:
+        server = Server(at, database.url).start()
+        kept, told = Kept(server), []
+        kept.start()
+        with kills.writers_at([server.url], told):
+            time.sleep(0.5)
+            with open(f"{small}/ballast", "wb", buffering=0) as ballast:
+                fill(ballast)
+            until(lambda: "commit is tried again" in server.log() and "No space left" in server.log(), 30)
+            until(lambda: not has_log(database), 30)
+            until(lambda: kept.ended, 30)
+            os.remove(f"{small}/ballast")
+            until(lambda: database.runs() or database.start_again(), 30)
+            server.wait_ready(kept=True)
+        kept.over.set()
+        kept.join()
+        server.stop()
+        assert set(kept.ended) == {75}, kept.ended
+        tries = server.log().count("commit is tried again")
+        return f"{tries} commits tried again, the service ended {len(kept.ended)} times; {told[0]}"
+
+
+def has_log(database):
+    """Goes on to the next file of PostgreSQL's log. Returns whether there was one."""
+    try:
+        return bool(database.sql("select pg_logical_emit_message(true, 'a', 'b'); select pg_switch_wal()"))
+    except AssertionError:
+        return False
+
+
+def fill(file):
+    """Writes until there is no room."""
+    block = bytes(1 << 20)
+    while len(block) > 0:
+        try:
+            file.write(block)
+        except OSError:
+            block = block[: len(block) // 2]
+
+
+def test_a_dump_of_a_service_that_runs():
+    """`pg_dump` while writers are at work; the copy is restored into a new database, and served."""
+    with postgres() as database, folder() as at:
+        server, told = Server(at, database.url).start(), []
+        with kills.writers_at([server.url], told):
+            time.sleep(1)
+            before = {job["name"]: job["seq"] for job in Service(server.url).jobs()}
+            database.run("pg_dump", "--format=custom", f"--file={database.data}/dump", f"--dbname={database.url}")
+        logs = {name: list(Service(server.url).job(name).log()) for name in kills.JOBS}
+        server.stop()
+        copy = database.url.rsplit("/", 1)[0] + "/copy"
+        database.run("createdb", f"--maintenance-db={database.url}", "copy")
+        database.run("pg_restore", "--single-transaction", f"--dbname={copy}", f"{database.data}/dump")
+        restored = Server(at, copy).start()
+        counts = []
+        for name, log in logs.items():
+            job = Service(restored.url).job(name)
+            found = [entry for entry in job.log() if entry["at"] <= log[-1]["at"]]
+            assert before[name] <= len(found) <= len(log) and found == log[: len(found)], (name, before, len(found), len(log))
+            check_log(job.state(), kills.SHAPE, found)
+            counts.append(len(found))
+        restored.stop()
+        return f"{sum(counts)} of {sum(map(len, logs.values()))} calls in the copy, {sum(before.values())} before it was made"
 
 
 def leads(server):

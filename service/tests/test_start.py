@@ -6,7 +6,7 @@ import subprocess
 import threading
 import time
 
-from harness import PROGRAM, Server, check_log, folder, served, until
+from harness import PROGRAM, Server, check_log, folder, served, small_disk, until
 from relkvanu_service import Service
 from run import Skipped
 
@@ -138,36 +138,29 @@ def test_a_backup_of_a_service_that_runs():
 
 
 def test_a_full_disk():
-    """The database lies on a file system of 600 KiB. The process ends with 75 and answers nothing that it has not kept; where there is room
+    """The database lies on a file system of 2 MiB. The process ends with 75 and answers nothing that it has not kept; where there is room
     again, it goes on."""
-    with folder() as at:
-        os.mkdir(f"{at}/small")
-        if os.geteuid() != 0 or subprocess.run(["mount", "-t", "tmpfs", "-o", "size=2m", "tmpfs", f"{at}/small"], stderr=subprocess.DEVNULL, check=False).returncode:
-            raise Skipped("a small file system can't be mounted here")
-        server = Server(at, database=f"{at}/small/x.db")
+    with folder() as at, small_disk(at, "2m") as small:
+        server = Server(at, database=f"{small}/x.db")
         try:
             server.start()
             server.request("POST", "/v1/jobs", {**JOB, "settings": {"interval": 10, "at_once": 64}})
             kept, number = 0, 0
-            ack = {"call": "ack", "subtask": "0.0"}
             until(lambda: server.get("/v1/jobs/orders")[2]["seq"] >= 1)
             while server.process.poll() is None and number < 5000:
                 number += 1
                 # a late acknowledgement is always made
-                calls = [{**ack, "id": 1, "fresh": [str(number * 1000 + one) for one in range(200)]} for _ in range(1)]
-                told = server.request("POST", "/v1/jobs/orders/calls", {"calls": calls})
+                ack = {"call": "ack", "id": 1, "subtask": "0.0", "fresh": [str(number * 1000 + one) for one in range(200)]}
+                told = server.request("POST", "/v1/jobs/orders/calls", {"calls": [ack]})
                 if told[0] == 200:
                     kept = max([kept] + [answer["seq"] for answer in told[2]["answers"] if "seq" in answer])
             assert server.process.wait(30) == 75, server.log()[-500:]
             assert "is tried again" in server.log(), server.log()[-500:]
-            subprocess.run(["mount", "-o", "remount,size=64m", f"{at}/small"], check=True)
+            subprocess.run(["mount", "-o", "remount,size=64m", small], check=True)
             server.start()
-            log = []
-            while page := server.get(f"/v1/jobs/orders/log?limit=1000&after={len(log)}")[2]["calls"]:
-                log += page
+            log = list(Service(server.url).job("orders").log())
             assert len(log) >= kept > 50, (len(log), kept)
             check_log(server.get("/v1/jobs/orders")[2], [1], log)
             return f"{kept} calls were acknowledged before the disk was full, and all were there after"
         finally:
             server.stop()
-            subprocess.run(["umount", f"{at}/small"], check=False)

@@ -11,7 +11,7 @@ SHAPE = [2, 3]
 
 
 class Writer(threading.Thread):
-    """Calls one job until it is told to stop. `made` has each acknowledged call, by its place in the log."""
+    """Calls one job until it is told to stop. `made` has each acknowledged call, with its answer."""
 
     def __init__(self, urls, job, number):
         super().__init__(daemon=True)
@@ -20,7 +20,7 @@ class Writer(threading.Thread):
         self.name_of_job = job
         self.random = random.Random(number)
         self.next_file = (number + 1) << 40
-        self.made, self.refused, self.errors = {}, 0, []
+        self.made, self.refused, self.errors = [], 0, []
         self.no_memory, self.not_made = 0, 0
         self.over = threading.Event()
 
@@ -79,7 +79,7 @@ class Writer(threading.Thread):
         answers = self.job.calls(calls)
         for call, answer in zip(calls, answers):
             if "seq" in answer:
-                self.made[answer["seq"]] = (call, answer)
+                self.made.append((call, answer))
             self.refused += "refused" in answer
             self.no_memory += "no_memory" in answer
             self.not_made += "not_made" in answer
@@ -101,18 +101,24 @@ def same_call(call, line):
     return True
 
 
+def check_made(made, log, seen):
+    """Each acknowledged call, given with its answer, stands in the log where it was said to, with that answer, and at a place that is
+    not seen yet."""
+    for call, answer in made:
+        seq = answer["seq"]
+        assert seq not in seen, f"place {seq} was given twice"
+        seen.add(seq)
+        entry = log[seq - 1]
+        assert same_call(call, entry["line"]), f"{seq}: {call} is {entry['line']}"
+        assert harness.answer_text(answer) == entry["answer"], f"{seq}: {answer} is {entry['answer']}"
+
+
 def check(writers, service, job, shape):
-    """Each acknowledged call stands in the log where it was said to, with its answer, and the oracle says the same. Returns
-    how many were acknowledged, how many the log has, and how many answers the oracle gave."""
+    """The writers' acknowledged calls are in the log, and the oracle answers it alike. Returns how many were acknowledged, how many
+    the log has, and how many answers the oracle gave."""
     log = list(service.job(job).log())
-    own = [writer for writer in writers if writer.name_of_job == job]
     seen = set()
-    for writer in own:
+    for writer in (writer for writer in writers if writer.name_of_job == job):
         assert not writer.errors, writer.errors[:3]
-        for seq, (call, answer) in writer.made.items():
-            assert seq not in seen, f"place {seq} was given twice"
-            seen.add(seq)
-            entry = log[seq - 1]
-            assert same_call(call, entry["line"]), f"{seq}: {call} is {entry['line']}"
-            assert harness.answer_text(answer) == entry["answer"], f"{seq}: {answer} is {entry['answer']}"
+        check_made(writer.made, log, seen)
     return len(seen), len(log), harness.check_log(service.job(job).state(), shape, log)

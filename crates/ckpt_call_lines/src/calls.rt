@@ -9,13 +9,13 @@ use crate::pieces::{
 use ckpt_ids::{Call, CheckpointId, Files, Shape, SubtaskId, Target};
 use std::alloc::{AllocError, Global};
 
-/// Room for most lines, so that they take memory once.
+/// Room for most lines, so that each allocates once.
 const USUAL_LENGTH: usize = 64;
 
-/// The line of a call, without its newline. A script that reads it makes that call.
+/// The line of a call, without its newline. A script with this line makes that call.
 ///
-/// A line of more than 131,072 bytes, which only an acknowledgement of more files than a coordinator
-/// takes can have, is too long to be read. Fails only for want of memory.
+/// A line of more than 131,072 bytes is too long to be read. Only an acknowledgement with more
+/// files than a coordinator accepts can have such a line. Fails only if memory runs out.
 pub fn call_line(alloc: Global, call: &Call) -> Result<String, AllocError>
     ensures text { IfOk result (λ text. string_bytes text ≡ call_text call.now) }
     ensures read { IfOk result (λ text. IsReadAs (line_of_call call.now) (string_bytes text)) }

@@ -1,7 +1,8 @@
-//! Calls as lines of a script: what the crate `ckpt_lines` reads, written.
+//! Writes calls as lines of a script, which the crate `ckpt_lines` reads.
 //!
-//! [`call_line`] writes a call, [`config_line`], [`job_line`] and [`start_line`] what opens a job.
-//! `specs/CallTexts.antt` has the texts; that reading gives the call back is a clause of each.
+//! [`call_line`] writes a call. [`config_line`], [`job_line`] and [`start_line`] write the opening
+//! of a job. `specs/CallTexts.antt` has the texts. A clause of each function says that its line
+//! reads back as what was written.
 #![tactic(auto)]
 
 mod calls;

@@ -7,12 +7,12 @@ use crate::pieces::{write_number, write_shape};
 use ckpt_ids::{Config, Shape};
 use std::alloc::{AllocError, Global};
 
-/// The `config` line, without its newline. Fails only for want of memory.
+/// The `config` line, without its newline. Fails only if memory runs out.
 pub fn config_line(alloc: Global, config: &Config) -> Result<String, AllocError>
     ensures text { IfOk result (λ text. string_bytes text ≡ config_text config.now) }
     ensures read { IfOk result (λ text. IsReadAs (line_of_config config.now) (string_bytes text)) }
 {
-    // Tells its limits.
+    // Its contract has the limits.
     let _ = config.interval();
     let mut text = String::new(alloc);
     write_config(&mut text, config)?;
@@ -56,20 +56,20 @@ fn write_retention(text: &mut String, keep: bool) -> Result<(), AllocError>
     }
 }
 
-/// The `job` line, without its newline. Fails only for want of memory.
+/// The `job` line, without its newline. Fails only if memory runs out.
 #[tactic(auto, unfolding(crate::specs::CallTexts::job_text))]
 pub fn job_line(alloc: Global, shape: &Shape) -> Result<String, AllocError>
     ensures text { IfOk result (λ text. string_bytes text ≡ job_text shape.now) }
     ensures read { IfOk result (λ text. IsReadAs (Job shape.now) (string_bytes text)) }
 {
-    // Tells that it has a vertex.
+    // Its contract says that it has a vertex.
     let _ = shape.size();
     let mut text = String::from_str(alloc, "job")?;
     write_shape(&mut text, shape)?;
     Ok(text)
 }
 
-/// The `start` line, without its newline. Fails only for want of memory.
+/// The `start` line, without its newline. Fails only if memory runs out.
 #[tactic(auto, unfolding(crate::specs::CallTexts::start_text))]
 pub fn start_line(alloc: Global, now: u64) -> Result<String, AllocError>
     ensures text { IfOk result (λ text. string_bytes text ≡ start_text now) }

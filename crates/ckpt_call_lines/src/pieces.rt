@@ -1,4 +1,4 @@
-//! Parts of lines. What the types of numbers allow is told beside the text, for whoever reads it back.
+//! Parts of lines. Their contracts also say what the types of numbers allow, for reading them back.
 ghost use Rattle.std.specs.Prelude.{◌≡◌, ◌++◌, ◌<◌, ◌^◌, flat_map, decimal, All, OnOk, string_bytes};
 ghost use Rattle.ckpt_texts.specs.Texts.{spaced};
 ghost use Rattle.ckpt_call_lines.specs.CallTexts.{Fits, FitsFiles, FitsSubtask, FitsTarget, fresh_text, reused_text, subtask_text, target_text};
@@ -20,7 +20,7 @@ pub(crate) fn write_fresh(text: &mut String, files: &Files) -> Result<(), AllocE
     ensures text { OnOk result (string_bytes text.new ≡ string_bytes text.old ++ flat_map fresh_text files.now) }
     ensures fit { OnOk result (FitsFiles files.now) }
 {
-    // Tells that they ascend.
+    // Its contract says that they ascend.
     let _ = files.as_slice();
     for place in 0..files.len() {
         if let Some(file) = files.get(place) {
@@ -35,7 +35,7 @@ pub(crate) fn write_reused(text: &mut String, files: &Files) -> Result<(), Alloc
     ensures text { OnOk result (string_bytes text.new ≡ string_bytes text.old ++ flat_map reused_text files.now) }
     ensures fit { OnOk result (FitsFiles files.now) }
 {
-    // Tells that they ascend.
+    // Its contract says that they ascend.
     let _ = files.as_slice();
     for place in 0..files.len() {
         if let Some(file) = files.get(place) {
@@ -58,7 +58,7 @@ pub(crate) fn write_shape(text: &mut String, shape: &Shape) -> Result<(), AllocE
     Ok(())
 }
 
-/// Appends words and the half of a subtask.
+/// Appends words and one half of a subtask.
 fn write_half(text: &mut String, words: &str, half: u16) -> Result<(), AllocError>
     ensures text { OnOk result (string_bytes text.new ≡ string_bytes text.old ++ words.now ++ decimal half) }
     ensures fits { half < 2 ^ 16 }

@@ -7,6 +7,7 @@ pub mod Examples
 pub mod Moves
 pub mod Numbers
 pub mod Pinned
+pub mod Replays
 pub mod Savepoints
 pub mod Spreads
 pub mod StepBalances

@@ -1,5 +1,5 @@
 -- What a coordinator tells without a call.
-use Rattle.std.specs.Prelude.{◌≡◌, ℕ, ◌<◌, ◌≤◌, max, Bool, true, false, nat_lt, nat_le, if◌then◌else◌, Option, Some, None}
+use Rattle.std.specs.Prelude.{◌≡◌, ℕ, ◌<◌, ◌≤◌, max, Bool, true, false, nat_lt, nat_le, if◌then◌else◌, List, [], Option, Some, None}
 use Rattle.std.specs.List.{list_any}
 use Rattle.ckpt_ids.specs.declared.call.Call.TheVariants.{Tick}
 use Rattle.ckpt_ids.specs.declared.reply.TickEnd.{TickEnd}
@@ -10,8 +10,10 @@ use Rattle.ckpt_ids.specs.declared.reply.Answer.TheVariants.{Done}
 use Rattle.ckpt_ids.specs.Records.{Record}
 use Rattle.ckpt_rules.specs.Trigger.{pause_ends}
 use Rattle.ckpt_core.specs.declared.queries.Live.{Live}
+use Rattle.ckpt_core.specs.declared.recovery.Standing.{Standing}
+use Rattle.ckpt_core.specs.declared.recovery.Standing.TheVariants as stands
 use Rattle.ckpt_core.specs.Memory.{is_trigger}
-use Rattle.ckpt_core.specs.State.{State, is_expired}
+use Rattle.ckpt_core.specs.State.{State, is_expired, record_of}
 use Rattle.ckpt_core.specs.Steps.{step}
 
 -- the moment from which neither the interval nor the pause holds a checkpoint back
@@ -59,3 +61,20 @@ abbrev pub sooner : Option Live → Option Live → Option Live
 sooner None b = b
 sooner (Some a) None = Some a
 sooner (Some a) (Some b) = if nat_lt a.id b.id then Some a else Some b
+
+-- what the number of a live record is
+abbrev pub standing_of : Record → Standing
+standing_of r = if r.done then stands.Done else stands.Pending
+
+-- what a number is that no live record has
+abbrev pub standing_without : State → ℕ → Standing
+standing_without m id = if nat_lt id m.opening.first then stands.Never else (if nat_lt id m.next then stands.Ended else stands.NotYet)
+
+-- what a number is
+abbrev pub standing : State → ℕ → Standing
+standing m id = elim (record_of m id) [ Some r ↦ standing_of r | None ↦ standing_without m id ]
+
+-- the files that a record, where there is one, holds beside those of its acknowledgements
+abbrev pub pins_in : Option Record → List ℕ
+pins_in None = []
+pins_in (Some r) = r.pins

@@ -3,9 +3,8 @@ ghost use Rattle.std.specs.Prelude.{◌≡◌, ◌↔◌, true, false, None, Som
 ghost use Rattle.std.specs.Result.{result_err};
 ghost use Rattle.ckpt_ids.specs.declared.reply.Answer.TheVariants.{Done};
 ghost use Rattle.ckpt_ids.specs.declared.reply.Refusal.{Refusal};
-ghost use Rattle.ckpt_ids.specs.declared.reply.Refusal.TheVariants.{NotTaken};
 ghost use Rattle.ckpt_core.specs.Coordinator.{IsCall, may_want_memory, open_fault, opened, refusal, step};
-ghost use Rattle.ckpt_core.specs.Inside.Parts.{Answers, AreSound, IsAccepted, Stays, early_refusal, is_report, never_fails, state_of};
+ghost use Rattle.ckpt_core.specs.Inside.Parts.{Answers, AreSound, IsAccepted, Stays, is_report, never_fails, state_of};
 
 use crate::parts::Parts;
 use crate::triggers::Ticked;
@@ -152,27 +151,18 @@ impl Core {
         ensures refused { (why : Refusal) → (result ≡ Err (CoreFault.Refused why)) ↔ (refusal self.old call.now ≡ Some why) }
         ensures memory { result ≡ Err CoreFault.Memory → may_want_memory self.old call.now ≡ true }
         ensures unchanged { OnErr result (self.new ≡ self.old) }
+        ensures shape { IsCall call.now }
     {
         recall_shape(call);
         if let Some(why) = self.parts.early_refusal(call) {
             return Err(CoreFault::Refused(why));
         }
-        match self.parts.answer(call) {
-            Ok(reply) => Ok(reply),
-            Err(_) => Err(fault_of(call)),
+        // A report is not tested before: the outbox refuses it by the look-up that it makes anyway.
+        match call {
+            Call::Deleted { file } => self.parts.deleted(*file).map_err(CoreFault::Refused),
+            Call::Undeleted { file } => self.parts.undeleted(*file).map_err(CoreFault::Refused),
+            _ => Ok(self.parts.answer(call)?),
         }
-    }
-}
-
-/// Why a call that passed the early test has changed nothing. A report alone is not tested before:
-/// the outbox answers it by the look-up that it makes anyway.
-fn fault_of(call: &Call) -> CoreFault
-    ensures report { is_report call.now ≡ true → result ≡ CoreFault.Refused NotTaken }
-    ensures other { is_report call.now ≡ false → result ≡ CoreFault.Memory }
-{
-    match call {
-        Call::Deleted { .. } | Call::Undeleted { .. } => CoreFault::Refused(Refusal::NotTaken),
-        _ => CoreFault::Memory,
     }
 }
 
@@ -190,18 +180,17 @@ fn recall_shape(call: &Call)
 }
 
 impl Parts {
-    /// Makes a call that passed the early test. The error is of no size, and [`fault_of`] tells what
-    /// it stands for: of a report that its file is not taken, else want of memory.
+    /// Makes an accepted call that is no report. Fails only for want of memory.
     ///
     /// What makes the call stands apart for each kind, since a function clears the locals of all
     /// that is inlined into it.
     fn answer(&mut self, call: &Call) -> Result<Reply, AllocError>
         requires sound { AreSound self.old }
-        requires accepted { early_refusal (state_of self.old) call.now ≡ None }
+        requires accepted { IsAccepted self.old call.now }
+        requires other { is_report call.now ≡ false }
         ensures ok { IfOk result (Answers self.old self.new call.now) }
         ensures err { OnErr result (Stays self.old self.new) }
-        ensures memory { OnErr result (is_report call.now ≡ false → may_want_memory (state_of self.old) call.now ≡ true) }
-        ensures not_taken { OnErr result (is_report call.now ≡ true → refusal (state_of self.old) call.now ≡ Some NotTaken) }
+        ensures memory { OnErr result (may_want_memory (state_of self.old) call.now ≡ true) }
     {
         match call {
             Call::Tick { now } => {
@@ -223,8 +212,6 @@ impl Parts {
             } => self.restore_in(*now, *target, shape),
             Call::Take { most } => self.take(*most),
             Call::Show { id } => self.show(*id),
-            Call::Deleted { file } => self.deleted(*file),
-            Call::Undeleted { file } => self.undeleted(*file),
             _ => Ok(self.answer_in_place(call)),
         }
     }

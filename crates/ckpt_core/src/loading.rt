@@ -1,20 +1,18 @@
 //! A coordinator made again of what an image tells.
 
-ghost use Rattle.std.specs.Prelude.{◌≡◌, ◌↔◌, ℕ, List, ◌<◌, ◌≤◌, ◌^◌, ◌-◌, ◌+◌, [], ◌∷◌, ◌++◌, true, false, map, length, Err, None, IfOk, OnOk, IsTrue};
+ghost use Rattle.std.specs.Prelude.{◌≡◌, ◌↔◌, ℕ, ◌<◌, ◌≤◌, ◌^◌, ◌-◌, ◌+◌, [], ◌∷◌, ◌++◌, false, map, length, Err, None, IfOk, OnOk, IsTrue};
 ghost use Rattle.ckpt_ids.specs.declared.ack.Acked.{Acked};
 ghost use Rattle.ckpt_ids.specs.declared.numbers.Kind.TheVariants as kind;
 ghost use Rattle.ckpt_ids.specs.Ascending.{IsAscendingSet};
 ghost use Rattle.ckpt_ids.specs.Ordered.{IsIn, IsInOrder};
 ghost use Rattle.ckpt_ids.specs.Records.{Record, Use, count, use_before, uses};
-ghost use Rattle.ckpt_ids.specs.Shapes.{is_subtask};
 ghost use Rattle.ckpt_pending.specs.Acknowledging.{pending_record};
 ghost use Rattle.ckpt_core.specs.Images.{record_in};
-ghost use Rattle.ckpt_core.specs.Inside.Loading.{IsMade, uses_held};
-ghost use Rattle.ckpt_core.specs.Inside.Moving.{with_done};
+ghost use Rattle.ckpt_core.specs.Inside.Loading.{AreOfShape, HaveSoundRecords, IsMade, JoinsParts, uses_held};
+ghost use Rattle.ckpt_core.specs.Inside.Moving.{with_done, with_pending};
 ghost use Rattle.ckpt_core.specs.Inside.Parts.{AreTied, opening_of, records_in, state_of};
 ghost use Rattle.ckpt_core.specs.Soundness.{IsRecord};
-ghost use Rattle.ckpt_core.specs.State.{Opening};
-ghost use Rattle.ckpt_core.specs.Inside.SoundRecords.{AreSoundRecords, HasRoom, Joins, NamesEachOnce};
+ghost use Rattle.ckpt_core.specs.Inside.SoundRecords.{AreSoundRecords, FrontIsSound, HasRoom, JoinedAreSound, LastJoins, NamesEachOnce};
 
 use crate::image::{ImageFault, Saved};
 use crate::parts::Parts;
@@ -51,7 +49,7 @@ pub(crate) fn register(
 /// The record with its acknowledgements, as if it were pending.
 pub(crate) fn acknowledged(alloc: Global, metadata: &Metadata) -> Result<Pending, ImageFault>
     ensures ok { IfOk result (λ made. made ≡ pending_record metadata.now.id metadata.now.kind metadata.now.shape metadata.now.started metadata.now.acks) }
-    ensures damaged { result ≡ Err ImageFault.Damaged → ((a : Acked) → IsIn a metadata.now.acks → is_subtask metadata.now.shape a.subtask ≡ true) → ⊥ }
+    ensures damaged { result ≡ Err ImageFault.Damaged → AreOfShape metadata.now.shape metadata.now.acks → ⊥ }
 {
     let shape = metadata.shape.copy()?;
     let mut pending = Pending::new(alloc, metadata.id, metadata.kind, shape, metadata.started);
@@ -85,7 +83,7 @@ impl Parts {
         requires below { (f : ℕ) → count (uses (records_in self.old ++ record pending { pins = pins.now } ∷ [])) f < 2 ^ 32 - 1 }
         ensures records { OnOk result (records_in self.new ≡ records_in self.old ++ record pending { pins = pins.now } ∷ []) }
         ensures tied { OnOk result (AreTied self.new) }
-        ensures rest { OnOk result (self.new ≡ record self.old { pending = self.new.pending; registry = self.new.registry; outbox = record self.old.outbox { spare = self.new.outbox.spare }; ended = self.new.ended }) }
+        ensures rest { OnOk result (self.new ≡ with_pending self.old self.new) }
         ensures noted { OnOk result (self.new.ended.items ≡ self.old.ended.items) }
     {
         // Tells that the uses stand in order.
@@ -186,9 +184,9 @@ impl Parts {
     /// Whether a record may stand behind those that are there, by its number, its moment and the
     /// limits on how many there are.
     fn may_join(&self, saved: &Saved) -> bool
-        requires { AreSoundRecords (opening_of self.now.opened) self.now.next (records_in self.now) }
-        ensures yes { IsTrue result → IsRecord (record_in saved.now) → Joins (opening_of self.now.opened) self.now.next (records_in self.now) (record_in saved.now) }
-        ensures no { result ≡ false → Joins (opening_of self.now.opened) self.now.next (records_in self.now) (record_in saved.now) → ⊥ }
+        requires { HaveSoundRecords self.now }
+        ensures yes { IsTrue result → IsRecord (record_in saved.now) → JoinsParts self.now (record_in saved.now) }
+        ensures no { result ≡ false → JoinsParts self.now (record_in saved.now) → ⊥ }
     {
         if self.first_from(saved.metadata.id).is_some() {
             return false;
@@ -204,7 +202,7 @@ impl Parts {
 
     /// Whether one more record of this kind is within the limits on how many there are.
     fn has_room_for(&self, saved: &Saved) -> bool
-        requires { AreSoundRecords (opening_of self.now.opened) self.now.next (records_in self.now) }
+        requires { HaveSoundRecords self.now }
         ensures yes { IsTrue result → HasRoom (opening_of self.now.opened) (records_in self.now) (record_in saved.now) }
         ensures no { result ≡ false → HasRoom (opening_of self.now.opened) (records_in self.now) (record_in saved.now) → ⊥ }
     {
@@ -228,13 +226,13 @@ impl Parts {
     /// Adds a record behind those that are there.
     pub(crate) fn load(&mut self, saved: &Saved) -> Result<(), ImageFault>
         requires tied { AreTied self.old }
-        requires sound { AreSoundRecords (opening_of self.old.opened) self.old.next (records_in self.old) }
+        requires sound { HaveSoundRecords self.old }
         requires base { self.old.store.base ≡ None }
         ensures state { OnOk result (state_of self.new ≡ record (state_of self.old) { records = records_in self.old ++ record_in saved.now ∷ [] }) }
         ensures tied { OnOk result (AreTied self.new) }
         ensures noted { OnOk result (self.new.ended.items ≡ self.old.ended.items) }
-        ensures joins { OnOk result (Joins (opening_of self.old.opened) self.old.next (records_in self.old) (record_in saved.now)) }
-        ensures damaged { result ≡ Err ImageFault.Damaged → Joins (opening_of self.old.opened) self.old.next (records_in self.old) (record_in saved.now) → ⊥ }
+        ensures joins { OnOk result (JoinsParts self.old (record_in saved.now)) }
+        ensures damaged { result ≡ Err ImageFault.Damaged → JoinsParts self.old (record_in saved.now) → ⊥ }
     {
         if !self.may_join(saved) {
             return Err(ImageFault::Damaged);
@@ -249,15 +247,15 @@ impl Parts {
     /// Adds a record, which has its acknowledgements.
     fn load_acknowledged(&mut self, pending: Pending, saved: &Saved) -> Result<(), ImageFault>
         requires tied { AreTied self.old }
-        requires sound { AreSoundRecords (opening_of self.old.opened) self.old.next (records_in self.old) }
+        requires sound { HaveSoundRecords self.old }
         requires base { self.old.store.base ≡ None }
         requires made { IsMade pending saved.now }
         requires once { NamesEachOnce (record_in saved.now) }
-        requires place { IsRecord (record_in saved.now) → Joins (opening_of self.old.opened) self.old.next (records_in self.old) (record_in saved.now) }
+        requires place { IsRecord (record_in saved.now) → JoinsParts self.old (record_in saved.now) }
         ensures state { OnOk result (state_of self.new ≡ record (state_of self.old) { records = records_in self.old ++ record_in saved.now ∷ [] }) }
         ensures tied { OnOk result (AreTied self.new) }
         ensures noted { OnOk result (self.new.ended.items ≡ self.old.ended.items) }
-        ensures joins { OnOk result (Joins (opening_of self.old.opened) self.old.next (records_in self.old) (record_in saved.now)) }
+        ensures joins { OnOk result (JoinsParts self.old (record_in saved.now)) }
         ensures damaged { result ≡ Err ImageFault.Damaged → IsRecord (record_in saved.now) → ⊥ }
     {
         // Tells that the configuration is within its limits.
@@ -289,10 +287,10 @@ impl Parts {
     /// Adds a done record. Fails only for want of memory.
     fn load_done(&mut self, done: Done, saved: &Saved) -> Result<(), AllocError>
         requires tied { AreTied self.old }
-        requires sound { AreSoundRecords (opening_of self.old.opened) self.old.next (records_in self.old) }
+        requires sound { HaveSoundRecords self.old }
         requires base { self.old.store.base ≡ None }
         requires done { done ≡ record_in saved.now }
-        requires joins { Joins (opening_of self.old.opened) self.old.next (records_in self.old) done }
+        requires joins { JoinsParts self.old done }
         ensures state { OnOk result (state_of self.new ≡ record (state_of self.old) { records = records_in self.old ++ record_in saved.now ∷ [] }) }
         ensures tied { OnOk result (AreTied self.new) }
         ensures noted { OnOk result (self.new.ended.items ≡ self.old.ended.items) }
@@ -329,7 +327,7 @@ impl Parts {
 
 /// A list of sound records stays sound with one more exactly where the tests of the next record hold.
 pub(crate) fn joining()
-    ensures joined { (o : Opening) (next : ℕ) (rs : List Record) (r : Record) → AreSoundRecords o next rs → Joins o next rs r → AreSoundRecords o next (rs ++ r ∷ []) }
-    ensures tested { (o : Opening) (next : ℕ) (rs : List Record) (r : Record) → AreSoundRecords o next (rs ++ r ∷ []) → Joins o next rs r }
-    ensures front { (o : Opening) (next : ℕ) (xs ys : List Record) → AreSoundRecords o next (xs ++ ys) → AreSoundRecords o next xs }
+    ensures joined { JoinedAreSound }
+    ensures tested { LastJoins }
+    ensures front { FrontIsSound }
 {}

@@ -33,8 +33,8 @@ impl Core {
     }
 
     /// The moment from which neither the interval nor the pause holds a checkpoint back, in
-    /// milliseconds: no tick before it triggers one. A tick at it or later triggers one unless as
-    /// many are pending as may be, or the job does not run. So this is when to tick next.
+    /// milliseconds: no tick before it triggers one. So this is when to tick next. A tick from then
+    /// on triggers one unless it is refused, fails the job over, or finds as many pending as may be.
     pub fn due(&self) -> u64
         ensures value { result ≡ next_due self.now }
         ensures before { NoneTriggersBefore self.now result }

@@ -1,15 +1,14 @@
 //! Calls that take, report, show and count.
-ghost use Rattle.std.specs.Prelude.{◌≡◌, Some, IsSome, IfOk, OnErr, option_map};
+ghost use Rattle.std.specs.Prelude.{◌≡◌, Some, IsSome, IfOk, IfErr, OnErr, option_map};
 ghost use Rattle.ckpt_ids.specs.Records.{metadata_of};
 ghost use Rattle.ckpt_ids.specs.declared.call.Call.TheVariants as call;
-ghost use Rattle.ckpt_ids.specs.declared.reply.Refusal.TheVariants.{NotTaken};
 ghost use Rattle.ckpt_core.specs.Inside.Parts.{Answers, AreSound, IsAccepted, Stays, records_in, state_of};
 ghost use Rattle.ckpt_core.specs.Inside.RecordFacts.{IsInOrder, id_before};
 ghost use Rattle.ckpt_core.specs.Refusals.{refusal};
 ghost use Rattle.ckpt_core.specs.State.{record_of};
 
 use crate::parts::Parts;
-use ckpt_ids::{CheckpointId, FileId, Metadata, Reply};
+use ckpt_ids::{CheckpointId, FileId, Metadata, Refusal, Reply};
 use std::alloc::AllocError;
 
 impl Parts {
@@ -24,32 +23,31 @@ impl Parts {
         Ok(Reply::Taken(self.outbox.take(most)?))
     }
 
-    /// A fetched file is deleted. Answers the error exactly where the file is not taken. It is of the
-    /// type that `answer` hands on as it is, and of a report never means want of memory.
+    /// A fetched file is deleted. Refuses exactly where the file is not taken.
     #[inline(never)]
-    pub(crate) fn deleted(&mut self, file: FileId) -> Result<Reply, AllocError>
+    pub(crate) fn deleted(&mut self, file: FileId) -> Result<Reply, Refusal>
         requires { AreSound self.old }
         ensures ok { IfOk result (Answers self.old self.new (call.Deleted file)) }
         ensures err { OnErr result (Stays self.old self.new) }
-        ensures not_taken { OnErr result (refusal (state_of self.old) (call.Deleted file) ≡ Some NotTaken) }
+        ensures refused { IfErr result (λ why. refusal (state_of self.old) (call.Deleted file) ≡ Some why) }
     {
         match self.outbox.deleted(file) {
             Ok(()) => Ok(Reply::Deleted(file)),
-            Err(_) => Err(AllocError),
+            Err(_) => Err(Refusal::NotTaken),
         }
     }
 
-    /// A fetched file could not be deleted. Answers the error as `deleted` does.
+    /// A fetched file could not be deleted. Refuses exactly where the file is not taken.
     #[inline(never)]
-    pub(crate) fn undeleted(&mut self, file: FileId) -> Result<Reply, AllocError>
+    pub(crate) fn undeleted(&mut self, file: FileId) -> Result<Reply, Refusal>
         requires { AreSound self.old }
         ensures ok { IfOk result (Answers self.old self.new (call.Undeleted file)) }
         ensures err { OnErr result (Stays self.old self.new) }
-        ensures not_taken { OnErr result (refusal (state_of self.old) (call.Undeleted file) ≡ Some NotTaken) }
+        ensures refused { IfErr result (λ why. refusal (state_of self.old) (call.Undeleted file) ≡ Some why) }
     {
         match self.outbox.undeleted(file) {
             Ok(()) => Ok(Reply::Undeleted(file)),
-            Err(_) => Err(AllocError),
+            Err(_) => Err(Refusal::NotTaken),
         }
     }
 

@@ -5,9 +5,8 @@ ghost use Rattle.ckpt_ids.specs.Ordered.{AreDistinct, IsIn};
 ghost use Rattle.ckpt_ids.specs.Records.{Record, is_present};
 ghost use Rattle.ckpt_core.specs.declared.mode.Mode.TheVariants.{Running};
 ghost use Rattle.ckpt_core.specs.Images.{CanHold, state_in};
-ghost use Rattle.ckpt_core.specs.Inside.Loading.{AreFilesApart, HasSoundMoments, HasSoundNumbers, emptied, with_more_waiting};
+ghost use Rattle.ckpt_core.specs.Inside.Loading.{AreFilesApart, HasBase, HasSoundMoments, HasSoundNumbers, MayWait, emptied, with_more_waiting};
 ghost use Rattle.ckpt_core.specs.Inside.Parts.{AreSound, AreTied, records_in, state_of};
-ghost use Rattle.ckpt_core.specs.Refusals.{is_done_savepoint};
 
 use crate::image::{Image, ImageFault};
 use crate::mode::Mode;
@@ -91,8 +90,8 @@ impl Parts {
         ensures state { OnOk result (state_of self.new ≡ record (state_of self.old) { base = base }) }
         ensures tied { OnOk result (AreTied self.new) }
         ensures rest { self.new ≡ record self.old { store = record self.old.store { base = self.new.store.base } } }
-        ensures there { OnOk result ((id : ℕ) → base ≡ Some id → is_done_savepoint (state_of self.old) id ≡ true) }
-        ensures damaged { result ≡ Err ImageFault.Damaged → ((id : ℕ) → base ≡ Some id → is_done_savepoint (state_of self.old) id ≡ true) → ⊥ }
+        ensures there { OnOk result (HasBase (state_of self.old) base) }
+        ensures damaged { result ≡ Err ImageFault.Damaged → HasBase (state_of self.old) base → ⊥ }
     {
         // what the store and the pending records ensure, which ties their records to the state
         self.recall_groups();
@@ -125,7 +124,7 @@ impl Parts {
         ensures parts { OnOk result (self.new ≡ with_more_waiting self.old files.now) }
         ensures unused { OnOk result ((f : ℕ) → IsIn f files.now → is_present self.old.registry f ≡ false) }
         ensures apart { OnOk result (AreDistinct (self.new.outbox.waiting ++ self.new.outbox.taken)) }
-        ensures damaged { result ≡ Err ImageFault.Damaged → AreFilesApart self.old.registry ((self.old.outbox.waiting ++ files.now) ++ self.old.outbox.taken) → ⊥ }
+        ensures damaged { result ≡ Err ImageFault.Damaged → MayWait self.old files.now → ⊥ }
     {
         for file in files {
             if self.knows(*file) {

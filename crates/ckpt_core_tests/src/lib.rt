@@ -16,4 +16,6 @@ mod limits;
 #[cfg(test)]
 mod queries;
 #[cfg(test)]
+mod reads;
+#[cfg(test)]
 mod refused_memory;

@@ -61,26 +61,6 @@ fault_told_as T gives m call r (Refused why) is refused other =
     sym (gives why) ∙ ap (λ (s : Stepped). T s.1) (sym (refused_step m call why ((refused why).0 is)))
 fault_told_as T gives m call r Memory is refused other = absurd (other refl)
 
-never_answers : (call : Call) → takes_no_memory call ≡ true → (answer : ids.Answer) → answer_wants call answer ≡ false
-never_answers call none (Refused-answer why) = refl
-never_answers (call.Decline now id subtask) none (Done reply) = refl
-never_answers (call.Dispose id) none (Done reply) = refl
-never_answers (call.Restore now target None) none (Done reply) = refl
-never_answers (call.Cancel now) none (Done reply) = refl
-never_answers (call.Deleted file) none (Done reply) = refl
-never_answers (call.Undeleted file) none (Done reply) = refl
-never_answers (call.Count file) none (Done reply) = refl
-never_answers (call.Tick now) none (Done reply) = absurd (both_ways false refl none)
-never_answers (call.Savepoint now) none (Done reply) = absurd (both_ways false refl none)
-never_answers (call.Ack now id subtask fresh reused) none (Done reply) = absurd (both_ways false refl none)
-never_answers (call.Restore now target (Some shape)) none (Done reply) = absurd (both_ways false refl none)
-never_answers (call.Take most) none (Done reply) = absurd (both_ways false refl none)
-never_answers (call.Show id) none (Done reply) = absurd (both_ways false refl none)
-
--- the calls that take no memory want none
-pub never_wants : (m : State) (call : Call) → takes_no_memory call ≡ true → may_want_memory m call ≡ true → ⊥
-never_wants m call none wants = both_ways (may_want_memory m call) (never_answers call none (step m call).1) wants
-
 takes_some : (m : State) (n : ℕ) → refusal m (call.Take n) ≡ None → length (files_in (step m (call.Take n)).1) ≡ min n (length m.waiting)
 unfolding step effect take_files
 takes_some m n none = ap (λ (w : Option Why). length (files_in (unless_refused m (call.Take n) w).1)) none ∙ length-take n m.waiting

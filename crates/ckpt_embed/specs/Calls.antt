@@ -1,5 +1,5 @@
 -- What a call through a handle leaves and answers.
-use Rattle.std.specs.Prelude.{◌≡◌, ◌≢◌, ℕ, Bool, true, false, ◌==◌, if◌then◌else◌, List, [], ◌∷◌, Option, Some, None, is_none}
+use Rattle.std.specs.Prelude.{◌≡◌, ◌≢◌, ℕ, Bool, true, false, ◌==◌, if◌then◌else◌, List, [], ◌∷◌, Option, Some, None, is_none, Result, Err}
 use Rattle.ckpt_ids.specs.declared.subtask.SubtaskId.{SubtaskId}
 use Rattle.ckpt_ids.specs.declared.call.Call.{Call}
 use Rattle.ckpt_ids.specs.declared.call.Call.TheVariants as call
@@ -29,6 +29,10 @@ IsAnswered old new call answer =
 -- a step that a core has made, and tells
 abbrev pub IsStepTold : State → State → Call → Answer → Type 0
 IsStepTold old new call answer = answer.code ≢ no_memory → (new ≡ (step old call).0) × (answer ≡ told (step old call).1)
+
+-- the argument that keeps a call from being made, unless memory ran out
+abbrev pub IsWhyNoCall : Result Call ℕ → Answer → Type 0
+IsWhyNoCall given answer = answer.code ≢ no_memory → (given ≡ Err answer.what) × (answer ≡ bad_argument answer.what)
 
 -- an answer of no memory has no numbers
 abbrev pub HasNoNumbers : Answer → Type 0

@@ -13,6 +13,7 @@ use Rattle.ckpt_embed.specs.declared.answer.Answer.{Answer}
 use Rattle.ckpt_embed.specs.declared.writing.CallFields.{CallFields}
 use Rattle.ckpt_embed.specs.Calls.{ack_of, restore_of}
 use Rattle.ckpt_embed.specs.Lines.{bad_line}
+use Rattle.ckpt_embed.specs.Opening.{bad_opening}
 use Rattle.ckpt_embed.specs.Told.{bad_argument, bad_shape, done, too_short}
 
 -- a kind that no call has
@@ -62,9 +63,13 @@ newline = 10 ∷ []
 unfoldable pub opening_text : Opening → List ℕ
 opening_text o = config_text o.config ++ newline ++ job_text o.shape ++ newline ++ start_text o.start ++ newline
 
-abbrev pub opening_told : Option ℕ → List ℕ → ℕ → Answer
-opening_told None text places = text_told text places
-opening_told (Some what) text places = bad_argument what
+-- what is told of a text, unless an argument is bad
+abbrev pub text_told_unless : Option ℕ → List ℕ → ℕ → Answer
+text_told_unless None text places = text_told text places
+text_told_unless (Some what) text places = bad_argument what
+
+abbrev pub opening_told : Opening → ℕ → Answer
+opening_told o places = text_told_unless (bad_opening o) (opening_text o) places
 
 -- each of the three lines is read as what it says
 abbrev pub OpeningReadsBack : Opening → Answer → Type 0

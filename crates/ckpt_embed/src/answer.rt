@@ -1,4 +1,4 @@
-//! What a C program is told: an answer by value, made of a reply, a refusal or a fault.
+//! What a C program gets: an answer by value, made of a reply, a refusal or a fault.
 
 ghost use Rattle.std.specs.Prelude.{◌≡◌};
 ghost use Rattle.ckpt_embed.specs.Lines.{bad_line};
@@ -6,15 +6,19 @@ ghost use Rattle.ckpt_embed.specs.Told.{refusal_told, reply_told, restore_told, 
 
 use ckpt_ids::{Choice, FileId, Refusal, Reply, TickEnd};
 
-/// What a call answered, by value: a code, which reply or refusal it is, and its numbers.
+/// The answer to a call, by value.
 ///
-/// `relkvanu.h` names the codes and the replies and refusals.
+/// `relkvanu.h` names the codes, the replies and the refusals.
 #[repr(C)]
 #[derive(Clone, Copy, Debug, PartialEq, Eq)]
 pub struct Answer {
+    /// One of the codes below.
     pub code: u32,
+    /// Which reply, refusal, argument or fault it is.
     pub what: u32,
+    /// Its first number, or 0.
     pub a: u64,
+    /// Its second number, or 0.
     pub b: u64,
 }
 
@@ -34,7 +38,7 @@ pub const TOO_SHORT: u32 = 5;
 pub const BAD_LINE: u32 = 6;
 
 impl Answer {
-    /// The answer of a call that was made.
+    /// The answer to a call that was made.
     pub(crate) fn done(what: u32, a: u64, b: u64) -> Answer
         ensures { result ≡ done what a b }
     {
@@ -46,7 +50,7 @@ impl Answer {
         }
     }
 
-    /// The answer where memory ran out.
+    /// The answer if memory ran out.
     pub(crate) fn out_of_memory() -> Answer
         ensures { result ≡ out_of_memory }
     {
@@ -82,7 +86,7 @@ impl Answer {
         }
     }
 
-    /// The answer where a buffer has to have `needed` places.
+    /// The answer if a buffer needs `needed` places.
     pub(crate) fn too_short(needed: u64) -> Answer
         ensures { result ≡ too_short needed }
     {
@@ -106,7 +110,7 @@ impl Answer {
         }
     }
 
-    /// A refusal, with the file that it names.
+    /// A refusal, with its file if it has one.
     pub(crate) fn of_refusal(why: Refusal) -> Answer
         ensures { result ≡ refusal_told why }
     {

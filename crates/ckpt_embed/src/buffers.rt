@@ -1,4 +1,4 @@
-//! The calls that write into a caller's buffer: take and show.
+//! The calls that write to a caller's buffer: take and show.
 
 ghost use Rattle.std.specs.Prelude.{◌≡◌, ◌≢◌, ◌≤◌, true, length, Some};
 ghost use Rattle.ckpt_ids.specs.declared.call.Call.TheVariants as call;
@@ -18,8 +18,8 @@ use ckpt_ids::{Call, CheckpointId, Handed, Metadata, Reply};
 use ckpt_texts::metadata_text;
 use std::alloc::Global;
 
-/// Fetches as many files that wait for deletion as the buffer has places, and writes them to its
-/// front.
+/// Fetches files that wait for deletion, as many as the buffer has places, and writes them to the
+/// start of the buffer.
 pub fn take(alloc: Global, handle: &mut Handle, files: &mut [u64]) -> Answer
     ensures closed { StaysClosed handle.old.value handle.new.value result }
     ensures answered { IsAnswered handle.old.value handle.new.value (call.Take (length files.old)) result }
@@ -37,9 +37,9 @@ pub fn take(alloc: Global, handle: &mut Handle, files: &mut [u64]) -> Answer
     answer
 }
 
-/// Writes the metadata of a live record as JSON to the front of the buffer.
+/// Writes the metadata of a live record as JSON to the start of the buffer.
 ///
-/// Where the buffer is too short, it says how many bytes the metadata has: ask again.
+/// If the buffer is too short, the answer says how many bytes the metadata has: call again.
 pub fn show(alloc: Global, handle: &mut Handle, id: u64, json: &mut [u8]) -> Answer
     ensures closed { StaysClosed handle.old.value handle.new.value result }
     ensures answered { (m : State) → handle.old.value ≡ Some m → IsShowTold m id (length json.old) result }
@@ -57,7 +57,7 @@ pub fn show(alloc: Global, handle: &mut Handle, id: u64, json: &mut [u8]) -> Ans
     answer
 }
 
-/// Fetches at most `most` files, for each of which the buffer has a place.
+/// Fetches at most `most` files. The buffer has a place for each.
 pub(crate) fn take_from(core: &mut Core, most: u64, files: &mut [u64]) -> Answer
     requires fits { length (files_in (step core.old (call.Take most)).1) ≤ length files.old }
     ensures answered { IsStepTold core.old core.new (call.Take most) result }
@@ -73,7 +73,7 @@ pub(crate) fn take_from(core: &mut Core, most: u64, files: &mut [u64]) -> Answer
     }
 }
 
-/// Tells a reply, and writes its files to the front of a buffer that is long enough.
+/// The answer for a reply. Writes its files to the start of a buffer that is long enough.
 fn with_files(reply: &Reply, files: &mut [u64]) -> Answer
     requires fits { length (files_of_reply reply.now) ≤ length files.old }
     ensures told { result ≡ reply_told reply.now }
@@ -111,7 +111,7 @@ pub(crate) fn show_from(alloc: Global, core: &mut Core, id: u64, json: &mut [u8]
     }
 }
 
-/// Tells a reply, and writes its metadata to the front of the buffer, where it is long enough.
+/// The answer for a reply. Writes its metadata to the start of the buffer if that is long enough.
 fn with_json(alloc: Global, reply: &Reply, json: &mut [u8]) -> Answer
     ensures told { result.code ≢ no_memory → result ≡ show_reply_told reply.now (length json.old) }
     ensures front { result.code ≡ 0 → StandsInFront (json_of_reply reply.now) json.old json.new }

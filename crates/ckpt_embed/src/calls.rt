@@ -12,13 +12,13 @@ use ckpt_core::{Core, CoreFault};
 use ckpt_ids::{Call, CheckpointId, FileId, Files, Shape, ShapeFault, SubtaskId, Target};
 use std::alloc::{AllocError, Global};
 
-/// What BAD_ARGUMENT says of a shape that no job has.
+/// What BAD_ARGUMENT says of a shape outside its limits.
 pub(crate) const BAD_SHAPE: u32 = 3;
 
 /// Makes a call that has no list and no buffer.
 ///
-/// A closed handle stays closed. Else the coordinator makes the step, and its answer is told; or
-/// memory ran out, and nothing has changed.
+/// A closed handle stays closed. Otherwise the coordinator makes the step, and its answer is
+/// returned. Or memory runs out, and nothing has changed.
 pub fn call(alloc: Global, handle: &mut Handle, call: &Call) -> Answer
     ensures closed { StaysClosed handle.old.value handle.new.value result }
     ensures answered { IsAnswered handle.old.value handle.new.value call.now result }
@@ -35,9 +35,9 @@ pub fn call(alloc: Global, handle: &mut Handle, call: &Call) -> Answer
     answer
 }
 
-/// Makes an acknowledgement with these files, in whatever order they stand.
+/// Makes an acknowledgement with these files, in any order.
 ///
-/// Memory is taken for a copy of the two lists, also where the call is then refused.
+/// Takes memory for a copy of the two lists, even if the call is then refused.
 pub fn ack(
     alloc: Global,
     handle: &mut Handle,
@@ -63,10 +63,9 @@ pub fn ack(
     answer
 }
 
-/// Restores the job: `savepoint` is 0 for the latest, and `shape` is empty for the shape that the
-/// job has.
+/// Restores the job: `savepoint` is 0 for the latest, and `shape` is empty for the current shape.
 ///
-/// Memory is taken for a copy of the shape, also where the call is then refused.
+/// Takes memory for a copy of the shape, even if the call is then refused.
 pub fn restore(
     alloc: Global,
     handle: &mut Handle,
@@ -93,7 +92,7 @@ pub fn restore(
     answer
 }
 
-/// Makes a call and tells its answer.
+/// Makes a call and returns its answer.
 pub(crate) fn answer(core: &mut Core, call: &Call) -> Answer
     ensures answered { IsStepTold core.old core.new call.now result }
     ensures memory { result.code ≡ no_memory → may_want_memory core.old call.now ≡ true }
@@ -107,7 +106,7 @@ pub(crate) fn answer(core: &mut Core, call: &Call) -> Answer
     }
 }
 
-/// What is told where a call changed nothing.
+/// The answer if a call changed nothing.
 pub(crate) fn of_fault(fault: CoreFault) -> Answer
     ensures { result ≡ fault_told fault }
 {

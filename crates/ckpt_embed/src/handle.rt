@@ -13,12 +13,12 @@ use std::marker::Model;
 use std::mem;
 use std::ptr::null_mut;
 
-/// A coordinator, or none where the handle is closed. In C it is one pointer, null where it is
-/// closed.
+/// A coordinator, or none if the handle is closed. In C it is one pointer, and null if the handle
+/// is closed.
 #[repr(C)]
 pub struct Handle {
     at: *mut u8,
-    /// The coordinator's state, where there is one.
+    /// The coordinator's state, if there is one.
     pub ghost value: { Option State },
 }
 
@@ -66,7 +66,7 @@ impl Handle {
         Some(raw.into_box())
     }
 
-    /// Gives the handle this coordinator. One that it had is let go.
+    /// Gives the handle this coordinator. Drops the one that it had.
     pub(crate) fn put(&mut self, alloc: Global, core: Box<Core>)
         ensures { self.new.value ≡ Some core.value }
     {
@@ -77,7 +77,7 @@ impl Handle {
     }
 }
 
-/// The coordinator is owned by the handle alone, so it goes where the handle goes.
+/// Only the handle owns the coordinator, so it moves with the handle.
 unsafe impl Send for Handle {}
 
 /// Does nothing: it stands only where a value of the type may go to another thread.

@@ -1,9 +1,9 @@
 //! The coordinator behind a handle, for programs in other languages.
 //!
-//! A [`Handle`] is what a C program holds: one pointer, null where it is closed. [`open`] gives it a
-//! coordinator, the calls go through it, and [`close`] lets the coordinator go. Each call answers an
-//! [`Answer`] by value, and no memory leaves the handle. [`reads`] are answered alike, and neither take
-//! memory nor change anything.
+//! A C program holds a [`Handle`]: one pointer, null if the handle is closed. [`open`] gives it a
+//! coordinator, the calls go through it, and [`close`] drops the coordinator. Each call returns an
+//! [`Answer`] by value, and no memory leaves the handle. [`reads`] return the same, take no memory
+//! and change nothing.
 #![tactic(auto)]
 
 pub mod answer;

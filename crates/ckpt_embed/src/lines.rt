@@ -49,15 +49,15 @@ const FAULT_EXTRA: u32 = 5;
 
 const FAULT_NO_CALL: u32 = 6;
 
-/// Makes the call that a line of a script says, and answers as that call is answered.
+/// Makes the call of a script's line, and returns the answer of that call.
 ///
-/// The line is the bytes before its newline. A take writes its files to the front of the buffer; where
-/// the buffer has too few places for them, it says how many it needs, and fetches none. A show says how
-/// many bytes its JSON has, as if its buffer were empty. A line that says nothing is answered as skipped,
-/// and one that can't be read, or says no call, with its fault. A restore in a shape that no job has is
-/// answered as [`restore`](crate::restore) answers it.
+/// The line is the bytes before its newline. A take writes its files to the start of the buffer. If
+/// the buffer has too few places for them, the answer says how many it needs, and no file is
+/// fetched. A show says how many bytes its JSON has, as if its buffer were empty. A line without
+/// words or a comment is skipped. A line that can't be read, or makes no call, returns its fault. A
+/// restore in a bad shape returns what [`restore`](crate::restore) returns.
 ///
-/// Memory is taken for the lists of a line, also where the call is then refused, and by the call.
+/// Takes memory for the lists of a line, even if the call is then refused, and for the call.
 pub fn line(alloc: Global, handle: &mut Handle, line: &[u8], files: &mut [u64]) -> Answer
     ensures closed { StaysClosed handle.old.value handle.new.value result }
     ensures answered { IsLineAnswered handle.old.value handle.new.value line.now (length files.old) result }
@@ -109,7 +109,7 @@ fn make_call(alloc: Global, core: &mut Core, call: &Call, files: &mut [u64]) -> 
     }
 }
 
-/// Fetches at most `most` files, or none where the buffer has too few places for them.
+/// Fetches at most `most` files, or none if the buffer has too few places for them.
 fn take_that_fits(core: &mut Core, most: u64, files: &mut [u64]) -> Answer
     ensures new { result.code ≢ no_memory → core.new ≡ (fetched core.old (length files.old) (step core.old (call.Take most))).0 }
     ensures told { result.code ≢ no_memory → result ≡ (fetched core.old (length files.old) (step core.old (call.Take most))).1 }
@@ -134,7 +134,7 @@ fn fetchable(core: &Core, most: u64) -> u64
     if most < waiting { most } else { waiting }
 }
 
-/// What the line says, or what is answered where it says nothing.
+/// What the line says, or the answer if it has a fault.
 #[tactic(auto, unfolding(crate::specs::Lines::said, crate::specs::Lines::reading_wants))]
 fn said(alloc: Global, line: &[u8]) -> Result<Meaning, Answer>
     ensures value { IfOk result (λ meant. said line.now ≡ Ok meant) }
@@ -153,7 +153,7 @@ fn said(alloc: Global, line: &[u8]) -> Result<Meaning, Answer>
     }
 }
 
-/// What is told where a line can't be read.
+/// The answer if a line can't be read.
 fn of_line_fault(why: LineFault) -> Answer
     ensures { result ≡ fault_told why }
 {
@@ -167,11 +167,12 @@ fn of_line_fault(why: LineFault) -> Answer
     }
 }
 
-/// Tells which line of a script it is, and writes the numbers of a line that makes no call to the front
-/// of the buffer, in the line's order.
+/// Returns which line of a script it is. Writes the numbers of a line that makes no call to the
+/// start of the buffer, in the line's order.
 ///
-/// Of a `config` line the last number is 1 for `keep` and 0 for `delete`. Where the buffer has too few
-/// places, it says how many it needs. Memory is taken for the lists of an `ack`, a `job` and a `restore`.
+/// The last number of a `config` line is 1 for `keep` and 0 for `delete`. If the buffer has too few
+/// places, the answer says how many it needs. Takes memory for the lists of an `ack`, a `job` and a
+/// `restore`.
 pub fn line_says(alloc: Global, line: &[u8], numbers: &mut [u64]) -> Answer
     ensures told { result.code ≢ no_memory → result ≡ says_told (lines.reading line.now) (length numbers.old) }
     ensures front { result.code ≡ 0 → StandsInFront (says_numbers (lines.reading line.now)) numbers.old numbers.new }
@@ -219,7 +220,7 @@ fn write_line(line: &Line, numbers: &mut [u64]) -> Answer
     }
 }
 
-/// Writes numbers to the front of the buffer, where it is long enough.
+/// Writes numbers to the start of the buffer if that is long enough.
 fn write_numbers(what: u32, list: &[u64], numbers: &mut [u64]) -> Answer
     ensures told { result ≡ numbers_told what list.now (length numbers.old) }
     ensures front { result.code ≡ 0 → StandsInFront list.now numbers.old numbers.new }

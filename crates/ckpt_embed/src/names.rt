@@ -4,8 +4,8 @@ ghost use Rattle.std.specs.Prelude.{◌≡◌, ◌<◌, ◌≤◌, length, strin
 ghost use Rattle.ckpt_embed.specs.Buffers.{StandsInFront};
 ghost use Rattle.ckpt_embed.specs.Names.{refusal_name};
 
-/// Writes the name of the refusal with this number to the front of the buffer, where it is long
-/// enough, and answers how many bytes the name has: 0 where no refusal has the number.
+/// Writes the name of the refusal with this number to the start of the buffer if that is long
+/// enough. Returns the number of bytes of the name, or 0 if no refusal has the number.
 pub fn refusal_text(what: u32, text: &mut [u8]) -> usize
     ensures length { result ≡ length (refusal_name what) }
     ensures written { result ≤ length text.old → StandsInFront (refusal_name what) text.old text.new }

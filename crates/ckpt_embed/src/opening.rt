@@ -37,17 +37,17 @@ pub struct Settings {
     pub timeout: u64,
     /// 0 to 1000 failed checkpoints in a row.
     pub tolerable: u64,
-    /// 1 to 1000 completed checkpoints that are kept.
+    /// 1 to 1000 completed checkpoints to keep.
     pub retained: u64,
-    /// Whether completed checkpoints are kept when the job is cancelled.
+    /// Whether to keep completed checkpoints when the job is cancelled.
     pub keep_on_cancel: bool,
 }
 
-/// Gives a closed handle a coordinator, from the moment `now` on, whose first record has the
+/// Opens a coordinator in a closed handle, from the moment `now` on. Its first record has the
 /// number `first`.
 ///
-/// The secret keys the maps of files, so that no choice of numbers makes calls slow; it changes no
-/// answer. A handle that is open stays as it is, and says so.
+/// The secret keys the maps of files, so that no choice of numbers makes calls slow. It changes no
+/// answer. An open handle does not change, and the answer says so.
 pub fn open(
     alloc: Global,
     handle: &mut Handle,
@@ -77,7 +77,7 @@ pub fn open(
     }
 }
 
-/// Lets the coordinator go, and frees all memory that it has. A closed handle stays closed.
+/// Drops the coordinator, and frees all its memory. A closed handle stays closed.
 pub fn close(alloc: Global, handle: &mut Handle)
     ensures { handle.new.value ≡ None }
 {
@@ -106,7 +106,7 @@ fn core_of(
     }
 }
 
-/// The configuration, or what is answered where a value is outside its limits.
+/// The configuration, or the answer if a value is outside its limits.
 pub(crate) fn config_of(settings: &Settings) -> Result<Config, Answer>
     ensures good { IfOk result (λ config. is_within_limits (configuration_of settings.now) ≡ true) }
     ensures value { IfOk result (λ config. config ≡ configuration_of settings.now) }
@@ -128,7 +128,7 @@ pub(crate) fn config_of(settings: &Settings) -> Result<Config, Answer>
     }
 }
 
-/// The shape of these parallelisms, or what is answered where there is none.
+/// The shape of these parallelisms, or the answer if there is no such shape.
 pub(crate) fn job_of(alloc: Global, shape: &[u64]) -> Result<Shape, Answer>
     ensures good { IfOk result (λ made. is_shape shape.now ≡ true) }
     ensures value { IfOk result (λ made. made ≡ shape.now) }

@@ -1,4 +1,4 @@
-//! What a handle's coordinator tells without a call. None of it takes memory or changes anything.
+//! Reads of a handle's coordinator. None takes memory or changes anything.
 
 ghost use Rattle.std.specs.Prelude.{◌≡◌, None, Some, option_map, slice_get};
 ghost use Rattle.ckpt_ids.specs.Records.{missing};
@@ -42,14 +42,17 @@ const MISSING: u32 = 35;
 
 const NOT_PENDING: u32 = 36;
 
-/// How many files live records use, how many wait for deletion, and how many were fetched for it and
-/// are not yet reported. The code is `DONE` or `CLOSED`.
+/// The numbers of files.
 #[repr(C)]
 #[derive(Clone, Copy, Debug, PartialEq, Eq)]
 pub struct FileCounts {
+    /// `DONE`, or `CLOSED` and all numbers 0.
     pub code: u32,
+    /// How many files live records use, each counted once.
     pub in_use: u64,
+    /// How many files wait for deletion.
     pub waiting: u64,
+    /// How many files were fetched for deletion and are not yet reported.
     pub taken: u64,
 }
 
@@ -69,7 +72,7 @@ pub fn mode(alloc: Global, handle: &mut Handle) -> Answer
 }
 
 /// The moment from which neither the interval nor the pause holds a checkpoint back, in
-/// milliseconds: when to tick next.
+/// milliseconds: the moment of the next tick.
 pub fn due(alloc: Global, handle: &mut Handle) -> Answer
     ensures closed { StaysClosed handle.old.value handle.new.value result }
     ensures answered { (m : State) → handle.old.value ≡ Some m → result ≡ due_told (next_due m) }
@@ -85,8 +88,8 @@ pub fn due(alloc: Global, handle: &mut Handle) -> Answer
     answer
 }
 
-/// The moment at which the first of the pending records expires, in milliseconds, where one is
-/// pending. Looks at each pending record.
+/// The moment at which the first pending record expires, in milliseconds, if one is pending. Visits
+/// each pending record.
 pub fn oldest_expiry(alloc: Global, handle: &mut Handle) -> Answer
     ensures closed { StaysClosed handle.old.value handle.new.value result }
     ensures answered { (m : State) → handle.old.value ≡ Some m → result ≡ expiry_told (expiry_in result) }
@@ -115,8 +118,8 @@ pub fn choice(alloc: Global, handle: &mut Handle) -> Answer
     answer
 }
 
-/// The live record at this place, where they stand in rising number. Takes a search by halves for
-/// each place before it, and looks at the pending records.
+/// The live record at this place, in order of their numbers. Makes a binary search for each place
+/// before it, and visits the pending records.
 pub fn live(alloc: Global, handle: &mut Handle, place: usize) -> Answer
     ensures closed { StaysClosed handle.old.value handle.new.value result }
     ensures answered { (m : State) → handle.old.value ≡ Some m → result ≡ live_told (option_map live_of (slice_get m.records place)) }
@@ -130,7 +133,7 @@ pub fn live(alloc: Global, handle: &mut Handle, place: usize) -> Answer
     answer
 }
 
-/// How many subtasks of this pending record have not acknowledged.
+/// The number of subtasks of this pending record that have not acknowledged.
 pub fn missing(alloc: Global, handle: &mut Handle, id: u64) -> Answer
     ensures closed { StaysClosed handle.old.value handle.new.value result }
     ensures answered { (m : State) → handle.old.value ≡ Some m → result ≡ missing_told (option_map missing (pending_of m.records id)) }
@@ -144,7 +147,7 @@ pub fn missing(alloc: Global, handle: &mut Handle, id: u64) -> Answer
     answer
 }
 
-/// How many files live records use, wait for deletion, and were fetched for it.
+/// How many files are in use by live records, wait for deletion, and were fetched for deletion.
 pub fn file_counts(alloc: Global, handle: &mut Handle) -> FileCounts
     ensures closed { handle.old.value ≡ None → result ≡ no_counts }
     ensures answered { (m : State) → handle.old.value ≡ Some m → result ≡ counts_of m }

@@ -6,9 +6,9 @@ ghost use Rattle.ckpt_lines.specs.declared.limits.TheConstants.{LONGEST_LINE};
 ghost use Rattle.ckpt_lines.specs.declared.line.Line.TheVariants as line;
 ghost use Rattle.ckpt_call_lines.specs.CallTexts.{IsReadAs, call_text, config_text, job_text, line_of_call, line_of_config, start_text};
 ghost use Rattle.ckpt_embed.specs.Buffers.{StandsInFront};
-ghost use Rattle.ckpt_embed.specs.Calls.{HasNoNumbers};
-ghost use Rattle.ckpt_embed.specs.Opening.{IsWhyNot, OpeningWantsMemory, bad_opening, opening_of};
-ghost use Rattle.ckpt_embed.specs.Told.{bad_argument, no_memory};
+ghost use Rattle.ckpt_embed.specs.Calls.{HasNoNumbers, IsWhyNoCall};
+ghost use Rattle.ckpt_embed.specs.Opening.{IsWhyNot, OpeningWantsMemory, bad_opening, configuration_of, opening_of};
+ghost use Rattle.ckpt_embed.specs.Told.{no_memory};
 ghost use Rattle.ckpt_embed.specs.Writing.{OpeningReadsBack, ReadsBack, call_line_text, call_line_told, given, opening_text, opening_told, text_told};
 
 use crate::answer::Answer;
@@ -102,7 +102,7 @@ fn call_of(
     second: &[u64],
 ) -> Result<Call, Answer>
     ensures value { IfOk result (λ call. given fields.entry.now first.now second.now ≡ Ok call) }
-    ensures fault { IfErr result (λ answer. answer.code ≢ no_memory → (given fields.entry.now first.now second.now ≡ Err answer.what) × (answer ≡ bad_argument answer.what)) }
+    ensures fault { IfErr result (IsWhyNoCall (given fields.entry.now first.now second.now)) }
     ensures memory { IfErr result (λ answer. answer.code ≡ no_memory → IsOk (given fields.entry.now first.now second.now)) }
     ensures numbers { IfErr result HasNoNumbers }
 {
@@ -150,7 +150,7 @@ pub fn opening_lines(
     now: u64,
     lines: &mut [u8],
 ) -> Answer
-    ensures told { result.code ≢ no_memory → result ≡ opening_told (bad_opening (opening_of settings.now shape.now now 1)) (opening_text (opening_of settings.now shape.now now 1)) (length lines.old) }
+    ensures told { result.code ≢ no_memory → result ≡ opening_told (opening_of settings.now shape.now now 1) (length lines.old) }
     ensures front { result.code ≡ 0 → StandsInFront (opening_text (opening_of settings.now shape.now now 1)) lines.old lines.new }
     ensures read { OpeningReadsBack (opening_of settings.now shape.now now 1) result }
     ensures kept { result.code ≢ 0 → lines.new ≡ lines.old }
@@ -166,7 +166,7 @@ pub fn opening_lines(
 fn opening_of(alloc: Global, settings: &Settings, shape: &[u64], now: u64) -> Result<String, Answer>
     ensures good { IfOk result (λ text. bad_opening (opening_of settings.now shape.now now 1) ≡ None) }
     ensures text { IfOk result (λ text. string_bytes text ≡ opening_text (opening_of settings.now shape.now now 1)) }
-    ensures config { IfOk result (λ text. IsReadAs (line_of_config (opening_of settings.now shape.now now 1).config) (config_text (opening_of settings.now shape.now now 1).config)) }
+    ensures config { IfOk result (λ text. IsReadAs (line_of_config (configuration_of settings.now)) (config_text (configuration_of settings.now))) }
     ensures job { IfOk result (λ text. IsReadAs (line.Job shape.now) (job_text shape.now)) }
     ensures start { IfOk result (λ text. IsReadAs (line.Start now) (start_text now)) }
     ensures fault { IfErr result (IsWhyNot (opening_of settings.now shape.now now 1)) }

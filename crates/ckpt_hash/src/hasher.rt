@@ -1,4 +1,4 @@
-//! The hasher that a secret makes: it takes in numbers, one after the other.
+//! The hasher of a secret: it hashes numbers, one after the other.
 ghost use Rattle.std.specs.Prelude.{◌≡◌};
 ghost use Rattle.std.specs.List.{fold};
 ghost use Rattle.std.specs.Hash.FoldHasher.{folded_multiply};
@@ -28,14 +28,14 @@ impl NumberHasher {
         NumberHasher { state, multiplier }
     }
 
-    /// Takes in one number.
+    /// Hashes one number.
     fn mix(&mut self, number: u64)
         ensures { self.new ≡ mixed self.old number }
     {
         self.state = folded_multiply(self.state ^ number, self.multiplier);
     }
 
-    /// Takes in each byte as a number.
+    /// Hashes each byte as a number.
     fn mix_each(&mut self, bytes: &[u8])
         ensures { self.new ≡ fold mixed self.old bytes.now }
     {

@@ -5,7 +5,7 @@ ghost use Rattle.ckpt_hash.specs.Hashing.{begun, secret_of};
 use crate::hasher::NumberHasher;
 use std::hash::BuildHasher;
 
-/// What the words are joined with, so that two zeros are a lawful secret too.
+/// The words are joined with these, so that two zeros are a valid secret too.
 const SEED: u64 = 0x243f_6a88_85a3_08d3;
 
 const MULTIPLIER: u64 = 0x9e37_79b9_7f4a_7c15;
@@ -18,11 +18,11 @@ pub struct Secret {
 }
 
 impl Secret {
-    /// The secret of two words, which are to come from a source of random numbers.
+    /// A secret of two words. Take them from a source of random numbers.
     ///
-    /// The multiplier is odd, whatever the second word: under an even one numbers would lose their
-    /// greatest bits, and under 0 all would hash to 0. So two second words that differ in the lowest
-    /// bit alone make the same secret.
+    /// The multiplier is odd, whatever the second word is. With an even one numbers would lose
+    /// their greatest bits, and with 0 all would hash to 0. So two second words that differ only in
+    /// the lowest bit make the same secret.
     pub fn of(first: u64, second: u64) -> Secret
         ensures { result ≡ secret_of first second }
     {
@@ -32,7 +32,7 @@ impl Secret {
         }
     }
 
-    /// The same words in each run, for keys that nobody chooses: anybody can know them.
+    /// The same words in each run. Anybody can know them, so use them for keys that nobody chooses.
     pub fn fixed() -> Secret
         ensures { result ≡ secret_of 0 0 }
     {

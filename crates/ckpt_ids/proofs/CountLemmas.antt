@@ -1,7 +1,7 @@
 -- How many elements of a list pass a test.
-use Rattle.std.proofs.Common.{◌≡◌, ℕ, suc, ◌+◌, ◌<◌, Bool, true, false, cond, eqb, List, [], ◌∷◌, ◌++◌, map, refl, sym, ap, subst, ◌∙◌, inl, inr, ⊎_elim, arith}
+use Rattle.std.proofs.Common.{◌≡◌, ℕ, suc, ◌+◌, ◌<◌, Bool, true, false, cond, eqb, List, [], ◌∷◌, ◌++◌, filter, map, refl, sym, ap, subst, ◌∙◌, inl, inr, ⊎_elim, arith}
 use Rattle.std.specs.Prelude.{count_by}
-use Rattle.std.proofs.lemmas.Bool.{cases_Bool, cond_both, eqb-true, eq-eqb}
+use Rattle.std.proofs.lemmas.Bool.{cases_Bool, cond_both, cond-true, cond-false, eqb-true, eq-eqb}
 use Rattle.std.proofs.lemmas.List.Sums.{sum_by-append, sum_by-cons}
 use Rattle.ckpt_ids.specs.Counting.{times}
 use Rattle.ckpt_ids.specs.Ordered.{IsIn, put, in_order}
@@ -83,3 +83,25 @@ IsIn-from_times f xs h =
     let q = IsIn-from_counted (λ x. eqb x f) xs h in
     let P : ℕ → Type 0 = λ x. IsIn x xs in
     subst P (eqb-true q.0 f q.2) q.1
+
+-- a filter that is told by the number keeps all of a number or none
+pub times-filter : (p : ℕ → Bool) (z : ℕ) (xs : List ℕ) → times z (filter p xs) ≡ cond (p z) (times z xs) 0
+times-filter p z [] = cond_both (p z) 0 0 (λ n. 0 ≡ n) (λ _. refl) (λ _. refl)
+times-filter p z (x ∷ xs) =
+    let its : ℕ → Bool = λ y. eqb y z in
+    let rest : times z (filter p xs) ≡ cond (p z) (times z xs) 0 = times-filter p z xs in
+    let P : Bool → Type 0 = λ b. times z (cond b (x ∷ filter p xs) (filter p xs)) ≡ cond (p z) (times z (x ∷ xs)) 0 in
+    let other : eqb x z ≡ false → cond (p z) (times z (x ∷ xs)) 0 ≡ cond (p z) (times z xs) 0 = λ (k : eqb x z ≡ false). ap (λ n. cond (p z) n 0) (count_by_no its x xs k) in
+    let yes : p x ≡ true → P (p x) = λ (e : p x ≡ true).
+    let here : eqb x z ≡ true → P true = λ (k : eqb x z ≡ true).
+    let pz : p z ≡ true = ap p (sym (eqb-true x z k)) ∙ e in
+    omega (arith, count_by_yes its x (filter p xs) k, rest, cond-true (p z) (times z xs) 0 pz, cond-true (p z) (times z (x ∷ xs)) 0 pz, count_by_yes its x xs k) in
+    let there : eqb x z ≡ false → P true = λ (k : eqb x z ≡ false). count_by_no its x (filter p xs) k ∙ rest ∙ sym (other k) in
+    subst P (sym e) (⊎_elim here there (cases_Bool (eqb x z))) in
+    let no : p x ≡ false → P (p x) = λ (e : p x ≡ false).
+    let here : eqb x z ≡ true → P false = λ (k : eqb x z ≡ true).
+    let pz : p z ≡ false = ap p (sym (eqb-true x z k)) ∙ e in
+    rest ∙ cond-false (p z) (times z xs) 0 pz ∙ sym (cond-false (p z) (times z (x ∷ xs)) 0 pz) in
+    let there : eqb x z ≡ false → P false = λ (k : eqb x z ≡ false). rest ∙ sym (other k) in
+    subst P (sym e) (⊎_elim here there (cases_Bool (eqb x z))) in
+    ⊎_elim yes no (cases_Bool (p x))

@@ -1,18 +1,18 @@
 -- Numbers that were sorted, each kept once.
-use Rattle.std.proofs.Common.{◌≡◌, ℕ, suc, ◌<◌, true, ltb, eqb, List, [], ◌∷◌, length, get_or, sym, subst, arith}
+use Rattle.std.proofs.Common.{◌≡◌, ℕ, suc, ◌<◌, true, leb, ltb, eqb, List, [], ◌∷◌, length, get_or, sym, subst, ◌∙◌, arith}
 use Rattle.std.specs.List.{AllPairs, Contains, dedup}
 use Rattle.std.specs.List.Sorted.{IsPermutation, IsSorted}
 use Rattle.std.specs.List.Retain.{IsFiltered, DiffersFromLast}
 use Rattle.std.specs.Ordering.{nat_cmp}
-use Rattle.std.proofs.lemmas.Bool.{lt-ltb}
+use Rattle.std.proofs.lemmas.Bool.{ltb-true, lt-ltb, le-leb}
 use Rattle.std.proofs.lemmas.List.Filters.{dedup_is}
 use Rattle.std.proofs.lemmas.List.Kept.{AllPairs-from_increasing, Contains-dedup_nat, Contains-from_dedup}
 use Rattle.std.proofs.lemmas.List.Sorted.{Contains-permutation, IsPermutation-sym}
 use Rattle.std.proofs.lemmas.Map.Keys.{IsStrictlyIncreasing-dedup}
 use Rattle.ckpt_ids.specs.Ordered.{IsIn}
-use Rattle.ckpt_ids.specs.Ascending.{IsAscendingSet, ascending_set}
-use Rattle.ckpt_ids.proofs.OrderedLemmas.{ComesBefore-from, IsIn-place, IsIn-get_or, same_from_members, IsInOrder-in_order_once, IsIn-in_order_once, IsIn-from_in_order_once}
-use Rattle.ckpt_ids.proofs.AscendingLemmas.{numbers_in_order}
+use Rattle.ckpt_ids.specs.Ascending.{IsAscending, IsAscendingSet, ascending, ascending_set}
+use Rattle.ckpt_ids.proofs.OrderedLemmas.{ComesBefore-at, ComesBefore-from, IsIn-place, IsIn-get_or, same_from_members, IsInOrder-in_order_once, IsIn-in_order_once, IsIn-from_in_order_once}
+use Rattle.ckpt_ids.proofs.AscendingLemmas.{ascending_already, numbers_in_order}
 
 IsIn-contained : (x : ℕ) (xs : List ℕ) → Contains xs x → IsIn x xs
 IsIn-contained x xs h = let P : ℕ → Type 0 = λ y. IsIn y xs in subst P h.2 (IsIn-get_or xs h.0 x h.1)
@@ -44,3 +44,14 @@ set-from_dedup all sorted kept moved s filtered =
     let k : Contains sorted z = Contains-permutation all sorted z moved (IsIn-place z all (IsIn-from_in_order_once ltb z all h)) in
     subst In (sym is) (IsIn-contained z (dedup eqb sorted) (Contains-dedup_nat sorted z k)) in
     same_from_members numbers_in_order kept (ascending_set all) strict (IsInOrder-in_order_once numbers_in_order all) forth back
+
+IsAscending-from_set : (xs : List ℕ) → IsAscendingSet xs → IsAscending xs
+IsAscending-from_set [] h = tt
+IsAscending-from_set (x ∷ xs) h =
+    (ComesBefore-from leb x xs (λ y k. le-leb x y (omega (arith, ltb-true x y (ComesBefore-at ltb x y xs h.0 k)))), IsAscending-from_set xs h.1)
+
+pub ascending-from_dedup : (all sorted kept : List ℕ) → IsPermutation all sorted → IsSorted nat_cmp sorted → IsFiltered (DiffersFromLast eqb) [] sorted kept → ascending kept ≡ ascending_set all
+ascending-from_dedup all sorted kept moved s filtered =
+    let is : kept ≡ ascending_set all = set-from_dedup all sorted kept moved s filtered in
+    let up : IsAscending kept = IsAscending-from_set kept (subst IsAscendingSet (sym is) (IsInOrder-in_order_once numbers_in_order all)) in
+    sym (ascending_already kept up) ∙ is

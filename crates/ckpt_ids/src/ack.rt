@@ -15,7 +15,9 @@ use std::slice::Iter;
 /// The acknowledgement of one subtask: all files of its part, fresh and reused together.
 #[derive(Debug, Drop, PartialEq, Eq)]
 pub struct Acked {
+    /// The subtask that acknowledged.
     pub subtask: SubtaskId,
+    /// Its files.
     pub files: Files,
 }
 
@@ -46,7 +48,7 @@ impl Model for Acks {
 impl Acks {
     ghost use Rattle.ckpt_ids.specs.Acknowledged.{AreInSubtaskOrder};
 
-    /// These acknowledgements, which are in the order of their subtasks. Takes no memory.
+    /// A list of these acknowledgements, which are in the order of their subtasks. Takes no memory.
     pub fn of(list: Vec<Acked>) -> Acks
         requires { AreInSubtaskOrder list.items }
         ensures { result ≡ list.items }
@@ -132,10 +134,12 @@ impl Eq for Acks {
     ghost laws = { lists_equiv same_acked-equivalence };
 }
 
-/// What is known of a live record.
+/// What the coordinator knows of a live record.
 #[derive(Debug, Drop, PartialEq, Eq)]
 pub struct Metadata {
+    /// The number of the record.
     pub id: CheckpointId,
+    /// Whether it is a checkpoint or a savepoint.
     pub kind: Kind,
     /// Whether all subtasks have acknowledged.
     pub done: bool,
@@ -143,5 +147,6 @@ pub struct Metadata {
     pub shape: Shape,
     /// The moment of the trigger, in milliseconds.
     pub started: u64,
+    /// The acknowledgements so far.
     pub acks: Acks,
 }

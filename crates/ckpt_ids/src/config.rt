@@ -14,10 +14,10 @@ pub struct BadConfig;
 
 /// How a job takes checkpoints.
 ///
-/// Source of the values: the Flink documentation, "Configuration": `execution.checkpointing.interval`,
-/// `.min-pause`, `.max-concurrent-checkpoints`, `.timeout`, `.tolerable-failed-checkpoints`,
-/// `.externalized-checkpoint-retention` and `state.checkpoints.num-retained`. The limits are this
-/// project's own.
+/// Source of the values: the Flink documentation, "Configuration":
+/// `execution.checkpointing.interval`, `.min-pause`, `.max-concurrent-checkpoints`, `.timeout`,
+/// `.tolerable-failed-checkpoints`, `.externalized-checkpoint-retention` and
+/// `state.checkpoints.num-retained`. The limits are this project's own.
 #[derive(Clone, Copy, Debug, PartialEq, Eq)]
 pub struct Config {
     interval: u64,
@@ -50,15 +50,17 @@ impl Model for Config {
 }
 
 impl Config {
-    /// The configuration of these values.
+    /// A configuration with these values.
     ///
-    /// `interval` is 10 to 2^40 milliseconds between two triggers, `pause` 0 to 2^40 milliseconds
-    /// between a completion and the next trigger, `at_once` 1 to 64 checkpoints that may be
-    /// pending, `timeout` 1 to 2^40 milliseconds after which a pending record expires, `tolerable`
-    /// 0 to 1000 failed checkpoints in a row, `retained` 1 to 1000 completed checkpoints that are
-    /// kept, and `keep_on_cancel` says whether they are kept when the job is cancelled.
+    /// - `interval`: 10 to 2^40 milliseconds between two triggers;
+    /// - `pause`: 0 to 2^40 milliseconds between a completion and the next trigger;
+    /// - `at_once`: 1 to 64 checkpoints that may be pending;
+    /// - `timeout`: 1 to 2^40 milliseconds after which a pending record expires;
+    /// - `tolerable`: 0 to 1000 failed checkpoints in a row;
+    /// - `retained`: 1 to 1000 completed checkpoints to keep;
+    /// - `keep_on_cancel`: whether to keep them when the job is cancelled.
     ///
-    /// Answers [`BadConfig`] exactly where one of them is outside its limits.
+    /// Returns [`BadConfig`] exactly if one of them is outside its limits.
     pub fn new(
         interval: u64,
         pause: u64,

@@ -10,7 +10,7 @@ use std::alloc::AllocError;
 use std::marker::Model;
 use std::slice::Iter;
 
-/// The files of an acknowledgement, in ascending order. One that was named twice stands twice.
+/// The files of an acknowledgement, in ascending order. A file that was named twice is there twice.
 #[derive(Debug)]
 pub struct Files {
     numbers: Vec<FileId>,
@@ -34,8 +34,8 @@ impl Model for Files {
 }
 
 impl Files {
-    /// The same files in ascending order. Sorts in place, and takes no memory. Files that come in this
-    /// order, as most do, are looked through once.
+    /// The same files in ascending order. Sorts in place, and takes no memory. If the files are in
+    /// order already, as most are, one pass over them is enough.
     pub fn of(numbers: Vec<FileId>) -> Files
         ensures { result ≡ ascending numbers.items }
     {
@@ -46,14 +46,14 @@ impl Files {
         Files { numbers }
     }
 
-    /// How many files there are.
+    /// The number of files.
     pub fn len(&self) -> usize
         ensures { result ≡ length self.now }
     {
         self.numbers.len()
     }
 
-    /// Whether there is no file.
+    /// Whether the list is empty.
     pub fn is_empty(&self) -> bool
         ensures { IsTrue result ↔ (self.now ≡ []) }
     {
@@ -84,7 +84,7 @@ impl Files {
         self.numbers.iter()
     }
 
-    /// An equal list. Fails only for want of memory.
+    /// A copy of the list. Fails only if memory runs out.
     pub fn copy(&self) -> Result<Files, AllocError>
         ensures { IfOk result (λ files. files ≡ self.now) }
     {

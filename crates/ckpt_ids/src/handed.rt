@@ -29,21 +29,21 @@ impl Model for Handed {
 }
 
 impl Handed {
-    /// These files, in this order. Takes no memory.
+    /// A list of these files, in this order. Takes no memory.
     pub fn of(numbers: Vec<FileId>) -> Handed
         ensures { result ≡ numbers.items }
     {
         Handed { numbers }
     }
 
-    /// How many files there are.
+    /// The number of files.
     pub fn len(&self) -> usize
         ensures { result ≡ length self.now }
     {
         self.numbers.len()
     }
 
-    /// Whether there is no file.
+    /// Whether the list is empty.
     pub fn is_empty(&self) -> bool
         ensures { IsTrue result ↔ (self.now ≡ []) }
     {

@@ -1,9 +1,9 @@
 //! The names of the checkpoint coordinator: numbers of checkpoints, state files and subtasks, the
 //! shape and the configuration of a job, and the calls and replies of the coordinator.
 //!
-//! Begin with [`Call`] and [`Reply`], which say what the coordinator is asked and what it answers,
-//! and with [`Config`] and [`Shape`], which say what it is opened with. The other crates of this
-//! project stand on these types; `specs/Records.antt` defines what a record is, and what uses a
+//! Begin with [`Call`] and [`Reply`], the calls of the coordinator and what they return, and with
+//! [`Config`] and [`Shape`], which the coordinator is opened with. The other crates of this
+//! project use these types. `specs/Records.antt` defines what a record is, and what uses a
 //! file.
 #![tactic(auto)]
 

@@ -4,9 +4,9 @@ ghost use Rattle.std.specs.Prelude.{ℕ};
 
 use std::marker::Model;
 
-/// The number of a checkpoint or savepoint, 1 to 2^62 - 1 where the coordinator gave it.
+/// The number of a checkpoint or savepoint. The coordinator gives numbers from 1 to 2^62 - 1.
 ///
-/// Checkpoints and savepoints share one row of numbers, which rises by one with each trigger.
+/// Checkpoints and savepoints share one sequence of numbers, which rises by one with each trigger.
 #[derive(Clone, Copy, Debug, PartialEq, Eq, PartialOrd, Ord, Hash)]
 pub struct CheckpointId(pub u64);
 
@@ -18,7 +18,7 @@ impl Model for CheckpointId {
     ghost inverse = { λ n. record { 0 = n } };
 }
 
-/// A state file, by the number that the state backend gave it. Any `u64` is a name.
+/// A state file, by the number that the state backend gave it: any `u64`.
 #[derive(Clone, Copy, Debug, PartialEq, Eq, PartialOrd, Ord, Hash)]
 pub struct FileId(pub u64);
 
@@ -30,13 +30,14 @@ impl Model for FileId {
     ghost inverse = { λ n. record { 0 = n } };
 }
 
-/// Whether a record is a checkpoint, which the coordinator owns, or a savepoint, which its user owns.
+/// Whether a record is a checkpoint or a savepoint. The coordinator owns checkpoints, and users own
+/// savepoints.
 ///
 /// Source of the rule: the Flink documentation, "Checkpoints vs. Savepoints".
 #[derive(Clone, Copy, Debug, PartialEq, Eq, Hash)]
 pub enum Kind {
-    /// Triggered by a tick, dropped when later ones replace it.
+    /// Triggered by a tick, and dropped when later ones replace it.
     Checkpoint,
-    /// Asked for by a user, kept until it is disposed of.
+    /// Asked for by a user, and kept until it is disposed of.
     Savepoint,
 }

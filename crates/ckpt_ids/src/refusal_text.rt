@@ -3,7 +3,7 @@
 use crate::reply::Refusal;
 use std::fmt;
 
-/// The name of the refusal, and the file that it names.
+/// The name of the refusal, and its file if it has one.
 impl fmt::Display for Refusal {
     ghost use Rattle.std.specs.Prelude.{Some};
     ghost use Rattle.ckpt_ids.specs.RefusalTexts.{refusal_text};

@@ -30,33 +30,32 @@ pub enum TickEnd {
     Failed,
 }
 
-/// What an accepted call is answered. Counts of dropped records fit 32 bits, counts of
-/// released files any `u64`.
+/// The reply to an accepted call.
 #[derive(Debug, Drop, PartialEq, Eq)]
 pub enum Reply {
-    /// `expired` pending records were too old.
+    /// `expired` pending records expired. `end` says how the tick ended.
     Ticked { expired: u32, end: TickEnd },
     /// A savepoint was triggered, with this number.
     SavepointTriggered(CheckpointId),
-    /// So many subtasks have not acknowledged yet.
+    /// The number of subtasks that have not acknowledged yet.
     AckPending(u32),
-    /// The record is complete: `dropped` other records went, and `released` files wait for deletion.
+    /// The record is complete. `dropped` other records were dropped, and `released` files released.
     AckCompleted { dropped: u32, released: u64 },
-    /// The record had ended; so many of the fresh files wait for deletion now.
+    /// The record had ended. This many of the fresh files were handed out for deletion.
     AckLate(u64),
-    /// The record was aborted, and so many files were released.
+    /// The record was aborted, and this many files were released.
     DeclineAborted(u64),
-    /// The record was aborted and the job fails over; so many files were released.
+    /// The record was aborted, the job fails over, and this many files were released.
     DeclineFailed(u64),
     /// The record had ended before.
     DeclineLate,
-    /// The savepoint is gone, and so many files were released.
+    /// The savepoint was dropped, and this many files were released.
     Disposed(u64),
-    /// The job restarts from there, and `released` files wait for deletion now.
+    /// The job restarts from `from`, and `released` files were released.
     Restored { from: Choice, released: u64 },
-    /// The job has ended for good: `dropped` records went, and `released` files wait for deletion.
+    /// The job has ended for good. `dropped` records were dropped, and `released` files released.
     Cancelled { dropped: u32, released: u64 },
-    /// These files were fetched for deletion, in the order in which they waited.
+    /// The files that were fetched for deletion, in the order in which they waited.
     Taken(Handed),
     /// The file was reported as deleted, and is forgotten.
     Deleted(FileId),
@@ -68,12 +67,12 @@ pub enum Reply {
     Counted(FileId, u32),
 }
 
-/// Why a call was refused. They are tested in this order, and a refused call changes nothing.
+/// Why a call was refused: the first of these that applies. A refused call changes nothing.
 #[derive(Clone, Copy, Debug, PartialEq, Eq, Hash)]
 pub enum Refusal {
     /// The moment is above 2^62 - 1 milliseconds.
     MomentTooLarge,
-    /// The job has failed or was cancelled.
+    /// The job was cancelled; or it has failed, and the call is a tick or a savepoint.
     NotRunning,
     /// An acknowledgement names more than 4096 files.
     TooManyFiles,
@@ -81,13 +80,14 @@ pub enum Refusal {
     RepeatedFile,
     /// The number was never given.
     UnknownCheckpoint,
-    /// The record is pending and has no such subtask.
+    /// The record is pending, and its shape has no such subtask.
     UnknownSubtask,
-    /// The record is pending and has this subtask's acknowledgement.
+    /// The record is pending, and this subtask has acknowledged it.
     AlreadyAcknowledged,
-    /// The least fresh file that is in use, or waits for deletion.
+    /// This fresh file is in use, waits for deletion or was fetched for it. It is the least such
+    /// file.
     NameTaken(FileId),
-    /// The least reused file that no live record uses.
+    /// No live record uses this reused file. It is the least such file.
     FileGone(FileId),
     /// No completed savepoint has this number.
     NoSuchSavepoint,
@@ -95,7 +95,7 @@ pub enum Refusal {
     InUse,
     /// 1000 savepoints are pending or done.
     TooManySavepoints,
-    /// The file was not fetched for deletion, or is reported already.
+    /// The file was not fetched for deletion, or was reported already.
     NotTaken,
     /// No live record has this number.
     NoSuchRecord,

@@ -11,11 +11,13 @@ use std::marker::Model;
 use std::sync::ArcSlice;
 use thiserror::Error;
 
-/// Why a shape was not made.
+/// Why no shape was made.
 #[derive(Clone, Copy, Debug, PartialEq, Eq, Error)]
 pub enum ShapeFault {
+    /// The parallelisms are outside the limits of a shape.
     #[error("a shape has 1 to 256 parallelisms, each at least 1, and at most 4096 in sum")]
     BadShape,
+    /// Memory ran out.
     #[error("out of memory")]
     Memory,
 }
@@ -36,7 +38,7 @@ impl From<AllocError> for ShapeFault {
 /// 1 to 256 vertices, each with a parallelism of at least 1, and at most 4096 subtasks in all.
 #[derive(Debug)]
 pub struct Shape {
-    // shared by the copies, of which each record has one
+    // the copies share it, and each record has a copy
     parallelisms: ArcSlice<u32>,
     size: u32,
 }
@@ -63,10 +65,11 @@ impl Model for Shape {
 }
 
 impl Shape {
-    /// The shape of these parallelisms, one for each vertex.
+    /// A shape with these parallelisms, one for each vertex.
     ///
-    /// Answers [`ShapeFault::BadShape`] exactly outside 1 to 256 parallelisms, each at least 1, at
-    /// most 4096 in sum, and else [`ShapeFault::Memory`] where memory runs out.
+    /// Returns [`ShapeFault::BadShape`] exactly unless there are 1 to 256 parallelisms, each at
+    /// least 1, at most 4096 in sum. Otherwise it returns [`ShapeFault::Memory`] if memory runs
+    /// out.
     pub fn new(alloc: Global, list: &[u64]) -> Result<Shape, ShapeFault>
         ensures refused { (result ≡ Err ShapeFault.BadShape) ↔ (is_shape list.now ≡ false) }
         ensures value { IfOk result (λ shape. shape ≡ list.now) }
@@ -135,7 +138,7 @@ impl Shape {
         self.parallelisms.as_slice().get(vertex as usize).copied()
     }
 
-    /// An equal shape. Fails only for want of memory.
+    /// A copy of the shape. Fails only if memory runs out.
     pub fn copy(&self) -> Result<Shape, AllocError>
         ensures { IfOk result (λ shape. shape ≡ self.now) }
     {

@@ -13,6 +13,7 @@ use Rattle.ckpt_core.specs.declared.mode.Mode.{Mode}
 use Rattle.ckpt_core.specs.declared.mode.Mode.TheVariants.{Running, Failed, Cancelled}
 use Rattle.ckpt_core.specs.State.{Opening}
 use Rattle.ckpt_image.specs.declared.members.Moments.{Moments}
+use Rattle.ckpt_image.specs.declared.members.Opened.{Opened}
 use Rattle.ckpt_image.specs.declared.members.Outbox.{Outbox}
 use Rattle.ckpt_image.specs.Written.{version}
 use Rattle.serde_json.specs.Data.{Data, Items, no_items, item}
@@ -118,6 +119,9 @@ config_of d =
     with_key (codes "timeout") number_of d (λ timeout.
     with_key (codes "tolerable") number_of d (λ tolerable.
     only is_within_limits (configured interval pause at_once timeout tolerable retained keep_on_cancel))))))))
+
+abbrev pub opening_in : Opened → Opening
+opening_in o = record { config = o.config; shape = o.shape; start = o.start; first = o.first }
 
 unfoldable pub opening_of : Data → Option Opening
 opening_of d =

@@ -5,8 +5,11 @@
 #![tactic(auto)]
 
 mod fault;
+mod lists;
 mod members;
 mod reading;
+mod records;
+mod values;
 mod writing;
 
 pub use fault::TextFault;

@@ -1,26 +1,119 @@
 //! What a text is an image of.
 
-ghost use Rattle.std.specs.Prelude.{◌≡◌, ◌≢◌, Some, None, Err, IfOk, IfErr};
+ghost use Rattle.std.specs.Prelude.{◌≡◌, Some, None, Err, IfOk};
 ghost use Rattle.ckpt_core.specs.Images.{state_in};
-ghost use Rattle.ckpt_image.specs.Images.{image_of, image_read};
+ghost use Rattle.ckpt_image.specs.Images.{Reads, image_of, image_read};
+ghost use Rattle.ckpt_image.specs.Members.{clock_of, opening_in, opening_of, outbox_of};
 ghost use Rattle.serde_json.specs.Data.{Data};
+ghost use Rattle.serde_json.specs.Errors.{IsMemory};
 ghost use Rattle.serde_json.specs.Read.{read};
+ghost use Rattle.serde_json.specs.View.{view};
 
 use crate::fault::TextFault;
+use crate::lists::{files, handed, shape};
+use crate::members::{Moments, Opened, Outbox};
+use crate::records::records;
+use crate::values::{config, half_number, member, mode, number, optional, version};
 use ckpt_core::Image;
+use ckpt_ids::CheckpointId;
+use serde_json::{Error, Value};
 use std::alloc::Global;
 
 /// The image that a text tells, as [`crate::image_text`] writes it.
 ///
 /// Answers [`TextFault::NotJson`] only where the text is no JSON, [`TextFault::NoImage`] only where it is JSON
 /// that tells no image, and [`TextFault::Memory`] where memory runs out.
+#[tactic(auto, unfolding(crate::specs::Images::image_read))]
 pub fn parse_image(alloc: Global, text: &str) -> Result<Image, TextFault>
     ensures ok { IfOk result (λ image. image_read text.now ≡ Some (state_in image)) }
     ensures not_json { result ≡ Err TextFault.NotJson → read text.now ≡ None }
-    ensures none { IfErr result (λ why. why ≢ TextFault.Memory → image_read text.now ≡ None) }
     ensures no_image { result ≡ Err TextFault.NoImage → (d : Data) × (read text.now ≡ Some d) × (image_of d ≡ None) }
 {
-    let _ = alloc;
-    let _ = text;
-    Err(TextFault::Memory)
+    match Value::from_str(alloc, text) {
+        Ok(value) => image(alloc, &value),
+        Err(error) => Err(fault_of(&error)),
+    }
+}
+
+fn fault_of(error: &Error) -> TextFault
+    ensures memory { IsMemory error.now → result ≡ TextFault.Memory }
+    ensures text { (IsMemory error.now → ⊥) → result ≡ TextFault.NotJson }
+{
+    if error.is_memory() {
+        TextFault::Memory
+    } else {
+        TextFault::NotJson
+    }
+}
+
+#[tactic(auto, unfolding(crate::specs::Images::image_of))]
+fn image(alloc: Global, value: &Value) -> Result<Image, TextFault>
+    ensures { Reads state_in result (image_of (view value.now)) }
+{
+    let _ = version(member(value, "version")?)?;
+    let base = optional(member(value, "base")?)?.map(|id| CheckpointId(id));
+    let clock = clock(member(value, "clock")?)?;
+    let failures = half_number(member(value, "failures")?)?;
+    let mode = mode(member(value, "mode")?)?;
+    let next = number(member(value, "next")?)?;
+    let opening = opening(alloc, member(value, "opening")?)?;
+    let outbox = outbox(alloc, member(value, "outbox")?)?;
+    let records = records(alloc, member(value, "records")?)?;
+    let shape = shape(alloc, member(value, "shape")?)?;
+    Ok(Image {
+        config: opening.config,
+        first_shape: opening.shape,
+        start: opening.start,
+        first: opening.first,
+        shape,
+        mode,
+        latest: clock.latest,
+        due: clock.due,
+        completed: clock.completed,
+        failures,
+        next,
+        base,
+        records,
+        waiting: outbox.waiting,
+        taken: outbox.taken,
+    })
+}
+
+#[tactic(auto, unfolding(crate::specs::Members::clock_of))]
+fn clock(value: &Value) -> Result<Moments, TextFault>
+    ensures { Reads (λ clock. clock) result (clock_of (view value.now)) }
+{
+    let completed = optional(member(value, "completed")?)?;
+    let due = number(member(value, "due")?)?;
+    let latest = number(member(value, "latest")?)?;
+    Ok(Moments {
+        completed,
+        due,
+        latest,
+    })
+}
+
+#[tactic(auto, unfolding(crate::specs::Members::opening_of))]
+fn opening(alloc: Global, value: &Value) -> Result<Opened, TextFault>
+    ensures { Reads opening_in result (opening_of (view value.now)) }
+{
+    let config = config(member(value, "config")?)?;
+    let first = number(member(value, "first")?)?;
+    let shape = shape(alloc, member(value, "shape")?)?;
+    let start = number(member(value, "start")?)?;
+    Ok(Opened {
+        config,
+        first,
+        shape,
+        start,
+    })
+}
+
+#[tactic(auto, unfolding(crate::specs::Members::outbox_of))]
+fn outbox(alloc: Global, value: &Value) -> Result<Outbox, TextFault>
+    ensures { Reads (λ outbox. outbox) result (outbox_of (view value.now)) }
+{
+    let taken = files(alloc, member(value, "taken")?)?;
+    let waiting = handed(alloc, member(value, "waiting")?)?;
+    Ok(Outbox { taken, waiting })
 }

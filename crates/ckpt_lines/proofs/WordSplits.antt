@@ -58,13 +58,6 @@ words_of-split (b ∷ bs) some start =
     let whole : filter is_word (take (first_length text) text ∷ parts_after (drop (first_length text) text)) ≡ take (first_length text) text ∷ filter is_word (parts_after (drop (first_length text) text)) = rw word refl in
     parts ∙ whole ∙ ap (λ (ws : List (List ℕ)). take (first_length text) text ∷ ws) rest
 
--- where the first space is, or the end
-pub word_end : (text : List ℕ) (found : Option ℕ) → found ≡ cond (ltb (first_length text) (length text)) (Some (first_length text)) None → first_length text ≤ length text → unwrap_or found (length text) ≡ first_length text
-word_end text found e within =
-    let P : Bool → Type 0 = λ short. ltb (first_length text) (length text) ≡ short → unwrap_or (cond short (Some (first_length text)) None) (length text) ≡ first_length text in
-    let cases : (short : Bool) → P short = λ short. elim short as P [ true ↦ λ _. refl | false ↦ λ full. grind (arith, nat_tests) ] in
-    rw e (cases (ltb (first_length text) (length text)) refl)
-
 -- one word less is left
 pub fewer : (words : List (List ℕ)) (word : List ℕ) (rest : List (List ℕ)) → words ≡ word ∷ rest → length rest < length words
 fewer words word rest split = rw split (omega arith)

@@ -5,18 +5,18 @@ use thiserror::Error;
 /// Why a line could not be read: the first fault from the left.
 #[derive(Clone, Copy, Debug, PartialEq, Eq, Error)]
 pub enum LineFault {
-    /// The first word names no line, the word in the place of `keep` or `delete` is neither, or a
+    /// The first word begins no line, a word that should be `keep` or `delete` is neither, or a
     /// file word begins with neither `+` nor `=`.
     #[error("a word that does not belong there")]
     Word,
-    /// The word in the place of a number or a subtask is not one, or the part of a file word after
-    /// its sign is no number.
+    /// A word that should be a number or a subtask is not one, or the part of a file word after its
+    /// sign is not a number.
     #[error("not a number")]
     Number,
-    /// The line ends before a place that it needs.
+    /// The line ends before a word that it needs.
     #[error("a word is missing")]
     Missing,
-    /// A word follows the last place.
+    /// A word follows the last one.
     #[error("a word too many")]
     Extra,
     /// The line has more than [`LONGEST_LINE`](crate::LONGEST_LINE) bytes.

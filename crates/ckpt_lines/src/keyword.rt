@@ -1,10 +1,10 @@
-//! The first words of lines, and how they are told from their bytes.
+//! The first words of lines, and how to recognize them.
 ghost use Rattle.std.specs.Prelude.{◌≡◌, ◌∷◌};
 ghost use Rattle.std.specs.Option.{IfSome};
 ghost use Rattle.ckpt_lines.specs.Keywords.{keyword_of, spelling};
 ghost use Rattle.ckpt_lines.specs.Words.{words_of};
 
-/// The first word of a line, which says what kind of line it is.
+/// The first word of a line. It says which kind of line it is.
 #[derive(Clone, Copy, Debug, PartialEq, Eq)]
 pub(crate) enum Keyword {
     Config,
@@ -44,7 +44,7 @@ const KEYWORDS: [Keyword; 16] = [
     Keyword::All,
 ];
 
-/// The keyword as a script spells it.
+/// The spelling of the keyword in a script.
 fn spelling(keyword: Keyword) -> &'static [u8]
     ensures { result.now ≡ spelling keyword }
 {
@@ -68,7 +68,7 @@ fn spelling(keyword: Keyword) -> &'static [u8]
     }
 }
 
-/// The keyword that is spelled so, or `None`. The word is compared with one keyword after the other.
+/// The keyword with this spelling, or `None`. Compares the word with one keyword after the other.
 pub(crate) fn keyword_of(word: &[u8]) -> Option<Keyword>
     ensures { result ≡ keyword_of word.now }
 {
@@ -78,12 +78,13 @@ pub(crate) fn keyword_of(word: &[u8]) -> Option<Keyword>
         .copied()
 }
 
-/// The keyword that the text begins with, and what follows the space after it. `None` where the text
-/// begins with none of these, or no space follows at once: the line may still begin with a keyword.
+/// The keyword that the text begins with, and what follows the space after it. `None` if the text
+/// begins with none of these, or if no space follows at once. Then the line may still begin with a
+/// keyword.
 ///
-/// Most lines of a long script begin with these, and it has hundreds of thousands of lines: so they are
-/// told from their bytes, before the word's end is known. The bytes stand one by one, since a byte
-/// string is no pattern for the front of a slice.
+/// Most of the hundreds of thousands of lines of a long script begin with these. So they are
+/// recognized by their bytes, before the end of the word is known. The bytes are written one by
+/// one, because a byte string can't be a pattern for the prefix of a slice.
 pub(crate) fn usual_keyword(text: &[u8]) -> Option<(Keyword, &[u8])>
     ensures { IfSome result (λ found. words_of text.now ≡ spelling found.0 ∷ words_of found.1.now) }
 {
@@ -104,7 +105,8 @@ pub(crate) fn usual_keyword(text: &[u8]) -> Option<(Keyword, &[u8])>
     }
 }
 
-/// As [`usual_keyword`], which asks here last, for the two longest of them: their bytes take a line each.
+/// The same as [`usual_keyword`] for the two longest ones, which it tries last: their bytes take a
+/// line each.
 fn long_keyword(text: &[u8]) -> Option<(Keyword, &[u8])>
     ensures { IfSome result (λ found. words_of text.now ≡ spelling found.0 ∷ words_of found.1.now) }
 {

@@ -1,8 +1,8 @@
 //! The lines of a job script.
 //!
-//! [`parse_line`] reads one line, and answers a [`Line`] or the first [`LineFault`] from the left. How a
-//! line is read is defined in `specs/Reading.antt`, over the list of its words. [`Line::meaning`] answers
-//! the call that a line says, or what else it is, as `specs/Meanings.antt` defines it.
+//! [`parse_line`] reads one line, and returns a [`Line`] or the first [`LineFault`] from the left.
+//! `specs/Reading.antt` defines how a line is read, over the list of its words. [`Line::meaning`]
+//! returns the call of a line, or what else the line is. `specs/Meanings.antt` defines that.
 #![tactic(auto)]
 
 mod fault;

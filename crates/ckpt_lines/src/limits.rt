@@ -1,4 +1,4 @@
-//! The limit of what a line is. It is this project's own: docs/SCRIPT.md, section 11.
+//! The limit of a line. It is this project's own: docs/SCRIPT.md, section 11.
 
-/// How many bytes a line has at most, a carriage return at its end among them.
+/// The most bytes of a line, a carriage return at its end included.
 pub const LONGEST_LINE: usize = 131_072;

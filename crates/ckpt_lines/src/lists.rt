@@ -9,7 +9,7 @@ use crate::words::Words;
 use ckpt_ids::{FileId, Files};
 use std::alloc::Global;
 
-/// The numbers up to the line's end.
+/// The numbers up to the end of the line.
 pub(crate) fn numbers(alloc: Global, words: &mut Words<'_>) -> Result<Numbers, LineFault>
     ensures { Reads result (each number words.old) }
 {
@@ -21,11 +21,11 @@ pub(crate) fn numbers(alloc: Global, words: &mut Words<'_>) -> Result<Numbers, L
     Ok(Numbers::of(list))
 }
 
-/// The file words up to the line's end: the new files and the reused ones.
+/// The file words up to the end of the line: the new files and the reused ones.
 pub(crate) fn files(alloc: Global, words: &mut Words<'_>) -> Result<(Files, Files), LineFault>
     ensures { Reads result (file_places words.old) }
 {
-    // The lists stay in memory as long as the call is kept, so they get no more room than they need.
+    // The lists stay in memory as long as the call, so they get no more room than they need.
     let mut fresh = Vec::with_capacity(alloc, words.occurrences(b'+'))?;
     let mut reused = Vec::with_capacity(alloc, words.occurrences(b'='))?;
     'files: while let Some(file) = words.file()? {

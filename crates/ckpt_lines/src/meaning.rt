@@ -13,43 +13,56 @@ use std::alloc::Global;
 pub enum Meaning {
     /// Nothing: a line without words, or a comment.
     Skip,
-    /// How the job takes checkpoints. A value may be outside its limits, which are those of
+    /// How the job takes checkpoints. A value may be outside the limits of
     /// [`Config::new`](ckpt_ids::Config::new).
     Config {
+        /// Milliseconds between two triggers.
         interval: u64,
+        /// Milliseconds between a completion and the next trigger.
         pause: u64,
+        /// How many checkpoints may be pending.
         at_once: u64,
+        /// Milliseconds after which a pending record expires.
         timeout: u64,
+        /// How many failed checkpoints in a row are tolerated.
         tolerable: u64,
+        /// How many completed checkpoints are kept.
         retained: u64,
+        /// Whether completed checkpoints are kept when the job is cancelled.
         keep_on_cancel: bool,
     },
-    /// The parallelism of each vertex of the job, at least one. They may be no [`Shape`].
+    /// The parallelisms of the job, at least one. They may be outside the limits of a [`Shape`].
     Job {
+        /// The parallelism of each vertex.
         parallelisms: Numbers,
     },
-    /// The coordinator opens.
+    /// Opens the coordinator.
     Start {
+        /// The moment.
         now: u64,
     },
     /// A call of the coordinator.
     Call(Call),
-    /// An acknowledgement of each missing subtask of the pending record `id`, with one new file each,
-    /// numbered from `first` on. The calls are spread over threads.
+    /// An acknowledgement for each missing subtask of the pending record `id`, with one new file
+    /// each, numbered from `first` on.
     All {
+        /// The moment.
         now: u64,
+        /// The number of the record.
         id: CheckpointId,
+        /// How many threads make the calls.
         threads: u64,
+        /// The first file number.
         first: u64,
     },
 }
 
 impl Line {
-    /// What this line says. Each list of the line goes into the answer, and is not copied.
+    /// What this line says. Each list of the line is moved into the result, and not copied.
     ///
-    /// Answers [`ShapeFault::BadShape`] exactly for a `restore` whose parallelisms are not a shape, as
-    /// [`Shape::new`] tells it. Answers [`ShapeFault::Memory`] where memory runs out, on a `restore`
-    /// with parallelisms alone.
+    /// Returns [`ShapeFault::BadShape`] exactly for a `restore` whose parallelisms [`Shape::new`]
+    /// refuses as a shape. Returns [`ShapeFault::Memory`] if memory runs out, and only for a
+    /// `restore` with parallelisms.
     #[tactic(auto, unfolding(crate::specs::Meanings::meaning, crate::specs::Meanings::restoring))]
     #[inline(always)]
     pub fn meaning(self, alloc: Global) -> Result<Meaning, ShapeFault>
@@ -130,7 +143,7 @@ impl Line {
     }
 }
 
-/// The shape of these parallelisms, or `None` where there is none.
+/// The shape of these parallelisms, or `None` if the list is empty.
 #[inline(never)]
 fn new_shape(alloc: Global, parallelisms: &Numbers) -> Result<Option<Shape>, ShapeFault>
     ensures refused { (result ≡ Err ShapeFault.BadShape) ↔ (is_new_shape parallelisms.now ≡ false) }

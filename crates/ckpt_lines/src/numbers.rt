@@ -1,9 +1,9 @@
-//! A list of numbers that a line gives.
+//! The list of numbers of a line.
 ghost use Rattle.std.specs.Prelude.{◌≡◌, ◌↔◌, [], IsTrue, length, slice_get};
 
 use std::marker::Model;
 
-/// Numbers in the order in which a line gives them.
+/// Numbers in the order of the line.
 #[derive(Debug, Drop)]
 pub struct Numbers {
     list: Vec<u64>,
@@ -18,21 +18,21 @@ impl Model for Numbers {
 }
 
 impl Numbers {
-    /// These numbers, in this order. Takes no memory.
+    /// A list of these numbers, in this order. Takes no memory.
     pub fn of(list: Vec<u64>) -> Numbers
         ensures { result ≡ list.items }
     {
         Numbers { list }
     }
 
-    /// How many numbers there are.
+    /// The number of items.
     pub fn len(&self) -> usize
         ensures { result ≡ length self.now }
     {
         self.list.len()
     }
 
-    /// Whether there is no number.
+    /// Whether the list is empty.
     pub fn is_empty(&self) -> bool
         ensures { IsTrue result ↔ (self.now ≡ []) }
     {

@@ -18,7 +18,8 @@ fn without_return(line: &[u8]) -> &[u8]
     line.strip_suffix(b"\r").unwrap_or(line)
 }
 
-/// As [`first_keyword`], for every line: the first word's end is found before the word is compared.
+/// The same as [`first_keyword`] for every line. It finds the end of the first word before it
+/// compares the word.
 #[tactic(auto, unfolding(crate::specs::Reading::line_of))]
 #[inline(never)]
 fn any_keyword(words: &mut Words<'_>) -> Result<Option<Keyword>, LineFault>
@@ -34,8 +35,8 @@ fn any_keyword(words: &mut Words<'_>) -> Result<Option<Keyword>, LineFault>
     Ok(Some(keyword))
 }
 
-/// The keyword of the first word, or `None` where the line is skipped. The usual ones are tried first, as
-/// they are told faster.
+/// The keyword of the first word, or `None` if the line is skipped. Tries the usual ones first,
+/// because they are recognized faster.
 fn first_keyword(words: &mut Words<'_>) -> Result<Option<Keyword>, LineFault>
     ensures { Begins result words.old words.new }
 {
@@ -45,7 +46,7 @@ fn first_keyword(words: &mut Words<'_>) -> Result<Option<Keyword>, LineFault>
     any_keyword(words)
 }
 
-/// The line that these words make.
+/// The line of these words.
 fn line_of(alloc: Global, words: &mut Words<'_>) -> Result<Line, LineFault>
     ensures line { Reads result (line_of words.old) }
     ensures memory { result ≡ Err LineFault.Memory → begins_with_a_list words.old ≡ true }
@@ -59,22 +60,22 @@ fn line_of(alloc: Global, words: &mut Words<'_>) -> Result<Line, LineFault>
 /// Reads one line of a job script: the bytes before its newline.
 ///
 /// One carriage return at the end is dropped. Words are separated by spaces, and spaces at the
-/// line's start and end are dropped. A line without words, and one whose first word begins with
-/// `#`, is [`Line::Skip`]. [`Line`] has the form of each other line.
+/// start and end of the line are dropped. A line without words is [`Line::Skip`], and so is one
+/// whose first word begins with `#`. [`Line`] has the form of each other line.
 ///
-/// A number is one or more digits with a value of at most 2^64 - 1, and zeros may stand first. A
+/// A number is one or more digits with a value of at most 2^64 - 1, and may have leading zeros. A
 /// subtask is a number, a dot and a number, each at most 65535. A file word is `+` or `=` and a
-/// number; file words may be mixed.
+/// number. New and reused files may be mixed.
 ///
-/// Answers [`LineFault::TooLong`] for more than [`LONGEST_LINE`] bytes, the carriage return among them; else
-/// [`LineFault::Word`] where the first word is none of the known ones; else the first fault of the
-/// places from the left. [`LineFault::Memory`] is answered on `ack`, `job` and `restore` alone.
+/// Returns [`LineFault::TooLong`] for more than [`LONGEST_LINE`] bytes, the carriage return
+/// included. Otherwise returns [`LineFault::Word`] if the first word is unknown, otherwise the
+/// first fault from the left. Only `ack`, `job` and `restore` lines return [`LineFault::Memory`].
 #[tactic(auto, unfolding(crate::specs::Reading::reading, crate::specs::Reading::may_want_memory))]
 pub fn parse_line(alloc: Global, line: &[u8]) -> Result<Line, LineFault>
     ensures line { IfOk result (λ read. reading line.now ≡ Ok read) }
     ensures fault { IfErr result (λ why. why ≢ LineFault.Memory → reading line.now ≡ Err why) }
     ensures memory { result ≡ Err LineFault.Memory → may_want_memory line.now ≡ true }
-    // The reading itself is a line or one of the other faults.
+    // Reading returns a line or one of the other faults.
     ensures definite { reading line.now ≢ Err LineFault.Memory }
 {
     if line.len() > LONGEST_LINE {

@@ -12,7 +12,7 @@ use crate::words::Words;
 use ckpt_ids::{CheckpointId, FileId};
 use std::alloc::Global;
 
-/// No word follows the last place.
+/// Checks that no word follows the last one.
 #[tactic(auto, unfolding(crate::specs::Reading::ended))]
 fn end(words: &mut Words<'_>) -> Result<(), LineFault>
     ensures { IsExact result (ended words.old) }

@@ -1,4 +1,4 @@
-//! What a single word says: a number, a subtask, a target, a file.
+//! The value of a single word: a number, a subtask, a target, a file.
 ghost use Rattle.std.specs.Prelude.{◌≡◌, if◌then◌else◌};
 ghost use Rattle.ckpt_lines.specs.Reading.{IsExact};
 ghost use Rattle.ckpt_lines.specs.declared.values.FileWord.TheVariants.{Fresh, Reused};
@@ -16,7 +16,7 @@ pub enum FileWord {
     Reused(FileId),
 }
 
-/// The number of at most 2^64 - 1 that the digits spell. A sign is no digit.
+/// The number that the digits spell, at most 2^64 - 1. A sign is not a digit.
 pub(crate) fn number_of(word: &[u8]) -> Option<u64>
     ensures { result ≡ number_of word.now }
 {
@@ -30,7 +30,7 @@ pub(crate) fn number_of(word: &[u8]) -> Option<u64>
     Some(number)
 }
 
-/// The number with one digit more, or `None` where the byte is no digit or the number is too large.
+/// The number with one more digit, or `None` if the byte is not a digit or the number is too large.
 fn with_digit(number: u64, byte: u8) -> Option<u64>
     ensures { result ≡ with_digit number byte }
 {
@@ -38,14 +38,14 @@ fn with_digit(number: u64, byte: u8) -> Option<u64>
         return None;
     }
     let digit = u64::from(byte - b'0');
-    // Nearly all numbers are far from being too large.
+    // Nearly all numbers are far below the limit.
     if number < u64::MAX / 10 {
         return Some(number * 10 + digit);
     }
     number.checked_mul(10)?.checked_add(digit)
 }
 
-/// The number of a vertex, or of a subtask of one: at most 65535.
+/// The number of a vertex, or the index of a subtask: at most 65535.
 #[tactic(auto, unfolding(crate::specs::Values::part_of))]
 fn part_of(word: &[u8]) -> Option<u16>
     ensures { result ≡ part_of word.now }
@@ -53,7 +53,7 @@ fn part_of(word: &[u8]) -> Option<u16>
     u16::try_from(number_of(word)?).ok()
 }
 
-/// The subtask that the word names: its vertex, a dot and its index.
+/// The subtask of the word: its vertex, a dot and its index.
 #[tactic(auto, unfolding(crate::specs::Values::subtask_of))]
 pub(crate) fn subtask_of(word: &[u8]) -> Option<SubtaskId>
     ensures { result ≡ subtask_of word.now }

@@ -1,4 +1,4 @@
-//! The words of a line, which are taken one after the other.
+//! The words of a line, read one after the other.
 ghost use Rattle.std.specs.Prelude.{◌≡◌, ◌≤◌, ◌+◌, false, length, take};
 ghost use Rattle.std.specs.Option.{option_map};
 ghost use Rattle.ckpt_lines.specs.Reading.{Gives, Takes, file_place, number_place};
@@ -11,13 +11,13 @@ use crate::values::{FileWord, file_word, is_fresh, number_of};
 use ckpt_ids::FileId;
 use std::marker::Model;
 
-/// How many bytes are counted in one byte: sixteen such counts go side by side in a register.
+/// The most bytes that are counted in one byte. Sixteen such counts fit a register.
 const FEW: usize = 255;
 
-/// So many digits are never too large a number.
+/// A number with this many digits always fits.
 const FITTING: usize = 19;
 
-/// The words of a line that are still to be read. One or more spaces stand between two words.
+/// The words of a line that are not read yet. One or more spaces separate two words.
 #[derive(Drop)]
 pub(crate) struct Words<'a> {
     rest: &'a [u8],
@@ -44,7 +44,7 @@ fn without_spaces(text: &[u8]) -> &[u8]
     rest
 }
 
-/// How often this byte stands in at most [`FEW`] bytes.
+/// How often this byte occurs in at most [`FEW`] bytes.
 fn count_of_few(few: &[u8], byte: u8) -> u8 {
     let mut count: u8 = 0;
     for each in few {
@@ -53,7 +53,7 @@ fn count_of_few(few: &[u8], byte: u8) -> u8 {
     count
 }
 
-/// How many bytes stand before the first space, all where there is none.
+/// The number of bytes before the first space, or of all bytes if there is none.
 fn word_length(text: &[u8]) -> usize
     ensures length { result ≡ first_length text.now }
     ensures within { result ≤ length text.now }
@@ -70,14 +70,14 @@ fn word_length(text: &[u8]) -> usize
     count
 }
 
-/// What this byte is worth as a digit, and more than nine where it is none.
+/// The value of this byte as a digit, or more than nine if it is not a digit.
 fn digit_of(byte: u8) -> u64
     ensures { result ≤ 9 → byte ≡ 48 + result }
 {
     u64::from(byte).wrapping_sub(u64::from(b'0'))
 }
 
-/// As [`first_number`], for numbers of any length, and for what is none.
+/// The same as [`first_number`] for numbers of any length, and for words that are not numbers.
 #[inline(never)]
 fn any_number(text: &[u8]) -> Option<(u64, usize)>
     ensures { result ≡ option_map (λ number. (number, first_length text.now)) (number_of (take (first_length text.now) text.now)) }
@@ -87,8 +87,8 @@ fn any_number(text: &[u8]) -> Option<(u64, usize)>
     Some((number, length))
 }
 
-/// The number that the bytes before the first space spell, and how many bytes they are. `None` where
-/// they spell none.
+/// The number that the bytes before the first space spell, and how many bytes these are. `None` if
+/// they are not a number.
 fn first_number(text: &[u8]) -> Option<(u64, usize)>
     ensures { result ≡ option_map (λ number. (number, first_length text.now)) (number_of (take (first_length text.now) text.now)) }
 {
@@ -117,8 +117,8 @@ impl<'a> Words<'a> {
         Words { rest: text }
     }
 
-    /// Takes the next word where it is a keyword that most lines begin with, with no space before it
-    /// and one after it. Else `None`, and no word is taken.
+    /// Takes the next word if it is a keyword that most lines begin with, with no space before it
+    /// and one after it. Otherwise returns `None` and takes no word.
     pub(crate) fn usual_keyword(&mut self) -> Option<Keyword>
         ensures { Takes result self.old self.new }
     {
@@ -127,7 +127,7 @@ impl<'a> Words<'a> {
         Some(keyword)
     }
 
-    /// How often this byte stands in what is left.
+    /// How often this byte occurs in the rest of the line.
     pub(crate) fn occurrences(&self, byte: u8) -> usize {
         let mut count: usize = 0;
         for few in self.rest.chunks(FEW) {
@@ -136,7 +136,7 @@ impl<'a> Words<'a> {
         count
     }
 
-    /// The next word as a number. Its bytes are read once, not first for its end and then for what it spells.
+    /// The next word as a number. Reads its bytes once, both for its end and for its value.
     pub(crate) fn number(&mut self) -> Result<u64, LineFault>
         ensures { Gives result self.new (number_place self.old) }
     {
@@ -153,7 +153,7 @@ impl<'a> Words<'a> {
         }
     }
 
-    /// The next word as a file word, or `None` where no word is left.
+    /// The next word as a file word, or `None` if no word is left.
     pub(crate) fn file(&mut self) -> Result<Option<FileWord>, LineFault>
         ensures { Gives result self.new (file_place self.old) }
     {

@@ -1,10 +1,8 @@
-//! Tests of lines and of texts: what is read ([`ckpt_lines`]), what is printed for an answer
-//! ([`ckpt_texts`]), and calls written as lines ([`ckpt_call_lines`]).
+//! Tests of lines: what is read ([`ckpt_lines`]), and calls written as lines ([`ckpt_call_lines`]).
 //!
-//! `docs/DECISIONS.md` says why they stand apart from the crates that they test.
+//! What is printed for an answer is compared in `examples/rows`, whose outputs have each reply and each refusal but `IdsUsedUp`,
+//! which `ckpt_core_tests` has. `docs/DECISIONS.md` says why tests stand apart from the crate that they test.
 #![tactic(auto)]
 
 #[cfg(test)]
 mod lines;
-#[cfg(test)]
-mod texts;

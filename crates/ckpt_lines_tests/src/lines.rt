@@ -1,6 +1,6 @@
 //! Lines: what they are read as and what they say, and the lines that are written for calls.
-use ckpt_call_lines::{call_line, config_line, job_line, start_line};
-use ckpt_ids::{CheckpointId, Config, Shape, ShapeFault};
+use ckpt_call_lines::call_line;
+use ckpt_ids::{CheckpointId, ShapeFault};
 use ckpt_lines::{Line, LineFault, Meaning, Numbers, parse_line};
 use std::alloc::{AllocError, Global};
 use std::process::Abort;
@@ -166,19 +166,5 @@ fn numbers_keep_their_order(rt: HostRuntime) -> Result<(), Fail> {
     assert!(rt; list.len() == 2 && !list.is_empty());
     assert!(rt; list.get(1) == Some(1) && list.get(2) == None);
     assert_eq!(rt; list.as_slice(), [3, 1].as_slice());
-    Ok(())
-}
-
-#[test]
-fn what_opens_a_job(rt: HostRuntime) -> Result<(), Fail> {
-    let alloc: Global = rt.alloc();
-    let config = Config::new(1000, 0, 1, 600_000, 0, 2, false)?;
-    assert_eq!(rt;
-        config_line(alloc, &config)?.as_str(),
-        "config 1000 0 1 600000 0 2 delete"
-    );
-    let shape = Shape::new(alloc, &[1, 2])?;
-    assert_eq!(rt; job_line(alloc, &shape)?.as_str(), "job 1 2");
-    assert_eq!(rt; start_line(alloc, 0)?.as_str(), "start 0");
     Ok(())
 }

@@ -1,7 +1,7 @@
 //! The book: a coordinator and the log of all its calls.
 
 ghost use Rattle.std.specs.Prelude.{◌≡◌, ◌↔◌, ℕ, [], length, min, IsTrue, IfOk, IfErr, OnOk, OnErr};
-ghost use Rattle.ckpt_core.specs.Soundness.{IsCall, IsSound};
+ghost use Rattle.ckpt_core.specs.Soundness.{IsSound};
 ghost use Rattle.ckpt_core.specs.Steps.{step};
 
 use ckpt_core::{Core, CoreFault, OpenFault, Secret, laws};
@@ -48,19 +48,6 @@ impl Model for Book {
     ghost view = { λ b. history_of b.core b.entries.items b.entries.keep };
 
     ghost invariant = { λ b. IsKept b.core b.entries.items b.entries.keep };
-}
-
-/// Does nothing: its contract tells that the shape of a restore is the shape of a job.
-fn recall_shape(call: &Call)
-    ensures { IsCall call.now }
-{
-    if let Call::Restore {
-        shape: Some(shape),
-        ..
-    } = call
-    {
-        let _ = shape.size();
-    }
 }
 
 impl Book {
@@ -118,8 +105,8 @@ impl Book {
 
     /// Makes a call, enters it, and answers what it gave. A refused call is entered too.
     ///
-    /// Gives the call back for want of memory alone, and then nothing has changed. An entry takes
-    /// memory now and then, so any call may be given back, a refused one too.
+    /// Gives the call back where memory runs out, or at 2^64 - 1 entries, and then nothing has changed.
+    /// An entry takes memory now and then, so any call may be given back, a refused one too.
     pub fn apply(&mut self, seat: u32, call: Call) -> Result<Answer, Call>
         ensures entered { OnOk result (self.new ≡ entered self.old seat call) }
         ensures answer { IfOk result (λ answer. answer ≡ answer_to self.old call) }
@@ -127,14 +114,13 @@ impl Book {
         // The answer to a Count is the number of uses by live records.
         ensures count { (file : ℕ) → call ≡ Count file → IfOk result (λ answer. answer ≡ counted self.old file) }
 
-        // Want of memory.
+        // The call was not made.
         ensures returned { IfErr result (λ back. back ≡ call) }
         ensures unchanged { OnErr result (self.new ≡ self.old) }
     {
         if self.entries.make_room().is_err() {
             return Err(call);
         }
-        recall_shape(&call);
         match self.core.apply(&call) {
             Ok(reply) => {
                 self.entries.push_reserved(Entry { seat, call });

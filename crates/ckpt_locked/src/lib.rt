@@ -1,7 +1,7 @@
-//! The checkpoint coordinator with a list of all its calls, for one thread or for many.
+//! The checkpoint coordinator with a log of all its calls, for one thread or for many.
 //!
-//! [`Book`] is the coordinator and the list beside it, for one thread. `specs/Books.antt` says what
-//! a book tells, and `specs/Promises.antt` what is promised of every book, beside the laws of
+//! [`Book`] is the coordinator with its log, for one thread. `specs/Books.antt` says what
+//! contracts see of a book. `specs/Promises.antt` says what every book promises, beyond the laws of
 //! `ckpt_core`. [`Locked`] is a book that up to [`MOST_SEATS`] threads share, each with a [`Pass`].
 //! `specs/Locks.antt` says what a pass knows.
 #![tactic(auto)]

@@ -1,4 +1,4 @@
-//! A book that many threads share: its callers take turns by tickets.
+//! A book that many threads share. Its callers take turns by tickets.
 ghost use Rattle.std.specs.Prelude.{◌≡◌, ◌↔◌, ◌+◌, ◌<◌, ◌≤◌, [], ◌∷◌, length, vec_capacity, All, IfErr, IfOk, Some};
 ghost use Rattle.ckpt_locked.specs.declared.lock.LockFault.TheVariants.{BadSeats};
 ghost use Rattle.ckpt_locked.specs.Turns.{fresh, idle, claim};
@@ -18,7 +18,7 @@ use thiserror::Error;
 
 /// The right to make calls with one seat.
 ///
-/// In contracts it knows its lock, its seat, the list of the book as it saw it last (`seen`), and
+/// In contracts it knows its lock, its seat, the log of the book as it saw it last (`seen`), and
 /// its own calls in order (`own`). No other pass has its seat, and it can't be copied.
 #[derive(Drop)]
 pub struct Pass {
@@ -39,8 +39,8 @@ impl Model for Pass {
 
 /// A book whose callers take turns, in the order in which they drew their tickets.
 ///
-/// Whenever nobody has the turn, the book in it is a [`Book`] as any other, of which all holds that
-/// [`Book::core`] promises.
+/// While nobody has the turn, the book in it is an ordinary [`Book`], with all promises of
+/// [`Book::core`].
 pub struct Locked {
     table: Table<Option<Book>, View, Key, Turns, Global>,
     seats: u32,
@@ -64,32 +64,35 @@ impl Model for Locked {
     ghost invariant = { λ l. IsTurns l.table.shared.table_id × (l.table.shared.key.seats ≡ l.seats) × (0 < l.seats) };
 }
 
-/// Why there is no lock. They are tested in this order.
+/// Why no lock was made: the first of these that applies.
 #[derive(Clone, Copy, Debug, PartialEq, Eq, Error)]
 pub enum LockFault {
     /// No seats, or more than [`MOST_SEATS`].
     #[error("a lock has 1 to 64 seats")]
     BadSeats,
+    /// Memory ran out.
     #[error("out of memory")]
     Memory,
 }
 
-/// Fewer passes came than the lock has seats. Everything comes back.
+/// The caller gave fewer passes than the lock has seats. It gets everything back.
 #[derive(Drop)]
 pub struct MissingPass {
+    /// The lock.
     pub locked: Locked,
+    /// The passes that the caller gave.
     pub passes: Vec<Pass>,
 }
 
 impl Pass {
-    /// The seat, counted from 0. Entries of the pass's calls have it.
+    /// The seat, from 0. Entries of the pass's calls have this number.
     pub fn seat(&self) -> u32
         ensures { result ≡ self.now.seat }
     {
         self.number
     }
 
-    /// How many calls were made with the pass.
+    /// The number of calls that were made with the pass.
     pub fn calls(&self) -> u64
         ensures { result ≡ length self.now.own }
     {
@@ -98,11 +101,11 @@ impl Pass {
 }
 
 impl Locked {
-    /// A lock over the book, with a pass for each of 1 to [`MOST_SEATS`] seats, in order. Takes memory
-    /// where the book does.
+    /// A lock over the book, with a pass for each of 1 to [`MOST_SEATS`] seats, in order. Takes
+    /// memory from the allocator of the book.
     ///
-    /// Gives the book back with [`LockFault::BadSeats`] exactly where there are 0 seats or more than
-    /// [`MOST_SEATS`], and else with [`LockFault::Memory`] for want of memory alone.
+    /// Returns the book with [`LockFault::BadSeats`] exactly if there are 0 seats or more than
+    /// [`MOST_SEATS`], otherwise with [`LockFault::Memory`] only if memory runs out.
     pub fn new<R: Wait>(
         rt: &R,
         book: Book,
@@ -137,11 +140,11 @@ impl Locked {
         }
     }
 
-    /// Waits for its turn, and makes a call with the pass, which is one of this lock's.
+    /// Waits for its turn, and makes a call with a pass of this lock.
     ///
-    /// The list of the book begins with all that the pass had seen, and then ends with this call. The
-    /// answer is what the call is answered after the entries before it. Fails only for want of memory:
-    /// then the pass and the call come back as they were.
+    /// Afterwards the log of the book begins with all that the pass had seen, and ends with this
+    /// call. The answer is that of the call after the entries before it. Fails only if memory runs
+    /// out. Then the caller gets the pass and the call back unchanged.
     pub fn call<R: Wait>(
         &self,
         rt: &R,
@@ -187,10 +190,10 @@ impl Locked {
         }
     }
 
-    /// Ends the lock and its passes, and gives the book, with the calls of all passes. The passes are
-    /// this lock's.
+    /// Ends the lock and its passes, and returns the book, with the calls of all passes. The passes
+    /// are those of this lock.
     ///
-    /// Gives all back exactly where fewer passes come than there are seats.
+    /// Returns everything unchanged exactly if there are fewer passes than seats.
     pub fn close<R: Wait>(self, rt: &R, mut passes: Vec<Pass>) -> Result<Book, MissingPass>
         requires passes { All (λ p. p.lock ≡ self) passes.items }
         ensures all { IfOk result (λ book. self.base.seats ≤ length passes.items) }
@@ -219,7 +222,7 @@ impl Locked {
     }
 }
 
-/// Takes the book out of the slots that came back.
+/// Takes the book out of the returned slots.
 fn book_in(mut slots: Vec<Option<Book>>) -> Book
     requires one { (book : _) × (slots.items ≡ Some book ∷ []) }
     ensures { slots.items ≡ Some result ∷ [] }
@@ -230,7 +233,7 @@ fn book_in(mut slots: Vec<Option<Book>>) -> Book
     book
 }
 
-/// Takes the number, which is the next.
+/// Takes this number, which is the next one.
 fn take_number<R: Wait>(rt: &R, shared: &Shared, seat: &mut Seat, number: u32)
     requires table { (seat.old.table_id ≡ shared.now.table_id) × IsTurns shared.now.table_id }
     requires fresh { (seat.old.me ≡ (fresh seat.old.me.0.mine.base, [])) × (number < seat.old.me.0.mine.base.seats) }
@@ -251,7 +254,7 @@ fn take_number<R: Wait>(rt: &R, shared: &Shared, seat: &mut Seat, number: u32)
     unreachable!()
 }
 
-/// A pass with this number, which is the next.
+/// A pass with this number, which is the next one.
 fn new_pass<R: Wait>(rt: &R, shared: &Shared, first: &mut Seat, number: u32) -> Pass
     requires table { (first.old.table_id ≡ shared.now.table_id) × IsTurns shared.now.table_id }
     requires fresh { (first.old.me ≡ (fresh first.old.me.0.mine.base, [])) × (number < first.old.me.0.mine.base.seats) }
@@ -267,7 +270,7 @@ fn new_pass<R: Wait>(rt: &R, shared: &Shared, first: &mut Seat, number: u32) -> 
     }
 }
 
-/// A pass for each seat, into room that was made.
+/// A pass for each seat, in reserved room.
 fn give_out<R: Wait>(
     rt: &R,
     shared: &Shared,
@@ -286,7 +289,7 @@ fn give_out<R: Wait>(
     passes
 }
 
-/// Joins another pass to a seat that has its turn with this ticket, and compares the two.
+/// Joins another pass to the seat that has its turn with this ticket, and compares the two.
 fn compare(shared: &Shared, seat: &mut Seat, other: Pass, _ticket: u64)
     requires table { (seat.old.table_id ≡ shared.now.table_id) × IsTurns shared.now.table_id }
     requires out { IsOut seat.old.me _ticket }

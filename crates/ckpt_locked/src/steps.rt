@@ -1,9 +1,9 @@
 //! The steps of a call on the lock's table.
 //!
-//! A thread draws a ticket and waits until the ticket is served: it looks for a while where few are
-//! before it, and else sleeps on a word of its own, its perch. Then it makes its call on the book,
-//! which stays in its slot, counts the entry, passes the turn on, and wakes whoever has the next
-//! ticket, and whoever is to have it soon, if they sleep.
+//! A thread draws a ticket and waits until the ticket is served. If few tickets are before it, it
+//! polls for a while. Otherwise it sleeps on a word of its own, its perch. Then it makes its call
+//! on the book in its slot, counts the entry, and passes the turn on. It wakes the thread with the
+//! next ticket, and one that will soon have its turn, if they sleep.
 ghost use Rattle.std.specs.Prelude.{◌≡◌, ◌+◌, ◌^◌, ◌<◌, ◌≤◌, [], ◌∷◌, length, Some, IfErr, IfOk};
 ghost use Rattle.ckpt_locked.specs.Books.{History};
 ghost use Rattle.ckpt_locked.specs.Turns.{kept, grown, idle, waiting, Called};
@@ -21,7 +21,7 @@ use std::thread::yield_now;
 /// A place in the lock's table, of no bytes.
 pub type Seat = atomic_table::Seat<Option<Book>, View>;
 
-/// What all threads share of the table.
+/// The part of the table that all threads share.
 pub type Shared = atomic_table::Shared<Option<Book>, View, Key, Turns>;
 
 /// The word that counts the entries since the lock was made.
@@ -36,18 +36,18 @@ pub const SERVED: usize = 2;
 /// The word with the next seat's number.
 pub const SEATS: usize = 3;
 
-/// The first of 64 words to sleep on, one for each ticket of 64 in a row.
+/// The first of 64 words to sleep on, one for each of 64 consecutive tickets.
 const PERCHES: usize = 4;
 
-/// How many words the table has.
+/// The number of words of the table.
 pub const WORDS: usize = 68;
 
-/// How often a seat looks for its turn before it sleeps, where at most `NEAR` are before it.
+/// How often a seat checks for its turn before it sleeps, if at most `NEAR` tickets are before it.
 const LOOKS: u32 = 1000;
 
 const NEAR: u64 = 3;
 
-/// Who is so far behind the ticket that was served is woken before its turn.
+/// The seat whose ticket is this far behind the served one is woken before its turn.
 const AHEAD: u64 = 3;
 
 /// Waits until the ticket is served.
@@ -79,8 +79,8 @@ fn wait<R: Wait>(rt: &R, shared: &Shared, seat: &mut Seat, ticket: u64)
     unreachable!()
 }
 
-/// Marks the perch, looks once more, sleeps until it is woken, and takes its mark off. Whoever passes
-/// the turn raises `SERVED` first and takes the mark off then, so no wake is lost.
+/// Marks the perch, checks once more, sleeps until it is woken, and removes its mark. The thread
+/// that passes the turn first raises `SERVED` and then removes the mark, so no wake is lost.
 fn rest<R: Wait>(rt: &R, shared: &Shared, seat: &mut Seat, ticket: u64, perch: usize)
     requires table { (seat.old.table_id ≡ shared.now.table_id) × IsTurns shared.now.table_id }
     requires perch { (4 ≤ perch) × (perch < 68) }
@@ -95,21 +95,21 @@ fn rest<R: Wait>(rt: &R, shared: &Shared, seat: &mut Seat, ticket: u64, perch: u
     shared.swap::<Stir>(seat, perch, 0);
 }
 
-/// The word that the ticket's seat sleeps on. No two tickets that wait have the same.
+/// The word that the ticket's seat sleeps on. No two waiting tickets have the same.
 fn perch_of(ticket: u64) -> usize
     ensures { (4 ≤ result) × (result < 68) }
 {
     PERCHES + (ticket % 64) as usize
 }
 
-/// What the ticket's seat marks its perch with: odd, so that also its low half is not 0, and no other
-/// ticket's below [`TICKETS_END`]. So a thread that was cut off while it passed a turn takes no later
-/// ticket's mark off.
+/// The mark of the ticket's seat on its perch. It is odd, so its low half is not 0 either. Each
+/// ticket below [`TICKETS_END`] has its own mark. So a thread that was cut off while it passed a
+/// turn does not remove the mark of a later ticket.
 fn mark_of(ticket: u64) -> u64 {
     ticket.wrapping_mul(2) | 1
 }
 
-/// Wakes the seat with this ticket, whose turn has come, where it sleeps or is about to: without its
+/// Wakes the seat with this ticket, if it sleeps or is about to: its turn has come. Without its
 /// mark it does not fall asleep any more.
 fn rouse(shared: &Shared, seat: &mut Seat, ticket: u64)
     requires table { (seat.old.table_id ≡ shared.now.table_id) × IsTurns shared.now.table_id }
@@ -117,14 +117,14 @@ fn rouse(shared: &Shared, seat: &mut Seat, ticket: u64)
 {
     let perch = perch_of(ticket);
     let mark = mark_of(ticket);
-    // Nearly always nobody sleeps there, and to look costs less than to write.
+    // Nearly always nobody sleeps there, and a read costs less than a write.
     if shared.peek(perch) == mark && shared.compare_exchange::<Stir>(seat, perch, mark, 0) == mark {
         shared.wake_one(perch);
     }
 }
 
-/// Wakes the seat with this ticket before its turn, where it sleeps. Its mark stays, so whoever passes
-/// the turn to it wakes it then, also where this thread is cut off here.
+/// Wakes the seat with this ticket before its turn, if it sleeps. Its mark stays. So the thread
+/// that passes the turn to it wakes it then, even if this thread is cut off here.
 fn rouse_early(shared: &Shared, ticket: u64)
     requires { IsTurns shared.now.table_id }
 {
@@ -134,8 +134,8 @@ fn rouse_early(shared: &Shared, ticket: u64)
     }
 }
 
-/// Wakes the seat whose turn it is after this ticket, and the one that is to be awake when its turn
-/// comes.
+/// Wakes the seat whose turn comes after this ticket, and the one that should be awake when its
+/// turn comes.
 fn rouse_next(shared: &Shared, seat: &mut Seat, ticket: u64)
     requires table { (seat.old.table_id ≡ shared.now.table_id) × IsTurns shared.now.table_id }
     ensures same { (seat.new.table_id ≡ seat.old.table_id) × (seat.new.me ≡ seat.old.me) }
@@ -156,7 +156,7 @@ pub fn enter<R: Wait>(rt: &R, shared: &Shared, seat: &mut Seat) -> u64
     ticket
 }
 
-/// Makes a call on the book that a slot has.
+/// Makes a call on the book in a slot.
 fn apply_in(slot: &mut Option<Book>, number: u32, call: Call) -> Result<Answer, Call>
     requires { (book : History) × (slot.old ≡ Some book) }
     ensures made { (book : History) → slot.old ≡ Some book → IfOk result (λ answer. Entered book number call slot.new answer) }
@@ -168,7 +168,7 @@ fn apply_in(slot: &mut Option<Book>, number: u32, call: Call) -> Result<Answer, 
     Ok(answer)
 }
 
-/// Makes a call on the book, which stays where it is. The ticket is for the clauses alone.
+/// Makes a call on the book in its slot. The ticket is for the clauses alone.
 pub fn ask(
     shared: &Shared,
     seat: &mut Seat,
@@ -185,8 +185,8 @@ pub fn ask(
     apply_in(seat.slot_mut(shared, 0), number, call)
 }
 
-/// Counts the entry that the book has more, and passes the turn on. The last two arguments are for
-/// the clauses alone.
+/// Counts the new entry of the book, and passes the turn on. The last two arguments are for the
+/// clauses alone.
 pub fn commit(shared: &Shared, seat: &mut Seat, ticket: u64, _number: u32, _call: &Snapshot<Call>)
     requires table { (seat.old.table_id ≡ shared.now.table_id) × IsTurns shared.now.table_id }
     requires number { _number ≡ seat.old.me.0.mine.number }
@@ -200,7 +200,7 @@ pub fn commit(shared: &Shared, seat: &mut Seat, ticket: u64, _number: u32, _call
     rouse_next(shared, seat, ticket);
 }
 
-/// Passes the turn on. The book is as it was.
+/// Passes the turn on. The book has not changed.
 pub fn leave(shared: &Shared, seat: &mut Seat, ticket: u64)
     requires table { (seat.old.table_id ≡ shared.now.table_id) × IsTurns shared.now.table_id }
     requires book { HasBook seat.old.me ticket (kept seat.old.me.0.mine.base seat.old.me.0.found) }

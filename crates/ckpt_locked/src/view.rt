@@ -1,43 +1,52 @@
-//! What a seat of the lock's table knows, the rule of the table, and its steps. No value of a view is
-//! made: views are for clauses alone.
+//! What a seat of the lock's table knows, the rule of the table, and its steps. No code makes a
+//! view: views are for clauses alone.
 use crate::book::{Book, Entry};
 use atomic_table::{Join, Play, Split, TableRule};
 use ckpt_ids::Call;
 use std::collections::LinkedList;
 use std::snapshot::Snapshot;
 
-/// What is fixed when a lock is made: the book as it is then, and the number of seats.
+/// What is fixed when a lock is made.
 #[derive(Drop)]
 pub struct Base {
+    /// The book at that moment.
     pub book: Book,
+    /// The number of seats.
     pub seats: u32,
 }
 
-/// A seat's number, the entries since the lock was made that it has seen, and the calls that it has
-/// made.
+/// What a pass knows.
 #[derive(Drop)]
 pub struct Claim {
+    /// The lock.
     pub base: Base,
+    /// The number of the seat.
     pub number: u32,
+    /// The entries since the lock was made that it has seen.
     pub later: LinkedList<Entry>,
+    /// The calls that it has made, in order.
     pub own: LinkedList<Call>,
 }
 
 /// What a seat of the table knows.
 pub struct View {
-    // It is not used up.
+    /// It is not used up.
     pub live: bool,
-    // It has a number, which is `mine.number`.
+    /// It has a number, which is `mine.number`.
     pub numbered: bool,
+    /// What its pass knows.
     pub mine: Claim,
-    // It has a ticket.
+    /// It has a ticket.
     pub queued: bool,
+    /// Its ticket.
     pub ticket: u64,
-    // Its turn is known, and then all entries since the lock was made.
+    /// It knows that its turn has come.
     pub turn: bool,
+    /// All entries since the lock was made, if it has its turn.
     pub found: LinkedList<Entry>,
-    // It has taken in another pass, to compare.
+    /// It has joined another pass, to compare.
     pub claims: bool,
+    /// What the other pass knows.
     pub other: Claim,
 }
 
@@ -57,10 +66,12 @@ impl Drop for View {
     }
 }
 
-/// What the table is told when it is made.
+/// What the table gets when it is made.
 #[derive(Drop)]
 pub struct Key {
+    /// The book at that moment.
     pub book: Snapshot<Book>,
+    /// The number of seats.
     pub seats: u32,
 }
 
@@ -75,7 +86,7 @@ impl TableRule<Option<Book>, View, Key> for Turns {
     ghost first = { λ key. fresh (base_of key) };
 }
 
-/// A new seat knows what the first one does.
+/// A new seat knows what the first one knows.
 pub struct Same;
 
 impl Split<View> for Same {
@@ -84,7 +95,7 @@ impl Split<View> for Same {
     ghost right = { λ v. v };
 }
 
-/// A seat that has its turn takes in an idle one.
+/// A seat that has its turn joins an idle one.
 pub struct Take;
 
 impl Join<View> for Take {
@@ -113,7 +124,7 @@ impl Play<Option<Book>, View> for Draw {
     ghost then = { drawn };
 }
 
-/// A seat looks whether its turn has come, and takes the slot where it has.
+/// A seat checks whether its turn has come, and takes the slot if it has.
 pub struct Await;
 
 impl Play<Option<Book>, View> for Await {
@@ -149,7 +160,7 @@ impl Play<Option<Book>, View> for Stir {
     ghost then = { stirred };
 }
 
-/// A seat learns of the one that it took in.
+/// A seat learns what the joined one knows.
 pub struct Compare;
 
 impl Play<Option<Book>, View> for Compare {

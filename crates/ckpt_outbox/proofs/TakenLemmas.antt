@@ -1,13 +1,13 @@
 -- How often a file stands in lists that have each file once, and what the index tells of the files that are taken.
 use Rattle.std.proofs.Common.{◌≡◌, ◌∙◌, ◌+◌, ℕ, Bool, true, false, ◌||◌, cond, eqb, List, [], ◌∷◌, ◌++◌, filter, refl, sym, ap, subst, ⊎_elim, nat_eq, arith}
 use Rattle.std.specs.Prelude.{Option, is_some}
-use Rattle.std.specs.List.{list_any, IsDistinct, AllByRecursion}
-use Rattle.std.proofs.lemmas.Bool.{cases_Bool, both_ways, cond-true, cond-false, eqb-true}
+use Rattle.std.specs.List.{IsDistinct, AllByRecursion}
+use Rattle.std.proofs.lemmas.Bool.{cases_Bool, eqb-true}
 use Rattle.ckpt_ids.specs.Ascending.{ascending}
 use Rattle.ckpt_ids.specs.Counting.{times}
-use Rattle.ckpt_ids.specs.Ordered.{IsIn, AreDistinct}
+use Rattle.ckpt_ids.specs.Ordered.{AreDistinct}
 use Rattle.ckpt_ids.proofs.AscendingLemmas.{IsAscending-ascending, same_from_times, times-ascending, times-cons}
-use Rattle.ckpt_ids.proofs.CountLemmas.{count_by_yes, count_by_no}
+use Rattle.ckpt_ids.proofs.CountLemmas.{times-filter}
 use Rattle.ckpt_ids.proofs.OrderedLemmas.{AreDistinct-right}
 use Rattle.ckpt_outbox.specs.Places.{is_apart}
 use Rattle.ckpt_outbox.specs.Queues.{is_in}
@@ -43,32 +43,6 @@ times-distinct f [] d = refl
 times-distinct f (x ∷ xs) d =
     let P : ℕ → Type 0 = λ y. is_in y xs ≡ false in
     once_more f x xs (λ e. subst P (sym (eqb-true f x e)) (not_in x xs d.0)) (times-distinct f xs d.1)
-
-cond_same : (b : Bool) (n : ℕ) → cond b n n ≡ n
-cond_same true n = refl
-cond_same false n = refl
-
--- a filter that is told by the number keeps all of a number or none
-times-filter : (p : ℕ → Bool) (z : ℕ) (xs : List ℕ) → times z (filter p xs) ≡ cond (p z) (times z xs) 0
-times-filter p z [] = sym (cond_same (p z) 0)
-times-filter p z (x ∷ xs) =
-    let its : ℕ → Bool = λ y. eqb y z in
-    let rest : times z (filter p xs) ≡ cond (p z) (times z xs) 0 = times-filter p z xs in
-    let P : Bool → Type 0 = λ b. times z (cond b (x ∷ filter p xs) (filter p xs)) ≡ cond (p z) (times z (x ∷ xs)) 0 in
-    let other : eqb x z ≡ false → cond (p z) (times z (x ∷ xs)) 0 ≡ cond (p z) (times z xs) 0 = λ (k : eqb x z ≡ false). ap (λ n. cond (p z) n 0) (count_by_no its x xs k) in
-    let yes : p x ≡ true → P (p x) = λ (e : p x ≡ true).
-    let here : eqb x z ≡ true → P true = λ (k : eqb x z ≡ true).
-    let pz : p z ≡ true = ap p (sym (eqb-true x z k)) ∙ e in
-    omega (arith, count_by_yes its x (filter p xs) k, rest, cond-true (p z) (times z xs) 0 pz, cond-true (p z) (times z (x ∷ xs)) 0 pz, count_by_yes its x xs k) in
-    let there : eqb x z ≡ false → P true = λ (k : eqb x z ≡ false). count_by_no its x (filter p xs) k ∙ rest ∙ sym (other k) in
-    subst P (sym e) (⊎_elim here there (cases_Bool (eqb x z))) in
-    let no : p x ≡ false → P (p x) = λ (e : p x ≡ false).
-    let here : eqb x z ≡ true → P false = λ (k : eqb x z ≡ true).
-    let pz : p z ≡ false = ap p (sym (eqb-true x z k)) ∙ e in
-    rest ∙ cond-false (p z) (times z xs) 0 pz ∙ sym (cond-false (p z) (times z (x ∷ xs)) 0 pz) in
-    let there : eqb x z ≡ false → P false = λ (k : eqb x z ≡ false). rest ∙ sym (other k) in
-    subst P (sym e) (⊎_elim here there (cases_Bool (eqb x z))) in
-    ⊎_elim yes no (cases_Bool (p x))
 
 -- what the index tells of a file that does not wait
 once_apart : (tickets : ℕ → Option ℕ) (ws : List ℕ) (b : Bool) (f : ℕ) → is_some (tickets f) ≡ b → cond (is_apart tickets ws f) (one_if b) 0 ≡ one_if (is_apart tickets ws f)

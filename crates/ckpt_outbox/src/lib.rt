@@ -1,10 +1,10 @@
-//! The outbox of a coordinator: the state files that nothing uses any more and that wait to be
-//! deleted, and those that were fetched and not yet reported.
+//! The outbox of a coordinator: the state files that nothing uses any more and that wait for
+//! deletion, and those that were fetched and not yet reported.
 //!
-//! [`Outbox`] keeps the files that wait in a queue, and an index with a ticket for each file that waits
-//! or is taken. The ticket says where the file waits, if it waits, so a report costs a look-up and no
-//! call scans the queue. Of the files that are taken only the number is kept: contracts know their
-//! order, and no call asks for it.
+//! [`Outbox`] keeps the waiting files in a queue, and an index with a ticket for each file that
+//! waits or is taken. The ticket of a waiting file says its place in the queue. So a report costs
+//! one look-up, and no call scans the queue. Only the number of taken files is kept: contracts know
+//! their order, and no call asks for it.
 #![tactic(auto)]
 
 pub mod outbox;

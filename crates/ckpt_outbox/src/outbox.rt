@@ -1,5 +1,5 @@
 //! The outbox: files that wait for deletion, and those that were fetched for it.
-ghost use Rattle.std.specs.Prelude.{◌≡◌, ◌≤◌, ◌<◌, ◌+◌, ◌-◌, ◌^◌, ◌↔◌, ◌++◌, ◌∷◌, ℕ, [], true, false, max, min, length, take, drop, IsErr, IfOk, OnOk, OnErr};
+ghost use Rattle.std.specs.Prelude.{◌≡◌, ◌≤◌, ◌<◌, ◌+◌, ◌-◌, ◌^◌, ◌↔◌, ◌++◌, ◌∷◌, ℕ, [], true, false, max, min, length, take, drop, slice_get, IsErr, IfOk, OnOk, OnErr};
 ghost use Rattle.std.specs.VecDeque.{deque_capacity};
 ghost use Rattle.ckpt_ids.specs.Ascending.{ascending};
 ghost use Rattle.ckpt_outbox.specs.Queues.{AreDistinct, Queues, is_in, is_known, is_taken, without};
@@ -18,8 +18,7 @@ use thiserror::Error;
 #[error("the file is not taken")]
 pub struct NotTaken;
 
-/// The files that were handed out: those that wait to be fetched, and those that were taken and are
-/// not yet reported.
+/// The files that were handed out: those that wait, and those that were taken and not yet reported.
 #[derive(Debug)]
 pub struct Outbox {
     alloc: Global,
@@ -56,8 +55,9 @@ impl Model for Outbox {
     ghost invariant = { λ o. IsSound o.waiting.items o.front (deque_capacity o.waiting) o.taken o.index o.spare };
 }
 
-/// Makes room for so many more files. A growth at least doubles the room: the queue's own may grow
-/// to what is asked, and would copy the queue for each file that is taken and not reported.
+/// Makes room for this many more files. A growth at least doubles the room. The queue's own growth
+/// may stop at the requested size, and would copy the queue for each file that is taken and not
+/// reported.
 fn grow(queue: &mut VecDeque<FileId>, additional: usize) -> Result<(), AllocError>
     ensures items { queue.new.items ≡ queue.old.items }
     ensures ok { OnOk result (length queue.new.items + additional ≤ deque_capacity queue.new) }
@@ -72,16 +72,16 @@ fn grow(queue: &mut VecDeque<FileId>, additional: usize) -> Result<(), AllocErro
 }
 
 impl Outbox {
-    /// An empty outbox, for files whose numbers nobody chooses: anybody can know how they are
-    /// hashed. Takes no memory.
+    /// An empty outbox, for file numbers that nobody chooses: anybody can know how it hashes them.
+    /// Takes no memory.
     pub fn new(alloc: Global) -> Outbox
         ensures { result ≡ record { waiting = []; taken = []; spare = 0 } }
     {
         Outbox::keyed(alloc, Secret::fixed())
     }
 
-    /// An empty outbox, which hashes the files' numbers under a secret: whoever chooses them can't
-    /// make look-ups slow. Takes no memory.
+    /// An empty outbox that hashes the files' numbers under a secret. So whoever chooses the
+    /// numbers can't make look-ups slow. Takes no memory.
     pub fn keyed(alloc: Global, secret: Secret) -> Outbox
         ensures { result ≡ record { waiting = []; taken = []; spare = 0 } }
     {
@@ -95,9 +95,9 @@ impl Outbox {
         }
     }
 
-    /// Makes room, so that `n` files can be put without memory. Room that is there stays.
+    /// Makes room, so that `n` files can be put without memory. Existing room stays.
     ///
-    /// Fails only for want of memory, and then nothing has changed.
+    /// Fails only if memory runs out, and then nothing has changed.
     pub fn reserve(&mut self, n: u64) -> Result<(), AllocError>
         ensures ok { OnOk result (self.new ≡ record self.old { spare = max n self.old.spare }) }
         ensures err { OnErr result (self.new ≡ self.old) }
@@ -124,8 +124,10 @@ impl Outbox {
         self.spare -= 1;
     }
 
-    /// Hands these files out: they go to the end of waiting, in this order. Takes no memory, since
-    /// `reserve` made the room.
+    /// Hands these files out: they go to the end of waiting, in this order. Takes no memory.
+    ///
+    /// Conditions: [`Outbox::reserve`] made room for them all, no two of them are the same, and
+    /// none waits or is taken.
     pub fn put(&mut self, files: &[FileId])
         requires room { length files.now ≤ self.old.spare }
         requires distinct { AreDistinct files.now }
@@ -137,7 +139,7 @@ impl Outbox {
         }
     }
 
-    /// Moves the first file of waiting to the end of taken, and answers it. Takes no memory.
+    /// Moves the first file of waiting to the end of taken, and returns it. Takes no memory.
     fn take_one(&mut self) -> FileId
         requires { 0 < length self.old.waiting }
         ensures first { self.old.waiting ≡ result ∷ self.new.waiting }
@@ -151,10 +153,10 @@ impl Outbox {
         file
     }
 
-    /// Takes the first `most` files of waiting, or all where there are fewer, and answers them. They
-    /// go to the end of taken.
+    /// Moves the first `most` files of waiting, or all if there are fewer, to the end of taken, and
+    /// returns them.
     ///
-    /// Fails only for want of memory, and then nothing has changed.
+    /// Fails only if memory runs out, and then nothing has changed.
     pub fn take(&mut self, most: u64) -> Result<Handed, AllocError>
         ensures files { IfOk result (λ files. files ≡ take most self.old.waiting) }
         ensures ok { OnOk result (self.new ≡ record self.old { waiting = drop most self.old.waiting; taken = self.old.taken ++ take most self.old.waiting }) }
@@ -170,7 +172,7 @@ impl Outbox {
 
     /// The file was deleted: it leaves taken. Takes no memory.
     ///
-    /// Answers [`NotTaken`] exactly where the file is not taken, and then nothing has changed.
+    /// Returns [`NotTaken`] exactly if the file is not taken, and then nothing has changed.
     pub fn deleted(&mut self, file: FileId) -> Result<(), NotTaken>
         ensures refused { IsErr result ↔ (is_taken self.old file ≡ false) }
         ensures ok { OnOk result (self.new ≡ record self.old { taken = without file self.old.taken }) }
@@ -185,9 +187,9 @@ impl Outbox {
     }
 
     /// The file could not be deleted: it goes from taken to the end of waiting. Takes no memory,
-    /// since waiting keeps room for all of taken.
+    /// because waiting has room for all taken files.
     ///
-    /// Answers [`NotTaken`] exactly where the file is not taken, and then nothing has changed.
+    /// Returns [`NotTaken`] exactly if the file is not taken, and then nothing has changed.
     pub fn undeleted(&mut self, file: FileId) -> Result<(), NotTaken>
         ensures refused { IsErr result ↔ (is_taken self.old file ≡ false) }
         ensures ok { OnOk result (self.new ≡ record self.old { waiting = self.old.waiting ++ file ∷ []; taken = without file self.old.taken }) }
@@ -201,7 +203,15 @@ impl Outbox {
         Ok(())
     }
 
-    /// The files that wait, in their order. Fails only for want of memory.
+    /// The file at this place among those that wait, where the next to be fetched is the first, or
+    /// `None` past the last. Takes constant time.
+    pub fn waiting_file(&self, place: usize) -> Option<FileId>
+        ensures { result ≡ slice_get self.now.waiting place }
+    {
+        self.waiting.get(place).copied()
+    }
+
+    /// The waiting files, in their order. Fails only if memory runs out.
     pub fn waiting_files(&self) -> Result<Handed, AllocError>
         ensures { IfOk result (λ files. files ≡ self.now.waiting) }
     {
@@ -209,8 +219,8 @@ impl Outbox {
         Ok(Handed::of(files))
     }
 
-    /// The files that are taken, in ascending order: their own order is not in memory. Looks at
-    /// each file of the outbox. Fails only for want of memory.
+    /// The taken files, in ascending order: their own order is not in memory. Visits each file of
+    /// the outbox. Fails only if memory runs out.
     pub fn taken_files(&self) -> Result<Files, AllocError>
         ensures { IfOk result (λ files. files ≡ ascending self.now.taken) }
     {
@@ -218,7 +228,7 @@ impl Outbox {
         Ok(Files::of(files))
     }
 
-    /// Whether the file waits or is taken. A look-up.
+    /// Whether the file waits or is taken. One look-up.
     pub fn knows(&self, file: FileId) -> bool
         ensures value { result ≡ is_known self.now file }
         ensures distinct { AreDistinct (self.now.waiting ++ self.now.taken) }
@@ -226,21 +236,21 @@ impl Outbox {
         self.index.contains_key(&file)
     }
 
-    /// Whether the file is taken. A look-up.
+    /// Whether the file is taken. One look-up.
     pub fn is_taken(&self, file: FileId) -> bool
         ensures { result ≡ is_taken self.now file }
     {
         is_taken(&self.index, &self.waiting, self.front, file)
     }
 
-    /// How many files wait.
+    /// The number of waiting files.
     pub fn waiting(&self) -> u64
         ensures { result ≡ length self.now.waiting }
     {
         self.waiting.len() as u64
     }
 
-    /// How many files are taken.
+    /// The number of taken files.
     pub fn taken(&self) -> u64
         ensures { result ≡ length self.now.taken }
     {

@@ -1,4 +1,4 @@
-//! The index of an outbox: the ticket of each file, and what it tells.
+//! The index of an outbox: the ticket of each file, and what the ticket says.
 ghost use Rattle.std.specs.Prelude.{◌≡◌, ◌<◌, ◌≤◌, ◌+◌, ℕ, false, filter, length, get_or, IfOk, IsTrue, OnOk, Some, is_some, nat_eq};
 ghost use Rattle.std.specs.HashMap as hash;
 ghost use Rattle.std.specs.HashMap.{IsUnchanged, Updates, spare};
@@ -10,21 +10,21 @@ use ckpt_ids::FileId;
 use std::alloc::{AllocError, Global};
 use std::collections::{HashMap, VecDeque};
 
-/// For each file, the ticket that it drew when it last went to the end of waiting.
+/// For each file, the ticket that it got when it last went to the end of waiting.
 ///
-/// Tickets rise by one from file to file, and after the greatest comes 0. So the ticket says at
-/// which place the file waits, if it waits: a file that is taken keeps its ticket, and does not
-/// stand where the ticket says.
+/// Tickets rise by one from file to file, and after the greatest comes 0. So the ticket of a
+/// waiting file says its place. A taken file keeps its ticket, and is not at the place that the
+/// ticket says.
 pub(crate) type Index = HashMap<FileId, u64, Secret>;
 
-/// The ticket of the next file that waits.
+/// The ticket of the next file that will wait.
 pub(crate) fn next_ticket(waiting: &VecDeque<FileId>, front: u64) -> u64
     ensures { result ≡ ticket front (length waiting.now.items) }
 {
     front.wrapping_add(waiting.len() as u64)
 }
 
-/// Whether the file stands where its ticket says.
+/// Whether the file is at the place that its ticket says.
 fn waits(waiting: &VecDeque<FileId>, front: u64, file: FileId, drawn: u64) -> bool
     requires { (place : ℕ) → place < length waiting.now.items → get_or waiting.now.items place 0 ≡ file → drawn ≡ ticket front place }
     ensures { result ≡ is_in file waiting.now.items }
@@ -35,7 +35,7 @@ fn waits(waiting: &VecDeque<FileId>, front: u64, file: FileId, drawn: u64) -> bo
     }
 }
 
-/// Whether the file is taken. A look-up.
+/// Whether the file is taken. One look-up.
 pub(crate) fn is_taken(index: &Index, waiting: &VecDeque<FileId>, front: u64, file: FileId) -> bool
     requires { IsTicketed (hash.get nat_eq index.now) front waiting.now.items }
     ensures { result ≡ is_apart (hash.get nat_eq index.now) waiting.now.items file }
@@ -46,7 +46,7 @@ pub(crate) fn is_taken(index: &Index, waiting: &VecDeque<FileId>, front: u64, fi
     }
 }
 
-/// Notes the ticket of a file in room that the index keeps. Takes no memory.
+/// Stores the ticket of a file in room that the index keeps. Takes no memory.
 pub(crate) fn note(index: &mut Index, file: FileId, drawn: u64)
     requires { 0 < spare index.old }
     ensures tickets { Updates nat_eq index.old index.new file (Some drawn) }
@@ -56,8 +56,8 @@ pub(crate) fn note(index: &mut Index, file: FileId, drawn: u64)
     noted.unwrap();
 }
 
-/// Gives a file that is taken the next ticket, and answers whether it was taken. One look-up, which
-/// takes no memory.
+/// Gives a taken file the next ticket, and returns whether it was taken. One look-up. Takes no
+/// memory.
 pub(crate) fn draw_again(
     index: &mut Index,
     waiting: &VecDeque<FileId>,
@@ -79,8 +79,8 @@ pub(crate) fn draw_again(
     }
 }
 
-/// The files of the index that do not stand where their tickets say, in the order of the index.
-/// Fails only for want of memory.
+/// The files of the index that are not at the places that their tickets say, in the order of the
+/// index. Fails only if memory runs out.
 pub(crate) fn taken_in(
     alloc: Global,
     index: &Index,
@@ -101,7 +101,7 @@ pub(crate) fn taken_in(
     Ok(files)
 }
 
-/// The files that wait, in their order. Fails only for want of memory.
+/// The waiting files, in their order. Fails only if memory runs out.
 pub(crate) fn waiting_in(
     alloc: Global,
     waiting: &VecDeque<FileId>,

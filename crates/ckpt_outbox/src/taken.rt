@@ -1,4 +1,4 @@
-//! The files that are taken: a list for contracts, and at run time their number.
+//! The taken files: a list for contracts, and at run time their number.
 ghost use Rattle.std.specs.Prelude.{◌≡◌, ◌+◌, ◌<◌, ◌^◌, [], ◌∷◌, ◌++◌, true, false, length};
 ghost use Rattle.std.specs.Option.{option_map_or};
 ghost use Rattle.ckpt_outbox.specs.Changes.{changed, unchanged};
@@ -9,7 +9,7 @@ use std::fmt;
 use std::marker::Model;
 use std::snapshot::Snapshot;
 
-// One file more is taken, or one less. A value of it lives for a moment, for a snapshot of it.
+// One more file is taken, or one fewer. A value lives only for a moment, for its snapshot.
 #[derive(Drop)]
 struct Change {
     before: Option<Snapshot<Change>>,
@@ -31,8 +31,8 @@ impl Model for Change {
     ghost size_decreases = { λ c h. Prim.grind (arith) };
 }
 
-/// The files that are taken, in the order in which they were fetched. Only clauses read which these
-/// are: kept is how many.
+/// The taken files, in the order in which they were fetched. Only clauses read the list. At run
+/// time only its length is kept.
 #[derive(Drop)]
 pub(crate) struct Taken {
     changes: Option<Snapshot<Change>>,
@@ -52,13 +52,13 @@ impl Model for Taken {
 }
 
 impl fmt::Debug for Taken {
-    /// Shows how many files are taken.
+    /// Shows the number of taken files.
     fn fmt<W: fmt::Write>(&self, f: &mut fmt::Formatter<W>) -> fmt::Result {
         f.debug_struct("Taken").field("count", &self.count).finish()
     }
 }
 
-/// The changes with one more. No effect at run time.
+/// The changes with one more added. No effect at run time.
 fn with_change(
     before: Option<Snapshot<Change>>,
     file: FileId,
@@ -75,7 +75,7 @@ fn with_change(
 }
 
 impl Taken {
-    /// None is taken.
+    /// No file is taken.
     pub(crate) fn new() -> Taken
         ensures { result ≡ [] }
     {
@@ -94,7 +94,7 @@ impl Taken {
         self.count += 1;
     }
 
-    /// The file, which is taken, was reported.
+    /// This taken file was reported.
     pub(crate) fn remove(&mut self, file: FileId)
         requires distinct { AreDistinct self.old }
         requires there { is_in file self.old ≡ true }
@@ -104,7 +104,7 @@ impl Taken {
         self.count -= 1;
     }
 
-    /// How many files are taken.
+    /// The number of taken files.
     pub(crate) fn len(&self) -> usize
         ensures { result ≡ length self.now }
     {

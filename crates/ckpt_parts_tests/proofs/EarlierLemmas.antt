@@ -58,9 +58,6 @@ pub length-in_order_once : {X : Type 0} (before : X → X → Bool) (xs : List X
 length-in_order_once before [] = omega arith
 length-in_order_once before (x ∷ xs) = omega (arith, length-put_once before x (in_order_once before xs), length-in_order_once before xs)
 
-pub HasNoUse-from_before : (us : List Use) (id : ℕ) (holder : Holder) → AreBefore us id → HasNoUse us id holder
-HasNoUse-from_before us id holder before u h e k = absurd (omega (arith, before u h))
-
 pub AreBefore-added : (us : List Use) (id : ℕ) (holder : Holder) (files : List ℕ) → AreBefore us id → AreBefore (in_order_once use_before (us ++ triples id holder files)) (id + 1)
 AreBefore-added us id holder files before u h =
     let make : ℕ → Use = λ x. record { id = id; holder = holder; file = x } in

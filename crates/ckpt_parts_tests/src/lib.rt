@@ -1,5 +1,6 @@
-//! Tests of the crates below the coordinator: its values, clock, records, registry, outbox and store.
+//! Tests of the crates below the coordinator: its values, records, registry, outbox and store.
 //!
+//! The clock and the count of failures are run by the program: each call of theirs decides what a row of `examples/rows` prints.
 //! `docs/DECISIONS.md` says why they stand apart from the crates that they test.
 #![tactic(auto)]
 
@@ -9,8 +10,6 @@ mod outbox;
 mod pending;
 #[cfg(test)]
 mod registry;
-#[cfg(test)]
-mod rules;
 #[cfg(test)]
 mod secrets;
 #[cfg(test)]

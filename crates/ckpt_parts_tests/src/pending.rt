@@ -1,4 +1,4 @@
-//! Tests of a record that waits for acknowledgements, and of one that is complete.
+//! A test of a record that waits for acknowledgements and is then complete, where memory is refused.
 ghost use Rattle.std.specs.Prelude.{◌<◌};
 
 use ckpt_ids::{CheckpointId, FileId, Files, Kind, Shape, SubtaskId};
@@ -22,15 +22,6 @@ fn waiting(alloc: Global) -> Result<Pending, Fail> {
     Ok(Pending::new(alloc, CheckpointId(1), Kind::Checkpoint, shape, 1000))
 }
 
-/// Whether the record is that of checkpoint 1, which waits for both subtasks since the moment 1000.
-fn is_new(pending: &Pending) -> bool {
-    pending.id() == CheckpointId(1)
-        && pending.kind() == Kind::Checkpoint
-        && pending.started() == 1000
-        && pending.shape().size() == 2
-        && pending.missing() == 2
-}
-
 /// What comes of an acknowledgement by the subtask, with these files.
 fn acks(
     alloc: Global,
@@ -41,77 +32,12 @@ fn acks(
     Ok(pending.ack(subtask(index), files(alloc, numbers)?))
 }
 
-/// Whether the first subtask acknowledges once, and a third one not at all.
-fn takes_first(alloc: Global, pending: &mut Pending) -> Result<bool, AllocError> {
-    let first = acks(alloc, pending, 0, &[3])?;
-    let again = acks(alloc, pending, 0, &[4])?;
-    let unknown = acks(alloc, pending, 2, &[4])?;
-    Ok(
-        first == Ok(())
-            && again == Err(AckFault::AlreadyAcknowledged)
-            && unknown == Err(AckFault::UnknownSubtask)
-            && pending.has(subtask(0))
-            && !pending.expects(subtask(2)),
-    )
-}
-
-/// The record, which is not finished.
-fn unfinished(pending: Pending) -> Result<Pending, Fail> {
-    match pending.finish() {
-        Ok(_) => Err(Fail::new("a subtask is missing")),
-        Err(pending) => Ok(pending),
-    }
-}
-
 /// The finished record.
 fn finished(pending: Pending) -> Result<Done, Fail> {
     match pending.finish() {
         Ok(done) => Ok(done),
         Err(_) => Err(Fail::new("all subtasks have acknowledged")),
     }
-}
-
-/// Whether one acknowledgement is missing, and the other is told.
-fn lacks_one(pending: &Pending) -> Result<bool, AllocError> {
-    let metadata = pending.metadata()?;
-    Ok(pending.missing() == 1 && metadata.acks.len() == 1 && !metadata.done)
-}
-
-/// Whether both subtasks acknowledge.
-fn takes_both(alloc: Global, pending: &mut Pending) -> Result<bool, AllocError> {
-    let first = acks(alloc, pending, 0, &[3])?;
-    let second = acks(alloc, pending, 1, &[])?;
-    Ok(first == Ok(()) && second == Ok(()))
-}
-
-/// Whether checkpoint 1 is complete, and tells both acknowledgements.
-fn tells_both(done: &Done) -> Result<bool, AllocError> {
-    let metadata = done.metadata()?;
-    let is_first = done.id() == CheckpointId(1) && done.kind() == Kind::Checkpoint;
-    Ok(is_first && metadata.done && metadata.acks.len() == 2)
-}
-
-/// A record whose first subtask acknowledged, and took that back.
-fn retracted(rt: &impl Abort, pending: Pending) -> Result<Pending, Fail> {
-    let mut pending = unfinished(pending)?;
-    assert!(rt; lacks_one(&pending)?);
-    let first = subtask(0);
-    assert!(rt; pending.has(first));
-    pending.retract(first);
-    assert!(rt; pending.missing() == 2);
-    Ok(pending)
-}
-
-#[test]
-fn a_checkpoint_waits_for_each_subtask(rt: HostRuntime) -> Result<(), Fail> {
-    let mut pending = waiting(rt.alloc())?;
-    assert!(rt; is_new(&pending));
-    assert!(rt; takes_first(rt.alloc(), &mut pending)?);
-    let mut pending = retracted(&rt, pending)?;
-    assert!(rt; takes_both(rt.alloc(), &mut pending)?);
-    let done = finished(pending)?;
-    assert!(rt; tells_both(&done)?);
-    Ok(())
 }
 
 /// The subtask acknowledges with two files. Where that finds no memory, the record is as it was, and
@@ -133,9 +59,19 @@ fn acks_again(
     Ok(())
 }
 
-/// A record that both subtasks have acknowledged, with the same files.
+/// Takes the acknowledgement of the first subtask back.
+fn retracts(rt: &impl Abort, pending: &mut Pending) {
+    let first = subtask(0);
+    assert!(rt; pending.has(first));
+    pending.retract(first);
+    assert!(rt; pending.missing() == 2);
+}
+
+/// A record that both subtasks have acknowledged, with the same files, the first one twice.
 fn acked_again(rt: &impl Abort, alloc: Global) -> Result<Pending, Fail> {
     let mut pending = waiting(alloc)?;
+    acks_again(rt, alloc, &mut pending, 0)?;
+    retracts(rt, &mut pending);
     acks_again(rt, alloc, &mut pending, 0)?;
     acks_again(rt, alloc, &mut pending, 1)?;
     Ok(pending)

@@ -1,36 +1,9 @@
 -- The files of a record, sorted and each once.
-use Rattle.std.proofs.Common.{◌≡◌, ℕ, ltb, leb, eqb, List, [], ◌∷◌, ◌++◌, map, refl, sym, ap, subst, ◌∙◌, arith}
+use Rattle.std.proofs.Common.{◌≡◌, ℕ, List, [], ◌∷◌, ◌++◌, map, refl, ap, ◌∙◌}
 use Rattle.std.specs.List.{flat_map}
-use Rattle.std.specs.List.Sorted.{IsPermutation, IsSorted}
-use Rattle.std.specs.List.Retain.{IsFiltered, DiffersFromLast}
-use Rattle.std.specs.Ordering.{nat_cmp}
-use Rattle.std.proofs.lemmas.Bool.{ltb-true, le-leb}
+use Rattle.std.proofs.lemmas.List.{append-nil, map-append}
 use Rattle.ckpt_ids.specs.declared.ack.Acked.{Acked}
-use Rattle.ckpt_ids.specs.Ascending.{IsAscending, IsAscendingSet, ascending, ascending_set}
 use Rattle.ckpt_ids.specs.Records.{Record, Use, Holder, Subtask, Pin, uses}
-use Rattle.ckpt_ids.proofs.OrderedLemmas.{ComesBefore-at, ComesBefore-from, IsInOrder-in_order_once}
-use Rattle.ckpt_ids.proofs.AscendingLemmas.{ascending_already, numbers_in_order}
-use Rattle.ckpt_ids.proofs.SetLemmas.{set-from_dedup}
-
-IsAscending-from_set : (xs : List ℕ) → IsAscendingSet xs → IsAscending xs
-IsAscending-from_set [] h = tt
-IsAscending-from_set (x ∷ xs) h =
-    (ComesBefore-from leb x xs (λ y k. le-leb x y (omega (arith, ltb-true x y (ComesBefore-at ltb x y xs h.0 k)))), IsAscending-from_set xs h.1)
-
--- what a sort and a `dedup` leave
-pub ascending-from_dedup : (all sorted kept : List ℕ) → IsPermutation all sorted → IsSorted nat_cmp sorted → IsFiltered (DiffersFromLast eqb) [] sorted kept → ascending kept ≡ ascending_set all
-ascending-from_dedup all sorted kept moved s filtered =
-    let is : kept ≡ ascending_set all = set-from_dedup all sorted kept moved s filtered in
-    let up : IsAscending kept = IsAscending-from_set kept (subst IsAscendingSet (sym is) (IsInOrder-in_order_once numbers_in_order all)) in
-    sym (ascending_already kept up) ∙ is
-
-map-append : {X Y : Type 0} (f : X → Y) (xs ys : List X) → map f (xs ++ ys) ≡ map f xs ++ map f ys
-map-append f [] ys = refl
-map-append f (x ∷ xs) ys = ap (λ zs. f x ∷ zs) (map-append f xs ys)
-
-append_none : {X : Type 0} (xs : List X) → xs ++ [] ≡ xs
-append_none [] = refl
-append_none (x ∷ xs) = ap (λ zs. x ∷ zs) (append_none xs)
 
 -- the files of uses are the files
 files_back : (id : ℕ) (a : Holder) (files : List ℕ) → map (λ (u : Use). u.file) (map (λ f. record { id = id; holder = a; file = f }) files) ≡ files
@@ -50,4 +23,4 @@ files_of_uses r none =
     let acked : List Use = flat_map (λ a. map (λ f. record { id = r.id; holder = Subtask a.subtask; file = f }) a.files) r.acks in
     let file : Use → ℕ = λ u. u.file in
     let pinned : List ℕ → List Use = λ pins. map (λ f. record { id = r.id; holder = Pin; file = f }) pins in
-    ap (map file) (append_none (acked ++ pinned r.pins) ∙ ap (λ pins. acked ++ pinned pins) none ∙ append_none acked) ∙ files_of_acks r.id r.acks
+    ap (map file) (append-nil (acked ++ pinned r.pins) ∙ ap (λ pins. acked ++ pinned pins) none ∙ append-nil acked) ∙ files_of_acks r.id r.acks

@@ -1,10 +1,11 @@
 -- What a search by halves finds in the row of acknowledgements, and what a change at that place leaves.
-use Rattle.std.proofs.Common.{◌≡◌, ℕ, zero, suc, ◌-◌, ◌<◌, ◌≤◌, Bool, true, false, not, cond, ltb, eqb, length, get_or, List, [], ◌∷◌, ◌++◌, inl, inr, refl, sym, ap, subst, ◌∙◌, ⊎_elim, arith, ◌||◌, ◌&&◌, Result, Ok, Err, IfOk, IfErr, Ordering, Some}
+use Rattle.std.proofs.Common.{◌≡◌, ℕ, zero, suc, ◌-◌, ◌<◌, ◌≤◌, Bool, true, false, not, cond, ltb, eqb, length, get_or, List, [], ◌∷◌, ◌++◌, inl, inr, refl, sym, ap, subst, ◌∙◌, ⊎_elim, arith, ◌||◌, ◌&&◌, Result, Ok, Err, IfOk, IfErr, Ordering, Some, None}
+use Rattle.std.specs.Prelude.{find}
 use Rattle.std.specs.List.{filter, insert, remove}
 use Rattle.std.specs.List.Sorted.{IsBinarySearchResult, IsSearchInRange}
 use Rattle.std.specs.Ordering.{nat_cmp, ordering_then, ordering_index, is_lt, is_some_and, partial_ordering_then}
 use Rattle.std.specs.declared.cmp.Ordering.TheVariants.{Less, Equal, Greater}
-use Rattle.std.proofs.lemmas.Bool.{cases_Bool, cases_lt, both_ways}
+use Rattle.std.proofs.lemmas.Bool.{cases_Bool, cases_lt, both_ways, or_parts}
 use Rattle.std.proofs.lemmas.Bool.Decides.{nat_tests}
 use Rattle.ckpt_ids.specs.declared.subtask.SubtaskId.{SubtaskId}
 use Rattle.ckpt_ids.specs.declared.ack.Acked.{Acked}
@@ -119,6 +120,28 @@ remove_at s (x ∷ acks) (suc place) a h =
     let other : same_subtask s x.subtask ≡ false = same_subtask-other s x.subtask (λ e. not_same x.subtask one.subtask above (sym e ∙ sym (h.1 x))) in
     subst P (sym other) (ap (λ xs. x ∷ xs) (remove_at s acks place a.1 later))
 
+-- what is found of a subtask is what lies at its place
+pub found_at : (s : SubtaskId) (acks : List Acked) (place : ℕ) (one : Acked) → AreInSubtaskOrder acks → LiesAt s acks place → one ≡ get_or acks place one → find (λ a. same_subtask s a.subtask) acks ≡ Some one
+found_at s [] place one a h is = let within : place < 0 = h.0 in absurd (omega arith)
+found_at s (x ∷ acks) zero one a h is =
+    let P : Bool → Type 0 = λ b. cond b (Some x) (find (λ (y : Acked). same_subtask s y.subtask) acks) ≡ Some one in
+    subst P (sym ((same_subtask-Decides s x.subtask).1 (sym (h.1 x)))) (ap (λ y. Some y) (sym is))
+found_at s (x ∷ acks) (suc place) one a h is =
+    let P : Bool → Type 0 = λ b. cond b (Some x) (find (λ (y : Acked). same_subtask s y.subtask) acks) ≡ Some one in
+    let within : suc place < length (x ∷ acks) = h.0 in
+    let later : LiesAt s acks place = (omega arith, λ d. h.1 d) in
+    let here : Acked = get_or acks place x in
+    let above : is_before x.subtask here.subtask ≡ true = ComesBefore-at acknowledges_before x here acks a.0 (IsIn-get_or acks place x (omega arith)) in
+    let other : same_subtask s x.subtask ≡ false = same_subtask-other s x.subtask (λ e. not_same x.subtask here.subtask above (sym e ∙ sym (h.1 x))) in
+    subst P (sym other) (found_at s acks place one a.1 later is)
+
+pub none_found : (s : SubtaskId) (acks : List Acked) → acked acks s ≡ false → find (λ a. same_subtask s a.subtask) acks ≡ None
+none_found s [] h = refl
+none_found s (x ∷ acks) h =
+    let parts = or_parts (same_subtask s x.subtask) (acked acks s) h in
+    let P : Bool → Type 0 = λ b. cond b (Some x) (find (λ (y : Acked). same_subtask s y.subtask) acks) ≡ None in
+    subst P (sym parts.0) (none_found s acks parts.1)
+
 -- where one belongs
 
 none_acked : (s : SubtaskId) (acks : List Acked) → ((a : Acked) → IsIn a acks → s ≡ a.subtask → ⊥) → acked acks s ≡ false
@@ -150,8 +173,3 @@ insert_at one (x ∷ acks) (suc place) h =
     let below : is_before x.subtask one.subtask ≡ true = h.1.0 0 x (omega arith) (omega arith) in
     let later : BelongsAt one.subtask acks place = (omega arith, (λ k d l m. h.1.0 (suc k) d (omega arith) (omega arith), λ k d l m. h.1.1 (suc k) d (omega arith) (omega arith))) in
     subst P (sym below) (ap (λ xs. x ∷ xs) (insert_at one acks place later))
-
--- at the end
-pub insert_last : {X : Type 0} (x : X) (xs : List X) → insert xs (length xs) x ≡ xs ++ x ∷ []
-insert_last x [] = refl
-insert_last x (y ∷ xs) = ap (λ ys. y ∷ ys) (insert_last x xs)

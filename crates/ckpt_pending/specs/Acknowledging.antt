@@ -1,5 +1,6 @@
 -- Records that take acknowledgements, and records that have all of them.
-use Rattle.std.specs.Prelude.{◌≡◌, ℕ, ◌<◌, ◌≤◌, true, false, not, List, [], filter, length}
+use Rattle.std.specs.Prelude.{◌≡◌, ℕ, ◌<◌, ◌≤◌, true, false, not, List, [], filter, find, length, Option}
+use Rattle.std.specs.Option.{option_map}
 use Rattle.std.specs.List.{HoldsAt}
 use Rattle.std.specs.List.Sorted.{IsPartitionPoint}
 use Rattle.ckpt_ids.specs.declared.subtask.SubtaskId.{SubtaskId}
@@ -25,6 +26,10 @@ BelongsAt s acks place = (place ≤ length acks) × IsPartitionPoint (λ a. is_b
 -- the record without the acknowledgement of a subtask
 abbrev pub without_ack : SubtaskId → Record → Record
 without_ack s r = record r { acks = filter (λ a. not (same_subtask s a.subtask)) r.acks }
+
+-- the files that a subtask acknowledged in the record, where it has acknowledged
+abbrev pub files_from : Record → SubtaskId → Option (List ℕ)
+files_from r s = option_map (λ a. a.files) (find (λ a. same_subtask s a.subtask) r.acks)
 
 -- the record expects the subtask, and has its acknowledgement
 abbrev pub HasAlready : Record → SubtaskId → Type 0

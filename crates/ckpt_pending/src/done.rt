@@ -1,18 +1,18 @@
 //! A record that all its subtasks have acknowledged.
 
-ghost use Rattle.std.specs.Prelude.{◌≡◌, ◌∷◌, [], true, map, IfOk};
+ghost use Rattle.std.specs.Prelude.{◌≡◌, ◌∷◌, [], true, map, option_copied, IfOk};
 ghost use Rattle.ckpt_ids.specs.Ascending.{ascending_set};
 ghost use Rattle.ckpt_ids.specs.Records.{Record, missing, metadata_of, uses};
-ghost use Rattle.ckpt_pending.specs.Acknowledging.{IsDone, IsPending};
+ghost use Rattle.ckpt_pending.specs.Acknowledging.{IsDone, IsPending, files_from};
 
 use crate::pending::Pending;
-use ckpt_ids::{CheckpointId, Files, Kind, Metadata};
+use ckpt_ids::{CheckpointId, FileId, Files, Kind, Metadata, SubtaskId};
 use std::alloc::AllocError;
 use std::marker::Model;
 
 /// A checkpoint or savepoint that all subtasks of its shape have acknowledged, each once.
 ///
-/// Only [`Pending::finish`] makes one.
+/// Only [`Pending::finish`] makes a value of this type.
 #[derive(Debug, Drop)]
 pub struct Done {
     record: Pending,
@@ -31,7 +31,7 @@ impl Model for Done {
 }
 
 impl Done {
-    /// The record, none of whose subtasks is missing. Takes no memory.
+    /// Makes a pending record a complete one. None of its subtasks is missing. Takes no memory.
     pub(crate) fn of(full: Pending) -> Done
         requires pending { IsPending full }
         requires none_missing { missing full ≡ 0 }
@@ -55,7 +55,7 @@ impl Done {
         self.record.kind()
     }
 
-    /// What is known of the record. Fails only for want of memory.
+    /// The metadata of the record. Fails only if memory runs out.
     pub fn metadata(&self) -> Result<Metadata, AllocError>
         ensures { IfOk result (λ metadata. metadata ≡ metadata_of self.now) }
     {
@@ -64,8 +64,16 @@ impl Done {
         Ok(metadata)
     }
 
-    /// All files that the subtasks acknowledged, in ascending order, each once. Fails only for
-    /// want of memory.
+    /// The files that this subtask acknowledged, in ascending order, or `None` where the record's
+    /// shape has no such subtask. It is searched by halves.
+    pub fn files_of(&self, subtask: SubtaskId) -> Option<&[FileId]>
+        ensures { option_copied result ≡ files_from self.now subtask }
+    {
+        self.record.files_of(subtask)
+    }
+
+    /// All files that the subtasks acknowledged, in ascending order, each once. Fails only if
+    /// memory runs out.
     pub fn files(&self) -> Result<Files, AllocError>
         ensures { IfOk result (λ files. files ≡ ascending_set (map (λ u. u.file) (uses (self.now ∷ [])))) }
     {

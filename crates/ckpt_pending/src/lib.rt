@@ -1,8 +1,8 @@
 //! Checkpoints and savepoints that wait for acknowledgements, and those that have all of them.
 //!
-//! A [`Pending`] takes the acknowledgements of subtasks, one of each, and counts the subtasks that
-//! are missing. Once none is, [`Pending::finish`] makes it a [`Done`], which no other code can
-//! make: it has exactly one acknowledgement of each subtask by its type.
+//! A [`Pending`] takes one acknowledgement per subtask, and counts the subtasks that are missing.
+//! Once none is missing, [`Pending::finish`] makes it a [`Done`]. No other code can make a `Done`,
+//! so its type says that it has exactly one acknowledgement per subtask.
 #![tactic(auto)]
 
 pub mod done;

@@ -1,12 +1,12 @@
 //! A record that waits for acknowledgements.
 
-ghost use Rattle.std.specs.Prelude.{◌≡◌, ◌+◌, ◌↔◌, ◌<◌, ◌≤◌, Bool, true, false, not, [], filter, length, Ok, Err, IfOk, IfErr, OnOk, OnErr, IsOk, IsErr};
+ghost use Rattle.std.specs.Prelude.{◌≡◌, ◌+◌, ◌↔◌, ◌<◌, ◌≤◌, Bool, true, false, not, [], filter, length, Ok, Err, IfOk, IfErr, OnOk, OnErr, IsOk, IsErr, option_copied};
 ghost use Rattle.std.specs.List.{flat_map, insert};
 ghost use Rattle.ckpt_ids.specs.Acknowledged.{AreInSubtaskOrder, put_ack};
 ghost use Rattle.ckpt_ids.specs.Ascending.{ascending_set};
 ghost use Rattle.ckpt_ids.specs.Records.{Record, acknowledged, has_acknowledged, missing, metadata_of};
 ghost use Rattle.ckpt_ids.specs.Shapes.{is_subtask, same_subtask};
-ghost use Rattle.ckpt_pending.specs.Acknowledging.{BelongsAt, HasAlready, IsPending, LiesAt, without_ack};
+ghost use Rattle.ckpt_pending.specs.Acknowledging.{BelongsAt, HasAlready, IsPending, LiesAt, files_from, without_ack};
 
 use crate::done::Done;
 use ckpt_ids::{Acked, Acks, CheckpointId, FileId, Files, Kind, Metadata, Shape, SubtaskId};
@@ -15,13 +15,16 @@ use std::collections::VecDeque;
 use std::marker::Model;
 use thiserror::Error;
 
-/// Why an acknowledgement was not taken. They are tested in this order.
+/// Why an acknowledgement was not accepted: the first of these that applies.
 #[derive(Clone, Copy, Debug, PartialEq, Eq, Error)]
 pub enum AckFault {
+    /// The record's shape has no such subtask.
     #[error("the record has no such subtask")]
     UnknownSubtask,
+    /// The subtask has acknowledged already.
     #[error("the subtask has acknowledged already")]
     AlreadyAcknowledged,
+    /// Memory ran out.
     #[error("out of memory")]
     Memory,
 }
@@ -36,7 +39,7 @@ pub struct Pending {
     kind: Kind,
     shape: Shape,
     started: u64,
-    // in subtask order: most come in this order and go last, and each is found by halves
+    // in subtask order: most come in this order and go to the end; binary search finds each
     acks: VecDeque<Acked>,
     missing: u32,
     alloc: Global,
@@ -68,8 +71,8 @@ impl Model for Pending {
 }
 
 impl Pending {
-    /// A record of this number and kind that was triggered at the moment `started`, in
-    /// milliseconds, and that no subtask has acknowledged. Takes no memory.
+    /// A record with this number and kind that was triggered at the moment `started`, in
+    /// milliseconds. No subtask has acknowledged it. Takes no memory.
     pub fn new(alloc: Global, id: CheckpointId, kind: Kind, shape: Shape, started: u64) -> Pending
         ensures { result ≡ record { id = id; kind = kind; done = false; shape = shape; started = started; acks = []; pins = [] } }
     {
@@ -85,11 +88,11 @@ impl Pending {
         }
     }
 
-    /// Takes the acknowledgement of a subtask, with all files of its part.
+    /// Adds the acknowledgement of a subtask, with all files of its part.
     ///
-    /// Answers [`AckFault::UnknownSubtask`] exactly where the shape has no such subtask, then
-    /// [`AckFault::AlreadyAcknowledged`] exactly where it has acknowledged, and else
-    /// [`AckFault::Memory`] where memory runs out. After an error the record is as before.
+    /// Returns [`AckFault::UnknownSubtask`] exactly if the shape has no such subtask, otherwise
+    /// [`AckFault::AlreadyAcknowledged`] exactly if it has acknowledged, otherwise
+    /// [`AckFault::Memory`] if memory runs out. After an error the record has not changed.
     pub fn ack(&mut self, subtask: SubtaskId, files: Files) -> Result<(), AckFault>
         ensures unknown { (result ≡ Err AckFault.UnknownSubtask) ↔ (is_subtask self.old.shape subtask ≡ false) }
         ensures already { (result ≡ Err AckFault.AlreadyAcknowledged) ↔ HasAlready self.old subtask }
@@ -111,7 +114,7 @@ impl Pending {
         Ok(())
     }
 
-    /// Takes back the acknowledgement of this subtask, which has acknowledged. Takes no memory.
+    /// Removes the acknowledgement of this subtask, which has acknowledged. Takes no memory.
     pub fn retract(&mut self, subtask: SubtaskId)
         requires { has_acknowledged self.old subtask ≡ true }
         ensures value { self.new ≡ without_ack subtask self.old }
@@ -136,7 +139,17 @@ impl Pending {
         place_of(&self.acks, subtask).is_ok()
     }
 
-    /// How many subtasks have not acknowledged, at most 4096.
+    /// The files that this subtask acknowledged, in ascending order, or `None` where it has not
+    /// acknowledged. It is searched by halves.
+    pub fn files_of(&self, subtask: SubtaskId) -> Option<&[FileId]>
+        ensures { option_copied result ≡ files_from self.now subtask }
+    {
+        let place = place_of(&self.acks, subtask).ok()?;
+        let acked = self.acks.get(place)?;
+        Some(acked.files.as_slice())
+    }
+
+    /// The number of subtasks that have not acknowledged, at most 4096.
     pub fn missing(&self) -> u32
         ensures value { result ≡ missing self.now }
         ensures pending { IsPending self.now }
@@ -173,7 +186,7 @@ impl Pending {
         &self.shape
     }
 
-    /// What is known of the record. Fails only for want of memory.
+    /// The metadata of the record. Fails only if memory runs out.
     pub fn metadata(&self) -> Result<Metadata, AllocError>
         ensures { IfOk result (λ metadata. metadata ≡ metadata_of self.now) }
     {
@@ -189,8 +202,8 @@ impl Pending {
         })
     }
 
-    /// The files of all acknowledgements, in ascending order, each once. Fails only for want of
-    /// memory.
+    /// The files of all acknowledgements, in ascending order, each once. Fails only if memory runs
+    /// out.
     pub(crate) fn files(&self) -> Result<Files, AllocError>
         ensures { IfOk result (λ files. files ≡ ascending_set (flat_map (λ a. a.files) self.now.acks)) }
     {
@@ -200,7 +213,7 @@ impl Pending {
         Ok(Files::of(all))
     }
 
-    /// The complete record, or this one again where a subtask is missing. Takes no memory.
+    /// The complete record, or this one again if a subtask is missing. Takes no memory.
     pub fn finish(self) -> Result<Done, Pending>
         ensures complete { IsOk result ↔ (missing self ≡ 0) }
         ensures missing { IsErr result ↔ (0 < missing self) }
@@ -215,8 +228,8 @@ impl Pending {
     }
 }
 
-/// Where the acknowledgement of this subtask lies, or an `Err` with where it belongs. The last one is
-/// looked at first, and the others are searched by halves.
+/// The place of this subtask's acknowledgement, or an `Err` with the place where it belongs. The
+/// last one is checked before a binary search.
 fn place_of(acks: &VecDeque<Acked>, subtask: SubtaskId) -> Result<usize, usize>
     requires { AreInSubtaskOrder acks.now.items }
     ensures found { IfOk result (λ place. LiesAt subtask acks.now.items place) }
@@ -228,7 +241,7 @@ fn place_of(acks: &VecDeque<Acked>, subtask: SubtaskId) -> Result<usize, usize>
     }
 }
 
-/// Adds an acknowledgement at this place. Fails only for want of memory, and then adds nothing.
+/// Adds an acknowledgement at this place. Fails only if memory runs out, and then adds nothing.
 fn add(acks: &mut VecDeque<Acked>, place: usize, acked: Acked) -> Result<(), AllocError>
     requires { place ≤ length acks.old.items }
     ensures ok { OnOk result (acks.new.items ≡ insert acks.old.items place acked) }

@@ -5,7 +5,7 @@ ghost use Rattle.std.specs.Prelude.{◌≡◌, [], ◌∷◌, ◌++◌};
 use std::marker::Model;
 use std::snapshot::Snapshot;
 
-// All items so far. A value of it lives for a moment, for a snapshot of it.
+// All items so far. A value lives only for a moment, for its snapshot.
 struct Link<T> {
     before: Option<Snapshot<Link<T>>>,
     last: T,
@@ -25,7 +25,7 @@ impl<T> Model for Link<T> {
     ghost size_decreases = { λ l h. Prim.grind (arith, length-append) };
 }
 
-/// A list that only clauses read: all items that were put in, of which it keeps none.
+/// A list that only clauses read: all items that were put in. It keeps none of them in memory.
 #[derive(Drop)]
 pub struct Past<T> {
     links: Option<Snapshot<Link<T>>>,
@@ -41,14 +41,14 @@ impl<T> Model for Past<T> {
 }
 
 impl<T> Past<T> {
-    /// Nothing is past.
+    /// An empty list.
     pub fn new() -> Past<T>
         ensures { result ≡ [] }
     {
         Past { links: None }
     }
 
-    /// Puts the item at the end, and gives it back. Takes no memory.
+    /// Puts the item at the end of the list, and returns it. Takes no memory.
     pub fn push(&mut self, item: T) -> T
         ensures pushed { self.new ≡ self.old ++ item ∷ [] }
         ensures back { result ≡ item }

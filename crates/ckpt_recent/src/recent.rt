@@ -1,4 +1,4 @@
-//! A list of all its items, of which the last are in memory.
+//! A list of all its items, with the last ones in memory.
 
 ghost use Rattle.std.specs.Prelude.{◌≡◌, ◌≢◌, ◌↔◌, ◌+◌, ◌-◌, ◌^◌, ◌<◌, [], ◌∷◌, ◌++◌, length, IsTrue, OnOk, min};
 ghost use Rattle.std.specs.Option.{option_copied};
@@ -9,7 +9,7 @@ use std::collections::VecDeque;
 use std::marker::Model;
 use std::{cmp, fmt};
 
-/// The room for items that an empty list makes at first.
+/// The room of a list when it grows for the first time.
 const FIRST_ROOM: usize = 4;
 
 /// A list that counts all its items and keeps the last `keep` of them.
@@ -24,7 +24,7 @@ pub struct Recent<T> {
 }
 
 impl<T: fmt::Debug> fmt::Debug for Recent<T> {
-    /// Shows the items that are kept.
+    /// Shows the items in memory.
     fn fmt<W: fmt::Write>(&self, f: &mut fmt::Formatter<W>) -> fmt::Result {
         f.debug_struct("Recent")
             .field("forgotten", &self.forgotten)
@@ -49,7 +49,7 @@ impl<T> Model for Recent<T> {
 impl<T: Drop> Recent<T> {
     ghost use Rattle.ckpt_recent.specs.Lists.{all, kept_at};
 
-    /// An empty list, which keeps all items. Takes no memory.
+    /// An empty list that keeps all items. Takes no memory.
     pub fn new(alloc: Global) -> Recent<T>
         ensures items { result.items ≡ [] }
         ensures keep { result.keep ≡ all }
@@ -62,9 +62,9 @@ impl<T: Drop> Recent<T> {
         }
     }
 
-    /// Makes room for one item. Where it grows, it at least doubles.
+    /// Makes room for one item. A growth at least doubles the room.
     ///
-    /// Fails only for want of memory, and at 2^64 - 1 items.
+    /// Fails only if memory runs out, and at 2^64 - 1 items.
     pub fn make_room(&mut self) -> Result<(), AllocError>
         ensures items { self.new.items ≡ self.old.items }
         ensures keep { self.new.keep ≡ self.old.keep }
@@ -81,7 +81,7 @@ impl<T: Drop> Recent<T> {
         self.kept.reserve(cmp::max(held, FIRST_ROOM))
     }
 
-    /// Puts an item at the end, into room that was made. Takes no memory.
+    /// Puts an item at the end, into reserved room. Takes no memory.
     #[inline(always)]
     pub fn push_reserved(&mut self, item: T)
         requires room { 0 < self.old.room }
@@ -95,8 +95,8 @@ impl<T: Drop> Recent<T> {
         }
     }
 
-    /// Keeps from now on at most the last `most` items. What was kept once and is more stays
-    /// forgotten, also where `most` is greater later. Takes no memory.
+    /// From now on keeps at most the last `most` items. A later call with a greater `most` changes
+    /// nothing. Takes no memory.
     pub fn keep_last(&mut self, most: u64)
         ensures items { self.new.items ≡ self.old.items }
         ensures keep { self.new.keep ≡ min self.old.keep most }
@@ -110,7 +110,7 @@ impl<T: Drop> Recent<T> {
         self.keep = most;
     }
 
-    /// How many items there are, forgotten ones too.
+    /// The number of items, forgotten ones included.
     pub fn len(&self) -> u64
         ensures { result ≡ length self.now.items }
     {
@@ -124,14 +124,14 @@ impl<T: Drop> Recent<T> {
         self.len() == 0
     }
 
-    /// How many items are in memory.
+    /// The number of items in memory.
     pub fn held(&self) -> u64
         ensures { result ≡ min (length self.now.items) self.now.keep }
     {
         self.kept.len() as u64
     }
 
-    /// The item at this place, counted from 0, or `None` past the last and before the last `keep`.
+    /// The item at this place, from 0, or `None` past the last item or before the last `keep`.
     pub fn get(&self, place: u64) -> Option<&T>
         ensures { option_copied result ≡ kept_at self.now.keep self.now.items place }
     {
@@ -140,8 +140,8 @@ impl<T: Drop> Recent<T> {
     }
 }
 
-/// Lets the first item that is kept be past. It stands apart, since a list that keeps all items never
-/// does so.
+/// Forgets the first item in memory. It is a function of its own because a list that keeps all
+/// items never needs it.
 #[inline(never)]
 fn forget_first<T: Drop>(past: &mut Past<T>, kept: &mut VecDeque<T>, forgotten: &mut u64)
     requires some { kept.old.items ≢ [] }

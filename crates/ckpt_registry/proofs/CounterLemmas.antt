@@ -3,7 +3,7 @@ use Rattle.std.proofs.Common.{◌≡◌, ℕ, zero, suc, ◌+◌, ◌<◌, ◌�
 use Rattle.std.proofs.lemmas.Bool.{cases_eq, eq-eqb, eqb-true, ne_eqb, lt-ltb, le-ltb, cases_lt, cond-true, cond-false}
 use Rattle.std.proofs.lemmas.Option.{none-some, same_Some}
 use Rattle.std.proofs.lemmas.List.Sums.{sum_by_more, sum_by_push, sum_by-take-le}
-use Rattle.std.specs.Result.{IsOk, OnOk, OnErr}
+use Rattle.std.specs.Result.{IsOk, OnOk}
 use Rattle.std.proofs.lemmas.Bool.{false≢true}
 use Rattle.std.specs.List.{position, slice_get}
 use Rattle.std.specs.Map.{lookup, keys_of, values_of}
@@ -152,11 +152,6 @@ pub OnOk-at : {T E : Type 0} (r : Result T E) (P : Type 0) → IsOk r → OnOk r
 OnOk-at (Ok x) P ok p = p
 OnOk-at (Err e) P ok p = absurd (false≢true ok)
 
--- so does one that cannot fail
-pub OnOk-unless : {T E : Type 0} (r : Result T E) (P Q : Type 0) → (Q → ⊥) → OnErr r Q → OnOk r P → P
-OnOk-unless (Ok x) P Q never q p = p
-OnOk-unless (Err e) P Q never q p = absurd (never q)
-
 -- a file that stands once is not among those before it
 pub times_before : (xs : List ℕ) (i k : ℕ) → times k xs ≤ 1 → i < length xs → k ≡ get_or xs i k → times k (take i xs) ≡ 0
 times_before xs i k once within at =
@@ -167,11 +162,6 @@ times_before xs i k once within at =
 pub length_fresh : {E : Type 0} (r : Result (Option ℕ) E) (o : Option ℕ) (l n : ℕ) → IsOk r → o ≡ None → IfOk r (λ old. old ≡ o) → IfOk r (λ old. n ≡ l + (if is_some old then 0 else 1)) → n ≡ l + 1
 length_fresh (Ok old) o l n ok none was len = len ∙ ap (λ p. l + (if is_some p then 0 else 1)) (was ∙ none)
 length_fresh (Err e) o l n ok none was len = absurd (false≢true ok)
-
--- and none more where there was one
-pub length_same : {E : Type 0} (r : Result (Option ℕ) E) (o : Option ℕ) (l n v : ℕ) → IsOk r → o ≡ Some v → IfOk r (λ old. old ≡ o) → IfOk r (λ old. n ≡ l + (if is_some old then 0 else 1)) → n ≡ l
-length_same (Ok old) o l n v ok some was len = len ∙ ap (λ p. l + (if is_some p then 0 else 1)) (was ∙ some) ∙ omega arith
-length_same (Err e) o l n v ok some was len = absurd (false≢true ok)
 
 -- a file and those before it, of a list
 pub times_through : (xs : List ℕ) (i k : ℕ) → i < length xs → k ≡ get_or xs i k → times k (take i xs) + 1 ≤ times k xs

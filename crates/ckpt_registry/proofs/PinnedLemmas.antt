@@ -1,27 +1,22 @@
 -- What a record pins, told from the uses.
-use Rattle.std.proofs.Common.{◌≡◌, ℕ, Bool, true, false, ◌&&◌, ◌||◌, eqb, leb, ltb, List, [], ◌∷◌, ◌++◌, filter, map, take, refl, sym, ap, subst, ◌∙◌, inl, inr, ⊎_elim, arith}
-use Rattle.std.specs.List.{flat_map}
+use Rattle.std.proofs.Common.{◌≡◌, ℕ, Bool, true, false, ◌&&◌, ◌||◌, eqb, ltb, List, [], ◌∷◌, ◌++◌, filter, map, refl, sym, ap, subst, ◌∙◌, inl, inr, ⊎_elim, arith}
 use Rattle.std.specs.List.Sorted.{IsPermutation, IsSorted}
 use Rattle.std.specs.List.Retain.{IsFiltered, DiffersFromLast}
 use Rattle.std.specs.Ordering.{nat_cmp}
-use Rattle.std.proofs.lemmas.Bool.{cases_Bool, both_ways, eqb-true, ltb-true, le-leb}
-use Rattle.ckpt_ids.specs.Ascending.{IsAscending, IsAscendingSet, ascending, ascending_set}
-use Rattle.ckpt_ids.specs.Ordered.{IsIn, ComesBefore, IsInOrder, in_order_once}
+use Rattle.std.proofs.lemmas.Bool.{and_parts, cases_Bool, both_ways, eqb-true, ltb-true}
+use Rattle.ckpt_ids.specs.Ascending.{IsAscendingSet, ascending, ascending_set}
+use Rattle.ckpt_ids.specs.Ordered.{IsIn, IsInOrder}
 use Rattle.ckpt_ids.specs.Records.{Use, Holder, Subtask, Pin, holder_before, same_holder, use_before}
-use Rattle.ckpt_ids.proofs.AscendingLemmas.{ascending_already, numbers_in_order}
+use Rattle.ckpt_ids.proofs.AscendingLemmas.{numbers_in_order}
 use Rattle.ckpt_ids.proofs.OrderLemmas.{uses_in_order}
 use Rattle.ckpt_ids.proofs.OrderedLemmas.{ComesBefore-at, ComesBefore-from, IsIn-append_left, IsIn-append_right, IsIn-append_cases, IsIn-filter, IsIn-flat_map, IsIn-from_filter, IsIn-from_flat_map, IsIn-from_map, IsIn-from_in_order_once, IsIn-in_order_once, IsIn-map, IsInOrder-filter, IsInOrder-in_order_once, same_from_members}
-use Rattle.ckpt_ids.proofs.SetLemmas.{set-from_dedup}
+use Rattle.ckpt_ids.proofs.SetLemmas.{ascending-from_dedup}
 use Rattle.ckpt_registry.specs.declared.pins.Pinner.{Pinner}
 use Rattle.ckpt_registry.specs.Holdings.{Acknowledged, files_in, uses_in}
 use Rattle.ckpt_registry.specs.Pins.{each_file, named_by, parts_pinned, pinned_by, pins_in}
 use Rattle.ckpt_registry.specs.Sound.{in_use, stored}
 use Rattle.ckpt_registry.specs.Uses.{pins_by, triples}
 use Rattle.ckpt_registry.proofs.PinLemmas.{uses_in-holder}
-
-and_both : (x y : Bool) → (x && y) ≡ true → (x ≡ true) × (y ≡ true)
-and_both true y e = (refl, e)
-and_both false y e = absurd (both_ways false refl e)
 
 abbrev pins_it : ℕ → Use → Bool
 pins_it id u = eqb u.id id && same_holder u.holder Pin
@@ -32,7 +27,7 @@ pins_in_order i j f g e t =
     let P : Bool → Type 0 = λ b. (b || rest) ≡ true in
     ⊎_elim
     (λ (b : ltb i j ≡ true). absurd (omega (arith, e, ltb-true i j b)))
-    (λ (b : ltb i j ≡ false). let r : rest ≡ true = subst P b t in (and_both (eqb i j) (ltb f g) r).1)
+    (λ (b : ltb i j ≡ false). let r : rest ≡ true = subst P b t in (and_parts (eqb i j) (ltb f g) r).1)
     (cases_Bool (ltb i j))
 
 by_holders : (i j : ℕ) (h k : Holder) (f g : ℕ) → i ≡ j → same_holder h Pin ≡ true → same_holder k Pin ≡ true → (ltb i j || (eqb i j && (holder_before h k || (same_holder h k && ltb f g)))) ≡ true → ltb f g ≡ true
@@ -43,8 +38,8 @@ by_holders i j Pin Pin f g e x y t = pins_in_order i j f g e t
 -- two pins of one record are in the order of their files
 later_file : (id : ℕ) (u v : Use) → pins_it id u ≡ true → pins_it id v ≡ true → use_before u v ≡ true → ltb u.file v.file ≡ true
 later_file id u v p q b =
-    let a = and_both (eqb u.id id) (same_holder u.holder Pin) p in
-    let c = and_both (eqb v.id id) (same_holder v.holder Pin) q in
+    let a = and_parts (eqb u.id id) (same_holder u.holder Pin) p in
+    let c = and_parts (eqb v.id id) (same_holder v.holder Pin) q in
     let same : u.id ≡ v.id = eqb-true u.id id a.0 ∙ sym (eqb-true v.id id c.0) in
     by_holders u.id v.id u.holder v.holder u.file v.file same a.1 c.1 b
 
@@ -86,7 +81,7 @@ named-pins m p id =
     let q = IsIn-from_map (λ (u : Use). u.file) z (filter (pins_it id) us) h in
     let u : Use = q.0 in
     let k = IsIn-from_filter (pins_it id) u us q.1 in
-    let both = and_both (eqb u.id id) (same_holder u.holder Pin) k.1 in
+    let both = and_parts (eqb u.id id) (same_holder u.holder Pin) k.1 in
     let among : IsIn u (pins_in m p) = ⊎_elim
     (λ (i : IsIn u (uses_in m.items)). absurd (both_ways (same_holder u.holder Pin) (uses_in-holder m.items u i) both.1))
     (λ (i : IsIn u (pins_in m p)). i)
@@ -106,13 +101,6 @@ named-pins m p id =
     (λ z h. forth z (IsIn-from_in_order_once ltb z all h))
     (λ z h. IsIn-in_order_once numbers_in_order z all (back z h))
 
-IsAscending-from_set : (xs : List ℕ) → IsAscendingSet xs → IsAscending xs
-IsAscending-from_set [] h = tt
-IsAscending-from_set (x ∷ xs) h = (ComesBefore-from leb x xs (λ y k. le-leb x y (omega (arith, ltb-true x y (ComesBefore-at ltb x y xs h.0 k)))), IsAscending-from_set xs h.1)
-
 -- what a sort and a `dedup` leave of them
 pub pins-from_dedup : (m : Acknowledged) (p : List Pinner) (id : ℕ) (sorted kept : List ℕ) → IsPermutation (named_by m id p) sorted → IsSorted nat_cmp sorted → IsFiltered (DiffersFromLast eqb) [] sorted kept → ascending kept ≡ pins_by id (in_use m p)
-pins-from_dedup m p id sorted kept moved s filtered =
-    let is : kept ≡ ascending_set (named_by m id p) = set-from_dedup (named_by m id p) sorted kept moved s filtered in
-    let up : IsAscending kept = IsAscending-from_set kept (subst IsAscendingSet (sym is) (IsInOrder-in_order_once numbers_in_order (named_by m id p))) in
-    sym (ascending_already kept up) ∙ is ∙ named-pins m p id
+pins-from_dedup m p id sorted kept moved s filtered = ascending-from_dedup (named_by m id p) sorted kept moved s filtered ∙ named-pins m p id

@@ -7,7 +7,7 @@ use Rattle.std.specs.List.Sorted.{IsPermutation, IsSorted}
 use Rattle.std.specs.Ordering.{nat_cmp}
 use Rattle.std.proofs.lemmas.List.Sorted.{sum_by-IsPermutation}
 use Rattle.std.specs.Map.{lookup, keys_of}
-use Rattle.std.proofs.lemmas.Bool.{cases_Bool, cases_lt, both_ways, cond-true, cond-false, ltb-true, ltb-false, lt-ltb, le-ltb, leb-true, eq-eqb, eqb-true, eqb-false, cases_eq, not-true}
+use Rattle.std.proofs.lemmas.Bool.{and_parts, cases_Bool, cases_lt, both_ways, cond-true, cond-false, ltb-true, ltb-false, lt-ltb, le-ltb, leb-true, eq-eqb, eqb-true, eqb-false, cases_eq, not-true}
 use Rattle.std.proofs.lemmas.List.Elements.{filter-append}
 use Rattle.std.proofs.lemmas.Map.Keys.{IsDistinct-head, IsDistinct-tail}
 use Rattle.indexmap.specs.IndexMap.{index_map_len, IsUnique}
@@ -281,10 +281,6 @@ module _ (a : Acknowledged) (p : List Pinner) (one : Pinner) (files : List ℕ) 
   }
 
 -- the files of a record, as the uses tell them
-
-and_parts : (x y : Bool) → (x && y) ≡ true → (x ≡ true) × (y ≡ true)
-and_parts true y e = (refl, e)
-and_parts false y e = absurd (both_ways false refl e)
 
 pub files_by-in_use : (a : Acknowledged) (p : List Pinner) (id : ℕ) → files_by id (in_use a p) ≡ each_file (parts_of a id)
 files_by-in_use a p id =

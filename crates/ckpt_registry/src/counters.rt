@@ -1,4 +1,4 @@
-//! How often each file is used, by one counter for each file that is.
+//! How often each file is used: one counter for each file in use.
 ghost use Rattle.std.specs.Prelude.{◌≡◌, ℕ, ◌+◌, ◌^◌, ◌<◌, ◌≤◌, ◌==◌, length, if◌then◌else◌, vec_len};
 ghost use Rattle.std.specs.Vec.{vec_capacity};
 ghost use Rattle.indexmap.specs.IndexMap.{index_map_len, spare};
@@ -11,10 +11,10 @@ use ckpt_hash::Secret;
 use ckpt_ids::FileId;
 use indexmap::IndexMap;
 
-/// How often each file is used; a file that is not used has no counter.
+/// How often each file is used. A file that is not in use has no counter.
 pub(crate) type Counts = IndexMap<FileId, u32, Secret>;
 
-/// Counts files that no record uses yet, in room that was reserved.
+/// Counts files that no record uses yet, in reserved room.
 pub(crate) fn count_fresh(counts: &mut Counts, files: &[FileId])
     requires room { length files.now ≤ spare counts.old }
     requires each_once { IsEachOnce files.now }
@@ -29,7 +29,7 @@ pub(crate) fn count_fresh(counts: &mut Counts, files: &[FileId])
     }
 }
 
-/// Counts each of these files, which are used already, once more.
+/// Counts each of these files once more. All of them are in use already.
 pub(crate) fn count_reused(counts: &mut Counts, files: &[FileId])
     requires present { (f : ℕ) → IsIn f files.now → 0 < counter counts.old f }
     requires fits { (f : ℕ) → IsIn f files.now → counter counts.old f + times f files.now < 2 ^ 32 }
@@ -45,7 +45,7 @@ pub(crate) fn count_reused(counts: &mut Counts, files: &[FileId])
     }
 }
 
-/// Counts each of these files once more, in room that was reserved for those that have no counter.
+/// Counts each of these files once more. There is reserved room for those that have no counter.
 pub(crate) fn count_each(counts: &mut Counts, files: &[FileId])
     requires room { length files.now ≤ spare counts.old }
     requires fits { (f : ℕ) → IsIn f files.now → counter counts.old f + times f files.now < 2 ^ 32 }
@@ -60,7 +60,7 @@ pub(crate) fn count_each(counts: &mut Counts, files: &[FileId])
     }
 }
 
-/// Takes back one use of a file, which is released with its last use.
+/// Removes one use of a file, and releases the file with its last use.
 pub(crate) fn lower(counts: &mut Counts, released: &mut Vec<FileId>, file: FileId)
     requires counted { 0 < counter counts.old file }
     requires range { AreInRange counts.old }

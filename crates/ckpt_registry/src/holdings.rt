@@ -1,4 +1,4 @@
-//! What the subtasks of each record acknowledged: a row of records, each with its parts.
+//! The acknowledgements of each record: a row of records, each with its parts.
 ghost use Rattle.std.specs.Prelude.{◌≡◌, ℕ, ◌+◌, ◌≤◌, ◌==◌, [], filter, nat_lt, not, vec_capacity, vec_len, OnOk, OnErr, IfOk, IfErr, IfNone, IfSome, ◌^◌, length};
 ghost use Rattle.indexmap.specs.IndexMap.{index_map_len};
 ghost use Rattle.ckpt_ids.specs.Counting.{times};
@@ -11,7 +11,8 @@ use std::alloc::AllocError;
 use std::collections::VecDeque;
 use std::mem::replace;
 
-/// What a subtask acknowledged: files that nobody used before, and such as were there.
+/// The acknowledgement of a subtask: its fresh files, which nobody used before, and its reused
+/// ones.
 #[derive(Debug, Drop)]
 pub(crate) struct Part {
     pub(crate) subtask: SubtaskId,
@@ -19,15 +20,15 @@ pub(crate) struct Part {
     pub(crate) reused: Files,
 }
 
-/// What the subtasks of one record acknowledged.
+/// The acknowledgements of one record.
 #[derive(Debug, Drop)]
 pub(crate) struct Holding {
     id: CheckpointId,
     parts: Vec<Part>,
 }
 
-/// What the subtasks of each record acknowledged, in rising number: a new record has mostly the
-/// greatest, so that it goes to the end.
+/// The acknowledgements of all records, in order of their numbers. A new record mostly has the
+/// greatest number, so it goes to the end.
 pub(crate) type Acknowledged = VecDeque<Holding>;
 
 impl Part {
@@ -40,7 +41,7 @@ impl Part {
     }
 }
 
-/// Whether one of these parts has a file. Searches each, and visits no other file.
+/// Whether one of these parts has a file. Uses binary search in each.
 pub(crate) fn has(parts: &[Part], file: FileId) -> bool
     ensures { result ≡ nat_lt 0 (times file (files_in parts.now)) }
 {
@@ -52,8 +53,8 @@ pub(crate) fn has(parts: &[Part], file: FileId) -> bool
     false
 }
 
-/// How many files these parts name, or nothing where that is no number of 64 bits. 4096 subtasks of
-/// 4096 files each name 2^24, so a coordinator always gets the number.
+/// The number of files that these parts name, or `None` if it does not fit 64 bits. 4096 subtasks
+/// with 4096 files each name 2^24, so a coordinator always gets the number.
 pub(crate) fn named(parts: &[Part]) -> Option<usize>
     ensures some { IfSome result (λ n. n ≡ length (files_in parts.now)) }
     ensures none { IfNone result (2 ^ 64 ≤ length (files_in parts.now)) }
@@ -67,7 +68,7 @@ pub(crate) fn named(parts: &[Part]) -> Option<usize>
     Some(files)
 }
 
-/// Takes back one use of each of these files.
+/// Removes one use of each of these files.
 pub(crate) fn lower_each(counts: &mut Counts, released: &mut Vec<FileId>, files: &[FileId])
     requires counted { (f : ℕ) → times f files.now ≤ counter counts.old f }
     requires range { AreInRange counts.old }
@@ -83,7 +84,7 @@ pub(crate) fn lower_each(counts: &mut Counts, released: &mut Vec<FileId>, files:
     }
 }
 
-/// Takes back the uses of these parts.
+/// Removes the uses of these parts.
 pub(crate) fn lower_parts(counts: &mut Counts, released: &mut Vec<FileId>, parts: &[Part])
     requires counted { (f : ℕ) → times f (files_in parts.now) ≤ counter counts.old f }
     requires range { AreInRange counts.old }
@@ -100,8 +101,8 @@ pub(crate) fn lower_parts(counts: &mut Counts, released: &mut Vec<FileId>, parts
     }
 }
 
-/// Where what a record holds lies, or an `Err` with where it belongs. Mostly that is at the end, so
-/// that the last is looked at first.
+/// The place of a record, or an `Err` with the place where it belongs. Mostly that is at the end,
+/// so the last record is checked first.
 fn place_of(acknowledged: &Acknowledged, id: CheckpointId) -> Result<usize, usize>
     requires { AreRising acknowledged.now.items }
     ensures found { IfOk result (LiesAt acknowledged.now.items id) }
@@ -114,8 +115,7 @@ fn place_of(acknowledged: &Acknowledged, id: CheckpointId) -> Result<usize, usiz
     }
 }
 
-/// The same for a number below the last: the first is looked at before the others are searched by
-/// halves.
+/// The same for a number below the last. The first record is checked before a binary search.
 fn place_below(acknowledged: &Acknowledged, id: CheckpointId) -> Result<usize, usize>
     requires { AreRising acknowledged.now.items }
     ensures found { IfOk result (LiesAt acknowledged.now.items id) }
@@ -127,7 +127,7 @@ fn place_below(acknowledged: &Acknowledged, id: CheckpointId) -> Result<usize, u
     }
 }
 
-/// The parts of a record; none where no subtask of it uses a file.
+/// The parts of a record, or none if no subtask of it uses a file.
 pub(crate) fn parts_held(acknowledged: &Acknowledged, id: CheckpointId) -> &[Part]
     requires { AreRising acknowledged.now.items }
     ensures { result.now ≡ parts_of acknowledged.now id }
@@ -138,7 +138,7 @@ pub(crate) fn parts_held(acknowledged: &Acknowledged, id: CheckpointId) -> &[Par
     }
 }
 
-/// Takes the parts of a record away, where it has any. Takes no memory.
+/// Removes the parts of a record, if it has any. Takes no memory.
 pub(crate) fn remove(acknowledged: &mut Acknowledged, id: CheckpointId) -> Option<Vec<Part>>
     requires { AreRising acknowledged.old.items }
     ensures gone { acknowledged.new.items ≡ filter (λ h. not (h.id == id)) acknowledged.old.items }
@@ -152,8 +152,8 @@ pub(crate) fn remove(acknowledged: &mut Acknowledged, id: CheckpointId) -> Optio
     Some(holding.parts)
 }
 
-/// Adds the part of a subtask to a record; those of a new record lie in the spare room. Fails only
-/// for want of memory, and then adds nothing.
+/// Adds the part of a subtask to a record. A new record uses the spare room. Fails only if memory
+/// runs out, and then adds nothing.
 pub(crate) fn hold(
     acknowledged: &mut Acknowledged,
     spare: &mut Vec<Part>,

@@ -1,13 +1,13 @@
 //! The registry of shared state files: which files live checkpoints and savepoints use, and which
-//! are released when records go.
+//! files are released when records are dropped.
 //!
-//! A [`Registry`] is seen as its list of uses: by record, then by subtask, then by file, with the
-//! pins of a record after its acknowledgements. A file is present while it has a use. It is
-//! released, to be deleted, with its last use: never before, and once.
+//! Contracts see a [`Registry`] as its list of uses: by record, then by subtask, then by file. The
+//! pins of a record come after its acknowledgements. A file is present while it has a use. It is
+//! released for deletion with its last use, once and never before.
 //!
-//! Source of the rule: the Flink documentation, "State Backends", incremental checkpoints, where a
-//! shared file stays while a retained checkpoint refers to it. That uses are counted one by one,
-//! and the pins, are this project's own.
+//! Source of the rule: the Flink documentation, "State Backends", incremental checkpoints. There a
+//! shared file stays while a retained checkpoint refers to it. Counting uses one by one and pins
+//! are this project's own.
 #![tactic(auto)]
 
 mod counters;

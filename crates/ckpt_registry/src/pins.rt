@@ -1,4 +1,5 @@
-//! The pins of records: files that they keep present, or a live record whose files they keep.
+//! The pins of records: files that they keep present, or a live record whose files they keep
+//! present.
 ghost use Rattle.std.specs.Prelude.{◌≡◌, ℕ, ◌+◌, ◌<◌, ◌≤◌, ◌^◌, ◌&&◌, ◌==◌, nat_lt, take, filter, not, vec_len, length, ◌++◌, IfOk, OnOk};
 ghost use Rattle.std.specs.Vec.{vec_capacity};
 ghost use Rattle.indexmap.specs.IndexMap.{index_map_len};
@@ -14,20 +15,20 @@ use crate::sorting::sort;
 use ckpt_ids::{CheckpointId, FileId};
 use std::alloc::{AllocError, Global};
 
-/// A record that pins files: all those of a live record, as it is now, or its own.
+/// The pins of a record: all files of a live record, as it is now, or a list of files.
 #[derive(Debug, Drop)]
 pub(crate) struct Pinner {
     pub(crate) id: CheckpointId,
-    /// The record whose files are pinned, which has a use of each while it is live.
+    /// The record whose files are pinned. It uses each of them while it is live.
     pub(crate) chosen: CheckpointId,
-    /// How many parts that record had; 0 where it is gone, or no record was pinned.
+    /// The number of parts of that record; 0 if it was dropped, or if no record was pinned.
     pub(crate) parts: usize,
-    /// Files that are counted one by one, or room for those of the record that is pinned.
+    /// Files that are counted one by one, or room for those of the pinned record.
     pub(crate) files: Vec<FileId>,
 }
 
 impl Pinner {
-    /// Whether a file is one of the live record that is pinned.
+    /// Whether a file belongs to the live record that is pinned.
     fn pins(&self, acknowledged: &Acknowledged, file: FileId) -> bool
         requires rising { AreRising acknowledged.now.items }
         requires within { self.now.parts ≤ length (parts_of acknowledged.now self.now.chosen) }
@@ -37,8 +38,8 @@ impl Pinner {
         has(&parts[..self.parts], file)
     }
 
-    /// The record that is pinned goes: its files are counted one by one from now on, in the room
-    /// that was kept for them. Takes no memory.
+    /// The pinned record is dropped. From now on its files are counted one by one, in the room that
+    /// was kept for them. Takes no memory.
     fn take(&mut self, counts: &mut Counts, parts: &[Part])
         requires kept { IsKept parts.now self.old }
         requires pins { 0 < self.old.parts }
@@ -58,7 +59,7 @@ impl Pinner {
     }
 }
 
-/// Writes the files of these parts into room that was reserved.
+/// Writes the files of these parts into reserved room.
 fn fill(files: &mut Vec<FileId>, parts: &[Part])
     requires room { vec_len files.old + length (files_in parts.now) ≤ vec_capacity files.old }
     ensures { files.new.items ≡ files.old.items ++ files_in parts.now }
@@ -69,7 +70,7 @@ fn fill(files: &mut Vec<FileId>, parts: &[Part])
     }
 }
 
-/// Writes files into room that was reserved.
+/// Writes files into reserved room.
 fn write(files: &mut Vec<FileId>, more: &[FileId])
     requires room { vec_len files.old + length more.now ≤ vec_capacity files.old }
     ensures items { files.new.items ≡ files.old.items ++ more.now }
@@ -79,7 +80,7 @@ fn write(files: &mut Vec<FileId>, more: &[FileId])
     let _ = files.extend_from_slice(more);
 }
 
-/// Appends the files of these parts. Fails only for want of memory.
+/// Appends the files of these parts. Fails only if memory runs out.
 fn add_files(all: &mut Vec<FileId>, parts: &[Part]) -> Result<(), AllocError>
     ensures { OnOk result (all.new.items ≡ all.old.items ++ files_in parts.now) }
 {
@@ -90,7 +91,8 @@ fn add_files(all: &mut Vec<FileId>, parts: &[Part]) -> Result<(), AllocError>
     Ok(())
 }
 
-/// What a record pins; a file of several parts stands for each. Fails only for want of memory.
+/// The files that a record pins. A file of several parts is there once for each. Fails only if
+/// memory runs out.
 pub(crate) fn files_pinned(
     alloc: Global,
     acknowledged: &Acknowledged,
@@ -120,8 +122,8 @@ struct Look {
     found: bool,
 }
 
-/// Looks whether a file is one of the live record that is pinned. Where the last look was at the
-/// same record it serves again: many may pin it.
+/// Whether a file belongs to the live record that is pinned. Many records may pin the same one, so
+/// if the last search was in this record, its result is used again.
 fn looked(acknowledged: &Acknowledged, one: &Pinner, last: Look, file: FileId) -> Look
     requires rising { AreRising acknowledged.now.items }
     requires within { one.now.parts ≤ length (parts_of acknowledged.now one.now.chosen) }
@@ -139,7 +141,7 @@ fn looked(acknowledged: &Acknowledged, one: &Pinner, last: Look, file: FileId) -
     }
 }
 
-/// How many of these pin a live record that has a file.
+/// How many of these pin a live record that has this file.
 pub(crate) fn pins_of(acknowledged: &Acknowledged, pinned: &[Pinner], file: FileId) -> u32
     requires rising { AreRising acknowledged.now.items }
     requires kept { AreKept acknowledged.now pinned.now }
@@ -147,7 +149,7 @@ pub(crate) fn pins_of(acknowledged: &Acknowledged, pinned: &[Pinner], file: File
     ensures { result ≡ pins_of_records acknowledged.now file pinned.now }
 {
     let mut pins: u32 = 0;
-    // No part has no file.
+    // Each part has a file.
     let mut last = Look {
         chosen: CheckpointId(0),
         parts: 0,
@@ -162,7 +164,7 @@ pub(crate) fn pins_of(acknowledged: &Acknowledged, pinned: &[Pinner], file: File
     pins
 }
 
-/// Counts the files of a record that goes once for each that pins it. Takes no memory.
+/// Counts the files of a dropped record once for each record that pins it. Takes no memory.
 pub(crate) fn settle(
     pinned: &mut Vec<Pinner>,
     counts: &mut Counts,
@@ -185,7 +187,7 @@ pub(crate) fn settle(
     }
 }
 
-/// Takes back what these records pin.
+/// Removes the pins of these records.
 pub(crate) fn unpin(
     pinned: &mut Vec<Pinner>,
     counts: &mut Counts,

@@ -20,15 +20,19 @@ use std::marker::Model;
 
 /// The uses of state files by live records, and how often each file is used.
 ///
-/// Calls cost what they name: `contains` is a look-up, `use_files` and `pin` visit their k files,
-/// `pin_record` the subtasks of the record that it pins, and `release` and `end` what the named
-/// records use, each by look-ups that take O(log n) steps among n, and the number of each record
-/// that pins another. A record that goes from among others moves up to half of them by a place.
-/// `count` searches, beside its look-up, the files of each subtask of a record that is pinned, by
-/// halves; once, however many pin that record one after the other. No call visits the other files.
+/// The time of a call grows with what it names:
 ///
-/// A record that is pinned has a use of each of its files, which are present while it is live. So
-/// nothing is counted for its pins until it goes.
+/// - `contains` is one look-up.
+/// - `use_files` and `pin` visit their k files.
+/// - `pin_record` visits the subtasks of the record that it pins.
+/// - `release` and `end` visit what the named records use, and each record that pins another. A
+///   look-up takes O(log n) steps among n. Removing a record moves up to half of the others by a
+///   place.
+/// - `count` makes one look-up. For each pinned record it also makes a binary search in the files
+///   of each subtask. If consecutive records pin the same record, that is searched once.
+///
+/// No call visits other files. A pinned record uses each of its files, so they are present while it
+/// is live. So its pins are counted only once it is dropped.
 #[derive(Debug)]
 pub struct Registry {
     counts: Counts,
@@ -36,7 +40,7 @@ pub struct Registry {
     pinned: Vec<Pinner>,
     /// The answer of the last release, in room for all files that are present.
     released: Vec<FileId>,
-    /// Empty room for the parts of the next new record, left by the last record that went.
+    /// Empty room for the parts of the next new record. It comes from the last dropped record.
     spare: Vec<Part>,
 }
 
@@ -68,16 +72,16 @@ impl Model for Registry {
 impl Registry {
     ghost use Rattle.ckpt_registry.specs.Ends.{EndsAs};
 
-    /// A registry without uses, for files whose numbers nobody chooses: anybody can know how they
-    /// are hashed. Takes no memory.
+    /// A registry without uses, for file numbers that nobody chooses: anybody can know how it
+    /// hashes them. Takes no memory.
     pub fn new(alloc: Global) -> Registry
         ensures { result ≡ [] }
     {
         Registry::keyed(alloc, Secret::fixed())
     }
 
-    /// A registry without uses, which hashes the files' numbers under a secret: whoever chooses
-    /// them can't make look-ups slow. Takes no memory.
+    /// A registry without uses that hashes the files' numbers under a secret. So whoever chooses
+    /// the numbers can't make look-ups slow. Takes no memory.
     pub fn keyed(alloc: Global, secret: Secret) -> Registry
         ensures { result ≡ [] }
     {
@@ -90,11 +94,11 @@ impl Registry {
         }
     }
 
-    /// Adds the uses of the acknowledgement of one subtask: one for each of its files.
+    /// Adds the uses of the acknowledgement of one subtask: one for each of its files. Fails only
+    /// if memory runs out, and then adds none.
     ///
-    /// The fresh files have no use yet, the reused ones have, and no number stands twice. The
-    /// subtask has not acknowledged in this record. Fails only for want of memory, and then adds
-    /// none.
+    /// Conditions: the fresh files have no use yet, the reused ones have, and no file is named
+    /// twice. The subtask has not acknowledged this record.
     pub fn use_files(
         &mut self,
         id: CheckpointId,
@@ -110,7 +114,7 @@ impl Registry {
         ensures ok { OnOk result (self.new ≡ in_order_once use_before (self.old ++ triples id (Subtask subtask) (fresh.now ++ reused.now))) }
         ensures err { OnErr result (self.new ≡ self.old) }
     {
-        // All that may find no memory comes first. A file that is released has a counter, so room
+        // Everything that may run out of memory comes first. A released file has a counter, so room
         // for as many files as counters is enough.
         self.counts.reserve(fresh.len())?;
         self.released.clear();
@@ -130,10 +134,10 @@ impl Registry {
         Ok(())
     }
 
-    /// Pins files, which keeps them present until the record ends or goes: one use for each.
+    /// Pins files: one use for each, which keeps them present until the record ends or is dropped.
+    /// Fails only if memory runs out, and then adds none.
     ///
-    /// Each file is named once and present, and the record has no pins yet. Fails only for want of
-    /// memory, and then adds none.
+    /// Conditions: each file is named once and present, and the record has no pins yet.
     pub fn pin(&mut self, id: CheckpointId, files: &Files) -> Result<(), AllocError>
         requires ascending { IsAscendingSet files.now }
         requires present { (f : ℕ) → IsIn f files.now → is_present self.old f ≡ true }
@@ -158,8 +162,8 @@ impl Registry {
         Ok(())
     }
 
-    /// Adds the uses of the acknowledgement of one subtask, whether its files are present or not: for
-    /// a registry that is filled again. Else as [`Registry::use_files`].
+    /// Adds the uses of the acknowledgement of one subtask, whether its files are present or not.
+    /// It serves to fill a registry again. Otherwise it is as [`Registry::use_files`].
     pub fn hold_files(
         &mut self,
         id: CheckpointId,
@@ -188,11 +192,11 @@ impl Registry {
         Ok(())
     }
 
-    /// Pins files, which are present from now on until the record ends or goes: one use for each.
-    /// Some may have no other use: those of a record that went since it was pinned.
+    /// Pins files: one use for each, so they are present until the record ends or is dropped. Some
+    /// may have no other use, if the record that used them was dropped after it was pinned. Fails
+    /// only if memory runs out, and then adds none.
     ///
-    /// Each file is named once, and the record has no pins yet. Fails only for want of memory, and
-    /// then adds none.
+    /// Conditions: each file is named once, and the record has no pins yet.
     pub fn pin_files(&mut self, id: CheckpointId, files: &Files) -> Result<(), AllocError>
         requires ascending { IsAscendingSet files.now }
         requires below { (f : ℕ) → IsIn f files.now → count self.old f < 2 ^ 32 - 1 }
@@ -216,12 +220,12 @@ impl Registry {
         Ok(())
     }
 
-    /// Pins the files of a live record, as it is now: one use for each, which keeps them present
-    /// until record `id` ends or goes, even where the other goes before. Does the same as
-    /// [`Registry::pin`] with these files, and visits none of them.
+    /// Pins the files of a live record, as it is now: one use for each. That keeps them present
+    /// until record `id` ends or is dropped, even if the other record is dropped first. Does the
+    /// same as [`Registry::pin`] with these files, and visits none of them. Fails only if memory
+    /// runs out, and then adds none.
     ///
-    /// Record `id` has no pins yet, and the other may have no use. Fails only for want of memory,
-    /// and then adds none.
+    /// Condition: record `id` has no pins yet. The other record may have no use.
     pub fn pin_record(&mut self, id: CheckpointId, chosen: CheckpointId) -> Result<(), AllocError>
         requires below { (f : ℕ) → IsIn f (files_by chosen self.old) → count self.old f < 2 ^ 32 - 1 }
         requires unpinned { HasNoUse self.old id Pin }
@@ -237,8 +241,8 @@ impl Registry {
         };
         let parts = parts.len();
         let alloc = *self.released.allocator();
-        // Room for the files, which are written where the other record goes first: no memory may
-        // be asked for then. Until then it is not touched.
+        // Room for the files. They are written if the other record is dropped first, since a drop
+        // may take no memory. Until then nothing touches this room.
         let files = Vec::with_capacity(alloc, files)?;
         self.pinned.push(Pinner {
             id,
@@ -249,7 +253,7 @@ impl Registry {
         Ok(())
     }
 
-    /// The files that a record pins, in ascending order. Fails only for want of memory.
+    /// The files that a record pins, in ascending order. Fails only if memory runs out.
     pub fn pins(&self, id: CheckpointId) -> Result<Files, AllocError>
         ensures { IfOk result (λ files. files ≡ pins_by id self.now) }
     {
@@ -260,11 +264,10 @@ impl Registry {
         Ok(Files::of(all))
     }
 
-    /// Removes all uses and pins of these records, and shows the files that are no longer used:
-    /// ascending, each once.
+    /// Removes all uses and pins of these records, and returns the files that are no longer in use:
+    /// ascending, each once. Takes no memory: the files are in room that `use_files` made.
     ///
-    /// A record may have no use, and may be named twice. The files lie in room that `use_files`
-    /// made. Takes no memory.
+    /// A record may have no use, and may be named twice.
     pub fn release(&mut self, owners: &[CheckpointId]) -> &[FileId]
         ensures* after { sem 𝓛 (EndsAs self.entry (without owners.now self.old)) }
         ensures files { result.now ≡ released self.old (without owners.now self.old) }
@@ -282,11 +285,10 @@ impl Registry {
         self.released.as_slice()
     }
 
-    /// Ends record `id`, which gives up its pins, and removes all uses and pins of the owners.
-    /// Shows the files that are no longer used: ascending, each once.
+    /// Ends record `id`: removes its pins, and all uses and pins of the owners. Returns the files
+    /// that are no longer in use: ascending, each once. Takes no memory.
     ///
-    /// What is said of the owners and the files of [`Registry::release`] holds here too. Takes no
-    /// memory.
+    /// An owner may have no use, and may be named twice.
     pub fn end(&mut self, id: CheckpointId, owners: &[CheckpointId]) -> &[FileId]
         ensures* after { sem 𝓛 (EndsAs self.entry (after_end id owners.now self.old)) }
         ensures files { result.now ≡ released self.old (after_end id owners.now self.old) }
@@ -319,14 +321,14 @@ impl Registry {
         counted + pins_of(&self.acknowledged, &self.pinned, file)
     }
 
-    /// Whether a file is present: whether it is used at all.
+    /// Whether a file is present, that is, in use.
     pub fn contains(&self, file: FileId) -> bool
         ensures { result ≡ is_present self.now file }
     {
         self.counts.contains_key(&file)
     }
 
-    /// How many files are present.
+    /// The number of files that are present.
     pub fn present(&self) -> u64
         ensures value { result ≡ length (ascending_set (map (λ u. u.file) self.now)) }
         ensures in_order { IsInOrder use_before self.now }

@@ -1,4 +1,4 @@
-//! What goes with records: their uses and their pins.
+//! Removes the uses and the pins of dropped records.
 ghost use Rattle.std.specs.Prelude.{◌≡◌, ℕ, ◌+◌, ◌≤◌, [], vec_capacity, vec_len};
 ghost use Rattle.indexmap.specs.IndexMap.{index_map_len};
 ghost use Rattle.ckpt_ids.specs.Counting.{times};
@@ -13,8 +13,8 @@ use crate::holdings::{Acknowledged, Part, lower_parts, remove};
 use crate::pins::{Pinner, settle, unpin};
 use ckpt_ids::{CheckpointId, FileId};
 
-/// Takes back what the subtasks of one record use, where they use anything. Those who pin the
-/// record keep its files. The room of its parts is spare from now on.
+/// Removes the uses of one record, if it has any. Records that pin this one keep its files. The
+/// room of its parts is then spare.
 fn drop_uses(
     acknowledged: &mut Acknowledged,
     pinned: &mut Vec<Pinner>,
@@ -42,8 +42,8 @@ fn drop_uses(
     }
 }
 
-/// Takes back all that these records use and pin. The pins go first, so that what goes with the
-/// record that it pins is never counted for it.
+/// Removes all uses and pins of these records. The pins go first. So if a record goes together with
+/// the one that it pins, its pins are never counted.
 pub(crate) fn release_each(
     acknowledged: &mut Acknowledged,
     pinned: &mut Vec<Pinner>,

@@ -11,7 +11,7 @@ use std::marker::Model;
 
 /// The moments that decide when the next checkpoint may start, in milliseconds.
 ///
-/// Each moment that is handed in is below [`MOMENTS_END`](ckpt_ids::MOMENTS_END). No call takes memory.
+/// The caller passes moments below [`MOMENTS_END`](ckpt_ids::MOMENTS_END). No call takes memory.
 #[derive(Clone, Copy, Debug, PartialEq, Eq)]
 pub struct Clock {
     latest: u64,
@@ -31,7 +31,7 @@ impl Model for Clock {
     ghost inverse = { λ m. record { latest = m.latest; due = m.due; completed = m.completed } };
 }
 
-/// Milliseconds from a trigger to the next: a pause above the interval lifts it.
+/// Milliseconds from one trigger to the next: the greater of the interval and the pause.
 fn gap_of(config: &Config) -> u64
     ensures value { result ≡ gap config.now }
     ensures limit { result < 2 * LONGEST_DURATION }
@@ -39,7 +39,7 @@ fn gap_of(config: &Config) -> u64
     config.interval().max(config.pause())
 }
 
-/// How many checkpoints may be pending: one, where there is a pause between them.
+/// How many checkpoints may be pending at once: only one if there is a pause between them.
 pub fn limit_of(config: &Config) -> u32
     ensures { result ≡ limit config.now }
 {
@@ -51,7 +51,7 @@ pub fn limit_of(config: &Config) -> u32
 }
 
 impl Clock {
-    /// The clock of a job that starts at this moment, with no completed checkpoint.
+    /// The clock of a job that starts at this moment, without a completed checkpoint.
     pub fn new(config: &Config, start: u64) -> Clock
         requires { start < MOMENTS_END }
         ensures { result ≡ record { latest = start; due = start + gap config.now; completed = None } }
@@ -63,8 +63,8 @@ impl Clock {
         }
     }
 
-    /// The clock with these moments: the greatest one seen, the one before which no checkpoint
-    /// starts, and the last completion since the job was started, where there was one.
+    /// A clock with these moments: the greatest one seen, the one before which no checkpoint
+    /// starts, and the last completion since the job was started, if there was one.
     pub fn of(latest: u64, due: u64, completed: Option<u64>) -> Clock
         requires { IsInRange (record { latest = latest; due = due; completed = completed }) }
         ensures { result ≡ record { latest = latest; due = due; completed = completed } }
@@ -91,7 +91,7 @@ impl Clock {
         self.due
     }
 
-    /// The moment of the last completed checkpoint since the job was started, or `None` where none
+    /// The moment of the last completed checkpoint since the job was started, or `None` if none
     /// has completed.
     pub fn last_completion(&self) -> Option<u64>
         ensures { result ≡ self.now.completed }
@@ -109,7 +109,7 @@ impl Clock {
         self.latest.max(now)
     }
 
-    /// Sees this moment: the greatest one is kept.
+    /// Records this moment. The clock keeps the greatest one.
     pub fn see(&mut self, now: u64)
         requires { now < MOMENTS_END }
         ensures { self.new ≡ record self.old { latest = max now self.old.latest } }
@@ -117,7 +117,7 @@ impl Clock {
         self.latest = self.latest.max(now);
     }
 
-    /// Whether a checkpoint may start `now`, where `pending` checkpoints are pending.
+    /// Whether a checkpoint may start `now`, while `pending` checkpoints are pending.
     ///
     /// Source of the rule: the Flink documentation, "Configuration", and this project, as
     /// `specs/Trigger.antt` says.
@@ -147,7 +147,8 @@ impl Clock {
         }
     }
 
-    /// A checkpoint was triggered `now`: the next is due after the gap.
+    /// A checkpoint was triggered `now`. The next is due after the interval, or the pause if that
+    /// is longer.
     pub fn triggered(&mut self, config: &Config, now: u64)
         requires { now < MOMENTS_END }
         ensures { self.new ≡ record self.old { due = now + gap config.now } }
@@ -163,7 +164,8 @@ impl Clock {
         self.completed = Some(now);
     }
 
-    /// The job was restarted `now`: the next checkpoint is due after the gap, and no pause runs.
+    /// The job was restarted `now`. The next checkpoint is due as after a trigger, and there is no
+    /// last completion.
     pub fn restarted(&mut self, config: &Config, now: u64)
         requires { now < MOMENTS_END }
         ensures { self.new ≡ record self.old { due = now + gap config.now; completed = None } }

@@ -5,7 +5,7 @@ ghost use Rattle.ckpt_rules.specs.FailureCount.{FailureCount};
 
 use std::marker::Model;
 
-/// How many checkpoints failed in a row, and how many a job tolerates.
+/// How many checkpoints have failed in a row, and how many a job tolerates.
 ///
 /// Source of the rule: the Flink documentation, "Configuration",
 /// `execution.checkpointing.tolerable-failed-checkpoints`. No call takes memory.
@@ -26,7 +26,7 @@ impl Model for Failures {
 }
 
 impl Failures {
-    /// No failures yet, of which this many in a row are tolerated.
+    /// No failures yet. The job tolerates this many in a row.
     pub fn new(tolerable: u32) -> Failures
         ensures { result ≡ record { tolerable = tolerable; number = 0 } }
     {
@@ -36,7 +36,9 @@ impl Failures {
         }
     }
 
-    /// Adds `more` failures, and answers whether there are now more than are tolerated.
+    /// Adds `more` failures. Returns whether there are now more than the job tolerates.
+    ///
+    /// Condition: the new number of failures fits a `u32`.
     pub fn add(&mut self, more: u32) -> bool
         requires { self.old.number + more < 2 ^ 32 }
         ensures number { self.new ≡ record self.old { number = self.old.number + more } }
@@ -53,7 +55,7 @@ impl Failures {
         self.number
     }
 
-    /// No failures: a checkpoint completed, or the job was restarted.
+    /// Sets the failures to 0: a checkpoint completed, or the job was restarted.
     pub fn reset(&mut self)
         ensures { self.new ≡ record self.old { number = 0 } }
     {

@@ -1,4 +1,6 @@
-/// Why a checkpoint is held back, or that it may go.
+//! Whether a checkpoint may start.
+
+/// Whether a checkpoint may start, and if not, why not.
 #[derive(Clone, Copy, Debug, PartialEq, Eq)]
 pub enum Hold {
     /// The interval since the last trigger has not passed.

@@ -1,7 +1,7 @@
 //! When a checkpoint may start, and how many failed ones a job tolerates.
 //!
-//! [`Clock`] keeps the moments of a coordinator and answers by [`Clock::held`] whether the next
-//! checkpoint may start; [`Failures`] counts the failed ones in a row. Neither takes memory.
+//! [`Clock`] keeps the moments of a coordinator. [`Clock::held`] says whether the next
+//! checkpoint may start. [`Failures`] counts the failed ones in a row. Neither takes memory.
 //! `specs/Trigger.antt` defines the rule.
 #![tactic(auto)]
 

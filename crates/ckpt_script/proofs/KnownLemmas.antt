@@ -14,19 +14,10 @@ WhereKnown-keeps (Some x) (Some y) (Some z) P p k = subst (λ (w : List ℕ). P 
 WhereKnown-keeps (Some x) (Some y) None P p k = k
 WhereKnown-keeps (Some x) None c P p k = absurd p
 
-pub WhereKnown-from_keeps : (a b c : Option (List ℕ)) (P : List ℕ → List ℕ → Type 0) → Keeps a b → WhereKnown b c P → WhereKnown a c P
-WhereKnown-from_keeps None b c P k p = tt
-WhereKnown-from_keeps (Some x) (Some y) c P k p = subst (λ (w : List ℕ). WhereKnown (Some w) c P) k p
-WhereKnown-from_keeps (Some x) None c P k p = absurd k
-
 pub WhereKnown-map : (a b : Option (List ℕ)) (P Q : List ℕ → List ℕ → Type 0) → ((x y : List ℕ) → P x y → Q x y) → WhereKnown a b P → WhereKnown a b Q
 WhereKnown-map None b P Q f p = tt
 WhereKnown-map (Some x) (Some y) P Q f p = f x y p
 WhereKnown-map (Some x) None P Q f p = p
-
-pub WhereKnown-same : (a : Option (List ℕ)) (P : List ℕ → List ℕ → Type 0) → ((x : List ℕ) → P x x) → WhereKnown a a P
-WhereKnown-same None P f = tt
-WhereKnown-same (Some x) P f = f x
 
 -- what was read ahead changes, and the reader does not
 pub WhereKnown-moves : (a rest : Option (List ℕ)) (xs ys : List ℕ) (P Q : List ℕ → List ℕ → Type 0) → ((x z : List ℕ) → P x (xs ++ z) → Q x (ys ++ z)) → WhereKnown a (prepend_known xs rest) P → WhereKnown a (prepend_known ys rest) Q
@@ -77,16 +68,6 @@ module _ (all before rest line after z : List ℕ) where
     where
       regroup : (a b c d : List ℕ) → a ++ ((b ++ newline ∷ c) ++ d) ≡ (a ++ b) ++ newline ∷ (c ++ d)
       regroup a b c d = simp append_assoc
-
--- the line lies whole in what is read ahead
-pub line_ahead : (is_ended : Bool) (bytes : List ℕ) (place : ℕ) (rest : Option (List ℕ)) → FindsNewline bytes (Some place)
-    → WhereKnown (prepend_known bytes rest) (prepend_known (drop (place + 1) bytes) rest) (λ all left. HoldsLine is_ended all left (take held (take place bytes)))
-line_ahead is_ended bytes place None found = tt
-line_ahead is_ended bytes place (Some z) found = (
-  take place bytes,
-  record { one_line = found.1; split = inl (ap (λ (xs : List ℕ). xs ++ z) found.2 ∙ append_assoc (take place bytes) (newline ∷ drop (place + 1) bytes) z) },
-  refl,
-)
 
 -- the end of the text came
 pub text_ends : (is_ended : Bool) (a rest : Option (List ℕ)) (xs line : List ℕ) → xs ≡ [] → is_ended ≡ true → IsAtEnd rest → WhereKnown a (prepend_known xs rest) (λ all left. HoldsPart all left line) → WhereKnown a (prepend_known xs rest) (λ all left. HoldsLine is_ended all left line)

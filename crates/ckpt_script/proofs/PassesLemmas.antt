@@ -26,11 +26,6 @@ Appends-as None b xs ys e p = tt
 Appends-as (Some a) (Some b) xs ys e p = p ∙ ap (λ (zs : List ℕ). a ++ zs) e
 Appends-as (Some a) None xs ys e p = p
 
-pub Keeps-appends : (a b : Option (List ℕ)) → Keeps a b → Appends a b []
-Keeps-appends None b k = tt
-Keeps-appends (Some a) (Some b) k = k ∙ sym (append-nil a)
-Keeps-appends (Some a) None k = k
-
 -- a front of what waited was written
 pub passes_part : (before after : Option (List ℕ)) (waiting text : List ℕ) (cut : IsCut before after waiting) → Passes before after waiting text (cut.1 ++ text)
 passes_part before after waiting text cut = record {

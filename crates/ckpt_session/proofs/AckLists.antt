@@ -35,6 +35,3 @@ acks_for-more line missing place d calls within so_far =
     let more : acks_from line 0 (take place missing ++ s ∷ []) ≡ acks_from line 0 (take place missing) ++ ack_at line place s ∷ [] =
     acks_from-push line 0 (take place missing) s ∙ ap (λ (n : ℕ). acks_from line 0 (take place missing) ++ ack_at line n s ∷ []) at in
     ap (λ (cs : List Call). cs ++ ack_at line place s ∷ []) so_far ∙ sym more ∙ ap (acks_from line 0) (sym (take_more missing place d within))
-
-pub acks_for-all : (line : AllLine) (missing : List SubtaskId) (place : ℕ) (calls : List Call) → length missing ≤ place → calls ≡ acks_for line (take place missing) → calls ≡ acks_for line missing
-acks_for-all line missing place calls past so_far = so_far ∙ ap (acks_for line) (take_all place missing past)

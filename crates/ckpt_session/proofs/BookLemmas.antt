@@ -1,17 +1,13 @@
 -- The state that a book's calls lead to, after calls more.
-use Rattle.std.proofs.Common.{◌≡◌, ℕ, List, [], ◌∷◌, ◌++◌, Ok, Err, Result, ap, ◌∙◌, refl}
-use Rattle.std.specs.Result.{OnOk}
+use Rattle.std.proofs.Common.{◌≡◌, ℕ, List, [], ◌++◌, ap, ◌∙◌, refl}
 use Rattle.std.proofs.lemmas.List.{map-append}
 use Rattle.ckpt_ids.specs.declared.call.Call.{Call}
 use Rattle.ckpt_core.specs.State.{State, Opening, opened}
 use Rattle.ckpt_core.specs.Steps.{step}
 use Rattle.ckpt_core.specs.Histories.{replay}
+use Rattle.ckpt_core.proofs.Histories.Replays.{replay-append}
 use Rattle.ckpt_locked.specs.declared.book.Entry.{Entry}
 use Rattle.ckpt_locked.specs.Books.{History, calls_of, entered, answer_to, state_of_book}
-
-replay-append : (m : State) (before calls : List Call) → replay m (before ++ calls) ≡ replay (replay m before) calls
-replay-append m [] calls = refl
-replay-append m (call ∷ before) calls = replay-append (step m call).0 before calls
 
 pub state_of_book-more : (h : History) (new : List Entry) → state_of_book (record h { entries = h.entries ++ new }) ≡ replay (state_of_book h) (calls_of new)
 unfolding state_of_book
@@ -30,8 +26,3 @@ answer_to-step h call = refl
 pub state_of_book-opened : (h : History) (o : Opening) → h.opening ≡ o → h.entries ≡ [] → state_of_book h ≡ opened o
 unfolding state_of_book
 state_of_book-opened h o same none = ap (λ (es : List Entry). replay (opened h.opening) (calls_of es)) none ∙ ap opened same
-
--- what follows of a value follows of it inside
-pub on_ok-then : {T E : Type 0} (r : Result T E) (P Q : Type 0) → (P → Q) → OnOk r P → OnOk r Q
-on_ok-then (Ok x) P Q then h = then h
-on_ok-then (Err x) P Q then h = tt

@@ -12,11 +12,11 @@ use ckpt_pending::Done;
 use std::alloc::AllocError;
 use std::collections::VecDeque;
 
-/// The room of a queue that grows for the first time.
+/// The room of a queue when it grows for the first time.
 const FIRST_ROOM: usize = 4;
 
-/// Where the record of this number is, or an `Err` where there is none. Mostly the last or the
-/// first is asked for, so that these are looked at before the others are searched by halves.
+/// The place of the record with this number, or an `Err` if there is none. Mostly a caller wants
+/// the last or the first, so these two are checked before a binary search.
 pub(crate) fn place_of(queue: &VecDeque<Done>, id: CheckpointId) -> Result<usize, usize>
     requires { AreRising queue.now.items }
     ensures found { IfOk result (λ place. (place < length queue.now.items) × IsPlaceOf id queue.now.items place) }
@@ -35,8 +35,8 @@ pub(crate) fn place_of(queue: &VecDeque<Done>, id: CheckpointId) -> Result<usize
     queue.binary_search_by_key(&id, |done| done.id())
 }
 
-/// Where a record of this number belongs: before the first whose number is not below. That is mostly
-/// the end, so that the last is looked at before all are searched by halves.
+/// Where a record with this number belongs: before the first whose number is not below it. Mostly
+/// that is the end, so the last record is checked before a binary search.
 pub(crate) fn place_for(queue: &VecDeque<Done>, id: CheckpointId) -> usize
     requires { AreRising queue.now.items }
     ensures bound { result ≤ length queue.now.items }

@@ -15,11 +15,13 @@ use std::collections::VecDeque;
 use std::marker::Model;
 use thiserror::Error;
 
-/// Why a savepoint was not let go. They are tested in this order.
+/// Why a savepoint was not dropped: the first of these that applies.
 #[derive(Clone, Copy, Debug, PartialEq, Eq, Error)]
 pub enum DisposeFault {
+    /// No completed savepoint has this number.
     #[error("there is no such savepoint")]
     NoSuchSavepoint,
+    /// The job was rolled back to this savepoint: it is the base.
     #[error("the job was rolled back to this savepoint")]
     InUse,
 }
@@ -59,7 +61,7 @@ impl Model for Store {
 }
 
 impl Store {
-    /// An empty store, which will keep this many completed checkpoints. Takes no memory.
+    /// An empty store that keeps at most this many completed checkpoints. Takes no memory.
     pub fn new(alloc: Global, retained: u32) -> Store
         requires { 1 ≤ retained }
         ensures { result ≡ record { retained = retained; checkpoints = []; savepoints = []; base = None; spare = result.spare } }
@@ -72,7 +74,7 @@ impl Store {
         }
     }
 
-    /// Makes room for one more checkpoint or savepoint. Fails only for want of memory.
+    /// Makes room for one more checkpoint or savepoint. Fails only if memory runs out.
     pub fn reserve(&mut self) -> Result<(), AllocError>
         ensures ok { OnOk result (1 ≤ self.new.spare) }
         ensures kept { self.new ≡ record self.old { spare = self.new.spare } }
@@ -82,9 +84,12 @@ impl Store {
         make_room(&mut self.savepoints)
     }
 
-    /// Takes a completed checkpoint, whose number is above those of all others. There is no base
-    /// from then on. Where there are now more checkpoints than are retained, the lowest goes, and
-    /// its number is answered. Takes no memory.
+    /// Adds a completed checkpoint. From then on there is no base. If there are now more
+    /// checkpoints than are retained, drops the one with the least number and returns that number.
+    /// Takes no memory.
+    ///
+    /// Conditions: [`Store::reserve`] made room for the record, it is a checkpoint, and its number
+    /// is above those of all other checkpoints.
     pub fn complete(&mut self, done: Done) -> Option<CheckpointId>
         requires room { 1 ≤ self.old.spare }
         requires checkpoint { done.kind ≡ kind.Checkpoint }
@@ -105,7 +110,10 @@ impl Store {
         dropped.map(|done| done.id())
     }
 
-    /// Takes a completed savepoint, whose number no other has. Takes no memory.
+    /// Adds a completed savepoint. Takes no memory.
+    ///
+    /// Conditions: [`Store::reserve`] made room for the record, it is a savepoint, no other
+    /// savepoint has its number, and the number of savepoints then fits a `u32`.
     pub fn add_savepoint(&mut self, done: Done)
         requires room { 1 ≤ self.old.spare }
         requires savepoint { done.kind ≡ kind.Savepoint }
@@ -118,11 +126,10 @@ impl Store {
         let _ = self.savepoints.insert(place, done);
     }
 
-    /// Lets a savepoint go. Takes no memory.
+    /// Drops a savepoint. Takes no memory.
     ///
-    /// Answers [`DisposeFault::NoSuchSavepoint`] exactly where no savepoint has this number, and
-    /// then [`DisposeFault::InUse`] exactly where it is the base. After an error the store is as
-    /// before.
+    /// Returns [`DisposeFault::NoSuchSavepoint`] exactly if no savepoint has this number, otherwise
+    /// [`DisposeFault::InUse`] exactly if it is the base. After an error the store has not changed.
     pub fn dispose(&mut self, id: CheckpointId) -> Result<(), DisposeFault>
         ensures absent { (result ≡ Err DisposeFault.NoSuchSavepoint) ↔ (has_savepoint self.old id ≡ false) }
         ensures in_use { (result ≡ Err DisposeFault.InUse) ↔ ((has_savepoint self.old id ≡ true) × (self.old.base ≡ Some id)) }
@@ -147,7 +154,7 @@ impl Store {
         place_of(&self.savepoints, id).is_ok()
     }
 
-    /// How many completed savepoints there are.
+    /// The number of completed savepoints.
     pub fn savepoints(&self) -> u32
         ensures value { result ≡ length self.now.savepoints }
         ensures stored { IsStored self.now }
@@ -155,7 +162,7 @@ impl Store {
         self.savepoints.len() as u32
     }
 
-    /// How many completed checkpoints are kept now.
+    /// The number of completed checkpoints.
     pub fn checkpoints(&self) -> u32
         ensures value { result ≡ length self.now.checkpoints }
         ensures stored { IsStored self.now }
@@ -163,8 +170,8 @@ impl Store {
         self.checkpoints.len() as u32
     }
 
-    /// What the job would restart from: the greatest completed checkpoint, else the base, else
-    /// nothing. Takes constant time.
+    /// What the job would restart from: the completed checkpoint with the greatest number, else the
+    /// base, else nothing. Takes constant time.
     pub fn choice(&self) -> Choice
         ensures value { result ≡ choice_of self.now }
         ensures stored { IsStored self.now }
@@ -201,7 +208,8 @@ impl Store {
         self.base
     }
 
-    /// Lets the lowest completed checkpoint go, and answers its number. Takes no memory.
+    /// Drops the completed checkpoint with the least number, and returns that number. Takes no
+    /// memory.
     pub fn pop_lowest(&mut self) -> Option<CheckpointId>
         ensures value { self.new ≡ record self.old { checkpoints = drop 1 self.old.checkpoints; spare = self.new.spare } }
         ensures dropped { result ≡ lowest self.old.checkpoints }
@@ -211,7 +219,7 @@ impl Store {
         Some(done.id())
     }
 
-    /// The first completed checkpoint from this number on. It is searched by halves.
+    /// The first completed checkpoint from this number on. Uses binary search.
     pub fn checkpoint_from(&self, id: CheckpointId) -> Option<&Done>
         ensures value { option_copied result ≡ find (λ r. nat_le id r.id) self.now.checkpoints }
         ensures stored { IsStored self.now }
@@ -220,7 +228,7 @@ impl Store {
         self.checkpoints.get(place)
     }
 
-    /// The first completed savepoint from this number on. It is searched by halves.
+    /// The first completed savepoint from this number on. Uses binary search.
     pub fn savepoint_from(&self, id: CheckpointId) -> Option<&Done>
         ensures value { option_copied result ≡ find (λ r. nat_le id r.id) self.now.savepoints }
         ensures stored { IsStored self.now }
@@ -229,8 +237,7 @@ impl Store {
         self.savepoints.get(place)
     }
 
-    /// The completed checkpoint of this number, else the completed savepoint. It is searched by
-    /// halves.
+    /// The completed checkpoint with this number, else the completed savepoint. Uses binary search.
     pub fn get(&self, id: CheckpointId) -> Option<&Done>
         ensures value { option_copied result ≡ record_of self.now id }
         ensures stored { IsStored self.now }

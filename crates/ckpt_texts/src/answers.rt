@@ -7,12 +7,12 @@ use crate::replies::write_reply;
 use ckpt_ids::Answer;
 use std::alloc::{AllocError, Global};
 
-/// Room for most lines, so that they take memory once.
+/// Room for most lines, so that each allocates once.
 const USUAL_LENGTH: usize = 64;
 
-/// The line that is printed for an answer, with its newline.
+/// The printed line of an answer, with its newline.
 ///
-/// Fails only for want of memory.
+/// Fails only if memory runs out.
 pub fn answer_text(alloc: Global, answer: &Answer) -> Result<String, AllocError>
     ensures { IfOk result (λ text. string_bytes text ≡ answer_bytes answer.now) }
 {
@@ -21,9 +21,9 @@ pub fn answer_text(alloc: Global, answer: &Answer) -> Result<String, AllocError>
     Ok(text)
 }
 
-/// Appends the line that is printed for an answer, with its newline.
+/// Appends the printed line of an answer, with its newline.
 ///
-/// Fails only for want of memory, and then a part of the line may stand in the text.
+/// Fails only if memory runs out, and then the text may contain a part of the line.
 #[tactic(auto, unfolding(crate::specs::Texts::answer_bytes))]
 pub fn write_answer(alloc: Global, text: &mut String, answer: &Answer) -> Result<(), AllocError>
     ensures { OnOk result (string_bytes text.new ≡ string_bytes text.old ++ answer_bytes answer.now) }

@@ -1,8 +1,8 @@
-//! What is printed for an answer of the coordinator: one line for each, and for a record its
-//! metadata as JSON.
+//! The printed texts of the coordinator: one line for each answer, and the metadata of a record as
+//! JSON.
 //!
-//! [`answer_text`] gives the line, [`write_answer`] appends it, [`metadata_text`] gives the JSON. `specs/Texts.antt` and
-//! `specs/MetadataTexts.antt` say what they are, byte for byte.
+//! [`answer_text`] returns the line, [`write_answer`] appends it, and [`metadata_text`] returns the
+//! JSON. `specs/Texts.antt` and `specs/MetadataTexts.antt` define them byte for byte.
 #![tactic(auto)]
 
 pub mod answers;

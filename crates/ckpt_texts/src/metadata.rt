@@ -12,8 +12,8 @@ use std::alloc::{AllocError, Global};
 
 /// The metadata of a record as JSON without spaces, and without a newline.
 ///
-/// The keys stand in the order of their bytes. `missing` is the number of subtasks that have not
-/// acknowledged. Fails only for want of memory.
+/// The keys are in the order of their bytes. `missing` is the number of subtasks that have not
+/// acknowledged. Fails only if memory runs out.
 #[tactic(auto, unfolding(crate::specs::MetadataTexts::metadata_bytes))]
 #[inline(never)]
 pub fn metadata_text(alloc: Global, metadata: &Metadata) -> Result<String, AllocError>

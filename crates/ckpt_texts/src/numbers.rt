@@ -1,4 +1,4 @@
-//! Numbers within a text.
+//! Numbers in a text.
 ghost use Rattle.std.specs.Prelude.{◌≡◌, ◌++◌, codes, decimal, OnOk, string_bytes};
 
 use itoa::Buffer;
@@ -10,15 +10,15 @@ use std::alloc::AllocError;
 fn write_digits(text: &mut String, number: u64) -> Result<(), AllocError>
     ensures { OnOk result (string_bytes text.new ≡ string_bytes text.old ++ decimal number) }
 {
-    // Most counts are of one digit.
+    // Most counts have one digit.
     if number < 10 {
         return text.push(char::from(b'0' + number as u8));
     }
     text.push_str(Buffer::new().format(number))
 }
 
-/// Appends the words and the digits of the number. The words are known where this is called: they
-/// are written there at once, in place of a copy of so many bytes.
+/// Appends the words and the digits of the number. The caller's words are constants, so inlining
+/// writes them directly instead of copying bytes.
 #[inline(always)]
 pub(crate) fn write_number(text: &mut String, words: &str, number: u64) -> Result<(), AllocError>
     ensures { OnOk result (string_bytes text.new ≡ string_bytes text.old ++ (words.now ++ decimal number)) }

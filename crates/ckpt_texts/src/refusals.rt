@@ -6,7 +6,7 @@ use crate::numbers::write_number;
 use ckpt_ids::Refusal;
 use std::alloc::AllocError;
 
-/// Appends `refused`, the name of the refusal, and the file that it names.
+/// Appends `refused`, the name of the refusal, and its file if it has one.
 pub(crate) fn write_refusal(text: &mut String, refusal: Refusal) -> Result<(), AllocError>
     ensures { OnOk result (string_bytes text.new
         ≡ string_bytes text.old ++ codes "refused " ++ refusal_bytes refusal) }

@@ -36,7 +36,7 @@ pub(crate) fn write_reply(alloc: Global, text: &mut String, reply: &Reply) -> Re
     }
 }
 
-/// Appends what a tick has ended, and how it ended.
+/// Appends how many records expired in a tick, and how it ended.
 #[tactic(auto, unfolding(crate::specs::Texts::tick_end_bytes))]
 fn write_tick(text: &mut String, expired: u32, end: TickEnd) -> Result<(), AllocError>
     ensures { OnOk result (string_bytes text.new ≡ string_bytes text.old

@@ -13,16 +13,6 @@ use Rattle.ckpt_workers.specs.Tasks.{IsTasked, answers, is_late, is_other, is_ta
 use Rattle.ckpt_workers.proofs.ShiftLemmas.{IsShift-none, IsShift-push}
 use Rattle.ckpt_workers.proofs.TallyLemmas.{capped-push}
 
-pub IsTasked-none : (hand : Hand) → IsTasked hand hand (record { accepted = 0; late = 0; refused = 0; unanswered = 0 })
-IsTasked-none hand = record {
-  told = [];
-  shift = IsShift-none hand;
-  orders = All-nil IsOrder;
-  accepted = refl;
-  late = refl;
-  refused = refl;
-}
-
 pub IsTasked-push : (old hand new : Hand) (was is : Tally) (call : Call) (answer : Option Answer)
     → IsTasked old hand was → IsOrder call → IsAsked hand call new answer
     → is.accepted ≡ cond (answers is_taken_in answer) (capped (was.accepted + 1)) was.accepted

@@ -115,10 +115,3 @@ IsTeamwork-push old calls threads before made call seat some at h more =
       refused_is = pushed.refused;
       completed_is = pushed.completed;
     }
-
--- no count is above the number of calls
-pub counts_below : (old : History) (calls : List Call) (threads : ℕ) (made : Made) → IsTeamwork old calls threads made → (made.accepted ≤ length calls) × (made.refused ≤ length calls)
-counts_below old calls threads made h = (
-  omega (arith, h.accepted_is, h.one_each, count_by-le-length is_accepted h.answers),
-  omega (arith, h.refused_is, h.one_each, count_by-le-length (λ a. not (is_accepted a)) h.answers),
-)

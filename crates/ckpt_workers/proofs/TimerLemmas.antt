@@ -12,16 +12,6 @@ use Rattle.ckpt_workers.specs.Timers.{Beat, IsTimed, is_refused, tick_told, tick
 use Rattle.ckpt_workers.proofs.ShiftLemmas.{IsShift-none, IsShift-push}
 use Rattle.ckpt_workers.proofs.TallyLemmas.{capped-push}
 
-pub IsTimed-none : (given : List ℕ) (hand : Hand) → IsTimed given given hand hand (record { ticks = 0; refused = 0; unanswered = 0 })
-IsTimed-none given hand = record {
-  beats = [];
-  given = sym (append-nil given);
-  shift = IsShift-none hand;
-  ticks = refl;
-  refused = refl;
-  unanswered = refl;
-}
-
 shift_more : (old : Hand) (told : List Exchange) (mid new : Hand) (now : ℕ) (answer : Option Answer) → IsShift old told mid → IsAsked mid (Tick now) new answer → IsShift old (told ++ tick_told now answer) new
 shift_more old told mid new now None shift asked = subst (λ (l : List Exchange). IsShift old l new) (sym (append-nil told)) (subst (IsShift old told) (sym asked) shift)
 shift_more old told mid new now (Some answer) shift asked = IsShift-push old told mid (Tick now) answer new shift asked

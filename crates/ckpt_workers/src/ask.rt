@@ -1,4 +1,4 @@
-//! A call that may find no memory.
+//! A call that may run out of memory.
 ghost use Rattle.std.specs.Prelude.{◌≡◌};
 ghost use Rattle.ckpt_workers.specs.Shifts.{IsAsked};
 
@@ -7,7 +7,7 @@ use ckpt_ids::{Answer, Call};
 use ckpt_locked::Pass;
 use std::sync::Wait;
 
-/// Makes a call, and answers nothing where it found no memory.
+/// Makes a call, and returns no answer if it ran out of memory.
 pub(crate) fn ask<R: Wait, G: Gate>(
     rt: &R,
     gate: &G,

@@ -16,24 +16,24 @@ use std::sync::Wait;
 /// How a round of the discarder went.
 #[derive(Debug, Drop, PartialEq, Eq)]
 pub struct Round {
-    /// How many files were to be deleted.
+    /// How many files it had to delete.
     pub taken: u64,
-    /// How many of them were deleted and reported so.
+    /// How many of them were deleted and reported as deleted.
     pub deleted: u64,
-    /// How many of them storage could not delete, which was reported.
+    /// How many of them storage could not delete, and were reported as not deleted.
     pub failed: u64,
-    /// The files that are not reported, where a call found no memory.
+    /// The files that are not reported, if a call ran out of memory.
     pub left: Handed,
-    /// Whether storage has deleted the first that is left.
+    /// Whether storage has deleted the first file of `left`.
     pub gone: bool,
-    /// Whether the round ended for want of memory.
+    /// Whether the round ended because memory ran out.
     pub memory: bool,
 }
 
 /// Takes at most `most` files that wait for deletion, deletes them, and reports each.
 ///
-/// A report is `Deleted` where storage deleted the file, and `Undeleted` where it failed. The first
-/// call that finds no memory ends the round: [`resume_round`] goes on with what is left.
+/// A report is `Deleted` if storage deleted the file, and `Undeleted` if it failed. The first call
+/// that runs out of memory ends the round. [`resume_round`] goes on with the files that are left.
 pub fn discard_round<R: Wait, G: Gate, S: Storage>(
     rt: &R,
     alloc: Global,
@@ -53,10 +53,10 @@ pub fn discard_round<R: Wait, G: Gate, S: Storage>(
     }
 }
 
-/// Goes on with a round that found no memory: `left` and `gone` are what it answered.
+/// Goes on with a round that ran out of memory: `left` and `gone` are those of that round.
 ///
-/// It takes no more files. Where the first of `left` is gone already, it is reported `Deleted` and
-/// not deleted again; the rest is as in [`discard_round`].
+/// It takes no more files. If the first file of `left` is gone already, it is reported as `Deleted`
+/// and not deleted again. It handles the other files as [`discard_round`] does.
 pub fn resume_round<R: Wait, G: Gate, S: Storage>(
     rt: &R,
     gate: &G,
@@ -73,7 +73,7 @@ pub fn resume_round<R: Wait, G: Gate, S: Storage>(
     report_each(rt, gate, pass, storage, left, gone)
 }
 
-/// Deletes and reports each of the files, of which the first may be gone.
+/// Deletes and reports each of the files. The first one may be gone already.
 fn report_each<R: Wait, G: Gate, S: Storage>(
     rt: &R,
     gate: &G,
@@ -152,14 +152,14 @@ fn file_at(files: &Handed, place: usize) -> FileId
     file
 }
 
-/// Deletes the file, unless it is gone, and answers whether it is deleted.
+/// Deletes the file, unless it is gone, and returns whether it is deleted.
 fn try_delete<S: Storage>(storage: &mut S, file: FileId, gone: bool) -> bool
     ensures { IsTried file gone (S.stored storage.old) (S.stored storage.new) result }
 {
     gone || storage.delete(file).is_ok()
 }
 
-/// Reports the file, and answers whether the report was answered.
+/// Reports the file, and returns whether the report was answered.
 fn report<R: Wait, G: Gate>(
     rt: &R,
     gate: &G,
@@ -182,7 +182,7 @@ fn report<R: Wait, G: Gate>(
     }
 }
 
-/// The files that a take was answered.
+/// The files that a take returned.
 fn taken_by(alloc: Global, answer: Answer) -> Handed
     ensures { result ≡ taken_in answer }
 {
@@ -192,7 +192,7 @@ fn taken_by(alloc: Global, answer: Answer) -> Handed
     }
 }
 
-/// A round whose take found no memory.
+/// A round whose take ran out of memory.
 fn nothing_taken(alloc: Global) -> Round
     ensures { result ≡ nothing_taken }
 {

@@ -1,4 +1,4 @@
-//! Work with each pass of a lock, by a thread of its own.
+//! Work with each pass of a lock, in a thread of its own.
 ghost use Rattle.std.specs.Prelude.{◌≡◌, All, IfOk, vec_len};
 ghost use Rattle.ckpt_locked.specs.Locks.{Lock};
 
@@ -8,12 +8,12 @@ use std::sync::Wait;
 use std::thread;
 use std::thread::Threads;
 
-/// What a thread does with its pass, beside other threads with theirs. `T` is what it tells then.
+/// What a thread does with its pass, beside other threads with theirs. `T` is its result.
 pub trait Work<T> {
     /// The lock whose passes it takes.
     ghost lock: { Self → Lock };
 
-    /// Works with a pass of the lock, and gives it back. May wait.
+    /// Works with a pass of the lock, and returns it. May wait.
     fn work<R: Wait>(&self, rt: &R, pass: Pass) -> (Pass, T)
         requires pass { pass.lock ≡ lock self.now }
         ensures pass { result.0.lock ≡ lock self.now };
@@ -21,8 +21,8 @@ pub trait Work<T> {
 
 /// Does the work with each pass in a thread of its own. Result i is that of pass i.
 ///
-/// Where no thread can be started, the work is done in turn with others', so work that waits for other
-/// work may wait forever there. Fails only for want of memory, and then the passes are given up.
+/// If a thread can't be started, its work is done in turn with others'. So work that waits for
+/// other work may wait forever then. Fails only if memory runs out, and then the passes are lost.
 pub fn work_on_each<R: Threads + Wait + Sync, T: Send + Drop, W: Work<T> + Sync>(
     rt: &R,
     work: &W,

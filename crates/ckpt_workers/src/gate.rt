@@ -1,4 +1,4 @@
-//! What workers make their calls through.
+//! The interface through which workers make their calls.
 ghost use Rattle.std.specs.Prelude.{◌≡◌, IfErr, IfOk};
 ghost use Rattle.ckpt_locked.specs.Locks.{Lock, Made};
 
@@ -13,7 +13,7 @@ pub trait Gate {
 
     /// Makes a call with a pass of the gate's lock, as [`Locked::call`] does. May wait.
     ///
-    /// Fails only for want of memory: then the pass and the call come back as they were.
+    /// Fails only if memory runs out. Then the caller gets the pass and the call back unchanged.
     fn call<R: Wait>(&self, rt: &R, pass: Pass, call: Call) -> Result<(Pass, Answer), (Pass, Call)>
         requires pass { pass.lock ≡ lock self.now }
         ensures made { IfOk result (λ done. Made pass call done.0 done.1) }

@@ -1,4 +1,4 @@
-//! Threads that call a coordinator: workers over a lock, and teams that share out a list of calls.
+//! Threads that call a coordinator: workers over a lock, and teams that divide a list of calls.
 #![tactic(auto)]
 
 mod ask;

@@ -3,13 +3,13 @@ ghost use Rattle.std.specs.Prelude.{◌≡◌, ◌<◌, ◌++◌, ℕ, List, [],
 
 /// The moments at which a timer ticks, in milliseconds.
 pub trait Moments {
-    /// What it gave so far, in order.
+    /// The moments that it has returned, in order.
     ghost given: { Self → List ℕ };
 
-    /// How many moments are left at most.
+    /// The most moments that are left.
     ghost left: { Self → ℕ };
 
-    /// The next moment, or `None` where none is left. It may take its time.
+    /// The next moment, or `None` if none is left. May wait.
     fn next(&mut self) -> Option<u64>
         ensures given { IfSome result (λ now. given self.new ≡ given self.old ++ now ∷ []) }
         ensures fewer { IfSome result (λ now. left self.new < left self.old) }

@@ -1,4 +1,4 @@
-//! What a task is told to acknowledge.
+//! Orders: what a task has to acknowledge.
 ghost use Rattle.std.specs.Prelude.{◌≡◌, IfOk, IsOk, ◌↔◌};
 ghost use Rattle.ckpt_ids.specs.declared.call.Call.TheVariants.{Ack};
 ghost use Rattle.ckpt_workers.specs.Orders.{IsOrder};
@@ -8,16 +8,16 @@ use ckpt_ids::{Call, CheckpointId, Files, MOMENTS_END, SubtaskId};
 use std::marker::Model;
 use thiserror::Error;
 
-/// An acknowledgement that would be refused whatever the coordinator's state is.
+/// The acknowledgement would be refused whatever the coordinator's state is.
 #[derive(Clone, Copy, Debug, PartialEq, Eq, Error)]
 #[error("an acknowledgement that no coordinator takes")]
 pub struct BadOrder;
 
-/// What a task is to acknowledge: the files of its part of a checkpoint or savepoint.
+/// What a task has to acknowledge: the files of its part of a checkpoint or savepoint.
 ///
-/// Contracts see an order as its call. By the type, the call is not refused for its moment, for the
-/// number of its files, or for a file that is named twice; that holds of an order out of a channel
-/// too.
+/// Contracts see an order as its call. The type says that the call is not refused for its moment,
+/// for the number of its files, or for a file that is named twice. That also holds for an order
+/// that comes through a channel.
 #[derive(Debug, Drop)]
 pub struct Order {
     now: u64,
@@ -40,10 +40,11 @@ impl Model for Order {
 }
 
 impl Order {
-    /// `now` is in milliseconds. Takes no memory.
+    /// An order for this acknowledgement. `now` is in milliseconds. Takes no memory.
     ///
-    /// Answers [`BadOrder`] exactly where the moment is not below [`MOMENTS_END`], where there are
-    /// more than [`MOST_FILES`](ckpt_ids::MOST_FILES) files, or where a file is named twice; what was given is then given up.
+    /// Returns [`BadOrder`] exactly if the moment is not below [`MOMENTS_END`], if there are more
+    /// than [`MOST_FILES`](ckpt_ids::MOST_FILES) files, or if a file is named twice. Then the
+    /// arguments are lost.
     pub fn new(
         now: u64,
         id: CheckpointId,
@@ -66,7 +67,7 @@ impl Order {
         })
     }
 
-    /// The call that the order asks for.
+    /// The call of the order.
     pub(crate) fn into_call(self) -> Call
         ensures call { result ≡ self }
         ensures order { IsOrder result }

@@ -10,25 +10,29 @@ use std::sync::Wait;
 use std::thread;
 use std::thread::Threads;
 
-/// The calls that one thread is to make, and the pass that it makes them with.
+/// The calls of one thread.
 #[derive(Drop)]
 pub struct Share {
+    /// The pass that the thread calls with.
     pub pass: Pass,
+    /// The calls, in order.
     pub calls: Vec<Call>,
 }
 
-/// The pass of a share after its calls, and what they were answered, in order.
+/// What came of a share.
 #[derive(Drop)]
 pub struct Report {
+    /// The pass after the calls.
     pub pass: Pass,
+    /// The answers, in the order of the calls.
     pub answers: Vec<Answer>,
 }
 
 /// Makes the calls of each share in a thread of its own, in order. Report i is that of share i.
 ///
-/// Shares for which no thread can be started are done in turn, so gates at which calls wait for one
-/// another may wait forever there. Fails only for want of memory, also that of a call, and then the
-/// passes are given up.
+/// Shares for which no thread can be started are done in turn. If calls at a gate wait for each
+/// other, they may wait forever then. Fails only if memory runs out, even in a call, and then the
+/// passes are lost.
 pub fn spread<R: Threads + Wait + Sync, G: Gate + Sync>(
     rt: &R,
     alloc: Global,
@@ -43,7 +47,7 @@ pub fn spread<R: Threads + Wait + Sync, G: Gate + Sync>(
     all_of(alloc, outcomes)
 }
 
-/// What came of each share, which is worked on in a thread of its own.
+/// The result of each share. Each share has a thread of its own.
 fn work_on_all<R: Threads + Wait + Sync, G: Gate + Sync>(
     rt: &R,
     alloc: Global,
@@ -88,7 +92,7 @@ fn work<R: Wait, G: Gate>(
     Ok(Report { pass, answers })
 }
 
-/// The reports, where there is one for each share.
+/// The reports, if there is one for each share.
 fn all_of(
     alloc: Global,
     outcomes: Vec<Result<Report, AllocError>>,

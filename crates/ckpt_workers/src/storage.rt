@@ -12,10 +12,11 @@ pub struct StorageFault;
 
 /// Where files are deleted.
 pub trait Storage {
-    /// What it deleted so far, in order, and how often it failed.
+    /// The files that it has deleted, in order, and how often it has failed.
     ghost stored: { Self → Stored };
 
-    /// Deletes a file. A fault leaves the file, as far as storage knows, and is counted.
+    /// Deletes a file. After a fault the file is still there, as far as storage knows, and the
+    /// fault is counted.
     fn delete(&mut self, file: FileId) -> Result<(), StorageFault>
         ensures deleted { OnOk result ((stored self.new).deleted ≡ (stored self.old).deleted ++ file ∷ []) }
         ensures same { OnErr result ((stored self.new).deleted ≡ (stored self.old).deleted) }

@@ -1,4 +1,4 @@
-//! A task worker: acknowledgements as they are ordered.
+//! A task worker: makes acknowledgements as they are ordered.
 ghost use Rattle.std.specs.Prelude.{◌≡◌, ◌+◌, if◌then◌else◌};
 ghost use Rattle.ckpt_workers.specs.Shifts.{capped};
 ghost use Rattle.ckpt_workers.specs.Tasks.{IsTasked, answers, is_late, is_other, is_taken_in};
@@ -14,12 +14,13 @@ use std::sync::Wait;
 /// How the acknowledgements of a task went. Each count stays at 2^64 - 1 once there.
 #[derive(Clone, Copy, Debug, PartialEq, Eq)]
 pub struct Tally {
-    /// Those of a pending record that were taken in.
+    /// Accepted acknowledgements of a pending record.
     pub accepted: u64,
-    /// Those of a record that had ended.
+    /// Accepted acknowledgements of a record that had ended.
     pub late: u64,
+    /// Refused acknowledgements.
     pub refused: u64,
-    /// Those that found no memory.
+    /// Acknowledgements that ran out of memory.
     pub unanswered: u64,
 }
 
@@ -35,7 +36,7 @@ impl Tally {
         }
     }
 
-    /// Counts one acknowledgement more.
+    /// Counts one more acknowledgement.
     fn count(&mut self, answer: Option<Answer>)
         ensures accepted { self.new.accepted ≡ (if answers is_taken_in answer then capped (self.old.accepted + 1) else self.old.accepted) }
         ensures late { self.new.late ≡ (if answers is_late answer then capped (self.old.late + 1) else self.old.late) }
@@ -54,7 +55,7 @@ impl Tally {
 
 /// Makes an `Ack` of each order that comes, until the channel is closed and empty.
 ///
-/// An acknowledgement that finds no memory is counted and given up. Nothing is promised of which
+/// An acknowledgement that runs out of memory is counted and not tried again. No clause says which
 /// orders come.
 pub fn task_worker<R: Wait, G: Gate>(
     rt: &R,

@@ -9,26 +9,27 @@ use ckpt_ids::{Answer, Call, Reply};
 use ckpt_locked::{Book, MOST_SEATS};
 use std::alloc::AllocError;
 
-/// What a team made of a list of calls.
+/// The result of a team's list of calls.
 #[derive(Drop)]
 pub struct Made {
-    /// The book, longer by the calls.
+    /// The book with the calls added.
     pub book: Book,
     /// How many calls were accepted.
     pub accepted: u64,
     /// How many calls were refused.
     pub refused: u64,
-    /// How many records the first completing acknowledgement of the list dropped, and how many
-    /// files it released.
+    /// For the first acknowledgement of the list that completed a record: how many records it
+    /// dropped, and how many files it released.
     pub completed: Option<(u32, u64)>,
 }
 
-/// Makes the calls of a list, shared out to seats.
+/// Makes the calls of a list, divided among seats.
 pub trait Team {
-    /// Enters each call of the list in the book: the call at place i with seat i modulo the number
+    /// Makes each call of the list on the book: the call at place i with seat i modulo the number
     /// of threads, each seat's calls in the order of the list.
     ///
-    /// There are 1 to [`MOST_SEATS`] threads. Fails only for want of memory, and then the book is given up.
+    /// There are 1 to [`MOST_SEATS`] threads. Fails only if memory runs out, and then the book is
+    /// lost.
     fn make(&mut self, book: Book, calls: Vec<Call>, threads: u32) -> Result<Made, AllocError>
         requires threads { (0 < threads) × (threads ≤ MOST_SEATS) }
         ensures made { IfOk result (λ made. IsTeamwork book calls.items threads made) };
@@ -51,7 +52,7 @@ impl Made {
         }
     }
 
-    /// Enters one more call, and counts its answer. Fails only for want of memory.
+    /// Makes one more call, and counts its answer. Fails only if memory runs out.
     pub(crate) fn enter(&mut self, seat: u32, call: Call) -> Result<(), AllocError>
         requires accepted { self.old.accepted + 1 < 2 ^ 64 }
         requires refused { self.old.refused + 1 < 2 ^ 64 }
@@ -83,7 +84,7 @@ impl Made {
     }
 }
 
-/// What the answer says of a completion.
+/// What the answer says about a completion.
 fn completed_by(answer: &Answer) -> Option<(u32, u64)>
     ensures { result ≡ completed_by answer.now }
 {

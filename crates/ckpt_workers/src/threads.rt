@@ -15,14 +15,14 @@ use std::thread;
 
 /// Makes each seat's calls in a thread of its own, over a lock with a seat for each thread.
 ///
-/// Where a thread can't be started, its calls are made in turn with others'.
+/// If a thread can't be started, its calls are made in turn with others'.
 #[derive(Clone, Copy)]
 pub struct Threads<R> {
     rt: R,
     alloc: Global,
 }
 
-/// The leave that a runtime gives to start threads and to wait, without its value: threads share it.
+/// The permission of a runtime to start threads and to wait, without the runtime: threads share it.
 #[derive(Drop)]
 struct Leave<R> {
     runtime: PhantomData<R>,
@@ -33,7 +33,7 @@ impl<R: thread::Threads> thread::Threads for Leave<R> {}
 impl<R: Wait> Wait for Leave<R> {}
 
 impl<R: thread::Threads + Wait + Sync> Threads<R> {
-    /// A team that starts its threads by `rt`, and takes memory from `alloc`.
+    /// A team that starts its threads with `rt`, and takes memory from `alloc`.
     pub fn new(rt: R, alloc: Global) -> Threads<R> {
         Threads { rt, alloc }
     }
@@ -56,7 +56,7 @@ impl<R: thread::Threads + Wait + Sync> Team for Threads<R> {
     }
 }
 
-/// A lock over the book with 1 to [`MOST_SEATS`] seats. Fails only for want of memory.
+/// A lock over the book with 1 to [`MOST_SEATS`] seats. Fails only if memory runs out.
 fn lock_over<R: Wait>(rt: &R, book: Book, seats: u32) -> Result<(Locked, Vec<Pass>), AllocError>
     requires seats { (0 < seats) × (seats ≤ MOST_SEATS) }
     ensures lock { IfOk result (λ made. made.0 ≡ lock_of book seats made.0.table_id) }
@@ -90,7 +90,7 @@ fn give(share: &mut Share, call: Call) -> Result<(), AllocError>
     Ok(())
 }
 
-/// A share for each pass, to which the calls are dealt out in turn.
+/// A share for each pass. The calls are dealt out to them in turn.
 fn deal(alloc: Global, calls: Vec<Call>, passes: Vec<Pass>) -> Result<Vec<Share>, AllocError>
     requires some { 0 < length passes.items }
     ensures passes { IfOk result (λ shares. map (λ s. s.pass) shares.items ≡ passes.items) }
@@ -120,7 +120,7 @@ fn parted(alloc: Global, reports: Vec<Report>) -> Result<(Vec<Pass>, Vec<Vec<Ans
     Ok((passes, answers))
 }
 
-/// Counts the answers in the order of the calls, from those that each seat got.
+/// Counts the answers of all seats in the order of the calls.
 fn counted(book: Book, answers: &[Vec<Answer>], count: usize) -> Made
     requires some { 0 < length answers.now }
     requires dealt { IsDealOf (map (λ a. a.items) answers.now) count }

@@ -13,10 +13,11 @@ use std::sync::Wait;
 /// How the ticks of a timer went. Each count stays at 2^64 - 1 once there.
 #[derive(Clone, Copy, Debug, PartialEq, Eq)]
 pub struct TimerTally {
-    /// Ticks that were answered, refused ones too.
+    /// Ticks that were answered, refused ones included.
     pub ticks: u64,
+    /// Refused ticks.
     pub refused: u64,
-    /// Ticks that found no memory.
+    /// Ticks that ran out of memory.
     pub unanswered: u64,
 }
 
@@ -31,7 +32,7 @@ impl TimerTally {
         }
     }
 
-    /// Counts one tick more.
+    /// Counts one more tick.
     fn count(&mut self, answer: Option<Answer>)
         ensures ticks { self.new.ticks ≡ (if is_some answer then capped (self.old.ticks + 1) else self.old.ticks) }
         ensures refused { self.new.refused ≡ (if is_refused answer then capped (self.old.refused + 1) else self.old.refused) }
@@ -48,9 +49,9 @@ impl TimerTally {
     }
 }
 
-/// Makes a `Tick` of each moment that `moments` gives, in order, until it gives none.
+/// Makes a `Tick` at each moment that `moments` returns, in order, until it returns none.
 ///
-/// A tick that finds no memory is counted, and the next moment is waited for.
+/// A tick that runs out of memory is counted. Then the worker waits for the next moment.
 pub fn timer_worker<R: Wait, G: Gate, M: Moments>(
     rt: &R,
     gate: &G,

@@ -14,7 +14,7 @@ use ckpt_hash::Secret;
 use ckpt_ids::{Call, CheckpointId, FileId, SubtaskId};
 use std::alloc::Global;
 
-/// Gives a closed handle a coordinator. The two words are the secret of its maps.
+/// Opens a coordinator in a closed handle. The two words are the secret of its maps.
 #[unsafe(no_mangle)]
 pub extern "C" fn relkvanu_open(
     alloc: Global,
@@ -37,7 +37,7 @@ pub extern "C" fn relkvanu_open(
     ckpt_embed::open(alloc, handle, settings, shape, now, first, secret)
 }
 
-/// Lets the coordinator go.
+/// Closes the coordinator.
 #[unsafe(no_mangle)]
 pub extern "C" fn relkvanu_close(alloc: Global, handle: &mut Handle)
     ensures { handle.new.value ≡ None }
@@ -112,7 +112,7 @@ pub extern "C" fn relkvanu_decline(
     ckpt_embed::call(alloc, handle, &call)
 }
 
-/// A user lets a completed savepoint go.
+/// A user disposes of a completed savepoint.
 #[unsafe(no_mangle)]
 pub extern "C" fn relkvanu_dispose(alloc: Global, handle: &mut Handle, id: u64) -> Answer
     ensures closed { StaysClosed handle.old.value handle.new.value result }
@@ -128,7 +128,7 @@ pub extern "C" fn relkvanu_dispose(alloc: Global, handle: &mut Handle, id: u64) 
     )
 }
 
-/// The job begins again: from savepoint 0 for the latest, in an empty shape for the one it has.
+/// The job begins again. Savepoint 0 stands for the latest, and an empty shape for the current one.
 #[unsafe(no_mangle)]
 pub extern "C" fn relkvanu_restore(
     alloc: Global,
@@ -210,7 +210,7 @@ pub extern "C" fn relkvanu_show(
     ckpt_embed::show(alloc, handle, id, json)
 }
 
-/// How often a file is used.
+/// The number of uses of a file.
 #[unsafe(no_mangle)]
 pub extern "C" fn relkvanu_count(alloc: Global, handle: &mut Handle, file: u64) -> Answer
     ensures closed { StaysClosed handle.old.value handle.new.value result }
@@ -220,7 +220,7 @@ pub extern "C" fn relkvanu_count(alloc: Global, handle: &mut Handle, file: u64) 
     ckpt_embed::call(alloc, handle, &Call::Count { file: FileId(file) })
 }
 
-/// Writes the name of the refusal with this number, where the buffer is long enough.
+/// Writes the name of the refusal with this number if the buffer is long enough.
 #[unsafe(no_mangle)]
 pub extern "C" fn relkvanu_refusal_text(what: u32, text: &mut [u8]) -> usize
     ensures length { result ≡ length (refusal_name what) }

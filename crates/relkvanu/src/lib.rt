@@ -1,6 +1,6 @@
 //! The C interface of the coordinator: `include/relkvanu.h` declares these functions.
 //!
-//! Each one calls the function of `ckpt_embed`, and promises what that one promises.
+//! Each function calls one of `ckpt_embed`, and promises the same.
 #![tactic(auto)]
 
 mod exports;

@@ -6,7 +6,7 @@ ghost use Rattle.ckpt_lines.specs.Reading.{may_want_memory, reading};
 ghost use Rattle.ckpt_embed.specs.Buffers.{StandsInFront};
 ghost use Rattle.ckpt_embed.specs.Calls.{HasNoNumbers, StaysAsItWas, StaysClosed};
 ghost use Rattle.ckpt_embed.specs.Lines.{BringsLineFiles, IsLineAnswered, LineWantsMemory, says_numbers, says_told};
-ghost use Rattle.ckpt_embed.specs.Opening.{OpeningWantsMemory, bad_opening, opening_of};
+ghost use Rattle.ckpt_embed.specs.Opening.{OpeningWantsMemory, opening_of};
 ghost use Rattle.ckpt_embed.specs.Told.{no_memory};
 ghost use Rattle.ckpt_embed.specs.Writing.{OpeningReadsBack, ReadsBack, call_line_text, call_line_told, given, opening_text, opening_told};
 
@@ -72,7 +72,7 @@ pub extern "C" fn relkvanu_opening_lines(
     now: u64,
     lines: &mut [u8],
 ) -> Answer
-    ensures told { result.code ≢ no_memory → result ≡ opening_told (bad_opening (opening_of settings.now shape.now now 1)) (opening_text (opening_of settings.now shape.now now 1)) (length lines.old) }
+    ensures told { result.code ≢ no_memory → result ≡ opening_told (opening_of settings.now shape.now now 1) (length lines.old) }
     ensures front { result.code ≡ 0 → StandsInFront (opening_text (opening_of settings.now shape.now now 1)) lines.old lines.new }
     ensures read { OpeningReadsBack (opening_of settings.now shape.now now 1) result }
     ensures kept { result.code ≢ 0 → lines.new ≡ lines.old }

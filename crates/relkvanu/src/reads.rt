@@ -1,4 +1,4 @@
-//! What a coordinator tells without a call. None of it takes memory or changes anything.
+//! Reads of a coordinator. None takes memory or changes anything.
 
 ghost use Rattle.std.specs.Prelude.{◌≡◌, None, Some, option_map, slice_get};
 ghost use Rattle.ckpt_ids.specs.Records.{missing};
@@ -21,7 +21,7 @@ pub extern "C" fn relkvanu_mode(alloc: Global, handle: &mut Handle) -> Answer
     ckpt_embed::mode(alloc, handle)
 }
 
-/// When to tick next.
+/// The moment of the next tick.
 #[unsafe(no_mangle)]
 pub extern "C" fn relkvanu_due(alloc: Global, handle: &mut Handle) -> Answer
     ensures closed { StaysClosed handle.old.value handle.new.value result }
@@ -33,7 +33,7 @@ pub extern "C" fn relkvanu_due(alloc: Global, handle: &mut Handle) -> Answer
     ckpt_embed::due(alloc, handle)
 }
 
-/// When the first of the pending records expires.
+/// The moment at which the first pending record expires.
 #[unsafe(no_mangle)]
 pub extern "C" fn relkvanu_oldest_expiry(alloc: Global, handle: &mut Handle) -> Answer
     ensures closed { StaysClosed handle.old.value handle.new.value result }
@@ -64,7 +64,7 @@ pub extern "C" fn relkvanu_live(alloc: Global, handle: &mut Handle, place: usize
     ckpt_embed::live(alloc, handle, place)
 }
 
-/// How many subtasks a pending record waits for.
+/// The number of subtasks that a pending record waits for.
 #[unsafe(no_mangle)]
 pub extern "C" fn relkvanu_missing(alloc: Global, handle: &mut Handle, id: u64) -> Answer
     ensures closed { StaysClosed handle.old.value handle.new.value result }
@@ -74,7 +74,7 @@ pub extern "C" fn relkvanu_missing(alloc: Global, handle: &mut Handle, id: u64) 
     ckpt_embed::missing(alloc, handle, id)
 }
 
-/// How many files live records use, wait for deletion, and were fetched for it.
+/// How many files are in use by live records, wait for deletion, and were fetched for deletion.
 #[unsafe(no_mangle)]
 pub extern "C" fn relkvanu_file_counts(alloc: Global, handle: &mut Handle) -> FileCounts
     ensures closed { handle.old.value ≡ None → result ≡ no_counts }

@@ -33,8 +33,8 @@ ARGUMENTS = {
 
 
 class Refused(Exception):
-    """The coordinator refused the call, and nothing has changed: `name` says why, as "NotRunning". `file` is the
-    file that is to blame, where it is one."""
+    """The coordinator refused the call, and nothing has changed. `name` says why, such as "NotRunning". `file` is the
+    file that is to blame, if there is one."""
 
     def __init__(self, name: str, file: Optional[int]) -> None:
         super().__init__(name if file is None else f"{name} {file}")
@@ -43,7 +43,7 @@ class Refused(Exception):
 
 
 class BadArgument(ValueError):
-    """A value is outside its limits, and nothing has changed: `name` says which, as "BadShape"."""
+    """A value is outside its limits, and nothing has changed. `name` says which, such as "BadShape"."""
 
     def __init__(self, name: str) -> None:
         super().__init__(name)
@@ -51,8 +51,8 @@ class BadArgument(ValueError):
 
 
 class BadLine(ValueError):
-    """A line of a script can't be read, or a call has none that is short enough; nothing has changed. `name` is the fault, as
-    "Missing"; "NoCall" where the line was read and makes no call."""
+    """A line of a script can't be read, or the line of a call would be too long. Nothing has changed. `name` is the fault,
+    such as "Missing". "NoCall" says that the line was read and makes no call."""
 
     def __init__(self, name: str) -> None:
         super().__init__(name)
@@ -60,7 +60,7 @@ class BadLine(ValueError):
 
 
 class OutOfMemory(MemoryError):
-    """The call found no memory, and nothing has changed: it can be made again."""
+    """Memory ran out, and nothing has changed: make the same call again."""
 
 
 class Closed(Exception):
@@ -69,7 +69,7 @@ class Closed(Exception):
 
 @dataclass(frozen=True)
 class Settings:
-    """The configuration; durations in milliseconds. docs/RULES.md has the limits."""
+    """The configuration. Durations are milliseconds. docs/RULES.md has the limits."""
 
     interval: int
     pause: int = 0
@@ -81,7 +81,7 @@ class Settings:
 
 
 def _loaded() -> ctypes.CDLL:
-    """The library of the folder that RELKVANU_LIB names, else that beside the package, else that of the system."""
+    """The library in the folder that RELKVANU_LIB names, else the one beside the package, else that of the system."""
     folder = os.environ.get("RELKVANU_LIB")
     beside = pathlib.Path(__file__).resolve().parent / LIBRARY
     if folder is not None:
@@ -108,7 +108,7 @@ def _shared() -> ctypes.CDLL:
 
 
 def _within(value: int, bits: int) -> int:
-    """The number, which ctypes would cut off where it is out of range."""
+    """The number. Raises OverflowError if it is out of range, since ctypes would cut it off."""
     if not 0 <= value < 1 << bits:
         raise OverflowError(f"{value} has more than {bits} bits, or is negative")
     return value
@@ -119,7 +119,7 @@ def _u64(value: int) -> int:
 
 
 def _words(values: Sequence[int]) -> Any:
-    """An array with at least one place, as no pointer may be null."""
+    """An array with at least one place, because no pointer may be null."""
     return (U64 * max(len(values), 1))(*map(_u64, values))
 
 
@@ -170,38 +170,23 @@ def _written(write: Callable[[Any, int], Any]) -> str:
 
 
 def version() -> str:
-    """The version of the library that is loaded, as "0.1.0"."""
+    """The version of the loaded library, such as "0.1.0"."""
     text: bytes = _shared().relkvanu_version()
     return text.decode()
 
 
 class Coordinator:
-    """The checkpoint coordinator of one job. Threads may share it: a lock of its own lets in one call at a time. Several
-    calls, between which no other thread's comes, are made in a `with job.locked():`.
+    """The checkpoint coordinator of one job. Threads may share it: its own lock admits one call at a time. To make several
+    calls with no other thread's call between them, use `with job.locked():`.
 
-    Each call raises Refused where the rules refuse it, OutOfMemory where memory ran out, Closed after close(), and
-    OverflowError where a number does not fit. Then nothing has changed.
+    Each call raises Refused if it is refused, OutOfMemory if memory runs out, Closed after close(), and OverflowError if a
+    number does not fit. Then nothing has changed.
     """
 
     def __init__(self, settings: Settings, shape: Sequence[int], now: int, first: int = 1) -> None:
-        """Opens it at the moment `now`, for a job with so many subtasks of each vertex. Its first record has the number
-        `first`: 1 for a new job, else one above each that was given before. Raises BadArgument: of the settings first, then
-        of the shape, the moment and the first number."""
-        self._begin()
-        values = _settings(settings)
-        _done(self._call("open", ctypes.byref(values), _words(shape), len(shape), _u64(now), _u64(first), *_keys()))
-
-    @classmethod
-    def open_saved(cls, image: str) -> "Coordinator":
-        """Opens the coordinator that an image tells, which save() gave (docs/IMAGE.md): it answers every list of calls as the one
-        that was saved. Raises BadArgument where the text is no image, or no coordinator can be in the state that it tells."""
-        text = image.encode()
-        opened = cls.__new__(cls)
-        opened._begin()
-        _done(opened._call("open_saved", _text(text), len(text), *_keys()))
-        return opened
-
-    def _begin(self) -> None:
+        """Opens it at the moment `now`. The shape is the number of subtasks of each vertex. The first record has the number
+        `first`: 1 for a new job, otherwise one above all earlier numbers. Raises BadArgument for the settings first, then for
+        the shape, the moment and the first number."""
         self._lock = threading.Condition(threading.RLock())
         self._calls = 0
         self._handle = header.relkvanu(None)
@@ -216,7 +201,7 @@ class Coordinator:
         return MADE[answer.what](answer.a, answer.b)
 
     def _moved(self, name: str, *arguments: Any) -> Reply:
-        """A call that may move what a timer waits for."""
+        """A call that may change what a timer waits for."""
         with self._lock:
             self._calls += 1
             self._lock.notify_all()
@@ -224,22 +209,22 @@ class Coordinator:
 
     @contextlib.contextmanager
     def locked(self) -> Iterator[None]:
-        """Keeps other threads' calls out. Deleting, sending and waiting belong outside."""
+        """Keeps other threads' calls out. Delete, send and wait outside of it."""
         with self._lock:
             yield
 
     def calls(self) -> int:
-        """How many times a call was made that may move what a timer waits for."""
+        """The number of calls that may have changed what a timer waits for."""
         with self._lock:
             return self._calls
 
     def wait_for_call(self, seen: int, timeout: Optional[float] = None) -> None:
-        """Waits until calls() is above `seen`, or so many seconds are over; without a timeout, for as long as it takes."""
+        """Waits until calls() is above `seen`, or this many seconds are over. None sets no limit."""
         with self._lock:
             self._lock.wait_for(lambda: self._calls > seen, timeout)
 
     def close(self) -> None:
-        """Lets the coordinator go. A closed one stays closed."""
+        """Closes the coordinator. A closed one stays closed."""
         with self._lock:
             _shared().relkvanu_close(ctypes.byref(self._handle))
 
@@ -260,9 +245,9 @@ class Coordinator:
         return self._moved("savepoint", _u64(now))
 
     def ack(self, now: int, id: int, vertex: int, index: int, fresh: Sequence[int], reused: Sequence[int] = ()) -> Reply:
-        """Where it is accepted, the fresh files belong to the coordinator. Where it is not, the task deletes a file only if
-        no accepted acknowledgement ever named it: not after AlreadyAcknowledged, which answers a repeat, and after NameTaken
-        not those that were named before."""
+        """If it is accepted, the fresh files belong to the coordinator. Otherwise the task deletes a file only if no accepted
+        acknowledgement ever named it. So it deletes none after AlreadyAcknowledged, the answer to a repeat. After NameTaken
+        it deletes no file that it named before."""
         subtask = _within(vertex, 16), _within(index, 16)
         return self._moved("ack", _u64(now), _u64(id), *subtask, _words(fresh), len(fresh), _words(reused), len(reused))
 
@@ -273,8 +258,8 @@ class Coordinator:
         return self._replied("dispose", _u64(id))
 
     def restore(self, now: int, savepoint: Optional[int] = None, shape: Optional[Sequence[int]] = None) -> Reply:
-        """From a savepoint, or the latest; in a new shape where one is given. An empty one is a BadArgument, as is each
-        bad one, before any refusal."""
+        """Restores the job from a savepoint, or from the latest record if none is given. `shape` may give a new shape. An
+        empty or bad shape is a BadArgument, before any refusal."""
         if savepoint == 0:
             raise ValueError("no savepoint has the number 0")
         if shape is not None and len(shape) == 0:
@@ -285,8 +270,8 @@ class Coordinator:
         return self._moved("cancel", _u64(now))
 
     def take(self, most: int) -> Taken:
-        """Fetches at most so many files that wait for deletion; each is then reported, by deleted() or undeleted(). A
-        repeated acknowledgement that comes late can hand a file out that is gone: it counts as deleted."""
+        """Fetches at most `most` files that wait for deletion. Report each by deleted() or undeleted(). A repeated
+        acknowledgement that comes late may hand out a file that no longer exists: report it as deleted."""
         files = (U64 * max(_u64(most), 1))()
         answer = _done(self._call("take", files, most))
         return Taken(tuple(files[: answer.a]))
@@ -309,9 +294,9 @@ class Coordinator:
         return self._replied("count", _u64(file))
 
     def line(self, line: bytes, most: int = 4096) -> Optional[Reply]:
-        """Makes the call that a line of a script says (docs/SCRIPT.md): the bytes before its newline. None where it has no words or
-        is a comment. Raises BadLine where it can't be read or makes no call, and as the call does. A take line fetches at most
-        `most` files; where it would fetch more, that is a ValueError, and nothing has changed."""
+        """Makes the call of a script's line (docs/SCRIPT.md): the bytes before its newline. Returns None if it has no words or is a
+        comment. Raises BadLine if it can't be read or makes no call, and what the call raises. A take line fetches at most
+        `most` files. If it would fetch more, it raises ValueError, and nothing has changed."""
         files = (U64 * max(_u64(most), 1))()
         text = _text(line)
         with self._lock:
@@ -333,14 +318,14 @@ class Coordinator:
         return Mode(_done(self._call("mode")).what)
 
     def due(self) -> int:
-        """The moment before which no tick triggers a checkpoint: when to tick next. Calls move it."""
+        """The moment before which no tick triggers a checkpoint. Calls move it."""
         moment: int = _done(self._call("due")).a
         return moment
 
     def next_tick(self, ticked: Optional[Reply]) -> Optional[int]:
-        """When to tick next, after a tick that replied this (None: it raised) and unless another call comes before: when a
-        checkpoint is due or a pending record expires. While as many are pending as may be, at the expiry alone, as due() has
-        passed; None where nothing changes before a call does, as while the job has failed."""
+        """The moment of the next tick after a tick with this reply (None: it raised), unless another call comes first: when a
+        checkpoint is due or a pending record expires. While as many are pending as may be, it is the expiry, because due() has
+        passed. None if nothing changes before the next call, for example while the job has failed."""
         with self._lock:
             if self.mode() != Mode.RUNNING:
                 return None
@@ -350,22 +335,23 @@ class Coordinator:
         return due if expiry is None else min(due, expiry)
 
     def oldest_expiry(self) -> Optional[int]:
-        """The moment from which a pending record is expired, or None where none is pending."""
+        """The moment from which a pending record is expired, or None if none is pending."""
         answer = _done(self._call("oldest_expiry"))
         return answer.a if answer.what == header.EXPIRES else None
 
     def choice(self) -> Optional[Chosen]:
-        """The record that a restore of the latest would begin from, or None: from nothing."""
+        """The record that a restore of the latest would begin from, or None if it would begin from nothing."""
         answer = _done(self._call("choice"))
         return Chosen(answer.a, CHOSEN[answer.what]) if answer.what in CHOSEN else None
 
     def live(self, place: int) -> Optional[Live]:
-        """The live record at this place, from 0, in rising number, or None past the last. Searches for each before it."""
+        """The live record at this place, from 0, in order of their numbers, or None past the last. Its time grows with the
+        place."""
         answer = _done(self._call("live", _u64(place)))
         return Live(answer.a, LIVE[answer.what], answer.b == 1) if answer.what in LIVE else None
 
     def missing(self, id: int) -> Optional[int]:
-        """How many subtasks of this record have not acknowledged, or None where no such record is pending."""
+        """How many subtasks of this record have not acknowledged, or None if no such record is pending."""
         answer = _done(self._call("missing", _u64(id)))
         return answer.a if answer.what == header.MISSING else None
 

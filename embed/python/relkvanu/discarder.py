@@ -1,4 +1,4 @@
-"""Threads that delete the files which no record uses any more."""
+"""Threads that delete the files that no record uses any more."""
 import threading
 from dataclasses import dataclass
 from typing import Callable, List, Tuple
@@ -8,12 +8,12 @@ from relkvanu.coordinator import Closed, Coordinator, OutOfMemory
 
 @dataclass(frozen=True)
 class Patience:
-    """How often and how long a discarder tries; times are seconds."""
+    """How often and how long a discarder tries. Times are seconds."""
 
     threads: int = 2  # that delete at the same time
     batch: int = 64  # files that a thread fetches at once
-    attempts: int = 8  # how often a file is tried before it is given up
-    first_wait: float = 0.1  # after the first failure; it doubles with each one
+    attempts: int = 8  # attempts before a file is given up
+    first_wait: float = 0.1  # after the first failure; it doubles with each further one
     longest_wait: float = 10.0
     idle: float = 1.0  # how long a thread that found no file sleeps
 
@@ -24,8 +24,8 @@ class Patience:
 
 @dataclass(frozen=True)
 class Discarded:
-    """What a discarder did. The coordinator holds a file that was given up as taken until the discarder is stopped; then it
-    is reported as not deleted, and waits for the next one."""
+    """What a discarder did. The coordinator holds a file that was given up as taken until the discarder is stopped. Then it
+    is reported as not deleted, and waits for the next discarder."""
 
     deleted: int
     failed: int
@@ -35,9 +35,9 @@ class Discarded:
 class Discarder:
     """Threads that fetch files, delete them and report each, until stop().
 
-    `delete` deletes the file of a number, or raises OSError; several threads call it at once, each with another file, and
-    none holds the coordinator's lock. A file that is not there (FileNotFoundError) counts as deleted, since a repeated
-    acknowledgement that comes late can hand a deleted file out again.
+    `delete` deletes the file with a number, or raises OSError. Several threads call it at once, each with another file, and
+    none holds the coordinator's lock. A file that does not exist (FileNotFoundError) counts as deleted, since a repeated
+    acknowledgement that comes late may hand out a deleted file again.
     """
 
     def __init__(self, coordinator: Coordinator, delete: Callable[[int], object], patience: Patience = Patience()) -> None:
@@ -51,12 +51,12 @@ class Discarder:
             thread.start()
 
     def told(self) -> Discarded:
-        """What was done up to now."""
+        """The counts so far."""
         with self._lock:
             return Discarded(self._deleted, self._failed, tuple(self._given_up))
 
     def stop(self) -> Discarded:
-        """Ends the threads, each after the attempt that it makes. Files that were fetched and not deleted wait again."""
+        """Ends the threads, each after its current attempt. Files that were fetched and not deleted wait again."""
         self._over.set()
         for thread in self._threads:
             thread.join()
@@ -87,8 +87,8 @@ class Discarder:
             self._discard(list(files))
 
     def _discard(self, files: List[int]) -> None:
-        """Tries files until each is deleted or was tried as often as may be, or the discarder is stopped. Those that are left
-        wait again, also where `delete` raises something else than OSError, which ends the thread."""
+        """Tries files until each is deleted or given up, or the discarder is stopped. Those that are left wait again. If
+        `delete` raises something else than OSError, that ends the thread, and its files wait again too."""
         try:
             self._try(files)
         finally:
@@ -96,7 +96,7 @@ class Discarder:
                 self._coordinator.undeleted(file)
 
     def _try(self, files: List[int]) -> None:
-        """Takes the files that are deleted or given up out of the list."""
+        """Removes the files that are deleted or given up from the list."""
         wait = self._patience.first_wait
         for attempt in range(1, self._patience.attempts + 1):
             for file in files[:]:
@@ -110,7 +110,7 @@ class Discarder:
         files.clear()
 
     def _is_deleted(self, file: int) -> bool:
-        """Tries a file, and reports it where it is deleted."""
+        """Tries a file, and reports it if it is deleted."""
         try:
             self._delete(file)
         except FileNotFoundError:

@@ -41,7 +41,7 @@ Line = Union[Skip, Settings, Job, Start, Call, All]
 
 
 def line_says(line: bytes) -> Line:
-    """Which line it is, with the numbers of one that makes no call. Raises BadLine. No number is tested against the limits of a
+    """Which line it is, with the numbers of one that makes no call. Raises BadLine. Checks no number against the limits of a
     job."""
     text = _text(line)
     places = 8
@@ -64,8 +64,20 @@ def line_says(line: bytes) -> Line:
     return Skip() if answer.what == header.LINE_SKIP else Call()
 
 
+def _written(write: Callable[[Any, int], Any]) -> str:
+    """The result of writing into a buffer that is long enough."""
+    length = 256
+    while True:
+        text = (ctypes.c_uint8 * length)()
+        answer = write(text, length)
+        if answer.code != header.TOO_SHORT:
+            return bytes(text[: _done(answer).a]).decode()
+        length = answer.a
+
+
 def opening_lines(settings: Settings, shape: Sequence[int], now: int) -> str:
-    """The lines config, job and start of a coordinator that begins with the number 1, each with its newline. Raises BadArgument."""
+    """The lines config, job and start of a coordinator whose first record has the number 1, each with its newline. Raises
+    BadArgument."""
     values, words = _settings(settings), _words(shape)
     return _written(lambda text, length: _shared().relkvanu_opening_lines(ctypes.byref(values), words, len(shape), _u64(now), text, length))
 
@@ -79,7 +91,7 @@ def _line(
     return _written(lambda text, length: _shared().relkvanu_call_line(ctypes.byref(call), *lists, text, length))
 
 
-# The line of each call, without a newline: it is read again as that call. Each raises BadLine where no line may be as long: none is
+# The line of each call, without a newline. It reads back as that call. Each raises BadLine if the line would be too long: none is
 # cut.
 
 

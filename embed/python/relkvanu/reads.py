@@ -1,4 +1,4 @@
-"""What the reads tell."""
+"""What the reads return."""
 import enum
 from dataclasses import dataclass
 
@@ -37,7 +37,7 @@ class Live:
 
 @dataclass(frozen=True)
 class FileCounts:
-    """How many files live records use, each counted once, wait for deletion, and were fetched and not yet reported."""
+    """How many files are in use by live records (each counted once), wait for deletion, and were fetched and not yet reported."""
 
     in_use: int
     waiting: int

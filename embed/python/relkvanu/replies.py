@@ -1,4 +1,4 @@
-"""What the calls answer."""
+"""What the calls return."""
 import json
 from dataclasses import dataclass
 from typing import Any, Callable, Dict, Tuple
@@ -7,12 +7,12 @@ from relkvanu import header
 
 
 class Reply:
-    """What a call that was made answers."""
+    """The reply to a call that was made."""
 
 
 @dataclass(frozen=True)
 class Triggered(Reply):
-    """A checkpoint was triggered; `expired` records have expired before."""
+    """A checkpoint was triggered, after `expired` records expired."""
 
     expired: int
     id: int
@@ -34,7 +34,7 @@ class HeldAtOnce(Reply):
 
 @dataclass(frozen=True)
 class HeldPause(Reply):
-    """The last completion is too short ago."""
+    """The pause after the last completion has not passed."""
 
     expired: int
 
@@ -53,14 +53,14 @@ class SavepointTriggered(Reply):
 
 @dataclass(frozen=True)
 class AckPending(Reply):
-    """So many subtasks are missing."""
+    """This many subtasks are missing."""
 
     missing: int
 
 
 @dataclass(frozen=True)
 class AckCompleted(Reply):
-    """The record is complete: so many records were dropped, and files released."""
+    """The record is complete. This many records were dropped, and this many files released."""
 
     dropped: int
     released: int
@@ -68,7 +68,7 @@ class AckCompleted(Reply):
 
 @dataclass(frozen=True)
 class AckLate(Reply):
-    """The record had ended: so many of the fresh files were handed out for deletion."""
+    """The record had ended. This many of the fresh files were handed out for deletion."""
 
     handed_out: int
 
@@ -161,7 +161,7 @@ class Shown(Reply):
 
 @dataclass(frozen=True)
 class Counted(Reply):
-    """How many uses a file has."""
+    """The number of uses of a file."""
 
     file: int
     uses: int

@@ -9,8 +9,9 @@
             job.call(ack(event["id"], "0.0", fresh=[31]))
 
 A request whose answer is lost is made again, by default for a minute: under its Idempotency-Key where it has one, so that
-the service makes it once. File numbers are integers here, and strings in the API.
+the service makes it once. File numbers are integers here, and strings in the API. Threads may share what is here.
 """
+import threading
 import time
 import uuid
 
@@ -92,10 +93,10 @@ class Service:
 
     def __init__(self, *urls, token=None, patience=60.0):
         self._urls = [url.rstrip("/") for url in urls]
+        self._current = 0  # the place of the address that answered last
         self._patience = patience
-        self._session = requests.Session()
-        if token:
-            self._session.headers["Authorization"] = f"Bearer {token}"
+        self._headers = {"Authorization": f"Bearer {token}"} if token else {}
+        self._own = threading.local()  # a session is one thread's
 
     def open(self, name, settings, shape):
         """Opens a job, or finds it: the same name, settings and shape give the same job."""
@@ -115,8 +116,9 @@ class Service:
         until = time.monotonic() + self._patience
         pause = 0.05
         while True:
+            place = self._current
             try:
-                told = self._once(method, path, body, key, wait)
+                told = self._once(self._urls[place] + path, method, body, key, wait)
                 if told.status_code != 503:
                     return _body(told)
                 error = Failed(503, told.text)
@@ -124,13 +126,15 @@ class Service:
                 error = lost
             if time.monotonic() > until:
                 raise error
-            self._urls.append(self._urls.pop(0))
+            self._current = (place + 1) % len(self._urls)
             time.sleep(pause)
             pause = min(pause * 2, 1.0)
 
-    def _once(self, method, path, body, key, wait):
-        headers = {} if key is None else {"Idempotency-Key": key}
-        return self._session.request(method, self._urls[0] + path, json=body, headers=headers, timeout=(5, 30 + wait))
+    def _once(self, url, method, body, key, wait):
+        if not hasattr(self._own, "session"):
+            self._own.session = requests.Session()
+        headers = self._headers if key is None else {**self._headers, "Idempotency-Key": key}
+        return self._own.session.request(method, url, json=body, headers=headers, timeout=(5, 30 + wait))
 
 
 def _body(told):

@@ -80,7 +80,7 @@ impl Historian {
         let ended = follower.follow(tables, &page).map_err(|error| error.to_string())?;
         for (at, one) in ended.iter().filter(|(at, _)| *at >= self.since) {
             debug_assert!(*at >= self.since);
-            self.metrics.record(&follower.name, one.kind.word(), one.how, one.took as f64 / 1000.0);
+            self.metrics.record(&follower.name, &one.kind.to_string(), one.how, one.took as f64 / 1000.0);
         }
         self.metrics.history(&follower.name, follower.upto);
         Ok(())

@@ -75,7 +75,7 @@ impl Tables {
     pub fn new_record(&self, job: i64, id: u64, record: &Pending) -> rusqlite::Result<()> {
         let sql = "insert or replace into record(job, id, kind, shape, started, how, acks) values(?, ?, ?, ?, ?, 'pending', 0)";
         let shape = shape_words(&record.shape);
-        self.run(sql, params![job, signed(id), record.kind.word(), shape, signed(record.started)])
+        self.run(sql, params![job, signed(id), record.kind.to_string(), shape, signed(record.started)])
     }
 
     pub fn acks(&self, job: i64, id: u64, record: &Pending) -> rusqlite::Result<()> {

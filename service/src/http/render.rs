@@ -1,6 +1,6 @@
 //! JSON of jobs, records, files, events and the log.
 use crate::history::FileRow;
-use crate::model::{parse_line, Call, Choice, Entry, LiveRecord, Mode};
+use crate::model::{parse_line, settings_json, Call, Choice, Entry, LiveRecord, Mode};
 use crate::writer::JobState;
 use serde_json::{json, Value};
 
@@ -21,14 +21,14 @@ pub fn choice(choice: Choice) -> Value {
 }
 
 fn live((record, missing): &(LiveRecord, u64)) -> Value {
-    json!({"id": record.id, "kind": record.kind.word(), "done": record.done, "missing": missing})
+    json!({"id": record.id, "kind": record.kind.to_string(), "done": record.done, "missing": missing})
 }
 
 pub fn job(state: &JobState) -> Value {
     let files = &state.files;
     json!({
         "name": state.opening.name,
-        "settings": state.opening.settings.json(),
+        "settings": settings_json(&state.opening.settings),
         "shape": state.shape,
         "opened": state.opening.started,
         "mode": mode(state.mode),

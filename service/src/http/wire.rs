@@ -1,5 +1,5 @@
 //! Reads the bodies of requests. Whatever does not fit is named with its place, as `calls[3].fresh[0]`.
-use crate::model::{check_shape, Call, Settings, Subtask, Target, FIELDS};
+use crate::model::{check_shape, settings_of, Call, Settings, Subtask, Target, FIELDS};
 use serde_json::{Map, Value};
 
 /// The greatest number that every JSON reader keeps exactly.
@@ -167,7 +167,7 @@ fn settings(mut members: Members) -> Checked<Settings> {
         Some(_) => return Err(members.wrong("keep_on_cancel", "is neither true nor false")),
     };
     members.finish()?;
-    Ok(Settings::of(numbers, keep_on_cancel))
+    Ok(settings_of(numbers, keep_on_cancel))
 }
 
 /// Whether a text may name a job.
@@ -280,7 +280,7 @@ mod tests {
     #[test]
     fn reads_jobs() {
         let body = br#"{"name":"orders","settings":{"interval":1000,"retained":2},"shape":[2,1]}"#;
-        let settings = Settings::of([1000, 0, 1, 600_000, 0, 2], false);
+        let settings = settings_of([1000, 0, 1, 600_000, 0, 2], false);
         assert_eq!(new_job(body), Ok(NewJob { name: "orders".to_string(), settings, shape: vec![2, 1] }));
         let wrong = |body: &str| new_job(body.as_bytes()).err().map(|invalid| invalid.field).unwrap_or_default();
         assert_eq!(wrong(r#"{"name":"../x","settings":{"interval":1000},"shape":[1]}"#), "name");

@@ -1,7 +1,7 @@
 //! Requests that change something: a new job, and calls.
 use super::reply::{bad_field, body, error, invalid, json_reply, Reply};
 use super::{gate, no_job, wire, App, BODY_UNIT};
-use crate::model::Call;
+use crate::model::{settings_json, Call};
 use crate::writer::{CallsDone, Created, Key, Message};
 use http_body::{LengthLimitError, Limited};
 use hyper::body::{Bytes, HttpBody};
@@ -19,7 +19,7 @@ const LONGEST_KEY: usize = 255;
 pub async fn new_job(app: &App, request: Request<Body>) -> Result<Reply, Box<Reply>> {
     let (bytes, _room) = read_body(app, request).await?;
     let wire::NewJob { name, settings, shape } = wire::new_job(&bytes).map_err(|why| invalid(&why))?;
-    let told = json!({"name": name, "settings": settings.json(), "shape": shape});
+    let told = json!({"name": name, "settings": settings_json(&settings), "shape": shape});
     let created = app.ask(|reply| Message::Create { name, settings, shape, reply }).await?;
     Ok(match created {
         Created::New => json_reply(201, &told),

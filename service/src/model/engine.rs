@@ -1,11 +1,9 @@
-//! The proved coordinator of one job: the only module that names the crate of `embed/rust`.
+//! The proved coordinator of one job, through the crate of `embed/rust`.
 use super::call::{Call, Target};
-use super::live::{Kind, Live, LiveRecord};
-use super::outcome::{Reply, TickEnd};
-use super::settings::Settings;
+use super::live::Live;
+use super::outcome::Reply;
+use relkvanu::{Choice, FileCounts, Mode, Settings};
 use std::num::NonZeroU64;
-
-pub use relkvanu::{Choice, FileCounts, Mode};
 
 /// Why a call changed nothing.
 pub enum Fault {
@@ -22,16 +20,7 @@ pub struct Engine(relkvanu::Coordinator);
 impl Engine {
     /// Opens a coordinator at the moment `now`. Its first record has the number 1.
     pub fn open(settings: &Settings, shape: &[u64], now: u64) -> Result<Engine, NoJob> {
-        let settings = relkvanu::Settings {
-            interval: settings.interval,
-            pause: settings.pause,
-            at_once: settings.at_once,
-            timeout: settings.timeout,
-            tolerable: settings.tolerable,
-            retained: settings.retained,
-            keep_on_cancel: settings.keep_on_cancel,
-        };
-        let opened = relkvanu::Coordinator::open(&settings, shape, now, 1);
+        let opened = relkvanu::Coordinator::open(settings, shape, now, 1);
         opened.map(Engine).map_err(|fault| NoJob(format!("{fault:?}")))
     }
 
@@ -52,7 +41,7 @@ impl Engine {
             Call::Deleted { file } => core.deleted(*file),
             Call::Undeleted { file } => core.undeleted(*file),
         };
-        made.map_err(fault).and_then(reply)
+        made.map(Reply::Answered).map_err(fault)
     }
 
     fn take(&mut self, most: u64) -> Result<Reply, Fault> {
@@ -102,16 +91,8 @@ impl Engine {
 
     pub fn live(&self) -> Live {
         let core = &self.0;
-        (0..).map_while(|place| core.live(place)).map(|found| (found.id, record(found))).collect()
+        (0..).map_while(|place| core.live(place)).map(|record| (record.id, record)).collect()
     }
-}
-
-fn record(found: relkvanu::Live) -> LiveRecord {
-    let kind = match found.kind {
-        relkvanu::Kind::Checkpoint => Kind::Checkpoint,
-        relkvanu::Kind::Savepoint => Kind::Savepoint,
-    };
-    LiveRecord { id: found.id, kind, done: found.done }
 }
 
 fn number(target: Target) -> Option<NonZeroU64> {
@@ -119,31 +100,6 @@ fn number(target: Target) -> Option<NonZeroU64> {
         Target::Latest => None,
         Target::Savepoint(id) => NonZeroU64::new(id),
     }
-}
-
-/// What a call answered. A reply that no call of [`Call`] has counts as refused, under its name.
-fn reply(answer: relkvanu::Answer) -> Result<Reply, Fault> {
-    use relkvanu::Answer as A;
-    Ok(match answer {
-        A::Triggered { expired, id } => Reply::Ticked { expired, end: TickEnd::Triggered(id) },
-        A::HeldInterval { expired } => Reply::Ticked { expired, end: TickEnd::HeldInterval },
-        A::HeldAtOnce { expired } => Reply::Ticked { expired, end: TickEnd::HeldAtOnce },
-        A::HeldPause { expired } => Reply::Ticked { expired, end: TickEnd::HeldPause },
-        A::Failed { expired } => Reply::Ticked { expired, end: TickEnd::Failed },
-        A::SavepointTriggered(id) => Reply::SavepointTriggered(id),
-        A::AckPending { missing } => Reply::AckPending { missing },
-        A::AckCompleted { dropped, released } => Reply::AckCompleted { dropped, released },
-        A::AckLate { handed_out } => Reply::AckLate { handed_out },
-        A::DeclineAborted { released } => Reply::DeclineAborted { released },
-        A::DeclineFailed { released } => Reply::DeclineFailed { released },
-        A::DeclineLate => Reply::DeclineLate,
-        A::Disposed { released } => Reply::Disposed { released },
-        A::Restored { from, released } => Reply::Restored { from, released },
-        A::Cancelled { dropped, released } => Reply::Cancelled { dropped, released },
-        A::Deleted(file) => Reply::Deleted(file),
-        A::Undeleted(file) => Reply::Undeleted(file),
-        A::Counted { .. } => return Err(Fault::Refused { name: "Counted".to_string(), file: None }),
-    })
 }
 
 fn fault(fault: relkvanu::Fault) -> Fault {

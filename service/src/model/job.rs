@@ -1,9 +1,10 @@
 //! One job: its coordinator, its place in the log, and when the timer has to tick it.
 use super::call::Call;
-use super::engine::{Choice, Engine, Fault, Mode, NoJob};
-use super::live::{ended, Kind, Live, LiveRecord};
-use super::outcome::{Outcome, Reply, TickEnd};
-use super::settings::Settings;
+use super::engine::{Engine, Fault, NoJob};
+use super::live::{ended, Live};
+use super::outcome::{Outcome, Reply};
+use super::settings::pending_limit;
+use relkvanu::{Answer, Choice, Kind, Live as LiveRecord, Mode, Settings};
 
 /// What a job was opened with, which never changes.
 #[derive(Clone, Debug, PartialEq, Eq)]
@@ -91,16 +92,14 @@ impl Job {
     /// Brings the live records up to date, and tells which ones a call ended. They are read anew where its answer says
     /// that one became done or went.
     fn follow(&mut self, record: Option<u64>, reply: &Reply) -> Option<String> {
-        let added = match reply {
-            Reply::Ticked { expired: 0, end: TickEnd::Triggered(_) } => Some(Kind::Checkpoint),
-            Reply::SavepointTriggered(_) => Some(Kind::Savepoint),
-            Reply::Ticked { expired: 0, end } if *end != TickEnd::Failed => return None,
-            Reply::AckPending { .. } | Reply::AckLate { .. } | Reply::DeclineLate => return None,
-            Reply::Taken(_) | Reply::Deleted(_) | Reply::Undeleted(_) => return None,
-            _ => None,
+        let Reply::Answered(answer) = reply else {
+            return None;
         };
-        if let (Some(kind), Some(id)) = (added, record) {
+        if let (Some(kind), Some(id)) = (added(answer), record) {
             self.live.insert(id, LiveRecord { id, kind, done: false });
+            return None;
+        }
+        if leaves_records(answer) {
             return None;
         }
         let after = self.engine.live();
@@ -111,13 +110,13 @@ impl Job {
 
     fn note(&mut self, call: &Call, now: u64, record: Option<u64>, reply: &Reply) {
         let is_checkpoint = record.and_then(|id| self.live.get(&id)).is_some_and(|live| live.kind == Kind::Checkpoint);
-        if matches!(reply, Reply::AckCompleted { .. }) && is_checkpoint {
+        if matches!(reply, Reply::Answered(Answer::AckCompleted { .. })) && is_checkpoint {
             self.last_completed = Some(now);
         }
         if let Call::Restore { shape: Some(shape), .. } = call {
             self.shape.clone_from(shape);
         }
-        if is_event(reply) {
+        if reply.is_event() {
             self.last_event = self.seq;
         }
     }
@@ -128,7 +127,7 @@ impl Job {
             return None;
         }
         let expiry = self.engine.oldest_expiry();
-        let has_room = self.pending(Kind::Checkpoint) < self.opening.settings.pending_limit();
+        let has_room = self.pending(Kind::Checkpoint) < pending_limit(&self.opening.settings);
         let due = has_room.then(|| self.engine.due());
         due.into_iter().chain(expiry).min()
     }
@@ -148,23 +147,30 @@ impl Job {
 
 /// The record that a call is about: the one it names, or the one that its answer names.
 fn record_of(call: &Call, reply: &Reply) -> Option<u64> {
+    use Choice::{Checkpoint, Savepoint};
     match (call, reply) {
         (Call::Ack { id, .. } | Call::Decline { id, .. } | Call::Dispose { id }, _) => Some(*id),
-        (_, Reply::Ticked { end: TickEnd::Triggered(id), .. } | Reply::SavepointTriggered(id)) => Some(*id),
-        (_, Reply::Restored { from: Choice::Checkpoint(id) | Choice::Savepoint(id), .. }) => Some(*id),
+        (_, Reply::Answered(Answer::Triggered { id, .. } | Answer::SavepointTriggered(id))) => Some(*id),
+        (_, Reply::Answered(Answer::Restored { from: Checkpoint(id) | Savepoint(id), .. })) => Some(*id),
         _ => None,
     }
 }
 
-/// Whether an engine wants to hear of it: a record was triggered, completed or failed, or the job restored or ended.
-fn is_event(reply: &Reply) -> bool {
-    match reply {
-        Reply::Ticked { expired, end } => *expired > 0 || matches!(end, TickEnd::Triggered(_) | TickEnd::Failed),
-        Reply::SavepointTriggered(_)
-        | Reply::AckCompleted { .. }
-        | Reply::Restored { .. }
-        | Reply::Cancelled { .. } => true,
-        Reply::DeclineAborted { .. } | Reply::DeclineFailed { .. } | Reply::Disposed { .. } => true,
+/// The kind of the record that a call added, where it did nothing else to the records.
+fn added(answer: &Answer) -> Option<Kind> {
+    match answer {
+        Answer::Triggered { expired: 0, .. } => Some(Kind::Checkpoint),
+        Answer::SavepointTriggered(_) => Some(Kind::Savepoint),
+        _ => None,
+    }
+}
+
+/// Whether a call that answered this left each live record as it was, but for who is missing.
+fn leaves_records(answer: &Answer) -> bool {
+    use Answer as A;
+    match answer {
+        A::HeldInterval { expired } | A::HeldAtOnce { expired } | A::HeldPause { expired } => *expired == 0,
+        A::AckPending { .. } | A::AckLate { .. } | A::DeclineLate | A::Deleted(_) | A::Undeleted(_) => true,
         _ => false,
     }
 }

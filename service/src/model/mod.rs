@@ -10,9 +10,9 @@ mod settings;
 
 pub use call::{Call, Subtask, Target};
 pub use clock::Clock;
-pub use engine::{Choice, FileCounts, Mode, NoJob};
+pub use engine::NoJob;
 pub use job::{Entry, Job, Opening};
 pub use lines::parse_line;
-pub use live::{Kind, LiveRecord};
-pub use outcome::{Outcome, Reply, TickEnd};
-pub use settings::{check_shape, shape_words, Settings, FIELDS};
+pub use outcome::Outcome;
+pub use relkvanu::{Choice, FileCounts, Kind, Live as LiveRecord, Mode, Settings};
+pub use settings::{check_shape, config_line, parse_config, settings_json, settings_of, shape_words, FIELDS};

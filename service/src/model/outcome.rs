@@ -1,36 +1,14 @@
 //! What a call was answered: the script's text, which the log holds, and the JSON of the API.
+use relkvanu::{Answer, Choice};
 use serde_json::{json, Value};
 use std::fmt::Write;
-
-use super::engine::Choice;
-
-/// How a tick ended.
-#[derive(Clone, Copy, Debug, PartialEq, Eq)]
-pub enum TickEnd {
-    Triggered(u64),
-    HeldInterval,
-    HeldAtOnce,
-    HeldPause,
-    Failed,
-}
 
 /// What a call that was made answered.
 #[derive(Clone, Debug, PartialEq, Eq)]
 pub enum Reply {
-    Ticked { expired: u64, end: TickEnd },
-    SavepointTriggered(u64),
-    AckPending { missing: u64 },
-    AckCompleted { dropped: u64, released: u64 },
-    AckLate { handed_out: u64 },
-    DeclineAborted { released: u64 },
-    DeclineFailed { released: u64 },
-    DeclineLate,
-    Disposed { released: u64 },
-    Restored { from: Choice, released: u64 },
-    Cancelled { dropped: u64, released: u64 },
+    Answered(Answer),
+    /// The files of a take.
     Taken(Vec<u64>),
-    Deleted(u64),
-    Undeleted(u64),
 }
 
 /// What became of a call of a request.
@@ -50,47 +28,15 @@ impl Reply {
     /// The text of docs/SCRIPT.md.
     pub fn text(&self) -> String {
         match self {
-            Reply::Ticked { expired, end } => format!("tick expired {expired} {}", end.text()),
-            Reply::SavepointTriggered(id) => format!("savepoint triggered {id}"),
-            Reply::AckPending { missing } => format!("ack pending {missing}"),
-            Reply::AckCompleted { dropped, released } => format!("ack completed {dropped} {released}"),
-            Reply::AckLate { handed_out } => format!("ack late {handed_out}"),
-            Reply::DeclineAborted { released } => format!("decline aborted {released}"),
-            Reply::DeclineFailed { released } => format!("decline failed {released}"),
-            Reply::DeclineLate => "decline late".to_string(),
-            Reply::Disposed { released } => format!("disposed {released}"),
-            Reply::Restored { from, released } => match from {
-                Choice::Checkpoint(id) => format!("restored checkpoint {id} {released}"),
-                Choice::Savepoint(id) => format!("restored savepoint {id} {released}"),
-                Choice::Fresh => format!("restored fresh {released}"),
-            },
-            Reply::Cancelled { dropped, released } => format!("cancelled {dropped} {released}"),
+            Reply::Answered(answer) => answer.to_string(),
             Reply::Taken(files) => taken_text(files),
-            Reply::Deleted(file) => format!("deleted {file}"),
-            Reply::Undeleted(file) => format!("undeleted {file}"),
         }
     }
 
     fn json(&self) -> Value {
         match self {
-            Reply::Ticked { expired, end } => end.json(*expired),
-            Reply::SavepointTriggered(id) => json!({"savepoint": "triggered", "id": id}),
-            Reply::AckPending { missing } => json!({"ack": "pending", "missing": missing}),
-            Reply::AckCompleted { dropped, released } => {
-                json!({"ack": "completed", "dropped": dropped, "released": released})
-            }
-            Reply::AckLate { handed_out } => json!({"ack": "late", "handed_out": handed_out}),
-            Reply::DeclineAborted { released } => json!({"decline": "aborted", "released": released}),
-            Reply::DeclineFailed { released } => json!({"decline": "failed", "released": released}),
-            Reply::DeclineLate => json!({"decline": "late"}),
-            Reply::Disposed { released } => json!({"dispose": "disposed", "released": released}),
-            Reply::Restored { from, released } => restored_json(*from, *released),
-            Reply::Cancelled { dropped, released } => {
-                json!({"cancel": "cancelled", "dropped": dropped, "released": released})
-            }
+            Reply::Answered(answer) => answer_json(*answer),
             Reply::Taken(files) => json!({"files": files.iter().map(u64::to_string).collect::<Vec<_>>()}),
-            Reply::Deleted(file) => json!({"deleted": file.to_string()}),
-            Reply::Undeleted(file) => json!({"undeleted": file.to_string()}),
         }
     }
 
@@ -98,27 +44,46 @@ impl Reply {
     pub fn changed_nothing(&self) -> bool {
         matches!(self, Reply::Taken(files) if files.is_empty())
     }
-}
 
-impl TickEnd {
-    fn text(self) -> String {
+    /// Whether an engine wants to hear of it: a record was triggered, completed or failed, or the job restored or ended.
+    pub fn is_event(&self) -> bool {
+        use Answer as A;
         match self {
-            TickEnd::Triggered(id) => format!("triggered {id}"),
-            TickEnd::HeldInterval => "held interval".to_string(),
-            TickEnd::HeldAtOnce => "held at-once".to_string(),
-            TickEnd::HeldPause => "held pause".to_string(),
-            TickEnd::Failed => "failed".to_string(),
+            Reply::Answered(A::HeldInterval { expired } | A::HeldAtOnce { expired } | A::HeldPause { expired }) => {
+                *expired > 0
+            }
+            Reply::Answered(A::Triggered { .. } | A::Failed { .. } | A::SavepointTriggered(_)) => true,
+            Reply::Answered(A::AckCompleted { .. } | A::DeclineAborted { .. } | A::DeclineFailed { .. }) => true,
+            Reply::Answered(A::Disposed { .. } | A::Restored { .. } | A::Cancelled { .. }) => true,
+            _ => false,
         }
     }
+}
 
-    fn json(self, expired: u64) -> Value {
-        match self {
-            TickEnd::Triggered(id) => json!({"tick": "triggered", "expired": expired, "id": id}),
-            TickEnd::HeldInterval => json!({"tick": "held", "expired": expired, "why": "interval"}),
-            TickEnd::HeldAtOnce => json!({"tick": "held", "expired": expired, "why": "at-once"}),
-            TickEnd::HeldPause => json!({"tick": "held", "expired": expired, "why": "pause"}),
-            TickEnd::Failed => json!({"tick": "failed", "expired": expired}),
+fn answer_json(answer: Answer) -> Value {
+    match answer {
+        Answer::Triggered { expired, id } => json!({"tick": "triggered", "expired": expired, "id": id}),
+        Answer::HeldInterval { expired } => json!({"tick": "held", "expired": expired, "why": "interval"}),
+        Answer::HeldAtOnce { expired } => json!({"tick": "held", "expired": expired, "why": "at-once"}),
+        Answer::HeldPause { expired } => json!({"tick": "held", "expired": expired, "why": "pause"}),
+        Answer::Failed { expired } => json!({"tick": "failed", "expired": expired}),
+        Answer::SavepointTriggered(id) => json!({"savepoint": "triggered", "id": id}),
+        Answer::AckPending { missing } => json!({"ack": "pending", "missing": missing}),
+        Answer::AckCompleted { dropped, released } => {
+            json!({"ack": "completed", "dropped": dropped, "released": released})
         }
+        Answer::AckLate { handed_out } => json!({"ack": "late", "handed_out": handed_out}),
+        Answer::DeclineAborted { released } => json!({"decline": "aborted", "released": released}),
+        Answer::DeclineFailed { released } => json!({"decline": "failed", "released": released}),
+        Answer::DeclineLate => json!({"decline": "late"}),
+        Answer::Disposed { released } => json!({"dispose": "disposed", "released": released}),
+        Answer::Restored { from, released } => restored_json(from, released),
+        Answer::Cancelled { dropped, released } => {
+            json!({"cancel": "cancelled", "dropped": dropped, "released": released})
+        }
+        Answer::Deleted(file) => json!({"deleted": file.to_string()}),
+        Answer::Undeleted(file) => json!({"undeleted": file.to_string()}),
+        Answer::Counted { file, uses } => json!({"counted": file.to_string(), "uses": uses}),
     }
 }
 

@@ -1,20 +1,9 @@
 //! A job's settings and shape, and their limits, which are those of docs/RULES.md.
+use relkvanu::{Line, Settings};
 use serde_json::{json, Value};
 use std::fmt::Write;
 
 const LONGEST: u64 = 1 << 40;
-
-/// How a job takes checkpoints. Durations are milliseconds.
-#[derive(Clone, Copy, Debug, PartialEq, Eq)]
-pub struct Settings {
-    pub interval: u64,
-    pub pause: u64,
-    pub at_once: u64,
-    pub timeout: u64,
-    pub tolerable: u64,
-    pub retained: u64,
-    pub keep_on_cancel: bool,
-}
 
 /// A number of the settings: its name, its limits, and Flink's default where there is one.
 pub struct Field {
@@ -34,49 +23,47 @@ pub const FIELDS: [Field; 6] = [
     Field { name: "retained", least: 1, most: 1000, default: Some(1) },
 ];
 
-impl Settings {
-    /// The settings of six numbers, in the order of [`FIELDS`].
-    pub fn of(numbers: [u64; 6], keep_on_cancel: bool) -> Settings {
-        let [interval, pause, at_once, timeout, tolerable, retained] = numbers;
-        Settings { interval, pause, at_once, timeout, tolerable, retained, keep_on_cancel }
-    }
+/// The settings of six numbers, in the order of [`FIELDS`].
+pub fn settings_of(numbers: [u64; 6], keep_on_cancel: bool) -> Settings {
+    let [interval, pause, at_once, timeout, tolerable, retained] = numbers;
+    Settings { interval, pause, at_once, timeout, tolerable, retained, keep_on_cancel }
+}
 
-    fn numbers(&self) -> [u64; 6] {
-        [self.interval, self.pause, self.at_once, self.timeout, self.tolerable, self.retained]
-    }
+fn numbers(it: &Settings) -> [u64; 6] {
+    [it.interval, it.pause, it.at_once, it.timeout, it.tolerable, it.retained]
+}
 
-    /// The script's `config` line.
-    pub fn line(&self) -> String {
-        let mut line = "config".to_string();
-        for number in self.numbers() {
-            let _ = write!(line, " {number}");
-        }
-        line + if self.keep_on_cancel { " keep" } else { " delete" }
+/// The script's `config` line.
+pub fn config_line(settings: &Settings) -> String {
+    let mut line = "config".to_string();
+    for number in numbers(settings) {
+        let _ = write!(line, " {number}");
     }
+    line + if settings.keep_on_cancel { " keep" } else { " delete" }
+}
 
-    /// Reads a line that [`Settings::line`] wrote.
-    pub fn parse(line: &str) -> Option<Settings> {
-        let words: Vec<&str> = line.strip_prefix("config ")?.split(' ').collect();
-        let (keep, numbers) = words.split_last()?;
-        let numbers: Vec<u64> = numbers.iter().map(|word| word.parse().ok()).collect::<Option<_>>()?;
-        Some(Settings::of(numbers.try_into().ok()?, *keep == "keep"))
+/// Reads a `config` line.
+pub fn parse_config(line: &str) -> Option<Settings> {
+    match Line::of(line.as_bytes()) {
+        Ok(Line::Config(settings)) => Some(settings),
+        _ => None,
     }
+}
 
-    pub fn json(&self) -> Value {
-        let mut object = serde_json::Map::new();
-        for (field, number) in FIELDS.iter().zip(self.numbers()) {
-            object.insert(field.name.to_string(), json!(number));
-        }
-        object.insert("keep_on_cancel".to_string(), json!(self.keep_on_cancel));
-        Value::Object(object)
+pub fn settings_json(settings: &Settings) -> Value {
+    let mut object = serde_json::Map::new();
+    for (field, number) in FIELDS.iter().zip(numbers(settings)) {
+        object.insert(field.name.to_string(), json!(number));
     }
+    object.insert("keep_on_cancel".to_string(), json!(settings.keep_on_cancel));
+    Value::Object(object)
+}
 
-    /// How many checkpoints may be pending at once: one where there is a pause.
-    pub fn pending_limit(&self) -> usize {
-        match self.pause {
-            0 => usize::try_from(self.at_once).unwrap_or(usize::MAX),
-            _ => 1,
-        }
+/// How many checkpoints may be pending at once: one where there is a pause.
+pub fn pending_limit(settings: &Settings) -> usize {
+    match settings.pause {
+        0 => usize::try_from(settings.at_once).unwrap_or(usize::MAX),
+        _ => 1,
     }
 }
 
@@ -105,10 +92,11 @@ mod tests {
     use super::*;
 
     #[test]
-    fn reads_the_line_that_it_wrote() {
-        let settings = Settings::of([1000, 0, 1, 600_000, 0, 1], true);
-        assert_eq!(settings.line(), "config 1000 0 1 600000 0 1 keep");
-        assert_eq!(Settings::parse(&settings.line()), Some(settings));
+    fn the_library_reads_the_line() {
+        let settings = settings_of([1000, 0, 1, 600_000, 0, 1], true);
+        assert_eq!(config_line(&settings), "config 1000 0 1 600000 0 1 keep");
+        assert_eq!(parse_config(&config_line(&settings)), Some(settings));
+        assert_eq!(parse_config("job 1 2"), None);
     }
 
     #[test]

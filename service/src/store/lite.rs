@@ -1,6 +1,6 @@
 //! The log in one SQLite file: a write-ahead log, synced at each commit.
 use super::rows::{Failure, Group, Keyed, LogPage, Reader, Store, Written, COLUMNS, IS_EVENT};
-use crate::model::{Entry, Opening, Settings};
+use crate::model::{config_line, parse_config, Entry, Opening};
 use rusqlite::{params, Connection, ErrorCode, OpenFlags, OptionalExtension, Row};
 use std::fs::File;
 use std::path::{Path, PathBuf};
@@ -93,7 +93,7 @@ fn write(connection: &mut Connection, group: &Group) -> rusqlite::Result<()> {
         let mut insert = transaction.prepare_cached("insert into job values(?, ?, ?, ?, ?, 1, ?)")?;
         for job in &group.jobs {
             let shape = crate::model::shape_words(&job.shape);
-            let line = job.settings.line();
+            let line = config_line(&job.settings);
             insert.execute(params![
                 job.number,
                 job.name,
@@ -211,7 +211,7 @@ fn entry_of(row: &Row) -> rusqlite::Result<Entry> {
 fn opening_of(row: &Row) -> rusqlite::Result<Opening> {
     let (config, shape): (String, String) = (row.get(2)?, row.get(3)?);
     let bad = || rusqlite::Error::InvalidColumnName(format!("{config:?} or {shape:?}"));
-    let settings = Settings::parse(&config).ok_or_else(bad)?;
+    let settings = parse_config(&config).ok_or_else(bad)?;
     let shape = shape.split(' ').map(|word| word.parse().ok()).collect::<Option<_>>().ok_or_else(bad)?;
     Ok(Opening { number: row.get(0)?, name: row.get(1)?, settings, shape, started: unsigned(row, 4)? })
 }

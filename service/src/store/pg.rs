@@ -2,7 +2,7 @@
 //! by it, so that a leader that was stopped holds no lock.
 use super::pq::{Connection, Failed, Parameter, Rows};
 use super::rows::{Failure, Group, Keyed, Store, Written};
-use crate::model::{shape_words, Entry, Opening};
+use crate::model::{config_line, shape_words, Entry, Opening};
 use std::ffi::CStr;
 use std::time::Duration;
 
@@ -132,7 +132,7 @@ fn job_columns(jobs: &[Opening]) -> [Parameter; 6] {
     [
         Parameter::numbers(jobs.iter().map(|job| Some(job.number))),
         Parameter::texts(jobs.iter().map(|job| Some(job.name.clone()))),
-        Parameter::texts(jobs.iter().map(|job| Some(job.settings.line()))),
+        Parameter::texts(jobs.iter().map(|job| Some(config_line(&job.settings)))),
         Parameter::texts(jobs.iter().map(|job| Some(shape_words(&job.shape)))),
         Parameter::numbers(jobs.iter().map(|job| number(job.started))),
         Parameter::texts(jobs.iter().map(|_| Some(env!("CARGO_PKG_VERSION").to_string()))),

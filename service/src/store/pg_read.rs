@@ -1,7 +1,7 @@
 //! Reads of the log in PostgreSQL. A connection that was lost is made again once.
 use super::pq::{Connection, Failed, Rows};
 use super::rows::{LogPage, Reader, COLUMNS, IS_EVENT};
-use crate::model::{Entry, Opening, Settings};
+use crate::model::{parse_config, Entry, Opening};
 
 pub struct PgReader {
     url: String,
@@ -97,7 +97,7 @@ fn opening_of(row: &[Option<String>]) -> Option<Opening> {
     Some(Opening {
         number: number.as_ref()?.parse().ok()?,
         name: name.clone()?,
-        settings: Settings::parse(config.as_ref()?)?,
+        settings: parse_config(config.as_ref()?)?,
         shape: shape.as_ref()?.split(' ').map(|word| word.parse().ok()).collect::<Option<_>>()?,
         started: started.as_ref()?.parse().ok()?,
     })

@@ -11,7 +11,7 @@ pub use state::{JobState, RecordState};
 
 use crate::log;
 use crate::metrics::Metrics;
-use crate::model::{Call, Clock, Outcome, Reply, TickEnd};
+use crate::model::{Call, Clock, Outcome};
 use crate::store::{Failure, Group, Store};
 use round::Round;
 use std::sync::mpsc::{Receiver, RecvTimeoutError};
@@ -163,7 +163,7 @@ impl Writer {
         self.set_timer(round);
         for place in self.timer.take_due(now) {
             let outcome = self.call(round, place, &Call::Tick);
-            if !ended_or_triggered(&outcome) {
+            if !did_its_work(&outcome) {
                 log::warn(&format!("tick job={} outcome={}", self.jobs.at(place).opening.name, outcome.json()));
                 round.postponed.push((place, now + TICK_AGAIN));
             }
@@ -258,12 +258,9 @@ impl Writer {
     }
 }
 
-/// Whether a tick did what the timer called it for.
-fn ended_or_triggered(outcome: &Outcome) -> bool {
-    let Outcome::Made { reply: Reply::Ticked { expired, end }, .. } = outcome else {
-        return false;
-    };
-    *expired > 0 || matches!(end, TickEnd::Triggered(_) | TickEnd::Failed)
+/// Whether a tick did what the timer called it for: it ended or triggered a record.
+fn did_its_work(ticked: &Outcome) -> bool {
+    matches!(ticked, Outcome::Made { reply, .. } if reply.is_event())
 }
 
 /// Ends the process: nothing of the group was answered, and the next start reads what was committed.

@@ -1,5 +1,5 @@
 -- What an accepted call leaves of the parts, and that what fails for want of memory may want some.
-use Rattle.std.proofs.Common.{◌≡◌, ℕ, Bool, true, false, List, refl, sym, ap, subst, ◌∙◌, Option, Some, None}
+use Rattle.std.proofs.Common.{◌≡◌, ℕ, Bool, true, List, refl, sym, ap, subst, ◌∙◌, Option, Some, None}
 use Rattle.std.specs.Prelude.{Result, Ok, Err, IfOk, OnErr}
 use Rattle.ckpt_ids.specs.declared.call.Call.{Call}
 use Rattle.ckpt_ids.specs.declared.call.Call.TheVariants.{Savepoint, Restore, Take, Show}
@@ -8,13 +8,12 @@ use Rattle.ckpt_ids.specs.declared.reply.Reply.{Reply}
 use Rattle.ckpt_ids.specs.Records.{Record}
 use Rattle.ckpt_core.specs.declared.parts.Parts.{Parts}
 use Rattle.ckpt_core.specs.Memory.{answer_wants, may_want_memory}
-use Rattle.ckpt_core.specs.Inside.Parts.{AreSound, Answers, Stays, early_refusal, is_report, state_of}
+use Rattle.ckpt_core.specs.Inside.Parts.{AreSound, Answers, Stays, state_of}
 use Rattle.ckpt_core.specs.Refusals.{moment_of, no_record, refusal}
 use Rattle.ckpt_core.specs.Soundness.{IsCall, IsSound}
 use Rattle.ckpt_core.specs.State.{State, record_of}
 use Rattle.ckpt_core.specs.Steps.{Stepped, at_moment, effect, restore, show, take_files}
 use Rattle.ckpt_core.proofs.Soundness.Calls.{step_keeps}
-use Rattle.ckpt_core.proofs.Answering.Reports.{accepted_early}
 use Rattle.ckpt_core.proofs.Answering.StepCases.{step_accepted}
 use Rattle.ckpt_core.proofs.Answering.RefusalRows.{first_row-none}
 
@@ -74,10 +73,10 @@ pub show_wants : (m : State) (id : ℕ) → refusal m (Show id) ≡ None → may
 unfolding effect
 show_wants m id e = wants_as_effect m (Show id) e ∙ shown id (record_of m id) (accepted_show m id e)
 
--- of a call that passed the early test, whatever the answer
-pub wants_here : {A E : Type 0} (result : Result A E) (m : State) (call same : Call) → call ≡ same → early_refusal m call ≡ None → (refusal m same ≡ None → may_want_memory m same ≡ true) →
-    OnErr result (is_report call ≡ false → may_want_memory m call ≡ true)
-wants_here (Ok reply) m call same e early h = tt
-wants_here (Err error) m call same e early h =
+-- of an accepted call, whatever the answer
+pub wants_here : {A E : Type 0} (result : Result A E) (m : State) (call same : Call) → call ≡ same → refusal m call ≡ None → (refusal m same ≡ None → may_want_memory m same ≡ true) →
+    OnErr result (may_want_memory m call ≡ true)
+wants_here (Ok reply) m call same e accepted h = tt
+wants_here (Err error) m call same e accepted h =
     let P : Call → Type 0 = λ k. refusal m k ≡ None → may_want_memory m k ≡ true in
-    λ other. subst P (sym e) h (accepted_early m call other early)
+    subst P (sym e) h accepted

@@ -127,12 +127,6 @@ shown_answers p id metadata sound accepted is = record {
   none_ended = sound.none_ended;
 }
 
--- results
-
-pub for_ok : {T E : Type 0} (r : Result T E) (P Q : T → Type 0) → ((x : T) → P x → Q x) → IfOk r P → IfOk r Q
-for_ok (Ok x) P Q follows h = follows x h
-for_ok (Err e) P Q follows h = h
-
 pub some_copied : {T : Type 0} (o : Option (Bor T)) → IsSome (option_copied o) → IsSome o
 some_copied (Some x) h = refl
 some_copied None h = absurd (cc)

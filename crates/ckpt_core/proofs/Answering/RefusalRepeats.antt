@@ -5,7 +5,7 @@ use Rattle.std.specs.Ordering.{nat_cmp}
 use Rattle.std.proofs.lemmas.List.Sorted.{searched}
 use Rattle.std.specs.Result.{is_ok}
 use Rattle.std.specs.List.{list_any}
-use Rattle.std.proofs.lemmas.Bool.{both_ways, eq-eqb, ltb-false, or_parts, or_cases, cases_lt}
+use Rattle.std.proofs.lemmas.Bool.{both_ways, eq-eqb, ltb-false, or_parts, or_cases, cases_lt, or_left, or_right, true_from_ne_false, false_from_ne_true}
 use Rattle.std.proofs.lemmas.List.{get_or_default}
 use Rattle.ckpt_ids.specs.Ordered.{IsIn, AreDistinct}
 use Rattle.ckpt_ids.specs.Ascending.{IsAscending, IsAscendingSet}
@@ -14,28 +14,12 @@ use Rattle.ckpt_ids.proofs.AscendingLemmas.{ascending_at, numbers_in_order}
 use Rattle.ckpt_core.specs.Refusals.{has_repeats}
 use Rattle.ckpt_core.proofs.Ending.Released.{distinct-from_test, IsIn-from_test, test-from_IsIn}
 
-or_true : (a b : Bool) → a ≡ true → (a || b) ≡ true
-or_true true b e = refl
-or_true false b e = absurd (both_ways false refl e)
-
-or_other : (a b : Bool) → b ≡ true → (a || b) ≡ true
-or_other true b e = refl
-or_other false b e = e
-
-true_unless : (b : Bool) → (b ≡ false → ⊥) → b ≡ true
-true_unless true h = refl
-true_unless false h = absurd (h refl)
-
-false_unless : (b : Bool) → (b ≡ true → ⊥) → b ≡ false
-false_unless true h = absurd (h refl)
-false_unless false h = refl
-
 -- the test of repeats
 
 pub test-from_distinct : (xs : List ℕ) → AreDistinct xs → has_repeats xs ≡ false
 test-from_distinct [] a = refl
 test-from_distinct (x ∷ xs) a =
-    let first : list_any (λ y. eqb x y) xs ≡ false = false_unless (list_any (λ y. eqb x y) xs) (λ e. a.0 (IsIn-from_test x xs e)) in
+    let first : list_any (λ y. eqb x y) xs ≡ false = false_from_ne_true (list_any (λ y. eqb x y) xs) (λ e. a.0 (IsIn-from_test x xs e)) in
     ap (λ b. b || has_repeats xs) first ∙ test-from_distinct xs a.1
 
 -- where each number is below the next, none stands twice
@@ -50,8 +34,8 @@ set-from_adjacent (x ∷ y ∷ ys) h =
 repeat_at : (xs : List ℕ) (k : ℕ) → suc k < length xs → get_or xs k 0 ≡ get_or xs (suc k) 0 → has_repeats xs ≡ true
 repeat_at [] k lt e = absurd (omega arith)
 repeat_at (x ∷ []) k lt e = absurd (omega arith)
-repeat_at (x ∷ y ∷ ys) zero lt e = or_true (list_any (λ z. eqb x z) (y ∷ ys)) (has_repeats (y ∷ ys)) (or_true (eqb x y) (list_any (λ z. eqb x z) ys) (eq-eqb x y e))
-repeat_at (x ∷ y ∷ ys) (suc k) lt e = or_other (list_any (λ z. eqb x z) (y ∷ ys)) (has_repeats (y ∷ ys)) (repeat_at (y ∷ ys) k (omega arith) e)
+repeat_at (x ∷ y ∷ ys) zero lt e = or_left (list_any (λ z. eqb x z) (y ∷ ys)) (has_repeats (y ∷ ys)) (or_left (eqb x y) (list_any (λ z. eqb x z) ys) (eq-eqb x y e))
+repeat_at (x ∷ y ∷ ys) (suc k) lt e = or_right (list_any (λ z. eqb x z) (y ∷ ys)) (has_repeats (y ∷ ys)) (repeat_at (y ∷ ys) k (omega arith) e)
 
 -- what a comparison of all neighbours says of an ascending list
 pub repeats-from_adjacent : (xs : List ℕ) (r : Bool) → IsAscending xs →
@@ -85,15 +69,15 @@ among-from_search xs x (Err i) a h =
     let lt : k < length xs = place.1 in
     let here : get_or xs k 0 ≡ x = get_or_default xs k 0 x lt ∙ place.2 in
     ⊎_elim (λ (b : k < i). absurd (omega (arith, at.1 k b, here))) (λ (b : i ≤ k). absurd (omega (arith, at.2 k b lt, here))) (cases_lt k i) in
-    sym (false_unless (list_any (λ f. eqb x f) xs) (λ e. absent (IsIn-from_test x xs e)))
+    sym (false_from_ne_true (list_any (λ f. eqb x f) xs) (λ e. absent (IsIn-from_test x xs e)))
 
 -- two lists
 
 repeats_left : (xs ys : List ℕ) → has_repeats xs ≡ true → has_repeats (xs ++ ys) ≡ true
-repeats_left xs ys e = true_unless (has_repeats (xs ++ ys)) (λ f. both_ways (has_repeats xs) (test-from_distinct xs (AreDistinct-left xs ys (distinct-from_test (xs ++ ys) f))) e)
+repeats_left xs ys e = true_from_ne_false (has_repeats (xs ++ ys)) (λ f. both_ways (has_repeats xs) (test-from_distinct xs (AreDistinct-left xs ys (distinct-from_test (xs ++ ys) f))) e)
 
 repeats_right : (xs ys : List ℕ) → has_repeats ys ≡ true → has_repeats (xs ++ ys) ≡ true
-repeats_right xs ys e = true_unless (has_repeats (xs ++ ys)) (λ f. both_ways (has_repeats ys) (test-from_distinct ys (AreDistinct-right xs ys (distinct-from_test (xs ++ ys) f))) e)
+repeats_right xs ys e = true_from_ne_false (has_repeats (xs ++ ys)) (λ f. both_ways (has_repeats ys) (test-from_distinct ys (AreDistinct-right xs ys (distinct-from_test (xs ++ ys) f))) e)
 
 abbrev share : List ℕ → List ℕ → Bool
 share xs ys = list_any (λ f. list_any (λ g. eqb f g) xs) ys
@@ -101,7 +85,7 @@ share xs ys = list_any (λ f. list_any (λ g. eqb f g) xs) ys
 repeats_between : (xs ys : List ℕ) → share xs ys ≡ true → has_repeats (xs ++ ys) ≡ true
 repeats_between xs ys e =
     let both = IsIn-from_list_any (λ f. list_any (λ g. eqb f g) xs) ys e in
-    true_unless (has_repeats (xs ++ ys)) (λ f. AreDistinct-apart xs ys (distinct-from_test (xs ++ ys) f) both.0 (IsIn-from_test both.0 xs both.2) both.1)
+    true_from_ne_false (has_repeats (xs ++ ys)) (λ f. AreDistinct-apart xs ys (distinct-from_test (xs ++ ys) f) both.0 (IsIn-from_test both.0 xs both.2) both.1)
 
 no_repeats : (xs ys : List ℕ) → has_repeats xs ≡ false → has_repeats ys ≡ false → share xs ys ≡ false → has_repeats (xs ++ ys) ≡ false
 no_repeats xs ys a b e =

@@ -9,7 +9,6 @@ use Rattle.ckpt_ids.specs.declared.reply.Answer.{Answer}
 use Rattle.ckpt_ids.specs.declared.reply.Answer.TheVariants.{Done, Refused}
 use Rattle.ckpt_ids.specs.declared.reply.Refusal.{Refusal}
 use Rattle.ckpt_ids.specs.declared.reply.Refusal.TheVariants.{NotTaken}
-use Rattle.ckpt_core.specs.Inside.Parts.{early_refusal, is_report}
 use Rattle.ckpt_core.specs.Refusals.{first_some, refuse_if, refusal}
 use Rattle.ckpt_core.specs.State.{State}
 use Rattle.ckpt_core.specs.Steps.{Stepped, step}
@@ -35,16 +34,6 @@ refusal_undeleted m file taken e = refusal_deleted m file taken e
 pub taken_if : (taken : Bool) (P : Type 0) → (P → ⊥) → (taken ≡ false → P) → taken ≡ true
 taken_if true P never h = refl
 taken_if false P never h = absurd (never (h refl))
-
--- the early test
-
--- of a call that is no report it tells all
-refusal_early : (m : State) (call : Call) → is_report call ≡ false → early_refusal m call ≡ refusal m call
-refusal_early m call e = ap (λ (b : Bool). (if b then None else refusal m call)) e
-
--- a call that passed it and is no report is accepted
-pub accepted_early : (m : State) (call : Call) → is_report call ≡ false → early_refusal m call ≡ None → refusal m call ≡ None
-accepted_early m call e h = sym (refusal_early m call e) ∙ h
 
 -- a call that is done was not refused
 accepted_by : (m n : State) (call : Call) (reply : Reply) (o : Option Refusal) → refusal m call ≡ o → step m call ≡ (n, Done reply) → refusal m call ≡ None

@@ -2,7 +2,7 @@
 use Rattle.std.proofs.Common.{◌≡◌, ℕ, ◌+◌, ◌<◌, ◌≤◌, ◌^◌, max, Bool, true, false, not, eqb, List, [], ◌++◌, length, refl, sym, ap, subst, ◌∙◌, ⊎_elim, arith, Some}
 use Rattle.std.specs.Prelude.{find}
 use Rattle.std.specs.Vec.{vec_capacity}
-use Rattle.std.proofs.lemmas.Bool.{eqb-true, eq-eqb, ltb-true, or_parts, not_from_true}
+use Rattle.std.proofs.lemmas.Bool.{eqb-true, eq-eqb, ltb-true, or_parts, not_from_true, false_from_ne_true}
 use Rattle.std.proofs.lemmas.List.{length-map}
 use Rattle.std.proofs.lemmas.List.Sums.{length-filter}
 use Rattle.ckpt_ids.specs.declared.call.Call.TheVariants.{Ack}
@@ -28,7 +28,7 @@ use Rattle.ckpt_core.proofs.Acknowledging.Takes.{found_acked}
 use Rattle.ckpt_core.proofs.Completing.Agrees.{its_above}
 use Rattle.ckpt_core.proofs.Completing.Lists.{fewer, others}
 use Rattle.ckpt_core.proofs.Completing.Taken.{taken_there, not_done_number}
-use Rattle.ckpt_core.proofs.Ending.Drops.{fails, none_known}
+use Rattle.ckpt_core.proofs.Ending.Drops.{none_known}
 use Rattle.ckpt_core.proofs.Ending.HandOut.{present-from_use}
 use Rattle.ckpt_core.proofs.Records.Lookups.{has_number, length-records_of}
 use Rattle.ckpt_core.proofs.Soundness.Acks.{IsAcking}
@@ -146,7 +146,7 @@ pub last_new : {p then : Parts} {now id : ℕ} {s : SubtaskId} {fresh reused : L
 last_new {p} {then} {now} {id} {s} {fresh} {reused} {r} {done} l =
     ap (λ x. has_savepoint x.store done.id) l.is
     ∙ ap (λ x. has_savepoint p.store x.id) l.done_is
-    ∙ fails (has_savepoint p.store r.id) (λ (h : has_savepoint p.store r.id ≡ true).
+    ∙ false_from_ne_true (has_savepoint p.store r.id) (λ (h : has_savepoint p.store r.id ≡ true).
     let q = IsIn-from_list_any (has_id r.id) p.store.savepoints h in
     not_done_number l.taking q.0 (IsIn-append_right q.0 p.store.checkpoints p.store.savepoints q.1) (sym (eqb-true q.0.id r.id q.2)))
 

@@ -3,7 +3,7 @@
 use Rattle.std.proofs.Common.{◌≡◌, ℕ, ◌+◌, ◌<◌, ◌≤◌, Bool, true, false, not, ◌||◌, cond, ltb, leb, eqb, List, [], ◌∷◌, ◌++◌, map, length, drop, refl, sym, ap, ◌∙◌, inl, inr, ⊎_elim, arith, Some, None}
 use Rattle.std.specs.Prelude.{count_by}
 use Rattle.std.specs.List.{filter}
-use Rattle.std.proofs.lemmas.Bool.{cases_Bool, both_ways, ltb-true, lt-ltb, le-ltb, ltb-false, lt-leb, le-leb, eqb-true, eq-eqb, ne_eqb, and_parts, or_left, not_from_false}
+use Rattle.std.proofs.lemmas.Bool.{cases_Bool, both_ways, ltb-true, lt-ltb, le-ltb, ltb-false, lt-leb, le-leb, eqb-true, eq-eqb, ne_eqb, and_parts, or_left, not_from_false, false_from_ne_true}
 use Rattle.std.proofs.lemmas.List.Folds.{list_any-append}
 use Rattle.std.proofs.lemmas.List.Sums.{count_by-le-length}
 use Rattle.ckpt_ids.specs.Ordered.{IsIn, ComesBefore}
@@ -16,7 +16,7 @@ use Rattle.ckpt_core.specs.Inside.Parts.{is_noted}
 use Rattle.ckpt_core.specs.Soundness.{id_before}
 use Rattle.ckpt_core.specs.State.{is_checkpoint}
 use Rattle.ckpt_core.proofs.Records.Counts.{count_by_at_most_more}
-use Rattle.ckpt_core.proofs.Ending.Drops.{fails, noted-from_IsIn, IsIn-from_noted}
+use Rattle.ckpt_core.proofs.Ending.Drops.{noted-from_IsIn, IsIn-from_noted}
 use Rattle.ckpt_core.proofs.Records.Grouped.{AreApart, apart_left, apart_right, apart_between}
 use Rattle.ckpt_core.proofs.Records.Lookups.{count_all, one_of_number}
 use Rattle.ckpt_ids.proofs.CountLemmas.{count_by_yes, count_by_no, count_by-none}
@@ -161,7 +161,7 @@ earlier_is us id pending done x apart h =
     let o : not (eqb x.id id) ≡ true = not_from_false (eqb x.id id) (ne_eqb x.id id (λ k. omega arith)) in
     noted-from_IsIn x x (filter (is_before id) (others id pending)) (IsIn-filter (is_before id) x (others id pending) (IsIn-filter (λ r. not (eqb r.id id)) x pending h o) e) refl ∙ sym e)
     (λ (e : is_before id x ≡ false).
-    fails (is_noted (earlier id (others id pending)) x) (λ (k : is_noted (earlier id (others id pending)) x ≡ true).
+    false_from_ne_true (is_noted (earlier id (others id pending)) x) (λ (k : is_noted (earlier id (others id pending)) x ≡ true).
     let y = in_earlier id pending x k in
     let one : with_pins us x ≡ with_pins us y.0 = one_of_number pinned (apart_left pinned done apart) (with_pins us x) (with_pins us y.0) (IsIn-map (with_pins us) x pending h) (IsIn-map (with_pins us) y.0 pending y.1) y.3 in
     both_ways (is_before id x) e (ap (is_before id) one ∙ y.2)) ∙ sym e)
@@ -173,7 +173,7 @@ noted_pending {us} {pending} {store} {r} {d} f x h =
     let row : List Record = store.checkpoints ++ d ∷ [] in
     let done : List Record = store.checkpoints ++ store.savepoints in
     let first : Bool = is_noted (earlier d.id (others d.id pending)) x in
-    let not_past : is_past store.retained row x ≡ false = fails (is_past store.retained row x) (λ (k : is_past store.retained row x ≡ true).
+    let not_past : is_past store.retained row x ≡ false = false_from_ne_true (is_past store.retained row x) (λ (k : is_past store.retained row x ≡ true).
     let y = past_in_front store.retained store.checkpoints d x f.some k in
     apart_between (map (with_pins us) pending) done f.apart (with_pins us x) y.0 (IsIn-map (with_pins us) x pending h) (IsIn-append_left y.0 store.checkpoints store.savepoints y.1) y.2) in
     noted_parts (others d.id pending) store d x ∙ ap (λ b. first || b) not_past ∙ or_false first ∙ earlier_is us d.id pending done x f.apart h
@@ -183,7 +183,7 @@ pub noted_row : {us : List Use} {pending : List Record} {store : Stored} {r d : 
 noted_row {us} {pending} {store} {r} {d} f x h =
     let row : List Record = store.checkpoints ++ d ∷ [] in
     let done : List Record = store.checkpoints ++ store.savepoints in
-    let not_earlier : is_noted (earlier d.id (others d.id pending)) x ≡ false = fails (is_noted (earlier d.id (others d.id pending)) x) (λ (k : is_noted (earlier d.id (others d.id pending)) x ≡ true).
+    let not_earlier : is_noted (earlier d.id (others d.id pending)) x ≡ false = false_from_ne_true (is_noted (earlier d.id (others d.id pending)) x) (λ (k : is_noted (earlier d.id (others d.id pending)) x ≡ true).
     let y = in_earlier d.id pending x k in
     let lt : y.0.id < d.id = before_number d.id y.0 y.2 in
     ⊎_elim
@@ -198,10 +198,10 @@ noted_savepoint {us} {pending} {store} {r} {d} f x h =
     let row : List Record = store.checkpoints ++ d ∷ [] in
     let done : List Record = store.checkpoints ++ store.savepoints in
     let pinned : List Record = map (with_pins us) pending in
-    let not_earlier : is_noted (earlier d.id (others d.id pending)) x ≡ false = fails (is_noted (earlier d.id (others d.id pending)) x) (λ (k : is_noted (earlier d.id (others d.id pending)) x ≡ true).
+    let not_earlier : is_noted (earlier d.id (others d.id pending)) x ≡ false = false_from_ne_true (is_noted (earlier d.id (others d.id pending)) x) (λ (k : is_noted (earlier d.id (others d.id pending)) x ≡ true).
     let y = in_earlier d.id pending x k in
     apart_between pinned done f.apart (with_pins us y.0) x (IsIn-map (with_pins us) y.0 pending y.1) (IsIn-append_right x store.checkpoints store.savepoints h) (sym y.3)) in
-    let not_past : is_past store.retained row x ≡ false = fails (is_past store.retained row x) (λ (k : is_past store.retained row x ≡ true).
+    let not_past : is_past store.retained row x ≡ false = false_from_ne_true (is_past store.retained row x) (λ (k : is_past store.retained row x ≡ true).
     let y = past_in_front store.retained store.checkpoints d x f.some k in
     apart_between store.checkpoints store.savepoints (apart_right pinned done f.apart) y.0 x y.1 h (sym y.2)) in
     noted_parts (others d.id pending) store d x ∙ ap (λ b. b || is_past store.retained row x) not_earlier ∙ not_past

@@ -5,7 +5,7 @@ use Rattle.std.specs.List.{filter}
 use Rattle.std.specs.Vec.{vec_capacity}
 use Rattle.std.specs.declared.vec.Vec.{Vec}
 use Rattle.std.specs.declared.alloc.Global.{Global}
-use Rattle.std.proofs.lemmas.Bool.{cases_Bool, eqb-true, ne_eqb, or_left, or_right, and_from, and_right, not_from_true, not_from_false}
+use Rattle.std.proofs.lemmas.Bool.{cases_Bool, eqb-true, ne_eqb, or_left, or_right, and_from, and_right, not_from_true, not_from_false, false_from_ne_true}
 use Rattle.std.proofs.lemmas.List.{map-append}
 use Rattle.ckpt_ids.specs.Ordered.{IsIn}
 use Rattle.ckpt_ids.specs.Records.{Record, released}
@@ -22,7 +22,7 @@ use Rattle.ckpt_core.proofs.Records.Grouped.{AreApart, apart_between, apart_righ
 use Rattle.ckpt_core.proofs.Records.GroupLookups.{is_checkpoint-kind, is_savepoint-kind}
 use Rattle.ckpt_core.proofs.Records.GroupMoves.{filter_none}
 use Rattle.ckpt_core.proofs.Records.Lookups.{AreGroups}
-use Rattle.ckpt_core.proofs.Ending.Drops.{left, staying, stays, numbers, apart_in, fails, noted-from_IsIn, IsIn-from_noted, drops_from, drops_same}
+use Rattle.ckpt_core.proofs.Ending.Drops.{left, staying, stays, numbers, apart_in, noted-from_IsIn, IsIn-from_noted, drops_from, drops_same}
 
 -- all but the savepoints
 
@@ -37,7 +37,7 @@ savepoint_not_noted p sound r h =
     let apart : AreApart (grouped p.registry p.pending p.store.checkpoints p.store.savepoints) = apart_in p sound in
     let of_pending : List Record = map (with_pins p.registry) p.pending in
     let of_done : List Record = p.store.checkpoints ++ p.store.savepoints in
-    fails (is_noted (numbers (others p)) r) (λ (k : is_noted (numbers (others p)) r ≡ true).
+    false_from_ne_true (is_noted (numbers (others p)) r) (λ (k : is_noted (numbers (others p)) r ≡ true).
     let q = IsIn-from_noted r (others p) k in
     ⊎_elim
     (λ (a : IsIn q.0 p.pending). apart_between of_pending of_done apart (with_pins p.registry q.0) r (IsIn-map (with_pins p.registry) q.0 p.pending a) (IsIn-append_right r p.store.checkpoints p.store.savepoints h) (sym q.2))

@@ -4,7 +4,7 @@ use Rattle.std.specs.List.{filter, list_any}
 use Rattle.std.specs.Vec.{vec_capacity}
 use Rattle.std.specs.declared.vec.Vec.{Vec}
 use Rattle.std.specs.declared.alloc.Global.{Global}
-use Rattle.std.proofs.lemmas.Bool.{cases_Bool, both_ways, eqb-true, eq-eqb, lt-ltb, ltb-true, not_from_true, not_from_false}
+use Rattle.std.proofs.lemmas.Bool.{cases_Bool, both_ways, eqb-true, eq-eqb, lt-ltb, ltb-true, not_from_true, not_from_false, false_from_ne_true}
 use Rattle.std.proofs.lemmas.List.Filters.{length-filter_both}
 use Rattle.ckpt_ids.specs.Ascending.{ascending_set}
 use Rattle.ckpt_ids.specs.Ordered.{IsIn}
@@ -200,13 +200,10 @@ IsIn-from_noted r rs h =
     let s = IsIn-from_map (λ (w : Record). w.id) q.0 rs q.1 in
     (s.0, s.1, eqb-true r.id q.0 q.2 ∙ s.2)
 
-pub fails : (b : Bool) → (b ≡ true → ⊥) → b ≡ false
-fails b h = ⊎_elim (λ (e : b ≡ true). absurd (h e)) (λ (e : b ≡ false). e) (cases_Bool b)
-
 -- no done record has the number of a pending one
 pub done_not_noted : (p : Parts) → IsSound (state_of p) → (r : Record) → IsIn r (p.store.checkpoints ++ p.store.savepoints) → is_noted (numbers p.pending) r ≡ false
 done_not_noted p sound r h =
-    fails (is_noted (numbers p.pending) r) (λ (k : is_noted (numbers p.pending) r ≡ true).
+    false_from_ne_true (is_noted (numbers p.pending) r) (λ (k : is_noted (numbers p.pending) r ≡ true).
     let q = IsIn-from_noted r p.pending k in
     apart_between (map (with_pins p.registry) p.pending) (p.store.checkpoints ++ p.store.savepoints) (apart_in p sound) (with_pins p.registry q.0) r (IsIn-map (with_pins p.registry) q.0 p.pending q.1) h (sym q.2))
 

@@ -1,9 +1,9 @@
 -- No call tells in which order files were fetched.
-use Rattle.std.proofs.Common.{◌≡◌, ℕ, suc, ◌+◌, max, Bool, true, false, not, ◌&&◌, ◌||◌, cond, ltb, eqb, List, [], ◌∷◌, ◌++◌, take, refl, sym, ap, subst, ◌∙◌, ⊎_elim}
+use Rattle.std.proofs.Common.{◌≡◌, ℕ, ◌+◌, max, Bool, true, false, not, ◌&&◌, ◌||◌, cond, ltb, eqb, List, [], ◌∷◌, ◌++◌, take, refl, sym, ap, subst, ◌∙◌, ⊎_elim}
 use Rattle.std.specs.Prelude.{count_by, find, length, Option, Some, None}
 use Rattle.std.specs.Prelude as prelude
 use Rattle.std.specs.List.{filter, list_any}
-use Rattle.std.proofs.lemmas.Bool.{cases_Bool, both_ways, cond-true, cond-false, eqb-true}
+use Rattle.std.proofs.lemmas.Bool.{cases_Bool, both_ways}
 use Rattle.ckpt_ids.specs.declared.subtask.SubtaskId.{SubtaskId}
 use Rattle.ckpt_ids.specs.declared.numbers.Kind.{Kind}
 use Rattle.ckpt_ids.specs.declared.numbers.Kind.TheVariants as kind
@@ -12,12 +12,11 @@ use Rattle.ckpt_ids.specs.declared.call.Target.TheVariants as target
 use Rattle.ckpt_ids.specs.declared.call.Call.{Call}
 use Rattle.ckpt_ids.specs.declared.call.Call.TheVariants.{Tick, Savepoint, Ack, Decline, Dispose, Restore, Cancel, Take, Deleted, Undeleted, Show, Count}
 use Rattle.ckpt_ids.specs.declared.reply.TickEnd.TheVariants as end
-use Rattle.ckpt_ids.specs.declared.reply.Reply.{Reply}
 use Rattle.ckpt_ids.specs.declared.reply.Reply.TheVariants as reply
 use Rattle.ckpt_ids.specs.declared.reply.Choice.{Choice}
 use Rattle.ckpt_ids.specs.declared.reply.Choice.TheVariants as choice
 use Rattle.ckpt_ids.specs.declared.reply.Answer.{Answer}
-use Rattle.ckpt_ids.specs.declared.reply.Answer.TheVariants.{Done, Refused}
+use Rattle.ckpt_ids.specs.declared.reply.Answer.TheVariants.{Done}
 use Rattle.ckpt_ids.specs.declared.reply.Refusal.{Refusal}
 use Rattle.ckpt_ids.specs.declared.reply.Refusal.TheVariants.{NameTaken, NotTaken}
 use Rattle.ckpt_ids.specs.Ascending.{ascending}
@@ -25,16 +24,16 @@ use Rattle.ckpt_ids.specs.Counting.{times}
 use Rattle.ckpt_ids.specs.Ordered.{IsIn}
 use Rattle.ckpt_ids.specs.Records.{Record, acknowledged, missing, uses, is_present}
 use Rattle.ckpt_ids.proofs.AscendingLemmas.{IsAscending-ascending, same_from_times, times-ascending}
-use Rattle.ckpt_ids.proofs.CountLemmas.{count_by_yes, count_by_no, times-append}
+use Rattle.ckpt_ids.proofs.CountLemmas.{times-append, times-filter}
 use Rattle.ckpt_ids.proofs.OrderedLemmas.{IsIn-append_left, IsIn-append_right, IsIn-append_cases, IsIn-in_order, IsIn-from_in_order, filter-same, list_any-from_IsIn, IsIn-from_list_any}
 use Rattle.ckpt_rules.specs.declared.hold.Hold.{Hold}
 use Rattle.ckpt_rules.specs.declared.hold.Hold.TheVariants.{Interval, AtOnce, Pause, Go}
 use Rattle.ckpt_rules.specs.Trigger.{gap, hold}
 use Rattle.ckpt_core.specs.State.{State, is_checkpoint, is_pending, is_known, in_outbox, is_expired, drop, released_by, choice_of, chosen, files_of, pins_now}
 use Rattle.ckpt_core.specs.Refusals.{refusal, moment_of, pending_of, first_some, named, where_pending, refuse_if, moment_too_large, not_running, too_many_files, repeated_file, unknown_checkpoint, unknown_subtask, already_acknowledged, name_taken, file_gone, no_such_savepoint, in_use, too_many_savepoints, not_taken, no_such_record, ids_used_up}
-use Rattle.ckpt_core.specs.Steps.{Stepped, with_records, dropped_by, triggered, failed_over, pending_checkpoints, start_or_hold, after_expiry, tick, replaced, superseded, cleared, completed_with, acknowledged_in, ack, dropping, decline_pending, decline, dispose, restarted, with_base, restore, cancel, take_files, without, effect, at_moment, unless_refused, step}
-use Rattle.ckpt_core.specs.Histories.{replay, answers}
-use Rattle.ckpt_core.specs.Images.{settled, AreAlike, GoesOnAs}
+use Rattle.ckpt_core.specs.Steps.{Stepped, with_records, dropped_by, triggered, failed_over, pending_checkpoints, start_or_hold, after_expiry, tick, replaced, superseded, cleared, completed_with, acknowledged_in, ack, dropping, decline_pending, decline, dispose, restarted, restore, cancel, take_files, without, effect, at_moment, unless_refused, step}
+use Rattle.ckpt_core.specs.Histories.{answers}
+use Rattle.ckpt_core.specs.Images.{AreAlike, GoesOnAs}
 
 -- the same files, in whatever order
 abbrev Same : List ℕ → List ℕ → Type 0
@@ -52,32 +51,6 @@ in_same t u e z h = let P : List ℕ → Type 0 = λ xs. IsIn z xs in IsIn-from_
 -- files fetched behind them
 same-append : (t u xs : List ℕ) → Same t u → Same (t ++ xs) (u ++ xs)
 same-append t u xs e = from_times (t ++ xs) (u ++ xs) (λ z. times-append z t xs ∙ ap (λ n. n + times z xs) (same_times t u e z) ∙ sym (times-append z u xs))
-
-cond_same : (b : Bool) (n : ℕ) → cond b n n ≡ n
-cond_same true n = refl
-cond_same false n = refl
-
--- a filter that is told by the number keeps all of a number or none
-times-filter : (p : ℕ → Bool) (z : ℕ) (xs : List ℕ) → times z (filter p xs) ≡ cond (p z) (times z xs) 0
-times-filter p z [] = sym (cond_same (p z) 0)
-times-filter p z (x ∷ xs) =
-    let its : ℕ → Bool = λ y. eqb y z in
-    let rest : times z (filter p xs) ≡ cond (p z) (times z xs) 0 = times-filter p z xs in
-    let P : Bool → Type 0 = λ b. times z (cond b (x ∷ filter p xs) (filter p xs)) ≡ cond (p z) (times z (x ∷ xs)) 0 in
-    let other : eqb x z ≡ false → cond (p z) (times z (x ∷ xs)) 0 ≡ cond (p z) (times z xs) 0 = λ (k : eqb x z ≡ false). ap (λ n. cond (p z) n 0) (count_by_no its x xs k) in
-    let yes : p x ≡ true → P (p x) = λ (e : p x ≡ true).
-    let here : eqb x z ≡ true → P true = λ (k : eqb x z ≡ true).
-    let pz : p z ≡ true = ap p (sym (eqb-true x z k)) ∙ e in
-    count_by_yes its x (filter p xs) k ∙ ap suc (rest ∙ cond-true (p z) (times z xs) 0 pz) ∙ sym (cond-true (p z) (times z (x ∷ xs)) 0 pz ∙ count_by_yes its x xs k) in
-    let there : eqb x z ≡ false → P true = λ (k : eqb x z ≡ false). count_by_no its x (filter p xs) k ∙ rest ∙ sym (other k) in
-    subst P (sym e) (⊎_elim here there (cases_Bool (eqb x z))) in
-    let no : p x ≡ false → P (p x) = λ (e : p x ≡ false).
-    let here : eqb x z ≡ true → P false = λ (k : eqb x z ≡ true).
-    let pz : p z ≡ false = ap p (sym (eqb-true x z k)) ∙ e in
-    rest ∙ cond-false (p z) (times z xs) 0 pz ∙ sym (cond-false (p z) (times z (x ∷ xs)) 0 pz) in
-    let there : eqb x z ≡ false → P false = λ (k : eqb x z ≡ false). rest ∙ sym (other k) in
-    subst P (sym e) (⊎_elim here there (cases_Bool (eqb x z))) in
-    ⊎_elim yes no (cases_Bool (p x))
 
 -- files without one
 same-without : (f : ℕ) (t u : List ℕ) → Same t u → Same (without f t) (without f u)

@@ -1,5 +1,5 @@
 -- What a list of sound records bounds: how many they are, and how often they use a file.
-use Rattle.std.proofs.Common.{◌≡◌, ℕ, ◌+◌, ◌*◌, ◌<◌, ◌≤◌, List, length, arith}
+use Rattle.std.proofs.Common.{ℕ, ◌*◌, ◌<◌, ◌≤◌, List, length, arith}
 use Rattle.ckpt_ids.specs.Configuration.{IsWithinLimits}
 use Rattle.ckpt_ids.specs.Records.{Record, uses, count}
 use Rattle.ckpt_rules.specs.Trigger.{limit}

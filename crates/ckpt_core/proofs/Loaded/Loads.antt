@@ -1,13 +1,13 @@
 -- A record that is loaded: what is tested of it, and the state that has it.
-use Rattle.std.proofs.Common.{◌≡◌, ℕ, ◌+◌, ◌<◌, ◌≤◌, Bool, true, false, not, ◌&&◌, leb, List, [], ◌∷◌, ◌++◌, length, refl, sym, ap, subst, ◌∙◌, arith, Option, Some, None}
+use Rattle.std.proofs.Common.{◌≡◌, ℕ, ◌<◌, Bool, true, false, not, ◌&&◌, leb, List, length, refl, sym, ap, subst, ◌∙◌, arith, Option, Some, None}
 use Rattle.std.specs.Prelude.{count_by, find}
 use Rattle.std.specs.Option.{is_some, option_map}
-use Rattle.std.proofs.lemmas.Bool.{both_ways, and_left, and_right, leb-false, le-leb}
+use Rattle.std.proofs.lemmas.Bool.{both_ways, and_left, and_right, leb-false}
 use Rattle.ckpt_ids.specs.Ordered.{IsIn}
 use Rattle.ckpt_ids.specs.Records.{Record, Use, missing}
 use Rattle.ckpt_ids.proofs.CountLemmas.{count_by-none}
 use Rattle.ckpt_pending.proofs.FullLemmas.{missing_from_full}
-use Rattle.ckpt_pending.specs.Acknowledging.{IsDone, IsPending, pending_record}
+use Rattle.ckpt_pending.specs.Acknowledging.{IsPending, pending_record}
 use Rattle.ckpt_rules.specs.Trigger.{limit}
 use Rattle.ckpt_core.specs.declared.image.Saved.{Saved}
 use Rattle.ckpt_core.specs.declared.parts.Parts.{Parts}
@@ -20,7 +20,7 @@ use Rattle.ckpt_core.specs.Inside.Parts.{records_in, state_of}
 use Rattle.ckpt_core.specs.Inside.SoundRecords.{HasRoom, NamesEachOnce, is_pending_checkpoint}
 use Rattle.ckpt_core.specs.Reads.{live_of}
 use Rattle.ckpt_core.specs.Soundness.{IsRecord}
-use Rattle.ckpt_core.specs.State.{Opening, State, is_checkpoint, is_done_checkpoint, is_pending}
+use Rattle.ckpt_core.specs.State.{Opening, is_checkpoint, is_done_checkpoint, is_pending}
 use Rattle.ckpt_core.proofs.Reading.Live.{is_from}
 use Rattle.ckpt_core.proofs.Records.Counts.{IsIn-from_find, fails-from_find}
 use Rattle.ckpt_core.proofs.Records.GroupLookups.{is_checkpoint-kind, is_savepoint-kind}
@@ -63,22 +63,6 @@ done_checkpoints-groups us pending checkpoints savepoints groups =
 
 made_pending : (s : Saved) (made : Record) → IsMade made s → IsPending made → IsPending (pending_record s.metadata.id s.metadata.kind s.metadata.shape s.metadata.started s.metadata.acks)
 made_pending s made e pending = subst IsPending e pending
-
-pub done_is_record : (s : Saved) (made done : Record) → IsMade made s → done ≡ record made { done = true } → IsPending made → IsDone done → NamesEachOnce (record_in s) → s.metadata.done ≡ true → s.pins ≡ [] → IsRecord (record_in s)
-done_is_record s made done e its pending full once is_done no_pins =
-    let m = s.metadata in
-    let p = made_pending s made e pending in
-    let d : IsDone (record (pending_record m.id m.kind m.shape m.started m.acks) { done = true }) = subst IsDone (its ∙ ap (λ (r : Record). record r { done = true }) e) full in
-    record {
-      shape = p.has_shape;
-      acks_in_order = p.in_order;
-      acks_of_subtasks = p.expected;
-      files = once.files;
-      pins = once.pins;
-      pending = λ not_done. absurd (both_ways m.done not_done is_done);
-      full = λ yes. d.full;
-      unpinned = λ yes. no_pins;
-    }
 
 pub pending_is_record : (s : Saved) (made : Record) → IsMade made s → IsPending made → 0 < missing made → NamesEachOnce (record_in s) → s.metadata.done ≡ false → IsRecord (record_in s)
 pending_is_record s made e pending lacks once not_done =
@@ -145,9 +129,6 @@ room_pending o rs r its not_done fewer = record {
   savepoints = λ yes. absurd (both_ways (not (is_checkpoint r)) (ap not its) yes);
   newer = λ yes. absurd (both_ways (is_done_checkpoint r) (and_left r.done (is_checkpoint r) not_done) yes);
 }
-
-pub both_true : (a b : Bool) → a ≡ true → b ≡ true → (a && b) ≡ true
-both_true a b e f = ap (λ x. x && b) e ∙ f
 
 pub some_live : (o : Option Live) → is_some o ≡ true → (l : Live) × (o ≡ Some l)
 some_live None e = absurd (cc)

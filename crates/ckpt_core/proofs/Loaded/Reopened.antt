@@ -1,5 +1,5 @@
 -- A coordinator that is made of an image, step by step: what the state tells of the parts, and when it can be held.
-use Rattle.std.proofs.Common.{◌≡◌, ◌≢◌, ℕ, ◌+◌, ◌-◌, ◌<◌, ◌≤◌, Bool, true, false, ◌||◌, List, [], ◌∷◌, ◌++◌, length, map, take, drop, get_or, refl, sym, ap, subst, ◌∙◌, inl, inr, ⊎_elim, Option, Some, arith}
+use Rattle.std.proofs.Common.{◌≡◌, ◌≢◌, ℕ, ◌+◌, ◌-◌, ◌<◌, Bool, true, ◌||◌, List, [], ◌∷◌, ◌++◌, length, map, take, drop, get_or, refl, sym, ap, subst, ◌∙◌, inl, ⊎_elim, Option, Some, arith}
 use Rattle.std.proofs.lemmas.Bool.{both_ways}
 use Rattle.std.proofs.lemmas.List.{append_assoc, length-append, take-append-drop, take_more}
 use Rattle.ckpt_ids.specs.Configuration.{IsWithinLimits}
@@ -10,7 +10,6 @@ use Rattle.ckpt_ids.proofs.OrderedLemmas.{AreDistinct-apart, AreDistinct-left, A
 use Rattle.ckpt_outbox.specs.Queues.{Queues, is_in}
 use Rattle.ckpt_pending.specs.Acknowledging.{IsPending}
 use Rattle.ckpt_store.specs.Storing.{IsStored, Stored}
-use Rattle.ckpt_core.specs.declared.mode.Mode.{Mode}
 use Rattle.ckpt_core.specs.declared.mode.Mode.TheVariants.{Running}
 use Rattle.ckpt_core.specs.declared.parts.Parts.{Parts}
 use Rattle.ckpt_core.specs.declared.image.Saved.{Saved}
@@ -130,9 +129,6 @@ can_hold_from m n config shape records base idle files = record {
       records (record { unused = files.unused; apart = files.apart });
   clock = n.moments;
 }
-
-pub numbers_held : {m : State} → CanHold m → HasSoundNumbers m
-numbers_held h = record { moments = h.clock; first = h.sound.first; next_from = h.sound.next_from; next_to = h.sound.next_to; failures = h.sound.failures }
 
 pub files_held : {m : State} → CanHold m → AreFilesApart (uses m.records) (m.waiting ++ m.taken)
 files_held h = let o = outbox_of h.sound in record { unused = o.unused; apart = o.apart }

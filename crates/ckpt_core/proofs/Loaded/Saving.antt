@@ -1,5 +1,5 @@
 -- What is saved of a live record is that record.
-use Rattle.std.proofs.Common.{rules, ◌≡◌, ℕ, zero, suc, ◌+◌, ◌≤◌, Bool, true, false, eqb, List, [], ◌∷◌, ◌++◌, map, take, add-one, arith, refl, sym, ap, subst, ◌∙◌, ⊎_elim, Option, Some, None}
+use Rattle.std.proofs.Common.{rules, ◌≡◌, ℕ, zero, suc, ◌+◌, ◌≤◌, true, false, eqb, List, [], ◌∷◌, ◌++◌, map, take, add-one, arith, sym, ap, ◌∙◌, ⊎_elim, Option, Some, None}
 use Rattle.std.specs.Prelude.{count_by, find, slice_get, IsSome}
 use Rattle.std.specs.Option.{option_map}
 use Rattle.std.proofs.lemmas.Bool.{both_ways, eq-eqb, leb-true}
@@ -11,10 +11,8 @@ use Rattle.ckpt_ids.proofs.OrderedLemmas.{IsIn-append_cases, IsIn-from_in_order,
 use Rattle.ckpt_pending.specs.Acknowledging.{IsPending}
 use Rattle.ckpt_registry.specs.Uses.{pins_by}
 use Rattle.ckpt_store.specs.Storing.{IsStored}
-use Rattle.ckpt_core.specs.declared.image.Saved.{Saved}
 use Rattle.ckpt_core.specs.declared.parts.Parts.{Parts}
 use Rattle.ckpt_core.specs.declared.queries.Live.{Live}
-use Rattle.ckpt_core.specs.Images.{record_in}
 use Rattle.ckpt_core.specs.Inside.Grouped.{grouped, with_pins}
 use Rattle.ckpt_core.specs.Inside.Parts.{AreSound, records_in, state_of}
 use Rattle.ckpt_core.specs.Reads.{live_of}

@@ -1,7 +1,6 @@
 -- A state that a coordinator can be in is one too with the fetched files in ascending order.
-use Rattle.std.proofs.Common.{◌≡◌, ℕ, ◌≤◌, Bool, true, false, cond, ltb, List, ◌++◌, refl, sym, ap, subst, ◌∙◌, ⊎_elim, arith}
+use Rattle.std.proofs.Common.{ℕ, ◌≤◌, Bool, true, false, cond, ltb, List, ap, ⊎_elim, arith}
 use Rattle.ckpt_ids.specs.Ascending.{ascending}
-use Rattle.ckpt_ids.specs.Counting.{times}
 use Rattle.ckpt_ids.specs.Ordered.{IsIn, AreDistinct}
 use Rattle.ckpt_ids.proofs.AscendingLemmas.{IsAscending-ascending, ascending_already, times-ascending}
 use Rattle.ckpt_ids.proofs.OrderedLemmas.{AreDistinct-append, AreDistinct-apart, AreDistinct-left, AreDistinct-right, IsIn-append_left, IsIn-append_right, IsIn-append_cases, IsIn-from_in_order}

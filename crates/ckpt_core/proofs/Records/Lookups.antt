@@ -84,10 +84,6 @@ pub find-append_left : {X : Type 0} (p : X → Bool) (xs ys : List X) → ((y : 
 find-append_left p [] ys fails = find-none p ys fails
 find-append_left p (x ∷ xs) ys fails = ap (λ o. cond (p x) (Some x) o) (find-append_left p xs ys fails)
 
-pub find-append_right : {X : Type 0} (p : X → Bool) (xs ys : List X) → ((x : X) → IsIn x xs → p x ≡ false) → find p (xs ++ ys) ≡ find p ys
-find-append_right p [] ys fails = refl
-find-append_right p (x ∷ xs) ys fails = ap (λ b. cond b (Some x) (find p (xs ++ ys))) (fails x (inl refl)) ∙ find-append_right p xs ys (λ z h. fails z (inr h))
-
 pub find-map : {X Y : Type 0} (p : Y → Bool) (f : X → Y) (xs : List X) → find p (map f xs) ≡ option_map f (find (λ x. p (f x)) xs)
 find-map p f [] = refl
 find-map {X} {Y} p f (x ∷ xs) =

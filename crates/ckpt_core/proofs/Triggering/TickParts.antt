@@ -4,7 +4,7 @@ use Rattle.std.specs.Prelude.{count_by}
 use Rattle.std.specs.List.{filter}
 use Rattle.std.specs.declared.vec.Vec.{Vec}
 use Rattle.std.specs.declared.alloc.Global.{Global}
-use Rattle.std.proofs.lemmas.Bool.{cases_Bool, both_ways, and_parts}
+use Rattle.std.proofs.lemmas.Bool.{cases_Bool, both_ways, and_parts, false_from_ne_true}
 use Rattle.std.proofs.lemmas.List.Sums.{length-filter}
 use Rattle.std.proofs.lemmas.List.Filters.{length-filter_both}
 use Rattle.ckpt_ids.specs.declared.numbers.Kind.TheVariants as kind
@@ -40,7 +40,7 @@ use Rattle.ckpt_core.specs.declared.mode.Mode.TheVariants.{Running}
 use Rattle.ckpt_core.proofs.Records.Grouped.{AreApart, apart_left, apart_between}
 use Rattle.ckpt_core.proofs.Records.Lookups.{AreGroups, count_by-records_of, count_same, one_of_number, done_in}
 use Rattle.ckpt_core.proofs.Records.GroupLookups.{pending_checkpoints-groups}
-use Rattle.ckpt_core.proofs.Ending.Drops.{apart_in, fails, numbers, noted-from_IsIn, IsIn-from_noted}
+use Rattle.ckpt_core.proofs.Ending.Drops.{apart_in, numbers, noted-from_IsIn, IsIn-from_noted}
 use Rattle.ckpt_core.proofs.Soundness.Triggers.{new_record}
 use Rattle.ckpt_core.proofs.Triggering.TickStates.{is_late, started, starts_as, starts_done, starts_unused, stepped, tick_fails, tick_goes, tick_starts, ticked}
 use Rattle.ckpt_ids.proofs.CountLemmas.{count_by-none}
@@ -168,14 +168,14 @@ noted_are p q t sound groups same none agree r h =
     let as_s : t r ≡ q s.0 = ap t s.2 ∙ same s.0 ∙ agree s.0 (groups.not_done s.0 s.1) in
     ⊎_elim
     (λ (e : q s.0 ≡ true). as_s ∙ e ∙ sym (noted-from_IsIn r s.0 (filter q p.pending) (IsIn-filter q s.0 p.pending s.1 e) (ap (λ w. w.id) s.2)))
-    (λ (e : q s.0 ≡ false). as_s ∙ e ∙ sym (fails (is_noted noted r) (λ n.
+    (λ (e : q s.0 ≡ false). as_s ∙ e ∙ sym (false_from_ne_true (is_noted noted r) (λ n.
     let w = IsIn-from_noted r (filter q p.pending) n in
     let v = IsIn-from_filter q w.0 p.pending w.1 in
     let twins : t s.0 ≡ t w.0 = one_pending p sound t same s.0 w.0 s.1 v.0 (sym (ap (λ x. x.id) s.2) ∙ w.2) in
     both_ways (q s.0) e (sym (agree s.0 (groups.not_done s.0 s.1)) ∙ twins ∙ agree w.0 (groups.not_done w.0 v.0) ∙ v.1))))
     (cases_Bool (q s.0)) in
     let done : IsIn r of_done → Goal = λ k.
-    none r (done_in groups r k) ∙ sym (fails (is_noted noted r) (λ n.
+    none r (done_in groups r k) ∙ sym (false_from_ne_true (is_noted noted r) (λ n.
     let w = IsIn-from_noted r (filter q p.pending) n in
     let v = IsIn-from_filter q w.0 p.pending w.1 in
     apart_between of_pending of_done (apart_in p sound) (with_pins p.registry w.0) r (IsIn-map (with_pins p.registry) w.0 p.pending v.0) k (sym w.2))) in
@@ -191,7 +191,7 @@ noted_are_expired p timeout moment sound groups t m =
 -- the next record's number is not among the noted ones
 pub next_not_noted : (p : Parts) (q : Record → Bool) → IsSound (state_of p) → is_noted (numbers (filter q p.pending)) (new_record (state_of p) kind.Checkpoint) ≡ false
 unfolding state_of
-next_not_noted p q sound = fails (is_noted (numbers (filter q p.pending)) (new_record (state_of p) kind.Checkpoint)) (λ n.
+next_not_noted p q sound = false_from_ne_true (is_noted (numbers (filter q p.pending)) (new_record (state_of p) kind.Checkpoint)) (λ n.
     let w = IsIn-from_noted (new_record (state_of p) kind.Checkpoint) (filter q p.pending) n in
     let v = IsIn-from_filter q w.0 p.pending w.1 in
     let here : IsIn (with_pins p.registry w.0) (grouped p.registry p.pending p.store.checkpoints p.store.savepoints) = IsIn-append_left (with_pins p.registry w.0) (map (with_pins p.registry) p.pending) (p.store.checkpoints ++ p.store.savepoints) (IsIn-map (with_pins p.registry) w.0 p.pending v.0) in
@@ -205,7 +205,7 @@ pub unknown_after : (p q : Parts) (pending : ℕ) (end : TickEnd) → IsSound (s
 unfolding state_of
 unknown_after p q pending end sound tied starts f h =
     let used : is_present (uses (records_in q)) f ≡ true = ap (λ us. is_present us f) (sym tied.uses_are) ∙ h in
-    fails (is_known q.outbox f) (λ e. both_ways (is_present (uses (records_in q)) f) (starts_unused (state_of p) pending (state_of q) end sound starts f e) used)
+    false_from_ne_true (is_known q.outbox f) (λ e. both_ways (is_present (uses (records_in q)) f) (starts_unused (state_of p) pending (state_of q) end sound starts f e) used)
 
 pub done_not_dropped : (p q : Parts) (ids : List ℕ) (pending : ℕ) (end : TickEnd) → ((r : Record) → IsIn r (records_in p) → is_expired (state_of p) p.clock.latest r ≡ is_noted ids r) → AreGroups q.pending q.store.checkpoints q.store.savepoints → Starts (state_of p) pending (state_of q) end →
     (r : Record) → IsIn r (q.store.checkpoints ++ q.store.savepoints) → is_noted ids r ≡ false

@@ -2,7 +2,7 @@
 use Rattle.std.proofs.Common.{◌≡◌, ℕ, ◌+◌, ◌<◌, ◌≤◌, Bool, true, false, not, ◌&&◌, cond, ltb, leb, List, [], ◌∷◌, ◌++◌, map, refl, sym, ap, subst, ◌∙◌, ◌⊎◌, inl, inr, ⊎_elim, arith, None}
 use Rattle.std.specs.Prelude.{count_by}
 use Rattle.std.specs.List.{filter}
-use Rattle.std.proofs.lemmas.Bool.{cases_Bool, both_ways, and_parts, and_right, not_from_false, ltb-true, lt-ltb}
+use Rattle.std.proofs.lemmas.Bool.{cases_Bool, both_ways, and_parts, and_right, not_from_false, ltb-true, lt-ltb, false_from_ne_true, and_from}
 use Rattle.std.proofs.lemmas.List.{map-append}
 use Rattle.std.proofs.lemmas.List.Elements.{filter-append}
 use Rattle.ckpt_ids.specs.declared.numbers.Kind.TheVariants as kind
@@ -30,7 +30,7 @@ use Rattle.ckpt_core.proofs.Ending.Released.{ascending-released, before-from_rel
 use Rattle.ckpt_core.proofs.Records.Lists.{IsSoundOutbox}
 use Rattle.ckpt_core.proofs.Soundness.Triggers.{new_record, outbox_triggered, held-from_pins}
 use Rattle.ckpt_core.proofs.Records.Lookups.{count_same}
-use Rattle.ckpt_core.proofs.Ending.Drops.{drop_same, fails}
+use Rattle.ckpt_core.proofs.Ending.Drops.{drop_same}
 use Rattle.ckpt_core.proofs.Triggering.Pins.{pins_stay, pins_same}
 
 -- the records after a trigger and a drop
@@ -73,7 +73,7 @@ released_with_pins m b x s spared is =
     let to : (f : ℕ) → IsIn f (released before' after') → IsIn f (released before after) = λ f h.
     let u = before-from_released f before' after' h in
     let gone : is_present after' f ≡ false = after-from_released f before' after' h in
-    let gone_too : is_present after f ≡ false = fails (is_present after f) (λ k.
+    let gone_too : is_present after f ≡ false = false_from_ne_true (is_present after f) (λ k.
     let r = IsHeld-from_present f (kept b None m.records) k in
     both_ways (is_present after' f) gone (present-from_IsHeld f (kept b None m.records ++ x ∷ []) (r.0, IsIn-append_left r.0 (kept b None m.records) (x ∷ []) r.1, r.2))) in
     let r = IsIn-from_flat_map uses_of u.0 (m.records ++ x ∷ []) u.1 in
@@ -87,7 +87,7 @@ released_with_pins m b x s spared is =
     let back : (f : ℕ) → IsIn f (released before after) → IsIn f (released before' after') = λ f h.
     let u = before-from_released f before after h in
     let gone : is_present after f ≡ false = after-from_released f before after h in
-    let gone_too : is_present after' f ≡ false = fails (is_present after' f) (λ k.
+    let gone_too : is_present after' f ≡ false = false_from_ne_true (is_present after' f) (λ k.
     let r = IsHeld-from_present f (kept b None m.records ++ x ∷ []) k in
     both_ways (is_present after f) gone (present-from_IsHeld f (kept b None m.records) (⊎_elim
     (λ (j : IsIn r.0 (kept b None m.records)). (r.0, j, r.2))
@@ -246,11 +246,8 @@ pending_left m failures =
     ap (count_by pending_checkpoint) (map_itself (unpinned None) (filter (keeps expired) m.records) (λ r h. refl))
     ∙ count_by-filter_agree pending_checkpoint (keeps expired) (λ r. not (is_late m r)) m.records (λ r e. ap not (late_is m r e)) in
     ap (λ n. n + count_by (is_late m) m.records) same
-    ∙ split pending_checkpoint (is_late m) m.records (λ r e. let p = and_parts (is_expired m m.latest r) (is_checkpoint r) e in and_both (is_pending r) (is_checkpoint r) (and_parts (is_pending r) (leb (r.started + m.opening.config.timeout) m.latest) p.0).0 p.1)
+    ∙ split pending_checkpoint (is_late m) m.records (λ r e. let p = and_parts (is_expired m m.latest r) (is_checkpoint r) e in and_from (is_pending r) (is_checkpoint r) (and_parts (is_pending r) (leb (r.started + m.opening.config.timeout) m.latest) p.0).0 p.1)
   where
-    and_both : (a b : Bool) → a ≡ true → b ≡ true → (a && b) ≡ true
-    and_both a b e f = ap (λ x. x && b) e ∙ f
-
     and_true : (a b : Bool) → b ≡ true → a ≡ (a && b)
     and_true true b e = sym e
     and_true false b e = refl
@@ -279,12 +276,9 @@ pub tick_fails : (m : State) (late failures expired : ℕ) → late ≡ count_by
 unfolding failed_over drop
 tick_fails m late failures expired l f e some many =
     let all : failures ≡ m.failures + count_by (is_late m) m.records = f ∙ ap (λ n. m.failures + n) l in
-    tick_if m true (and_true_both (ltb 0 (count_by (is_late m) m.records)) (ltb m.opening.config.tolerable (m.failures + count_by (is_late m) m.records)) (ap (ltb 0) (sym l) ∙ lt-ltb 0 late some) (ap (ltb m.opening.config.tolerable) (sym all) ∙ lt-ltb m.opening.config.tolerable failures many))
+    tick_if m true (and_from (ltb 0 (count_by (is_late m) m.records)) (ltb m.opening.config.tolerable (m.failures + count_by (is_late m) m.records)) (ap (ltb 0) (sym l) ∙ lt-ltb 0 late some) (ap (ltb m.opening.config.tolerable) (sym all) ∙ lt-ltb m.opening.config.tolerable failures many))
     ∙ ap (λ n. stepped (record (failed_over m) { failures = n }) (ticked (dropped_by m (is_expired m m.latest)) ends.Failed)) (sym all)
     ∙ ap (λ n. stepped (record (failed_over m) { failures = failures }) (ticked n ends.Failed)) (sym e)
-  where
-    and_true_both : (a b : Bool) → a ≡ true → b ≡ true → (a && b) ≡ true
-    and_true_both a b e f = ap (λ x. x && b) e ∙ f
 
 -- few have failed
 pub tick_goes : (m : State) (late failures expired pending : ℕ) → late ≡ count_by (is_late m) m.records → failures ≡ m.failures + late → expired ≡ dropped_by m (is_expired m m.latest) → pending + late ≡ pending_checkpoints m →
@@ -302,7 +296,7 @@ tick_goes m late failures expired pending l f e p few =
   where
     not_both : (late failures tolerable : ℕ) → (late ≡ 0) ⊎ (failures ≤ tolerable) → (ltb 0 late && ltb tolerable failures) ≡ false
     not_both late failures tolerable (inl e) = ap (λ n. ltb 0 n && ltb tolerable failures) e
-    not_both late failures tolerable (inr h) = fails (ltb 0 late && ltb tolerable failures) (λ k. let lt = ltb-true tolerable failures (and_parts (ltb 0 late) (ltb tolerable failures) k).1 in omega arith)
+    not_both late failures tolerable (inr h) = false_from_ne_true (ltb 0 late && ltb tolerable failures) (λ k. let lt = ltb-true tolerable failures (and_parts (ltb 0 late) (ltb tolerable failures) k).1 in omega arith)
 
 -- with what the start left
 pub tick_starts : (m after : State) (late failures expired pending : ℕ) (b : Record → Bool) (end : TickEnd) → IsSound m → late ≡ count_by (is_late m) m.records → failures ≡ m.failures + late → expired ≡ dropped_by m (is_expired m m.latest) →

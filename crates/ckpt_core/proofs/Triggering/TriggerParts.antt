@@ -187,15 +187,6 @@ pub state-ended : (p : Parts) (ended : Vec CheckpointId) → state_of (record p 
 unfolding state_of
 state-ended p ended = refl
 
-pub tied-ended : (p : Parts) (ended : Vec CheckpointId) → vec_capacity p.ended ≤ vec_capacity ended → AreTied p → AreTied (record p { ended = ended })
-tied-ended p ended more tied = record {
-  uses_are = tied.uses_are;
-  retained = tied.retained;
-  tolerable = tied.tolerable;
-  spare = tied.spare;
-  room = let r : length (records_in p) ≤ vec_capacity p.ended = tied.room in omega arith;
-}
-
 -- a record was added and taken out again
 pub undone_state : (p : Parts) (x : Record) (added pending : List Record) (us : List Use) → IsSound (state_of p) → x.id ≡ p.next → added ≡ p.pending ++ x ∷ [] → pending ≡ filter (λ r. not (eqb r.id p.next)) added → us ≡ p.registry → record p { pending = pending; registry = us } ≡ p
 undone_state p x added pending us sound new after removed same =
@@ -204,9 +195,6 @@ undone_state p x added pending us sound new after removed same =
 
 pub ended_state : (p q : Parts) → q ≡ record p { ended = q.ended } → state_of q ≡ state_of p
 ended_state p q e = ap state_of e ∙ state-ended p q.ended
-
-pub ended_tied : (p q : Parts) → q ≡ record p { ended = q.ended } → vec_capacity p.ended ≤ vec_capacity q.ended → AreTied p → AreTied q
-ended_tied p q e more tied = let P : Parts → Type 0 = λ w. AreTied w in subst P (sym e) (tied-ended p q.ended more tied)
 
 -- the record that a trigger makes
 pub made_record : (p : Parts) (kind : Kind) (shape : List ℕ) (started : ℕ) (x : Record) → x ≡ record { id = p.next; kind = kind; done = false; shape = shape; started = started; acks = []; pins = [] } → shape ≡ unwrap_or p.reshaped p.opened.shape → started ≡ max 0 p.clock.latest → x ≡ new_record p kind

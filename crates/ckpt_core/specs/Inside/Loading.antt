@@ -1,16 +1,20 @@
 -- What is made again of an image, record by record.
-use Rattle.std.specs.Prelude.{◌≡◌, ℕ, ◌≤◌, ◌-◌, false, List, [], ◌++◌, length, None}
+use Rattle.std.specs.Prelude.{◌≡◌, ℕ, ◌≤◌, ◌-◌, true, false, List, [], ◌++◌, length, Option, Some, None}
 use Rattle.std.specs.List.{flat_map}
 use Rattle.ckpt_ids.specs.declared.ack.Acked.{Acked}
 use Rattle.ckpt_ids.specs.declared.limits.TheConstants.{NUMBERS_END}
 use Rattle.ckpt_ids.specs.Ordered.{AreDistinct, IsIn}
 use Rattle.ckpt_ids.specs.Records.{Record, Use, Subtask, Pin, is_present}
+use Rattle.ckpt_ids.specs.Shapes.{is_subtask}
 use Rattle.ckpt_pending.specs.Acknowledging.{pending_record}
 use Rattle.ckpt_registry.specs.Uses.{triples}
 use Rattle.ckpt_rules.specs.Moments.{IsInRange}
 use Rattle.ckpt_core.specs.declared.image.Saved.{Saved}
 use Rattle.ckpt_core.specs.declared.mode.Mode.TheVariants.{Running}
 use Rattle.ckpt_core.specs.declared.parts.Parts.{Parts}
+use Rattle.ckpt_core.specs.Inside.Parts.{opening_of, records_in}
+use Rattle.ckpt_core.specs.Inside.SoundRecords.{AreSoundRecords, Joins}
+use Rattle.ckpt_core.specs.Refusals.{is_done_savepoint}
 use Rattle.ckpt_core.specs.State.{State}
 
 -- the uses by these acknowledgements of a record
@@ -41,6 +45,14 @@ pub record HasSoundNumbers (m : State) : Type 0 where
 abbrev pub emptied : State → State
 emptied m = record m { base = None; records = []; waiting = []; taken = [] }
 
+-- the base, if there is one, is a done savepoint
+abbrev pub HasBase : State → Option ℕ → Type 0
+HasBase m base = (id : ℕ) → base ≡ Some id → is_done_savepoint m id ≡ true
+
+-- each acknowledgement is of a subtask of this shape
+abbrev pub AreOfShape : List ℕ → List Acked → Type 0
+AreOfShape shape acks = (a : Acked) → IsIn a acks → is_subtask shape a.subtask ≡ true
+
 -- none of these files is in use, and none stands twice
 pub record AreFilesApart (us : List Use) (files : List ℕ) : Type 0 where
   pub unused : (f : ℕ) → IsIn f files → is_present us f ≡ false
@@ -49,3 +61,15 @@ pub record AreFilesApart (us : List Use) (files : List ℕ) : Type 0 where
 -- these files wait too, in places that were reserved
 abbrev pub with_more_waiting : Parts → List ℕ → Parts
 with_more_waiting p files = record p { outbox = record p.outbox { waiting = p.outbox.waiting ++ files; spare = p.outbox.spare - length files } }
+
+-- with these, none of the files that wait or were fetched is in use, and none stands twice
+abbrev pub MayWait : Parts → List ℕ → Type 0
+MayWait p files = AreFilesApart p.registry ((p.outbox.waiting ++ files) ++ p.outbox.taken)
+
+-- the records of the parts are sound as a list
+abbrev pub HaveSoundRecords : Parts → Type 0
+HaveSoundRecords p = AreSoundRecords (opening_of p.opened) p.next (records_in p)
+
+-- a record may stand behind those of the parts
+abbrev pub JoinsParts : Parts → Record → Type 0
+JoinsParts p r = Joins (opening_of p.opened) p.next (records_in p) r

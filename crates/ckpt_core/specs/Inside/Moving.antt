@@ -41,6 +41,15 @@ without_checkpoints p after = record p { store = record p.store { checkpoints = 
 abbrev pub with_checkpoint : Parts → Record → Parts → Parts
 with_checkpoint p done after = record p { store = completing p.store done after.store.spare; ended = after.ended }
 
+-- a pending record was loaded, and nothing else has changed
+abbrev pub with_pending : Parts → Parts → Parts
+with_pending p after = record p {
+  pending = after.pending;
+  registry = after.registry;
+  outbox = record p.outbox { spare = after.outbox.spare };
+  ended = after.ended;
+}
+
 -- a done record was loaded, and nothing else has changed
 abbrev pub with_done : Parts → Parts → Parts
 with_done p after = record p {

@@ -1,5 +1,5 @@
 -- What holds of a coordinator's records as a list, and what is tested of one more.
-use Rattle.std.specs.Prelude.{◌≡◌, ℕ, ◌<◌, ◌≤◌, ◌^◌, Bool, true, not, ◌&&◌, List, count_by}
+use Rattle.std.specs.Prelude.{◌≡◌, ℕ, ◌<◌, ◌≤◌, ◌^◌, Bool, true, not, ◌&&◌, List, [], ◌∷◌, ◌++◌, count_by}
 use Rattle.ckpt_ids.specs.declared.ack.Acked.{Acked}
 use Rattle.ckpt_ids.specs.Ascending.{IsAscendingSet}
 use Rattle.ckpt_ids.specs.Ordered.{IsIn, IsInOrder}
@@ -35,6 +35,18 @@ pub record Joins (o : Opening) (next : ℕ) (rs : List Record) (r : Record) : Ty
   pub at_once : is_pending_checkpoint r ≡ true → count_by is_pending_checkpoint rs < limit o.config
   pub savepoints : not (is_checkpoint r) ≡ true → count_by (λ s. not (is_checkpoint s)) rs < 1000
   pub newer : is_done_checkpoint r ≡ true → count_by is_pending_checkpoint rs ≡ 0
+
+-- sound records stay sound with one that joins them
+abbrev pub JoinedAreSound : Type 0
+JoinedAreSound = (o : Opening) (next : ℕ) (rs : List Record) (r : Record) → AreSoundRecords o next rs → Joins o next rs r → AreSoundRecords o next (rs ++ r ∷ [])
+
+-- the last of sound records joins those before it
+abbrev pub LastJoins : Type 0
+LastJoins = (o : Opening) (next : ℕ) (rs : List Record) (r : Record) → AreSoundRecords o next (rs ++ r ∷ []) → Joins o next rs r
+
+-- the first of sound records are sound
+abbrev pub FrontIsSound : Type 0
+FrontIsSound = (o : Opening) (next : ℕ) (xs ys : List Record) → AreSoundRecords o next (xs ++ ys) → AreSoundRecords o next xs
 
 -- what is tested of it by how many there are
 pub record HasRoom (o : Opening) (rs : List Record) (r : Record) : Type 0 where

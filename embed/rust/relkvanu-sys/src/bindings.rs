@@ -9,13 +9,13 @@ pub const RELKVANU_VERSION: &str = "0.1.0";
 pub const RELKVANU_DONE: u32 = 0;
 /// nothing has changed: what is a refusal
 pub const RELKVANU_REFUSED: u32 = 1;
-/// nothing has changed, what, a and b are 0: make the same call again later
+/// nothing has changed; what, a and b are 0: make the same call again later
 pub const RELKVANU_NO_MEMORY: u32 = 2;
 /// the handle has no coordinator; what, a and b are 0
 pub const RELKVANU_CLOSED: u32 = 3;
 /// nothing has changed: what is an argument
 pub const RELKVANU_BAD_ARGUMENT: u32 = 4;
-/// nothing has changed: the buffer has to have a places; what and b are 0
+/// nothing has changed: the buffer needs a places; what and b are 0
 pub const RELKVANU_TOO_SHORT: u32 = 5;
 /// nothing has changed: what is a fault of a line
 pub const RELKVANU_BAD_LINE: u32 = 6;
@@ -53,13 +53,13 @@ pub const RELKVANU_RESTORED_SAVEPOINT: u32 = 15;
 pub const RELKVANU_RESTORED_FRESH: u32 = 16;
 /// a: records dropped, b: files released
 pub const RELKVANU_CANCELLED: u32 = 17;
-/// a: files at the buffer's front
+/// a: files at the start of the buffer
 pub const RELKVANU_TAKEN: u32 = 18;
 /// a: file
 pub const RELKVANU_DELETED: u32 = 19;
 /// a: file
 pub const RELKVANU_UNDELETED: u32 = 20;
-/// a: bytes at the buffer's front
+/// a: bytes at the start of the buffer
 pub const RELKVANU_SHOWN: u32 = 21;
 /// a: file, b: uses
 pub const RELKVANU_COUNTED: u32 = 22;
@@ -78,30 +78,30 @@ pub const RELKVANU_CHOICE_CHECKPOINT: u32 = 29;
 /// a: number
 pub const RELKVANU_CHOICE_SAVEPOINT: u32 = 30;
 pub const RELKVANU_CHOICE_FRESH: u32 = 31;
-/// a: number, b: 1 where it is done, 0 where it is pending
+/// a: number, b: 1 if it is done, 0 if it is pending
 pub const RELKVANU_LIVE_CHECKPOINT: u32 = 32;
-/// a: number, b: 1 where it is done, 0 where it is pending
+/// a: number, b: 1 if it is done, 0 if it is pending
 pub const RELKVANU_LIVE_SAVEPOINT: u32 = 33;
-/// so many records are not live
+/// there are fewer live records
 pub const RELKVANU_LIVE_NONE: u32 = 34;
 /// a: subtasks
 pub const RELKVANU_MISSING: u32 = 35;
 pub const RELKVANU_NOT_PENDING: u32 = 36;
-/// the line makes no call, since it has no words or is a comment
+/// the line makes no call: it has no words or is a comment
 pub const RELKVANU_SKIPPED: u32 = 37;
 /// a: 0
 pub const RELKVANU_LINE_SKIP: u32 = 38;
-/// a: 7, the numbers at the buffer's front: those of relkvanu_settings, in its order
+/// a: 7, the numbers at the start of the buffer: those of relkvanu_settings, in its order
 pub const RELKVANU_LINE_CONFIG: u32 = 39;
-/// a: the numbers at the buffer's front: the parallelism of each vertex
+/// a: how many numbers are at the start of the buffer: the parallelism of each vertex
 pub const RELKVANU_LINE_JOB: u32 = 40;
-/// a: 1, the number at the buffer's front: the moment
+/// a: 1, the number at the start of the buffer: the moment
 pub const RELKVANU_LINE_START: u32 = 41;
 /// a: 0
 pub const RELKVANU_LINE_CALL: u32 = 42;
-/// a: 4, the numbers at the buffer's front: moment, record, threads, first file
+/// a: 4, the numbers at the start of the buffer: moment, record, threads, first file
 pub const RELKVANU_LINE_ALL: u32 = 43;
-/// a: bytes at the buffer's front
+/// a: bytes at the start of the buffer
 pub const RELKVANU_WRITTEN: u32 = 44;
 /// a: bytes at the buffer's front
 pub const RELKVANU_SAVED: u32 = 45;
@@ -134,11 +134,11 @@ pub const RELKVANU_BAD_IMAGE: u32 = 7;
 pub const RELKVANU_FAULT_TOO_LONG: u32 = 1;
 /// a word that does not belong there
 pub const RELKVANU_FAULT_WORD: u32 = 2;
-/// the line ends before a place that it needs
+/// the line ends before a word that it needs
 pub const RELKVANU_FAULT_MISSING: u32 = 3;
 /// not a number, or not a subtask
 pub const RELKVANU_FAULT_NUMBER: u32 = 4;
-/// a word follows the last place
+/// a word follows the last one
 pub const RELKVANU_FAULT_EXTRA: u32 = 5;
 /// a config, job, start or all line: it was read, and makes no call
 pub const RELKVANU_FAULT_NO_CALL: u32 = 6;
@@ -205,7 +205,7 @@ extern "C" {
     /// The version of the library that is linked, as RELKVANU_VERSION.
     pub fn relkvanu_version() -> *const c_char;
 
-    /// Gives a closed handle a coordinator, from the moment now on, whose first record has the number first, 1 to 2^62 - 1. The shape is the parallelism of each vertex: 1 to 256, at least 1 each, at most 4096 in sum. The two words come from a source of random numbers: they key the maps of files, so that no choice of file numbers makes calls slow. They change no answer. RELKVANU_OPENED; or RELKVANU_BAD_ARGUMENT, and the handle stays as it was: RELKVANU_ALREADY_OPEN, RELKVANU_BAD_CONFIG, RELKVANU_BAD_SHAPE, RELKVANU_BAD_MOMENT, RELKVANU_BAD_FIRST, tested in this order. Takes memory: after RELKVANU_NO_MEMORY the handle is closed, as before.
+    /// Opens a coordinator in a closed handle, from the moment now on. Its first record has the number first, 1 to 2^62 - 1. The shape is the parallelism of each vertex: 1 to 256 vertices, at least 1 each, at most 4096 in sum. Take the two words from a source of random numbers: they key the maps of files, so that no choice of file numbers makes calls slow. They change no answer. RELKVANU_OPENED; or RELKVANU_BAD_ARGUMENT, and the handle stays as it was: RELKVANU_ALREADY_OPEN, RELKVANU_BAD_CONFIG, RELKVANU_BAD_SHAPE, RELKVANU_BAD_MOMENT, RELKVANU_BAD_FIRST, checked in this order. Takes memory: after RELKVANU_NO_MEMORY the handle is closed, as before.
     pub fn relkvanu_open(
         handle: *mut relkvanu,
         settings: *const relkvanu_settings,
@@ -217,16 +217,16 @@ extern "C" {
         second_word: u64,
     ) -> relkvanu_answer;
 
-    /// Lets the coordinator go, and frees its memory. A closed handle stays closed.
+    /// Closes the coordinator and frees its memory. A closed handle stays closed.
     pub fn relkvanu_close(handle: *mut relkvanu);
 
-    /// Time has passed: records that are too old expire, and a checkpoint is triggered where one is due. RELKVANU_TICK_TRIGGERED to RELKVANU_TICK_FAILED. Refused: RELKVANU_MOMENT_TOO_LARGE, RELKVANU_NOT_RUNNING, RELKVANU_IDS_USED_UP. Takes memory only where it triggers.
+    /// Time has passed: records that are too old expire, and a checkpoint is triggered if one is due. RELKVANU_TICK_TRIGGERED to RELKVANU_TICK_FAILED. Refused: RELKVANU_MOMENT_TOO_LARGE, RELKVANU_NOT_RUNNING, RELKVANU_IDS_USED_UP. Takes memory only where it triggers.
     pub fn relkvanu_tick(handle: *mut relkvanu, now: u64) -> relkvanu_answer;
 
-    /// Triggers a savepoint, of which at most 1000 are pending or done. RELKVANU_SAVEPOINT_TRIGGERED. Refused: RELKVANU_MOMENT_TOO_LARGE, RELKVANU_NOT_RUNNING, RELKVANU_TOO_MANY_SAVEPOINTS, RELKVANU_IDS_USED_UP. Takes memory.
+    /// Triggers a savepoint. At most 1000 savepoints are pending or done. RELKVANU_SAVEPOINT_TRIGGERED. Refused: RELKVANU_MOMENT_TOO_LARGE, RELKVANU_NOT_RUNNING, RELKVANU_TOO_MANY_SAVEPOINTS, RELKVANU_IDS_USED_UP. Takes memory.
     pub fn relkvanu_savepoint(handle: *mut relkvanu, now: u64) -> relkvanu_answer;
 
-    /// The subtask vertex.index has taken its part of record id: fresh are the files that it wrote, reused those of an earlier record that it uses again, at most 4096 together. They may stand in any order. RELKVANU_ACK_PENDING, RELKVANU_ACK_COMPLETED or RELKVANU_ACK_LATE: the fresh files belong to the coordinator now. Refused: RELKVANU_MOMENT_TOO_LARGE, RELKVANU_TOO_MANY_FILES, RELKVANU_REPEATED_FILE, RELKVANU_UNKNOWN_CHECKPOINT, RELKVANU_UNKNOWN_SUBTASK, RELKVANU_ALREADY_ACKNOWLEDGED, RELKVANU_NAME_TAKEN, RELKVANU_FILE_GONE: then the task deletes none of the files that an accepted acknowledgement ever named. Takes memory for a copy of the two lists first, so it may answer RELKVANU_NO_MEMORY also where it would be refused.
+    /// The subtask vertex.index has taken its part of record id: fresh are the files that it wrote, reused those of an earlier record that it uses again, at most 4096 together, in any order. RELKVANU_ACK_PENDING, RELKVANU_ACK_COMPLETED or RELKVANU_ACK_LATE: the fresh files belong to the coordinator now. Refused: RELKVANU_MOMENT_TOO_LARGE, RELKVANU_TOO_MANY_FILES, RELKVANU_REPEATED_FILE, RELKVANU_UNKNOWN_CHECKPOINT, RELKVANU_UNKNOWN_SUBTASK, RELKVANU_ALREADY_ACKNOWLEDGED, RELKVANU_NAME_TAKEN, RELKVANU_FILE_GONE: then the task deletes no file that an accepted acknowledgement ever named. First copies the two lists, which takes memory, so it may return RELKVANU_NO_MEMORY even where it would be refused.
     pub fn relkvanu_ack(
         handle: *mut relkvanu,
         now: u64,
@@ -248,10 +248,10 @@ extern "C" {
         index: u16,
     ) -> relkvanu_answer;
 
-    /// A user lets the completed savepoint id go. RELKVANU_DISPOSED. Refused: RELKVANU_NO_SUCH_SAVEPOINT, RELKVANU_IN_USE. Takes no memory.
+    /// A user disposes of the completed savepoint id. RELKVANU_DISPOSED. Refused: RELKVANU_NO_SUCH_SAVEPOINT, RELKVANU_IN_USE. Takes no memory.
     pub fn relkvanu_dispose(handle: *mut relkvanu, id: u64) -> relkvanu_answer;
 
-    /// The job begins again: from a savepoint, or from the latest where savepoint is 0; in a new shape where shape_len is not 0, with the limits of relkvanu_open, else in the shape that it has. RELKVANU_RESTORED_CHECKPOINT, RELKVANU_RESTORED_SAVEPOINT or RELKVANU_RESTORED_FRESH. RELKVANU_BAD_ARGUMENT with RELKVANU_BAD_SHAPE is tested first. Refused: RELKVANU_MOMENT_TOO_LARGE, RELKVANU_NOT_RUNNING (cancelled), RELKVANU_NO_SUCH_SAVEPOINT. Takes memory for a copy of the shape first, so it may answer RELKVANU_NO_MEMORY also where it would be refused; without a shape it takes none.
+    /// The job begins again: from a savepoint, or from the latest record if savepoint is 0. With shape_len above 0 it begins in a new shape, within the limits of relkvanu_open, otherwise in its current shape. RELKVANU_RESTORED_CHECKPOINT, RELKVANU_RESTORED_SAVEPOINT or RELKVANU_RESTORED_FRESH. RELKVANU_BAD_ARGUMENT with RELKVANU_BAD_SHAPE is checked first. Refused: RELKVANU_MOMENT_TOO_LARGE, RELKVANU_NOT_RUNNING (cancelled), RELKVANU_NO_SUCH_SAVEPOINT. First copies the shape, which takes memory, so it may return RELKVANU_NO_MEMORY even where it would be refused. Without a shape it takes none.
     pub fn relkvanu_restore(
         handle: *mut relkvanu,
         now: u64,
@@ -263,7 +263,7 @@ extern "C" {
     /// The job ends for good. RELKVANU_CANCELLED. Refused: RELKVANU_MOMENT_TOO_LARGE, RELKVANU_NOT_RUNNING (cancelled). Takes no memory.
     pub fn relkvanu_cancel(handle: *mut relkvanu, now: u64) -> relkvanu_answer;
 
-    /// Fetches at most files_len files that wait for deletion, those that have waited longest, and writes them to the front of files. Each is to be reported, by relkvanu_deleted or relkvanu_undeleted. RELKVANU_TAKEN, where a is 0 if none waits. Never refused. Takes memory: after RELKVANU_NO_MEMORY the files still wait, and the buffer has not changed.
+    /// Fetches at most files_len files that wait for deletion, the longest waiting first, and writes them to the start of files. Report each one by relkvanu_deleted or relkvanu_undeleted. RELKVANU_TAKEN; a is 0 if no file waits. Never refused. Takes memory: after RELKVANU_NO_MEMORY the files still wait, and the buffer has not changed.
     pub fn relkvanu_take(
         handle: *mut relkvanu,
         files: *mut u64,
@@ -276,7 +276,7 @@ extern "C" {
     /// A fetched file could not be deleted: it waits again, behind all others. RELKVANU_UNDELETED. Refused: RELKVANU_NOT_TAKEN. Takes no memory.
     pub fn relkvanu_undeleted(handle: *mut relkvanu, file: u64) -> relkvanu_answer;
 
-    /// Writes the metadata of a live record as JSON, without a zero at its end. RELKVANU_SHOWN; RELKVANU_TOO_SHORT, where a is how many bytes it has: ask again with a buffer of that many. Refused: RELKVANU_NO_SUCH_RECORD. Takes memory, also where the buffer is too short. Only RELKVANU_SHOWN changes the buffer.
+    /// Writes the metadata of a live record as JSON, without a zero at its end. RELKVANU_SHOWN; or RELKVANU_TOO_SHORT, and a is its number of bytes: call again with a buffer of that many. Refused: RELKVANU_NO_SUCH_RECORD. Takes memory, even if the buffer is too short. Only RELKVANU_SHOWN changes the buffer.
     pub fn relkvanu_show(
         handle: *mut relkvanu,
         id: u64,
@@ -284,34 +284,34 @@ extern "C" {
         json_len: usize,
     ) -> relkvanu_answer;
 
-    /// How many parts of live records use a file. RELKVANU_COUNTED. Never refused. Takes no memory.
+    /// The number of uses of a file, by acknowledgements and pins of live records. RELKVANU_COUNTED. Never refused. Takes no memory.
     pub fn relkvanu_count(handle: *mut relkvanu, file: u64) -> relkvanu_answer;
 
-    /// What the job is doing: RELKVANU_MODE_RUNNING and so on.
+    /// What the job is doing: RELKVANU_MODE_RUNNING, RELKVANU_MODE_FAILED or RELKVANU_MODE_CANCELLED.
     pub fn relkvanu_mode(handle: *mut relkvanu) -> relkvanu_answer;
 
-    /// RELKVANU_DUE: the moment from which neither the interval nor the pause holds a checkpoint back. No tick before it triggers one. A tick at it or later triggers one, unless as many are pending as may be, the job does not run, or too many checkpoints expire in it, so that the job fails over. A call that triggers, completes or restores moves it: ask again after a call.
+    /// RELKVANU_DUE: the moment from which neither the interval nor the pause holds a checkpoint back. No tick before it triggers one. A tick at it or later triggers one, with three exceptions: as many are pending as may be, the job is not running, or so many checkpoints expire in the tick that the job fails over. A call that triggers, completes or restores moves this moment: read it again after a call.
     pub fn relkvanu_due(handle: *mut relkvanu) -> relkvanu_answer;
 
-    /// RELKVANU_EXPIRES: the moment from which a pending record is expired; a tick at it ends the record. RELKVANU_NONE_PENDING where there is none. Looks at each pending record.
+    /// RELKVANU_EXPIRES: the moment from which a pending record is expired. A tick at that moment drops the record. RELKVANU_NONE_PENDING if no record is pending. Visits each pending record.
     pub fn relkvanu_oldest_expiry(handle: *mut relkvanu) -> relkvanu_answer;
 
-    /// The record that a restore of the latest would begin from: RELKVANU_CHOICE_CHECKPOINT and so on.
+    /// The record that a restore of the latest would begin from: RELKVANU_CHOICE_CHECKPOINT, RELKVANU_CHOICE_SAVEPOINT or RELKVANU_CHOICE_FRESH.
     pub fn relkvanu_choice(handle: *mut relkvanu) -> relkvanu_answer;
 
-    /// The live record at this place, from 0, where they stand in rising number: RELKVANU_LIVE_CHECKPOINT or RELKVANU_LIVE_SAVEPOINT; RELKVANU_LIVE_NONE past the last. Searches for each record before it too.
+    /// The live record at this place, from 0, in order of their numbers: RELKVANU_LIVE_CHECKPOINT or RELKVANU_LIVE_SAVEPOINT; RELKVANU_LIVE_NONE past the last. Its time grows with the place.
     pub fn relkvanu_live(handle: *mut relkvanu, place: usize) -> relkvanu_answer;
 
-    /// RELKVANU_MISSING: how many subtasks of this record have not acknowledged. RELKVANU_NOT_PENDING where no record of this number is pending.
+    /// RELKVANU_MISSING: how many subtasks of this record have not acknowledged. RELKVANU_NOT_PENDING if no record with this number is pending.
     pub fn relkvanu_missing(handle: *mut relkvanu, id: u64) -> relkvanu_answer;
 
-    /// How many files live records use, wait for deletion, and were fetched for it.
+    /// How many files are in use by live records, wait for deletion, and were fetched for deletion.
     pub fn relkvanu_file_counts(handle: *mut relkvanu) -> relkvanu_counts;
 
-    /// The name of the refusal with this number, as "NotRunning", without a zero at its end: its length, which is 0 where no refusal has the number. It is written where text_len is at least that.
+    /// Returns the length of the name of the refusal with this number, such as "NotRunning", or 0 if no refusal has the number. Writes the name, without a zero at its end, if text_len is at least the length.
     pub fn relkvanu_refusal_text(what: u32, text: *mut u8, text_len: usize) -> usize;
 
-    /// Makes the call that a line says, and answers as the function of that call does. A take line writes at most as many files as it says to the front of files; where files_len is below what it would fetch, the answer is RELKVANU_TOO_SHORT, where a is how many places it needs, and nothing has changed. A show line answers as relkvanu_show with an empty buffer. A restore line in a shape that no job has is RELKVANU_BAD_ARGUMENT with RELKVANU_BAD_SHAPE. RELKVANU_SKIPPED where the line has no words or is a comment; RELKVANU_BAD_LINE where it can't be read, or makes no call. Only RELKVANU_TAKEN changes the buffer. Takes memory as the call does, and for the lists of an ack, job or restore line, so that such a line may answer RELKVANU_NO_MEMORY also where the call would be refused.
+    /// Makes the call of a line, and returns what the function of that call returns. A take line writes the files that it fetches to the start of files. If it would fetch more than files_len, the answer is RELKVANU_TOO_SHORT, a is how many places it needs, and nothing has changed. A show line returns what relkvanu_show returns with an empty buffer. A restore line with a bad shape is RELKVANU_BAD_ARGUMENT with RELKVANU_BAD_SHAPE. RELKVANU_SKIPPED if the line has no words or is a comment; RELKVANU_BAD_LINE if it can't be read, or makes no call. Only RELKVANU_TAKEN changes the buffer. Takes memory as the call does, and for the lists of an ack, job or restore line. So such a line may return RELKVANU_NO_MEMORY even where the call would be refused.
     pub fn relkvanu_line(
         handle: *mut relkvanu,
         line: *const u8,
@@ -320,7 +320,7 @@ extern "C" {
         files_len: usize,
     ) -> relkvanu_answer;
 
-    /// Tells which line it is, RELKVANU_LINE_SKIP to RELKVANU_LINE_ALL, and writes the numbers of a line that makes no call to the front of numbers, in the line's order; keep is 1 and delete is 0. No number is tested against the limits of a job. RELKVANU_TOO_SHORT, where a is how many places it needs; RELKVANU_BAD_LINE with the fault. Both leave the buffer. A restore line in a shape that no job has is RELKVANU_LINE_CALL: relkvanu_line says what is wrong with it. Takes memory for the lists of an ack, job or restore line alone.
+    /// Returns which line it is, RELKVANU_LINE_SKIP to RELKVANU_LINE_ALL, and writes the numbers of a line that makes no call to the start of numbers, in the line's order; keep is 1 and delete is 0. Checks no number against the limits of a job. RELKVANU_TOO_SHORT, and a is how many places it needs; or RELKVANU_BAD_LINE with the fault. Neither changes the buffer. A restore line with a bad shape is RELKVANU_LINE_CALL: relkvanu_line says what is wrong with it. Takes memory only for the lists of an ack, job or restore line.
     pub fn relkvanu_line_says(
         line: *const u8,
         line_len: usize,
@@ -328,7 +328,7 @@ extern "C" {
         numbers_len: usize,
     ) -> relkvanu_answer;
 
-    /// Writes the line of a call, without a newline and without a zero at its end. What is written is read as that call. first and second are the fresh and the reused files of an ack, in any order; first is the new shape of a restore, or empty. RELKVANU_WRITTEN; RELKVANU_TOO_SHORT, where a is how many bytes it needs; RELKVANU_BAD_ARGUMENT with RELKVANU_BAD_KIND or RELKVANU_BAD_SHAPE; RELKVANU_BAD_LINE with RELKVANU_FAULT_TOO_LONG where no line may be as long: it is never cut. Only RELKVANU_WRITTEN changes the buffer. Takes memory.
+    /// Writes the line of a call, without a newline and without a zero at its end. relkvanu_line reads it as that call. For an ack, first and second are the fresh and the reused files, in any order. For a restore, first is the new shape, or empty. RELKVANU_WRITTEN; RELKVANU_TOO_SHORT, and a is how many bytes it needs; RELKVANU_BAD_ARGUMENT with RELKVANU_BAD_KIND or RELKVANU_BAD_SHAPE; RELKVANU_BAD_LINE with RELKVANU_FAULT_TOO_LONG if the line would be too long: it is never cut. Only RELKVANU_WRITTEN changes the buffer. Takes memory.
     pub fn relkvanu_call_line(
         call: *const relkvanu_call,
         first: *const u64,
@@ -339,7 +339,7 @@ extern "C" {
         line_len: usize,
     ) -> relkvanu_answer;
 
-    /// Writes the lines config, job and start of a coordinator that begins with the number 1, each with its newline. RELKVANU_WRITTEN; RELKVANU_TOO_SHORT, where a is how many bytes it needs; RELKVANU_BAD_ARGUMENT where relkvanu_open answers so, with the same argument: RELKVANU_BAD_CONFIG, RELKVANU_BAD_SHAPE or RELKVANU_BAD_MOMENT. Only RELKVANU_WRITTEN changes the buffer. Takes memory.
+    /// Writes the lines config, job and start of a coordinator whose first record has the number 1, each with its newline. RELKVANU_WRITTEN; RELKVANU_TOO_SHORT, and a is how many bytes it needs; RELKVANU_BAD_ARGUMENT where relkvanu_open returns it, with the same argument: RELKVANU_BAD_CONFIG, RELKVANU_BAD_SHAPE or RELKVANU_BAD_MOMENT. Only RELKVANU_WRITTEN changes the buffer. Takes memory.
     pub fn relkvanu_opening_lines(
         settings: *const relkvanu_settings,
         shape: *const u64,

@@ -1,5 +1,6 @@
-//! What calls and reads answer.
+//! What calls and reads return.
 use relkvanu_sys as sys;
+use std::fmt;
 
 /// What the job would restart from.
 #[derive(Clone, Copy, Debug, PartialEq, Eq, Hash)]
@@ -7,6 +8,17 @@ pub enum Choice {
     Checkpoint(u64),
     Savepoint(u64),
     Fresh,
+}
+
+/// The record as a script names it, as "checkpoint 4" or "fresh".
+impl fmt::Display for Choice {
+    fn fmt(&self, f: &mut fmt::Formatter<'_>) -> fmt::Result {
+        match self {
+            Choice::Checkpoint(id) => write!(f, "checkpoint {id}"),
+            Choice::Savepoint(id) => write!(f, "savepoint {id}"),
+            Choice::Fresh => f.write_str("fresh"),
+        }
+    }
 }
 
 /// What the job is doing.
@@ -19,11 +31,21 @@ pub enum Mode {
     Cancelled,
 }
 
-/// Whom a record belongs to: a checkpoint to the coordinator, a savepoint to a user.
+/// Whether a record is a checkpoint, which belongs to the coordinator, or a savepoint, which belongs to a user.
 #[derive(Clone, Copy, Debug, PartialEq, Eq, Hash)]
 pub enum Kind {
     Checkpoint,
     Savepoint,
+}
+
+/// "checkpoint" or "savepoint".
+impl fmt::Display for Kind {
+    fn fmt(&self, f: &mut fmt::Formatter<'_>) -> fmt::Result {
+        f.write_str(match self {
+            Kind::Checkpoint => "checkpoint",
+            Kind::Savepoint => "savepoint",
+        })
+    }
 }
 
 /// A live record: its number, its kind, and whether it is done or pending.
@@ -34,8 +56,8 @@ pub struct Live {
     pub done: bool,
 }
 
-/// How many files live records use, each counted once, wait for deletion, and were fetched for it and
-/// are not yet reported.
+/// How many files are in use by live records (each counted once), wait for deletion, and were fetched for deletion and
+/// not yet reported.
 #[derive(Clone, Copy, Debug, PartialEq, Eq, Hash)]
 pub struct FileCounts {
     pub in_use: u64,
@@ -43,10 +65,10 @@ pub struct FileCounts {
     pub taken: u64,
 }
 
-/// What a call that was made answered.
+/// The answer to a call that was made.
 #[derive(Clone, Copy, Debug, PartialEq, Eq, Hash)]
 pub enum Answer {
-    /// There is a new pending checkpoint; so many records have expired before.
+    /// A checkpoint was triggered, after this many records expired.
     Triggered {
         expired: u64,
         id: u64,
@@ -55,15 +77,15 @@ pub enum Answer {
     HeldInterval {
         expired: u64,
     },
-    /// As many checkpoints are pending as may be: none is triggered until one ends.
+    /// As many checkpoints are pending as may be. None is triggered until one ends.
     HeldAtOnce {
         expired: u64,
     },
-    /// The last completion is too short ago.
+    /// The pause after the last completion has not passed.
     HeldPause {
         expired: u64,
     },
-    /// Too many checkpoints failed in a row: the job fails over, and is to be restored.
+    /// Too many checkpoints failed in a row: the job fails over. Restore it.
     Failed {
         expired: u64,
     },
@@ -76,7 +98,7 @@ pub enum Answer {
         dropped: u64,
         released: u64,
     },
-    /// The record had ended: so many of the fresh files were handed out for deletion.
+    /// The record had ended. This many of the fresh files were handed out for deletion.
     AckLate {
         handed_out: u64,
     },
@@ -84,7 +106,7 @@ pub enum Answer {
     DeclineAborted {
         released: u64,
     },
-    /// The record is dropped, and the job fails over: it is to be restored.
+    /// The record is dropped, and the job fails over. Restore it.
     DeclineFailed {
         released: u64,
     },
@@ -110,7 +132,35 @@ pub enum Answer {
     },
 }
 
-/// The answer of a call that was made and that writes to no buffer.
+/// The line that a script prints (`docs/SCRIPT.md`), as "ack completed 1 2".
+impl fmt::Display for Answer {
+    fn fmt(&self, f: &mut fmt::Formatter<'_>) -> fmt::Result {
+        match *self {
+            Answer::Triggered { expired, id } => write!(f, "tick expired {expired} triggered {id}"),
+            Answer::HeldInterval { expired } => write!(f, "tick expired {expired} held interval"),
+            Answer::HeldAtOnce { expired } => write!(f, "tick expired {expired} held at-once"),
+            Answer::HeldPause { expired } => write!(f, "tick expired {expired} held pause"),
+            Answer::Failed { expired } => write!(f, "tick expired {expired} failed"),
+            Answer::SavepointTriggered(id) => write!(f, "savepoint triggered {id}"),
+            Answer::AckPending { missing } => write!(f, "ack pending {missing}"),
+            Answer::AckCompleted { dropped, released } => {
+                write!(f, "ack completed {dropped} {released}")
+            }
+            Answer::AckLate { handed_out } => write!(f, "ack late {handed_out}"),
+            Answer::DeclineAborted { released } => write!(f, "decline aborted {released}"),
+            Answer::DeclineFailed { released } => write!(f, "decline failed {released}"),
+            Answer::DeclineLate => f.write_str("decline late"),
+            Answer::Disposed { released } => write!(f, "disposed {released}"),
+            Answer::Restored { from, released } => write!(f, "restored {from} {released}"),
+            Answer::Cancelled { dropped, released } => write!(f, "cancelled {dropped} {released}"),
+            Answer::Deleted(file) => write!(f, "deleted {file}"),
+            Answer::Undeleted(file) => write!(f, "undeleted {file}"),
+            Answer::Counted { file, uses } => write!(f, "count {file} {uses}"),
+        }
+    }
+}
+
+/// The answer to a call that was made and that writes to no buffer.
 pub(crate) fn answer(told: sys::relkvanu_answer) -> Answer {
     let sys::relkvanu_answer { what, a, b, .. } = told;
     match what {

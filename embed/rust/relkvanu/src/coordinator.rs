@@ -7,7 +7,7 @@ use std::collections::hash_map::RandomState;
 use std::hash::BuildHasher;
 use std::num::NonZeroU64;
 
-/// How a job takes checkpoints; durations are milliseconds.
+/// How a job takes checkpoints. Durations are milliseconds.
 #[derive(Clone, Copy, Debug, PartialEq, Eq, Hash)]
 pub struct Settings {
     /// 10 to 2^40: between two triggers.
@@ -20,9 +20,9 @@ pub struct Settings {
     pub timeout: u64,
     /// 0 to 1000 failed checkpoints in a row.
     pub tolerable: u64,
-    /// 1 to 1000 completed checkpoints that are kept.
+    /// 1 to 1000 completed checkpoints to keep.
     pub retained: u64,
-    /// Whether they are kept when the job is cancelled.
+    /// Whether to keep them when the job is cancelled.
     pub keep_on_cancel: bool,
 }
 
@@ -42,9 +42,9 @@ impl From<&Settings> for sys::relkvanu_settings {
 
 /// The checkpoint coordinator of one job.
 ///
-/// The library allows one call at a time for each handle, reads among them: a read takes the state out of its handle and
-/// puts it back. So a `Coordinator` is `Send` and not `Sync`, and its reads take `&self`: of one thread, one call runs at a
-/// time. Threads share it as a [`SharedCoordinator`](crate::SharedCoordinator).
+/// The library allows one call or read at a time for each handle, because a read takes the state out of its handle and
+/// puts it back. So a `Coordinator` is `Send` and not `Sync`. Its reads take `&self`, since one thread runs one call at
+/// a time. Threads share it as a [`SharedCoordinator`](crate::SharedCoordinator).
 ///
 /// ```compile_fail
 /// fn is_sync<T: Sync>() {}
@@ -72,12 +72,13 @@ fn called(told: sys::relkvanu_answer) -> Called {
     done(told).map(answer::answer)
 }
 
-/// Calls. One that answers a [`Fault`] has changed nothing.
+/// Calls. A call that returns a [`Fault`] has changed nothing.
 impl Coordinator {
-    /// Opens a coordinator at the moment `now`, for a job with so many subtasks of each vertex: 1 to 256 vertices, at most
-    /// 4096 subtasks. Its first record has the number `first`: 1 for a new job, else one above each that was given before.
+    /// Opens a coordinator at the moment `now`. The shape is the number of subtasks of each vertex: 1 to 256 vertices,
+    /// at most 4096 subtasks. The first record has the number `first`: 1 for a new job, otherwise one above all earlier
+    /// numbers.
     ///
-    /// The settings are tested first, then the shape, the moment and the first number. Takes memory for the coordinator.
+    /// Checks the settings first, then the shape, the moment and the first number. Takes memory for the coordinator.
     pub fn open(
         settings: &Settings,
         shape: &[u64],
@@ -128,7 +129,7 @@ impl Coordinator {
         self.handle.get_mut()
     }
 
-    /// Time has passed: records past their timeout expire, and a checkpoint is triggered where one is due.
+    /// Time has passed: records past their timeout expire, and a checkpoint is triggered if one is due.
     pub fn tick(&mut self, now: u64) -> Called {
         // SAFETY: the handle is as the library last left it, and `&mut self` keeps other calls away.
         called(unsafe { sys::relkvanu_tick(self.handle(), now) })
@@ -140,12 +141,13 @@ impl Coordinator {
         called(unsafe { sys::relkvanu_savepoint(self.handle(), now) })
     }
 
-    /// The acknowledgement of a subtask, which is a vertex and an index: it wrote the fresh files for it, and names the
-    /// reused ones again. The files may stand in any order; at most 4096 in all.
+    /// The acknowledgement of a subtask, which is a vertex and an index. It wrote the fresh files, and names the reused
+    /// ones again. The files may come in any order, at most 4096 in all.
     ///
-    /// Where it is accepted, the fresh files belong to the coordinator. Where it is not, the task deletes a file only if no
-    /// accepted acknowledgement ever named it: not after [`AlreadyAcknowledged`](crate::Refusal::AlreadyAcknowledged), which
-    /// answers a repeat, and after [`NameTaken`](crate::Refusal::NameTaken) not the files that were named before.
+    /// If it is accepted, the fresh files belong to the coordinator. Otherwise the task deletes a file only if no
+    /// accepted acknowledgement ever named it. So it deletes none after
+    /// [`AlreadyAcknowledged`](crate::Refusal::AlreadyAcknowledged), the answer to a repeat. After
+    /// [`NameTaken`](crate::Refusal::NameTaken) it deletes no file that it named before.
     pub fn ack(
         &mut self,
         now: u64,
@@ -170,20 +172,20 @@ impl Coordinator {
         })
     }
 
-    /// A subtask can't take its part of a record. The job may fail over by it.
+    /// A subtask can't take its part of a record. The job may then fail over.
     pub fn decline(&mut self, now: u64, id: u64, subtask: (u16, u16)) -> Called {
         // SAFETY: as in `tick`.
         called(unsafe { sys::relkvanu_decline(self.handle(), now, id, subtask.0, subtask.1) })
     }
 
-    /// A user lets a completed savepoint go.
+    /// A user disposes of a completed savepoint.
     pub fn dispose(&mut self, id: u64) -> Called {
         // SAFETY: as in `tick`.
         called(unsafe { sys::relkvanu_dispose(self.handle(), id) })
     }
 
-    /// Restores the job from a savepoint, or from the latest where there is none, in a new shape where one is given. An
-    /// empty shape is a bad one. A bad shape is told before any refusal.
+    /// Restores the job from a savepoint, or from the latest record if `None` is given. `shape` may give a new shape.
+    /// An empty shape is a bad one. A bad shape is reported before any refusal.
     pub fn restore(
         &mut self,
         now: u64,
@@ -212,9 +214,9 @@ impl Coordinator {
         called(unsafe { sys::relkvanu_cancel(self.handle(), now) })
     }
 
-    /// Fetches files that wait for deletion, at most as many as the buffer has places, and answers those that it wrote
-    /// there. Each is then reported, by [`deleted`](Self::deleted) or [`undeleted`](Self::undeleted). A repeated
-    /// acknowledgement that comes late can hand a file out that is gone: it counts as deleted.
+    /// Fetches files that wait for deletion, at most as many as the buffer has places, and returns those that it wrote
+    /// there. Report each by [`deleted`](Self::deleted) or [`undeleted`](Self::undeleted). A repeated acknowledgement
+    /// that comes late may hand out a file that no longer exists: report it as deleted.
     pub fn take<'a>(&mut self, files: &'a mut [u64]) -> Result<&'a [u64], Fault> {
         // SAFETY: as in `tick`; the buffer is borrowed for writing, and has as many places as is said.
         let told = unsafe { sys::relkvanu_take(self.handle(), files.as_mut_ptr(), files.len()) };
@@ -234,31 +236,33 @@ impl Coordinator {
     }
 }
 
-/// Reads. None changes anything. All but [`show`](Self::show), [`save`](Self::save) and [`count`](Self::count) can't fail.
+/// Reads. None changes anything. Only [`show`](Self::show) and [`count`](Self::count) can fail.
 impl Coordinator {
-    /// The handle for a read, which takes the state out and puts it back: so it has to be writable, though nothing changes.
+    /// The handle for a read. A read takes the state out and puts it back, so the handle has to be writable, though
+    /// nothing changes.
     fn read_handle(&self) -> *mut sys::relkvanu {
         self.handle.get()
     }
 
     /// The metadata of a live record, as JSON (`docs/SCRIPT.md`).
     pub fn show(&self, id: u64) -> Result<String, Fault> {
-        // SAFETY: the handle is as the library last left it; `Coordinator` is not `Sync`, so no other call runs. The
-        // buffer has as many bytes as is said.
-        text(|json| unsafe {
-            sys::relkvanu_show(self.read_handle(), id, json.as_mut_ptr(), json.len())
-        })
+        let mut json = vec![0; 1024];
+        loop {
+            // SAFETY: the handle is as the library last left it; `Coordinator` is not `Sync`, so no other call runs.
+            // The buffer is this function's own, and has as many bytes as is said.
+            let told = unsafe {
+                sys::relkvanu_show(self.read_handle(), id, json.as_mut_ptr(), json.len())
+            };
+            if told.code == sys::RELKVANU_TOO_SHORT {
+                json.resize(told.a as usize, 0);
+                continue;
+            }
+            json.truncate(done(told)?.a as usize);
+            return Ok(String::from_utf8_lossy(&json).into_owned());
+        }
     }
 
-    /// The image of the coordinator, as JSON (`docs/IMAGE.md`): all of its state.
-    pub fn save(&self) -> Result<String, Fault> {
-        // SAFETY: as in `show`.
-        text(|image| unsafe {
-            sys::relkvanu_save(self.read_handle(), image.as_mut_ptr(), image.len())
-        })
-    }
-
-    /// How many uses a file has.
+    /// The number of uses of a file.
     pub fn count(&self, file: u64) -> Called {
         // SAFETY: the handle is as the library last left it; `Coordinator` is not `Sync`, so no other call runs.
         called(unsafe { sys::relkvanu_count(self.read_handle(), file) })
@@ -270,17 +274,17 @@ impl Coordinator {
         answer::mode(read(unsafe { sys::relkvanu_mode(self.read_handle()) }))
     }
 
-    /// The moment from which neither the interval nor the pause holds a checkpoint back: no tick before
-    /// it triggers one. From then on one does, unless the job does not run, as many are pending as may be, or so many expire in it
-    /// that the job fails over. Calls move it.
+    /// The moment from which neither the interval nor the pause holds a checkpoint back. No tick before it triggers
+    /// one. From then on a tick triggers one, with three exceptions: the job is not running, as many are pending as may
+    /// be, or so many expire in the tick that the job fails over. Calls move this moment.
     pub fn due(&self) -> u64 {
         // SAFETY: as in `count`.
         read(unsafe { sys::relkvanu_due(self.read_handle()) }).a
     }
 
-    /// When to tick next, after a tick that answered this and unless another call comes before: when a checkpoint is due
-    /// or a pending record expires. While as many are pending as may be, at the expiry alone, as `due` has passed; `None`
-    /// where nothing changes before a call does, as while the job has failed.
+    /// The moment of the next tick after a tick with this answer, unless another call comes first: when a checkpoint is
+    /// due or a pending record expires. While as many are pending as may be, it is the expiry, because `due` has
+    /// passed. `None` if nothing changes before the next call, for example while the job has failed.
     pub fn next_tick(&self, ticked: &Result<Answer, Fault>) -> Option<u64> {
         if self.mode() != Mode::Running {
             return None;
@@ -292,7 +296,7 @@ impl Coordinator {
         }
     }
 
-    /// The moment from which a pending record is expired, or `None` where none is pending.
+    /// The moment from which a pending record is expired, or `None` if none is pending.
     pub fn oldest_expiry(&self) -> Option<u64> {
         // SAFETY: as in `count`.
         let told = read(unsafe { sys::relkvanu_oldest_expiry(self.read_handle()) });
@@ -305,8 +309,8 @@ impl Coordinator {
         answer::choice(read(unsafe { sys::relkvanu_choice(self.read_handle()) }))
     }
 
-    /// The live record at this place, from 0, where they stand in rising number, or `None` past the
-    /// last. Searches for each record before it too.
+    /// The live record at this place, from 0, in order of their numbers, or `None` past the last. Its time grows with
+    /// the place.
     pub fn live(&self, place: usize) -> Option<Live> {
         // SAFETY: as in `count`.
         answer::live(read(unsafe {
@@ -314,15 +318,14 @@ impl Coordinator {
         }))
     }
 
-    /// How many subtasks of this record have not acknowledged, or `None` where no record of this number
-    /// is pending.
+    /// How many subtasks of this record have not acknowledged, or `None` if no record with this number is pending.
     pub fn missing(&self, id: u64) -> Option<u64> {
         // SAFETY: as in `count`.
         let told = read(unsafe { sys::relkvanu_missing(self.read_handle(), id) });
         (told.what == sys::RELKVANU_MISSING).then_some(told.a)
     }
 
-    /// How many files live records use, wait for deletion, and were fetched for it.
+    /// How many files are in use by live records, wait for deletion, and were fetched for deletion.
     pub fn file_counts(&self) -> FileCounts {
         // SAFETY: as in `count`.
         let told = unsafe { sys::relkvanu_file_counts(self.read_handle()) };

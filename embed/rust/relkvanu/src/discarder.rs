@@ -1,4 +1,4 @@
-//! Threads that delete the files which no record uses any more.
+//! Threads that delete the files that no record uses any more.
 use crate::fault::{Fault, Refusal};
 use crate::shared::SharedCoordinator;
 use std::io;
@@ -14,9 +14,9 @@ pub struct Patience {
     pub threads: NonZeroU32,
     /// Files that a thread fetches at once.
     pub batch: NonZeroU32,
-    /// How often a file is tried before it is given up.
+    /// The number of attempts before a file is given up.
     pub attempts: NonZeroU32,
-    /// The wait after the first failure; it doubles with each one.
+    /// The wait after the first failure. It doubles with each further one.
     pub first_wait: Duration,
     /// The longest wait after a failure.
     pub longest_wait: Duration,
@@ -25,7 +25,8 @@ pub struct Patience {
 }
 
 impl Default for Patience {
-    /// Two threads of 64 files each, 8 attempts with waits from 100 ms to 10 s, and a look each second.
+    /// Two threads with 64 files each, 8 attempts with waits from 100 ms to 10 s, and a take each second while no file
+    /// waits.
     fn default() -> Patience {
         let number = |n| NonZeroU32::new(n).unwrap_or(NonZeroU32::MIN);
         Patience {
@@ -42,12 +43,12 @@ impl Default for Patience {
 /// What a discarder did.
 #[derive(Clone, Debug, Default, PartialEq, Eq)]
 pub struct Discarded {
-    /// Files that were deleted, and reported so.
+    /// Files that were deleted and reported as deleted.
     pub deleted: u64,
     /// Attempts that failed.
     pub failed: u64,
-    /// Files that were tried as often as may be. The coordinator holds them as taken until the discarder is stopped; then
-    /// they are reported as not deleted, and wait for the next one.
+    /// Files that were given up after the last attempt. The coordinator holds them as taken until the discarder is
+    /// stopped. Then they are reported as not deleted, and wait for the next discarder.
     pub given_up: Vec<u64>,
 }
 
@@ -67,18 +68,18 @@ struct Shared {
 
 /// Threads that fetch files, delete them and report each. They run until [`stop`](Self::stop) or until this is dropped.
 ///
-/// A file is deleted outside the coordinator's lock. One that is not there counts as deleted, since a repeated
-/// acknowledgement that comes late can hand a deleted file out again.
+/// A file is deleted outside the coordinator's lock. A file that does not exist counts as deleted, since a repeated
+/// acknowledgement that comes late may hand out a deleted file again.
 pub struct Discarder {
     shared: Arc<Shared>,
     threads: Vec<JoinHandle<()>>,
 }
 
 impl Discarder {
-    /// Starts the threads. `delete` deletes the file of a number; several threads call it at once, each with another
-    /// file. Where it panics its thread ends, and what that had fetched waits again.
+    /// Starts the threads. `delete` deletes the file with a number. Several threads call it at once, each with another
+    /// file. If it panics, its thread ends, and the files that the thread had fetched wait again.
     ///
-    /// Fails where the system starts no thread; then none runs.
+    /// Fails if the system can't start a thread. Then none runs.
     pub fn start<D>(
         coordinator: SharedCoordinator,
         patience: Patience,
@@ -107,12 +108,12 @@ impl Discarder {
         Ok(discarder)
     }
 
-    /// What was done up to now.
+    /// The counts so far.
     pub fn told(&self) -> Discarded {
         self.shared.lock().told.clone()
     }
 
-    /// Ends the threads, each after the attempt that it makes, and answers what was done. Files that were fetched and not
+    /// Ends the threads, each after its current attempt, and returns the counts. Files that were fetched and not
     /// deleted wait again.
     pub fn stop(mut self) -> Discarded {
         self.end();
@@ -123,7 +124,7 @@ impl Discarder {
         self.shared.lock().is_over = true;
         self.shared.over.notify_all();
         for thread in self.threads.drain(..) {
-            // one that has panicked told so itself
+            // a thread that panicked has said so itself
             let _ = thread.join();
         }
         let given_up = self.shared.lock().told.given_up.clone();
@@ -141,7 +142,7 @@ impl Drop for Discarder {
     }
 }
 
-/// Files that are fetched and not yet reported. Those that are left wait again, also where `delete` panics.
+/// Files that are fetched and not yet reported. Those that are left wait again, even if `delete` panics.
 struct Batch<'a> {
     shared: &'a Shared,
     files: Vec<u64>,
@@ -160,7 +161,7 @@ impl Shared {
         self.state.lock().unwrap_or_else(PoisonError::into_inner)
     }
 
-    /// Waits so long, or until the discarder is stopped: whether it is.
+    /// Waits this long, or until the discarder is stopped. Returns whether it is stopped.
     fn is_over_after(&self, wait: Duration) -> bool {
         let (state, _) = self
             .over
@@ -174,7 +175,7 @@ impl Shared {
         let mut buffer = vec![0; self.patience.batch.get() as usize];
         let mut wait = Duration::ZERO;
         while !self.is_over_after(wait) {
-            // a take that finds no memory has fetched nothing: it is tried again as where no file waits
+            // a take that runs out of memory has fetched nothing: try again later, as if no file waited
             let files = self.coordinator.take(&mut buffer).unwrap_or_default();
             wait = if files.is_empty() {
                 self.patience.idle
@@ -185,7 +186,7 @@ impl Shared {
         }
     }
 
-    /// Tries files until each is deleted or was tried as often as may be, or the discarder is stopped.
+    /// Tries files until each is deleted or given up, or the discarder is stopped.
     fn discard(&self, files: Vec<u64>, delete: &dyn Fn(u64) -> io::Result<()>) {
         let mut batch = Batch {
             shared: self,
@@ -205,7 +206,7 @@ impl Shared {
         self.lock().told.given_up.append(&mut batch.files);
     }
 
-    /// Tries a file, and reports it where it is deleted.
+    /// Tries a file, and reports it if it is deleted.
     fn is_deleted(&self, file: u64, delete: &dyn Fn(u64) -> io::Result<()>) -> bool {
         let is_gone = match delete(file) {
             Ok(()) => true,
@@ -220,8 +221,8 @@ impl Shared {
         is_gone
     }
 
-    /// Reports a file that was taken here. Only one that somebody else has reported is refused, and then there is nothing
-    /// to do: these two calls take no memory.
+    /// Reports a file that was taken here. These two calls take no memory. They are refused only for a file that
+    /// somebody else has reported, and then there is nothing to do.
     fn report(&self, file: u64, is_deleted: bool) {
         let told = match is_deleted {
             true => self.coordinator.deleted(file),

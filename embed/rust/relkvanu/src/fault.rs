@@ -4,7 +4,7 @@ use relkvanu_sys as sys;
 use std::error::Error;
 use std::fmt;
 
-/// Why the rules refuse a call. They are tested in the order in which they stand here.
+/// Why a call is refused: the first of these that applies.
 #[derive(Clone, Copy, Debug, PartialEq, Eq, Hash)]
 pub enum Refusal {
     MomentTooLarge,
@@ -13,9 +13,9 @@ pub enum Refusal {
     RepeatedFile,
     UnknownCheckpoint,
     UnknownSubtask,
-    /// The subtask has acknowledged this record. The files may be those of its first message: they are not to be deleted.
+    /// The subtask has acknowledged this record. The files may be those of its first message: do not delete them.
     AlreadyAcknowledged,
-    /// A fresh file with this number is known. It may be in use: it is not to be deleted.
+    /// A fresh file with this number is known. It may be in use: do not delete it.
     NameTaken(u64),
     /// A reused file is not present any more: the task writes its state anew, under a new number.
     FileGone(u64),
@@ -70,7 +70,7 @@ impl Refusal {
         }
     }
 
-    /// The file that is to blame, where it is one.
+    /// The file that is to blame, if there is one.
     pub fn file(&self) -> Option<u64> {
         match self {
             Refusal::NameTaken(file) | Refusal::FileGone(file) => Some(*file),
@@ -78,7 +78,7 @@ impl Refusal {
         }
     }
 
-    /// The name of the refusal, as `NotRunning`.
+    /// The name of the refusal, such as `NotRunning`.
     pub fn name(&self) -> String {
         let mut text = [0; 32];
         // SAFETY: the buffer is this function's own, and has as many bytes as is said.
@@ -88,7 +88,7 @@ impl Refusal {
     }
 }
 
-/// The name, and the file that is to blame, as `NameTaken 7`.
+/// The name, and the file that is to blame, such as `NameTaken 7`.
 impl fmt::Display for Refusal {
     fn fmt(&self, f: &mut fmt::Formatter<'_>) -> fmt::Result {
         f.write_str(&self.name())?;
@@ -104,23 +104,21 @@ impl Error for Refusal {}
 /// Why a call has changed nothing.
 #[derive(Clone, Copy, Debug, PartialEq, Eq, Hash)]
 pub enum Fault {
-    /// The rules refuse the call.
+    /// The call was refused.
     Refused(Refusal),
-    /// Memory ran out. The same call can be made again; where calls are logged, before any other.
+    /// Memory ran out. Make the same call again. If the log has its line already, make it before any other logged call.
     Memory,
     /// A value of the settings is outside its limits.
     BadConfig,
-    /// A shape is outside its limits. At a restore this is told before any refusal.
+    /// A shape is outside its limits. A restore reports this before any refusal.
     BadShape,
     /// The moment of an opening is above 2^62 - 1.
     BadMoment,
     /// The first number of an opening is not within 1 to 2^62 - 1.
     BadFirst,
-    /// The bytes are no image, or no coordinator can be in the state that it tells.
-    BadImage,
-    /// A line of a script can't be read, or a call has none that is short enough.
+    /// A line of a script can't be read, or the line of a call would be too long.
     BadLine(LineFault),
-    /// A `take` line would fetch so many files, and there are not as many places.
+    /// A `take` line would fetch this many files, and the buffer has fewer places.
     TooShort { places: u64 },
 }
 
@@ -156,7 +154,7 @@ impl Error for Fault {
     }
 }
 
-/// The answer of a call that was made, or why it changed nothing.
+/// The answer to a call that was made, or why it changed nothing.
 pub(crate) fn done(told: sys::relkvanu_answer) -> Result<sys::relkvanu_answer, Fault> {
     Err(match (told.code, told.what) {
         (sys::RELKVANU_DONE, _) => return Ok(told),

@@ -14,11 +14,11 @@ pub enum LineFault {
     TooLong,
     /// A word that does not belong there.
     Word,
-    /// The line ends before a place that it needs.
+    /// The line ends before a word that it needs.
     Missing,
     /// Not a number, or not a subtask.
     Number,
-    /// A word follows the last place.
+    /// A word follows the last one.
     Extra,
     /// It was read, and makes no call: a `config`, `job`, `start` or `all` line.
     NoCall,
@@ -38,7 +38,7 @@ impl LineFault {
     }
 }
 
-/// The name of the fault, as `Missing`.
+/// The name of the fault, such as `Missing`.
 impl fmt::Display for LineFault {
     fn fmt(&self, f: &mut fmt::Formatter<'_>) -> fmt::Result {
         fmt::Debug::fmt(self, f)
@@ -53,7 +53,7 @@ pub enum Said<'a> {
     /// Nothing: it has no words, or is a comment.
     Skipped,
     Called(Answer),
-    /// It fetched these files, which are at the front of the buffer.
+    /// It fetched these files, which are at the start of the buffer.
     Taken(&'a [u64]),
     /// The metadata of the record, as JSON.
     Shown(String),
@@ -77,7 +77,7 @@ pub enum Line {
 }
 
 impl Line {
-    /// What the bytes before a newline say. No number is tested against the limits of a job.
+    /// What the bytes before a newline say. Checks no number against the limits of a job.
     pub fn of(line: &[u8]) -> Result<Line, Fault> {
         let mut numbers = vec![0; 8];
         let says = loop {
@@ -128,7 +128,7 @@ fn settings(numbers: &[u64]) -> Settings {
     }
 }
 
-/// The lines `config`, `job` and `start` of a coordinator that begins with the number 1, each with its newline.
+/// The lines `config`, `job` and `start` of a coordinator whose first record has the number 1, each with its newline.
 pub fn opening_lines(settings: &Settings, shape: &[u64], now: u64) -> Result<String, Fault> {
     let settings = settings.into();
     text(|bytes| {
@@ -146,7 +146,21 @@ pub fn opening_lines(settings: &Settings, shape: &[u64], now: u64) -> Result<Str
     })
 }
 
-/// A call, to be logged: its line is read again as this call.
+/// The result of writing into a buffer that is long enough.
+fn text(write: impl Fn(&mut [u8]) -> sys::relkvanu_answer) -> Result<String, Fault> {
+    let mut bytes = vec![0; 256];
+    loop {
+        let told = write(&mut bytes);
+        if told.code == sys::RELKVANU_TOO_SHORT {
+            bytes.resize(told.a as usize, 0);
+            continue;
+        }
+        bytes.truncate(done(told)?.a as usize);
+        return Ok(String::from_utf8_lossy(&bytes).into_owned());
+    }
+}
+
+/// A call for a log. Its line reads back as this call.
 #[derive(Clone, Copy, Debug, PartialEq, Eq, Hash)]
 pub enum Call<'a> {
     Tick {
@@ -196,8 +210,7 @@ pub enum Call<'a> {
 }
 
 impl Call<'_> {
-    /// The line of the call, without a newline. One that would be longer than a line may be is a
-    /// [`Fault::BadLine`]; none is cut.
+    /// The line of the call, without a newline. A line that would be too long is a [`Fault::BadLine`]. None is cut.
     pub fn line(&self) -> Result<String, Fault> {
         if let Call::Restore {
             shape: Some([]), ..
@@ -269,7 +282,7 @@ impl Call<'_> {
     }
 }
 
-/// The record of a show line, which the library has read: so its digits are those of one number.
+/// The record of a show line. The library has read the line, so its digits are those of one number.
 fn shown_record(line: &[u8]) -> Option<u64> {
     let word = line.iter().position(|byte| *byte != b' ')?;
     let rest = line[word..].strip_prefix(b"show")?;
@@ -280,10 +293,10 @@ fn shown_record(line: &[u8]) -> Option<u64> {
 }
 
 impl Coordinator {
-    /// Makes the call that a line says: the bytes before its newline, of which a carriage return at the end is dropped.
+    /// Makes the call of a line: the bytes before its newline. A carriage return at the end is dropped.
     ///
-    /// A `take` line fetches at most as many files as it says into the buffer; where it would fetch more than there
-    /// are places for, it is a [`Fault::TooShort`], and nothing has changed.
+    /// A `take` line fetches at most as many files as it says into the buffer. If it would fetch more than the buffer
+    /// has places, it is a [`Fault::TooShort`], and nothing has changed.
     pub fn line<'a>(&mut self, line: &[u8], files: &'a mut [u64]) -> Result<Said<'a>, Fault> {
         // SAFETY: the handle is as the library last left it, and `&mut self` keeps other calls away; the slice and the
         // buffer outlive the call, and have as many elements as is said.

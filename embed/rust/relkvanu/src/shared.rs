@@ -9,7 +9,7 @@ use std::time::Duration;
 
 type Called = Result<Answer, Fault>;
 
-/// A coordinator under a mutex, and how many calls were made under it.
+/// A coordinator under a mutex, and the number of calls made under it.
 #[derive(Debug)]
 struct Inner {
     coordinator: Coordinator,
@@ -22,10 +22,10 @@ struct Shared {
     called: Condvar,
 }
 
-/// A coordinator that threads share: a clone is the same one. Each method locks it for one call; [`with`](Self::with) for
-/// several, between which no other thread's call comes.
+/// A coordinator that threads share. A clone is the same coordinator. Each method locks it for one call, and
+/// [`with`](Self::with) for several, with no other thread's call between them.
 ///
-/// The lock is let go before a method answers, so the arms of a `match` over an answer may call again.
+/// A method unlocks before it returns, so the arms of a `match` over an answer may call again.
 #[derive(Clone, Debug)]
 pub struct SharedCoordinator {
     shared: Arc<Shared>,
@@ -57,12 +57,7 @@ impl SharedCoordinator {
         Coordinator::open(settings, shape, now, first).map(SharedCoordinator::from)
     }
 
-    /// Opens the coordinator that an image tells, as [`Coordinator::open_saved`].
-    pub fn open_saved(image: &[u8]) -> Result<SharedCoordinator, Fault> {
-        Coordinator::open_saved(image).map(SharedCoordinator::from)
-    }
-
-    /// The lock. A thread that panics under it leaves the coordinator between two calls, so it is sound all the same.
+    /// The lock. A thread that panics under it leaves the coordinator between two calls, so its state is sound.
     fn lock(&self) -> MutexGuard<'_, Inner> {
         self.shared
             .inner
@@ -70,7 +65,7 @@ impl SharedCoordinator {
             .unwrap_or_else(PoisonError::into_inner)
     }
 
-    /// Does what is given under one lock, and wakes who waits for a call. Deleting, sending and waiting belong outside.
+    /// Runs a closure under one lock, and wakes threads that wait for a call. Delete, send and wait outside of it.
     pub fn with<T>(&self, calls: impl FnOnce(&mut Coordinator) -> T) -> T {
         let mut inner = self.lock();
         inner.calls += 1;
@@ -80,7 +75,7 @@ impl SharedCoordinator {
         told
     }
 
-    /// A call that moves no moment which a timer waits for, so nobody is woken.
+    /// A call that does not change what a timer waits for, so nobody is woken.
     fn quietly<T>(&self, call: impl FnOnce(&mut Coordinator) -> T) -> T {
         call(&mut self.lock().coordinator)
     }
@@ -90,12 +85,12 @@ impl SharedCoordinator {
         reads(&self.lock().coordinator)
     }
 
-    /// How many times a call was made that may move what a timer waits for, or [`with`](Self::with), which may make one.
+    /// The number of calls that may have changed what a timer waits for, [`with`](Self::with) included.
     pub fn calls(&self) -> u64 {
         self.lock().calls
     }
 
-    /// Waits until [`calls`](Self::calls) is above `seen`, or the time is over; without one, for as long as it takes.
+    /// Waits until [`calls`](Self::calls) is above `seen`, or the time is over. `None` sets no limit.
     pub fn wait_for_call(&self, seen: u64, longest: Option<Duration>) {
         let is_unseen = |inner: &mut Inner| inner.calls <= seen;
         let inner = self.lock();
@@ -120,7 +115,7 @@ impl SharedCoordinator {
         self.with(|it| it.savepoint(now))
     }
 
-    /// Whose the files are then: [`Coordinator::ack`].
+    /// [`Coordinator::ack`] says who may then delete the files.
     pub fn ack(
         &self,
         now: u64,
@@ -165,7 +160,7 @@ impl SharedCoordinator {
         self.quietly(|it| it.undeleted(file))
     }
 
-    /// Makes the call that a line says: [`Coordinator::line`].
+    /// Makes the call of a line: [`Coordinator::line`].
     pub fn line<'a>(&self, line: &[u8], files: &'a mut [u64]) -> Result<Said<'a>, Fault> {
         self.with(|it| it.line(line, files))
     }

@@ -1,14 +1,12 @@
 //! The reads after calls, with values that are worked out from the rules (`docs/RULES.md`).
+mod settings;
+
 use relkvanu::{Answer, Choice, Coordinator, FileCounts, Kind, Live, Mode, Settings};
 
+/// Two checkpoints may be pending.
 const SETTINGS: Settings = Settings {
-    interval: 1000,
-    pause: 0,
     at_once: 2,
-    timeout: 5000,
-    tolerable: 0,
-    retained: 1,
-    keep_on_cancel: false,
+    ..settings::SETTINGS
 };
 
 fn opened(settings: &Settings) -> Coordinator {

@@ -1,7 +1,8 @@
 //! The rows of `examples/rows` that are lists of calls, through the crate: the library reads the lines.
-use relkvanu::{
-    opening_lines, Answer, Call, Choice, Coordinator, Fault, Line, LineFault, Said, Settings,
-};
+mod settings;
+
+use relkvanu::{opening_lines, Answer, Call, Coordinator, Fault, Line, LineFault, Said, Settings};
+use settings::SETTINGS;
 use std::path::Path;
 
 /// A row: the lines of its script, and what each one prints.
@@ -43,40 +44,6 @@ fn opened(lines: &[Vec<u8>]) -> Option<Coordinator> {
     }
 }
 
-fn text(answer: Answer) -> String {
-    match answer {
-        Answer::Triggered { expired, id } => format!("tick expired {expired} triggered {id}"),
-        Answer::HeldInterval { expired } => format!("tick expired {expired} held interval"),
-        Answer::HeldAtOnce { expired } => format!("tick expired {expired} held at-once"),
-        Answer::HeldPause { expired } => format!("tick expired {expired} held pause"),
-        Answer::Failed { expired } => format!("tick expired {expired} failed"),
-        Answer::SavepointTriggered(id) => format!("savepoint triggered {id}"),
-        Answer::AckPending { missing } => format!("ack pending {missing}"),
-        Answer::AckCompleted { dropped, released } => format!("ack completed {dropped} {released}"),
-        Answer::AckLate { handed_out } => format!("ack late {handed_out}"),
-        Answer::DeclineAborted { released } => format!("decline aborted {released}"),
-        Answer::DeclineFailed { released } => format!("decline failed {released}"),
-        Answer::DeclineLate => "decline late".into(),
-        Answer::Disposed { released } => format!("disposed {released}"),
-        Answer::Restored {
-            from: Choice::Checkpoint(id),
-            released,
-        } => format!("restored checkpoint {id} {released}"),
-        Answer::Restored {
-            from: Choice::Savepoint(id),
-            released,
-        } => format!("restored savepoint {id} {released}"),
-        Answer::Restored {
-            from: Choice::Fresh,
-            released,
-        } => format!("restored fresh {released}"),
-        Answer::Cancelled { dropped, released } => format!("cancelled {dropped} {released}"),
-        Answer::Deleted(file) => format!("deleted {file}"),
-        Answer::Undeleted(file) => format!("undeleted {file}"),
-        Answer::Counted { file, uses } => format!("count {file} {uses}"),
-    }
-}
-
 fn refused(fault: Fault, number: usize) -> String {
     match fault {
         Fault::Refused(why) => format!("refused {why}"),
@@ -100,7 +67,7 @@ fn told(job: &mut Coordinator, line: &[u8], number: usize) -> Option<String> {
     let mut files = vec![0; 4096];
     match job.line(line, &mut files) {
         Ok(Said::Skipped) | Err(Fault::BadLine(LineFault::NoCall)) => None,
-        Ok(Said::Called(answer)) => Some(text(answer)),
+        Ok(Said::Called(answer)) => Some(answer.to_string()),
         Ok(Said::Taken(files)) => Some(taken(files)),
         Ok(Said::Shown(json)) => Some(json),
         Err(fault) => Some(refused(fault, number)),
@@ -174,13 +141,8 @@ fn a_call_is_written_as_its_line() {
 #[test]
 fn a_log_is_made_again() {
     let settings = Settings {
-        interval: 1000,
-        pause: 0,
-        at_once: 1,
-        timeout: 5000,
-        tolerable: 0,
-        retained: 1,
         keep_on_cancel: true,
+        ..SETTINGS
     };
     let lines = opening_lines(&settings, &[1, 2], 7).unwrap();
     assert_eq!(lines, "config 1000 0 1 5000 0 1 keep\njob 1 2\nstart 7\n");
@@ -229,26 +191,17 @@ fn a_log_is_made_again() {
 
 #[test]
 fn what_a_coordinator_is_not_opened_with() {
-    let settings = Settings {
-        interval: 1000,
-        pause: 0,
-        at_once: 1,
-        timeout: 600_000,
-        tolerable: 0,
-        retained: 1,
-        keep_on_cancel: false,
-    };
     let open = |settings: &Settings, shape: &[u64], now, first| {
         Coordinator::open(settings, shape, now, first).err()
     };
     let idle = Settings {
         interval: 9,
-        ..settings
+        ..SETTINGS
     };
     assert_eq!(open(&idle, &[1], 0, 1), Some(Fault::BadConfig));
-    assert_eq!(open(&settings, &[], 0, 1), Some(Fault::BadShape));
-    assert_eq!(open(&settings, &[4097], 0, 1), Some(Fault::BadShape));
-    assert_eq!(open(&settings, &[1], 1 << 62, 1), Some(Fault::BadMoment));
-    assert_eq!(open(&settings, &[1], 0, 0), Some(Fault::BadFirst));
-    assert_eq!(open(&settings, &[1], (1 << 62) - 1, (1 << 62) - 1), None);
+    assert_eq!(open(&SETTINGS, &[], 0, 1), Some(Fault::BadShape));
+    assert_eq!(open(&SETTINGS, &[4097], 0, 1), Some(Fault::BadShape));
+    assert_eq!(open(&SETTINGS, &[1], 1 << 62, 1), Some(Fault::BadMoment));
+    assert_eq!(open(&SETTINGS, &[1], 0, 0), Some(Fault::BadFirst));
+    assert_eq!(open(&SETTINGS, &[1], (1 << 62) - 1, (1 << 62) - 1), None);
 }

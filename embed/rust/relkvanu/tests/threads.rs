@@ -1,23 +1,14 @@
 //! What threads share: a coordinator, and the discarder's threads over it.
-use relkvanu::{
-    Answer, Discarder, Fault, FileCounts, Patience, Refusal, Settings, SharedCoordinator,
-};
+mod settings;
+
+use relkvanu::{Answer, Discarder, Fault, FileCounts, Patience, Refusal, SharedCoordinator};
+use settings::SETTINGS;
 use std::error::Error;
 use std::io;
 use std::num::NonZeroU32;
 use std::sync::atomic::{AtomicU32, Ordering::SeqCst};
 use std::thread;
 use std::time::{Duration, Instant};
-
-const SETTINGS: Settings = Settings {
-    interval: 1000,
-    pause: 0,
-    at_once: 1,
-    timeout: 5000,
-    tolerable: 0,
-    retained: 1,
-    keep_on_cancel: false,
-};
 
 fn quick(attempts: u32) -> Patience {
     Patience {

@@ -1,21 +1,12 @@
-use Rattle.std.proofs.Common.{◌≡◌, List, [], ◌∷◌, ◌++◌, refl, sym, ap, subst, ◌∙◌}
-use Rattle.ckpt_ids.specs.declared.call.Call.{Call}
+use Rattle.std.proofs.Common.{List, ◌++◌, sym, ap, subst, ◌∙◌}
 use Rattle.ckpt_ids.specs.declared.reply.Answer.{Answer}
 use Rattle.ckpt_core.specs.State.{State}
-use Rattle.ckpt_core.specs.Steps.{step}
 use Rattle.ckpt_core.specs.Histories.{replay, answers}
-use Rattle.ckpt_core.specs.Images.{AreAlike, GoesOnAs, IsCut, settled}
+use Rattle.ckpt_core.specs.Images.{AreAlike, GoesOnAs, settled}
+use Rattle.ckpt_core.proofs.Histories.Replays.{answers-append, replay-append}
 use Rattle.ckpt_core.proofs.Loaded.Alike.{go_on_alike}
 use Rattle.ckpt_core.proofs.Loaded.Settled.{settled_alike}
 use Rattle.ckpt_core.proofs.laws.cutting.Goals as goal
-
-replay-both : (m : State) (before after : List Call) → replay m (before ++ after) ≡ replay (replay m before) after
-replay-both m [] after = refl
-replay-both m (call ∷ before) after = replay-both (step m call).0 before after
-
-answers-both : (m : State) (before after : List Call) → answers m (before ++ after) ≡ answers m before ++ answers (replay m before) after
-answers-both m [] after = refl
-answers-both m (call ∷ before) after = ap (λ (xs : List Answer). (step m call).1 ∷ xs) (answers-both (step m call).0 before after)
 
 pub returns : goal.returns
 returns c = λ m before after.
@@ -23,6 +14,6 @@ returns c = λ m before after.
     let same : GoesOnAs n (settled n) after = go_on_alike n (settled n) after (settled_alike n) in
     let P : State → Type 0 = λ k. AreAlike k (replay (settled n) after) in
     record {
-      answers = answers-both m before after ∙ ap (λ (xs : List Answer). answers m before ++ xs) same.answers;
-      state = subst P (sym (replay-both m before after)) same.state;
+      answers = answers-append m before after ∙ ap (λ (xs : List Answer). answers m before ++ xs) same.answers;
+      state = subst P (sym (replay-append m before after)) same.state;
     }

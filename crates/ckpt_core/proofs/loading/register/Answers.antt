@@ -1,6 +1,6 @@
-use Rattle.std.proofs.Common.{◌≡◌, ℕ, ◌+◌, ◌<◌, ◌≤◌, ◌-◌, ◌^◌, ◌++◌, ◌∷◌, [], List, length, take, get_or, refl, sym, ap, subst, ◌∙◌, arith, OnOk, Result, Ok, Err}
+use Rattle.std.proofs.Common.{◌≡◌, ℕ, ◌+◌, ◌<◌, ◌≤◌, ◌-◌, ◌^◌, ◌++◌, ◌∷◌, [], List, length, take, get_or, sym, ap, subst, ◌∙◌, arith}
 use Rattle.std.proofs.lemmas.List.{append-nil, take_more, take_all}
-use Rattle.std.proofs.lemmas.Bool.{eq-eqb}
+use Rattle.std.proofs.lemmas.Result.{on_ok_weaker}
 use Rattle.ckpt_ids.specs.declared.ack.Acked.{Acked}
 use Rattle.ckpt_ids.specs.Acknowledged.{AreInSubtaskOrder}
 use Rattle.ckpt_ids.specs.Ascending.{IsAscendingSet}
@@ -71,11 +71,6 @@ loop-acked-preserved c =
 all_registered : (acks items : List Acked) (i : ℕ) (old now : List Use) (id : ℕ) → items ≡ acks → length items ≤ i → now ≡ old ++ uses_of_acks id (take i items) → now ≡ old ++ uses_of_acks id acks
 all_registered acks items i old now id same end e = e ∙ ap (λ (xs : List Acked). old ++ uses_of_acks id xs) (take_all i items end ∙ same)
 
--- what holds after a success follows from what does
-on_ok : {T E : Type 0} (r : Result T E) (P Q : Type 0) → (P → Q) → OnOk r P → OnOk r Q
-on_ok (Ok x) P Q f p = f p
-on_ok (Err e) P Q f p = p
-
 pub pin_files-requires-clause-below : goal.pin_files-requires-clause-below
 pin_files-requires-clause-below c = λ f h.
     let acks : List Acked = c.as_slice-acked-items.result.now in
@@ -100,7 +95,7 @@ returns c =
     let after : in_order_once use_before (c.loop-acked.registry ++ holds id Pin pins) ≡ old ++ uses_held id acks pins =
     ap (λ (us : List Use). in_order_once use_before (us ++ holds id Pin pins)) now
     ∙ pins_registered old id acks pins c.requires.in_order c.requires.newest c.as_slice-acked-items.ensures.order c.requires.files c.requires.pins in
-    on_ok c.pin_files.result _ _ (λ (e : c.pin_files.new.self ≡ in_order_once use_before (c.loop-acked.registry ++ holds id Pin pins)). e ∙ after) c.pin_files.ensures.ok
+    on_ok_weaker c.pin_files.result (λ (e : c.pin_files.new.self ≡ in_order_once use_before (c.loop-acked.registry ++ holds id Pin pins)). e ∙ after) c.pin_files.ensures.ok
 
 pub returns-then-is_empty : goal.returns-then-is_empty
 returns-then-is_empty c =

@@ -7,11 +7,9 @@ use Rattle.ckpt_embed.specs.Told.{no_memory}
 use Rattle.ckpt_embed.proofs.Given.{fault_told_as, show_leaves}
 use Rattle.ckpt_embed.proofs.buffers.show_from.Goals as goal
 
--- src/buffers.rt:98:1
 pub returns-in-Ok-clause-unchanged : goal.returns-in-Ok-clause-unchanged
 returns-in-Ok-clause-unchanged c = show_leaves c.args.core.now c.apply.new.self c.args.id c.in-Ok.reply c.in-Ok.ensures.done
 
--- src/buffers.rt:93:1
 pub returns-clause-answered : goal.returns-clause-answered
 returns-clause-answered c =
     let m = c.args.core.now in let asked = call.Show c.args.id in let places = length c.args.json.now in

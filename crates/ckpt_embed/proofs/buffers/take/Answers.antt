@@ -2,6 +2,5 @@ use Rattle.std.proofs.Common.{length}
 use Rattle.ckpt_embed.proofs.Given.{take_at_most}
 use Rattle.ckpt_embed.proofs.buffers.take.Goals as goal
 
--- src/buffers.rt:33:9
 pub take_from-answer-requires : goal.take_from-answer-requires
 take_from-answer-requires c = record { fits = take_at_most c.deref_mut.result.now (length c.args.files.now) }

@@ -3,7 +3,6 @@ use Rattle.std.proofs.lemmas.List.{length-set}
 use Rattle.ckpt_embed.proofs.Front.{front_next, rest_next}
 use Rattle.ckpt_embed.proofs.buffers.write_files.Goals as goal
 
--- src/buffers.rt:85:5
 pub loop-place-preserved : goal.loop-place-preserved
 loop-place-preserved c =
     let files = c.loop-place.files in let taken = c.args.taken.now in let old = c.args.files.now in let place = c.loop-place.place in

@@ -5,7 +5,6 @@ use Rattle.ckpt_embed.specs.Told.{told, no_memory}
 use Rattle.ckpt_embed.proofs.Given.{fault_answered}
 use Rattle.ckpt_embed.proofs.calls.answer.Goals as goal
 
--- src/calls.rt:92:1
 pub returns-in-Err-clause-answered : goal.returns-in-Err-clause-answered
 returns-in-Err-clause-answered c =
     let m = c.args.core.now in let m' = c.apply.new.self in let call = c.args.call.now in

@@ -2,13 +2,11 @@ use Rattle.std.proofs.Common.{◌≡◌, ℕ, sym, subst, arith}
 use Rattle.ckpt_embed.proofs.Given.{take_brings}
 use Rattle.ckpt_embed.proofs.lines.fetchable.Goals as goal
 
--- src/lines.rt:130:1
 pub returns-then-most-waiting : goal.returns-then-most-waiting
 returns-then-most-waiting c =
     subst (λ (k : ℕ). c.args.most ≡ k) (sym (take_brings c.args.core.now c.args.most))
     (omega (arith, c.if-most-waiting.true, c.files_waiting-waiting.ensures))
 
--- src/lines.rt:130:1
 pub returns-else-most-waiting : goal.returns-else-most-waiting
 returns-else-most-waiting c =
     subst (λ (k : ℕ). c.files_waiting-waiting.result ≡ k) (sym (take_brings c.args.core.now c.args.most))

@@ -5,7 +5,6 @@ use Rattle.ckpt_embed.specs.Writing.{opening_text}
 use Rattle.ckpt_embed.proofs.Openings.{lines_fit}
 use Rattle.ckpt_embed.proofs.writing.opening_lines.Goals as goal
 
--- src/writing.rt:146:1
 pub returns-in-Ok-clause-read : goal.returns-in-Ok-clause-read
 returns-in-Ok-clause-read c = λ written.
     let o = opening_of c.args.settings.now c.args.shape.now c.args.now 1 in

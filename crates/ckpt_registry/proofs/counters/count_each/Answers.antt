@@ -1,6 +1,5 @@
-use Rattle.std.proofs.Common.{◌≡◌, ℕ, ◌+◌, ◌<◌, ◌≤◌, ◌^◌, List, length, get_or, Some, Option, unwrap_or, sym, ap, subst, ◌∙◌, arith, rules}
+use Rattle.std.proofs.Common.{◌≡◌, ℕ, ◌+◌, ◌<◌, ◌^◌, List, length, get_or, Some, Option, unwrap_or, sym, ap, subst, ◌∙◌, arith, rules}
 use Rattle.std.specs.Result.{IsOk}
-use Rattle.ckpt_ids.specs.Counting.{times}
 use Rattle.ckpt_ids.specs.Ordered.{IsIn}
 use Rattle.ckpt_ids.proofs.OrderedLemmas.{IsIn-get_or}
 use Rattle.ckpt_registry.specs.Counters.{Counts, counter}

@@ -8,7 +8,6 @@ grown : {T E : Type 0} (r : Result T E) (after more before all : List ℕ) → a
 grown (Ok done) after more before all e f = e ∙ f
 grown (Err why) after more before all e f = tt
 
--- src/ahead.rt:128:1
 pub returns : goal.returns
 returns c =
     let count : c.min-count.result ≡ min (length c.args.bytes.now) (held - length c.args.line.now.items) = omega (arith, c.args.line.now.ok) in

@@ -4,7 +4,6 @@ use Rattle.ckpt_script.proofs.PassesLemmas.{Appends-trans, Appends-as, Appends-k
 use Rattle.ckpt_script.proofs.LineLemmas.{take_rest}
 use Rattle.ckpt_script.proofs.printed.write_whole.Goals as goal
 
--- src/printed.rt:69:5
 pub loop-done-preserved : goal.loop-done-preserved
 loop-done-preserved g c = record {
   going_on = c.in-Ok.ensures.going_on ∙ c.loop-done.invariant.going_on;

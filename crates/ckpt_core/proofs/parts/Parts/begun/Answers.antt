@@ -1,4 +1,4 @@
-use Rattle.std.proofs.Common.{◌≡◌, ℕ, ◌+◌, List, [], refl, sym, ap, ◌∙◌, arith}
+use Rattle.std.proofs.Common.{◌≡◌, ℕ, ◌+◌, List, [], refl, ap, ◌∙◌, arith}
 use Rattle.ckpt_ids.specs.Records.{Record}
 use Rattle.ckpt_outbox.specs.Queues.{Queues}
 use Rattle.ckpt_rules.specs.FailureCount.{FailureCount}
@@ -6,7 +6,6 @@ use Rattle.ckpt_rules.specs.Moments.{Moments}
 use Rattle.ckpt_store.specs.Storing.{Stored}
 use Rattle.ckpt_core.specs.Inside.Grouped.{records_of}
 use Rattle.ckpt_core.specs.Inside.Parts.{state_of}
-use Rattle.ckpt_core.specs.State.{Opening}
 use Rattle.ckpt_core.proofs.Loaded.Reopened.{state_same}
 use Rattle.ckpt_core.proofs.parts.Parts.begun.Goals as goal
 

@@ -12,18 +12,15 @@ use Rattle.std.specs.Prelude.{count_by}
 use Rattle.std.specs.List.{filter}
 use Rattle.ckpt_core.specs.State.{is_checkpoint}
 
--- src/triggers.rt:178:20
 pub note_expired-late-requires : goal.note_expired-late-requires
 note_expired-late-requires c = record { room = omega (arith, room_to_note c.args.self.now (length c.args.self.now.pending) c.requires.sound (omega arith)) }
 
--- src/triggers.rt:178:20
 pub overflow_cast-late : goal.overflow_cast-late
 overflow_cast-late c =
     let p = c.args.self.now in
     let groups = groups_of p c.recall_groups.ensures.pending c.recall_groups.ensures.stored in
     omega (arith, late_at_most p c.timeout-timeout.result c.read-moment.result c.note_expired-late.result c.note_expired-late.ensures.checkpoints, few_checkpoints p c.requires.sound groups)
 
--- src/triggers.rt:179:23
 pub overflow_cast-expired : goal.overflow_cast-expired
 overflow_cast-expired c =
     let p = c.args.self.now in
@@ -35,14 +32,12 @@ overflow_cast-expired c =
     omega (arith, l, c.len-expired.ensures) in
     omega (arith, expired, few_expired p (is_old c.timeout-timeout.result c.read-moment.result) c.requires.sound groups)
 
--- src/triggers.rt:181:13
 pub add-intolerable-requires : goal.add-intolerable-requires
 add-intolerable-requires c =
     let p = c.args.self.now in
     let groups = groups_of p c.recall_groups.ensures.pending c.recall_groups.ensures.stored in
     omega (arith, late_at_most p c.timeout-timeout.result c.read-moment.result c.note_expired-late.result c.note_expired-late.ensures.checkpoints, few_checkpoints p c.requires.sound groups, few_failures p c.requires.sound c.requires.running)
 
--- src/triggers.rt:184:13
 pub fail_over-requires : goal.fail_over-requires
 unfolding state_of
 fail_over-requires c =
@@ -53,7 +48,6 @@ fail_over-requires c =
       none_ended = c.clear.ensures.items;
     }
 
--- src/triggers.rt:187:13
 pub returns-then-intolerable-clause-ok : goal.returns-then-intolerable-clause-ok
 returns-then-intolerable-clause-ok c =
     let p = c.args.self.now in
@@ -66,39 +60,32 @@ returns-then-intolerable-clause-ok c =
     expiry_fails p c.fail_over.new.self c.clear.new.self c.add-intolerable.new.self c.timeout-timeout.result c.read-moment.result c.note_expired-late.result c.len-expired.result c.requires.sound groups c.timeout-timeout.ensures.value c.read-moment.ensures.value
     c.note_expired-late.ensures.checkpoints expired c.add-intolerable.ensures.number (omega (arith, c.if-late-gt0.true)) (c.add-intolerable.ensures.intolerable.0 c.if-intolerable.true) c.fail_over.ensures.state
 
--- src/triggers.rt:187:13
 pub returns-then-intolerable-clause-tied : goal.returns-then-intolerable-clause-tied
 returns-then-intolerable-clause-tied c =
     let p = c.args.self.now in
     tied_failures c.fail_over.new.self c.add-intolerable.new.self (failed_tolerable p c.fail_over.new.self c.clear.new.self c.add-intolerable.new.self c.note_expired-late.result c.requires.sound.tied c.add-intolerable.ensures.number c.fail_over.ensures.state) c.fail_over.ensures.tied
 
--- src/triggers.rt:189:23
 pub overflow_cast-pending : goal.overflow_cast-pending
 overflow_cast-pending c =
     let p = c.args.self.now in
     let groups = groups_of p c.recall_groups.ensures.pending c.recall_groups.ensures.stored in
     omega (arith, c.checkpoints.ensures, few_checkpoints p c.requires.sound groups)
 
--- src/triggers.rt:189:23
 pub overflow_sub-pending : goal.overflow_sub-pending
 overflow_sub-pending c = omega (arith, c.checkpoints.ensures, late_at_most c.args.self.now c.timeout-timeout.result c.read-moment.result c.note_expired-late.result c.note_expired-late.ensures.checkpoints)
 
--- src/triggers.rt:190:15
 pub start_or_hold-requires-clause-sound : goal.start_or_hold-requires-clause-sound
 unfolding state_of
 start_or_hold-requires-clause-sound c = c.requires.sound.sound
 
--- src/triggers.rt:193:17
 pub drop_noted-requires-clause-in_order : goal.drop_noted-requires-clause-in_order
 unfolding state_of
 drop_noted-requires-clause-in_order c = starts_in_order (state_of c.args.self.now) (c.checkpoints.result - c.note_expired-late.result) (state_of c.start_or_hold.new.self) c.in-Ok.end c.requires.sound.sound c.in-Ok.ensures.ok
 
--- src/triggers.rt:193:17
 pub drop_noted-requires-clause-unknown : goal.drop_noted-requires-clause-unknown
 unfolding state_of
 drop_noted-requires-clause-unknown c = unknown_after c.args.self.now c.start_or_hold.new.self (c.checkpoints.result - c.note_expired-late.result) c.in-Ok.end c.requires.sound.sound c.in-Ok.ensures.tied c.in-Ok.ensures.ok
 
--- src/triggers.rt:193:17
 pub drop_noted-requires-clause-pending_only : goal.drop_noted-requires-clause-pending_only
 unfolding state_of
 drop_noted-requires-clause-pending_only c =
@@ -114,7 +101,6 @@ drop_noted-requires-clause-pending_only c =
     ∙ done_not_dropped p c.start_or_hold.new.self (numbers (filter (is_old c.timeout-timeout.result c.read-moment.result) p.pending)) (c.checkpoints.result - c.note_expired-late.result) c.in-Ok.end
     (noted_are_expired p c.timeout-timeout.result c.read-moment.result c.requires.sound.sound groups c.timeout-timeout.ensures.value c.read-moment.ensures.value) (groups_of c.start_or_hold.new.self c.recall_groups-in-Ok.ensures.pending c.recall_groups-in-Ok.ensures.stored) c.in-Ok.ensures.ok r h
 
--- src/triggers.rt:166:5
 pub returns-in-Ok-clause-ok : goal.returns-in-Ok-clause-ok
 returns-in-Ok-clause-ok c =
     let p = c.args.self.now in
@@ -133,18 +119,15 @@ returns-in-Ok-clause-ok c =
     expiry_goes p c.start_or_hold.new.self c.drop_noted.new.self c.note_expired-late.new.ended c.add-intolerable.new.self c.timeout-timeout.result c.read-moment.result c.note_expired-late.result c.len-expired.result (c.checkpoints.result - c.note_expired-late.result) c.in-Ok.end c.requires.sound groups c.timeout-timeout.ensures.value c.read-moment.ensures.value
     c.note_expired-late.ensures.checkpoints expired c.add-intolerable.ensures.number rest few c.in-Ok.ensures.ok (c.in-Ok.ensures.noted ∙ ids_are) c.drop_noted.ensures.state_is
 
--- src/triggers.rt:166:5
 pub returns-in-Ok-clause-tied : goal.returns-in-Ok-clause-tied
 returns-in-Ok-clause-tied c =
     let p = c.args.self.now in
     tied_failures c.drop_noted.new.self c.add-intolerable.new.self (started_tolerable p c.start_or_hold.new.self c.drop_noted.new.self c.note_expired-late.new.ended c.add-intolerable.new.self c.note_expired-late.result (c.checkpoints.result - c.note_expired-late.result) c.in-Ok.end c.requires.sound.tied c.add-intolerable.ensures.number c.in-Ok.ensures.ok c.drop_noted.ensures.state_is) c.drop_noted.ensures.tied
 
--- src/triggers.rt:166:5
 pub returns-in-Err-clause-err : goal.returns-in-Err-clause-err
 unfolding state_of
 returns-in-Err-clause-err c = c.in-Err.ensures.err
 
--- src/triggers.rt:166:5
 pub returns-in-Err-clause-memory : goal.returns-in-Err-clause-memory
 unfolding state_of
 returns-in-Err-clause-memory c =

@@ -1,12 +1,12 @@
-use Rattle.std.proofs.Common.{rules, ◌≡◌, ℕ, ◌+◌, ◌<◌, ◌≤◌, Bool, true, false, not, ltb, eqb, List, length, sym, ap, ◌∙◌, arith}
-use Rattle.std.proofs.lemmas.Bool.{both_ways, ltb-true, ltb-false, ne_eqb}
+use Rattle.std.proofs.Common.{rules, ◌≡◌, ◌+◌, ◌<◌, not, eqb, sym, ap, ◌∙◌, arith}
+use Rattle.std.proofs.lemmas.Bool.{both_ways, ltb-true, ltb-false, and_from}
 use Rattle.ckpt_ids.specs.Records.{Record}
 use Rattle.ckpt_core.specs.declared.parts.Parts.{Parts}
 use Rattle.ckpt_core.specs.Images.{record_in}
 use Rattle.ckpt_core.specs.Inside.Parts.{opening_of, records_in}
 use Rattle.ckpt_core.specs.State.{is_checkpoint, is_pending}
 use Rattle.ckpt_core.proofs.Ending.Drops.{groups_of}
-use Rattle.ckpt_core.proofs.Loaded.Loads.{both_true, done_checkpoints-groups, room_done, room_pending, room_savepoint}
+use Rattle.ckpt_core.proofs.Loaded.Loads.{done_checkpoints-groups, room_done, room_pending, room_savepoint}
 use Rattle.ckpt_core.proofs.Records.GroupLookups.{is_checkpoint-kind, is_savepoint-kind, pending_checkpoints-groups, savepoints-groups}
 use Rattle.ckpt_core.proofs.parts.Parts.has_room_for.Goals as goal
 
@@ -52,7 +52,7 @@ returns-then-pending-eq0-clause-no c = λ no room.
     let groups = groups_of p c.recall.ensures.pending c.savepoints-2.ensures.stored in
     let stands = done_checkpoints-groups p.registry p.pending p.store.checkpoints p.store.savepoints groups in
     let many = ltb-false c.checkpoints-checkpoints.result c.retained.result no in
-    omega (arith, stands, many, c.checkpoints-checkpoints.ensures.value, c.retained.ensures.value, room.retained (both_true r.done (is_checkpoint r) c.if-saved.true (is_checkpoint-kind r c.in-Checkpoint.is)))
+    omega (arith, stands, many, c.checkpoints-checkpoints.ensures.value, c.retained.ensures.value, room.retained (and_from r.done (is_checkpoint r) c.if-saved.true (is_checkpoint-kind r c.in-Checkpoint.is)))
 
 pub returns-else-pending-eq0-clause-no : goal.returns-else-pending-eq0-clause-no
 returns-else-pending-eq0-clause-no c = λ no room.
@@ -60,7 +60,7 @@ returns-else-pending-eq0-clause-no c = λ no room.
     let r : Record = record_in c.args.saved.now in
     let groups = groups_of p c.recall.ensures.pending c.savepoints-2.ensures.stored in
     let waits = pending_checkpoints-groups p.registry p.pending p.store.checkpoints p.store.savepoints groups in
-    let none = room.newer (both_true r.done (is_checkpoint r) c.if-saved.true (is_checkpoint-kind r c.in-Checkpoint.is)) in
+    let none = room.newer (and_from r.done (is_checkpoint r) c.if-saved.true (is_checkpoint-kind r c.in-Checkpoint.is)) in
     let zero : c.checkpoints-pending.result ≡ 0 = c.checkpoints-pending.ensures ∙ sym waits ∙ none in
     both_ways (eqb c.checkpoints-pending.result 0) no (ap (λ n. eqb n 0) zero)
 
@@ -80,4 +80,4 @@ returns-else-saved-clause-no c = λ no room.
     let groups = groups_of p c.recall.ensures.pending c.savepoints-2.ensures.stored in
     let waits = pending_checkpoints-groups p.registry p.pending p.store.checkpoints p.store.savepoints groups in
     let many = ltb-false c.checkpoints-pending.result c.limit_of.result no in
-    omega (arith, waits, many, c.checkpoints-pending.ensures, c.limit_of.ensures, room.at_once (both_true (is_pending r) (is_checkpoint r) (ap not c.if-saved.false) (is_checkpoint-kind r c.in-Checkpoint.is)))
+    omega (arith, waits, many, c.checkpoints-pending.ensures, c.limit_of.ensures, room.at_once (and_from (is_pending r) (is_checkpoint r) (ap not c.if-saved.false) (is_checkpoint-kind r c.in-Checkpoint.is)))

@@ -1,7 +1,7 @@
-use Rattle.std.proofs.Common.{◌≡◌, ℕ, List, refl, sym, ap, subst, ◌∙◌}
-use Rattle.ckpt_core.specs.Images.{CanHold, settled, state_in}
+use Rattle.std.proofs.Common.{ℕ, List, refl, sym, ap, subst, ◌∙◌}
+use Rattle.ckpt_core.specs.Images.{CanHold}
 use Rattle.ckpt_core.specs.Inside.Parts.{state_of}
-use Rattle.ckpt_core.specs.State.{Opening, State}
+use Rattle.ckpt_core.specs.State.{State}
 use Rattle.ckpt_core.proofs.Loaded.Reopened.{state_same}
 use Rattle.ckpt_core.proofs.Loaded.Settled.{settled_can_hold}
 use Rattle.ckpt_core.proofs.parts.Parts.image.Goals as goal

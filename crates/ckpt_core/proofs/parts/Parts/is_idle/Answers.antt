@@ -1,4 +1,4 @@
-use Rattle.std.proofs.Common.{◌≡◌, ℕ, nat_eq, eqb, false, true, length, sym, ap, ◌∙◌}
+use Rattle.std.proofs.Common.{◌≡◌, eqb, length, sym, ap, ◌∙◌}
 use Rattle.std.proofs.lemmas.Bool.{both_ways, eqb-true}
 use Rattle.ckpt_core.specs.declared.parts.Parts.{Parts}
 use Rattle.ckpt_core.proofs.Loaded.Reopened.{all_done, not_all_done}

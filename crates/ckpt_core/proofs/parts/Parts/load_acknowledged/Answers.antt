@@ -1,9 +1,7 @@
-use Rattle.std.proofs.Common.{◌≡◌, ℕ, ◌+◌, ◌<◌, ◌≤◌, true, false, List, [], ◌∷◌, ◌++◌, length, refl, sym, ap, subst, ◌∙◌, arith}
+use Rattle.std.proofs.Common.{◌≡◌, ◌<◌, List, [], ◌∷◌, ◌++◌, refl, sym, ap, subst, ◌∙◌, arith}
 use Rattle.ckpt_ids.specs.Records.{Record, count, uses}
 use Rattle.ckpt_core.specs.declared.image.Saved.{Saved}
-use Rattle.ckpt_core.specs.declared.parts.Parts.{Parts}
 use Rattle.ckpt_core.specs.Images.{record_in}
-use Rattle.ckpt_core.specs.Inside.Loading.{IsMade}
 use Rattle.ckpt_core.specs.Inside.Parts.{opening_of, records_in}
 use Rattle.ckpt_core.specs.Inside.SoundRecords.{Joins}
 use Rattle.ckpt_core.proofs.Loaded.Bounds.{few_records, few_uses}

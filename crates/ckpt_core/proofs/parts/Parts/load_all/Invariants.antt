@@ -1,4 +1,4 @@
-use Rattle.std.proofs.Common.{◌≡◌, List, map, take}
+use Rattle.std.proofs.Common.{◌≡◌, map, take}
 use Rattle.ckpt_core.specs.Images.{record_in}
 use Rattle.ckpt_core.specs.Inside.Parts.{AreTied, opening_of, state_of}
 use Rattle.ckpt_core.specs.Inside.SoundRecords.{AreSoundRecords}

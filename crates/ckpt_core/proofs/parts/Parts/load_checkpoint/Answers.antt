@@ -1,4 +1,5 @@
-use Rattle.std.proofs.Common.{◌≡◌, ℕ, ◌+◌, ◌<◌, ◌≤◌, ◌^◌, ◌-◌, max, [], ◌∷◌, ◌++◌, List, length, map, OnOk, Result, Ok, Err, refl, sym, ap, subst, ◌∙◌, arith}
+use Rattle.std.proofs.Common.{◌≡◌, ℕ, ◌+◌, ◌<◌, ◌≤◌, ◌^◌, ◌-◌, max, [], ◌∷◌, ◌++◌, List, length, map, refl, sym, ap, subst, ◌∙◌, arith}
+use Rattle.std.proofs.lemmas.Result.{on_ok_weaker}
 use Rattle.std.specs.Vec.{vec_capacity}
 use Rattle.ckpt_ids.specs.declared.ack.Acked.{Acked}
 use Rattle.ckpt_ids.specs.Ascending.{ascending}
@@ -10,15 +11,10 @@ use Rattle.ckpt_core.specs.declared.parts.Parts.{Parts}
 use Rattle.ckpt_core.specs.Inside.Grouped.{grouped, with_pins}
 use Rattle.ckpt_core.specs.Inside.Loading.{uses_held}
 use Rattle.ckpt_core.specs.Inside.Moving.{with_room}
-use Rattle.ckpt_core.specs.Inside.Parts.{AreTied, present_in, records_in}
+use Rattle.ckpt_core.specs.Inside.Parts.{present_in, records_in}
 use Rattle.ckpt_core.specs.Soundness.{id_before}
 use Rattle.ckpt_core.proofs.Loaded.Groups.{HasCheckpoint, none_surplus, older_uses, records-checkpoint, tied-checkpoint, uses-loaded}
 use Rattle.ckpt_core.proofs.parts.Parts.load_checkpoint.Goals as goal
-
--- what holds after a success follows from what does
-on_ok : {T E : Type 0} (r : Result T E) (P Q : Type 0) → (P → Q) → OnOk r P → OnOk r Q
-on_ok (Ok x) P Q f p = f p
-on_ok (Err e) P Q f p = p
 
 pub register-requires-clause-newest : goal.register-requires-clause-newest
 register-requires-clause-newest c = λ u h.
@@ -88,8 +84,8 @@ returns-clause-records c =
     let p : Parts = c.args.self.now in
     let made : Parts = c.make_room.new.self in
     let after : Parts = record made { store = c.complete.new.self; registry = c.register.new.registry } in
-    on_ok c.make_room_for_files.result (c.make_room_for_files.new.self ≡ with_room after 0) _
-    (λ ok. records-checkpoint c.requires.newest (has_checkpoint p made after c.make_room_for_files.new.self c.args.done c.reserve.new.self c.complete.new.self c.id.result c.args.acks.now c.of-none.result c.new.result.items
+    on_ok_weaker c.make_room_for_files.result
+    (λ (ok : c.make_room_for_files.new.self ≡ with_room after 0). records-checkpoint c.requires.newest (has_checkpoint p made after c.make_room_for_files.new.self c.args.done c.reserve.new.self c.complete.new.self c.id.result c.args.acks.now c.of-none.result c.new.result.items
     c.in_ok-make_room.ensures.parts c.in_ok-make_room.ensures.room c.in_ok-reserve.ensures.kept c.complete.ensures.value c.requires.fewer c.id.ensures.value c.requires.acks c.id.ensures.done.no_pins c.of-none.ensures c.new.ensures.items
     c.in_ok-register.ensures refl refl refl refl refl ok))
     c.make_room_for_files.ensures.ok
@@ -99,8 +95,8 @@ returns-clause-tied c =
     let p : Parts = c.args.self.now in
     let made : Parts = c.make_room.new.self in
     let after : Parts = record made { store = c.complete.new.self; registry = c.register.new.registry } in
-    on_ok c.make_room_for_files.result (c.make_room_for_files.new.self ≡ with_room after 0) _
-    (λ ok. tied-checkpoint c.requires.tied c.requires.newest (has_checkpoint p made after c.make_room_for_files.new.self c.args.done c.reserve.new.self c.complete.new.self c.id.result c.args.acks.now c.of-none.result c.new.result.items
+    on_ok_weaker c.make_room_for_files.result
+    (λ (ok : c.make_room_for_files.new.self ≡ with_room after 0). tied-checkpoint c.requires.tied c.requires.newest (has_checkpoint p made after c.make_room_for_files.new.self c.args.done c.reserve.new.self c.complete.new.self c.id.result c.args.acks.now c.of-none.result c.new.result.items
     c.in_ok-make_room.ensures.parts c.in_ok-make_room.ensures.room c.in_ok-reserve.ensures.kept c.complete.ensures.value c.requires.fewer c.id.ensures.value c.requires.acks c.id.ensures.done.no_pins c.of-none.ensures c.new.ensures.items
     c.in_ok-register.ensures refl refl refl refl refl ok))
     c.make_room_for_files.ensures.ok

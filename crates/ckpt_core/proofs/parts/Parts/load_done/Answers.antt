@@ -1,7 +1,5 @@
-use Rattle.std.proofs.Common.{◌≡◌, ℕ, ◌+◌, ◌<◌, ◌≤◌, ◌^◌, Bool, true, not, ◌&&◌, List, [], ◌∷◌, ◌++◌, length, OnOk, Result, Ok, Err, refl, sym, ap, subst, ◌∙◌, arith}
-use Rattle.std.specs.Prelude.{count_by}
+use Rattle.std.proofs.Common.{◌≡◌, true, ◌&&◌, [], ◌∷◌, ◌++◌, OnOk, Result, Ok, Err, ap, subst, ◌∙◌, arith}
 use Rattle.ckpt_ids.specs.declared.ack.Acked.{Acked}
-use Rattle.ckpt_ids.specs.declared.numbers.Kind.{Kind}
 use Rattle.ckpt_ids.specs.declared.numbers.Kind.TheVariants as kind
 use Rattle.ckpt_ids.specs.Ascending.{IsAscendingSet}
 use Rattle.ckpt_ids.specs.Ordered.{IsIn}
@@ -9,14 +7,13 @@ use Rattle.ckpt_ids.specs.Records.{Record}
 use Rattle.ckpt_core.specs.declared.parts.Parts.{Parts}
 use Rattle.ckpt_core.specs.Images.{record_in}
 use Rattle.ckpt_core.specs.Inside.Moving.{with_done}
-use Rattle.ckpt_core.specs.Inside.Parts.{opening_of, records_in, state_of}
-use Rattle.ckpt_core.specs.Inside.SoundRecords.{AreSoundRecords}
+use Rattle.ckpt_core.specs.Inside.Parts.{records_in}
 use Rattle.ckpt_core.specs.State.{is_checkpoint}
 use Rattle.ckpt_core.proofs.Ending.Drops.{groups_of}
 use Rattle.ckpt_core.proofs.Loaded.Bounds.{few_records, few_uses}
 use Rattle.ckpt_core.proofs.Loaded.Joining.{joined_records}
 use Rattle.ckpt_core.proofs.Loaded.Loads.{done_checkpoints-groups, state_done}
-use Rattle.ckpt_core.proofs.Records.GroupLookups.{is_checkpoint-kind, is_savepoint-kind, savepoints-groups}
+use Rattle.ckpt_core.proofs.Records.GroupLookups.{is_checkpoint-kind, savepoints-groups}
 use Rattle.ckpt_core.proofs.parts.Parts.load_done.Goals as goal
 
 -- what holds after a success follows from what does

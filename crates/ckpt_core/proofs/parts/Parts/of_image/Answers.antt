@@ -1,5 +1,5 @@
-use Rattle.std.proofs.Common.{rules, ◌≡◌, ℕ, true, false, Err, Some, List, [], ◌++◌, map, refl, sym, ap, subst, ◌∙◌}
-use Rattle.ckpt_ids.specs.Records.{Record, Use, uses}
+use Rattle.std.proofs.Common.{rules, ◌≡◌, true, Err, List, [], ◌++◌, map, sym, ap, subst, ◌∙◌}
+use Rattle.ckpt_ids.specs.Records.{Use, uses}
 use Rattle.ckpt_core.specs.declared.image.ImageFault.TheVariants.{Damaged}
 use Rattle.ckpt_core.specs.declared.parts.Parts.{Parts}
 use Rattle.ckpt_core.specs.Images.{CanHold, record_in, state_in}

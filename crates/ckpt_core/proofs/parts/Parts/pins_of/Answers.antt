@@ -1,16 +1,10 @@
-use Rattle.std.proofs.Common.{◌≡◌, ℕ, true, false, List, [], sym, ap, ◌∙◌, Result, Ok, Err, IfOk}
+use Rattle.std.proofs.Common.{◌≡◌, ℕ, List, sym, ap, ◌∙◌}
+use Rattle.std.proofs.lemmas.Result.{IfOk-weaker}
 use Rattle.ckpt_ids.specs.Ascending.{ascending}
-use Rattle.ckpt_ids.specs.Ordered.{IsIn}
-use Rattle.ckpt_ids.specs.Records.{Record}
 use Rattle.ckpt_registry.specs.Uses.{pins_by}
 use Rattle.ckpt_core.specs.declared.parts.Parts.{Parts}
-use Rattle.ckpt_core.specs.Inside.Parts.{records_in}
 use Rattle.ckpt_core.proofs.Loaded.Saving.{none_pinned, pins_registered}
 use Rattle.ckpt_core.proofs.parts.Parts.pins_of.Goals as goal
-
-if_ok : {T E : Type 0} (r : Result T E) (P Q : T → Type 0) → ((x : T) → P x → Q x) → IfOk r P → IfOk r Q
-if_ok (Ok x) P Q f p = f x p
-if_ok (Err e) P Q f p = p
 
 pub returns-then-done : goal.returns-then-done
 returns-then-done c = λ r h same done. c.of.ensures ∙ ap ascending c.new.ensures.items ∙ sym (none_pinned c.args.self.now r c.requires h (done ∙ c.if-done.true))
@@ -18,6 +12,6 @@ returns-then-done c = λ r h same done. c.of.ensures ∙ ap ascending c.new.ensu
 pub returns : goal.returns
 returns c =
     let p : Parts = c.args.self.now in
-    if_ok c.pins.result (λ (files : List ℕ). files ≡ pins_by c.args.id p.registry) _
+    IfOk-weaker c.pins.result (λ (files : List ℕ). files ≡ pins_by c.args.id p.registry) _
     (λ files e r h same done. e ∙ ap (λ (n : ℕ). pins_by n p.registry) (sym same) ∙ pins_registered p r c.recall_groups.ensures.pending c.recall_groups.ensures.stored h (done ∙ c.if-done.false))
     c.pins.ensures

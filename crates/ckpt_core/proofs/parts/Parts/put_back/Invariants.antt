@@ -1,4 +1,4 @@
-use Rattle.std.proofs.Common.{◌≡◌, ℕ, ◌-◌, ◌<◌, false, List, ◌++◌, take, length}
+use Rattle.std.proofs.Common.{◌≡◌, ℕ, false, take}
 use Rattle.ckpt_ids.specs.Ordered.{IsIn}
 use Rattle.ckpt_ids.specs.Records.{is_present}
 use Rattle.ckpt_core.specs.Inside.Loading.{with_more_waiting}

@@ -1,4 +1,4 @@
-use Rattle.std.proofs.Common.{◌≡◌, ℕ, ◌-◌, ◌≤◌, ◌^◌, map, nat_lt, take}
+use Rattle.std.proofs.Common.{◌≡◌, ◌-◌, ◌≤◌, ◌^◌, map, nat_lt, take}
 use Rattle.std.specs.Prelude.{count_by}
 use Rattle.ckpt_core.specs.Images.{record_in}
 use Rattle.ckpt_core.specs.Inside.Parts.{records_in}

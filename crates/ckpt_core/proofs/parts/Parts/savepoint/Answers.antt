@@ -7,11 +7,9 @@ use Rattle.ckpt_core.proofs.Soundness.Drops.{moment_is_sound}
 use Rattle.ckpt_core.proofs.Triggering.TickParts.{clock_back, savepoint_answers, seen_state, tied_clock}
 use Rattle.ckpt_core.proofs.parts.Parts.savepoint.Goals as goal
 
--- src/triggers.rt:135:9
 pub see-requires : goal.see-requires
 see-requires c = (accepted_savepoint (state_of c.args.self.now) c.args.now c.requires.accepted).0.moment
 
--- src/triggers.rt:136:15
 pub trigger-requires-clause-sound : goal.trigger-requires-clause-sound
 unfolding state_of
 trigger-requires-clause-sound c =
@@ -19,17 +17,14 @@ trigger-requires-clause-sound c =
     let P : State → Type 0 = λ m. IsSound m in
     subst P (sym (seen_state p c.args.now c.see.new.self c.see.ensures)) (moment_is_sound (state_of p) c.args.now c.requires.sound.sound (accepted_savepoint (state_of p) c.args.now c.requires.accepted).0.moment)
 
--- src/triggers.rt:136:15
 pub trigger-requires-clause-next : goal.trigger-requires-clause-next
 unfolding state_of
 trigger-requires-clause-next c = (accepted_savepoint (state_of c.args.self.now) c.args.now c.requires.accepted).0.room
 
--- src/triggers.rt:128:5
 pub returns-in-Ok-clause-ok : goal.returns-in-Ok-clause-ok
 returns-in-Ok-clause-ok c =
     savepoint_answers c.args.self.now c.trigger.new.self c.args.now c.in-Ok.id c.see.new.self c.requires.accepted c.see.ensures c.in-Ok.ensures.ok c.in-Ok.ensures.id c.in-Ok.ensures.tied (c.in-Ok.ensures.noted ∙ c.requires.sound.none_ended)
 
--- src/triggers.rt:128:5
 pub returns-in-Err-clause-err : goal.returns-in-Err-clause-err
 returns-in-Err-clause-err c =
     let p = c.args.self.now in

@@ -5,26 +5,21 @@ use Rattle.ckpt_core.specs.Steps.{start_or_hold}
 use Rattle.ckpt_core.proofs.Triggering.TickParts.{held_result, on_err_from, starts_now}
 use Rattle.ckpt_core.proofs.parts.Parts.start_or_hold.Goals as goal
 
--- src/triggers.rt:219:26
 pub returns-in_err-id-in-Go-clause-memory : goal.returns-in_err-id-in-Go-clause-memory
 returns-in_err-id-in-Go-clause-memory c = on_err_from c.from_residual.result (held_result c.args.self.now c.args.pending c.read-moment.result c.held.result hold.Go c.read-moment.ensures.value c.held.ensures c.in-Go.is)
 
--- src/triggers.rt:203:5
 pub returns-in-Interval-clause-ok : goal.returns-in-Interval-clause-ok
 unfolding start_or_hold
 returns-in-Interval-clause-ok c = λ expired. ap (start_or_hold (state_of c.args.self.now) expired) (held_result c.args.self.now c.args.pending c.read-moment.result c.held.result hold.Interval c.read-moment.ensures.value c.held.ensures c.in-Interval.is)
 
--- src/triggers.rt:203:5
 pub returns-in-AtOnce-clause-ok : goal.returns-in-AtOnce-clause-ok
 unfolding start_or_hold
 returns-in-AtOnce-clause-ok c = λ expired. ap (start_or_hold (state_of c.args.self.now) expired) (held_result c.args.self.now c.args.pending c.read-moment.result c.held.result hold.AtOnce c.read-moment.ensures.value c.held.ensures c.in-AtOnce.is)
 
--- src/triggers.rt:203:5
 pub returns-in-Pause-clause-ok : goal.returns-in-Pause-clause-ok
 unfolding start_or_hold
 returns-in-Pause-clause-ok c = λ expired. ap (start_or_hold (state_of c.args.self.now) expired) (held_result c.args.self.now c.args.pending c.read-moment.result c.held.result hold.Pause c.read-moment.ensures.value c.held.ensures c.in-Pause.is)
 
--- src/triggers.rt:203:5
 pub returns-in_ok-id-in-Go-clause-ok : goal.returns-in_ok-id-in-Go-clause-ok
 returns-in_ok-id-in-Go-clause-ok c =
     starts_now c.args.self.now c.trigger.new.self c.triggered.new.self c.args.pending c.read-moment.result c.in_ok-id-in-Go.id

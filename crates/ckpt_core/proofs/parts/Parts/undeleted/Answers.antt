@@ -14,6 +14,6 @@ returns-in-Ok-clause-ok c =
     let taken = taken_if (is_taken p.outbox file) _ (λ e. cc) c.in-Ok.ensures.refused.1 in
     undeleted_answers p file c.undeleted.new.self c.requires (refusal_undeleted (state_of p) file true taken) c.in-Ok.ensures.ok
 
-pub returns-in-Err-clause-not_taken : goal.returns-in-Err-clause-not_taken
+pub returns-in-Err-clause-refused : goal.returns-in-Err-clause-refused
 unfolding state_of
-returns-in-Err-clause-not_taken c = refusal_undeleted (state_of c.args.self.now) c.args.file false (c.in-Err.ensures.refused.0 refl)
+returns-in-Err-clause-refused c = refusal_undeleted (state_of c.args.self.now) c.args.file false (c.in-Err.ensures.refused.0 refl)

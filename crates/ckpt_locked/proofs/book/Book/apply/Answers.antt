@@ -33,14 +33,14 @@ invariant_of-self-in-Ok c =
     let entry : Entry = record { seat = c.args.seat; call = c.args.call } in
     let items = one_more c.self.inside.entries.items entry c.make_room.new.self.items c.push_reserved.new.self.items c.make_room.ensures.items c.push_reserved.ensures.items in
     let keep = c.push_reserved.ensures.keep ∙ c.make_room.ensures.keep in
-    rw (items, keep) (kept_entered c.self.inside.core c.apply.new.self c.self.inside.entries.items entry c.self.inside.entries.keep (Done c.in-Ok.reply) c.self.invariant c.recall_shape.ensures (done c))
+    rw (items, keep) (kept_entered c.self.inside.core c.apply.new.self c.self.inside.entries.items entry c.self.inside.entries.keep (Done c.in-Ok.reply) c.self.invariant c.apply.ensures.shape (done c))
 
 pub invariant_of-self-in-Err-Refused : goal.invariant_of-self-in-Err-Refused
 invariant_of-self-in-Err-Refused c =
     let entry : Entry = record { seat = c.args.seat; call = c.args.call } in
     let items = one_more c.self.inside.entries.items entry c.make_room.new.self.items c.push_reserved-in-Err-Refused.new.self.items c.make_room.ensures.items c.push_reserved-in-Err-Refused.ensures.items in
     let keep = c.push_reserved-in-Err-Refused.ensures.keep ∙ c.make_room.ensures.keep in
-    rw (items, keep) (kept_entered c.self.inside.core c.apply.new.self c.self.inside.entries.items entry c.self.inside.entries.keep (Refused c.in-Err-Refused.why) c.self.invariant c.recall_shape.ensures (refused c))
+    rw (items, keep) (kept_entered c.self.inside.core c.apply.new.self c.self.inside.entries.items entry c.self.inside.entries.keep (Refused c.in-Err-Refused.why) c.self.invariant c.apply.ensures.shape (refused c))
 
 pub returns-in-Ok-clause-entered : goal.returns-in-Ok-clause-entered
 returns-in-Ok-clause-entered c =

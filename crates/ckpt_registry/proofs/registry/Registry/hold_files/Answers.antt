@@ -9,7 +9,7 @@ use Rattle.ckpt_ids.specs.Records.{Use, Subtask, count, use_before}
 use Rattle.ckpt_ids.proofs.ResultLemmas.{on_each_error}
 use Rattle.ckpt_registry.specs.declared.pins.Pinner.{Pinner}
 use Rattle.ckpt_registry.specs.Counters.{counter}
-use Rattle.ckpt_registry.specs.Holdings.{uses_in, uses_of_ack, Adds}
+use Rattle.ckpt_registry.specs.Holdings.{uses_in, Adds}
 use Rattle.ckpt_registry.specs.Pins.{pins_in}
 use Rattle.ckpt_registry.specs.Sound.{in_use, stored, StandsOnce}
 use Rattle.ckpt_registry.specs.Uses.{HasNoUse, triples}

@@ -1,6 +1,5 @@
-use Rattle.std.proofs.Common.{◌≡◌, List, ℕ, ap, subst, sym, ◌∙◌}
+use Rattle.std.proofs.Common.{List, ℕ, ap, subst, ◌∙◌}
 use Rattle.std.specs.List.Sorted.{IsPermutation}
-use Rattle.ckpt_ids.specs.Records.{Use}
 use Rattle.ckpt_registry.specs.Pins.{named_by}
 use Rattle.ckpt_registry.specs.Uses.{pins_by}
 use Rattle.ckpt_registry.proofs.PinnedLemmas.{pins-from_dedup}

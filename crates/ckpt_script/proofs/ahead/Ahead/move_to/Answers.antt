@@ -39,13 +39,11 @@ module _ (shown buffer bytes line after : List ℕ) (from to : ℕ) (same : show
     none_left = λ h. none_left;
   }
 
--- src/ahead.rt:98:5
 pub returns-in_ok-hold-in-Some-clause-moved : goal.returns-in_ok-hold-in-Some-clause-moved
 returns-in_ok-hold-in-Some-clause-moved c =
     to_newline c.as_slice.result.now c.self.inside.buffer.items c.args.self.now.bytes c.args.line.now.items c.hold.new.line.items c.self.inside.start c.self.inside.end
     c.as_slice.ensures.value (sym (ap (λ (u : Unread). u.bytes) c.self.view_is)) c.in-Some.place c.in-Some.ensures c.in_ok-hold-in-Some.ensures
 
--- src/ahead.rt:98:5
 pub returns-in_ok-hold-in-None-clause-moved : goal.returns-in_ok-hold-in-None-clause-moved
 returns-in_ok-hold-in-None-clause-moved c =
     to_end c.as_slice.result.now c.self.inside.buffer.items c.args.self.now.bytes c.args.line.now.items c.hold-in-None.new.line.items c.self.inside.start c.self.inside.end

@@ -1,0 +1,138 @@
+//! What an engine asks of a coordinator when it recovers: which records are live, what a number is,
+//! which files a record has, and which wait for deletion or were fetched for it. None of it changes
+//! anything, and only `pins_of` and `taken_files`, which sort what they return, take memory.
+
+ghost use Rattle.std.specs.Prelude.{◌≡◌, find, nat_le, option_copied, option_map, slice_get, IfOk};
+ghost use Rattle.std.specs.Option.{option_and_then};
+ghost use Rattle.ckpt_ids.specs.Ascending.{ascending};
+ghost use Rattle.ckpt_pending.specs.Acknowledging.{files_from};
+ghost use Rattle.ckpt_core.specs.Inside.Parts.{AreSound, records_in, state_of};
+ghost use Rattle.ckpt_core.specs.Reads.{live_of, pins_in, standing, standing_without};
+ghost use Rattle.ckpt_core.specs.Refusals.{pending_of};
+ghost use Rattle.ckpt_core.specs.State.{record_of};
+
+use crate::coordinator::Core;
+use crate::parts::Parts;
+use crate::queries::Live;
+use ckpt_ids::{CheckpointId, FileId, Files, SubtaskId};
+use std::alloc::AllocError;
+
+/// What a number is.
+#[derive(Clone, Copy, Debug, PartialEq, Eq)]
+pub enum Standing {
+    /// The live record of this number lacks an acknowledgement.
+    Pending,
+    /// The live record of this number has all acknowledgements.
+    Done,
+    /// A record had this number, and it is live no more: it failed, or was dropped.
+    Ended,
+    /// No record has had the number so far: it is the next record's, or above it.
+    NotYet,
+    /// No record has had the number, and none will: it is below the first one that the coordinator
+    /// was opened with.
+    Never,
+}
+
+impl Core {
+    /// The first live record whose number is at least this one, or `None` where there is none. It
+    /// is searched by halves.
+    #[tactic(auto, unfolding(crate::specs::Inside::Parts::state_of))]
+    pub fn live_from(&self, id: CheckpointId) -> Option<Live>
+        ensures { result ≡ option_map live_of (find (λ r. nat_le id r.id) self.now.records) }
+    {
+        self.parts.first_from(id)
+    }
+
+    /// What this number is. Any number has an answer. It is searched by halves.
+    pub fn standing(&self, id: CheckpointId) -> Standing
+        ensures { result ≡ standing self.now id }
+    {
+        self.parts.standing(id)
+    }
+
+    /// The files that this subtask acknowledged in the live record of this number, in ascending
+    /// order, each once. `None` where no live record has the number, or the subtask has not
+    /// acknowledged in it. Both are searched by halves.
+    pub fn files_of(&self, id: CheckpointId, subtask: SubtaskId) -> Option<&[FileId]>
+        ensures { option_copied result ≡ option_and_then (λ r. files_from r subtask) (record_of self.now id) }
+    {
+        self.parts.files_of(id, subtask)
+    }
+
+    /// The files that the pending record of this number holds beside those of its acknowledgements,
+    /// in ascending order, each once: those of the choice at its trigger. Empty where no record of
+    /// this number is pending. Fails only for want of memory.
+    #[tactic(auto, unfolding(crate::specs::Inside::Parts::state_of))]
+    pub fn pins_of(&self, id: CheckpointId) -> Result<Files, AllocError>
+        ensures { IfOk result (λ files. files ≡ pins_in (pending_of self.now.records id)) }
+    {
+        self.parts.pins_of_pending(id)
+    }
+
+    /// The file at this place among those that wait for deletion, where the next to be fetched is
+    /// the first, or `None` past the last. Takes constant time.
+    #[tactic(auto, unfolding(crate::specs::Inside::Parts::state_of))]
+    pub fn waiting_file(&self, place: usize) -> Option<FileId>
+        ensures { result ≡ slice_get self.now.waiting place }
+    {
+        self.parts.outbox.waiting_file(place)
+    }
+
+    /// The files that were fetched for deletion and are not yet reported, in ascending order. Looks
+    /// at each file of the outbox. Fails only for want of memory.
+    #[tactic(auto, unfolding(crate::specs::Inside::Parts::state_of))]
+    pub fn taken_files(&self) -> Result<Files, AllocError>
+        ensures { IfOk result (λ files. files ≡ ascending self.now.taken) }
+    {
+        self.parts.outbox.taken_files()
+    }
+}
+
+impl Parts {
+    fn standing(&self, id: CheckpointId) -> Standing
+        requires { AreSound self.now }
+        ensures { result ≡ standing (state_of self.now) id }
+    {
+        if self.pending.get(id).is_some() {
+            return Standing::Pending;
+        }
+        if self.store.get(id).is_some() {
+            return Standing::Done;
+        }
+        self.standing_without(id)
+    }
+
+    /// What a number is that no live record has.
+    #[tactic(auto, unfolding(crate::specs::Inside::Parts::state_of))]
+    fn standing_without(&self, id: CheckpointId) -> Standing
+        ensures { result ≡ standing_without (state_of self.now) id }
+    {
+        if id.0 < self.opened.first {
+            Standing::Never
+        } else if id.0 < self.next {
+            Standing::Ended
+        } else {
+            Standing::NotYet
+        }
+    }
+
+    fn files_of(&self, id: CheckpointId, subtask: SubtaskId) -> Option<&[FileId]>
+        requires { AreSound self.now }
+        ensures { option_copied result ≡ option_and_then (λ r. files_from r subtask) (record_of (state_of self.now) id) }
+    {
+        if let Some(pending) = self.pending.get(id) {
+            return pending.files_of(subtask);
+        }
+        self.store.get(id)?.files_of(subtask)
+    }
+
+    fn pins_of_pending(&self, id: CheckpointId) -> Result<Files, AllocError>
+        requires { AreSound self.now }
+        ensures { IfOk result (λ files. files ≡ pins_in (pending_of (records_in self.now) id)) }
+    {
+        if self.pending_record(id).is_none() {
+            return Ok(Files::of(Vec::new(self.alloc)));
+        }
+        self.registry.pins(id)
+    }
+}

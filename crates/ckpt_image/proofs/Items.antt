@@ -1,0 +1,15 @@
+-- A list that is read item by item: what was read, and what is left.
+use Rattle.std.proofs.Common.{ℕ, List, ◌++◌, drop, Option}
+use Rattle.std.specs.Option.{option_map}
+use Rattle.serde_json.specs.Data.{Data}
+use Rattle.serde_json.specs.View.{items_view}
+use Rattle.serde_json.specs.declared.value.Value.{Value}
+use Rattle.ckpt_image.specs.Members.{each}
+
+-- with these in front
+abbrev pub with_front : {X : Type 0} → List X → Option (List X) → Option (List X)
+with_front xs rest = option_map (λ ys. xs ++ ys) rest
+
+-- what is left to read from this place on
+abbrev pub left : {X : Type 0} → (Data → Option X) → List Value → ℕ → Option (List X)
+left one values place = each one (items_view (drop place values))

@@ -1,0 +1,2 @@
+pub mod AckOrder
+pub mod Items

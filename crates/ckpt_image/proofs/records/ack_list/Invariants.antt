@@ -1,0 +1,7 @@
+use Rattle.std.proofs.Common.{◌≡◌}
+use Rattle.ckpt_image.specs.Members.{ack_of}
+use Rattle.ckpt_image.proofs.Items.{left, with_front}
+use Rattle.ckpt_image.proofs.records.ack_list.Given as goal
+
+abbrev pub invariant-loop-item : goal.invariant-loop-item
+invariant-loop-item l = with_front l.list.items (left ack_of l.item-items l.item-index) ≡ left ack_of l.item-items 0

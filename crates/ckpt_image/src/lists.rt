@@ -1,0 +1,61 @@
+//! How lists of numbers are read: files, and the parallelisms of a shape.
+
+ghost use Rattle.std.specs.Prelude.{◌≡◌};
+ghost use Rattle.ckpt_image.specs.Images.{Reads};
+ghost use Rattle.ckpt_image.specs.Members.{files_of, list_of, number_of, shape_of};
+ghost use Rattle.serde_json.specs.View.{view};
+
+use crate::fault::TextFault;
+use crate::fault::TextFault::{Memory, NoImage};
+use crate::values::number;
+use ckpt_ids::{FileId, Files, Handed, Shape, ShapeFault};
+use serde_json::Value;
+use std::alloc::Global;
+
+/// The files of a set, in ascending order.
+#[tactic(auto, unfolding(crate::specs::Members::files_of))]
+pub(crate) fn files(alloc: Global, value: &Value) -> Result<Files, TextFault>
+    ensures { Reads (λ files. files) result (files_of (view value.now)) }
+{
+    Ok(Files::of(file_list(alloc, value)?))
+}
+
+/// The files in the order in which they stand.
+pub(crate) fn handed(alloc: Global, value: &Value) -> Result<Handed, TextFault>
+    ensures { Reads (λ files. files) result (list_of number_of (view value.now)) }
+{
+    Ok(Handed::of(file_list(alloc, value)?))
+}
+
+fn file_list(alloc: Global, value: &Value) -> Result<Vec<FileId>, TextFault>
+    ensures { Reads (λ list. list.items) result (list_of number_of (view value.now)) }
+{
+    let items = value.as_array().ok_or(NoImage)?;
+    let mut list = Vec::with_capacity(alloc, items.len())?;
+    for item in items.as_slice() {
+        list.push(FileId(number(item)?))?;
+    }
+    Ok(list)
+}
+
+#[tactic(auto, unfolding(crate::specs::Members::shape_of))]
+pub(crate) fn shape(alloc: Global, value: &Value) -> Result<Shape, TextFault>
+    ensures { Reads (λ shape. shape) result (shape_of (view value.now)) }
+{
+    let list = number_list(alloc, value)?;
+    Shape::new(alloc, &list).map_err(|fault| match fault {
+        ShapeFault::BadShape => NoImage,
+        ShapeFault::Memory => Memory,
+    })
+}
+
+fn number_list(alloc: Global, value: &Value) -> Result<Vec<u64>, TextFault>
+    ensures { Reads (λ list. list.items) result (list_of number_of (view value.now)) }
+{
+    let items = value.as_array().ok_or(NoImage)?;
+    let mut list = Vec::with_capacity(alloc, items.len())?;
+    for item in items.as_slice() {
+        list.push(number(item)?)?;
+    }
+    Ok(list)
+}

@@ -1,0 +1,33 @@
+-- The acknowledgement at the place that the search finds.
+use Rattle.std.proofs.Common.{◌≡◌, ◌∙◌, ℕ, List, Some, None, Result, Ok, Err, IfOk, IfErr, sym, ap, subst}
+use Rattle.std.specs.Prelude.{find}
+use Rattle.std.specs.Option.{option_copied, option_map}
+use Rattle.std.specs.Result.{result_ok}
+use Rattle.ckpt_ids.specs.declared.subtask.SubtaskId.{SubtaskId}
+use Rattle.ckpt_ids.specs.declared.ack.Acked.{Acked}
+use Rattle.ckpt_ids.specs.Shapes.{same_subtask}
+use Rattle.ckpt_pending.specs.Acknowledging.{BelongsAt, LiesAt, files_from}
+use Rattle.ckpt_pending.proofs.PlaceLemmas.{acked_nowhere, found_at, none_found}
+use Rattle.ckpt_pending.proofs.pending.Pending.files_of.Goals as goal
+
+absent : (s : SubtaskId) (acks : List Acked) (r : Result ℕ ℕ) → IfErr r (BelongsAt s acks) → result_ok r ≡ None → find (λ a. same_subtask s a.subtask) acks ≡ None
+absent s acks (Ok place) h e = absurd (cc)
+absent s acks (Err place) h e = none_found s acks (acked_nowhere s acks place h)
+
+there : (s : SubtaskId) (acks : List Acked) (r : Result ℕ ℕ) (place : ℕ) → IfOk r (LiesAt s acks) → result_ok r ≡ Some place → LiesAt s acks place
+there s acks (Ok at) place h e = let same : at ≡ place = cc in subst (LiesAt s acks) same h
+there s acks (Err at) place h e = absurd (cc)
+
+pub returns-in_err-place : goal.returns-in_err-place
+returns-in_err-place c =
+    let acks : List Acked = c.self.inside.acks.items in
+    let none = absent c.args.subtask acks c.place_of.result c.place_of.ensures.absent (sym c.ok.ensures.value ∙ c.in_err-place.was) in
+    ap option_copied c.from_residual.ensures ∙ ap (option_map (λ (a : Acked). a.files)) (sym none) ∙ ap (λ r. files_from r c.args.subtask) c.self.view_is
+
+pub returns : goal.returns
+returns c =
+    let acks : List Acked = c.self.inside.acks.items in
+    let lies : LiesAt c.args.subtask acks c.in_ok-place.place = there c.args.subtask acks c.place_of.result c.in_ok-place.place c.place_of.ensures.found (sym c.ok.ensures.value ∙ c.in_ok-place.was) in
+    ap (λ fs. Some fs) c.as_slice.ensures.files
+    ∙ ap (option_map (λ (a : Acked). a.files)) (sym (found_at c.args.subtask acks c.in_ok-place.place c.in_ok-acked.acked.now c.self.invariant.pending.in_order lies c.in_ok-acked.ensures.lookup))
+    ∙ ap (λ r. files_from r c.args.subtask) c.self.view_is

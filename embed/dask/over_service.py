@@ -1,0 +1,101 @@
+"""The coordinator as a service, which ticks by itself, and may be killed and started again. It answers here as the Python package does."""
+import threading
+import uuid
+from typing import Any, Dict, Iterable, List, Sequence, Set, Tuple
+
+import relkvanu_service as service
+from relkvanu import (
+    AckCompleted, AckLate, AckPending, DeclineAborted, DeclineFailed, DeclineLate, Failed, Refused, Reply, RestoredCheckpoint,
+    RestoredFresh, Taken,
+)
+
+Subtask = Tuple[int, int]
+# What an answer is here, by the call's name and what stands under that name.
+REPLIES = {
+    "ack pending": AckPending, "ack completed": AckCompleted, "ack late": AckLate,
+    "decline aborted": DeclineAborted, "decline failed": DeclineFailed, "decline late": DeclineLate,
+    "restore checkpoint": RestoredCheckpoint, "restore fresh": RestoredFresh,
+}
+
+
+class OverService:
+    """Each call goes under a key of its own, so that one whose answer is lost is made once."""
+
+    def __init__(self, url: str, name: str, settings: Dict[str, int], shape: Sequence[int]) -> None:
+        self.remote = service.Service(url).open(name, settings, list(shape))
+        if self.remote.state()["choice"]["kind"] != "fresh":
+            raise SystemExit(f"the service has checkpoints of the job {name}: --job names another one")
+        self.begun = 0  # the place of the last restore in the log
+        self.lock = threading.Lock()  # of the list
+        self.answered: List[Tuple[Dict[str, Any], Dict[str, Any]]] = []  # calls, each with its answer
+
+    def call(self, call: Dict[str, Any]) -> Dict[str, Any]:
+        try:
+            answer: Dict[str, Any] = self.remote.call(call, key=uuid.uuid4().hex)
+        except service.Refused as refusal:
+            raise Refused(refusal.name, refusal.file) from None
+        with self.lock:
+            self.answered.append((call, answer))
+        return answer
+
+    def reply(self, call: Dict[str, Any]) -> Reply:
+        answer, name = dict(self.call(call)), call["call"]
+        seq = answer.pop("seq")
+        if name == "restore":
+            self.begun = seq
+        reply: Reply = REPLIES[f"{name} {answer.pop(name)}"](**answer)
+        return reply
+
+    def ack(self, id: int, subtask: Subtask, fresh: Sequence[int], reused: Sequence[int]) -> Reply:
+        return self.reply(service.ack(id, "%d.%d" % subtask, fresh, reused))
+
+    def decline(self, id: int, subtask: Subtask) -> Reply:
+        return self.reply(service.decline(id, "%d.%d" % subtask))
+
+    def restore(self, shape: Sequence[int]) -> Reply:
+        return self.reply(service.restore(shape=list(shape)))
+
+    def take(self, most: int) -> Taken:
+        return Taken(tuple(map(int, self.call(service.take(most))["files"])))
+
+    def deleted(self, file: int) -> None:
+        self.call(service.deleted(file))
+
+    def undeleted(self, file: int) -> None:
+        self.call(service.undeleted(file))
+
+    def files(self, id: int) -> Dict[Subtask, Tuple[int, ...]]:
+        """The files of a live record, by subtask."""
+        acks = self.remote.record(id)["live"]["acks"]
+        return {subtask(ack["subtask"]): tuple(map(int, ack["files"])) for ack in acks}
+
+    def used(self, files: Iterable[int]) -> Set[int]:
+        """Which of these files are in use, after a restore, which drops pending records: those of completed ones."""
+        state = self.remote.state()
+        records = [self.files(record["id"]) for record in state["live"] if record["done"]]
+        used = {file for record in records for held in record.values() for file in held}
+        assert len(used) == state["files"]["in_use"], (len(used), state["files"])
+        return used & set(files)
+
+    def run(self, job: Any) -> None:
+        """Has barriers sent where the service has triggered a checkpoint, until the job is over."""
+        after = 0
+        while not job.is_over.is_set():
+            after, events = self.remote.events(after, wait=1)
+            for event in events:
+                self.follow(job, event)
+
+    def follow(self, job: Any, event: Dict[str, Any]) -> None:
+        with job.lock:  # not between a restore and the start of its tasks
+            channels = job.channels
+            if event["seq"] < self.begun:
+                return
+            if event["event"] == "failed" and "id" not in event:  # by a tick; a decline names its record, and was answered
+                job.note(Failed(len(event["ended"])))
+        if event["event"] == "triggered":
+            job.send_barriers(event["id"], channels)
+
+
+def subtask(text: str) -> Subtask:
+    vertex, index = map(int, text.split("."))
+    return vertex, index

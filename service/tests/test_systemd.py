@@ -1,0 +1,61 @@
+"""The unit under a real systemd, which is booted in a container: installed, saved and restored as docs/SERVICE.md says, killed, stopped
+and misconfigured."""
+import json
+import os
+import shutil
+import subprocess
+
+from harness import HERE, PROGRAM, SERVICE, TOP, folder
+from run import Skipped
+
+BOOT = """[Unit]
+DefaultDependencies=no
+Requires=sysinit.target sockets.target
+After=sysinit.target sockets.target
+SuccessAction=exit-force
+FailureAction=exit-force
+[Service]
+Type=oneshot
+WorkingDirectory=/try
+ExecStart=/usr/bin/python3 /tests/under_systemd.py
+StandardOutput=file:/try/told
+StandardError=file:/try/errors
+TimeoutStartSec=90
+"""
+
+
+def commands():
+    """The commands of docs/SERVICE.md that install the unit, make a backup, and restore it."""
+    with open(f"{TOP}/docs/SERVICE.md", encoding="utf-8") as it:
+        text = it.read()
+    places = {"install": "**systemd.**", "backup": "**SQLite**, while", "restore": "Restore, where"}
+    return {name: text.partition(place)[2].split("```")[1] for name, place in places.items()}
+
+
+def booted(at):
+    """Boots systemd over a root of its own, with /usr of this machine, and runs under_systemd.py in it."""
+    binds = [f"--bind={at}:/try", f"--bind-ro={HERE}:/tests", f"--bind-ro={SERVICE}/deploy:/deploy", f"--bind-ro={PROGRAM}:/relkvanu"]
+    binds += [f"--bind-ro={at}/try.service:/etc/systemd/system/try.service", "--bind-ro=/dev/null:/etc/systemd/system/systemd-firstboot.service"]
+    words = ["--quiet", "--console=pipe", "--directory=/", "--volatile=yes", "--private-network", "--register=no", "--keep-unit", "--machine=relkvanu-test"]
+    # the program is installed where /usr of this machine can't be written
+    words += [*binds, "--tmpfs=/usr/local/bin", "--boot", "--", "--unit=try.service"]
+    return subprocess.run(["timeout", "-k", "5", "120", "systemd-nspawn", *words], stdout=subprocess.PIPE, stderr=subprocess.STDOUT, text=True, errors="replace", check=False)
+
+
+def test_the_unit():
+    if os.geteuid() != 0 or not shutil.which("systemd-nspawn"):
+        raise Skipped("systemd can't be booted here without root and systemd-container")
+    with folder() as at:
+        for name, text in [("try.service", BOOT), ("commands", json.dumps(commands()))]:
+            with open(f"{at}/{name}", "w", encoding="utf-8") as it:
+                it.write(text)
+        boot = booted(at)
+        if not os.path.exists(f"{at}/errors"):
+            raise Skipped(f"systemd does not boot here: {boot.stdout[-300:]!r}")
+        with open(f"{at}/errors", encoding="utf-8") as it:
+            errors = it.read()
+        assert not errors, errors[-3000:]
+        with open(f"{at}/told", encoding="utf-8") as it:
+            told = json.loads(it.read())
+        assert told["exposure"] < 3, told
+        return f"exposure {told['exposure']}; ready again {told['after_kill']:.1f} s after SIGKILL, {told['after_stop']:.1f} s after SIGSTOP with a watchdog of 2 s; 78 ends it; a backup was restored"
