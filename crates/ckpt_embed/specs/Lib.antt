@@ -6,5 +6,6 @@ pub mod Lines
 pub mod Names
 pub mod Opening
 pub mod Reads
+pub mod Recovery
 pub mod Told
 pub mod Writing

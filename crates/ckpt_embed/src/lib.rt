@@ -15,6 +15,7 @@ pub mod lines;
 pub mod names;
 pub mod opening;
 pub mod reads;
+pub mod recovery;
 pub mod writing;
 
 pub use answer::Answer;
@@ -26,4 +27,5 @@ pub use lines::{line, line_says};
 pub use names::refusal_text;
 pub use opening::{Settings, close, open};
 pub use reads::{FileCounts, choice, due, file_counts, live, missing, mode, oldest_expiry};
+pub use recovery::{files_of, live_from, pins_of, standing, taken_files, waiting_file};
 pub use writing::{CallFields, call_line, opening_lines};

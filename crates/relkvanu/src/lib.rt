@@ -7,3 +7,4 @@ mod exports;
 mod images;
 mod lines;
 mod reads;
+mod recovery;
