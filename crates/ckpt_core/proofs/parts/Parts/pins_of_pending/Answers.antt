@@ -1,9 +1,9 @@
 -- The registry has the pins of a pending record.
 use Rattle.std.proofs.Common.{◌∙◌, ap}
 use Rattle.std.specs.Prelude.{not}
-use Rattle.ckpt_core.proofs.Answering.Reads.{for_ok}
+use Rattle.std.proofs.lemmas.Result.{IfOk-weaker}
 use Rattle.ckpt_core.proofs.Reading.Numbers.{pins_found}
 use Rattle.ckpt_core.proofs.parts.Parts.pins_of_pending.Goals as goal
 
 pub returns : goal.returns
-returns c = for_ok c.pins.result _ _ (λ files is. is ∙ pins_found c.args.self.now c.args.id c.pending_record.result c.pending_record.ensures (c.is_none.ensures ∙ ap not c.if-is_none.false)) c.pins.ensures
+returns c = IfOk-weaker c.pins.result _ _ (λ files is. is ∙ pins_found c.args.self.now c.args.id c.pending_record.result c.pending_record.ensures (c.is_none.ensures ∙ ap not c.if-is_none.false)) c.pins.ensures
