@@ -92,7 +92,8 @@ pub(crate) fn write_files(list: &[FileId], files: &mut [u64])
     ensures { StandsInFront list.now files.old files.new }
 {
     for place in 0..list.len() {
-        files[place] = list[place].0;
+        let file = list[place];
+        files[place] = file.0;
     }
 }
 

@@ -1,6 +1,6 @@
 //! What a text is an image of.
 
-ghost use Rattle.std.specs.Prelude.{◌≡◌, Some, None, Err, IfOk};
+ghost use Rattle.std.specs.Prelude.{◌≡◌, ◌≢◌, Some, None, Err, IfOk, IfErr};
 ghost use Rattle.ckpt_core.specs.Images.{state_in};
 ghost use Rattle.ckpt_image.specs.Images.{Reads, image_of, image_read};
 ghost use Rattle.ckpt_image.specs.Members.{clock_of, opening_in, opening_of, outbox_of};
@@ -26,6 +26,7 @@ use std::alloc::Global;
 #[tactic(auto, unfolding(crate::specs::Images::image_read))]
 pub fn parse_image(alloc: Global, text: &str) -> Result<Image, TextFault>
     ensures ok { IfOk result (λ image. image_read text.now ≡ Some (state_in image)) }
+    ensures none { IfErr result (λ why. why ≢ TextFault.Memory → image_read text.now ≡ None) }
     ensures not_json { result ≡ Err TextFault.NotJson → read text.now ≡ None }
     ensures no_image { result ≡ Err TextFault.NoImage → (d : Data) × (read text.now ≡ Some d) × (image_of d ≡ None) }
 {
