@@ -166,6 +166,7 @@ typedef struct {
 #define RELKVANU_BAD_MOMENT 4u
 #define RELKVANU_BAD_FIRST 5u
 #define RELKVANU_BAD_KIND 6u
+#define RELKVANU_BAD_IMAGE 7u /* the bytes are no image, or no coordinator can be in the state that it tells */
 
 /* what, if code is RELKVANU_BAD_LINE: the first fault from the left */
 #define RELKVANU_FAULT_TOO_LONG 1u /* a line has at most 131072 bytes */
@@ -416,6 +417,14 @@ static inline relkvanu_answer relkvanu_opening_lines_nullable(const relkvanu_set
     return relkvanu_opening_lines(settings, relkvanu_list_of(shape, shape_len), shape_len, now, relkvanu_bytes_of(lines, lines_len), lines_len);
 }
 
+static inline relkvanu_answer relkvanu_save_nullable(relkvanu *handle, uint8_t *image, size_t image_len) {
+    return relkvanu_save(handle, relkvanu_bytes_of(image, image_len), image_len);
+}
+
+static inline relkvanu_answer relkvanu_open_saved_nullable(relkvanu *handle, const uint8_t *image, size_t image_len, uint64_t first_word, uint64_t second_word) {
+    return relkvanu_open_saved(handle, relkvanu_text_of(image, image_len), image_len, first_word, second_word);
+}
+
 #define relkvanu_open relkvanu_open_nullable
 #define relkvanu_close relkvanu_close_nullable
 #define relkvanu_ack relkvanu_ack_nullable
@@ -427,6 +436,8 @@ static inline relkvanu_answer relkvanu_opening_lines_nullable(const relkvanu_set
 #define relkvanu_line_says relkvanu_line_says_nullable
 #define relkvanu_call_line relkvanu_call_line_nullable
 #define relkvanu_opening_lines relkvanu_opening_lines_nullable
+#define relkvanu_save relkvanu_save_nullable
+#define relkvanu_open_saved relkvanu_open_saved_nullable
 
 #ifdef __cplusplus
 }

@@ -99,6 +99,7 @@ public:
         case error::bad_moment: return "BadMoment";
         case error::bad_first: return "BadFirst";
         case error::bad_kind: return "BadKind";
+        case error::bad_image: return "BadImage";
         case error::too_short: return "the buffer is too short";
         case error::line_too_long: return "TooLong";
         case error::line_word: return "Word";
@@ -193,14 +194,16 @@ class Coordinator {
 public:
     /* Opens a coordinator. Its first record has the number first: 1 for a new job, otherwise one above all earlier numbers. */
     static std::variant<Coordinator, refused> open(const relkvanu_settings &settings, shape of, std::uint64_t now, std::uint64_t first = 1) {
-        Coordinator it;
-        std::random_device random;
-        auto word = [&random] { return std::uint64_t{random()} << 32 | random(); };
-        relkvanu_answer told = relkvanu_open(&it.handle_, &settings, of.data(), of.size(), now, first, word(), word());
-        if (told.code != RELKVANU_DONE) {
-            return refusal(told);
-        }
-        return std::variant<Coordinator, refused>(std::move(it));
+        return opened([&](relkvanu *handle, std::uint64_t word, std::uint64_t other) {
+            return relkvanu_open(handle, &settings, of.data(), of.size(), now, first, word, other);
+        });
+    }
+
+    /* Opens the one that an image tells: it answers every list of calls as the one that was saved. */
+    static std::variant<Coordinator, refused> open_saved(std::string_view image) {
+        return opened([&](relkvanu *handle, std::uint64_t word, std::uint64_t other) {
+            return relkvanu_open_saved(handle, reinterpret_cast<const std::uint8_t *>(image.data()), image.size(), word, other);
+        });
     }
 
     Coordinator(const Coordinator &) = delete;
@@ -297,17 +300,12 @@ public:
 
     /* The metadata of a live record, as JSON. */
     show_answer show(std::uint64_t id) {
-        std::string json(1024, '\0');
-        relkvanu_answer told = relkvanu_show(&handle_, id, bytes(json), json.size());
-        while (told.code == RELKVANU_TOO_SHORT) {
-            json.resize(static_cast<std::size_t>(told.a));
-            told = relkvanu_show(&handle_, id, bytes(json), json.size());
-        }
-        if (told.code != RELKVANU_DONE) {
-            return refusal(told);
-        }
-        json.resize(static_cast<std::size_t>(told.a));
-        return json;
+        return written([&](std::uint8_t *json, std::size_t len) { return relkvanu_show(&handle_, id, json, len); });
+    }
+
+    /* The image of the coordinator, as JSON (docs/IMAGE.md). */
+    text_answer save() {
+        return written([&](std::uint8_t *image, std::size_t len) { return relkvanu_save(&handle_, image, len); });
     }
 
     /* Makes the call of a script's line (docs/SCRIPT.md): the bytes before its newline. A take line fetches into the buffer. If it
@@ -393,7 +391,17 @@ private:
 
     Coordinator() = default;
 
-    static std::uint8_t *bytes(std::string &text) { return reinterpret_cast<std::uint8_t *>(text.data()); }
+    /* One whose handle is opened so, with two random words. */
+    template <class Open> static std::variant<Coordinator, refused> opened(Open open) {
+        Coordinator it;
+        std::random_device random;
+        auto word = [&random] { return std::uint64_t{random()} << 32 | random(); };
+        relkvanu_answer told = open(&it.handle_, word(), word());
+        if (told.code != RELKVANU_DONE) {
+            return refusal(told);
+        }
+        return std::variant<Coordinator, refused>(std::move(it));
+    }
 
     /* The number of a line that has one. The library has read the line. */
     static std::uint64_t number_in(std::string_view text) {

@@ -64,6 +64,7 @@ static void note_reported(struct coordinator *c, uint64_t file) {
 
 static void note_done(struct coordinator *c, relkvanu_answer answer) {
     switch (answer.what) {
+    case RELKVANU_ACK_COMPLETED: c->completed++; break;
     case RELKVANU_TICK_TRIGGERED: c->last = answer.b; break;
     case RELKVANU_SAVEPOINT_TRIGGERED: c->last = answer.a; break;
     case RELKVANU_RESTORED_CHECKPOINT:
@@ -89,10 +90,14 @@ static void note(struct coordinator *c, relkvanu_answer answer) {
     }
 }
 
+static void sync_file(int file) {
+    CHECK(fdatasync(file) == 0, "the log can't be synced: %s", strerror(errno));
+}
+
 /* Writes bytes to the log and syncs them. */
 static void append(struct coordinator *c, const char *bytes, size_t len) {
     write_whole(c->log, bytes, len);
-    CHECK(fdatasync(c->log) == 0, "the log can't be synced: %s", strerror(errno));
+    sync_file(c->log);
 }
 
 /* Writes what the engine has to know after a replay. */
@@ -102,16 +107,114 @@ static void append_note(struct coordinator *c, const char *name, uint64_t number
 }
 
 static void read_note(struct coordinator *c, const char *line) {
-    uint64_t number = 0;
+    uint64_t number = 0, place = 0;
     if (sscanf(line, "# files %" SCNu64, &number) == 1) {
         c->next_file = c->files_end = number;
     } else if (sscanf(line, "# tasks %" SCNu64, &number) == 1) {
         c->tasks = (unsigned)number;
+    } else if (sscanf(line, "# last %" SCNu64, &number) == 1) {
+        c->last = number;
+    } else if (sscanf(line, "# restored %" SCNu64, &number) == 1) {
+        c->restored = number;
+    } else if (sscanf(line, "# handed-again %" SCNu64, &number) == 1) {
+        c->handed_again = number;
+    } else if (sscanf(line, "# calls %" SCNu64, &number) == 1) {
+        c->calls = number;
+    } else if (sscanf(line, "# answers %" SCNu64 " %" SCNu64, &place, &number) == 2 && place < REPLIES) {
+        c->answers[place] = number;
+    } else if (sscanf(line, "# taken %" SCNu64, &number) == 1) {
+        c->script.taken[0] = number;
+        note_taken(c, 1);
     }
+}
+
+static const char IMAGE[] = "# image ";
+
+/* The coordinator of the image that a log begins with. */
+static void open_image(struct coordinator *c, const char *line, size_t len) {
+    uint64_t words[2] = {0};
+    const char *image = line + strlen(IMAGE);
+    CHECK(getentropy(words, sizeof words) == 0, "no random words");
+    relkvanu_answer answer = relkvanu_open_saved(&c->script.handle, (const uint8_t *)image, len - strlen(IMAGE), words[0], words[1]);
+    CHECK(answer.code == RELKVANU_DONE, "the log's image is not opened: code %" PRIu32 ", what %" PRIu32, answer.code, answer.what);
+}
+
+/* The image of the coordinator, to be freed. */
+static char *image_of(struct coordinator *c, size_t *len) {
+    char *image = NULL;
+    relkvanu_answer answer = {RELKVANU_TOO_SHORT, 0, 1024, 0};
+    while (answer.code == RELKVANU_TOO_SHORT) {
+        *len = answer.a;
+        image = realloc(image, *len);
+        CHECK(image != NULL, "no memory");
+        answer = relkvanu_save(&c->script.handle, (uint8_t *)image, *len);
+    }
+    CHECK(answer.code == RELKVANU_DONE, "the coordinator can't be saved: code %" PRIu32, answer.code);
+    *len = answer.a;
+    return image;
+}
+
+/* What a log begins with in place of all lines before: an image, and what they told the engine. */
+static char *new_log(struct coordinator *c, size_t *len) {
+    char *text = NULL;
+    size_t image_len = 0;
+    char *image = image_of(c, &image_len);
+    FILE *to = open_memstream(&text, len);
+    CHECK(to != NULL, "no memory");
+    fprintf(to, "%s%.*s\n", IMAGE, (int)image_len, image);
+    fprintf(to, "# files %" PRIu64 "\n# tasks %u\n# last %" PRIu64 "\n# restored %" PRIu64 "\n# handed-again %" PRIu64 "\n# calls %" PRIu64 "\n", c->files_end,
+            c->tasks, c->last, c->restored, c->handed_again, c->calls);
+    for (size_t place = 0; place < REPLIES; place++) {
+        fprintf(to, "# answers %zu %" PRIu64 "\n", place, c->answers[place]);
+    }
+    for (size_t place = 0; place < c->taken_len; place++) {
+        fprintf(to, "# taken %" PRIu64 "\n", c->taken[place]);
+    }
+    CHECK(fclose(to) == 0, "no memory");
+    free(image);
+    return text;
+}
+
+static void sync_folder(const char *path) {
+    char folder[PATH];
+    path_of(folder, "%.*s", (int)(strrchr(path, '/') - path), path);
+    int it = open(folder, O_RDONLY | O_DIRECTORY);
+    CHECK(it >= 0 && fsync(it) == 0, "%s can't be synced: %s", folder, strerror(errno));
+    close(it);
+}
+
+/* Puts a log in the place of this one that begins with an image and has no call yet. */
+static void cut(struct coordinator *c) {
+    char beside[PATH];
+    size_t len = 0;
+    char *text = new_log(c, &len);
+    path_of(beside, "%.400s.new", c->path);
+    int log = open(beside, O_CREAT | O_TRUNC | O_WRONLY | O_APPEND, 0600);
+    CHECK(log >= 0, "%s can't be opened: %s", beside, strerror(errno));
+    if (dies_at(c, HALF_A_LOG)) {
+        write_whole(log, text, len / 2);
+        die();
+    }
+    write_whole(log, text, len);
+    free(text);
+    sync_file(log);
+    may_die_at(c, AFTER_A_LOG);
+    CHECK(rename(beside, c->path) == 0, "%s can't be renamed: %s", beside, strerror(errno));
+    may_die_at(c, AFTER_A_RENAME);
+    sync_folder(c->path);
+    close(c->log);
+    c->log = log;
+    c->completed = 0;
+    c->cuts++;
+    may_die_at(c, AFTER_A_CUT);
 }
 
 /* Does what a line of the log says. */
 static void obey(struct coordinator *c, const char *line, size_t len) {
+    if (strncmp(line, IMAGE, strlen(IMAGE)) == 0) {
+        open_image(c, line, len);
+        return;
+    }
     relkvanu_answer answer = script_line(&c->script, line, len);
     CHECK(answer.code != RELKVANU_BAD_LINE, "the log has a line that can't be read: %.*s", (int)(len < 80 ? len : 80), line);
     if (answer.code == RELKVANU_DONE && answer.what == RELKVANU_SKIPPED) {
@@ -144,6 +247,9 @@ static relkvanu_answer logged(struct coordinator *c, const relkvanu_call *call, 
     }
     append(c, c->line, len + 1);
     may_die_at(c, AFTER_A_LINE);
+    if (c->completed >= COMPLETED_OF_A_LOG) {
+        cut(c);
+    }
     return answer;
 }
 
@@ -251,6 +357,7 @@ static void begin(struct coordinator *c) {
 
 void coordinator_open(struct coordinator *c, const char *log, struct death death) {
     coordinator_clear(c);
+    path_of(c->path, "%.400s", log);
     c->log = open(log, O_CREAT | O_WRONLY | O_APPEND, 0600);
     CHECK(c->log >= 0, "%s can't be opened: %s", log, strerror(errno));
     off_t whole = replayed(c, log);

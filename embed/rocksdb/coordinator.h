@@ -2,8 +2,11 @@
  * before the caller is told. The library writes the lines and makes the calls that they say. Opened over a log, it makes the calls of
  * all whole lines again, and so has the very state that the process before had told of, or that of one call more.
  *
+ * After each COMPLETED_OF_A_LOG completed records the log is cut: a new one, which begins with an image of the coordinator, is written
+ * beside it, synced and renamed to it, and the folder is synced. A process that dies before the rename leaves the old log, which is whole.
+ *
  * What the engine has to know and the coordinator does not stands in the log as comments, before it is used: how many tasks the job
- * is to have, and the end of the file numbers that may have been given. */
+ * is to have, the end of the file numbers that may have been given, and at the start of a cut log what the lines before it told. */
 #ifndef ENGINE_COORDINATOR_H
 #define ENGINE_COORDINATOR_H
 
@@ -12,11 +15,12 @@
 
 #include <pthread.h>
 
-enum { REPLIES = 23, LINE = 131072, FILES_AT_ONCE = 1000 };
+enum { REPLIES = 23, LINE = 131072, FILES_AT_ONCE = 1000, COMPLETED_OF_A_LOG = 5 };
 
-/* Where the process may kill itself: after a call that is not in the log yet, with half of its line there, with all of it, or
- * between two steps of a task or of the discarder. */
-enum place { AFTER_A_CALL, HALF_A_LINE, AFTER_A_LINE, BETWEEN_STEPS, PLACES };
+/* Where the process may kill itself: after a call that is not in the log yet, with half of its line there, with all of it,
+ * between two steps of a task or of the discarder; with half of a new log written, with all of it synced, when it is renamed, and when
+ * the folder is synced. */
+enum place { AFTER_A_CALL, HALF_A_LINE, AFTER_A_LINE, BETWEEN_STEPS, HALF_A_LOG, AFTER_A_LOG, AFTER_A_RENAME, AFTER_A_CUT, PLACES };
 
 /* The process is killed when it comes to the place for the nth time; 0: it is not. */
 struct death {
@@ -27,7 +31,10 @@ struct death {
 struct coordinator {
     pthread_mutex_t lock;
     struct script script;
+    char path[PATH]; /* of the log */
     int log;
+    uint64_t completed; /* records since the log was cut */
+    uint64_t cuts;      /* by this process */
     struct death death;
     char line[LINE + 1];          /* the one that is written, and its newline */
     uint64_t next_file, files_end; /* above all that were named; above all that may be before the log says so */

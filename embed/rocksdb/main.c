@@ -9,7 +9,7 @@
 #include <sys/wait.h>
 #include <unistd.h>
 
-enum { MOST_NTH = 150, MOST_MS = 1200, GUARD_MS = 300000 };
+enum { MOST_NTH = 150, MOST_CUTS = 3, MOST_MS = 1200, GUARD_MS = 300000 };
 
 static void print_end(const struct job *job) {
     const struct coordinator *c = &job->coordinator;
@@ -22,6 +22,8 @@ static void print_end(const struct job *job) {
            c->calls, c->refused, c->gone, c->answers[RELKVANU_ACK_COMPLETED],
            c->answers[RELKVANU_RESTORED_CHECKPOINT] + c->answers[RELKVANU_RESTORED_SAVEPOINT] + c->answers[RELKVANU_RESTORED_FRESH],
            c->answers[RELKVANU_RESTORED_FRESH]);
+    printf("rocksdb: the log was cut %" PRIu64 " times by the last process\n", c->cuts);
+    CHECK(c->cuts != 0, "the log was never cut");
     printf("rocksdb: %" PRIu64 " late acknowledgements, %" PRIu64 " declines, %" PRIu64 " files deleted, %" PRIu64 " deletions failed\n",
            c->answers[RELKVANU_ACK_LATE], c->answers[RELKVANU_DECLINE_ABORTED] + c->answers[RELKVANU_DECLINE_FAILED] + c->answers[RELKVANU_DECLINE_LATE],
            c->answers[RELKVANU_DELETED], c->answers[RELKVANU_UNDELETED]);
@@ -45,7 +47,9 @@ static void run(const char *folder, uint64_t seed, uint64_t choices, uint64_t se
 static void run_and_kill(const char *folder, uint64_t seed, uint64_t nth) {
     struct chance chance = {mixed(seed ^ mixed(nth))};
     bool from_outside = nth % (PLACES + 1) == PLACES;
-    struct death death = {(enum place)(nth % (PLACES + 1)), from_outside ? 0 : 1 + chance_below(&chance, MOST_NTH)};
+    enum place place = (enum place)(nth % (PLACES + 1));
+    uint64_t most = place >= HALF_A_LOG ? MOST_CUTS : MOST_NTH;
+    struct death death = {place, from_outside ? 0 : 1 + chance_below(&chance, most)};
     uint64_t ms = from_outside ? 1 + chance_below(&chance, MOST_MS) : GUARD_MS;
     pid_t child = fork();
     CHECK(child >= 0, "no process");

@@ -1,9 +1,11 @@
 pub mod Buffers
 pub mod Calls
+pub mod Images
 pub mod Kept
 pub mod Lines
 pub mod Names
 pub mod Opening
 pub mod Reads
+pub mod Recovery
 pub mod Told
 pub mod Writing

@@ -52,6 +52,9 @@ bad_moment = 4
 abbrev pub bad_first : ℕ
 bad_first = 5
 
+abbrev pub bad_image : ℕ
+bad_image = 7
+
 abbrev pub too_short : ℕ → Answer
 too_short needed = answer 5 0 needed 0
 

@@ -14,7 +14,7 @@ use crate::answer::Answer;
 use crate::calls::of_fault;
 use crate::handle::Handle;
 use ckpt_core::Core;
-use ckpt_ids::{Call, CheckpointId, Handed, Metadata, Reply};
+use ckpt_ids::{Call, CheckpointId, FileId, Metadata, Reply};
 use ckpt_texts::metadata_text;
 use std::alloc::Global;
 
@@ -81,17 +81,19 @@ fn with_files(reply: &Reply, files: &mut [u64]) -> Answer
     ensures front { StandsInFront (files_of_reply reply.now) files.old files.new }
 {
     if let Reply::Taken(taken) = reply {
-        write_files(taken, files);
+        write_files(taken.as_slice(), files);
     }
     Answer::of_reply(reply)
 }
 
-fn write_files(taken: &Handed, files: &mut [u64])
-    requires fits { length taken.now ≤ length files.old }
-    ensures { StandsInFront taken.now files.old files.new }
+/// Writes files to the front of a buffer that has a place for each.
+pub(crate) fn write_files(list: &[FileId], files: &mut [u64])
+    requires fits { length list.now ≤ length files.old }
+    ensures { StandsInFront list.now files.old files.new }
 {
-    for place in 0..taken.len() {
-        files[place] = taken.get(place).unwrap().0;
+    for place in 0..list.len() {
+        let file = list[place];
+        files[place] = file.0;
     }
 }
 

@@ -15,7 +15,7 @@ use ckpt_hash::Secret;
 use ckpt_ids::{Config, Shape, ShapeFault};
 use std::alloc::Global;
 
-const ALREADY_OPEN: u32 = 1;
+pub(crate) const ALREADY_OPEN: u32 = 1;
 
 const BAD_CONFIG: u32 = 2;
 

@@ -201,7 +201,7 @@ fn of_choice(choice: Choice) -> Answer
     }
 }
 
-fn of_live(live: Option<Live>) -> Answer
+pub(crate) fn of_live(live: Option<Live>) -> Answer
     ensures { result ≡ live_told live }
 {
     let Some(live) = live else {

@@ -4,5 +4,7 @@
 #![tactic(auto)]
 
 mod exports;
+mod images;
 mod lines;
 mod reads;
+mod recovery;

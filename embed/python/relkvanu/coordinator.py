@@ -6,7 +6,7 @@ import pathlib
 import secrets
 import threading
 from dataclasses import dataclass
-from typing import Any, Iterator, Optional, Sequence
+from typing import Any, Callable, Iterator, Optional, Sequence, Tuple
 
 from relkvanu import header
 from relkvanu.reads import CHOSEN, LIVE, Chosen, FileCounts, Live, Mode
@@ -28,6 +28,7 @@ ARGUMENTS = {
     header.BAD_SHAPE: "BadShape",
     header.BAD_MOMENT: "BadMoment",
     header.BAD_FIRST: "BadFirst",
+    header.BAD_IMAGE: "BadImage",
 }
 
 
@@ -122,6 +123,16 @@ def _words(values: Sequence[int]) -> Any:
     return (U64 * max(len(values), 1))(*map(_u64, values))
 
 
+def _text(text: bytes) -> Any:
+    """The bytes, or one where there is none, as no pointer may be null."""
+    return (ctypes.c_uint8 * max(len(text), 1)).from_buffer_copy(text or b" ")
+
+
+def _keys() -> Tuple[int, int]:
+    """The secret of a coordinator's maps."""
+    return secrets.randbits(64), secrets.randbits(64)
+
+
 def _settings(settings: Settings) -> header.relkvanu_settings:
     values = settings.interval, settings.pause, settings.at_once, settings.timeout, settings.tolerable, settings.retained
     return header.relkvanu_settings(*map(_u64, values), settings.keep_on_cancel)
@@ -147,6 +158,17 @@ def _done(answer: header.relkvanu_answer) -> header.relkvanu_answer:
     raise BadArgument(ARGUMENTS[answer.what])
 
 
+def _written(write: Callable[[Any, int], Any]) -> str:
+    """What is written into a buffer that is long enough."""
+    length = 256
+    while True:
+        text = (ctypes.c_uint8 * length)()
+        answer = write(text, length)
+        if answer.code != header.TOO_SHORT:
+            return bytes(text[: _done(answer).a]).decode()
+        length = answer.a
+
+
 def version() -> str:
     """The version of the loaded library, such as "0.1.0"."""
     text: bytes = _shared().relkvanu_version()
@@ -168,9 +190,6 @@ class Coordinator:
         self._lock = threading.Condition(threading.RLock())
         self._calls = 0
         self._handle = header.relkvanu(None)
-        values = _settings(settings)
-        keys = secrets.randbits(64), secrets.randbits(64)
-        _done(self._call("open", ctypes.byref(values), _words(shape), len(shape), _u64(now), _u64(first), *keys))
 
     def _call(self, name: str, *arguments: Any) -> Any:
         function = getattr(_shared(), f"relkvanu_{name}")
@@ -265,13 +284,11 @@ class Coordinator:
 
     def show(self, id: int) -> Shown:
         """The metadata of a live record."""
-        length = 1024
-        answer = header.relkvanu_answer(code=header.TOO_SHORT, a=length)
-        while answer.code == header.TOO_SHORT:
-            length = answer.a
-            text = (ctypes.c_uint8 * length)()
-            answer = self._call("show", _u64(id), text, length)
-        return Shown(bytes(text[: _done(answer).a]).decode())
+        return Shown(_written(lambda text, length: self._call("show", _u64(id), text, length)))
+
+    def save(self) -> str:
+        """The image of the coordinator, as JSON (docs/IMAGE.md): all of its state."""
+        return _written(lambda text, length: self._call("save", text, length))
 
     def count(self, file: int) -> Reply:
         return self._replied("count", _u64(file))
@@ -281,7 +298,7 @@ class Coordinator:
         comment. Raises BadLine if it can't be read or makes no call, and what the call raises. A take line fetches at most
         `most` files. If it would fetch more, it raises ValueError, and nothing has changed."""
         files = (U64 * max(_u64(most), 1))()
-        text = (ctypes.c_uint8 * max(len(line), 1)).from_buffer_copy(line or b" ")
+        text = _text(line)
         with self._lock:
             self._calls += 1
             self._lock.notify_all()

@@ -58,6 +58,7 @@ LINE_START = 41
 LINE_CALL = 42
 LINE_ALL = 43
 WRITTEN = 44
+SAVED = 45
 MOMENT_TOO_LARGE = 1
 NOT_RUNNING = 2
 TOO_MANY_FILES = 3
@@ -79,6 +80,7 @@ BAD_SHAPE = 3
 BAD_MOMENT = 4
 BAD_FIRST = 5
 BAD_KIND = 6
+BAD_IMAGE = 7
 FAULT_TOO_LONG = 1
 FAULT_WORD = 2
 FAULT_MISSING = 3
@@ -174,4 +176,6 @@ FUNCTIONS: Dict[str, Tuple[Any, List[Any]]] = {
     "relkvanu_line_says": (relkvanu_answer, [POINTER(c_uint8), c_size_t, POINTER(c_uint64), c_size_t]),
     "relkvanu_call_line": (relkvanu_answer, [POINTER(relkvanu_call), POINTER(c_uint64), c_size_t, POINTER(c_uint64), c_size_t, POINTER(c_uint8), c_size_t]),
     "relkvanu_opening_lines": (relkvanu_answer, [POINTER(relkvanu_settings), POINTER(c_uint64), c_size_t, c_uint64, POINTER(c_uint8), c_size_t]),
+    "relkvanu_save": (relkvanu_answer, [POINTER(relkvanu), POINTER(c_uint8), c_size_t]),
+    "relkvanu_open_saved": (relkvanu_answer, [POINTER(relkvanu), POINTER(c_uint8), c_size_t, c_uint64, c_uint64]),
 }

@@ -1,10 +1,10 @@
 """Lines of a script (docs/SCRIPT.md): a log of calls, which the library writes and reads. Coordinator.line makes the call of one."""
 import ctypes
 from dataclasses import dataclass
-from typing import Any, Callable, Optional, Sequence, Tuple, Union
+from typing import Optional, Sequence, Tuple, Union
 
 from relkvanu import header
-from relkvanu.coordinator import U64, BadArgument, Settings, _done, _settings, _shared, _u64, _within, _words
+from relkvanu.coordinator import U64, BadArgument, Settings, _done, _settings, _shared, _text, _u64, _within, _words, _written
 
 
 @dataclass(frozen=True)
@@ -43,7 +43,7 @@ Line = Union[Skip, Settings, Job, Start, Call, All]
 def line_says(line: bytes) -> Line:
     """Which line it is, with the numbers of one that makes no call. Raises BadLine. Checks no number against the limits of a
     job."""
-    text = (ctypes.c_uint8 * max(len(line), 1)).from_buffer_copy(line or b" ")
+    text = _text(line)
     places = 8
     while True:
         numbers = (U64 * places)()

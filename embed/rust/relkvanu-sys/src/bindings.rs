@@ -103,6 +103,8 @@ pub const RELKVANU_LINE_CALL: u32 = 42;
 pub const RELKVANU_LINE_ALL: u32 = 43;
 /// a: bytes at the start of the buffer
 pub const RELKVANU_WRITTEN: u32 = 44;
+/// a: bytes at the buffer's front
+pub const RELKVANU_SAVED: u32 = 45;
 pub const RELKVANU_MOMENT_TOO_LARGE: u32 = 1;
 pub const RELKVANU_NOT_RUNNING: u32 = 2;
 pub const RELKVANU_TOO_MANY_FILES: u32 = 3;
@@ -126,6 +128,8 @@ pub const RELKVANU_BAD_SHAPE: u32 = 3;
 pub const RELKVANU_BAD_MOMENT: u32 = 4;
 pub const RELKVANU_BAD_FIRST: u32 = 5;
 pub const RELKVANU_BAD_KIND: u32 = 6;
+/// the bytes are no image, or no coordinator can be in the state that it tells
+pub const RELKVANU_BAD_IMAGE: u32 = 7;
 /// a line has at most 131072 bytes
 pub const RELKVANU_FAULT_TOO_LONG: u32 = 1;
 /// a word that does not belong there
@@ -343,5 +347,21 @@ extern "C" {
         now: u64,
         lines: *mut u8,
         lines_len: usize,
+    ) -> relkvanu_answer;
+
+    /// Writes the image of the coordinator as JSON, without a zero at its end: all of its state. A handle that is opened with it answers every list of calls as this one would. RELKVANU_SAVED; RELKVANU_TOO_SHORT, where a is how many bytes it has: ask again with a buffer of that many. Changes nothing but the buffer, and only RELKVANU_SAVED changes that. Takes memory, also where the buffer is too short.
+    pub fn relkvanu_save(
+        handle: *mut relkvanu,
+        image: *mut u8,
+        image_len: usize,
+    ) -> relkvanu_answer;
+
+    /// Gives a closed handle the coordinator that an image tells. The two words are those of relkvanu_open: they need not be the ones of the coordinator that was saved. RELKVANU_OPENED; or RELKVANU_BAD_ARGUMENT, and the handle stays as it was: RELKVANU_ALREADY_OPEN, RELKVANU_BAD_IMAGE. Takes memory: after RELKVANU_NO_MEMORY the handle is closed, as before.
+    pub fn relkvanu_open_saved(
+        handle: *mut relkvanu,
+        image: *const u8,
+        image_len: usize,
+        first_word: u64,
+        second_word: u64,
     ) -> relkvanu_answer;
 }

@@ -1,6 +1,6 @@
 //! The coordinator of one job, for one thread at a time.
 use crate::answer::{self, Answer, Choice, FileCounts, Live, Mode};
-use crate::fault::{done, Fault};
+use crate::fault::{done, text, Fault};
 use relkvanu_sys as sys;
 use std::cell::UnsafeCell;
 use std::collections::hash_map::RandomState;
@@ -85,6 +85,34 @@ impl Coordinator {
         now: u64,
         first: u64,
     ) -> Result<Coordinator, Fault> {
+        // SAFETY: the handle is all zero; the settings and the slice outlive the call, which keeps none of them.
+        Coordinator::opened(|handle, word, other| unsafe {
+            sys::relkvanu_open(
+                handle,
+                &settings.into(),
+                shape.as_ptr(),
+                shape.len(),
+                now,
+                first,
+                word,
+                other,
+            )
+        })
+    }
+
+    /// Opens the coordinator that an image tells, which [`save`](Self::save) wrote (`docs/IMAGE.md`): it answers every list of
+    /// calls as the one that was saved. Takes memory for the coordinator.
+    pub fn open_saved(image: &[u8]) -> Result<Coordinator, Fault> {
+        // SAFETY: the handle is all zero; the slice outlives the call, which does not keep it.
+        Coordinator::opened(|handle, word, other| unsafe {
+            sys::relkvanu_open_saved(handle, image.as_ptr(), image.len(), word, other)
+        })
+    }
+
+    /// The coordinator whose handle, which is all zero, is opened so, with two random words.
+    fn opened(
+        open: impl FnOnce(*mut sys::relkvanu, u64, u64) -> sys::relkvanu_answer,
+    ) -> Result<Coordinator, Fault> {
         let opened = Coordinator {
             handle: UnsafeCell::new(sys::relkvanu {
                 state: std::ptr::null_mut(),
@@ -92,19 +120,7 @@ impl Coordinator {
         };
         // the system's random source, which std keeps for its own maps
         let words = RandomState::new();
-        // SAFETY: the handle is all zero; the settings and the slice outlive the call, which keeps none of them.
-        let told = unsafe {
-            sys::relkvanu_open(
-                opened.handle.get(),
-                &settings.into(),
-                shape.as_ptr(),
-                shape.len(),
-                now,
-                first,
-                words.hash_one(0),
-                words.hash_one(1),
-            )
-        };
+        let told = open(opened.handle.get(), words.hash_one(0), words.hash_one(1));
         done(told).map(|_| opened)
     }
 

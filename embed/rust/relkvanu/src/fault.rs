@@ -137,6 +137,7 @@ impl fmt::Display for Fault {
             Fault::BadShape => f.write_str("the shape is outside its limits"),
             Fault::BadMoment => f.write_str("the opening moment is above 2^62 - 1"),
             Fault::BadFirst => f.write_str("the first number is not within 1 to 2^62 - 1"),
+            Fault::BadImage => f.write_str("the bytes are no image of a coordinator"),
             Fault::BadLine(why) => write!(f, "the line can't be read: {why}"),
             Fault::TooShort { places } => write!(f, "the buffer has to have {places} places"),
         }
@@ -164,6 +165,21 @@ pub(crate) fn done(told: sys::relkvanu_answer) -> Result<sys::relkvanu_answer, F
         (sys::RELKVANU_BAD_ARGUMENT, sys::RELKVANU_BAD_SHAPE) => Fault::BadShape,
         (sys::RELKVANU_BAD_ARGUMENT, sys::RELKVANU_BAD_MOMENT) => Fault::BadMoment,
         (sys::RELKVANU_BAD_ARGUMENT, sys::RELKVANU_BAD_FIRST) => Fault::BadFirst,
+        (sys::RELKVANU_BAD_ARGUMENT, sys::RELKVANU_BAD_IMAGE) => Fault::BadImage,
         (code, what) => unreachable!("code {code} {what} of an open handle"),
     })
+}
+
+/// The text that is written into a buffer, which is made longer until it is long enough.
+pub(crate) fn text(write: impl Fn(&mut [u8]) -> sys::relkvanu_answer) -> Result<String, Fault> {
+    let mut bytes = vec![0; 256];
+    loop {
+        let told = write(&mut bytes);
+        if told.code == sys::RELKVANU_TOO_SHORT {
+            bytes.resize(told.a as usize, 0);
+            continue;
+        }
+        bytes.truncate(done(told)?.a as usize);
+        return Ok(String::from_utf8_lossy(&bytes).into_owned());
+    }
 }

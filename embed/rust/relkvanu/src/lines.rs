@@ -1,7 +1,7 @@
 //! Lines of a script (`docs/SCRIPT.md`): a log of calls, which the library writes and reads.
 use crate::answer::{self, Answer};
 use crate::coordinator::{Coordinator, Settings};
-use crate::fault::{done, Fault};
+use crate::fault::{done, text, Fault};
 use relkvanu_sys as sys;
 use std::error::Error;
 use std::fmt;

@@ -169,6 +169,11 @@ impl SharedCoordinator {
         self.read(|it| it.show(id))
     }
 
+    /// The image of the coordinator: [`Coordinator::save`].
+    pub fn save(&self) -> Result<String, Fault> {
+        self.read(|it| it.save())
+    }
+
     pub fn count(&self, file: u64) -> Called {
         self.read(|it| it.count(file))
     }

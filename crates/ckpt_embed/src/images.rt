@@ -1,0 +1,133 @@
+//! A coordinator that is saved into a caller's buffer, and a handle that is opened with what was saved.
+
+ghost use Rattle.std.specs.Prelude.{◌≡◌, ◌≢◌, None, Some, IfOk, IfErr, length, string_bytes};
+ghost use Rattle.core.specs.Str.{IsUtf8};
+ghost use Rattle.ckpt_core.specs.Images.{settled, state_in};
+ghost use Rattle.ckpt_core.specs.State.{State};
+ghost use Rattle.ckpt_image.specs.Images.{image_read};
+ghost use Rattle.ckpt_image.specs.Written.{image_bytes};
+ghost use Rattle.ckpt_embed.specs.Buffers.{StandsInFront};
+ghost use Rattle.ckpt_embed.specs.Calls.{HasNoNumbers, StaysAsItWas, StaysClosed};
+ghost use Rattle.ckpt_embed.specs.Images.{BringsImage, IsNotOpenedSaved, IsOpenedSaved, IsSaveTold, IsWhyNotSaved, Tells, saved_told};
+ghost use Rattle.ckpt_embed.specs.Opening.{StaysOpen};
+ghost use Rattle.ckpt_embed.specs.Told.{bad_argument, bad_image, no_memory};
+
+use crate::answer::Answer;
+use crate::handle::Handle;
+use crate::opening::ALREADY_OPEN;
+use ckpt_core::{Core, Image, ImageFault};
+use ckpt_hash::Secret;
+use ckpt_image::{TextFault, image_text, parse_image};
+use std::alloc::{AllocError, Global};
+
+const SAVED: u32 = 45;
+
+const BAD_IMAGE: u32 = 7;
+
+/// Writes the image of the coordinator as JSON to the front of the buffer.
+///
+/// Where the buffer is too short, it says how many bytes the image has: ask again.
+pub fn save(alloc: Global, handle: &mut Handle, image: &mut [u8]) -> Answer
+    ensures closed { StaysClosed handle.old.value handle.new.value result }
+    ensures answered { (m : State) → handle.old.value ≡ Some m → IsSaveTold m (length image.old) result }
+    ensures front { (m : State) → handle.old.value ≡ Some m → BringsImage m image.old image.new result }
+    ensures kept { result.code ≢ 0 → image.new ≡ image.old }
+    ensures numbers { HasNoNumbers result }
+    ensures unchanged { handle.new.value ≡ handle.old.value }
+{
+    let Some(core) = handle.take(alloc) else {
+        return Answer::closed();
+    };
+    let answer = save_from(alloc, &core, image);
+    handle.put(alloc, core);
+    answer
+}
+
+/// Gives a closed handle the coordinator that an image tells: it answers every list of calls as the
+/// one that was saved.
+///
+/// The secret keys the maps of files, so that no choice of numbers makes calls slow; it changes no
+/// answer. A handle that is open stays as it is, and says so. One bad argument stands for bytes that
+/// are no image, and for an image of a state that no coordinator can be in.
+pub fn open_saved(alloc: Global, handle: &mut Handle, image: &[u8], secret: Secret) -> Answer
+    ensures open { StaysOpen handle.old.value handle.new.value result }
+    ensures opened { IsOpenedSaved handle.old.value handle.new.value image.now result }
+    ensures refused { IsNotOpenedSaved handle.old.value handle.new.value image.now result }
+    ensures numbers { HasNoNumbers result }
+    ensures unchanged { StaysAsItWas handle.old.value handle.new.value result }
+{
+    if let Some(core) = handle.take(alloc) {
+        handle.put(alloc, core);
+        return Answer::bad_argument(ALREADY_OPEN);
+    }
+    match core_of(alloc, image, secret) {
+        Ok(core) => {
+            handle.put(alloc, core);
+            Answer::done(0, 0, 0)
+        }
+        Err(why) => why,
+    }
+}
+
+fn save_from(alloc: Global, core: &Core, image: &mut [u8]) -> Answer
+    ensures told { IsSaveTold core.now (length image.old) result }
+    ensures front { BringsImage core.now image.old image.new result }
+    ensures kept { result.code ≢ 0 → image.new ≡ image.old }
+    ensures numbers { HasNoNumbers result }
+{
+    match text_of(alloc, core) {
+        Ok(text) => write_text(&text, image),
+        Err(_) => Answer::out_of_memory(),
+    }
+}
+
+fn text_of(alloc: Global, core: &Core) -> Result<String, AllocError>
+    ensures { IfOk result (λ text. string_bytes text ≡ image_bytes (settled core.now)) }
+{
+    let image = core.image()?;
+    image_text(alloc, &image)
+}
+
+/// Writes a text to the front of the buffer, where it is long enough.
+fn write_text(text: &str, image: &mut [u8]) -> Answer
+    ensures told { result ≡ saved_told text.now (length image.old) }
+    ensures front { result.code ≡ 0 → StandsInFront text.now image.old image.new }
+    ensures kept { result.code ≢ 0 → image.new ≡ image.old }
+{
+    let bytes = text.as_bytes();
+    let needed = bytes.len();
+    if image.len() < needed {
+        return Answer::too_short(needed as u64);
+    }
+    image[..needed].copy_from_slice(bytes);
+    Answer::done(SAVED, needed as u64, 0)
+}
+
+fn core_of(alloc: Global, image: &[u8], secret: Secret) -> Result<Box<Core>, Answer>
+    ensures value { IfOk result (λ core. Tells image.now core.value) }
+    ensures fault { IfErr result (IsWhyNotSaved image.now) }
+    ensures numbers { IfErr result HasNoNumbers }
+{
+    let image = image_of(alloc, image)?;
+    match Core::from_image(alloc, &image, secret) {
+        Ok(core) => Box::new(alloc, core).map_err(|_| Answer::out_of_memory()),
+        Err(ImageFault::Damaged) => Err(Answer::bad_argument(BAD_IMAGE)),
+        Err(ImageFault::Memory) => Err(Answer::out_of_memory()),
+    }
+}
+
+fn image_of(alloc: Global, bytes: &[u8]) -> Result<Image, Answer>
+    ensures utf8 { IfOk result (λ image. IsUtf8 bytes.now) }
+    ensures read { IfOk result (λ image. image_read bytes.now ≡ Some (state_in image)) }
+    ensures fault { IfErr result (IsWhyNotSaved bytes.now) }
+    ensures numbers { IfErr result HasNoNumbers }
+{
+    let Ok(text) = str::from_utf8(bytes) else {
+        return Err(Answer::bad_argument(BAD_IMAGE));
+    };
+    match parse_image(alloc, text) {
+        Ok(image) => Ok(image),
+        Err(TextFault::Memory) => Err(Answer::out_of_memory()),
+        Err(_) => Err(Answer::bad_argument(BAD_IMAGE)),
+    }
+}

@@ -1,0 +1,207 @@
+//! What an engine asks through a handle when it recovers. None of it changes anything, and only the pins of a record
+//! and the taken files take memory.
+
+ghost use Rattle.std.specs.Prelude.{◌≡◌, ◌≢◌, Some, IfOk, IsErr, find, length, nat_le, option_map, slice_get};
+ghost use Rattle.ckpt_ids.specs.Ascending.{ascending};
+ghost use Rattle.ckpt_core.specs.Coordinator.{pending_of};
+ghost use Rattle.ckpt_core.specs.Reads.{live_of, pins_in, standing};
+ghost use Rattle.ckpt_core.specs.State.{State};
+ghost use Rattle.ckpt_embed.specs.Calls.{HasNoNumbers, StaysClosed};
+ghost use Rattle.ckpt_embed.specs.Reads.{live_told};
+ghost use Rattle.ckpt_embed.specs.Recovery.{BringsList, IsListTold, acked_in, acked_told, files_acked, list_told, standing_told, waiting_told};
+ghost use Rattle.ckpt_embed.specs.Told.{no_memory, out_of_memory};
+
+use crate::answer::Answer;
+use crate::buffers::write_files;
+use crate::handle::Handle;
+use crate::reads::of_live;
+use ckpt_core::{Core, Standing};
+use ckpt_ids::{CheckpointId, FileId, Files, SubtaskId};
+use std::alloc::{AllocError, Global};
+
+const STANDS_PENDING: u32 = 46;
+
+const STANDS_DONE: u32 = 47;
+
+const STANDS_ENDED: u32 = 48;
+
+const STANDS_NOT_YET: u32 = 49;
+
+const STANDS_NEVER: u32 = 50;
+
+const FILES: u32 = 51;
+
+const NOT_ACKNOWLEDGED: u32 = 52;
+
+const WAITING: u32 = 53;
+
+const NONE_WAITS: u32 = 54;
+
+/// The first live record whose number is at least this one. It is searched by halves.
+pub fn live_from(alloc: Global, handle: &mut Handle, id: u64) -> Answer
+    ensures closed { StaysClosed handle.old.value handle.new.value result }
+    ensures answered { (m : State) → handle.old.value ≡ Some m → result ≡ live_told (option_map live_of (find (λ r. nat_le id r.id) m.records)) }
+    ensures unchanged { handle.new.value ≡ handle.old.value }
+{
+    let Some(core) = handle.take(alloc) else {
+        return Answer::closed();
+    };
+    let answer = of_live(core.live_from(CheckpointId(id)));
+    handle.put(alloc, core);
+    answer
+}
+
+/// What a number is. Any number has an answer. It is searched by halves.
+pub fn standing(alloc: Global, handle: &mut Handle, id: u64) -> Answer
+    ensures closed { StaysClosed handle.old.value handle.new.value result }
+    ensures answered { (m : State) → handle.old.value ≡ Some m → result ≡ standing_told (standing m id) }
+    ensures unchanged { handle.new.value ≡ handle.old.value }
+{
+    let Some(core) = handle.take(alloc) else {
+        return Answer::closed();
+    };
+    let answer = of_standing(core.standing(CheckpointId(id)));
+    handle.put(alloc, core);
+    answer
+}
+
+/// Writes the files that this subtask acknowledged in a live record to the front of the buffer, in
+/// ascending order.
+///
+/// Where the buffer has too few places, it says how many it needs. The record and the subtask are
+/// searched by halves.
+pub fn files_of(
+    alloc: Global,
+    handle: &mut Handle,
+    id: u64,
+    subtask: SubtaskId,
+    files: &mut [u64],
+) -> Answer
+    ensures closed { StaysClosed handle.old.value handle.new.value result }
+    ensures answered { (m : State) → handle.old.value ≡ Some m → result ≡ acked_told (acked_in m id subtask) (length files.old) }
+    ensures front { (m : State) → handle.old.value ≡ Some m → BringsList (files_acked (acked_in m id subtask)) files.old files.new result }
+    ensures kept { result.code ≢ 0 → files.new ≡ files.old }
+    ensures unchanged { handle.new.value ≡ handle.old.value }
+{
+    let Some(core) = handle.take(alloc) else {
+        return Answer::closed();
+    };
+    let answer = write_acked(&core, id, subtask, files);
+    handle.put(alloc, core);
+    answer
+}
+
+/// Writes the files that a pending record holds beside those of its acknowledgements to the front of
+/// the buffer, in ascending order; none where no record of this number is pending.
+///
+/// Where the buffer has too few places, it says how many it needs. Takes memory.
+pub fn pins_of(alloc: Global, handle: &mut Handle, id: u64, files: &mut [u64]) -> Answer
+    ensures closed { StaysClosed handle.old.value handle.new.value result }
+    ensures answered { (m : State) → handle.old.value ≡ Some m → IsListTold (pins_in (pending_of m.records id)) (length files.old) result }
+    ensures front { (m : State) → handle.old.value ≡ Some m → BringsList (pins_in (pending_of m.records id)) files.old files.new result }
+    ensures kept { result.code ≢ 0 → files.new ≡ files.old }
+    ensures numbers { HasNoNumbers result }
+    ensures unchanged { handle.new.value ≡ handle.old.value }
+{
+    let Some(core) = handle.take(alloc) else {
+        return Answer::closed();
+    };
+    let answer = write_found(core.pins_of(CheckpointId(id)), files);
+    handle.put(alloc, core);
+    answer
+}
+
+/// The file at this place among those that wait for deletion, where the next to be fetched is the
+/// first. Takes constant time.
+pub fn waiting_file(alloc: Global, handle: &mut Handle, place: usize) -> Answer
+    ensures closed { StaysClosed handle.old.value handle.new.value result }
+    ensures answered { (m : State) → handle.old.value ≡ Some m → result ≡ waiting_told (slice_get m.waiting place) }
+    ensures unchanged { handle.new.value ≡ handle.old.value }
+{
+    let Some(core) = handle.take(alloc) else {
+        return Answer::closed();
+    };
+    let answer = of_waiting(core.waiting_file(place));
+    handle.put(alloc, core);
+    answer
+}
+
+/// Writes the files that were fetched for deletion and are not yet reported to the front of the
+/// buffer, in ascending order.
+///
+/// Where the buffer has too few places, it says how many it needs. Takes memory, and looks at each
+/// file of the outbox.
+pub fn taken_files(alloc: Global, handle: &mut Handle, files: &mut [u64]) -> Answer
+    ensures closed { StaysClosed handle.old.value handle.new.value result }
+    ensures answered { (m : State) → handle.old.value ≡ Some m → IsListTold (ascending m.taken) (length files.old) result }
+    ensures front { (m : State) → handle.old.value ≡ Some m → BringsList (ascending m.taken) files.old files.new result }
+    ensures kept { result.code ≢ 0 → files.new ≡ files.old }
+    ensures numbers { HasNoNumbers result }
+    ensures unchanged { handle.new.value ≡ handle.old.value }
+{
+    let Some(core) = handle.take(alloc) else {
+        return Answer::closed();
+    };
+    let answer = write_found(core.taken_files(), files);
+    handle.put(alloc, core);
+    answer
+}
+
+fn of_standing(standing: Standing) -> Answer
+    ensures { result ≡ standing_told standing }
+{
+    match standing {
+        Standing::Pending => Answer::done(STANDS_PENDING, 0, 0),
+        Standing::Done => Answer::done(STANDS_DONE, 0, 0),
+        Standing::Ended => Answer::done(STANDS_ENDED, 0, 0),
+        Standing::NotYet => Answer::done(STANDS_NOT_YET, 0, 0),
+        Standing::Never => Answer::done(STANDS_NEVER, 0, 0),
+    }
+}
+
+fn of_waiting(file: Option<FileId>) -> Answer
+    ensures { result ≡ waiting_told file }
+{
+    match file {
+        Some(file) => Answer::done(WAITING, file.0, 0),
+        None => Answer::done(NONE_WAITS, 0, 0),
+    }
+}
+
+fn write_acked(core: &Core, id: u64, subtask: SubtaskId, files: &mut [u64]) -> Answer
+    ensures told { result ≡ acked_told (acked_in core.now id subtask) (length files.old) }
+    ensures front { BringsList (files_acked (acked_in core.now id subtask)) files.old files.new result }
+    ensures kept { result.code ≢ 0 → files.new ≡ files.old }
+{
+    match core.files_of(CheckpointId(id), subtask) {
+        Some(list) => write_list(list, files),
+        None => Answer::done(NOT_ACKNOWLEDGED, 0, 0),
+    }
+}
+
+/// Writes files that were found, unless memory ran out.
+fn write_found(found: Result<Files, AllocError>, files: &mut [u64]) -> Answer
+    ensures told { IfOk found (λ list. result ≡ list_told list (length files.old)) }
+    ensures front { IfOk found (λ list. BringsList list files.old files.new result) }
+    ensures kept { result.code ≢ 0 → files.new ≡ files.old }
+    ensures memory { IsErr found → result ≡ out_of_memory }
+{
+    match found {
+        Ok(list) => write_list(list.as_slice(), files),
+        Err(_) => Answer::out_of_memory(),
+    }
+}
+
+/// Writes files to the front of the buffer, where it has a place for each.
+fn write_list(list: &[FileId], files: &mut [u64]) -> Answer
+    ensures told { result ≡ list_told list.now (length files.old) }
+    ensures front { BringsList list.now files.old files.new result }
+    ensures kept { result.code ≢ 0 → files.new ≡ files.old }
+    ensures numbers { result.code ≢ no_memory }
+{
+    if files.len() < list.len() {
+        return Answer::too_short(list.len() as u64);
+    }
+    write_files(list, files);
+    Answer::done(FILES, list.len() as u64, 0)
+}

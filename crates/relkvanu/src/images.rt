@@ -1,0 +1,42 @@
+//! The exports that save a coordinator, and open a handle with what was saved.
+
+ghost use Rattle.std.specs.Prelude.{◌≡◌, ◌≢◌, Some, length};
+ghost use Rattle.ckpt_core.specs.State.{State};
+ghost use Rattle.ckpt_embed.specs.Calls.{HasNoNumbers, StaysAsItWas, StaysClosed};
+ghost use Rattle.ckpt_embed.specs.Images.{BringsImage, IsNotOpenedSaved, IsOpenedSaved, IsSaveTold};
+ghost use Rattle.ckpt_embed.specs.Opening.{StaysOpen};
+
+use ckpt_embed::{Answer, Handle};
+use ckpt_hash::Secret;
+use std::alloc::Global;
+
+/// Writes the image of the coordinator as JSON.
+#[unsafe(no_mangle)]
+pub extern "C" fn relkvanu_save(alloc: Global, handle: &mut Handle, image: &mut [u8]) -> Answer
+    ensures closed { StaysClosed handle.old.value handle.new.value result }
+    ensures answered { (m : State) → handle.old.value ≡ Some m → IsSaveTold m (length image.old) result }
+    ensures front { (m : State) → handle.old.value ≡ Some m → BringsImage m image.old image.new result }
+    ensures kept { result.code ≢ 0 → image.new ≡ image.old }
+    ensures numbers { HasNoNumbers result }
+    ensures unchanged { handle.new.value ≡ handle.old.value }
+{
+    ckpt_embed::save(alloc, handle, image)
+}
+
+/// Gives a closed handle the coordinator that an image tells. The two words are the secret of its maps.
+#[unsafe(no_mangle)]
+pub extern "C" fn relkvanu_open_saved(
+    alloc: Global,
+    handle: &mut Handle,
+    image: &[u8],
+    first_word: u64,
+    second_word: u64,
+) -> Answer
+    ensures open { StaysOpen handle.old.value handle.new.value result }
+    ensures opened { IsOpenedSaved handle.old.value handle.new.value image.now result }
+    ensures refused { IsNotOpenedSaved handle.old.value handle.new.value image.now result }
+    ensures numbers { HasNoNumbers result }
+    ensures unchanged { StaysAsItWas handle.old.value handle.new.value result }
+{
+    ckpt_embed::open_saved(alloc, handle, image, Secret::of(first_word, second_word))
+}
