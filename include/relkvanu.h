@@ -142,6 +142,20 @@ typedef struct {
 #define RELKVANU_LINE_ALL 43u    /* a: 4, the numbers at the start of the buffer: moment, record, threads, first file */
 #define RELKVANU_WRITTEN 44u     /* a: bytes at the start of the buffer */
 
+/* what, if a save is RELKVANU_DONE */
+#define RELKVANU_SAVED 45u /* a: bytes at the start of the buffer */
+
+/* what, if a read for a recovery is RELKVANU_DONE */
+#define RELKVANU_STANDS_PENDING 46u   /* a live record has the number, and lacks an acknowledgement */
+#define RELKVANU_STANDS_DONE 47u      /* a live record has the number, and is complete */
+#define RELKVANU_STANDS_ENDED 48u     /* a record had the number, and is live no more */
+#define RELKVANU_STANDS_NOT_YET 49u   /* no record has had the number so far */
+#define RELKVANU_STANDS_NEVER 50u     /* the number is below the first one of the opening */
+#define RELKVANU_FILES 51u            /* a: files at the start of the buffer */
+#define RELKVANU_NOT_ACKNOWLEDGED 52u /* no live record has the number, or the subtask has not acknowledged in it */
+#define RELKVANU_WAITING 53u          /* a: file */
+#define RELKVANU_NONE_WAITS 54u       /* fewer files wait */
+
 /* what, if code is RELKVANU_REFUSED; they are checked in this order */
 #define RELKVANU_MOMENT_TOO_LARGE 1u
 #define RELKVANU_NOT_RUNNING 2u
@@ -348,6 +362,52 @@ relkvanu_answer relkvanu_call_line(const relkvanu_call *call, const uint64_t *fi
  * memory. */
 relkvanu_answer relkvanu_opening_lines(const relkvanu_settings *settings, const uint64_t *shape, size_t shape_len, uint64_t now, uint8_t *lines, size_t lines_len);
 
+/* Images: a coordinator that is saved, and opened again. docs/IMAGE.md has the format. */
+
+/* Writes the image of the coordinator as JSON, without a zero at its end: all of its state. A handle that is opened with it
+ * answers every list of calls as this one would.
+ *
+ * RELKVANU_SAVED; RELKVANU_TOO_SHORT, where a is how many bytes it has: ask again with a buffer of that many. Changes nothing but
+ * the buffer, and only RELKVANU_SAVED changes that. Takes memory, also if the buffer is too short. */
+relkvanu_answer relkvanu_save(relkvanu *handle, uint8_t *image, size_t image_len);
+
+/* Gives a closed handle the coordinator that an image describes. The two words are those of relkvanu_open. They may differ from those
+ * of the coordinator that was saved.
+ *
+ * RELKVANU_OPENED; or RELKVANU_BAD_ARGUMENT, and the handle stays as it was: RELKVANU_ALREADY_OPEN, RELKVANU_BAD_IMAGE. Takes memory: after
+ * RELKVANU_NO_MEMORY the handle is closed, as before. */
+relkvanu_answer relkvanu_open_saved(relkvanu *handle, const uint8_t *image, size_t image_len, uint64_t first_word, uint64_t second_word);
+
+/* Reads for a recovery. None changes anything but a buffer. A buffer that is too short stays as it was, and is answered with
+ * RELKVANU_TOO_SHORT, where a is how many places it needs. */
+
+/* The live record with the least number that is at least id: RELKVANU_LIVE_CHECKPOINT or RELKVANU_LIVE_SAVEPOINT; RELKVANU_LIVE_NONE if
+ * there is none. From 0 on, and then from each number plus 1, it visits all live records. Searches by halves. Takes no memory. */
+relkvanu_answer relkvanu_live_from(relkvanu *handle, uint64_t id);
+
+/* What a number is: RELKVANU_STANDS_PENDING to RELKVANU_STANDS_NEVER. Searches by halves. Takes no memory. */
+relkvanu_answer relkvanu_standing(relkvanu *handle, uint64_t id);
+
+/* Writes the files that the subtask vertex.index acknowledged in the live record id, in ascending order.
+ *
+ * RELKVANU_FILES; RELKVANU_NOT_ACKNOWLEDGED; RELKVANU_TOO_SHORT. Searches by halves. Takes no memory. */
+relkvanu_answer relkvanu_files_of(relkvanu *handle, uint64_t id, uint16_t vertex, uint16_t index, uint64_t *files, size_t files_len);
+
+/* Writes the files that the pending record id keeps beside those of its acknowledgements, in ascending order: the files of the record
+ * that a restart would have begun from when it was triggered. There are none if no record of this number is pending.
+ *
+ * RELKVANU_FILES; RELKVANU_TOO_SHORT. Takes memory. */
+relkvanu_answer relkvanu_pins_of(relkvanu *handle, uint64_t id, uint64_t *files, size_t files_len);
+
+/* The file at this place, from 0, among those that wait for deletion: the next to be fetched is the first. RELKVANU_WAITING;
+ * RELKVANU_NONE_WAITS past the last. Takes constant time and no memory. */
+relkvanu_answer relkvanu_waiting_file(relkvanu *handle, size_t place);
+
+/* Writes the files that were fetched for deletion and are not yet reported, in ascending order.
+ *
+ * RELKVANU_FILES; RELKVANU_TOO_SHORT. Looks at each file that waits or was fetched. Takes memory. */
+relkvanu_answer relkvanu_taken_files(relkvanu *handle, uint64_t *files, size_t files_len);
+
 /* Null pointers. The symbols of the library take none. A program that includes this header calls the functions below by
  * the symbols' names. For an empty list or buffer they pass the address of an element that nobody reads. */
 
@@ -425,6 +485,18 @@ static inline relkvanu_answer relkvanu_open_saved_nullable(relkvanu *handle, con
     return relkvanu_open_saved(handle, relkvanu_text_of(image, image_len), image_len, first_word, second_word);
 }
 
+static inline relkvanu_answer relkvanu_files_of_nullable(relkvanu *handle, uint64_t id, uint16_t vertex, uint16_t index, uint64_t *files, size_t files_len) {
+    return relkvanu_files_of(handle, id, vertex, index, relkvanu_places_of(files, files_len), files_len);
+}
+
+static inline relkvanu_answer relkvanu_pins_of_nullable(relkvanu *handle, uint64_t id, uint64_t *files, size_t files_len) {
+    return relkvanu_pins_of(handle, id, relkvanu_places_of(files, files_len), files_len);
+}
+
+static inline relkvanu_answer relkvanu_taken_files_nullable(relkvanu *handle, uint64_t *files, size_t files_len) {
+    return relkvanu_taken_files(handle, relkvanu_places_of(files, files_len), files_len);
+}
+
 #define relkvanu_open relkvanu_open_nullable
 #define relkvanu_close relkvanu_close_nullable
 #define relkvanu_ack relkvanu_ack_nullable
@@ -438,6 +510,9 @@ static inline relkvanu_answer relkvanu_open_saved_nullable(relkvanu *handle, con
 #define relkvanu_opening_lines relkvanu_opening_lines_nullable
 #define relkvanu_save relkvanu_save_nullable
 #define relkvanu_open_saved relkvanu_open_saved_nullable
+#define relkvanu_files_of relkvanu_files_of_nullable
+#define relkvanu_pins_of relkvanu_pins_of_nullable
+#define relkvanu_taken_files relkvanu_taken_files_nullable
 
 #ifdef __cplusplus
 }

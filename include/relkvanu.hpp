@@ -72,6 +72,7 @@ enum class error : int {
     bad_moment = RELKVANU_BAD_ARGUMENT << 8 | RELKVANU_BAD_MOMENT,
     bad_first = RELKVANU_BAD_ARGUMENT << 8 | RELKVANU_BAD_FIRST,
     bad_kind = RELKVANU_BAD_ARGUMENT << 8 | RELKVANU_BAD_KIND,
+    bad_image = RELKVANU_BAD_ARGUMENT << 8 | RELKVANU_BAD_IMAGE,
     too_short = RELKVANU_TOO_SHORT << 8, /* the buffer needs more places */
     line_too_long = RELKVANU_BAD_LINE << 8 | RELKVANU_FAULT_TOO_LONG,
     line_word = RELKVANU_BAD_LINE << 8 | RELKVANU_FAULT_WORD,
@@ -188,6 +189,21 @@ struct live_record {
     std::uint64_t id;
     bool is_savepoint, is_done;
 };
+
+/* The result of writing into a buffer that is long enough. */
+template <class Write> text_answer written(Write write) {
+    std::string text(256, '\0');
+    relkvanu_answer told = write(reinterpret_cast<std::uint8_t *>(text.data()), text.size());
+    while (told.code == RELKVANU_TOO_SHORT) {
+        text.resize(static_cast<std::size_t>(told.a));
+        told = write(reinterpret_cast<std::uint8_t *>(text.data()), text.size());
+    }
+    if (told.code != RELKVANU_DONE) {
+        return refusal(told);
+    }
+    text.resize(static_cast<std::size_t>(told.a));
+    return text;
+}
 
 /* The coordinator of one job. A moved-from one is closed: its calls are refused as error::closed, and it has no reads. */
 class Coordinator {
@@ -433,21 +449,6 @@ private:
         }
     }
 };
-
-/* The result of writing into a buffer that is long enough. */
-template <class Write> text_answer written(Write write) {
-    std::string text(256, '\0');
-    relkvanu_answer told = write(reinterpret_cast<std::uint8_t *>(text.data()), text.size());
-    while (told.code == RELKVANU_TOO_SHORT) {
-        text.resize(static_cast<std::size_t>(told.a));
-        told = write(reinterpret_cast<std::uint8_t *>(text.data()), text.size());
-    }
-    if (told.code != RELKVANU_DONE) {
-        return refusal(told);
-    }
-    text.resize(static_cast<std::size_t>(told.a));
-    return text;
-}
 
 /* The line of a call, without a newline. first has the fresh files of an ack or the shape of a restore, second the reused files. A
  * line that would be too long is refused as error::line_too_long: none is cut. */

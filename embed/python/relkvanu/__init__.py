@@ -6,7 +6,7 @@ where the system's loader looks. docs/RULES.md says what each call does, and whe
 from relkvanu import lines
 from relkvanu.coordinator import BadArgument, BadLine, Closed, Coordinator, OutOfMemory, Refused, Settings, version
 from relkvanu.discarder import Discarded, Discarder, Patience
-from relkvanu.reads import Chosen, FileCounts, Kind, Live, Mode
+from relkvanu.reads import Chosen, FileCounts, Kind, Live, Mode, Standing
 from relkvanu.replies import (
     AckCompleted, AckLate, AckPending, Cancelled, Counted, DeclineAborted, DeclineFailed, DeclineLate, Deleted,
     Disposed, Failed, HeldAtOnce, HeldInterval, HeldPause, Reply, RestoredCheckpoint, RestoredFresh,
@@ -17,6 +17,6 @@ __all__ = [
     "AckCompleted", "AckLate", "AckPending", "BadArgument", "BadLine", "Cancelled", "Chosen", "Closed", "Coordinator", "Counted",
     "DeclineAborted", "DeclineFailed", "DeclineLate", "Deleted", "Discarded", "Discarder", "Disposed", "Failed", "FileCounts", "HeldAtOnce",
     "HeldInterval", "HeldPause", "Kind", "Live", "Mode", "OutOfMemory", "Patience", "Refused", "Reply", "RestoredCheckpoint",
-    "RestoredFresh", "RestoredSavepoint", "SavepointTriggered", "Settings", "Shown", "Taken", "Triggered", "Undeleted",
+    "RestoredFresh", "RestoredSavepoint", "SavepointTriggered", "Settings", "Shown", "Standing", "Taken", "Triggered", "Undeleted",
     "lines", "version",
 ]

@@ -9,7 +9,7 @@ from dataclasses import dataclass
 from typing import Any, Callable, Iterator, Optional, Sequence, Tuple
 
 from relkvanu import header
-from relkvanu.reads import CHOSEN, LIVE, Chosen, FileCounts, Live, Mode
+from relkvanu.reads import CHOSEN, LIVE, Chosen, FileCounts, Live, Mode, Standing
 from relkvanu.replies import MADE, HeldAtOnce, Reply, Shown, Taken
 
 LIBRARY = "librelkvanu.so.0"
@@ -169,6 +169,11 @@ def _written(write: Callable[[Any, int], Any]) -> str:
         length = answer.a
 
 
+def _live(answer: header.relkvanu_answer) -> Optional[Live]:
+    live = _done(answer)
+    return Live(live.a, LIVE[live.what], live.b == 1) if live.what in LIVE else None
+
+
 def version() -> str:
     """The version of the loaded library, such as "0.1.0"."""
     text: bytes = _shared().relkvanu_version()
@@ -187,6 +192,21 @@ class Coordinator:
         """Opens it at the moment `now`. The shape is the number of subtasks of each vertex. The first record has the number
         `first`: 1 for a new job, otherwise one above all earlier numbers. Raises BadArgument for the settings first, then for
         the shape, the moment and the first number."""
+        self._begin()
+        values = _settings(settings)
+        _done(self._call("open", ctypes.byref(values), _words(shape), len(shape), _u64(now), _u64(first), *_keys()))
+
+    @classmethod
+    def open_saved(cls, image: str) -> "Coordinator":
+        """Opens the coordinator that an image describes, which save() returned (docs/IMAGE.md). It answers every list of calls as
+        the one that was saved. Raises BadArgument if the text is no image, or no coordinator can be in the state that it tells."""
+        text = image.encode()
+        opened = cls.__new__(cls)
+        opened._begin()
+        _done(opened._call("open_saved", _text(text), len(text), *_keys()))
+        return opened
+
+    def _begin(self) -> None:
         self._lock = threading.Condition(threading.RLock())
         self._calls = 0
         self._handle = header.relkvanu(None)
@@ -347,8 +367,41 @@ class Coordinator:
     def live(self, place: int) -> Optional[Live]:
         """The live record at this place, from 0, in order of their numbers, or None past the last. Its time grows with the
         place."""
-        answer = _done(self._call("live", _u64(place)))
-        return Live(answer.a, LIVE[answer.what], answer.b == 1) if answer.what in LIVE else None
+        return _live(self._call("live", _u64(place)))
+
+    def live_from(self, id: int) -> Optional[Live]:
+        """The live record with the least number that is at least `id`, or None."""
+        return _live(self._call("live_from", _u64(id)))
+
+    def standing(self, id: int) -> Standing:
+        """What a number is."""
+        return Standing(_done(self._call("standing", _u64(id))).what)
+
+    def files_of(self, id: int, vertex: int, index: int) -> Optional[Tuple[int, ...]]:
+        """The files that a subtask acknowledged in a live record, ascending, or None if it has not acknowledged in one."""
+        return self._files("files_of", _u64(id), _within(vertex, 16), _within(index, 16))
+
+    def pins_of(self, id: int) -> Tuple[int, ...]:
+        """The files that a pending record keeps beside those of its acknowledgements, ascending. Raises OutOfMemory too."""
+        return self._files("pins_of", _u64(id)) or ()
+
+    def waiting_file(self, place: int) -> Optional[int]:
+        """The file at this place among those that wait for deletion, the next to be fetched first, or None past the last."""
+        answer = _done(self._call("waiting_file", _u64(place)))
+        return answer.a if answer.what == header.WAITING else None
+
+    def taken_files(self) -> Tuple[int, ...]:
+        """The files that were fetched and are not yet reported, ascending. Raises OutOfMemory too."""
+        return self._files("taken_files") or ()
+
+    def _files(self, name: str, *arguments: Any) -> Optional[Tuple[int, ...]]:
+        places = 64
+        while True:
+            files = (U64 * places)()
+            answer = self._call(name, *arguments, files, places)
+            if answer.code != header.TOO_SHORT:
+                return tuple(files[: answer.a]) if _done(answer).what == header.FILES else None
+            places = answer.a
 
     def missing(self, id: int) -> Optional[int]:
         """How many subtasks of this record have not acknowledged, or None if no such record is pending."""

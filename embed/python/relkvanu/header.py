@@ -59,6 +59,15 @@ LINE_CALL = 42
 LINE_ALL = 43
 WRITTEN = 44
 SAVED = 45
+STANDS_PENDING = 46
+STANDS_DONE = 47
+STANDS_ENDED = 48
+STANDS_NOT_YET = 49
+STANDS_NEVER = 50
+FILES = 51
+NOT_ACKNOWLEDGED = 52
+WAITING = 53
+NONE_WAITS = 54
 MOMENT_TOO_LARGE = 1
 NOT_RUNNING = 2
 TOO_MANY_FILES = 3
@@ -178,4 +187,10 @@ FUNCTIONS: Dict[str, Tuple[Any, List[Any]]] = {
     "relkvanu_opening_lines": (relkvanu_answer, [POINTER(relkvanu_settings), POINTER(c_uint64), c_size_t, c_uint64, POINTER(c_uint8), c_size_t]),
     "relkvanu_save": (relkvanu_answer, [POINTER(relkvanu), POINTER(c_uint8), c_size_t]),
     "relkvanu_open_saved": (relkvanu_answer, [POINTER(relkvanu), POINTER(c_uint8), c_size_t, c_uint64, c_uint64]),
+    "relkvanu_live_from": (relkvanu_answer, [POINTER(relkvanu), c_uint64]),
+    "relkvanu_standing": (relkvanu_answer, [POINTER(relkvanu), c_uint64]),
+    "relkvanu_files_of": (relkvanu_answer, [POINTER(relkvanu), c_uint64, c_uint16, c_uint16, POINTER(c_uint64), c_size_t]),
+    "relkvanu_pins_of": (relkvanu_answer, [POINTER(relkvanu), c_uint64, POINTER(c_uint64), c_size_t]),
+    "relkvanu_waiting_file": (relkvanu_answer, [POINTER(relkvanu), c_size_t]),
+    "relkvanu_taken_files": (relkvanu_answer, [POINTER(relkvanu), POINTER(c_uint64), c_size_t]),
 }

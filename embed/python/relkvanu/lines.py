@@ -64,17 +64,6 @@ def line_says(line: bytes) -> Line:
     return Skip() if answer.what == header.LINE_SKIP else Call()
 
 
-def _written(write: Callable[[Any, int], Any]) -> str:
-    """The result of writing into a buffer that is long enough."""
-    length = 256
-    while True:
-        text = (ctypes.c_uint8 * length)()
-        answer = write(text, length)
-        if answer.code != header.TOO_SHORT:
-            return bytes(text[: _done(answer).a]).decode()
-        length = answer.a
-
-
 def opening_lines(settings: Settings, shape: Sequence[int], now: int) -> str:
     """The lines config, job and start of a coordinator whose first record has the number 1, each with its newline. Raises
     BadArgument."""

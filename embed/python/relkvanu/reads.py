@@ -35,6 +35,16 @@ class Live:
     done: bool
 
 
+class Standing(enum.Enum):
+    """What a number is."""
+
+    PENDING = header.STANDS_PENDING  # a live record has it, and lacks an acknowledgement
+    DONE = header.STANDS_DONE  # a live record has it, and is complete
+    ENDED = header.STANDS_ENDED  # a record had it, and is live no more
+    NOT_YET = header.STANDS_NOT_YET  # no record has had it so far
+    NEVER = header.STANDS_NEVER  # it is below the first number of the opening
+
+
 @dataclass(frozen=True)
 class FileCounts:
     """How many files are in use by live records (each counted once), wait for deletion, and were fetched and not yet reported."""

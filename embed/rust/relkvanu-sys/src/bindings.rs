@@ -103,8 +103,26 @@ pub const RELKVANU_LINE_CALL: u32 = 42;
 pub const RELKVANU_LINE_ALL: u32 = 43;
 /// a: bytes at the start of the buffer
 pub const RELKVANU_WRITTEN: u32 = 44;
-/// a: bytes at the buffer's front
+/// a: bytes at the start of the buffer
 pub const RELKVANU_SAVED: u32 = 45;
+/// a live record has the number, and lacks an acknowledgement
+pub const RELKVANU_STANDS_PENDING: u32 = 46;
+/// a live record has the number, and is complete
+pub const RELKVANU_STANDS_DONE: u32 = 47;
+/// a record had the number, and is live no more
+pub const RELKVANU_STANDS_ENDED: u32 = 48;
+/// no record has had the number so far
+pub const RELKVANU_STANDS_NOT_YET: u32 = 49;
+/// the number is below the first one of the opening
+pub const RELKVANU_STANDS_NEVER: u32 = 50;
+/// a: files at the start of the buffer
+pub const RELKVANU_FILES: u32 = 51;
+/// no live record has the number, or the subtask has not acknowledged in it
+pub const RELKVANU_NOT_ACKNOWLEDGED: u32 = 52;
+/// a: file
+pub const RELKVANU_WAITING: u32 = 53;
+/// fewer files wait
+pub const RELKVANU_NONE_WAITS: u32 = 54;
 pub const RELKVANU_MOMENT_TOO_LARGE: u32 = 1;
 pub const RELKVANU_NOT_RUNNING: u32 = 2;
 pub const RELKVANU_TOO_MANY_FILES: u32 = 3;
@@ -349,19 +367,53 @@ extern "C" {
         lines_len: usize,
     ) -> relkvanu_answer;
 
-    /// Writes the image of the coordinator as JSON, without a zero at its end: all of its state. A handle that is opened with it answers every list of calls as this one would. RELKVANU_SAVED; RELKVANU_TOO_SHORT, where a is how many bytes it has: ask again with a buffer of that many. Changes nothing but the buffer, and only RELKVANU_SAVED changes that. Takes memory, also where the buffer is too short.
+    /// Writes the image of the coordinator as JSON, without a zero at its end: all of its state. A handle that is opened with it answers every list of calls as this one would. RELKVANU_SAVED; RELKVANU_TOO_SHORT, where a is how many bytes it has: ask again with a buffer of that many. Changes nothing but the buffer, and only RELKVANU_SAVED changes that. Takes memory, also if the buffer is too short.
     pub fn relkvanu_save(
         handle: *mut relkvanu,
         image: *mut u8,
         image_len: usize,
     ) -> relkvanu_answer;
 
-    /// Gives a closed handle the coordinator that an image tells. The two words are those of relkvanu_open: they need not be the ones of the coordinator that was saved. RELKVANU_OPENED; or RELKVANU_BAD_ARGUMENT, and the handle stays as it was: RELKVANU_ALREADY_OPEN, RELKVANU_BAD_IMAGE. Takes memory: after RELKVANU_NO_MEMORY the handle is closed, as before.
+    /// Gives a closed handle the coordinator that an image describes. The two words are those of relkvanu_open. They may differ from those of the coordinator that was saved. RELKVANU_OPENED; or RELKVANU_BAD_ARGUMENT, and the handle stays as it was: RELKVANU_ALREADY_OPEN, RELKVANU_BAD_IMAGE. Takes memory: after RELKVANU_NO_MEMORY the handle is closed, as before.
     pub fn relkvanu_open_saved(
         handle: *mut relkvanu,
         image: *const u8,
         image_len: usize,
         first_word: u64,
         second_word: u64,
+    ) -> relkvanu_answer;
+
+    /// The live record with the least number that is at least id: RELKVANU_LIVE_CHECKPOINT or RELKVANU_LIVE_SAVEPOINT; RELKVANU_LIVE_NONE if there is none. From 0 on, and then from each number plus 1, it visits all live records. Searches by halves. Takes no memory.
+    pub fn relkvanu_live_from(handle: *mut relkvanu, id: u64) -> relkvanu_answer;
+
+    /// What a number is: RELKVANU_STANDS_PENDING to RELKVANU_STANDS_NEVER. Searches by halves. Takes no memory.
+    pub fn relkvanu_standing(handle: *mut relkvanu, id: u64) -> relkvanu_answer;
+
+    /// Writes the files that the subtask vertex.index acknowledged in the live record id, in ascending order. RELKVANU_FILES; RELKVANU_NOT_ACKNOWLEDGED; RELKVANU_TOO_SHORT. Searches by halves. Takes no memory.
+    pub fn relkvanu_files_of(
+        handle: *mut relkvanu,
+        id: u64,
+        vertex: u16,
+        index: u16,
+        files: *mut u64,
+        files_len: usize,
+    ) -> relkvanu_answer;
+
+    /// Writes the files that the pending record id keeps beside those of its acknowledgements, in ascending order: the files of the record that a restart would have begun from when it was triggered. There are none if no record of this number is pending. RELKVANU_FILES; RELKVANU_TOO_SHORT. Takes memory.
+    pub fn relkvanu_pins_of(
+        handle: *mut relkvanu,
+        id: u64,
+        files: *mut u64,
+        files_len: usize,
+    ) -> relkvanu_answer;
+
+    /// The file at this place, from 0, among those that wait for deletion: the next to be fetched is the first. RELKVANU_WAITING; RELKVANU_NONE_WAITS past the last. Takes constant time and no memory.
+    pub fn relkvanu_waiting_file(handle: *mut relkvanu, place: usize) -> relkvanu_answer;
+
+    /// Writes the files that were fetched for deletion and are not yet reported, in ascending order. RELKVANU_FILES; RELKVANU_TOO_SHORT. Looks at each file that waits or was fetched. Takes memory.
+    pub fn relkvanu_taken_files(
+        handle: *mut relkvanu,
+        files: *mut u64,
+        files_len: usize,
     ) -> relkvanu_answer;
 }

@@ -56,6 +56,21 @@ pub struct Live {
     pub done: bool,
 }
 
+/// What a number is.
+#[derive(Clone, Copy, Debug, PartialEq, Eq, Hash)]
+pub enum Standing {
+    /// A live record has it, and lacks an acknowledgement.
+    Pending,
+    /// A live record has it, and is complete.
+    Done,
+    /// A record had it, and is live no more.
+    Ended,
+    /// No record has had it so far.
+    NotYet,
+    /// It is below the first number of the opening.
+    Never,
+}
+
 /// How many files are in use by live records (each counted once), wait for deletion, and were fetched for deletion and
 /// not yet reported.
 #[derive(Clone, Copy, Debug, PartialEq, Eq, Hash)]
@@ -213,6 +228,17 @@ pub(crate) fn choice(told: sys::relkvanu_answer) -> Choice {
         sys::RELKVANU_CHOICE_SAVEPOINT => Choice::Savepoint(told.a),
         sys::RELKVANU_CHOICE_FRESH => Choice::Fresh,
         other => unreachable!("choice {other}"),
+    }
+}
+
+pub(crate) fn standing(told: sys::relkvanu_answer) -> Standing {
+    match told.what {
+        sys::RELKVANU_STANDS_PENDING => Standing::Pending,
+        sys::RELKVANU_STANDS_DONE => Standing::Done,
+        sys::RELKVANU_STANDS_ENDED => Standing::Ended,
+        sys::RELKVANU_STANDS_NOT_YET => Standing::NotYet,
+        sys::RELKVANU_STANDS_NEVER => Standing::Never,
+        other => unreachable!("standing {other}"),
     }
 }
 

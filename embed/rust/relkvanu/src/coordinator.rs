@@ -1,5 +1,5 @@
 //! The coordinator of one job, for one thread at a time.
-use crate::answer::{self, Answer, Choice, FileCounts, Live, Mode};
+use crate::answer::{self, Answer, Choice, FileCounts, Live, Mode, Standing};
 use crate::fault::{done, text, Fault};
 use relkvanu_sys as sys;
 use std::cell::UnsafeCell;
@@ -246,20 +246,19 @@ impl Coordinator {
 
     /// The metadata of a live record, as JSON (`docs/SCRIPT.md`).
     pub fn show(&self, id: u64) -> Result<String, Fault> {
-        let mut json = vec![0; 1024];
-        loop {
-            // SAFETY: the handle is as the library last left it; `Coordinator` is not `Sync`, so no other call runs.
-            // The buffer is this function's own, and has as many bytes as is said.
-            let told = unsafe {
-                sys::relkvanu_show(self.read_handle(), id, json.as_mut_ptr(), json.len())
-            };
-            if told.code == sys::RELKVANU_TOO_SHORT {
-                json.resize(told.a as usize, 0);
-                continue;
-            }
-            json.truncate(done(told)?.a as usize);
-            return Ok(String::from_utf8_lossy(&json).into_owned());
-        }
+        // SAFETY: the handle is as the library last left it; `Coordinator` is not `Sync`, so no other call runs. The
+        // buffer has as many bytes as is said.
+        text(|json| unsafe {
+            sys::relkvanu_show(self.read_handle(), id, json.as_mut_ptr(), json.len())
+        })
+    }
+
+    /// The image of the coordinator, as JSON (`docs/IMAGE.md`): all of its state.
+    pub fn save(&self) -> Result<String, Fault> {
+        // SAFETY: as in `show`.
+        text(|image| unsafe {
+            sys::relkvanu_save(self.read_handle(), image.as_mut_ptr(), image.len())
+        })
     }
 
     /// The number of uses of a file.
@@ -318,6 +317,63 @@ impl Coordinator {
         }))
     }
 
+    /// The live record with the least number that is at least `id`, or `None`. It is searched by halves.
+    pub fn live_from(&self, id: u64) -> Option<Live> {
+        // SAFETY: as in `count`.
+        answer::live(read(unsafe {
+            sys::relkvanu_live_from(self.read_handle(), id)
+        }))
+    }
+
+    /// What a number is. It is searched by halves.
+    pub fn standing(&self, id: u64) -> Standing {
+        // SAFETY: as in `count`.
+        answer::standing(read(unsafe {
+            sys::relkvanu_standing(self.read_handle(), id)
+        }))
+    }
+
+    /// The files that a subtask acknowledged in a live record, ascending, or `None` if it has not acknowledged in one.
+    pub fn files_of(&self, id: u64, subtask: (u16, u16)) -> Option<Vec<u64>> {
+        // SAFETY: as in `count`; the buffer has as many places as is said.
+        let told = files(|buffer| unsafe {
+            sys::relkvanu_files_of(
+                self.read_handle(),
+                id,
+                subtask.0,
+                subtask.1,
+                buffer.as_mut_ptr(),
+                buffer.len(),
+            )
+        });
+        told.expect("a read that takes no memory")
+    }
+
+    /// The files that a pending record keeps beside those of its acknowledgements, ascending. Takes memory in the library.
+    pub fn pins_of(&self, id: u64) -> Result<Vec<u64>, Fault> {
+        // SAFETY: as in `files_of`.
+        let told = files(|buffer| unsafe {
+            sys::relkvanu_pins_of(self.read_handle(), id, buffer.as_mut_ptr(), buffer.len())
+        });
+        told.map(Option::unwrap_or_default)
+    }
+
+    /// The file at this place among those that wait for deletion, the next to be fetched first, or `None` past the last.
+    pub fn waiting_file(&self, place: usize) -> Option<u64> {
+        // SAFETY: as in `count`.
+        let told = read(unsafe { sys::relkvanu_waiting_file(self.read_handle(), place) });
+        (told.what == sys::RELKVANU_WAITING).then_some(told.a)
+    }
+
+    /// The files that were fetched and are not yet reported, ascending. Takes memory in the library.
+    pub fn taken_files(&self) -> Result<Vec<u64>, Fault> {
+        // SAFETY: as in `files_of`.
+        let told = files(|buffer| unsafe {
+            sys::relkvanu_taken_files(self.read_handle(), buffer.as_mut_ptr(), buffer.len())
+        });
+        told.map(Option::unwrap_or_default)
+    }
+
     /// How many subtasks of this record have not acknowledged, or `None` if no record with this number is pending.
     pub fn missing(&self, id: u64) -> Option<u64> {
         // SAFETY: as in `count`.
@@ -341,4 +397,19 @@ impl Coordinator {
 fn read(told: sys::relkvanu_answer) -> sys::relkvanu_answer {
     assert_eq!(told.code, sys::RELKVANU_DONE, "the handle is open");
     told
+}
+
+/// The files that are written into a buffer, which is made longer until it is long enough.
+fn files(write: impl Fn(&mut [u64]) -> sys::relkvanu_answer) -> Result<Option<Vec<u64>>, Fault> {
+    let mut files = vec![0; 64];
+    loop {
+        let told = write(&mut files);
+        if told.code == sys::RELKVANU_TOO_SHORT {
+            files.resize(told.a as usize, 0);
+            continue;
+        }
+        let told = done(told)?;
+        files.truncate(told.a as usize);
+        return Ok((told.what == sys::RELKVANU_FILES).then_some(files));
+    }
 }

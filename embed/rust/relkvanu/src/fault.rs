@@ -116,6 +116,8 @@ pub enum Fault {
     BadMoment,
     /// The first number of an opening is not within 1 to 2^62 - 1.
     BadFirst,
+    /// The bytes are no image, or no coordinator can be in the state that it tells.
+    BadImage,
     /// A line of a script can't be read, or the line of a call would be too long.
     BadLine(LineFault),
     /// A `take` line would fetch this many files, and the buffer has fewer places.

@@ -21,7 +21,7 @@ mod fault;
 mod lines;
 mod shared;
 
-pub use answer::{Answer, Choice, FileCounts, Kind, Live, Mode};
+pub use answer::{Answer, Choice, FileCounts, Kind, Live, Mode, Standing};
 pub use coordinator::{Coordinator, Settings};
 pub use discarder::{Discarded, Discarder, Patience};
 pub use fault::{Fault, Refusal};

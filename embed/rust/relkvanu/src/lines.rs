@@ -146,20 +146,6 @@ pub fn opening_lines(settings: &Settings, shape: &[u64], now: u64) -> Result<Str
     })
 }
 
-/// The result of writing into a buffer that is long enough.
-fn text(write: impl Fn(&mut [u8]) -> sys::relkvanu_answer) -> Result<String, Fault> {
-    let mut bytes = vec![0; 256];
-    loop {
-        let told = write(&mut bytes);
-        if told.code == sys::RELKVANU_TOO_SHORT {
-            bytes.resize(told.a as usize, 0);
-            continue;
-        }
-        bytes.truncate(done(told)?.a as usize);
-        return Ok(String::from_utf8_lossy(&bytes).into_owned());
-    }
-}
-
 /// A call for a log. Its line reads back as this call.
 #[derive(Clone, Copy, Debug, PartialEq, Eq, Hash)]
 pub enum Call<'a> {

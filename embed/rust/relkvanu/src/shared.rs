@@ -57,6 +57,11 @@ impl SharedCoordinator {
         Coordinator::open(settings, shape, now, first).map(SharedCoordinator::from)
     }
 
+    /// Opens the coordinator that an image describes, as [`Coordinator::open_saved`].
+    pub fn open_saved(image: &[u8]) -> Result<SharedCoordinator, Fault> {
+        Coordinator::open_saved(image).map(SharedCoordinator::from)
+    }
+
     /// The lock. A thread that panics under it leaves the coordinator between two calls, so its state is sound.
     fn lock(&self) -> MutexGuard<'_, Inner> {
         self.shared
