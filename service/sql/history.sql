@@ -1,5 +1,7 @@
 -- The history, which is made from the log and can be deleted.
-create table if not exists progress(job integer primary key, upto integer not null, shape text not null) strict;
+-- The last entry of the log that was read, and its moment.
+create table if not exists progress(
+    job integer primary key, upto integer not null, at integer not null, shape text not null) strict;
 create table if not exists record(
     job integer not null, id integer not null, kind text not null, shape text not null, started integer not null,
     finished integer, how text not null, gone integer, why text, first_ack integer, last_ack integer, slowest text,

@@ -10,7 +10,8 @@ use crate::model::Clock;
 use crate::store::{Lite, LiteReader, Pg, PgReader, Reader, Store};
 use crate::writer::{Board, Jobs, Message, StartError, Writer, START_AGAIN};
 use sd_notify::NotifyState;
-use std::path::Path;
+use std::io::ErrorKind;
+use std::path::{Path, PathBuf};
 use std::process::ExitCode;
 use std::sync::mpsc::{sync_channel, Receiver, SyncSender};
 use std::sync::{Arc, Mutex};
@@ -112,11 +113,25 @@ fn open_reader(config: &Config) -> Result<Box<dyn Reader>, String> {
 fn open_history(path: &Path) -> Result<HistoryReader, Stop> {
     HistoryReader::open(path).or_else(|why| {
         log::warn(&format!("history {why}: it is made again"));
-        let mut aside = path.as_os_str().to_owned();
-        aside.push(".bad");
-        std::fs::rename(path, aside).map_err(|error| Stop::Again(format!("{}: {error}", path.display())))?;
+        set_aside(path).map_err(|error| Stop::Again(format!("{}: {error}", path.display())))?;
         HistoryReader::open(path).map_err(Stop::Again)
     })
+}
+
+/// Renames an SQLite file, with the files that SQLite keeps beside it where they are there.
+fn set_aside(path: &Path) -> std::io::Result<()> {
+    let named = |end: &str| {
+        let mut name = path.as_os_str().to_owned();
+        name.push(end);
+        PathBuf::from(name)
+    };
+    for end in ["-wal", "-shm"] {
+        match std::fs::rename(named(end), named(&format!(".bad{end}"))) {
+            Err(error) if error.kind() != ErrorKind::NotFound => return Err(error),
+            _ => {}
+        }
+    }
+    std::fs::rename(path, named(".bad"))
 }
 
 /// The writer's thread: it waits until it leads, and then works.

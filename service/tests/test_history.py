@@ -1,11 +1,13 @@
 """The history against a model of its own, which replays the log with a map of each file's uses: who released each file, when
 each record ended and how, and who was missing. It is deleted and made again, and says the same."""
+import glob
 import os
+import sqlite3
 import threading
 import time
 
 from harness import served, until
-from relkvanu_service import Service
+from relkvanu_service import Service, ack, dispose, savepoint, take
 from writers import SETTINGS, SHAPE, Writer
 
 
@@ -184,3 +186,41 @@ def test_records_and_files_against_a_model():
         assert compare(job, log) == first
         assert threading.active_count() < 50
         return f"{len(log)} calls: {first[0]} records, and {first[1]} files that were taken, attributed as the model does; twice"
+
+
+def test_the_history_of_another_log_is_forgotten():
+    """The database is replaced by an earlier copy, whose log is then as long again, but another one."""
+    with served() as server:
+        job = Service(server.url).open("orders", {"interval": 1 << 40}, [1])
+        job.calls([savepoint(), ack(1, "0.0", [11])])
+        with sqlite3.connect(server.database) as base, sqlite3.connect(f"{server.folder}/copy") as copy:
+            base.backup(copy)
+        job.calls([dispose(1), take()])
+        until(lambda: job.files()["upto"] == job.state()["seq"] and job.files()["taken"])
+        server.stop()
+        for name in glob.glob(f"{server.database}*"):
+            os.remove(name)
+        os.rename(f"{server.folder}/copy", server.database)
+        server.args = ["--history", f"{server.folder}/another"]
+        server.start()
+        job.calls([savepoint(), ack(2, "0.0", [12]), savepoint()])
+        server.stop()
+        server.args = []
+        server.start()
+        until(lambda: (it := job.files())["upto"] == 5 and not it["taken"])
+        assert job.file(11)["history"]["released"] is None and len(job.records()) == 3, job.file(11)
+        return "a longer log, another one"
+
+
+def test_the_history_of_an_earlier_version_is_set_aside():
+    with served() as server:
+        job = Service(server.url).open("orders", {"interval": 1 << 40}, [1])
+        job.call(savepoint())
+        server.stop()
+        [path] = glob.glob(f"{server.folder}/history-*[0-9]")
+        with sqlite3.connect(path) as base:
+            base.execute("alter table progress drop column at")
+        server.start()
+        until(lambda: job.files()["upto"] == 1)
+        assert os.path.exists(f"{path}.bad") and "it is made again" in server.log(), server.log()
+        return "tables with a column less"

@@ -55,7 +55,7 @@ impl Historian {
         loop {
             for (number, last) in self.board.lengths() {
                 if !followers.contains_key(&number) {
-                    followers.extend(self.follower(tables, number, last)?.map(|follower| (number, follower)));
+                    followers.extend(self.follower(tables, number)?.map(|follower| (number, follower)));
                 }
                 if let Some(follower) = followers.get_mut(&number).filter(|follower| follower.upto < last) {
                     self.catch_up(tables, follower)?;
@@ -66,12 +66,12 @@ impl Historian {
         }
     }
 
-    fn follower(&mut self, tables: &Tables, number: i64, last: u64) -> Result<Option<Follower>, String> {
+    fn follower(&mut self, tables: &Tables, number: i64) -> Result<Option<Follower>, String> {
         let openings = self.reader.jobs()?;
         let Some(opening) = openings.iter().find(|opening| opening.number == number) else {
             return Ok(None);
         };
-        Follower::open(tables, self.reader.as_mut(), opening, last).map(Some)
+        Follower::open(tables, self.reader.as_mut(), opening).map(Some)
     }
 
     /// One page, so that a long log of one job keeps no other waiting.

@@ -3,10 +3,18 @@ use super::files::Run;
 use super::records::Pending;
 use crate::model::{parse_line, shape_words, Call, Entry, Kind};
 use crate::writer::JobState;
-use rusqlite::{params, Connection, OptionalExtension, Params};
+use rusqlite::{params, Connection, OptionalExtension, Params, Row};
 use std::path::Path;
 
 const SCHEMA: &str = include_str!("../../sql/history.sql");
+const PROGRESS: &str = "select upto, at, shape from progress where job = ?";
+
+/// How far the history of a job is: the last entry that was read, and the job's shape there.
+pub struct Progress {
+    pub upto: u64,
+    pub at: u64,
+    pub shape: Vec<u64>,
+}
 
 pub struct Tables(Connection);
 
@@ -16,6 +24,7 @@ impl Tables {
         connection.pragma_update(None, "journal_mode", "wal")?;
         connection.pragma_update(None, "synchronous", "normal")?;
         connection.execute_batch(SCHEMA)?;
+        connection.prepare(PROGRESS)?; // fails over the tables of an earlier version
         connection.set_prepared_statement_cache_capacity(32);
         Ok(Tables(connection))
     }
@@ -40,16 +49,18 @@ impl Tables {
         }
     }
 
-    /// How far the history of a job is, and its shape there.
-    pub fn progress(&self, job: i64) -> rusqlite::Result<Option<(u64, Vec<u64>)>> {
-        let sql = "select upto, shape from progress where job = ?";
-        let found: Option<(i64, String)> =
-            self.0.query_row(sql, [job], |row| Ok((row.get(0)?, row.get(1)?))).optional()?;
-        Ok(found.map(|(upto, shape)| (unsigned(upto), shape.split(' ').filter_map(|word| word.parse().ok()).collect())))
+    pub fn progress(&self, job: i64) -> rusqlite::Result<Option<Progress>> {
+        let read = |row: &Row| {
+            let shape: String = row.get(2)?;
+            let shape = shape.split(' ').filter_map(|word| word.parse().ok()).collect();
+            Ok(Progress { upto: unsigned(row.get(0)?), at: unsigned(row.get(1)?), shape })
+        };
+        self.0.query_row(PROGRESS, [job], read).optional()
     }
 
-    pub fn set_progress(&self, job: i64, upto: u64, shape: &[u64]) -> rusqlite::Result<()> {
-        self.run("insert or replace into progress values(?, ?, ?)", params![job, signed(upto), shape_words(shape)])
+    pub fn set_progress(&self, job: i64, upto: u64, at: u64, shape: &[u64]) -> rusqlite::Result<()> {
+        let given = params![job, signed(upto), signed(at), shape_words(shape)];
+        self.run("insert or replace into progress values(?, ?, ?, ?)", given)
     }
 
     /// Forgets a job, so that its history is made anew.
