@@ -3,7 +3,7 @@ import dataclasses
 import unittest
 
 from relkvanu import (
-    Chosen, Closed, Coordinator, FileCounts, HeldInterval, HeldPause, Kind, Live, Mode, Settings, Triggered,
+    BadArgument, Chosen, Closed, Coordinator, FileCounts, HeldInterval, HeldPause, Kind, Live, Mode, Settings, Standing, Triggered,
 )
 
 SETTINGS = Settings(interval=1000, at_once=2, timeout=5000)
@@ -35,6 +35,34 @@ class Reads(unittest.TestCase):
             self.assertEqual((job.mode(), job.due(), job.oldest_expiry()), (Mode.RUNNING, 1000, None))
             self.assertEqual((job.choice(), job.live(0), job.missing(1)), (None, None, None))
             self.assertEqual(job.file_counts(), FileCounts(0, 0, 0))
+
+    def test_an_engine_reads_what_it_recovers_with(self):
+        with with_checkpoint_3() as job:
+            self.assertEqual(job.live_from(0), Live(2, Kind.SAVEPOINT, False))
+            self.assertEqual((job.live_from(3), job.live_from(4)), (Live(3, Kind.CHECKPOINT, True), None))
+            standings = [Standing.NEVER, Standing.ENDED, Standing.PENDING, Standing.DONE, Standing.NOT_YET]
+            self.assertEqual([job.standing(id) for id in range(5)], standings)
+            self.assertEqual((job.files_of(3, 0, 0), job.files_of(3, 0, 1)), ((1, 4), (5,)))
+            self.assertEqual((job.files_of(2, 0, 0), job.files_of(3, 1, 0)), (None, None))
+            # the savepoint was triggered before checkpoint 1 was complete, and the next record after checkpoint 3
+            self.assertEqual(job.pins_of(2), ())
+            job.tick(3000)
+            self.assertEqual(job.pins_of(4), (1, 4, 5))
+            self.assertEqual([job.waiting_file(place) for place in range(3)], [2, 3, None])
+            job.take(1)
+            self.assertEqual(job.taken_files(), (2,))
+
+    def test_a_saved_coordinator_goes_on(self):
+        with with_checkpoint_3() as job, Coordinator.open_saved(job.save()) as again:
+            self.assertEqual(again.save(), job.save())
+            self.assertEqual(again.tick(3000), job.tick(3000))
+            self.assertEqual((records(again), again.save()), (records(job), job.save()))
+
+    def test_a_text_that_is_no_image_opens_nothing(self):
+        for text in ("", "{}", '{"version": 1}'):
+            with self.assertRaises(BadArgument) as raised:
+                Coordinator.open_saved(text)
+            self.assertEqual(raised.exception.name, "BadImage")
 
     def test_a_pending_record_expires_and_misses_subtasks(self):
         with Coordinator(SETTINGS, [2], 0) as job:

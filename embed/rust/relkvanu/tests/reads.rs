@@ -1,7 +1,9 @@
 //! The reads after calls, with values that are worked out from the rules (`docs/RULES.md`).
 mod settings;
 
-use relkvanu::{Answer, Choice, Coordinator, FileCounts, Kind, Live, Mode, Settings};
+use relkvanu::{
+    Answer, Choice, Coordinator, Fault, FileCounts, Kind, Live, Mode, Settings, Standing,
+};
 
 /// Two checkpoints may be pending.
 const SETTINGS: Settings = Settings {
@@ -152,4 +154,57 @@ fn a_job_rolled_back_to_a_savepoint_begins_from_it() {
         .unwrap();
     assert_eq!(job.choice(), Choice::Savepoint(2));
     assert_eq!(records(&job), [live(2, Kind::Savepoint, true)]);
+}
+
+#[test]
+fn an_engine_reads_what_it_recovers_with() {
+    let mut job = with_checkpoint_3();
+    assert_eq!(job.live_from(0), Some(live(2, Kind::Savepoint, false)));
+    assert_eq!(job.live_from(3), Some(live(3, Kind::Checkpoint, true)));
+    assert_eq!(job.live_from(4), None);
+    let standings: Vec<Standing> = (0..5).map(|id| job.standing(id)).collect();
+    assert_eq!(
+        standings,
+        [
+            Standing::Never,
+            Standing::Ended,
+            Standing::Pending,
+            Standing::Done,
+            Standing::NotYet
+        ]
+    );
+    assert_eq!(job.files_of(3, (0, 0)), Some(vec![1, 4]));
+    assert_eq!(job.files_of(3, (0, 1)), Some(vec![5]));
+    assert_eq!(job.files_of(2, (0, 0)), None);
+    assert_eq!(job.files_of(3, (1, 0)), None);
+    // the savepoint was triggered before checkpoint 1 was complete, and the next record after checkpoint 3
+    assert_eq!(job.pins_of(2), Ok(vec![]));
+    job.tick(3000).unwrap();
+    assert_eq!(job.pins_of(4), Ok(vec![1, 4, 5]));
+    assert_eq!(job.waiting_file(0), Some(2));
+    assert_eq!(job.waiting_file(1), Some(3));
+    assert_eq!(job.waiting_file(2), None);
+    job.take(&mut [0]).unwrap();
+    assert_eq!(job.taken_files(), Ok(vec![2]));
+}
+
+#[test]
+fn a_saved_coordinator_goes_on() {
+    let mut job = with_checkpoint_3();
+    let image = job.save().unwrap();
+    let mut again = Coordinator::open_saved(image.as_bytes()).unwrap();
+    assert_eq!(again.save().as_deref(), Ok(image.as_str()));
+    assert_eq!(again.tick(3000), job.tick(3000));
+    assert_eq!(records(&again), records(&job));
+    assert_eq!(again.save(), job.save());
+}
+
+#[test]
+fn bytes_that_are_no_image_open_nothing() {
+    for bytes in [b"".as_slice(), b"{}", b"\xff"] {
+        assert_eq!(
+            Coordinator::open_saved(bytes).map(|_| ()),
+            Err(Fault::BadImage)
+        );
+    }
 }

@@ -1,4 +1,4 @@
--- docs/DECISIONS.md (What the gate's time is spent on) says why this is written out, which the check finds itself.
+-- docs/DECISIONS.md (Tests, wrong bodies and the gate) says why this is written out, which the check finds itself.
 use Rattle.std.proofs.Common.{rules}
 use Rattle.ckpt_script.proofs.runs.run_between.Goals as goal
 
