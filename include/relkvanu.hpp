@@ -21,6 +21,7 @@
 #include <type_traits>
 #include <utility>
 #include <variant>
+#include <vector>
 
 namespace ckpt {
 
@@ -184,6 +185,12 @@ using line_answer = std::variant<skipped, answered, files, std::string, refused>
 using text_answer = std::variant<std::string, refused>;
 
 enum class mode { running, failed, cancelled };
+
+/* What a number is: that of a live record, of one that is live no more, of none so far, or below the first of the opening. */
+enum class standing { pending, done, ended, not_yet, never };
+
+/* Files in ascending order, of a read that takes memory. */
+using files_answer = std::variant<std::vector<std::uint64_t>, refused>;
 
 struct live_record {
     std::uint64_t id;
@@ -384,16 +391,48 @@ public:
     }
 
     std::optional<live_record> live(std::size_t place) {
-        relkvanu_answer told = read(relkvanu_live(&handle_, place));
-        if (told.what == RELKVANU_LIVE_NONE) {
-            return std::nullopt;
-        }
-        return live_record{told.a, told.what == RELKVANU_LIVE_SAVEPOINT, told.b == 1};
+        return record_of(relkvanu_live(&handle_, place));
     }
 
     std::optional<std::uint64_t> missing(std::uint64_t id) {
         relkvanu_answer told = read(relkvanu_missing(&handle_, id));
         return told.what == RELKVANU_MISSING ? std::optional(told.a) : std::nullopt;
+    }
+
+    /* The live record with the least number that is at least this one. */
+    std::optional<live_record> live_from(std::uint64_t id) { return record_of(relkvanu_live_from(&handle_, id)); }
+
+    ckpt::standing standing(std::uint64_t id) {
+        switch (read(relkvanu_standing(&handle_, id)).what) {
+        case RELKVANU_STANDS_PENDING: return ckpt::standing::pending;
+        case RELKVANU_STANDS_DONE: return ckpt::standing::done;
+        case RELKVANU_STANDS_ENDED: return ckpt::standing::ended;
+        case RELKVANU_STANDS_NOT_YET: return ckpt::standing::not_yet;
+        default: return ckpt::standing::never;
+        }
+    }
+
+    /* The files that a subtask acknowledged in a live record, or none if it has not acknowledged in one. */
+    std::optional<std::vector<std::uint64_t>> files_of(std::uint64_t id, std::uint16_t vertex, std::uint16_t index) {
+        std::vector<std::uint64_t> found;
+        relkvanu_answer told = fill(found, [&](std::uint64_t *places, std::size_t len) { return relkvanu_files_of(&handle_, id, vertex, index, places, len); });
+        return read(told).what == RELKVANU_FILES ? std::optional(std::move(found)) : std::nullopt;
+    }
+
+    /* The files that a pending record keeps beside those of its acknowledgements. */
+    files_answer pins_of(std::uint64_t id) {
+        return found([&](std::uint64_t *places, std::size_t len) { return relkvanu_pins_of(&handle_, id, places, len); });
+    }
+
+    /* The file at this place among those that wait for deletion, of which the first is fetched next. */
+    std::optional<std::uint64_t> waiting_file(std::size_t place) {
+        relkvanu_answer told = read(relkvanu_waiting_file(&handle_, place));
+        return told.what == RELKVANU_WAITING ? std::optional(told.a) : std::nullopt;
+    }
+
+    /* The files that were fetched for deletion and are not yet reported. */
+    files_answer taken_files() {
+        return found([&](std::uint64_t *places, std::size_t len) { return relkvanu_taken_files(&handle_, places, len); });
     }
 
     relkvanu_counts file_counts() {
@@ -431,6 +470,32 @@ private:
     static relkvanu_answer read(relkvanu_answer told) {
         assert(told.code == RELKVANU_DONE);
         return told;
+    }
+
+    static std::optional<live_record> record_of(relkvanu_answer answer) {
+        relkvanu_answer told = read(answer);
+        if (told.what == RELKVANU_LIVE_NONE) {
+            return std::nullopt;
+        }
+        return live_record{told.a, told.what == RELKVANU_LIVE_SAVEPOINT, told.b == 1};
+    }
+
+    /* Writes files into a list that is made longer until it is long enough. */
+    template <class Write> static relkvanu_answer fill(std::vector<std::uint64_t> &list, Write write) {
+        list.resize(64);
+        relkvanu_answer told = write(list.data(), list.size());
+        while (told.code == RELKVANU_TOO_SHORT) {
+            list.resize(static_cast<std::size_t>(told.a));
+            told = write(list.data(), list.size());
+        }
+        list.resize(told.code == RELKVANU_DONE ? static_cast<std::size_t>(told.a) : 0);
+        return told;
+    }
+
+    template <class Write> static files_answer found(Write write) {
+        std::vector<std::uint64_t> list;
+        relkvanu_answer told = fill(list, write);
+        return told.code == RELKVANU_DONE ? files_answer(std::move(list)) : files_answer(refusal(told));
     }
 
     static report_answer report(relkvanu_answer told) {

@@ -64,6 +64,31 @@ static void reads() {
     CHECK(std::get<std::string>(job.show(3)).find("\"files\":[1,4]") != std::string::npos);
 }
 
+using list = std::vector<std::uint64_t>;
+
+static void recovers() {
+    Coordinator job = with_checkpoint_3();
+    CHECK(job.live_from(0)->id == 2 && job.live_from(3)->id == 3 && job.live_from(3)->is_done && !job.live_from(4));
+    CHECK(job.standing(0) == ckpt::standing::never && job.standing(1) == ckpt::standing::ended && job.standing(2) == ckpt::standing::pending);
+    CHECK(job.standing(3) == ckpt::standing::done && job.standing(4) == ckpt::standing::not_yet);
+    CHECK(job.files_of(3, 0, 0) == (list{1, 4}) && job.files_of(3, 0, 1) == list{5} && !job.files_of(2, 0, 0));
+    CHECK(std::get<list>(job.pins_of(2)).empty());
+    CHECK(std::get<ckpt::triggered>(job.tick(3000)).id == 4 && std::get<list>(job.pins_of(4)) == (list{1, 4, 5}));
+    CHECK(job.waiting_file(0) == 2 && job.waiting_file(1) == 3 && !job.waiting_file(2));
+    std::uint64_t buffer[1];
+    CHECK(std::get<ckpt::files>(job.take(buffer)).size() == 1 && std::get<list>(job.taken_files()) == list{2});
+}
+
+static void is_saved() {
+    Coordinator job = with_checkpoint_3();
+    std::string image = std::get<std::string>(job.save());
+    Coordinator again = std::get<Coordinator>(Coordinator::open_saved(image));
+    CHECK(std::get<std::string>(again.save()) == image);
+    CHECK(std::get<ckpt::triggered>(again.tick(3000)).id == 4 && std::get<ckpt::triggered>(job.tick(3000)).id == 4);
+    CHECK(std::get<std::string>(again.save()) == std::get<std::string>(job.save()));
+    CHECK(is(Coordinator::open_saved("{}"), ckpt::error::bad_image) && is(Coordinator::open_saved(""), ckpt::error::bad_image));
+}
+
 static void files() {
     Coordinator job = with_checkpoint_3();
     std::uint64_t buffer[4];
@@ -150,6 +175,8 @@ static void lines() {
 
 int main() {
     reads();
+    recovers();
+    is_saved();
     lines();
     files();
     restores();
