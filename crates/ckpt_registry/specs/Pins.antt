@@ -60,9 +60,10 @@ is_named owners id = list_any (λ owner. owner == id) owners
 abbrev pub pins_on : ℕ → List Part → ℕ → List Pinner → ℕ
 pins_on chosen parts f pinned = sum_by (λ one. if one.chosen == chosen then times f (each_file (take one.parts parts)) else 0) pinned
 
--- the record that is pinned went, and its files are the pinner's own
+-- the files of the record that is pinned are the pinner's own
 pub record IsTaken (parts : List Part) (before after : Pinner) : Type 0 where
   pub id : after.id ≡ before.id
+  pub chosen : after.chosen ≡ before.chosen
   pub none : after.parts ≡ 0
   pub files : after.files.items ≡ each_file (take before.parts parts)
 

@@ -1,6 +1,6 @@
 //! The pins of records: files that they keep present, or a live record whose files they keep
 //! present.
-ghost use Rattle.std.specs.Prelude.{◌≡◌, ℕ, ◌+◌, ◌<◌, ◌≤◌, ◌^◌, ◌&&◌, ◌==◌, nat_lt, take, filter, not, vec_len, length, ◌++◌, IfOk, OnOk};
+ghost use Rattle.std.specs.Prelude.{◌≡◌, ℕ, ◌+◌, ◌<◌, ◌≤◌, ◌^◌, ◌&&◌, ◌==◌, [], nat_lt, take, filter, not, vec_len, length, ◌++◌, IfOk, OnOk};
 ghost use Rattle.std.specs.Vec.{vec_capacity};
 ghost use Rattle.indexmap.specs.IndexMap.{index_map_len};
 ghost use Rattle.ckpt_ids.specs.Counting.{times};
@@ -15,13 +15,17 @@ use crate::sorting::sort;
 use ckpt_ids::{CheckpointId, FileId};
 use std::alloc::{AllocError, Global};
 
+/// A count searches at most this many records for pins. A search in a record of 4096 subtasks takes
+/// some 60 microseconds.
+const MOST_SEARCHES: usize = 64;
+
 /// The pins of a record: all files of a live record, as it is now, or a list of files.
 #[derive(Debug, Drop)]
 pub(crate) struct Pinner {
     pub(crate) id: CheckpointId,
     /// The record whose files are pinned. It uses each of them while it is live.
     pub(crate) chosen: CheckpointId,
-    /// The number of parts of that record; 0 if it was dropped, or if no record was pinned.
+    /// The number of parts of that record; 0 if the files are counted one by one.
     pub(crate) parts: usize,
     /// Files that are counted one by one, or room for those of the pinned record.
     pub(crate) files: Vec<FileId>,
@@ -38,8 +42,8 @@ impl Pinner {
         has(&parts[..self.parts], file)
     }
 
-    /// The pinned record is dropped. From now on its files are counted one by one, in the room that
-    /// was kept for them. Takes no memory.
+    /// From now on the files of the pinned record are counted one by one, in the room that was kept
+    /// for them. Takes no memory.
     fn take(&mut self, counts: &mut Counts, parts: &[Part])
         requires kept { IsKept parts.now self.old }
         requires pins { 0 < self.old.parts }
@@ -57,6 +61,64 @@ impl Pinner {
         self.parts = 0;
         count_reused(counts, &self.files);
     }
+}
+
+/// How many searches a count makes: one in each record that is pinned as a whole, where consecutive
+/// pins of the same one share a search.
+fn searches(pinned: &[Pinner]) -> usize {
+    let mut searches: usize = 0;
+    let mut last = (CheckpointId(0), 0);
+    for one in pinned {
+        let search = (one.chosen, one.parts);
+        if one.parts > 0 && search != last {
+            searches = searches.saturating_add(1);
+        }
+        last = search;
+    }
+    searches
+}
+
+/// The pins of all files of a live record, which has these parts, in room for the files.
+///
+/// Mostly the record is pinned as a whole, and none of its files is visited. Each record that is
+/// pinned so costs a count a search. So once there are [`MOST_SEARCHES`], the files of a further
+/// one are counted one by one.
+pub(crate) fn pins_all(
+    counts: &mut Counts,
+    pinned: &[Pinner],
+    id: CheckpointId,
+    chosen: CheckpointId,
+    parts: &[Part],
+    room: Vec<FileId>,
+) -> Pinner
+    requires some { 0 < length parts.now }
+    requires empty { room.items ≡ [] }
+    requires room { length (files_in parts.now) ≤ vec_capacity room }
+    requires present { (f : ℕ) → IsIn f (files_in parts.now) → 0 < counter counts.old f }
+    requires fits { (f : ℕ) → counter counts.old f + times f (each_file parts.now) < 2 ^ 32 }
+    requires range { AreInRange counts.old }
+    ensures id { result.id ≡ id }
+    ensures chosen { result.chosen ≡ chosen }
+    ensures kept { IsKept parts.now result }
+    ensures pinned { each_file (take result.parts parts.now) ++ result.files.items ≡ each_file parts.now }
+    ensures counted { (f : ℕ) → counter counts.new f ≡ counter counts.old f + times f result.files.items }
+    ensures len { index_map_len counts.new ≡ index_map_len counts.old }
+    ensures range { AreInRange counts.new }
+{
+    let mut one = Pinner {
+        id,
+        chosen,
+        parts: parts.len(),
+        files: room,
+    };
+    let is_searched = match pinned.last() {
+        Some(last) => last.parts > 0 && last.chosen == chosen,
+        None => false,
+    };
+    if !is_searched && searches(pinned) >= MOST_SEARCHES {
+        one.take(counts, parts);
+    }
+    one
 }
 
 /// Writes the files of these parts into reserved room.

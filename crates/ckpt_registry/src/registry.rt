@@ -8,7 +8,7 @@ ghost use Rattle.ckpt_registry.specs.Uses.{IsEachOnce, HasNoUse, after_end, file
 
 use crate::counters::{Counts, count_each, count_fresh, count_reused};
 use crate::holdings::{Acknowledged, Part, hold, named, parts_held};
-use crate::pins::{Pinner, files_pinned, pins_of, unpin};
+use crate::pins::{Pinner, files_pinned, pins_all, pins_of, unpin};
 use crate::releases::release_each;
 use crate::sorting::sort;
 use ckpt_hash::Secret;
@@ -24,15 +24,17 @@ use std::marker::Model;
 ///
 /// - `contains` is one look-up.
 /// - `use_files` and `pin` visit their k files.
-/// - `pin_record` visits the subtasks of the record that it pins.
+/// - `pin_record` visits the subtasks of the record that it pins, and the records that pin another.
+///   If 64 others are pinned as a whole, it also sorts and counts the files of the record.
 /// - `release` and `end` visit what the named records use, and each record that pins another. A
 ///   look-up takes O(log n) steps among n. Removing a record moves up to half of the others by a
 ///   place.
-/// - `count` makes one look-up. For each pinned record it also makes a binary search in the files
-///   of each subtask. If consecutive records pin the same record, that is searched once.
+/// - `count` makes one look-up. For each record that is pinned as a whole, of which there are at
+///   most 64, it also makes a binary search in the files of each subtask. If consecutive records
+///   pin the same record, that is searched once.
 ///
-/// No call visits other files. A pinned record uses each of its files, so they are present while it
-/// is live. So its pins are counted only once it is dropped.
+/// No call visits other files. A record that is pinned as a whole uses each of its files, so they
+/// are present while it is live. So such pins are counted only once it is dropped.
 #[derive(Debug)]
 pub struct Registry {
     counts: Counts,
@@ -222,8 +224,8 @@ impl Registry {
 
     /// Pins the files of a live record, as it is now: one use for each. That keeps them present
     /// until record `id` ends or is dropped, even if the other record is dropped first. Does the
-    /// same as [`Registry::pin`] with these files, and visits none of them. Fails only if memory
-    /// runs out, and then adds none.
+    /// same as [`Registry::pin`] with these files, and visits none of them, unless 64 other records
+    /// are pinned so. Fails only if memory runs out, and then adds none.
     ///
     /// Condition: record `id` has no pins yet. The other record may have no use.
     pub fn pin_record(&mut self, id: CheckpointId, chosen: CheckpointId) -> Result<(), AllocError>
@@ -239,17 +241,13 @@ impl Registry {
         let Some(files) = named(parts) else {
             return Err(AllocError);
         };
-        let parts = parts.len();
         let alloc = *self.released.allocator();
         // Room for the files. They are written if the other record is dropped first, since a drop
         // may take no memory. Until then nothing touches this room.
-        let files = Vec::with_capacity(alloc, files)?;
-        self.pinned.push(Pinner {
-            id,
-            chosen,
-            parts,
-            files,
-        })?;
+        let room = Vec::with_capacity(alloc, files)?;
+        self.pinned.reserve(1)?;
+        let one = pins_all(&mut self.counts, &self.pinned, id, chosen, parts, room);
+        self.pinned.push_reserved(one);
         Ok(())
     }
 

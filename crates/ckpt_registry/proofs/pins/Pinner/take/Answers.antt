@@ -41,6 +41,7 @@ returns-clause-taken c =
     let parts = c.args.parts.now in
     record {
       id = refl;
+      chosen = refl;
       none = refl;
       files = written (files_in (take n parts)) _ _ _ _ (c.requires.kept.none_own c.requires.pins) c.fill.ensures c.sort.ensures.permutation c.sort.ensures.sorted c.dedup.ensures.filtered;
     }
