@@ -15,7 +15,7 @@ fn opened(alloc: Global) -> Result<Core, Fail> {
     Ok(core)
 }
 
-/// The timer: the number of the checkpoint that the tick triggers, which the sources are to be told.
+/// Ticks. Returns the number of the checkpoint that this triggered, for the sources.
 fn tick(core: &mut Core, now: u64) -> Result<Option<CheckpointId>, Fail> {
     match &core.apply(&Call::Tick { now })? {
         Reply::Ticked {
@@ -26,7 +26,7 @@ fn tick(core: &mut Core, now: u64) -> Result<Option<CheckpointId>, Fail> {
     }
 }
 
-/// A task has taken its part, and wrote these files: whether the checkpoint is complete with it.
+/// A task has taken its part, and wrote these files. Returns whether this completed the checkpoint.
 fn acknowledge(
     alloc: Global,
     core: &mut Core,
@@ -53,7 +53,7 @@ fn is_completed(reply: &Reply) -> bool {
     }
 }
 
-/// The discarder: fetches files that no record uses, deletes them, and tells how it went.
+/// Fetches files that no record uses, deletes them, and reports each. Returns how many it fetched.
 fn discard(core: &mut Core) -> Result<usize, Fail> {
     let reply = core.apply(&Call::Take { most: 64 })?;
     let Reply::Taken(files) = &reply else {
@@ -69,12 +69,12 @@ fn discard(core: &mut Core) -> Result<usize, Fail> {
     Ok(files.len())
 }
 
-/// The storage deletes a file, or can't.
+/// Deletes a file from the storage. Returns whether it is deleted.
 fn delete(_file: FileId) -> bool {
     true
 }
 
-/// Failover: what the job begins again from.
+/// Restores a failed job. Returns what it begins from.
 fn restart(core: &mut Core, now: u64) -> Result<Choice, Fail> {
     let call = Call::Restore {
         now,
