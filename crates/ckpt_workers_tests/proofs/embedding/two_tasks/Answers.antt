@@ -1,3 +1,4 @@
+-- Answers the goals of `two_tasks`.
 use denote.Param.Send.{IsSend, sendable}
 use Rattle.std.proofs.Crossing.{crosses}
 use Rattle.ckpt_locked.proofs.Crossings.{locked_sync, pass_send}

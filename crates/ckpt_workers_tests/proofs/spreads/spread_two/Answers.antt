@@ -1,3 +1,4 @@
+-- Answers the goals of `spread_two`.
 use Rattle.std.proofs.Common.{◌≡◌, ℕ, List, [], ◌∷◌, length, ◌∙◌, arith, All}
 use Rattle.std.specs.Prelude.{Result, Ok, Err, IfOk, vec_len}
 use Rattle.std.proofs.lemmas.List.Elements.{All-cons, All-nil, All-same}

@@ -1,3 +1,4 @@
+-- Answers the goals of `Book::core`.
 use Rattle.std.proofs.Common.{◌≡◌, ◌∷◌, sym, subst, ap, ◌∙◌}
 use Rattle.ckpt_core.specs.Laws.{AreCalls}
 use Rattle.ckpt_core.specs.Soundness.{IsSound}

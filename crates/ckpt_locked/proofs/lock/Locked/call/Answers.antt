@@ -1,3 +1,4 @@
+-- Answers the goals of `Locked::call`.
 use Rattle.std.proofs.Common.{◌≡◌, ℕ, rules, ap, ◌∙◌, ◌+◌, ◌^◌, ◌<◌, ◌++◌, ◌∷◌, [], length, subst}
 use Rattle.ckpt_ids.specs.declared.call.Call.{Call}
 use Rattle.ckpt_ids.specs.declared.reply.Answer.{Answer}
