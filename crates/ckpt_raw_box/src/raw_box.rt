@@ -10,7 +10,9 @@ use std::marker::Model;
 ///
 /// Nothing drops it: make it a box again with [`RawBox::into_box`].
 pub struct RawBox<T, A: Allocator> {
+    /// The address of the value.
     pub at: *mut T,
+    /// The allocator of the box.
     pub alloc: A,
     /// The value at `at`.
     pub ghost value: { T },
