@@ -106,7 +106,7 @@ fn acknowledge_all(
     Ok(())
 }
 
-/// The checkpoint of this number is triggered when it is due, and all acknowledge it.
+/// Triggers the checkpoint with this number when it is due, and all acknowledge it.
 fn completes(
     rt: &impl Abort,
     alloc: Global,
@@ -124,14 +124,14 @@ fn completes_two(rt: &impl Abort, alloc: Global, core: &mut Core) -> Result<(), 
     completes(rt, alloc, core, 2, [21, 22, 23])
 }
 
-/// The first checkpoint went when the second was complete, and its files with it.
+/// The first checkpoint was dropped when the second was complete, and its files were released.
 fn deletes_the_first(rt: &impl Abort, core: &mut Core) -> Result<(), Fail> {
     assert_eq!(rt; discard(core)?, 3);
     assert_eq!(rt; discard(core)?, 0);
     Ok(())
 }
 
-/// The job begins again from the second.
+/// The job restarts from the second checkpoint.
 fn fails_over(rt: &impl Abort, core: &mut Core) -> Result<(), Fail> {
     let from = restart(core, 130_000)?;
     assert_eq!(rt; from, Choice::Checkpoint(CheckpointId(2)));
