@@ -5,22 +5,23 @@
  * malloc. docs/EMBEDDING.md has worked examples. docs/RULES.md says what each call does.
  *
  * Conditions for the caller:
- * - A handle is all zero, or as the library last left it. Do not copy it, and do not touch its field.
+ * - A handle is all zero, or as the library last left it. Do not copy it or change its field.
  * - Make one call at a time for each handle. It may move between threads under the engine's own lock.
  * - Each pointer is aligned, and points to as many elements as the call says. A program that includes this header may
  *   pass a null pointer with length 0, and may close NULL. No other pointer may be null. The symbols of the library
- *   take no null pointer at all, not even with length 0: a binding that loads them by name passes the address
- *   of any aligned element there.
- * - A buffer that a call writes overlaps nothing else that the call is given.
+ *   take no null pointer at all, not even with length 0. A binding that loads the symbols by name passes the address of
+ *   any aligned element instead.
+ * - A buffer that a call writes must not overlap any other argument of the call.
  * - Make no call from a signal handler.
  *
- * The library keeps no pointer to the caller's memory, and gives the caller no memory but the handle.
+ * The library keeps no pointer to the caller's memory. It frees its own memory, that of a coordinator in relkvanu_close.
  * Moments are milliseconds, at most 2^62 - 1.
  *
  * Who may delete a file: a task deletes a file only if no accepted acknowledgement ever named it. A file that an
  * accepted acknowledgement named, even a late one, belongs to the coordinator. The coordinator hands it out for deletion
- * once no record uses it. A refused acknowledgement hands nothing over and takes nothing back. After
- * RELKVANU_ALREADY_ACKNOWLEDGED and RELKVANU_NAME_TAKEN its files may belong to the coordinator from an earlier one.
+ * once no record uses it. A refused acknowledgement does not change who owns a file. After
+ * RELKVANU_ALREADY_ACKNOWLEDGED and RELKVANU_NAME_TAKEN its files may belong to the coordinator: an earlier
+ * acknowledgement may have named them.
  *
  * Memory: a call that takes no memory never returns RELKVANU_NO_MEMORY. Each call on a closed handle returns
  * RELKVANU_CLOSED and changes nothing.
@@ -73,13 +74,13 @@ typedef struct {
     uint64_t taken;   /* files that were fetched, and are not yet reported */
 } relkvanu_counts;
 
-/* A call by its kind, for relkvanu_call_line. A field that the kind does not use is not read. */
+/* A call, for relkvanu_call_line. Fields that its kind does not use are not read. */
 typedef struct {
     uint32_t kind;   /* RELKVANU_CALL_TICK to RELKVANU_CALL_COUNT */
     uint16_t vertex; /* with index: the subtask of an ack or a decline */
     uint16_t index;
-    uint64_t now;    /* the moment of a call that has one */
-    uint64_t number; /* of the record or the file; of a restore the savepoint or 0; of a take how many files */
+    uint64_t now;    /* the moment, if the kind has one */
+    uint64_t number; /* the number of the record or file; for a restore the savepoint or 0; for a take the most files */
 } relkvanu_call;
 
 /* code */
@@ -118,7 +119,7 @@ typedef struct {
 
 /* what, if a read is RELKVANU_DONE */
 #define RELKVANU_MODE_RUNNING 23u
-#define RELKVANU_MODE_FAILED 24u    /* too many checkpoints failed in a row: the job is to be restored */
+#define RELKVANU_MODE_FAILED 24u    /* too many checkpoints failed in a row: restore the job */
 #define RELKVANU_MODE_CANCELLED 25u /* the job has ended for good */
 #define RELKVANU_DUE 26u            /* a: moment */
 #define RELKVANU_EXPIRES 27u        /* a: moment */
@@ -148,13 +149,13 @@ typedef struct {
 /* what, if a read for a recovery is RELKVANU_DONE */
 #define RELKVANU_STANDS_PENDING 46u   /* a live record has the number, and lacks an acknowledgement */
 #define RELKVANU_STANDS_DONE 47u      /* a live record has the number, and is complete */
-#define RELKVANU_STANDS_ENDED 48u     /* a record had the number, and is live no more */
+#define RELKVANU_STANDS_ENDED 48u     /* a record had the number, and is no longer live */
 #define RELKVANU_STANDS_NOT_YET 49u   /* no record has had the number so far */
 #define RELKVANU_STANDS_NEVER 50u     /* the number is below the first one of the opening */
 #define RELKVANU_FILES 51u            /* a: files at the start of the buffer */
 #define RELKVANU_NOT_ACKNOWLEDGED 52u /* no live record has the number, or the subtask has not acknowledged in it */
 #define RELKVANU_WAITING 53u          /* a: file */
-#define RELKVANU_NONE_WAITS 54u       /* fewer files wait */
+#define RELKVANU_NONE_WAITS 54u       /* there are fewer waiting files */
 
 /* what, if code is RELKVANU_REFUSED; they are checked in this order */
 #define RELKVANU_MOMENT_TOO_LARGE 1u
@@ -180,7 +181,7 @@ typedef struct {
 #define RELKVANU_BAD_MOMENT 4u
 #define RELKVANU_BAD_FIRST 5u
 #define RELKVANU_BAD_KIND 6u
-#define RELKVANU_BAD_IMAGE 7u /* the bytes are no image, or no coordinator can be in the state that it tells */
+#define RELKVANU_BAD_IMAGE 7u /* the bytes are not an image, or no coordinator can be in the state that it describes */
 
 /* what, if code is RELKVANU_BAD_LINE: the first fault from the left */
 #define RELKVANU_FAULT_TOO_LONG 1u /* a line has at most 131072 bytes */
@@ -206,7 +207,7 @@ typedef struct {
 
 /* Opens a coordinator in a closed handle, from the moment now on. Its first record has the number first, 1 to 2^62 - 1.
  * The shape is the parallelism of each vertex: 1 to 256 vertices, at least 1 each, at most 4096 in sum. Take the two words
- * from a source of random numbers: they key the maps of files, so that no choice of file numbers makes calls slow. They
+ * from a source of random numbers. They key the maps of files, so that no choice of file numbers makes calls slow. They
  * change no answer.
  *
  * RELKVANU_OPENED; or RELKVANU_BAD_ARGUMENT, and the handle stays as it was: RELKVANU_ALREADY_OPEN,
@@ -220,7 +221,7 @@ void relkvanu_close(relkvanu *handle);
 /* Time has passed: records that are too old expire, and a checkpoint is triggered if one is due.
  *
  * RELKVANU_TICK_TRIGGERED to RELKVANU_TICK_FAILED. Refused: RELKVANU_MOMENT_TOO_LARGE, RELKVANU_NOT_RUNNING, RELKVANU_IDS_USED_UP.
- * Takes memory only where it triggers. */
+ * Takes memory only if it triggers. */
 relkvanu_answer relkvanu_tick(relkvanu *handle, uint64_t now);
 
 /* Triggers a savepoint. At most 1000 savepoints are pending or done.
@@ -229,14 +230,14 @@ relkvanu_answer relkvanu_tick(relkvanu *handle, uint64_t now);
  * RELKVANU_IDS_USED_UP. Takes memory. */
 relkvanu_answer relkvanu_savepoint(relkvanu *handle, uint64_t now);
 
-/* The subtask vertex.index has taken its part of record id: fresh are the files that it wrote, reused those of an
- * earlier record that it uses again, at most 4096 together, in any order.
+/* The subtask vertex.index has taken its part of record id. fresh has the files that it wrote. reused has files of
+ * earlier records that it uses again. Both may be in any order, with at most 4096 files together.
  *
  * RELKVANU_ACK_PENDING, RELKVANU_ACK_COMPLETED or RELKVANU_ACK_LATE: the fresh files belong to the coordinator now. Refused:
  * RELKVANU_MOMENT_TOO_LARGE, RELKVANU_TOO_MANY_FILES, RELKVANU_REPEATED_FILE, RELKVANU_UNKNOWN_CHECKPOINT, RELKVANU_UNKNOWN_SUBTASK,
- * RELKVANU_ALREADY_ACKNOWLEDGED, RELKVANU_NAME_TAKEN, RELKVANU_FILE_GONE: then the task deletes no file that an accepted
- * acknowledgement ever named. First copies the two lists, which takes memory, so it may return RELKVANU_NO_MEMORY even
- * where it would be refused. */
+ * RELKVANU_ALREADY_ACKNOWLEDGED, RELKVANU_NAME_TAKEN, RELKVANU_FILE_GONE. After a refusal the task must not delete a file that
+ * an accepted acknowledgement ever named. The call first copies the two lists, which takes memory. So it may return
+ * RELKVANU_NO_MEMORY where it would otherwise be refused. */
 relkvanu_answer relkvanu_ack(relkvanu *handle, uint64_t now, uint64_t id, uint16_t vertex, uint16_t index, const uint64_t *fresh, size_t fresh_len, const uint64_t *reused, size_t reused_len);
 
 /* The subtask vertex.index could not take its part of record id.
@@ -251,11 +252,12 @@ relkvanu_answer relkvanu_decline(relkvanu *handle, uint64_t now, uint64_t id, ui
 relkvanu_answer relkvanu_dispose(relkvanu *handle, uint64_t id);
 
 /* The job begins again: from a savepoint, or from the latest record if savepoint is 0. With shape_len above 0 it
- * begins in a new shape, within the limits of relkvanu_open, otherwise in its current shape.
+ * begins in a new shape, within the limits of relkvanu_open. Otherwise it keeps its current shape.
  *
  * RELKVANU_RESTORED_CHECKPOINT, RELKVANU_RESTORED_SAVEPOINT or RELKVANU_RESTORED_FRESH. RELKVANU_BAD_ARGUMENT with RELKVANU_BAD_SHAPE is checked
- * first. Refused: RELKVANU_MOMENT_TOO_LARGE, RELKVANU_NOT_RUNNING (cancelled), RELKVANU_NO_SUCH_SAVEPOINT. First copies the shape, which
- * takes memory, so it may return RELKVANU_NO_MEMORY even where it would be refused. Without a shape it takes none. */
+ * first. Refused: RELKVANU_MOMENT_TOO_LARGE, RELKVANU_NOT_RUNNING (cancelled), RELKVANU_NO_SUCH_SAVEPOINT. The call first copies the
+ * shape, which takes memory. So it may return RELKVANU_NO_MEMORY where it would otherwise be refused. Without a shape it takes
+ * no memory. */
 relkvanu_answer relkvanu_restore(relkvanu *handle, uint64_t now, uint64_t savepoint, const uint64_t *shape, size_t shape_len);
 
 /* The job ends for good.
@@ -299,7 +301,7 @@ relkvanu_answer relkvanu_mode(relkvanu *handle);
 /* RELKVANU_DUE: the moment from which neither the interval nor the pause holds a checkpoint back. No
  * tick before it triggers one. A tick at it or later triggers one, with three exceptions: as many are pending as may
  * be, the job is not running, or so many checkpoints expire in the tick that the job fails over. A call that
- * triggers, completes or restores moves this moment: read it again after a call. */
+ * triggers, completes or restores may move this moment, so read it again after a call. */
 relkvanu_answer relkvanu_due(relkvanu *handle);
 
 /* RELKVANU_EXPIRES: the moment from which a pending record is expired. A tick at that moment drops the record.
@@ -311,7 +313,7 @@ relkvanu_answer relkvanu_oldest_expiry(relkvanu *handle);
 relkvanu_answer relkvanu_choice(relkvanu *handle);
 
 /* The live record at this place, from 0, in order of their numbers: RELKVANU_LIVE_CHECKPOINT or
- * RELKVANU_LIVE_SAVEPOINT; RELKVANU_LIVE_NONE past the last. Its time grows with the place. */
+ * RELKVANU_LIVE_SAVEPOINT; RELKVANU_LIVE_NONE past the last. The time grows with the place. */
 relkvanu_answer relkvanu_live(relkvanu *handle, size_t place);
 
 /* RELKVANU_MISSING: how many subtasks of this record have not acknowledged. RELKVANU_NOT_PENDING if no record with this
@@ -333,13 +335,13 @@ size_t relkvanu_refusal_text(uint32_t what, uint8_t *text, size_t text_len);
  *
  * A take line writes the files that it fetches to the start of files. If it would fetch more than files_len, the
  * answer is RELKVANU_TOO_SHORT, a is how many places it needs, and nothing has changed. A show line returns what
- * relkvanu_show returns with an empty buffer. A restore line with a bad shape is RELKVANU_BAD_ARGUMENT with RELKVANU_BAD_SHAPE.
- * RELKVANU_SKIPPED if the line has no words or is a comment; RELKVANU_BAD_LINE if it can't be read, or makes no call.
- * Only RELKVANU_TAKEN changes the buffer. Takes memory as the call does, and for the lists of an ack, job or restore line.
- * So such a line may return RELKVANU_NO_MEMORY even where the call would be refused. */
+ * relkvanu_show returns with an empty buffer. A restore line with a bad shape returns RELKVANU_BAD_ARGUMENT with
+ * RELKVANU_BAD_SHAPE. A line that has no words or is a comment returns RELKVANU_SKIPPED. A line that can't be read, or makes no
+ * call, returns RELKVANU_BAD_LINE. Only RELKVANU_TAKEN changes the buffer. The call takes memory as its own function does, and for the
+ * lists of an ack, job or restore line. So such a line may return RELKVANU_NO_MEMORY where the call would be refused. */
 relkvanu_answer relkvanu_line(relkvanu *handle, const uint8_t *line, size_t line_len, uint64_t *files, size_t files_len);
 
-/* Returns which line it is, RELKVANU_LINE_SKIP to RELKVANU_LINE_ALL, and writes the numbers of a line that makes no call to the start
+/* Returns the kind of the line, RELKVANU_LINE_SKIP to RELKVANU_LINE_ALL. If the line makes no call, writes its numbers to the start
  * of numbers, in the line's order; keep is 1 and delete is 0. Checks no number against the limits of a job.
  *
  * RELKVANU_TOO_SHORT, and a is how many places it needs; or RELKVANU_BAD_LINE with the fault. Neither changes the buffer. A restore
@@ -351,8 +353,8 @@ relkvanu_answer relkvanu_line_says(const uint8_t *line, size_t line_len, uint64_
  *
  * For an ack, first and second are the fresh and the reused files, in any order. For a restore, first is the new shape, or
  * empty. RELKVANU_WRITTEN; RELKVANU_TOO_SHORT, and a is how many bytes it needs; RELKVANU_BAD_ARGUMENT with RELKVANU_BAD_KIND or
- * RELKVANU_BAD_SHAPE; RELKVANU_BAD_LINE with RELKVANU_FAULT_TOO_LONG if the line would be too long: it is never cut. Only RELKVANU_WRITTEN
- * changes the buffer. Takes memory. */
+ * RELKVANU_BAD_SHAPE; RELKVANU_BAD_LINE with RELKVANU_FAULT_TOO_LONG if the line would be too long. No line is cut. Only
+ * RELKVANU_WRITTEN changes the buffer. Takes memory. */
 relkvanu_answer relkvanu_call_line(const relkvanu_call *call, const uint64_t *first, size_t first_len, const uint64_t *second, size_t second_len, uint8_t *line, size_t line_len);
 
 /* Writes the lines config, job and start of a coordinator whose first record has the number 1, each with its newline.
@@ -362,54 +364,56 @@ relkvanu_answer relkvanu_call_line(const relkvanu_call *call, const uint64_t *fi
  * memory. */
 relkvanu_answer relkvanu_opening_lines(const relkvanu_settings *settings, const uint64_t *shape, size_t shape_len, uint64_t now, uint8_t *lines, size_t lines_len);
 
-/* Images: a coordinator that is saved, and opened again. docs/IMAGE.md has the format. */
+/* Images: save a coordinator, and open it again. docs/IMAGE.md has the format. */
 
-/* Writes the image of the coordinator as JSON, without a zero at its end: all of its state. A handle that is opened with it
- * answers every list of calls as this one would.
+/* Writes the image of the coordinator, all of its state, as JSON without a zero at its end. A handle that is opened with the
+ * image answers every list of calls as this one would.
  *
- * RELKVANU_SAVED; RELKVANU_TOO_SHORT, where a is how many bytes it has: ask again with a buffer of that many. Changes nothing but
- * the buffer, and only RELKVANU_SAVED changes that. Takes memory, also if the buffer is too short. */
+ * RELKVANU_SAVED; RELKVANU_TOO_SHORT, and a is its number of bytes: call again with a buffer of that many. Only RELKVANU_SAVED
+ * changes the buffer, and nothing else changes. Takes memory, even if the buffer is too short. */
 relkvanu_answer relkvanu_save(relkvanu *handle, uint8_t *image, size_t image_len);
 
-/* Gives a closed handle the coordinator that an image describes. The two words are those of relkvanu_open. They may differ from those
- * of the coordinator that was saved.
+/* Opens the coordinator that an image describes in a closed handle. The two words have the meaning that they have in
+ * relkvanu_open. They may differ from those of the coordinator that was saved.
  *
  * RELKVANU_OPENED; or RELKVANU_BAD_ARGUMENT, and the handle stays as it was: RELKVANU_ALREADY_OPEN, RELKVANU_BAD_IMAGE. Takes memory: after
  * RELKVANU_NO_MEMORY the handle is closed, as before. */
 relkvanu_answer relkvanu_open_saved(relkvanu *handle, const uint8_t *image, size_t image_len, uint64_t first_word, uint64_t second_word);
 
-/* Reads for a recovery. None changes anything but a buffer. A buffer that is too short stays as it was, and is answered with
- * RELKVANU_TOO_SHORT, where a is how many places it needs. */
+/* Reads for a recovery. They change nothing but a buffer. If a buffer is too short, it stays as it was, and the read returns
+ * RELKVANU_TOO_SHORT: a is how many places it needs. */
 
 /* The live record with the least number that is at least id: RELKVANU_LIVE_CHECKPOINT or RELKVANU_LIVE_SAVEPOINT; RELKVANU_LIVE_NONE if
- * there is none. From 0 on, and then from each number plus 1, it visits all live records. Searches by halves. Takes no memory. */
+ * there is none. To visit all live records, begin with 0, and go on with the returned number plus 1. A binary search. Takes no
+ * memory. */
 relkvanu_answer relkvanu_live_from(relkvanu *handle, uint64_t id);
 
-/* What a number is: RELKVANU_STANDS_PENDING to RELKVANU_STANDS_NEVER. Searches by halves. Takes no memory. */
+/* Whether the record with this number is pending, done or ended, or no record has had the number: RELKVANU_STANDS_PENDING to
+ * RELKVANU_STANDS_NEVER. A binary search. Takes no memory. */
 relkvanu_answer relkvanu_standing(relkvanu *handle, uint64_t id);
 
 /* Writes the files that the subtask vertex.index acknowledged in the live record id, in ascending order.
  *
- * RELKVANU_FILES; RELKVANU_NOT_ACKNOWLEDGED; RELKVANU_TOO_SHORT. Searches by halves. Takes no memory. */
+ * RELKVANU_FILES; RELKVANU_NOT_ACKNOWLEDGED; RELKVANU_TOO_SHORT. A binary search. Takes no memory. */
 relkvanu_answer relkvanu_files_of(relkvanu *handle, uint64_t id, uint16_t vertex, uint16_t index, uint64_t *files, size_t files_len);
 
-/* Writes the files that the pending record id keeps beside those of its acknowledgements, in ascending order: the files of the record
- * that a restart would have begun from when it was triggered. There are none if no record of this number is pending.
+/* Writes the files that the pending record id pins, in ascending order: the files of the record that a restart would have begun
+ * from at its trigger. Writes none if no record with this number is pending.
  *
  * RELKVANU_FILES; RELKVANU_TOO_SHORT. Takes memory. */
 relkvanu_answer relkvanu_pins_of(relkvanu *handle, uint64_t id, uint64_t *files, size_t files_len);
 
-/* The file at this place, from 0, among those that wait for deletion: the next to be fetched is the first. RELKVANU_WAITING;
+/* The file at this place, from 0, among those that wait for deletion. The next to be fetched is the first. RELKVANU_WAITING;
  * RELKVANU_NONE_WAITS past the last. Takes constant time and no memory. */
 relkvanu_answer relkvanu_waiting_file(relkvanu *handle, size_t place);
 
 /* Writes the files that were fetched for deletion and are not yet reported, in ascending order.
  *
- * RELKVANU_FILES; RELKVANU_TOO_SHORT. Looks at each file that waits or was fetched. Takes memory. */
+ * RELKVANU_FILES; RELKVANU_TOO_SHORT. Visits each file that waits or was fetched. Takes memory. */
 relkvanu_answer relkvanu_taken_files(relkvanu *handle, uint64_t *files, size_t files_len);
 
-/* Null pointers. The symbols of the library take none. A program that includes this header calls the functions below by
- * the symbols' names. For an empty list or buffer they pass the address of an element that nobody reads. */
+/* Null pointers. The symbols of the library take none. In a program that includes this header, the names of the symbols
+ * stand for the functions below. For an empty list or buffer these pass the address of an element that nobody reads. */
 
 static inline const uint64_t *relkvanu_list_of(const uint64_t *list, size_t len) {
     static const uint64_t none = 0;

@@ -1,9 +1,10 @@
 /* The coordinator of a stream processor's checkpoints, for C++17: a coordinator that owns its handle, answers as std::variant,
- * and refusals as std::error_code. It uses relkvanu.h, which says what each call does, and the conditions for the caller. The
+ * and refusals as std::error_code. relkvanu.h says what each call does, and lists the conditions for the caller. The
  * namespace is ckpt, because C has the name relkvanu.
  *
  * Make one call or read at a time for each coordinator. A read takes the state out of its handle and puts it back, so reads
- * are not const. Threads share a coordinator under the engine's own mutex. Only std::bad_alloc is thrown, by show and messages.
+ * are not const. Threads share a coordinator under the engine's own mutex. Functions whose result has a string or a vector may
+ * throw std::bad_alloc. open and open_saved throw what std::random_device throws.
  */
 #ifndef RELKVANU_HPP
 #define RELKVANU_HPP
@@ -25,7 +26,7 @@
 
 namespace ckpt {
 
-/* A sequence of elements that somebody else owns, since std::span needs C++20. An empty one may have no address. */
+/* A sequence of elements that it does not own, since std::span needs C++20. The data of an empty one may be null. */
 template <class T> class span {
 public:
     constexpr span() noexcept = default;
@@ -130,8 +131,8 @@ inline std::error_code make_error_code(error it) noexcept {
     return std::error_code(static_cast<int>(it), error_category());
 }
 
-/* Nothing has changed. For name_taken and file_gone, file is the one to blame, otherwise 0. For too_short, places is how many a
- * buffer needs, otherwise 0. */
+/* Nothing has changed. For name_taken and file_gone, file is the file that the refusal names; otherwise it is 0. For too_short, places is
+ * how many places the buffer needs; otherwise it is 0. */
 struct refused {
     std::error_code why;
     std::uint64_t file = 0, places = 0;
@@ -178,7 +179,7 @@ using take_answer = std::variant<files, refused>;
 using report_answer = std::variant<reported, refused>;
 using show_answer = std::variant<std::string, refused>;
 
-/* What a line of a script did: nothing; the call, with the answer of its own function in relkvanu.h; a take; a show. */
+/* What a line of a script did: nothing; a call, with the answer of its function in relkvanu.h; a take; a show. */
 struct skipped {};
 struct answered { relkvanu_answer answer; };
 using line_answer = std::variant<skipped, answered, files, std::string, refused>;
@@ -186,10 +187,11 @@ using text_answer = std::variant<std::string, refused>;
 
 enum class mode { running, failed, cancelled };
 
-/* What a number is: that of a live record, of one that is live no more, of none so far, or below the first of the opening. */
+/* Whose number it is: of a live record (pending or done), of a record that is no longer live, of no record yet, or never of one,
+ * because it is below the first number of the opening. */
 enum class standing { pending, done, ended, not_yet, never };
 
-/* Files in ascending order, of a read that takes memory. */
+/* The files that a read returns, in ascending order, for reads that take memory. */
 using files_answer = std::variant<std::vector<std::uint64_t>, refused>;
 
 struct live_record {
@@ -212,17 +214,17 @@ template <class Write> text_answer written(Write write) {
     return text;
 }
 
-/* The coordinator of one job. A moved-from one is closed: its calls are refused as error::closed, and it has no reads. */
+/* The coordinator of one job. After a move the old one is closed: its calls are refused as error::closed, and it must not be read. */
 class Coordinator {
 public:
-    /* Opens a coordinator. Its first record has the number first: 1 for a new job, otherwise one above all earlier numbers. */
+    /* Opens a coordinator. Its first record has the number first: 1 for a new job, otherwise the greatest earlier number plus 1. */
     static std::variant<Coordinator, refused> open(const relkvanu_settings &settings, shape of, std::uint64_t now, std::uint64_t first = 1) {
         return opened([&](relkvanu *handle, std::uint64_t word, std::uint64_t other) {
             return relkvanu_open(handle, &settings, of.data(), of.size(), now, first, word, other);
         });
     }
 
-    /* Opens the one that an image tells: it answers every list of calls as the one that was saved. */
+    /* Opens the coordinator that an image describes. It answers every list of calls as the saved one would. */
     static std::variant<Coordinator, refused> open_saved(std::string_view image) {
         return opened([&](relkvanu *handle, std::uint64_t word, std::uint64_t other) {
             return relkvanu_open_saved(handle, reinterpret_cast<const std::uint8_t *>(image.data()), image.size(), word, other);
@@ -264,8 +266,8 @@ public:
         return told.code == RELKVANU_DONE ? savepoint_answer(savepoint_triggered{told.a}) : refusal(told);
     }
 
-    /* If it is refused, the task deletes a file only if no accepted acknowledgement ever named it: none after
-     * already_acknowledged, and after name_taken none that it named before. */
+    /* After a refusal the task may delete a file only if no accepted acknowledgement ever named it: after already_acknowledged it
+     * deletes none, and after name_taken none that it named before. */
     ack_answer ack(std::uint64_t now, std::uint64_t id, std::uint16_t vertex, std::uint16_t index, files fresh, files reused = {}) {
         relkvanu_answer told = relkvanu_ack(&handle_, now, id, vertex, index, fresh.data(), fresh.size(), reused.data(), reused.size());
         if (told.code != RELKVANU_DONE) {
@@ -295,10 +297,10 @@ public:
         return told.code == RELKVANU_DONE ? dispose_answer(disposed{told.a}) : refusal(told);
     }
 
-    /* From the latest record, in the current shape or a given one. A bad shape is reported before any refusal. */
+    /* Restores the latest record, in the current shape or in a given one. A bad shape is reported before any refusal. */
     restore_answer restore(std::uint64_t now, shape of = {}) { return restore_from(now, 0, of); }
 
-    /* Rolls back to a savepoint. There is none of number 0. */
+    /* Rolls back to a savepoint. No savepoint has the number 0. */
     restore_answer roll_back(std::uint64_t now, std::uint64_t savepoint, shape of = {}) {
         if (savepoint == 0) {
             return refused{make_error_code(error::no_such_savepoint)};
@@ -331,8 +333,8 @@ public:
         return written([&](std::uint8_t *image, std::size_t len) { return relkvanu_save(&handle_, image, len); });
     }
 
-    /* Makes the call of a script's line (docs/SCRIPT.md): the bytes before its newline. A take line fetches into the buffer. If it
-     * would fetch more than the buffer has places, it is refused as error::too_short. */
+    /* Makes the call of a script's line (docs/SCRIPT.md). The text is what stands before the newline. A take line fetches into the
+     * buffer. If it would fetch more files than the buffer has places, it is refused as error::too_short. */
     line_answer line(std::string_view text, span<std::uint64_t> buffer = {}) {
         relkvanu_answer told = relkvanu_line(&handle_, reinterpret_cast<const std::uint8_t *>(text.data()), text.size(), buffer.data(), buffer.size());
         if (told.code == RELKVANU_TOO_SHORT && text.find("show") != text.npos) {
@@ -368,8 +370,8 @@ public:
         return told.what == RELKVANU_EXPIRES ? std::optional(told.a) : std::nullopt;
     }
 
-    /* The moment of the next tick after a tick with this answer, unless another call comes first: when a checkpoint is due or a
-     * pending record expires. While as many are pending as may be, it is the expiry. None if nothing changes before the next call. */
+    /* When to tick again after a tick with this answer, unless another call comes first: when a checkpoint is due, or when a pending
+     * record expires. While as many checkpoints are pending as may be, only the expiry counts. nullopt: not before another call. */
     std::optional<std::uint64_t> next_tick(const tick_answer &ticked) {
         if (mode() != ckpt::mode::running) {
             return std::nullopt;
@@ -412,19 +414,19 @@ public:
         }
     }
 
-    /* The files that a subtask acknowledged in a live record, or none if it has not acknowledged in one. */
+    /* The files that a subtask acknowledged in this record. nullopt if the record is not live or the subtask has not acknowledged. */
     std::optional<std::vector<std::uint64_t>> files_of(std::uint64_t id, std::uint16_t vertex, std::uint16_t index) {
         std::vector<std::uint64_t> found;
         relkvanu_answer told = fill(found, [&](std::uint64_t *places, std::size_t len) { return relkvanu_files_of(&handle_, id, vertex, index, places, len); });
         return read(told).what == RELKVANU_FILES ? std::optional(std::move(found)) : std::nullopt;
     }
 
-    /* The files that a pending record keeps beside those of its acknowledgements. */
+    /* The files that a pending record pins. */
     files_answer pins_of(std::uint64_t id) {
         return found([&](std::uint64_t *places, std::size_t len) { return relkvanu_pins_of(&handle_, id, places, len); });
     }
 
-    /* The file at this place among those that wait for deletion, of which the first is fetched next. */
+    /* The file at this place, from 0, among those that wait for deletion. The first is fetched next. */
     std::optional<std::uint64_t> waiting_file(std::size_t place) {
         relkvanu_answer told = read(relkvanu_waiting_file(&handle_, place));
         return told.what == RELKVANU_WAITING ? std::optional(told.a) : std::nullopt;
@@ -446,7 +448,7 @@ private:
 
     Coordinator() = default;
 
-    /* One whose handle is opened so, with two random words. */
+    /* A coordinator whose handle this function opens with two random words. */
     template <class Open> static std::variant<Coordinator, refused> opened(Open open) {
         Coordinator it;
         std::random_device random;
@@ -480,7 +482,7 @@ private:
         return live_record{told.a, told.what == RELKVANU_LIVE_SAVEPOINT, told.b == 1};
     }
 
-    /* Writes files into a list that is made longer until it is long enough. */
+    /* Calls a read with a list that grows until it is long enough. */
     template <class Write> static relkvanu_answer fill(std::vector<std::uint64_t> &list, Write write) {
         list.resize(64);
         relkvanu_answer told = write(list.data(), list.size());
@@ -515,8 +517,8 @@ private:
     }
 };
 
-/* The line of a call, without a newline. first has the fresh files of an ack or the shape of a restore, second the reused files. A
- * line that would be too long is refused as error::line_too_long: none is cut. */
+/* The line of a call, without a newline. first has the fresh files of an ack, or the shape of a restore. second has the reused
+ * files. A line that would be too long is refused as error::line_too_long. No line is cut. */
 inline text_answer call_line(const relkvanu_call &call, span<const std::uint64_t> first = {}, files second = {}) {
     return written([&](std::uint8_t *text, std::size_t len) {
         return relkvanu_call_line(&call, first.data(), first.size(), second.data(), second.size(), text, len);

@@ -1,13 +1,14 @@
-/* The allocator of librelkvanu.a: three functions, which a program may define itself.
+/* The allocator of librelkvanu.a: three functions that a program may define itself.
  *
  * The installed archive has them over malloc, realloc and free, in a member of their own (embed/c/heap.c). The linker leaves that
- * member out if the program defines all three. The archive that `rt lib` builds has none. librelkvanu.so has its own, over malloc.
+ * member out if the program defines all three. The archive that `rt lib` builds has none of them. librelkvanu.so has its own, over
+ * malloc.
  *
  * What the library passes:
  * - align is 1, 2, 4, 8 or 16. size is a number of bytes, at most 2^63 - 1. A size of 0 still gets a block, which is freed like
  *   any other.
- * - rattle_realloc and rattle_dealloc get a block that one of the first two returned and that was not freed since. rattle_realloc
- *   gets the align of the block, and kept is at most the old size and at most the new one.
+ * - rattle_realloc and rattle_dealloc get a block that rattle_alloc or rattle_realloc returned and that was not freed since.
+ *   rattle_realloc gets the align of the block, and kept is at most the old size and at most the new one.
  *
  * Conditions for the program:
  * - A block has at least size bytes, and its address is a multiple of align. Nobody else writes to it until it is freed.
@@ -17,7 +18,7 @@
  *   rattle_dealloc always succeeds.
  * - The three belong to one allocator. Several threads may call them at once, one for each handle that is in a call.
  *   One thread may free a block that another one allocated.
- * - They return to their caller, and make no call of the library.
+ * - They return to their caller, and do not call the library.
  */
 #ifndef RELKVANU_ALLOC_H
 #define RELKVANU_ALLOC_H

@@ -1,4 +1,4 @@
--- What a thread tells may cross threads, and they may share what they go by.
+-- A thread's report may go to another thread, and threads may share their settings.
 use denote.Param.Send.{IsSend, IsSync, sendable}
 use Rattle.std.proofs.Crossing.{crosses}
 use Rattle.ckpt_ids.specs.contracts.reply.Answer as Answer

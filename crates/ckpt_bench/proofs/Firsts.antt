@@ -1,4 +1,4 @@
--- What holds of the first of each pair holds of all firsts.
+-- A fact about the first of each pair holds for all firsts.
 use Rattle.std.proofs.Common.{List, All, map}
 use Rattle.std.proofs.lemmas.List.Elements.{All-map}
 

@@ -1,26 +1,26 @@
-//! What the command line asks for.
+//! The command line.
 use crate::fault::BenchFault;
 use std::env;
 
-/// Calls of all kinds through a lock, each answer compared with a replay.
+/// Calls of all kinds through a lock. Each answer is compared with a replay.
 #[derive(Clone, Copy)]
 pub(crate) struct StormPlan {
     pub(crate) threads: u32,
     /// How many calls each thread makes.
     pub(crate) calls: u64,
     pub(crate) seed: u64,
-    /// How many entries the book keeps, where it does not keep all.
+    /// How many entries the book keeps, unless it keeps all.
     pub(crate) last: Option<u64>,
 }
 
-/// What measured calls go through.
+/// What the measured calls go through.
 #[derive(Clone, Copy)]
 pub(crate) enum Way {
     Locked,
     Mutex,
 }
 
-/// Calls that are measured.
+/// Calls through a lock or a mutex, to be measured.
 #[derive(Clone, Copy)]
 pub(crate) struct LockPlan {
     pub(crate) way: Way,
@@ -44,7 +44,7 @@ pub(crate) enum Plan {
     Book(BookPlan),
 }
 
-/// The number at this place, where the command line goes so far.
+/// The number at this place, if the command line is that long.
 fn optional(words: &[String], place: usize) -> Result<Option<u64>, BenchFault> {
     let Some(word) = words.get(place) else {
         return Ok(None);
@@ -98,7 +98,7 @@ fn book_plan(words: &[String]) -> Result<BookPlan, BenchFault> {
     })
 }
 
-/// The words after the program's name.
+/// The arguments after the program's name.
 fn given_words(rt: &HostRuntime) -> Result<Vec<String>, BenchFault> {
     let Ok(given) = env::args(rt) else {
         return Err(BenchFault::Memory);

@@ -1,11 +1,11 @@
-//! What a book's list of calls costs.
+//! The cost of a book's log of calls.
 use crate::arguments::BookPlan;
 use crate::fault::BenchFault;
 use ckpt_ids::{Call, Config, FileId, Shape};
 use ckpt_locked::Book;
 use std::alloc::Global;
 
-/// The book of what is measured.
+/// The book that is measured.
 pub(crate) fn opened(alloc: Global) -> Result<Book, BenchFault> {
     let Ok(config) = Config::new(1000, 0, 1, 600_000, 0, 1, false) else {
         return Err(BenchFault::Open);
@@ -19,7 +19,7 @@ pub(crate) fn opened(alloc: Global) -> Result<Book, BenchFault> {
     }
 }
 
-/// Makes so many calls through the book.
+/// Makes this many calls through the book.
 fn count_files(book: &mut Book, calls: u64) -> Result<(), BenchFault> {
     for number in 0..calls {
         let file = FileId(number);

@@ -18,7 +18,7 @@ const MOST_FETCHED: usize = 16;
 /// A file that nobody writes.
 const NO_FILE: FileId = FileId(u64::MAX);
 
-/// What a thread knows of an answer before it comes.
+/// What a thread knows of an answer before the call.
 #[derive(Clone, Copy)]
 pub(crate) enum Expected {
     Any,
@@ -50,7 +50,7 @@ pub(crate) struct Asked {
     pub(crate) expected: Expected,
 }
 
-/// A call of which nothing is known before.
+/// A call of whose answer nothing is known.
 fn unruled(call: Call) -> Asked {
     Asked {
         call,
@@ -58,14 +58,14 @@ fn unruled(call: Call) -> Asked {
     }
 }
 
-/// What a thread goes by when it chooses its calls: its own answers, and chance.
+/// The state from which a thread chooses its calls: its own answers, and random numbers.
 #[derive(Drop)]
 pub(crate) struct Caller {
     alloc: Global,
     random: Random,
     seat: u32,
     now: u64,
-    /// The greatest number of a record that it was told.
+    /// The greatest number of a record in its answers.
     newest: u64,
     /// How many files it has written.
     written: u64,
@@ -87,12 +87,12 @@ impl Caller {
         })
     }
 
-    /// The greatest number of a record that it was told.
+    /// The greatest number of a record in its answers.
     pub(crate) fn newest(&self) -> u64 {
         self.newest
     }
 
-    /// The next call, where the newest record that any thread was told of has this number.
+    /// The next call, if the newest record in the answers of any thread has this number.
     pub(crate) fn ask(&mut self, newest: u64) -> Result<Asked, AllocError> {
         self.now = self.now.saturating_add(self.random.below(2));
         let now = self.now;
@@ -120,8 +120,8 @@ impl Caller {
         unruled(Call::Cancel { now: self.now })
     }
 
-    /// Learns from an answer. Tells whether it may come after those before: the numbers of records
-    /// rise.
+    /// Learns from an answer. Returns whether the answer may follow those before it: the numbers of
+    /// records rise.
     pub(crate) fn learn(&mut self, answer: &Answer) -> bool {
         match answer {
             Answer::Done(
@@ -142,7 +142,7 @@ impl Caller {
         rises
     }
 
-    /// Keeps what was fetched, for which there is room.
+    /// Keeps the fetched files, for which there is room.
     fn fetch(&mut self, files: &Handed) -> bool {
         for place in 0..files.len() {
             if let Some(file) = files.get(place) {
@@ -157,7 +157,7 @@ impl Caller {
     fn subtask(&mut self) -> SubtaskId {
         SubtaskId {
             vertex: 0,
-            // Now and then there is no such subtask.
+            // Some of these subtasks do not exist.
             index: match self.random.below(64) {
                 0 => 4,
                 other => (other % PARALLELISM) as u16,
@@ -169,7 +169,7 @@ impl Caller {
         CheckpointId(newest.saturating_sub(self.random.below(64)))
     }
 
-    /// The file of this place among those that the thread writes.
+    /// The file at this place among those that the thread writes.
     fn file(&self, place: u64) -> FileId {
         FileId((u64::from(self.seat) << 40) ^ place)
     }
@@ -245,7 +245,7 @@ impl Caller {
         Asked { call, expected }
     }
 
-    /// Asks for the uses of a file that it has fetched, else of one that it may have written.
+    /// Counts the uses of a file that it has fetched, otherwise of one that it may have written.
     fn count(&mut self) -> Asked {
         match self.fetched.last().copied() {
             Some(file) => Asked {

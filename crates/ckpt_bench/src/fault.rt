@@ -1,9 +1,9 @@
-//! Why the program did not do what it was asked for.
+//! Why the program failed.
 use ckpt_locked::LockFault;
 use std::alloc::AllocError;
 use thiserror::Error;
 
-/// Why there was no run, or one that did not pass.
+/// Why there was no run, or why a run failed its checks.
 #[derive(Clone, Copy, Debug, Error)]
 pub(crate) enum BenchFault {
     #[error("usage: ckpt_bench storm THREADS CALLS SEED [LAST] | lock locked|mutex THREADS CALLS | book [CALLS [LAST]]")]
@@ -18,16 +18,16 @@ pub(crate) enum BenchFault {
     Clock,
     #[error("no memory after {calls} calls")]
     Full { calls: u64 },
-    /// A thread knows by what it was told before that the answer can't be right.
+    /// A thread knows from earlier answers that this answer can't be right.
     #[error("the answer to call {place} of seat {seat} breaks a rule")]
     Rule { seat: u32, place: u64 },
     /// A pass does not count the calls that were made with it.
     #[error("the pass of seat {seat} counts {calls} calls")]
     Calls { seat: u32, calls: u64 },
-    /// There is not an entry for each call.
+    /// The book does not have an entry for each call.
     #[error("the book has {entries} entries")]
     Entries { entries: u64 },
-    /// The replay of the book answers otherwise than the lock did.
+    /// The replay of the book has another answer than the lock returned.
     #[error("entry {place}, of seat {seat}, is answered otherwise in the replay")]
     Answer { seat: u32, place: u64 },
     #[error("entry {place} can't be read")]

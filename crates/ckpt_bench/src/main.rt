@@ -1,18 +1,21 @@
 //! Tries and measures a lock over a book, with many threads, and a book by itself.
 //!
-//! `ckpt_bench storm THREADS CALLS SEED [LAST]` starts 1 to 64 threads over one lock. Each makes so many calls of
-//! all kinds, chosen by the seed, and keeps its answers. Then the lock is closed, and a new coordinator makes the calls of the
-//! book in order: each must be answered as its thread was. With LAST the book keeps its last entries alone, and
-//! the answers are held to what each thread knows by itself.
+//! `ckpt_bench storm THREADS CALLS SEED [LAST]` starts 1 to 64 threads over one lock. Each makes
+//! CALLS calls of all kinds, chosen by the seed, and keeps its answers. Then the lock is closed,
+//! and a new coordinator makes the calls of the book in order. Each must have the answer that its
+//! thread got. With LAST the book keeps only its last LAST entries, and each answer is compared
+//! with what its thread knows.
 //!
-//! `ckpt_bench lock locked|mutex THREADS CALLS` measures calls through the lock, or through a mutex round the same
-//! book. Each thread makes so many, counts and ticks that come too early by turns, with no work between them. Prints how many
-//! calls were made, and on standard error how long one took: the time of all divided by their number.
+//! `ckpt_bench lock locked|mutex THREADS CALLS` measures calls through the lock, or through a mutex
+//! around the same book. Each thread makes CALLS calls with no work between them, in turn a count
+//! and a tick that comes too early. Prints how many calls were made, and on standard error the time
+//! of all divided by their number.
 //!
-//! `ckpt_bench book [CALLS [LAST]]` makes calls through a book, each a `Count`, and keeps the last LAST entries, or
-//! all. Prints how many entries there are and how many are in memory.
+//! `ckpt_bench book [CALLS [LAST]]` makes calls through a book, each a `Count`, and keeps the last
+//! LAST entries, or all. Prints how many entries there are and how many are in memory.
 //!
-//! Prints a line, and ends with status 0; or with 1, and standard error says what is not so.
+//! Prints a line, and ends with status 0. If something is not as it should be, ends with status 1,
+//! and standard error says what.
 #![tactic(auto)]
 
 mod arguments;
@@ -49,7 +52,7 @@ fn main(rt: HostRuntime) -> ExitCode {
     match bench(&rt, &rt) {
         Ok(()) => ExitCode::SUCCESS,
         Err(fault) => {
-            // Where standard error fails too, the status alone tells.
+            // If standard error fails too, only the status says so.
             let _ = eprintln!(rt; "ckpt_bench: {fault}");
             ExitCode::FAILURE
         }

@@ -12,7 +12,7 @@ use std::time::Instant;
 /// How many entries the book keeps.
 const LAST: u64 = 1000;
 
-/// Makes the calls of a plan, and gives their number.
+/// Makes the calls of a plan, and returns their number.
 fn make<R: Threads + Wait + Sync>(
     rt: &R,
     alloc: Global,
@@ -26,7 +26,7 @@ fn make<R: Threads + Wait + Sync>(
     }
 }
 
-/// Makes the calls, and gives their number and how many nanoseconds one took.
+/// Makes the calls, and returns their number and the nanoseconds of one.
 fn timed<R: Threads + Wait + Sync>(
     rt: &R,
     host: &HostRuntime,
@@ -47,7 +47,7 @@ fn tell(host: &HostRuntime, threads: u32, made: u64, each: u128) -> io::Result<(
     eprintln!(host; "{each} ns a call")
 }
 
-/// Measures the calls of a plan, and prints what was measured.
+/// Measures the calls of a plan, and prints the result.
 pub(crate) fn measure<R: Threads + Wait + Sync>(
     rt: &R,
     host: &HostRuntime,

@@ -1,7 +1,7 @@
-//! Numbers that look random.
+//! Pseudorandom numbers.
 ghost use Rattle.std.specs.Prelude.{◌<◌};
 
-/// Numbers that look random, the same ones for the same seed.
+/// Pseudorandom numbers: the same ones for the same seed.
 ///
 /// Source: Steele, Lea and Flood 2014, SplitMix64.
 #[derive(Drop)]

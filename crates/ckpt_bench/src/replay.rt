@@ -8,11 +8,11 @@ use ckpt_ids::{Answer, Call, Config, Shape};
 use ckpt_locked::Book;
 use std::alloc::Global;
 
-/// How often a call that finds no memory is made again.
+/// How often a call that runs out of memory is made again.
 const TRIES: u32 = 1000;
 
-/// The book's opening: a job with a checkpoint each 10 milliseconds, of which up to 4 are pending and
-/// 3 are kept. Two failures in a row are tolerated.
+/// The book's opening: a job with a checkpoint each 10 milliseconds. Up to 4 checkpoints are
+/// pending, 3 are kept, and two failures in a row are tolerated.
 fn opening(alloc: Global) -> Result<(Config, Shape), BenchFault> {
     let Ok(config) = Config::new(10, 0, 4, 60, 2, 3, false) else {
         return Err(BenchFault::Open);
@@ -39,7 +39,7 @@ fn open_core(alloc: Global) -> Result<Core, BenchFault> {
     }
 }
 
-/// The answer to a call, which is made again while it finds no memory.
+/// The answer to a call. The call is made again if it runs out of memory.
 fn answer(core: &mut Core, call: &Call) -> Result<Answer, BenchFault> {
     for _ in 0..TRIES {
         match core.apply(call) {
@@ -51,8 +51,7 @@ fn answer(core: &mut Core, call: &Call) -> Result<Answer, BenchFault> {
     Err(BenchFault::Memory)
 }
 
-/// Checks what the threads were answered against the book. Tells how many calls came back for want
-/// of memory.
+/// Compares the answers of the threads with the book. Returns how many calls ran out of memory.
 pub(crate) fn check(
     alloc: Global,
     plan: &StormPlan,
@@ -88,7 +87,7 @@ fn check_each(plan: &StormPlan, told: &[Told]) -> Result<u64, BenchFault> {
     Ok(returned)
 }
 
-/// Checks the entries that are in memory: as many as are to be kept, each by one of the seats.
+/// Checks the entries in memory: as many as the book is to keep, each by one of the seats.
 fn check_held(book: &Book, last: u64, threads: u32) -> Result<(), BenchFault> {
     if book.held() != last.min(book.len()) {
         return Err(BenchFault::Entries {
@@ -122,7 +121,7 @@ fn replay(alloc: Global, book: &Book, told: &[Told]) -> Result<(), BenchFault> {
     Ok(())
 }
 
-/// Whether this is the next answer that the seat was told.
+/// Whether this is the next answer that the seat got.
 fn is_told(told: &[Told], next: &mut [usize], seat: u32, expected: &Answer) -> bool {
     let seat = seat as usize;
     let (Some(told), Some(next)) = (told.get(seat), next.get_mut(seat)) else {

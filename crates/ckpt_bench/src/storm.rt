@@ -8,7 +8,7 @@ use std::io;
 use std::sync::Wait;
 use std::thread::Threads;
 
-/// Runs the threads, and tells how many calls came back for want of memory.
+/// Runs the threads, and returns how many calls ran out of memory.
 fn returned<R: Threads + Wait + Sync>(
     rt: &R,
     alloc: Global,
@@ -35,7 +35,7 @@ fn tell(rt: &HostRuntime, plan: &StormPlan, returned: u64) -> io::Result<()> {
     println!(rt;)
 }
 
-/// Runs the storm, checks it, and prints what it was.
+/// Runs the storm, checks it, and prints the result.
 pub(crate) fn storm<R: Threads + Wait + Sync>(
     rt: &R,
     host: &HostRuntime,

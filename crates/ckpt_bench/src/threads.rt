@@ -15,7 +15,7 @@ use std::thread::Threads;
 #[derive(Clone, Copy)]
 pub(crate) enum Task {
     Storm(StormPlan),
-    /// Makes so many calls, and keeps no answer.
+    /// Makes this many calls, and keeps no answer.
     Measure { calls: u64 },
 }
 
@@ -31,7 +31,7 @@ pub(crate) struct Ground {
 impl Work<Result<Told, AllocError>> for Ground {
     ghost lock = { λ g. g.lock };
 
-    /// Tells what the thread was answered.
+    /// Makes the calls of a thread, and returns its report.
     fn work<R: Wait>(&self, rt: &R, pass: Pass) -> (Pass, Result<Told, AllocError>) {
         match self.task {
             Task::Storm(plan) => work(rt, self.alloc, &self.lock, &self.board, plan, pass),
@@ -44,8 +44,8 @@ impl Work<Result<Told, AllocError>> for Ground {
     }
 }
 
-/// Locks the book, runs a thread for each of so many passes, and closes the lock. Gives the book and what each thread was
-/// answered.
+/// Locks the book, runs a thread for each of this many passes, and closes the lock. Returns the
+/// book and the threads' reports.
 pub(crate) fn run<R: Threads + Wait + Sync>(
     rt: &R,
     alloc: Global,
@@ -86,7 +86,7 @@ fn in_threads<R: Threads + Wait + Sync>(
     }
 }
 
-/// A pass after its thread's calls, and what they were answered.
+/// A pass after its thread's calls, and the thread's report.
 type Report = (Pass, Result<Told, AllocError>);
 
 /// Does the task with each pass in a thread of its own.
@@ -101,7 +101,7 @@ fn scatter<R: Threads + Wait + Sync>(
     work_on_each(rt, ground, passes)
 }
 
-/// Parts the passes from what else the reports tell.
+/// Separates the passes from the other results.
 fn part(alloc: Global, reports: Vec<Report>, told: &mut Vec<Told>) -> Result<Vec<Pass>, AllocError>
     ensures { IfOk result (λ passes. map (λ r. r.0) reports.items ≡ passes.items) }
 {

@@ -1,4 +1,4 @@
-//! Calls through a lock that are measured.
+//! Measured calls through a lock.
 ghost use Rattle.std.specs.Prelude.{◌≡◌};
 
 use crate::fault::BenchFault;
@@ -20,7 +20,7 @@ pub(crate) fn call_at(place: u64) -> Call {
     }
 }
 
-/// Makes a call with the pass, and gives the pass back.
+/// Makes a call with the pass, and returns the pass.
 fn ask<R: Wait>(rt: &R, lock: &Locked, pass: Pass, call: Call) -> Pass
     requires { pass.lock ≡ lock.now }
     ensures { result.lock ≡ lock.now }
@@ -31,7 +31,7 @@ fn ask<R: Wait>(rt: &R, lock: &Locked, pass: Pass, call: Call) -> Pass
     }
 }
 
-/// Makes so many calls with the pass, in order.
+/// Makes this many calls with the pass, in order.
 pub(crate) fn make<R: Wait>(rt: &R, lock: &Locked, pass: Pass, calls: u64) -> Pass
     requires { pass.lock ≡ lock.now }
     ensures { result.lock ≡ lock.now }
@@ -43,8 +43,8 @@ pub(crate) fn make<R: Wait>(rt: &R, lock: &Locked, pass: Pass, calls: u64) -> Pa
     pass
 }
 
-/// Lets so many threads make so many calls each through a lock over the book. Gives the number of
-/// calls that were made.
+/// Runs this many threads, which make this many calls each through a lock over the book. Returns
+/// the number of calls that were made.
 pub(crate) fn run<R: Threads + Wait + Sync>(
     rt: &R,
     alloc: Global,

@@ -1,4 +1,4 @@
-//! Calls through a mutex round a book, to compare a lock's with.
+//! Calls through a mutex around a book, to compare with a lock.
 use crate::fault::BenchFault;
 use crate::through_lock::call_at;
 use ckpt_locked::Book;
@@ -7,12 +7,12 @@ use std::sync::{Mutex, Wait};
 use std::thread;
 use std::thread::Threads;
 
-/// What is done with each seat, by a thread of its own.
+/// The work of a thread, for each seat.
 trait Work {
     fn work<R: Wait>(&self, rt: &R, seat: usize);
 }
 
-/// A mutex round the book, and how many calls each thread is to make through it.
+/// A mutex around the book, and how many calls each thread makes through it.
 #[derive(Drop)]
 struct Desk {
     mutex: Mutex<Book>,
@@ -23,14 +23,14 @@ impl Work for Desk {
     fn work<R: Wait>(&self, rt: &R, seat: usize) {
         let seat = (seat % 64) as u32;
         for place in 0..self.calls {
-            // A call without memory is not entered, so it is not counted.
+            // A call that runs out of memory is not entered, so it is not counted.
             let _ = self.mutex.lock(rt).apply(seat, call_at(place));
         }
     }
 }
 
-/// Lets so many threads make so many calls each through a mutex round the book. Gives the number of
-/// calls that were made.
+/// Runs this many threads, which make this many calls each through a mutex around the book. Returns
+/// the number of calls that were made.
 pub(crate) fn run<R: Threads + Wait + Sync>(
     rt: &R,
     alloc: Global,

@@ -10,10 +10,10 @@ use std::alloc::{AllocError, Global};
 use std::sync::Wait;
 use std::sync::atomic::{AtomicU64, Ordering};
 
-/// How often a call that finds no memory is made again.
+/// How often a call that runs out of memory is made again.
 const TRIES: u32 = 1000;
 
-/// What the threads share beside the lock: the greatest number of a record of which one was told.
+/// What the threads share beside the lock: the greatest number of a record in any answer.
 #[derive(Drop)]
 pub(crate) struct Board {
     newest: AtomicU64,
@@ -27,22 +27,22 @@ impl Board {
     }
 }
 
-/// What a thread was answered.
+/// The report of a thread.
 #[derive(Drop)]
 pub(crate) struct Told {
     pub(crate) seat: u32,
-    /// How many calls its pass counts.
+    /// How many calls its pass has counted.
     pub(crate) calls: u64,
-    /// The answers in order, where they are kept.
+    /// The answers in order, if they are kept.
     pub(crate) answers: Vec<Answer>,
-    /// How many calls came back for want of memory.
+    /// How many calls ran out of memory.
     pub(crate) returned: u64,
-    /// What was not so, where the thread ended early.
+    /// The fault, if the thread ended early.
     pub(crate) fault: Option<BenchFault>,
 }
 
 impl Told {
-    /// What is told of calls whose answers are not kept.
+    /// The report on calls whose answers are not kept.
     pub(crate) fn of(alloc: Global, pass: &Pass) -> Told {
         Told {
             seat: pass.seat(),
@@ -54,7 +54,7 @@ impl Told {
     }
 }
 
-/// A thread: how it chooses its calls, and what it was answered.
+/// A thread: how it chooses its calls, and its answers.
 #[derive(Drop)]
 struct Worker {
     caller: Caller,
@@ -81,7 +81,7 @@ impl Worker {
         })
     }
 
-    /// Makes the call of this place, and tells what is not so.
+    /// Makes the call of this place, and returns a fault if there is one.
     fn step<R: Wait>(
         &mut self,
         rt: &R,
@@ -119,7 +119,7 @@ impl Worker {
         None
     }
 
-    /// Takes in the answer to the call of this place.
+    /// Keeps the answer to the call of this place.
     fn hear(
         &mut self,
         board: &Board,
@@ -150,7 +150,7 @@ impl Worker {
     }
 }
 
-/// Makes a call, again and again while it finds no memory, and counts how often it came back.
+/// Makes a call, again and again while it runs out of memory, and counts how often it did.
 fn insist<R: Wait>(
     rt: &R,
     lock: &Locked,
@@ -176,7 +176,7 @@ fn insist<R: Wait>(
     (pass, None)
 }
 
-/// Makes the calls of one thread, in order, until something is not so.
+/// Makes the calls of one thread, in order, until there is a fault.
 pub(crate) fn work<R: Wait>(
     rt: &R,
     alloc: Global,

@@ -1,3 +1,4 @@
+-- The lemmas that the proofs use.
 pub mod LineLemmas
 pub mod NumberWords
 pub mod PieceLemmas

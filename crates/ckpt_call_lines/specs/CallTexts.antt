@@ -27,7 +27,7 @@ fresh_text file = codes " +" ++ decimal file
 abbrev pub reused_text : ℕ → List ℕ
 reused_text file = codes " =" ++ decimal file
 
--- the parallelisms, or none where the shape stays
+-- the parallelisms, or none if the shape stays
 abbrev pub parallelisms : Option (List ℕ) → List ℕ
 parallelisms None = []
 parallelisms (Some shape) = shape

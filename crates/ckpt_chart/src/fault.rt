@@ -11,7 +11,7 @@ pub(crate) enum ChartFault {
     Write,
     #[error("out of memory")]
     Memory,
-    /// There was no accepted `start`.
+    /// The script has no accepted `start`.
     #[error("the script starts no job")]
     NotStarted,
 }

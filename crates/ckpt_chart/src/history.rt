@@ -1,4 +1,4 @@
-//! What happened to a job, in the order in which it happened. Moments are milliseconds.
+//! The history of a job, in the order of its events. Moments are milliseconds.
 use crate::player::Subject;
 use crate::records::{Cause, acknowledge, close, find};
 use ckpt_core::Core;
@@ -6,22 +6,22 @@ use ckpt_ids::{Answer, CheckpointId, Choice, Kind, Reply, TickEnd};
 use ckpt_session::{AllEnd, Outcome};
 use std::alloc::{AllocError, Global};
 
-/// What a record came to.
+/// How a record ended.
 #[derive(Clone, Copy, PartialEq, Eq)]
 pub(crate) enum Ending {
-    /// It still waits at the end of the script.
+    /// It is still pending at the end of the script.
     Pending,
-    /// It is done, and kept at the end of the script.
+    /// It is done, and live at the end of the script.
     Retained,
-    /// A later checkpoint completed, and took its place.
+    /// A later checkpoint completed and replaced it.
     Subsumed,
-    /// It was not complete in time.
+    /// It was not complete within its timeout.
     Expired,
-    /// A subtask could not take its part.
+    /// A subtask declined it.
     Declined,
-    /// A user let it go.
+    /// A user disposed of it.
     Disposed,
-    /// A restore, a failure of the job or a cancel dropped it.
+    /// A restore, a fail-over or a cancel dropped it.
     Dropped,
 }
 
@@ -31,16 +31,16 @@ pub(crate) struct Record {
     pub(crate) id: CheckpointId,
     pub(crate) kind: Kind,
     pub(crate) triggered: u64,
-    /// When the last acknowledgement came.
+    /// The moment of the last acknowledgement.
     pub(crate) completed: Option<u64>,
-    /// When it was dropped.
+    /// The moment at which it was dropped.
     pub(crate) ended: Option<u64>,
     pub(crate) ending: Ending,
-    /// When its acknowledgements came, late ones too.
+    /// The moments of its acknowledgements, late ones too.
     pub(crate) acks: Vec<u64>,
 }
 
-/// What goes through all records.
+/// An event that concerns all records.
 #[derive(Clone, Copy)]
 pub(crate) enum Event {
     FailedOver,
@@ -55,7 +55,7 @@ pub(crate) struct Mark {
     pub(crate) event: Event,
 }
 
-/// How many files there are from this moment on.
+/// The numbers of files from this moment on.
 #[derive(Clone, Copy, PartialEq, Eq)]
 pub(crate) struct Sample {
     pub(crate) moment: u64,
@@ -71,8 +71,9 @@ pub(crate) struct History {
     pub(crate) start: u64,
     /// The greatest moment that the coordinator has seen.
     pub(crate) now: u64,
-    /// How many calls the coordinator accepted, and how many it refused.
+    /// How many calls the coordinator accepted.
     pub(crate) accepted: u64,
+    /// How many calls the coordinator refused.
     pub(crate) refused: u64,
     pub(crate) records: Vec<Record>,
     pub(crate) marks: Vec<Mark>,
@@ -80,7 +81,7 @@ pub(crate) struct History {
 }
 
 impl Record {
-    /// The moment from which on the row of the record is free.
+    /// The moment from which the row of the record is free.
     pub(crate) fn last(&self, end: u64) -> u64 {
         let mut last = self.ended.unwrap_or(end);
         for ack in &self.acks {
@@ -105,7 +106,7 @@ impl History {
         }
     }
 
-    /// Keeps what a line came to. What the script itself refused is left out.
+    /// Keeps the outcome of a line. Leaves out lines that the script itself refused.
     pub(crate) fn keep(
         &mut self,
         core: &Core,
@@ -134,7 +135,7 @@ impl History {
         self.sample(core)
     }
 
-    /// Counts calls of this moment, 0 where they have none.
+    /// Counts an answered call of this moment, which is 0 if the call has none.
     fn tally(&mut self, moment: u64, accepted: u64, refused: u64) {
         if accepted > 0 {
             self.now = self.now.max(moment);
@@ -143,7 +144,7 @@ impl History {
         self.refused = self.refused.saturating_add(refused);
     }
 
-    /// Keeps what a reply says has happened to the record that the call was about, and to others.
+    /// Keeps what a reply says about the record of the call, and about others.
     fn take_in(&mut self, core: &Core, id: CheckpointId, reply: &Reply) -> Result<(), AllocError> {
         match reply {
             Reply::Ticked { expired, end } => self.ticked(core, *expired, *end),
@@ -203,12 +204,13 @@ impl History {
         Ok(())
     }
 
-    /// Ends the records that are gone, at most so many.
+    /// Ends the records that are no longer live, at most this many.
     fn close(&mut self, core: &Core, cause: Cause, most: u32) {
         close(core, &mut self.records, self.now, &cause, most);
     }
 
-    /// So many acknowledgements of the record came. Where they completed it, it dropped so many others.
+    /// This many acknowledgements of the record were accepted. If they completed it, it dropped
+    /// this many others.
     fn acknowledged(
         &mut self,
         core: &Core,
@@ -230,7 +232,7 @@ impl History {
         Ok(())
     }
 
-    /// Asks the coordinator for the numbers of files, and keeps them where one has changed.
+    /// Reads the numbers of files from the coordinator, and keeps them if one has changed.
     fn sample(&mut self, core: &Core) -> Result<(), AllocError> {
         let sample = Sample {
             moment: self.now,
@@ -244,7 +246,7 @@ impl History {
         Ok(())
     }
 
-    /// How many records came to this.
+    /// How many records ended this way.
     pub(crate) fn count(&self, ending: Ending) -> usize {
         self.records
             .iter()
@@ -253,7 +255,7 @@ impl History {
     }
 }
 
-/// How many records a completion dropped, where there was one.
+/// How many records a completion dropped, if there was one.
 fn completion(end: AllEnd) -> Option<u32> {
     match end {
         AllEnd::Completed { dropped, .. } => Some(dropped),

@@ -1,11 +1,11 @@
-//! In which row each record is drawn.
+//! The row in which each record is drawn.
 use crate::history::{History, Record};
 use std::alloc::{AllocError, Global};
 
-/// So many records have a row each, with their names beside it. More share rows.
+/// Up to this many records have a row each, with their names beside it. More records share rows.
 const MOST_NAMED: usize = 30;
 
-/// The rows of all records, in their order.
+/// The rows of all records, in the order of the records.
 #[derive(Drop)]
 pub(crate) struct Lanes {
     pub(crate) rows: Vec<usize>,
@@ -14,7 +14,7 @@ pub(crate) struct Lanes {
     pub(crate) named: bool,
 }
 
-/// Places the records.
+/// Gives each record a row.
 pub(crate) fn laid_in_rows(alloc: Global, history: &History) -> Result<Lanes, AllocError> {
     let named = history.records.len() <= MOST_NAMED;
     let mut rows = Vec::new(alloc);
@@ -35,7 +35,7 @@ pub(crate) fn laid_in_rows(alloc: Global, history: &History) -> Result<Lanes, Al
     })
 }
 
-/// The first row that is free when the record is triggered, or the next after all.
+/// The first row that is free when the record is triggered, or a new row after all others.
 fn first_free(free: &Vec<u64>, record: &Record) -> usize {
     let found = free.iter().position(|moment| *moment < record.triggered);
     found.unwrap_or(free.len())

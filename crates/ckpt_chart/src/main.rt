@@ -1,9 +1,9 @@
-//! Draws a job script: reads it on standard input, and writes a picture of it to standard output, as
-//! SVG.
+//! Draws a job script: reads it on standard input, and writes an SVG picture of it to standard
+//! output.
 //!
-//! The script is run through a session, as `ckpt_job` runs it; which records are live and how many files
-//! there are is asked of the coordinator. Ends with status 0; with 1 where a line had a fault, which standard error tells; with
-//! 2 where there is no picture, and then standard error says why.
+//! It runs the script through a session, as `ckpt_job` does, and asks the coordinator for its live
+//! records and its numbers of files. The status is 0; 1 if a line had a fault; 2 if there is no
+//! picture. For 1 and 2 standard error says why.
 #![tactic(auto)]
 
 mod fault;
@@ -25,7 +25,7 @@ use std::process::ExitCode;
 /// There is no picture.
 const NO_PICTURE: u8 = 2;
 
-/// Obeys a line, and answers whether it had a fault.
+/// Runs a line, and returns whether it had a fault.
 fn obeyed(
     rt: &HostRuntime,
     player: &mut Player,
@@ -39,14 +39,14 @@ fn obeyed(
         }
         Err(LineFault::Memory) => Err(ChartFault::Memory),
         Err(why) => {
-            // Where standard error fails too, the status alone tells.
+            // If standard error fails too, only the status says so.
             let _ = eprintln!(rt; "line {number} fault: {why}");
             Ok(true)
         }
     }
 }
 
-/// Draws the script, and answers how many lines had a fault.
+/// Draws the script, and returns how many lines had a fault.
 fn chart(rt: &HostRuntime) -> Result<u64, ChartFault> {
     let mut script = Vec::new(rt.alloc());
     let mut reader = rt.stdin();

@@ -86,7 +86,8 @@ fn bar(
     )
 }
 
-/// The name of a record: beside its row, or its number in its bar where there is room.
+/// The name of a record: beside its row. If records share rows, its number in its bar, if there is
+/// room.
 fn name(
     out: &mut String,
     record: &Record,
@@ -201,7 +202,7 @@ fn count_axis(
     )
 }
 
-/// The line of one count, which goes in steps.
+/// The line of one count, as steps.
 fn curve(
     out: &mut String,
     layout: &Layout,

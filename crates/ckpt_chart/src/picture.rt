@@ -6,19 +6,19 @@ use crate::scale::{Scale, first_multiple, step};
 use ckpt_ids::Choice;
 use std::alloc::{AllocError, Global};
 
-/// Where the plot begins and how long it is, from the left.
+/// Where the plot begins, and its length, from the left.
 const LEFT: u64 = 1100;
 
 const LENGTH: u64 = 8650;
 
-/// Where the rows of the records begin, from above.
+/// Where the rows of the records begin, from the top.
 const ROWS_TOP: u64 = 1750;
 
 const ROW: u64 = 230;
 
 const FILES_HEIGHT: u64 = 1500;
 
-/// Where things lie.
+/// The places of the parts of the picture.
 #[derive(Clone, Copy)]
 pub(crate) struct Layout {
     pub(crate) time: Scale,
@@ -39,7 +39,7 @@ fn laid_out(history: &History, rows: usize) -> Layout {
         .saturating_add(80);
     let files_top = axis.saturating_add(1100);
     let files_bottom = files_top.saturating_add(FILES_HEIGHT);
-    // Some time after the last call, so that what it did can be seen.
+    // Adds some time after the last call, so that its effect can be seen.
     let after = history.now.saturating_sub(history.start) / 40 + 1;
     Layout {
         time: Scale {
@@ -57,7 +57,7 @@ fn laid_out(history: &History, rows: usize) -> Layout {
     }
 }
 
-/// What is told of an ending: its name and its colour.
+/// The name and the colour of an ending.
 pub(crate) fn style(ending: Ending) -> (&'static str, &'static str) {
     match ending {
         Ending::Retained => ("retained", "#009e73"),
@@ -113,7 +113,7 @@ fn head(out: &mut String, layout: &Layout) -> Result<(), AllocError> {
     )
 }
 
-/// Writes words, whose line begins here, ends here (`end`) or is centred here (`middle`).
+/// Writes a text that begins here, ends here (`end`) or is centred here (`middle`).
 pub(crate) fn words(
     out: &mut String,
     x: u64,
@@ -177,7 +177,7 @@ fn title(out: &mut String, history: &History) -> Result<(), AllocError> {
     )
 }
 
-/// What the colours and signs mean, and how many records came to what.
+/// The meaning of the colours and signs, and how many records ended in each way.
 fn legend(out: &mut String, history: &History) -> Result<(), AllocError> {
     let mut x: u64 = 250;
     for ending in ENDINGS {
@@ -279,7 +279,7 @@ fn moment_line(out: &mut String, layout: &Layout, moment: u64) -> Result<(), All
     )
 }
 
-/// The lines across all records. Their names stand on four levels, so that near ones can be read.
+/// The lines across all records. Their names are on four levels, so that near ones can be read.
 fn marks(out: &mut String, layout: &Layout, history: &History) -> Result<(), AllocError> {
     for (place, mark) in history.marks.iter().enumerate() {
         let x = layout.time.right(mark.moment);

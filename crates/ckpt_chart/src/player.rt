@@ -1,4 +1,4 @@
-//! Runs a script through a session, and keeps what happened.
+//! Runs a script through a session, and keeps its history.
 use crate::history::History;
 use ckpt_ids::CheckpointId;
 use ckpt_lines::Line;
@@ -6,7 +6,7 @@ use ckpt_session::{Secret, Session};
 use ckpt_workers::InOrder;
 use std::alloc::{AllocError, Global};
 
-/// The moment of a line, and the number of the record that it is about: 0 where it has none.
+/// The moment of a line, and the number of its record. Each is 0 if the line has none.
 #[derive(Clone, Copy)]
 pub(crate) struct Subject {
     pub(crate) now: u64,
@@ -47,12 +47,12 @@ impl Player {
         }
     }
 
-    /// What happened, or `None` where no job was started.
+    /// The history, or `None` if no job was started.
     pub(crate) fn end(self) -> Option<History> {
         self.history
     }
 
-    /// Obeys a line as `ckpt_job` does, and keeps what it came to.
+    /// Runs a line as `ckpt_job` does, and keeps its outcome.
     pub(crate) fn obey(&mut self, line: Line) -> Result<(), AllocError> {
         let subject = Subject::of(&line);
         let outcome = self.session.obey(line, &mut InOrder)?;
@@ -61,7 +61,7 @@ impl Player {
         };
         match &mut self.history {
             Some(history) => history.keep(book.core(), subject, outcome),
-            // The line was the `start` that was accepted.
+            // This line was the accepted `start`.
             None => {
                 self.history = Some(History::begun(self.alloc, subject.now));
                 Ok(())

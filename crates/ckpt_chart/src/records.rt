@@ -7,8 +7,8 @@ use std::alloc::AllocError;
 /// Why records end, by the call that ended them.
 #[derive(Clone, Copy)]
 pub(crate) enum Cause {
-    /// A tick: so many records were too old, which are the first to have been triggered. The others
-    /// went with the fail-over.
+    /// A tick: this many records expired, the first that were triggered. The fail-over dropped the
+    /// others.
     Time { expired: u32 },
     Completion,
     Decline(CheckpointId),
@@ -17,8 +17,8 @@ pub(crate) enum Cause {
     Stop,
 }
 
-/// Ends the records that the coordinator no longer knows, at most so many. They stand in rising number,
-/// as those of the coordinator do.
+/// Ends the records that the coordinator no longer knows, at most this many. They are in ascending
+/// order of their numbers, as those of the coordinator are.
 pub(crate) fn close(core: &Core, records: &mut Vec<Record>, now: u64, cause: &Cause, most: u32) {
     let mut place: usize = 0;
     let mut gone: u32 = 0;
@@ -47,7 +47,7 @@ fn is_at(core: &Core, place: usize, id: CheckpointId) -> bool {
     }
 }
 
-/// What the record came to, where so many have ended before it by the same call.
+/// How the record ended, if the same call ended this many before it.
 fn ending(cause: &Cause, id: CheckpointId, before: u32) -> Ending {
     match cause {
         Cause::Time { expired } if before < *expired => Ending::Expired,
@@ -58,12 +58,13 @@ fn ending(cause: &Cause, id: CheckpointId, before: u32) -> Ending {
     }
 }
 
-/// The record with this number. The last are looked at first, since most calls are about them.
+/// The record with this number. Searches from the last, because most calls are about the last
+/// records.
 pub(crate) fn find(records: &mut Vec<Record>, id: CheckpointId) -> Option<&mut Record> {
     records.iter_mut().rev().find(|record| record.id == id)
 }
 
-/// So many acknowledgements of the record came.
+/// This many acknowledgements of the record were accepted.
 pub(crate) fn acknowledge(record: &mut Record, now: u64, count: u64) -> Result<(), AllocError> {
     for _ in 0..count {
         record.acks.push(now)?;

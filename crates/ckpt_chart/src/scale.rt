@@ -1,6 +1,6 @@
-//! Where values lie on the picture. Places are tenths of a pixel.
+//! The places of values on the picture. Places are tenths of a pixel.
 
-/// A straight axis: `from` lies at `begin`, and `to` lies `length` further on.
+/// A straight axis: `from` is at `begin`, and `to` is `length` further on.
 #[derive(Clone, Copy)]
 pub(crate) struct Scale {
     pub(crate) from: u64,
@@ -9,16 +9,16 @@ pub(crate) struct Scale {
     pub(crate) length: u64,
 }
 
-/// Spans above are measured in coarser steps, so that products stay small.
+/// Greater spans are measured in coarser steps, so that products stay small.
 const FINEST: u64 = 1_000_000_000;
 
 impl Scale {
-    /// How far the axis goes.
+    /// The length of the axis in its values.
     pub(crate) fn span(&self) -> u64 {
         self.to.saturating_sub(self.from)
     }
 
-    /// How far from `begin` the value lies. A value outside the axis lies at its end.
+    /// How far from `begin` the value is. A value outside the axis is at its end.
     pub(crate) fn distance(&self, value: u64) -> u64 {
         let unit = (self.span() / FINEST).saturating_add(1);
         let whole = self.span().checked_div(unit).unwrap_or(1);
@@ -33,18 +33,19 @@ impl Scale {
         distance.unwrap_or(0)
     }
 
-    /// Where the value lies, counted from the left.
+    /// The place of the value, counted from the left.
     pub(crate) fn right(&self, value: u64) -> u64 {
         self.begin.saturating_add(self.distance(value))
     }
 
-    /// Where the value lies, counted from above, on an axis that goes up.
+    /// The place of the value, counted from the top, on an axis that goes up.
     pub(crate) fn up(&self, value: u64) -> u64 {
         self.begin.saturating_sub(self.distance(value))
     }
 }
 
-/// One, two or five of a power of ten: the least that divides the span into at most so many parts.
+/// One, two or five times a power of ten: the least that divides the span into at most this many
+/// parts.
 pub(crate) fn step(span: u64, most: u64) -> u64 {
     let mut step: u64 = 1;
     for place in 0..60u32 {

@@ -15,7 +15,7 @@ fn opened(alloc: Global) -> Result<Core, Fail> {
     Ok(core)
 }
 
-/// The timer: the number of the checkpoint that the tick triggers, which the sources are to be told.
+/// Ticks. Returns the number of the checkpoint that this triggered, for the sources.
 fn tick(core: &mut Core, now: u64) -> Result<Option<CheckpointId>, Fail> {
     match &core.apply(&Call::Tick { now })? {
         Reply::Ticked {
@@ -26,7 +26,7 @@ fn tick(core: &mut Core, now: u64) -> Result<Option<CheckpointId>, Fail> {
     }
 }
 
-/// A task has taken its part, and wrote these files: whether the checkpoint is complete with it.
+/// A task has taken its part, and wrote these files. Returns whether this completed the checkpoint.
 fn acknowledge(
     alloc: Global,
     core: &mut Core,
@@ -53,7 +53,7 @@ fn is_completed(reply: &Reply) -> bool {
     }
 }
 
-/// The discarder: fetches files that no record uses, deletes them, and tells how it went.
+/// Fetches files that no record uses, deletes them, and reports each. Returns how many it fetched.
 fn discard(core: &mut Core) -> Result<usize, Fail> {
     let reply = core.apply(&Call::Take { most: 64 })?;
     let Reply::Taken(files) = &reply else {
@@ -69,12 +69,12 @@ fn discard(core: &mut Core) -> Result<usize, Fail> {
     Ok(files.len())
 }
 
-/// The storage deletes a file, or can't.
+/// Deletes a file from the storage. Returns whether it is deleted.
 fn delete(_file: FileId) -> bool {
     true
 }
 
-/// Failover: what the job begins again from.
+/// Restores a failed job. Returns what it begins from.
 fn restart(core: &mut Core, now: u64) -> Result<Choice, Fail> {
     let call = Call::Restore {
         now,
@@ -106,7 +106,7 @@ fn acknowledge_all(
     Ok(())
 }
 
-/// The checkpoint of this number is triggered when it is due, and all acknowledge it.
+/// Triggers the checkpoint with this number when it is due, and all acknowledge it.
 fn completes(
     rt: &impl Abort,
     alloc: Global,
@@ -124,14 +124,14 @@ fn completes_two(rt: &impl Abort, alloc: Global, core: &mut Core) -> Result<(), 
     completes(rt, alloc, core, 2, [21, 22, 23])
 }
 
-/// The first checkpoint went when the second was complete, and its files with it.
+/// The first checkpoint was dropped when the second was complete, and its files were released.
 fn deletes_the_first(rt: &impl Abort, core: &mut Core) -> Result<(), Fail> {
     assert_eq!(rt; discard(core)?, 3);
     assert_eq!(rt; discard(core)?, 0);
     Ok(())
 }
 
-/// The job begins again from the second.
+/// The job restarts from the second checkpoint.
 fn fails_over(rt: &impl Abort, core: &mut Core) -> Result<(), Fail> {
     let from = restart(core, 130_000)?;
     assert_eq!(rt; from, Choice::Checkpoint(CheckpointId(2)));

@@ -1,4 +1,4 @@
-//! A job of 4096 subtasks, the most that there are, with more files than 16 bits count.
+//! A job of 4096 subtasks, the most that there may be, with more files than 16 bits can count.
 use ckpt_core::Core;
 use ckpt_ids::{Call, CheckpointId, Config, FileId, Files, Reply, Shape, SubtaskId, TickEnd};
 use std::alloc::{AllocError, Global};
@@ -10,7 +10,7 @@ const SUBTASKS: u16 = 4096;
 /// How many files each subtask writes for record 1.
 const EACH: u64 = 17;
 
-/// How many files that makes.
+/// How many files that is together.
 const ALL: u64 = 69_632;
 
 /// The files that a subtask writes for record 1; for later ones it writes none.
@@ -37,7 +37,7 @@ fn acknowledge(alloc: Global, core: &mut Core, id: u64, index: u16) -> Result<Re
     Ok(reply)
 }
 
-/// All subtasks acknowledge; answers what the last one was told.
+/// All subtasks acknowledge. Returns the answer to the last one.
 fn complete(alloc: Global, core: &mut Core, id: u64) -> Result<Reply, Fail> {
     for index in 0..SUBTASKS - 1 {
         let _ = acknowledge(alloc, core, id, index)?;
@@ -45,13 +45,13 @@ fn complete(alloc: Global, core: &mut Core, id: u64) -> Result<Reply, Fail> {
     acknowledge(alloc, core, id, SUBTASKS - 1)
 }
 
-/// Whether the call is told this.
+/// Whether the call has this reply.
 fn tells(core: &mut Core, call: &Call, told: &Reply) -> Result<bool, Fail> {
     let reply = core.apply(call)?;
     Ok(reply == *told)
 }
 
-/// Whether a tick triggers the checkpoint of this number.
+/// Whether a tick triggers the checkpoint with this number.
 fn triggers(core: &mut Core, now: u64, id: u64) -> Result<bool, Fail> {
     let told = Reply::Ticked {
         expired: 0,
@@ -60,13 +60,13 @@ fn triggers(core: &mut Core, now: u64, id: u64) -> Result<bool, Fail> {
     tells(core, &Call::Tick { now }, &told)
 }
 
-/// Whether the last file is counted so often.
+/// Whether the last file has this count.
 fn counts(core: &mut Core, count: u32) -> Result<bool, Fail> {
     let file = FileId(ALL - 1);
     tells(core, &Call::Count { file }, &Reply::Counted(file, count))
 }
 
-/// Whether record 1 is shown with all of its acknowledgements.
+/// Whether `Show` returns record 1 with all of its acknowledgements.
 fn shows_all(core: &mut Core) -> Result<bool, Fail> {
     let call = Call::Show {
         id: CheckpointId(1),
@@ -88,8 +88,8 @@ fn is_pinned_twice(core: &mut Core) -> Result<bool, Fail> {
     )
 }
 
-/// Whether the files of record 1, which goes when record 2 is complete, stay for savepoint 3, and go
-/// with it.
+/// Record 2 completes, and record 1 is dropped. Whether the files of record 1 stay for savepoint 3,
+/// and are released with it.
 fn goes_at_last(alloc: Global, core: &mut Core) -> Result<bool, Fail> {
     let completed = Reply::AckCompleted {
         dropped: 1,

@@ -1,4 +1,5 @@
-//! Rows that go on with a coordinator that was saved and made again, and images that no coordinator can be in.
+//! Rows that go on with a coordinator that was saved and made again, and images of states that no
+//! coordinator can be in.
 use crate::job::Job;
 use ckpt_core::{Core, Image, ImageFault, Mode, Secret};
 use ckpt_ids::{CheckpointId, FileId, Files, Handed};
@@ -52,8 +53,7 @@ ack 2200 3 0.0 +13 -> ack late 1";
     Ok(job.image()?)
 }
 
-/// Whether no coordinator is made of the image, since none can be in its state. What finds no memory
-/// is tried again once.
+/// Whether the image is refused as damaged. If memory runs out, tries once more.
 fn is_damaged(alloc: Global, image: &Image) -> bool {
     let mut opened = Core::from_image(alloc, image, Secret::fixed());
     if let Err(ImageFault::Memory) = &opened {
@@ -123,7 +123,7 @@ fn refuses_records_in_falling_order(rt: HostRuntime) -> Result<(), Fail> {
     Ok(())
 }
 
-/// Files in a buffer of their own. What finds no memory is tried again once.
+/// Files in a buffer of their own. If memory runs out, tries once more.
 fn files(alloc: Global, numbers: &[FileId]) -> Result<Vec<FileId>, AllocError> {
     match Vec::from_slice(alloc, numbers) {
         Ok(files) => Ok(files),

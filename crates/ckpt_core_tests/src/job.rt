@@ -6,15 +6,15 @@ use ckpt_texts::answer_text;
 use std::alloc::{AllocError, Global};
 use std::test::Fail;
 
-/// A job that tells its coordinator what happens.
+/// A job that calls its coordinator.
 #[derive(Drop)]
 pub(crate) struct Job {
     core: Core,
     alloc: Global,
 }
 
-/// The place of the first line of the row that does not print its text, in a job of one vertex that
-/// opens at 0 with this first number: a checkpoint each second, of which one is retained.
+/// The place of the first line of the row that does not print its text. The job has one vertex and
+/// opens at 0 with this first number. It takes a checkpoint each second, and keeps one.
 pub(crate) fn other_line(
     alloc: Global,
     parallelism: u64,
@@ -35,8 +35,8 @@ impl Job {
         Ok(Job { core, alloc })
     }
 
-    /// Makes the calls of the row, and answers the place of the first line that does not print its
-    /// text. What finds no memory is done again once.
+    /// Makes the calls of the row, and returns the place of the first line that does not print its
+    /// text. A call that runs out of memory is made once more.
     pub(crate) fn first_other(&mut self, row: &str) -> Result<Option<usize>, AllocError> {
         for (place, entry) in row.lines().enumerate() {
             if !self.tells(entry)? {
@@ -46,7 +46,7 @@ impl Job {
         Ok(None)
     }
 
-    /// The same, where the coordinator is saved before each line, and made again of its image.
+    /// The same, but before each line the coordinator is saved, and made again from its image.
     pub(crate) fn first_other_reopened(&mut self, row: &str) -> Result<Option<usize>, AllocError> {
         for (place, entry) in row.lines().enumerate() {
             self.reopen()?;
@@ -66,7 +66,7 @@ impl Job {
         Ok(())
     }
 
-    /// What is saved of the coordinator. Where there is no memory it is saved again once.
+    /// The image of the coordinator. If memory runs out, tries once more.
     pub(crate) fn image(&self) -> Result<Image, AllocError> {
         match self.core.image() {
             Ok(image) => Ok(image),
@@ -110,7 +110,7 @@ impl Job {
     }
 }
 
-/// The coordinator whose state the image tells. A damaged image is taken for want of memory.
+/// A coordinator in the state of the image. A damaged image counts as out of memory.
 fn opened_from(alloc: Global, image: &Image) -> Result<Core, AllocError> {
     match Core::from_image(alloc, image, Secret::fixed()) {
         Ok(core) => Ok(core),
@@ -130,13 +130,13 @@ fn may_want_memory(call: &Call) -> bool {
     )
 }
 
-/// Whether the text, with a newline, is what is printed of the answer.
+/// Whether the text, with a newline, is the printed text of the answer.
 fn is_told(alloc: Global, answer: &Answer, text: &str) -> Result<bool, AllocError> {
     let told = answer_text(alloc, answer)?;
     Ok(told.as_str().strip_suffix("\n") == Some(text))
 }
 
-/// The call that the line says. A line that says none is taken for want of memory.
+/// The call of the line. A line without a call counts as out of memory.
 fn call_of(alloc: Global, line: &str) -> Result<Call, AllocError> {
     let Ok(line) = parse_line(alloc, line.as_bytes()) else {
         return Err(AllocError);

@@ -1,6 +1,6 @@
 //! Tests of the coordinator: rows of calls of [`ckpt_core::Core`] with their answers.
 //!
-//! `docs/DECISIONS.md` says why they stand apart from the crate that they test.
+//! `docs/DECISIONS.md` says why these tests are not in the crate that they test.
 #![tactic(auto)]
 
 #[cfg(test)]

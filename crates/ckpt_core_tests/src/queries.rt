@@ -1,10 +1,12 @@
-//! What a coordinator tells between two calls. Expected values are worked out from docs/RULES.md.
+//! What a coordinator's reads return between two calls. Expected values are worked out from
+//! docs/RULES.md.
 use ckpt_core::{Core, CoreFault, Live, Mode};
 use ckpt_ids::{Call, CheckpointId, Choice, Config, FileId, Kind, Refusal, Shape};
 use std::alloc::Global;
 use std::test::Fail;
 
-/// A job of two subtasks that opens at 0: a checkpoint each second, none older than ten minutes.
+/// A job of two subtasks that opens at 0. It takes a checkpoint each second, with a timeout of ten
+/// minutes.
 fn opened(alloc: Global) -> Result<Core, Fail> {
     let config = Config::new(1000, 0, 1, 600_000, 0, 1, false)?;
     let shape = Shape::new(alloc, &[2])?;
@@ -26,7 +28,8 @@ fn is_new(core: &Core) -> bool {
         && has_no_file(core)
 }
 
-/// Whether checkpoint 1 alone is pending since 1000, misses both subtasks and expires in time.
+/// Whether only checkpoint 1 is pending, since 1000, lacks both subtasks and expires at the right
+/// moment.
 fn waits(core: &Core) -> bool {
     let first = Live {
         id: CheckpointId(1),

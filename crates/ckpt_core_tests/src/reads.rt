@@ -1,4 +1,4 @@
-//! What an engine reads when it recovers. Expected values are worked out from docs/RULES.md.
+//! The reads of an engine that recovers. Expected values are worked out from docs/RULES.md.
 use ckpt_core::{Core, Live, Standing};
 use ckpt_ids::{Call, CheckpointId, Config, FileId, Files, Kind, Shape, SubtaskId};
 use std::alloc::{AllocError, Global};
@@ -52,8 +52,8 @@ fn half_way(alloc: Global) -> Result<Core, Fail> {
     Ok(core)
 }
 
-/// Checkpoint 6 is done too, so that 5 is dropped and its files wait. 11 and 12 are fetched, and 11
-/// could not be deleted: it waits after 13.
+/// Checkpoint 6 is done too, so 5 is dropped and its files wait. 11 and 12 are fetched. 11 could
+/// not be deleted, so it waits after 13.
 fn discarding(alloc: Global) -> Result<Core, Fail> {
     let mut core = half_way(alloc)?;
     ack(alloc, &mut core, 2000, 6, SECOND, &[FileId(15)])?;
@@ -103,7 +103,7 @@ fn each_number_has_a_standing(rt: HostRuntime) -> Result<(), Fail> {
     Ok(())
 }
 
-/// Whether a live record has exactly these files of a subtask.
+/// Whether a live record has exactly these files from a subtask.
 fn has_files(core: &Core, id: u64, subtask: SubtaskId, files: &[FileId]) -> bool {
     match core.files_of(CheckpointId(id), subtask) {
         Some(found) => found == files,

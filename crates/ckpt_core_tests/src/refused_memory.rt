@@ -1,5 +1,5 @@
-//! Rows with each kind of call, in which memory may run out at any allocation. `other_line` makes a call
-//! that may want memory again where it finds none: what it left then is what it found.
+//! Rows with each kind of call, in which memory may run out at any allocation. `other_line` makes a
+//! call again that ran out of memory. It finds the state that the first try left.
 use crate::job::other_line;
 use std::process::Abort;
 use std::test::Fail;
@@ -46,8 +46,8 @@ ack 3000 4 0.0 +4 =2 -> ack completed 1 1
 count 2 -> count 2 2
 dispose 2 -> disposed 0";
 
-/// The first half of `examples/rows/savepoint-is-not-subsumed`: a disposal takes no memory, and releases
-/// nothing while checkpoint 4 uses the savepoint's file.
+/// The first half of `examples/rows/savepoint-is-not-subsumed`: a dispose takes no memory. It
+/// releases nothing while checkpoint 4 uses the savepoint's file.
 #[test]
 fn refused_memory_before_a_savepoint_is_disposed_of(rt: HostRuntime) -> Result<(), Fail> {
     assert_eq!(rt; other_line(rt.alloc(), 1, 1, DISPOSED)?, None);

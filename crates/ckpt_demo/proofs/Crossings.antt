@@ -1,4 +1,4 @@
--- Threads may share what they go by.
+-- Threads may share their settings and state.
 use denote.Param.Send.{IsSync, sendable}
 use Rattle.std.proofs.Crossing.{crosses}
 use Rattle.ckpt_locked.proofs.Crossings.{locked_sync}

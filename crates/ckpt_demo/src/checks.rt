@@ -1,4 +1,4 @@
-//! What is checked after a run, and told.
+//! The checks after a run, and their output.
 use crate::folder::{listed, tell_files};
 use crate::replay::{Counts, Place, Replay, answer};
 use crate::roles::OTHERS;
@@ -11,7 +11,7 @@ use ckpt_locked::{Book, MOST_SEATS};
 use std::alloc::{AllocError, Global};
 use std::io;
 
-/// The seat of the calls that the checks make: one that no lock gives.
+/// The seat of the calls that the checks make. No lock gives this seat.
 const CHECKER: u32 = MOST_SEATS;
 
 fn sum(calls: &[u64]) -> u64 {
@@ -20,7 +20,7 @@ fn sum(calls: &[u64]) -> u64 {
         .fold(0, |sum, calls| sum.saturating_add(*calls))
 }
 
-/// Tells how many calls were made by whom. Where standard error fails, the checks go on.
+/// Prints how many calls each role made. If standard error fails, the checks go on.
 fn tell_calls(rt: &HostRuntime, calls: &[u64]) {
     let (tasks, others) = calls.split_at(calls.len().saturating_sub(OTHERS.len()));
     let _ = eprint!(rt; "calls: tasks {}", sum(tasks));
@@ -50,7 +50,7 @@ fn tell_counts(rt: &HostRuntime, replay: &Replay, written: u64) {
     );
 }
 
-/// Whether both coordinators answer a call in the same way. The book's is entered.
+/// Whether both coordinators answer a call in the same way. The book enters its call.
 fn is_same(book: &mut Book, core: &mut Core, call: Call) -> Result<bool, DemoFault> {
     let theirs = answer(core, &call)?;
     match book.apply(CHECKER, call) {
@@ -59,7 +59,7 @@ fn is_same(book: &mut Book, core: &mut Core, call: Call) -> Result<bool, DemoFau
     }
 }
 
-/// Whether both tell the same.
+/// Whether the reads of both return the same.
 fn tell_the_same(left: &Core, right: &Core) -> bool {
     left.mode() == right.mode()
         && left.due() == right.due()
@@ -70,7 +70,7 @@ fn tell_the_same(left: &Core, right: &Core) -> bool {
         && left.files_taken() == right.files_taken()
 }
 
-/// Whether both show the same of each live record.
+/// Whether both show the same metadata of each live record.
 fn show_all(book: &mut Book, core: &mut Core) -> Result<bool, DemoFault> {
     for place in 0..usize::MAX {
         let live = core.live(place);
@@ -109,8 +109,8 @@ fn refused(alloc: Global, replay: &Replay) -> Result<Vec<u64>, AllocError> {
     Ok(files)
 }
 
-/// The files that the folder should have: those that the coordinator knows, those of refused acknowledgements, and
-/// those that it had before.
+/// The files that the folder should have: those that the coordinator knows, those of refused
+/// acknowledgements, and those that were there before.
 fn expected(alloc: Global, replay: &Replay, before: &[u64]) -> Result<Vec<u64>, AllocError> {
     let mut files = Vec::new(alloc);
     files.extend_from_slice(before)?;
@@ -123,7 +123,7 @@ fn expected(alloc: Global, replay: &Replay, before: &[u64]) -> Result<Vec<u64>, 
     Ok(files)
 }
 
-/// Those of the files that are not among the others, which are in rising order.
+/// The files that are not among the others. The others are in ascending order.
 fn without(alloc: Global, files: &[u64], others: &[u64]) -> Result<Vec<u64>, AllocError> {
     let mut left = Vec::new(alloc);
     for file in files {
@@ -134,7 +134,7 @@ fn without(alloc: Global, files: &[u64], others: &[u64]) -> Result<Vec<u64>, All
     Ok(left)
 }
 
-/// Tells of the files that are on one side alone. Answers whether there is none.
+/// Prints the files that only one side has. Returns whether there is none.
 fn compare(rt: &HostRuntime, there: &[u64], expected: &[u64]) -> Result<bool, AllocError> {
     let missing = without(rt.alloc(), expected, there)?;
     let more = without(rt.alloc(), there, expected)?;
@@ -144,14 +144,15 @@ fn compare(rt: &HostRuntime, there: &[u64], expected: &[u64]) -> Result<bool, Al
     Ok(missing.is_empty() && more.is_empty())
 }
 
-/// Names the files of refused acknowledgements.
+/// Prints the files of refused acknowledgements.
 fn tell_refused(rt: &HostRuntime, replay: &Replay) -> Result<(), AllocError> {
     let files = refused(rt.alloc(), replay)?;
     tell_files(rt, "files of refused acknowledgements", files.as_slice());
     Ok(())
 }
 
-/// Whether the folder has the files that it should have. Names the others, and those of refused acknowledgements.
+/// Whether the folder has the files that it should have. Prints the others, and those of refused
+/// acknowledgements.
 fn is_folder_right(
     rt: &HostRuntime,
     folder: &str,
@@ -165,7 +166,7 @@ fn is_folder_right(
     Ok(same && is_count_right(replay))
 }
 
-/// Whether the coordinator counts as many files as it was told of and not told that they are deleted.
+/// Whether the coordinator counts as many files as were registered and not reported as deleted.
 fn is_count_right(replay: &Replay) -> bool {
     let mut known = 0u64;
     for (_, place) in replay.places.iter() {
@@ -178,8 +179,8 @@ fn is_count_right(replay: &Replay) -> bool {
     known == core.files_in_use().saturating_add(away)
 }
 
-/// Whether the replay is the coordinator of the book. Writes the script, which then ends with a `show` of each live
-/// record.
+/// Whether the replay gives the coordinator of the book. Writes the script, which ends with a
+/// `show` of each live record.
 fn is_replay_same(
     rt: &HostRuntime,
     ended: &mut Ended,
@@ -205,7 +206,7 @@ fn tell_verdicts(rt: &HostRuntime, listed: bool, folder: bool, same: bool) -> io
     println!(rt; "a replay of the list is the coordinator: {}", word(same))
 }
 
-/// Checks the run against its replay. Answers whether all is as it should be.
+/// Checks the run against its replay. Returns whether all checks pass.
 fn judge(
     rt: &HostRuntime,
     ended: &mut Ended,
@@ -222,8 +223,8 @@ fn judge(
     Ok(listed && folder && same)
 }
 
-/// Checks the run in a folder that had these files before, and tells what was found. Answers whether all is as it
-/// should be.
+/// Checks the run in a folder that had these files before, and prints the results. Returns whether
+/// all checks pass.
 pub(crate) fn check(
     rt: &HostRuntime,
     ended: &mut Ended,

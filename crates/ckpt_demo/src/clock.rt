@@ -1,17 +1,17 @@
-//! Moments of a real clock.
+//! The moments of a real clock.
 use std::thread;
 use std::time::{Clock, Duration};
 
 /// The greatest moment, in milliseconds.
 const LAST: u64 = (1 << 62) - 1;
 
-/// A clock that began with the run, by what the host's clock said then, in milliseconds.
+/// A clock that starts with the run, at this time of the host's clock in milliseconds.
 #[derive(Clone, Copy)]
 pub(crate) struct Watch {
     start: u64,
 }
 
-/// What the host's clock says, in milliseconds. One that can't be read is at the greatest moment.
+/// The host's clock in milliseconds. If it can't be read, the greatest moment.
 fn read(host: &HostRuntime) -> u64 {
     match host.monotonic() {
         Ok(time) => u64::try_from(time.as_millis()).unwrap_or(LAST),

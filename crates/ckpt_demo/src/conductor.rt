@@ -1,4 +1,4 @@
-//! The thread that conducts: does what a user of the job does, and says how the run stands.
+//! The conductor thread: acts as the user of the job, and prints the progress of the run.
 ghost use Rattle.std.specs.Prelude.{◌≡◌};
 
 use crate::ground::Ground;
@@ -12,18 +12,18 @@ use std::sync::Wait;
 /// The time between two looks at the clock, in milliseconds.
 const PAUSE: u64 = 5;
 
-/// What the user does, in this order.
+/// The user's calls, in this order.
 #[derive(Clone, Copy)]
 enum Act {
     Savepoint,
-    /// To the savepoint with this number.
+    /// A roll back to the savepoint with this number.
     RollBack(u64),
     Rescale,
     Nothing,
 }
 
 impl Act {
-    /// What follows on the answer.
+    /// The next call after this answer.
     fn next(self, reply: &Reply) -> Act {
         match self {
             Act::Savepoint => saved(reply),
@@ -32,7 +32,8 @@ impl Act {
         }
     }
 
-    /// What follows where there is none, or the call was refused: a savepoint that is not complete is taken again.
+    /// The next call if there is no answer, or the call was refused: if the savepoint is not
+    /// complete, take another one.
     fn again(self) -> Act {
         match self {
             Act::RollBack(_) => Act::Savepoint,
@@ -40,7 +41,7 @@ impl Act {
         }
     }
 
-    /// From when on it is done, in a run of this duration.
+    /// The moment of the call, in a run of this duration.
     fn start(self, duration: u64) -> u64 {
         match self {
             Act::Savepoint => duration / 3,
@@ -51,7 +52,7 @@ impl Act {
     }
 }
 
-/// What follows on a savepoint.
+/// The next call after a savepoint.
 fn saved(reply: &Reply) -> Act {
     match reply {
         Reply::SavepointTriggered(id) => Act::RollBack(id.0),
@@ -59,20 +60,20 @@ fn saved(reply: &Reply) -> Act {
     }
 }
 
-/// What the conductor has before it.
+/// The state of the conductor.
 #[derive(Drop)]
 struct Desk {
     alloc: Global,
-    /// The newest record when it looked last, and those that were live then.
+    /// The newest record at the last look, and the records that were live then.
     newest: u64,
     live: Vec<u64>,
     act: Act,
-    /// Not to be done before this moment.
+    /// The next call is not made before this moment.
     act_at: u64,
     seconds: u64,
 }
 
-/// What the live records are, for a line of progress. Without memory some are missing.
+/// The live records, for a line of progress. If memory runs out, some are missing.
 #[derive(Drop)]
 struct Census {
     live: Vec<u64>,
@@ -81,7 +82,7 @@ struct Census {
 }
 
 impl Census {
-    /// Takes in a live record.
+    /// Counts a live record.
     fn note(&mut self, id: u64, metadata: &Metadata) {
         let _ = self.live.push(id);
         self.pending = self.pending.saturating_add(u64::from(!metadata.done));
@@ -109,7 +110,8 @@ impl Desk {
         }
     }
 
-    /// Does what is next, and says what follows and when: records that were triggered have ended by then.
+    /// Makes the next call, and returns the one after it and its moment. By then the records that
+    /// were triggered have ended.
     fn act<R: Wait>(&mut self, rt: &R, ground: &Ground, now: u64, pass: Pass) -> Pass
         requires { pass.lock ≡ ground.now.lock }
         ensures { result.lock ≡ ground.now.lock }
@@ -127,7 +129,7 @@ impl Desk {
         pass
     }
 
-    /// The call of what is next.
+    /// The call of this step.
     fn call(&self, settings: &Settings, now: u64) -> Option<Call> {
         match self.act {
             Act::Savepoint => Some(Call::Savepoint { now }),
@@ -141,7 +143,7 @@ impl Desk {
         }
     }
 
-    /// Says how the run stands.
+    /// Prints the progress of the run.
     fn tell<R: Wait>(&mut self, rt: &R, ground: &Ground, pass: Pass) -> Pass
         requires { pass.lock ≡ ground.now.lock }
         ensures { result.lock ≡ ground.now.lock }
@@ -160,7 +162,7 @@ impl Desk {
         pass
     }
 
-    /// Takes in the records that are new.
+    /// Counts the new records.
     fn note_new(&mut self, newest: u64) {
         for id in self.newest.saturating_add(1)..newest.saturating_add(1) {
             let _ = self.live.push(id);
@@ -173,7 +175,7 @@ fn restore(now: u64, target: Target, shape: Option<Shape>) -> Call {
     Call::Restore { now, target, shape }
 }
 
-/// Takes in those of the records that are live.
+/// Counts the given records that are live.
 fn count<R: Wait>(
     rt: &R,
     ground: &Ground,
@@ -194,7 +196,7 @@ fn count<R: Wait>(
     pass
 }
 
-/// Prints a line of progress. Where standard error fails, the run goes on.
+/// Prints a line of progress. If standard error fails, the run goes on.
 fn tell_progress(ground: &Ground, known: u64, used: u64, pending: u64) {
     let (done, waiting) = (ground.board.completed(), known.saturating_sub(used));
     let _ = eprintln!(&ground.host;
@@ -202,7 +204,7 @@ fn tell_progress(ground: &Ground, known: u64, used: u64, pending: u64) {
     );
 }
 
-/// Conducts the run to its end, when the job is cancelled.
+/// Conducts the run to its end, which is the cancel of the job.
 pub(crate) fn conduct<R: Wait>(rt: &R, ground: &Ground, mut pass: Pass) -> Pass
     requires { pass.lock ≡ ground.now.lock }
     ensures { result.lock ≡ ground.now.lock }

@@ -13,10 +13,10 @@ const MOST_TAKEN: u64 = 64;
 /// The time between two rounds, in milliseconds.
 const PAUSE: u64 = 20;
 
-/// How many rounds follow the end of the job, at most: a disk may fail for good.
+/// The most rounds after the end of the job, because a disk may fail for good.
 const LAST_ROUNDS: u32 = 200;
 
-/// Takes files, deletes and reports them. Answers how many it took.
+/// Takes files, deletes them and reports each. Returns how many it took.
 fn round<R: Wait>(rt: &R, ground: &Ground, pass: Pass, disk: &mut Disk<'_, R>) -> (Pass, u64)
     requires { pass.lock ≡ ground.now.lock }
     ensures { result.0.lock ≡ ground.now.lock }

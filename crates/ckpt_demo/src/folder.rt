@@ -9,7 +9,7 @@ use std::alloc::{AllocError, Global};
 use std::fs;
 use std::sync::Wait;
 
-/// How many files are named in a line.
+/// The most files that a line names.
 const MOST_NAMED: usize = 10;
 
 /// The path of a file.
@@ -17,7 +17,7 @@ pub(crate) fn path_of(alloc: Global, folder: &str, file: FileId) -> Result<Strin
     format!(in alloc; "{folder}/{}", file.0)
 }
 
-/// The numbers that the names in a folder are, in rising order. Other names are passed over.
+/// The numbers that are names in a folder, in ascending order. Skips other names.
 pub(crate) fn listed(rt: &HostRuntime, folder: &str) -> Result<Vec<u64>, DemoFault> {
     let mut numbers = Vec::new(rt.alloc());
     for entry in fs::read_dir(rt, folder).map_err(|_| DemoFault::Files)? {
@@ -30,7 +30,8 @@ pub(crate) fn listed(rt: &HostRuntime, folder: &str) -> Result<Vec<u64>, DemoFau
     Ok(numbers)
 }
 
-/// Makes the folder where there is none, and tells which files it has: the coordinator will not know them.
+/// Makes the folder if there is none, and returns the files in it. The coordinator does not know
+/// these.
 pub(crate) fn strangers(rt: &HostRuntime, folder: &str) -> Result<Vec<u64>, DemoFault> {
     fs::create_dir_all(rt, folder).map_err(|_| DemoFault::Files)?;
     let numbers = listed(rt, folder)?;
@@ -42,7 +43,8 @@ pub(crate) fn strangers(rt: &HostRuntime, folder: &str) -> Result<Vec<u64>, Demo
     Ok(numbers)
 }
 
-/// Tells how many files there are of a sort, and names the first ones. Where standard error fails, the run goes on.
+/// Prints how many files of a kind there are, and names the first ones. If standard error fails,
+/// the run goes on.
 pub(crate) fn tell_files(rt: &HostRuntime, sort: &str, numbers: &[u64]) {
     let _ = eprint!(rt; "{sort}: {}", numbers.len());
     for number in numbers.iter().take(MOST_NAMED) {
@@ -56,7 +58,7 @@ pub(crate) fn tell_files(rt: &HostRuntime, sort: &str, numbers: &[u64]) {
     let _ = eprintln!(rt; "{more}");
 }
 
-/// Deletes files of the folder, and fails now and then.
+/// Deletes files of the folder. A share of the deletions fails.
 #[derive(Drop)]
 pub(crate) struct Disk<'a, R: Wait> {
     rt: &'a R,
@@ -78,7 +80,7 @@ impl<'a, R: Wait> Disk<'a, R> {
     }
 }
 
-/// Removes the file, but now and then.
+/// Removes the file, unless this deletion is one that fails.
 fn is_removed(ground: &Ground, dice: &mut Dice, file: FileId) -> bool {
     if dice.falls(ground.settings.failures) {
         return false;
@@ -93,13 +95,13 @@ impl<'a, R: Wait> Storage for Disk<'a, R> {
     ghost stored = { λ d. record { deleted = d.deleted.items; failures = d.failures } };
 
     fn delete(&mut self, file: FileId) -> Result<(), StorageFault> {
-        // First the room to note it.
+        // First reserve room to note the file.
         if self.deleted.reserve(1).is_ok() && is_removed(self.ground, &mut self.dice, file) {
             self.deleted.push_reserved(file);
             return Ok(());
         }
         if self.failures == u64::MAX {
-            // Nobody sees so many failures; a count that stands still would be wrong.
+            // No run has this many failures. The failure could not be counted, so this never returns.
             for _ in self.rt.forever() {}
             unreachable!()
         }

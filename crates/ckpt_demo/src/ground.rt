@@ -1,4 +1,4 @@
-//! What the threads of a run share.
+//! The state that the threads of a run share.
 ghost use Rattle.std.specs.Prelude.{◌≡◌};
 
 use crate::clock::{Watch, wait};
@@ -10,7 +10,7 @@ use std::alloc::Global;
 use std::sync::Wait;
 use std::sync::atomic::{AtomicU64, Ordering};
 
-/// What the answers so far told. Threads take it up without a call.
+/// What follows from the answers so far. Threads read it without a call.
 #[derive(Drop)]
 pub(crate) struct Board {
     interval: u64,
@@ -26,7 +26,7 @@ pub(crate) struct Board {
     ended: AtomicU64,
 }
 
-/// What a call says that its answer does not.
+/// What a call says and its answer does not.
 #[derive(Clone, Copy)]
 struct Asked {
     now: u64,
@@ -46,7 +46,8 @@ impl Asked {
 }
 
 impl Board {
-    /// Before the first call. Files get numbers above the greatest one that the folder has.
+    /// The state before the first call. New files get numbers above the greatest one that the
+    /// folder has.
     pub(crate) fn new(interval: u64, greatest: u64) -> Board {
         Board {
             interval,
@@ -99,7 +100,8 @@ impl Board {
         self.newest.load(Ordering::SeqCst)
     }
 
-    /// The number of the newest record that is complete, or that the job was rolled back to; 0 where there is none.
+    /// The number of the newest complete record, or of the one that the job was rolled back to. 0
+    /// if there is none.
     pub(crate) fn base(&self) -> u64 {
         self.base.load(Ordering::SeqCst)
     }
@@ -114,7 +116,8 @@ impl Board {
         self.completed.load(Ordering::SeqCst)
     }
 
-    /// How many files the coordinator knows of: those registered and not reported as deleted.
+    /// How many files the coordinator knows: those that were registered and not reported as
+    /// deleted.
     pub(crate) fn known(&self) -> u64 {
         let deleted = self.deleted.load(Ordering::SeqCst);
         self.registered
@@ -138,7 +141,7 @@ impl Board {
         self.written.load(Ordering::SeqCst)
     }
 
-    /// Ends the run for the threads that look.
+    /// Ends the run. Threads notice it when they look.
     pub(crate) fn end(&self) {
         self.ended.store(1, Ordering::SeqCst);
     }
@@ -163,7 +166,7 @@ fn number_of(choice: Choice) -> u64 {
     }
 }
 
-/// What the threads of a run share: the lock, and a board on which stands what the answers told.
+/// What the threads of a run share: the lock, and a board with what follows from the answers.
 #[derive(Drop)]
 pub(crate) struct Ground {
     pub(crate) host: HostRuntime,
@@ -172,7 +175,7 @@ pub(crate) struct Ground {
     pub(crate) settings: Settings,
     pub(crate) watch: Watch,
     pub(crate) alloc: Global,
-    /// How many tasks the job has at first.
+    /// How many tasks the job has at its start.
     pub(crate) tasks: u32,
 }
 
@@ -199,7 +202,7 @@ impl Gate for Ground {
 }
 
 impl Ground {
-    /// Makes a call, and answers nothing where it was refused or found no memory.
+    /// Makes a call. Returns no answer if it was refused or ran out of memory.
     pub(crate) fn ask<R: Wait>(&self, rt: &R, pass: Pass, call: Call) -> (Pass, Option<Reply>)
         requires { pass.lock ≡ self.now.lock }
         ensures { result.0.lock ≡ self.now.lock }

@@ -1,11 +1,12 @@
-//! A job that runs: threads and files over one coordinator.
+//! Runs a job with threads and files over one coordinator.
 //!
-//! `ckpt_demo < SETTINGS` runs a job for a while. Each of its tasks has a thread that writes state files for each
-//! record and acknowledges it; one thread is the timer, one deletes the files that the coordinator hands out, and one
-//! conducts: it calls for a savepoint, a roll back to it, a rescale and a cancel.
-//! All go through one lock. Then all is checked: `docs/DEMO.md` of the repository says what.
+//! `ckpt_demo < SETTINGS` runs a job for a while. Each of its tasks has a thread that writes state
+//! files for each record and acknowledges it. One thread is the timer, one deletes the files that
+//! the coordinator hands out, and one is the conductor: it calls for a savepoint, a roll back to
+//! it, a rescale and a cancel. All call through one lock. Then the run is checked: `docs/DEMO.md`
+//! of the repository lists the checks.
 //!
-//! Ends with status 0; with 1 where something is not as it should be; with 2 where there was no run, or none to its end.
+//! The status is 0; 1 if a check fails; 2 if the run did not start or did not reach its end.
 #![tactic(auto)]
 
 mod checks;
@@ -31,7 +32,7 @@ use std::process::ExitCode;
 use std::sync::Wait;
 use std::thread::Threads;
 
-/// There was no run, or none to its end.
+/// The run did not start, or did not reach its end.
 const NO_RUN: u8 = 2;
 
 fn read_settings(rt: &HostRuntime) -> Result<Settings, DemoFault> {
@@ -41,7 +42,7 @@ fn read_settings(rt: &HostRuntime) -> Result<Settings, DemoFault> {
     Settings::read(rt.alloc(), &text)
 }
 
-/// Runs the job and checks it. Answers whether all is as it should be.
+/// Runs the job and checks it. Returns whether all checks pass.
 fn demo<R: Threads + Wait + Sync>(rt: &R, host: &HostRuntime) -> Result<bool, DemoFault> {
     let settings = read_settings(host)?;
     let before = strangers(host, settings.folder.as_str())?;
@@ -55,7 +56,7 @@ fn main(rt: HostRuntime) -> ExitCode {
         Ok(true) => ExitCode::SUCCESS,
         Ok(false) => ExitCode::FAILURE,
         Err(fault) => {
-            // Where standard error fails too, the status alone tells.
+            // If standard error fails too, only the status says so.
             let _ = eprintln!(rt; "ckpt_demo: {fault}");
             ExitCode::from(NO_RUN)
         }

@@ -1,4 +1,4 @@
-//! The list of the book, made again by a new coordinator.
+//! A replay of the book's calls by a new coordinator.
 use crate::settings::{DemoFault, Settings};
 use ckpt_core::{Core, CoreFault};
 use ckpt_ids::{Answer, Call, Files, Reply};
@@ -9,14 +9,14 @@ use std::collections::BTreeMap;
 /// Where a file should be.
 #[derive(Clone, Copy, PartialEq, Eq)]
 pub(crate) enum Place {
-    /// Its acknowledgement was refused, so it lies in the folder for good.
+    /// Its acknowledgement was refused, so it stays in the folder for good.
     Refused,
-    /// The coordinator knows it: a record uses it, or it waits or is taken.
+    /// The coordinator knows it: a record uses it, or it is waiting or taken.
     Known,
     Deleted,
 }
 
-/// What became of records and files, as the answers say.
+/// How records and files ended, by the answers.
 #[derive(Clone, Copy)]
 pub(crate) struct Counts {
     pub(crate) completed: u64,
@@ -28,7 +28,7 @@ pub(crate) struct Counts {
     pub(crate) failed: u64,
 }
 
-/// A coordinator that made the calls of a list, and what their answers say.
+/// A coordinator that made the calls of a list, and what follows from their answers.
 #[derive(Drop)]
 pub(crate) struct Replay {
     pub(crate) core: Core,
@@ -36,7 +36,7 @@ pub(crate) struct Replay {
     pub(crate) counts: Counts,
 }
 
-/// Makes a call, and answers it also where it is refused.
+/// Makes a call, and returns its answer even if it is refused.
 pub(crate) fn answer(core: &mut Core, call: &Call) -> Result<Answer, DemoFault> {
     match core.apply(call) {
         Ok(reply) => Ok(Answer::Done(reply)),
@@ -46,7 +46,7 @@ pub(crate) fn answer(core: &mut Core, call: &Call) -> Result<Answer, DemoFault> 
 }
 
 impl Replay {
-    /// A coordinator as the run began with one.
+    /// A coordinator as at the start of the run.
     fn open(alloc: Global, settings: &Settings) -> Result<Replay, DemoFault> {
         let shape = settings.shape(alloc, settings.counters)?;
         let core = Core::new(alloc, settings.config()?, shape, 0, 1);

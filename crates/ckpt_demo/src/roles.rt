@@ -1,6 +1,6 @@
-//! Who has which seat.
+//! The roles of the seats.
 
-/// What a thread of a run does.
+/// The role of a thread of a run.
 #[derive(Clone, Copy)]
 pub(crate) enum Role {
     Task,
@@ -13,7 +13,7 @@ pub(crate) enum Role {
 pub(crate) const OTHERS: [Role; 3] = [Role::Timer, Role::Discarder, Role::Conductor];
 
 impl Role {
-    /// The role of a seat, where the first so many are tasks.
+    /// The role of a seat, if the first `tasks` seats are tasks.
     pub(crate) fn of(seat: u32, tasks: u32) -> Role {
         match seat.checked_sub(tasks) {
             Some(place) => OTHERS.get(place as usize).copied().unwrap_or(Role::Task),

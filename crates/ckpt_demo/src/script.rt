@@ -1,4 +1,4 @@
-//! The script of a run: what opened its job, and its list of calls.
+//! The script of a run: the opening of its job, and its log of calls.
 use crate::settings::{DemoFault, Settings};
 use ckpt_call_lines::{call_line, config_line, job_line, start_line};
 use ckpt_ids::{Config, Shape};
@@ -6,7 +6,7 @@ use ckpt_locked::Book;
 use std::alloc::{AllocError, Global};
 use std::fs;
 
-/// Adds a line that was made, where there was memory for it.
+/// Adds a line, unless memory ran out while it was written.
 fn push_line(text: &mut String, line: Result<String, AllocError>) -> Result<(), AllocError> {
     let line = line?;
     text.push_str(line.as_str())?;

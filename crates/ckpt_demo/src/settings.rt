@@ -1,9 +1,9 @@
-//! What a run goes by, and why there is none.
+//! The settings of a run, and why a run may fail.
 use ckpt_ids::{Config, Shape};
 use std::alloc::{AllocError, AllocFailed, Global};
 use thiserror::Error;
 
-/// Why there was no run, or none to its end.
+/// Why the run did not start, or did not reach its end.
 #[derive(Clone, Copy, Debug, Error)]
 pub(crate) enum DemoFault {
     #[error("the settings can't be read")]
@@ -34,7 +34,7 @@ impl<T: Drop> From<AllocFailed<T>> for DemoFault {
     }
 }
 
-/// What is run. Times are milliseconds, shares percent.
+/// The settings of a run. Times are in milliseconds, shares in percent.
 #[derive(Drop)]
 pub(crate) struct Settings {
     pub(crate) duration: u64,
@@ -45,19 +45,19 @@ pub(crate) struct Settings {
     pub(crate) counters: u64,
     /// How many files a task writes for a record.
     pub(crate) files: u64,
-    /// How often a task declines.
+    /// How often a task declines, in percent.
     pub(crate) declines: u64,
-    /// How often a deletion fails.
+    /// How often a deletion fails, in percent.
     pub(crate) failures: u64,
     pub(crate) seed: u64,
     pub(crate) folder: String,
-    /// Where the script of the run is written.
+    /// The file to which the script of the run is written.
     pub(crate) script: String,
 }
 
 impl Settings {
-    /// Reads lines of a name and a value. Blank ones are skipped, and those that begin with `#`. A setting that no
-    /// line names is as usual.
+    /// Reads lines with a name and a value. Skips blank lines and lines that begin with `#`. A
+    /// setting that no line names has its default.
     pub(crate) fn read(alloc: Global, text: &[u8]) -> Result<Settings, DemoFault> {
         let mut settings = Settings::usual(alloc)?;
         let text = str::from_utf8(text).map_err(|_| DemoFault::Input)?;
@@ -72,7 +72,7 @@ impl Settings {
         Ok(settings)
     }
 
-    /// Six tasks for two seconds.
+    /// The defaults: six tasks for two seconds.
     fn usual(alloc: Global) -> Result<Settings, AllocError> {
         Ok(Settings {
             duration: 2000,
@@ -90,7 +90,7 @@ impl Settings {
         })
     }
 
-    /// Takes in a line, or answers nothing where it is no setting.
+    /// Reads a line. Returns `None` if it is not a setting.
     fn set(&mut self, alloc: Global, line: &str) -> Result<Option<()>, AllocError> {
         let Some((name, value)) = line.split_once(" ") else {
             return Ok(None);
@@ -121,7 +121,7 @@ impl Settings {
         Some(())
     }
 
-    /// How many tasks the job has at first.
+    /// How many tasks the job has at its start.
     pub(crate) fn tasks(&self) -> u32 {
         let tasks = self.sources.saturating_add(self.counters);
         u32::try_from(tasks).unwrap_or(u32::MAX)
@@ -141,13 +141,13 @@ impl Settings {
         .map_err(|_| DemoFault::Limits)
     }
 
-    /// The shape of a job with so many counters.
+    /// The shape of a job with this many counters.
     pub(crate) fn shape(&self, alloc: Global, counters: u64) -> Result<Shape, DemoFault> {
         Shape::new(alloc, &[self.sources, counters]).map_err(|_| DemoFault::Limits)
     }
 }
 
-/// Numbers that look random, the same ones for the same seed.
+/// Pseudorandom numbers: the same ones for the same seed.
 #[derive(Clone, Copy)]
 pub(crate) struct Dice {
     state: u64,
@@ -168,7 +168,7 @@ impl Dice {
             .wrapping_add(1442695040888963407);
     }
 
-    /// Whether something that happens so often, in percent, happens now.
+    /// Whether something that happens this often, in percent, happens now.
     pub(crate) fn falls(&mut self, percent: u64) -> bool {
         self.turn();
         (self.state >> 33) % 100 < percent

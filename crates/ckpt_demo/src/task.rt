@@ -12,17 +12,17 @@ use std::alloc::{AllocError, Global};
 use std::fs;
 use std::sync::Wait;
 
-/// The time between two looks at the board, in milliseconds.
+/// The time between two reads of the board, in milliseconds.
 const PAUSE: u64 = 2;
 
-/// A record of which a task is to take its part.
+/// A record in which a task takes part.
 #[derive(Clone, Copy)]
 struct Demand {
     id: CheckpointId,
     subtask: SubtaskId,
 }
 
-/// A file that the task may use again, where this record is the base of the next ones.
+/// A file that the task may reuse, if this record is the base of the next ones.
 #[derive(Clone, Copy)]
 struct Kept {
     id: u64,
@@ -43,8 +43,8 @@ impl Task {
         }
     }
 
-    /// The part of a record: writes new files, and reuses one of the base. Answers nothing where the task declines, where a
-    /// file can't be written and for want of memory.
+    /// The part of a record: writes new files, and reuses one of the base. Returns `None` if the
+    /// task declines, if a file can't be written, or if memory runs out.
     fn part(&mut self, ground: &Ground, demand: &Demand) -> Option<Order> {
         if self.dice.falls(ground.settings.declines) {
             return None;
@@ -59,7 +59,7 @@ impl Task {
         Order::new(ground.now(), demand.id, demand.subtask, fresh, reused).ok()
     }
 
-    /// A file of the base, where there is one, and forgets those before.
+    /// A file of the base, if there is one. Forgets the files before it.
     fn reused(&mut self, ground: &Ground) -> Result<Vec<FileId>, AllocError> {
         let base = ground.board.base();
         self.kept.retain(|kept| kept.id >= base);
@@ -70,7 +70,7 @@ impl Task {
         Ok(reused)
     }
 
-    /// Takes its part of a record: acknowledges with files, or declines.
+    /// Takes part in a record: acknowledges with files, or declines.
     fn take_part<R: Wait>(&mut self, rt: &R, ground: &Ground, pass: Pass, id: CheckpointId) -> Pass
         requires { pass.lock ≡ ground.now.lock }
         ensures { result.lock ≡ ground.now.lock }
@@ -102,7 +102,7 @@ fn decline<R: Wait>(rt: &R, ground: &Ground, pass: Pass, demand: &Demand) -> Pas
     pass
 }
 
-/// Hands the order to a worker, in this thread.
+/// Gives the order to a worker in this thread.
 fn acknowledge<R: Wait>(rt: &R, ground: &Ground, pass: Pass, order: Order) -> Pass
     requires { pass.lock ≡ ground.now.lock }
     ensures { result.lock ≡ ground.now.lock }
@@ -125,7 +125,7 @@ fn written_files(ground: &Ground, demand: &Demand) -> Option<Vec<FileId>> {
     Some(files)
 }
 
-/// What a state file says.
+/// The content of a state file.
 fn state(alloc: Global, demand: &Demand) -> Result<String, AllocError> {
     let SubtaskId { vertex, index } = demand.subtask;
     format!(in alloc; "record {}, subtask {vertex}.{index}\n", demand.id.0)
@@ -141,7 +141,7 @@ fn written(ground: &Ground, demand: &Demand) -> Option<FileId> {
     Some(file)
 }
 
-/// What the task of this seat is to take of a record, where the record is live and has a part for it.
+/// The part of the task with this seat, if the record is live and has a part for it.
 fn look_up<R: Wait>(rt: &R, ground: &Ground, pass: Pass, id: CheckpointId) -> (Pass, Option<Demand>)
     requires { pass.lock ≡ ground.now.lock }
     ensures { result.0.lock ≡ ground.now.lock }
@@ -152,7 +152,7 @@ fn look_up<R: Wait>(rt: &R, ground: &Ground, pass: Pass, id: CheckpointId) -> (P
     (pass, subtask.map(|subtask| Demand { id, subtask }))
 }
 
-/// Takes its part of each new record, until the run has ended.
+/// Takes part in each new record, until the run has ended.
 pub(crate) fn work<R: Wait>(rt: &R, ground: &Ground, mut pass: Pass) -> Pass
     requires { pass.lock ≡ ground.now.lock }
     ensures { result.lock ≡ ground.now.lock }

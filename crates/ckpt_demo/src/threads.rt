@@ -18,7 +18,7 @@ use std::thread::Threads;
 impl Work<()> for Ground {
     ghost lock = { λ g. g.lock };
 
-    /// Does what the role of the seat is.
+    /// Does the work of the seat's role.
     fn work<R: Wait>(&self, rt: &R, pass: Pass) -> (Pass, ()) {
         let pass = match Role::of(pass.seat(), self.tasks) {
             Role::Task => work(rt, self, pass),
@@ -40,7 +40,7 @@ fn tick<R: Wait>(rt: &R, ground: &Ground, pass: Pass) -> Pass
     pass
 }
 
-/// What is left of a run.
+/// The results of a run.
 #[derive(Drop)]
 pub(crate) struct Ended {
     pub(crate) book: Book,
@@ -96,7 +96,7 @@ fn scatter<R: Threads + Wait + Sync>(
     work_on_each(rt, ground, passes)
 }
 
-/// The passes that come back.
+/// The returned passes.
 fn passes_of(alloc: Global, reports: Vec<(Pass, ())>) -> Result<Vec<Pass>, AllocError>
     ensures { IfOk result (λ passes. map (λ r. r.0) reports.items ≡ passes.items) }
 {

@@ -9,7 +9,8 @@ const LEAST: u64 = 5;
 
 const MOST: u64 = 50;
 
-/// Waits for the moment at which the next checkpoint is due, but not longer than records need that expire.
+/// Waits for the moment at which the next checkpoint is due, but not so long that records expire
+/// late.
 #[derive(Drop)]
 pub(crate) struct Beats<'a> {
     ground: &'a Ground,

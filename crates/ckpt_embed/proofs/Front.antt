@@ -1,4 +1,4 @@
--- A buffer that is written from its front, one place after the other.
+-- A buffer that is written from its start, one place after the other.
 use Rattle.std.proofs.Common.{◌≡◌, ℕ, ◌+◌, ◌<◌, List, [], ◌∷◌, ◌++◌, sym, ap, ◌∙◌, arith, set, take, drop, length, Some}
 use Rattle.std.specs.Prelude.{slice_get}
 use Rattle.std.proofs.lemmas.List.{drop-drop, drop-set-lt, take_more_set}

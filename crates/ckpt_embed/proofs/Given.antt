@@ -1,4 +1,4 @@
--- What a coordinator that changed nothing is told to have answered.
+-- The answer of a coordinator that changed nothing.
 use Rattle.std.proofs.Common.{◌≡◌, ◌≢◌, refl, sym, ap, ◌∙◌, subst, arith}
 use Rattle.std.specs.Prelude.{◌≤◌, ℕ, min, Option, Some, None, Err, Result, OnErr, ◌↔◌, List, length}
 use Rattle.std.proofs.lemmas.List.{length-take}
@@ -30,7 +30,7 @@ fault_answered m m' call r (Refused why) is refused stays other =
     (subst (λ (r' : Result Reply CoreFault). OnErr r' (m' ≡ m)) is stays ∙ ap (λ (s : Stepped). s.0) stepped, ap (λ (s : Stepped). told s.1) stepped)
 fault_answered m m' call r Memory is refused stays other = absurd (other refl)
 
--- no file comes with what is refused
+-- a refused call returns no file
 pub fault_in_front : (m : State) (call : Call) (r : Result Reply CoreFault) (f : CoreFault) (old : List ℕ) → r ≡ Err f
     → ((why : Why) → (r ≡ Err (Refused why)) ↔ (refusal m call ≡ Some why))
     → (fault_told f).code ≢ no_memory → StandsInFront (files_in (step m call).1) old old
@@ -49,7 +49,7 @@ pub show_leaves : (m m' : State) (id : ℕ) (reply : Reply) → step m (call.Sho
 unfolding step
 show_leaves m m' id reply done = sym (ap (λ (s : Stepped). s.0) done) ∙ shows_leave m id (refusal m (call.Show id))
 
--- what is told where the call changed nothing, by a telling that gives each refusal as it is
+-- the answer if the call changed nothing, for answers that return each refusal unchanged
 pub fault_told_as : (T : ids.Answer → Answer) → ((why : Why) → T (Refused-answer why) ≡ refusal_told why)
     → (m : State) (call : Call) (r : Result Reply CoreFault) (f : CoreFault) → r ≡ Err f
     → ((why : Why) → (r ≡ Err (Refused why)) ↔ (refusal m call ≡ Some why))
@@ -66,7 +66,7 @@ never_refused : (m : State) (n : ℕ) → refusal m (call.Take n) ≡ None
 unfolding refusal
 never_refused m n = refl
 
--- how many files a take brings
+-- how many files a take returns
 pub take_brings : (m : State) (n : ℕ) → length (files_in (step m (call.Take n)).1) ≡ min n (length m.waiting)
 take_brings m n = takes_some m n (never_refused m n)
 

@@ -29,7 +29,7 @@ abbrev pub json_in : ids.Answer → List ℕ
 json_in (Done reply) = json_of_reply reply
 json_in (Refused why) = []
 
--- what is told of JSON where the buffer has so many places: how many bytes it has
+-- the answer for JSON if the buffer has this many places: how many bytes the JSON has
 abbrev pub json_told : List ℕ → ℕ → Answer
 json_told json places = if nat_lt places (length json) then too_short (length json) else done 21 (length json) 0
 
@@ -37,23 +37,23 @@ abbrev pub show_reply_told : Reply → ℕ → Answer
 show_reply_told (Shown metadata) places = json_told (metadata_bytes metadata) places
 show_reply_told reply places = reply_told reply
 
--- what is told of a show where the buffer has so many places
+-- the answer for a show if the buffer has this many places
 abbrev pub show_told : ids.Answer → ℕ → Answer
 show_told (Done reply) places = show_reply_told reply places
 show_told (Refused why) places = refusal_told why
 
--- the list stands at the front of the buffer, whose other places have not changed
+-- the list is at the start of the buffer, whose other places have not changed
 abbrev pub StandsInFront : List ℕ → List ℕ → List ℕ → Type 0
 StandsInFront list old new = (take (length list) new ≡ list) × (drop (length list) new ≡ drop (length list) old)
 
--- the files that a take brings stand at the front of a buffer that has so many places
+-- the files that a take returns are at the start of a buffer that has this many places
 abbrev pub BringsFiles : State → List ℕ → List ℕ → Answer → Type 0
 BringsFiles m old new answer = answer.code ≢ no_memory → StandsInFront (files_in (step m (call.Take (length old))).1) old new
 
--- a show is told with the JSON's length, or how many places the buffer would need, or why it is refused; unless memory ran out
+-- a show returns the JSON's length, or how many places the buffer needs, or why it is refused; unless memory ran out
 abbrev pub IsShowTold : State → ℕ → ℕ → Answer → Type 0
 IsShowTold m id places answer = answer.code ≢ no_memory → answer ≡ show_told (step m (call.Show id)).1 places
 
--- the metadata that a show brings stands at the front of the buffer
+-- the metadata that a show returns is at the start of the buffer
 abbrev pub BringsJson : State → ℕ → List ℕ → List ℕ → Answer → Type 0
 BringsJson m id old new answer = answer.code ≡ 0 → StandsInFront (json_in (step m (call.Show id)).1) old new

@@ -1,4 +1,4 @@
--- What a call through a handle leaves and answers.
+-- The state that a call through a handle leaves, and its answer.
 use Rattle.std.specs.Prelude.{◌≡◌, ◌≢◌, ℕ, Bool, true, false, ◌==◌, if◌then◌else◌, List, [], ◌∷◌, Option, Some, None, is_none, Result, Err}
 use Rattle.ckpt_ids.specs.declared.subtask.SubtaskId.{SubtaskId}
 use Rattle.ckpt_ids.specs.declared.call.Call.{Call}
@@ -17,28 +17,28 @@ use Rattle.ckpt_embed.specs.Told.{told, is_closed, bad_argument, no_memory, out_
 abbrev pub StaysClosed : Option State → Option State → Answer → Type 0
 StaysClosed old new answer = old ≡ None → (answer ≡ is_closed) × (new ≡ None)
 
--- the coordinator makes the step and tells its answer, whatever memory there is
+-- the coordinator makes the step and returns its answer, however much memory there is
 abbrev pub IsMade : Option State → Option State → Call → Answer → Type 0
 IsMade old new call answer = (m : State) → old ≡ Some m → (new ≡ Some (step m call).0) × (answer ≡ told (step m call).1)
 
--- the coordinator makes the step and tells its answer, unless memory ran out
+-- the coordinator makes the step and returns its answer, unless memory ran out
 abbrev pub IsAnswered : Option State → Option State → Call → Answer → Type 0
 IsAnswered old new call answer =
     (m : State) → old ≡ Some m → answer.code ≢ no_memory → (new ≡ Some (step m call).0) × (answer ≡ told (step m call).1)
 
--- a step that a core has made, and tells
+-- a step that a core has made, and its answer
 abbrev pub IsStepTold : State → State → Call → Answer → Type 0
 IsStepTold old new call answer = answer.code ≢ no_memory → (new ≡ (step old call).0) × (answer ≡ told (step old call).1)
 
--- the argument that keeps a call from being made, unless memory ran out
+-- the bad argument because of which no call is made, unless memory ran out
 abbrev pub IsWhyNoCall : Result Call ℕ → Answer → Type 0
 IsWhyNoCall given answer = answer.code ≢ no_memory → (given ≡ Err answer.what) × (answer ≡ bad_argument answer.what)
 
--- an answer of no memory has no numbers
+-- the answer for out of memory has no numbers
 abbrev pub HasNoNumbers : Answer → Type 0
 HasNoNumbers answer = answer.code ≡ no_memory → answer ≡ out_of_memory
 
--- the calls that take no memory, whatever they are answered
+-- the calls that take no memory, whatever their answer is
 abbrev pub takes_no_memory : Call → Bool
 takes_no_memory (call.Decline now id subtask) = true
 takes_no_memory (call.Dispose id) = true
@@ -49,11 +49,11 @@ takes_no_memory (call.Undeleted file) = true
 takes_no_memory (call.Count file) = true
 takes_no_memory call = false
 
--- want of memory is told of no other calls
+-- only the other calls may run out of memory
 abbrev pub WantsMemory : Option State → Call → Answer → Type 0
 WantsMemory old call answer = (m : State) → old ≡ Some m → answer.code ≡ no_memory → may_want_memory m call ≡ true
 
--- want of memory changes nothing
+-- a call that runs out of memory changes nothing
 abbrev pub StaysAsItWas : Option State → Option State → Answer → Type 0
 StaysAsItWas old new answer = answer.code ≡ no_memory → new ≡ old
 
@@ -77,6 +77,6 @@ IsBadShape list = (list ≢ []) × (is_shape list ≡ false)
 abbrev pub restore_of : ℕ → ℕ → List ℕ → Call
 restore_of now savepoint shape = call.Restore now (target_of savepoint) (shape_of shape)
 
--- what an acknowledgement asks for, in whatever order its files stand
+-- what an acknowledgement asks for, for any order of its files
 abbrev pub ack_of : ℕ → ℕ → SubtaskId → List ℕ → List ℕ → Call
 ack_of now id subtask fresh reused = call.Ack now id subtask (ascending fresh) (ascending reused)

@@ -1,3 +1,4 @@
+-- The definitions that contracts cite.
 pub mod Buffers
 pub mod Calls
 pub mod Images

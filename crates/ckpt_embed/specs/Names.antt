@@ -1,4 +1,4 @@
--- The names of refusals, by the number that a C program is told.
+-- The names of refusals, by their numbers in C.
 use Rattle.std.specs.Prelude.{ℕ, List, [], ◌∷◌, get_or, codes}
 
 abbrev pub names : List (List ℕ)
@@ -7,6 +7,6 @@ names =
     ∷ codes "UnknownSubtask" ∷ codes "AlreadyAcknowledged" ∷ codes "NameTaken" ∷ codes "FileGone" ∷ codes "NoSuchSavepoint" ∷ codes "InUse"
     ∷ codes "TooManySavepoints" ∷ codes "NotTaken" ∷ codes "NoSuchRecord" ∷ codes "IdsUsedUp" ∷ []
 
--- nothing, where no refusal has the number
+-- empty if no refusal has the number
 abbrev pub refusal_name : ℕ → List ℕ
 refusal_name what = get_or names what []

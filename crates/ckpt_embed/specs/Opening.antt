@@ -33,15 +33,15 @@ bad_opening o =
 abbrev pub IsWhyNot : Opening → Answer → Type 0
 IsWhyNot o answer = answer.code ≢ no_memory → (bad_opening o ≡ Some answer.what) × (answer ≡ bad_argument answer.what)
 
--- the coordinator of this opening, of which no argument is bad
+-- the coordinator of this opening, whose arguments are all good
 abbrev pub IsOpening : Opening → State → Type 0
 IsOpening o m = (bad_opening o ≡ None) × (m ≡ opened o)
 
--- memory is wanted only once the configuration and the shape are within their limits
+-- an opening takes memory only if the configuration and the shape are within their limits
 abbrev pub OpeningWantsMemory : Opening → Answer → Type 0
 OpeningWantsMemory o answer = answer.code ≡ no_memory → (is_within_limits o.config ≡ true) × (is_shape o.shape ≡ true)
 
--- a handle that is open stays as it is, and says so
+-- an open handle stays as it is, and says so
 abbrev pub StaysOpen : Option State → Option State → Answer → Type 0
 StaysOpen old new answer = (m : State) → old ≡ Some m → (answer ≡ bad_argument already_open) × (new ≡ Some m)
 
@@ -50,7 +50,7 @@ abbrev pub IsNotOpened : Option State → Option State → Opening → Answer �
 IsNotOpened old new o answer =
     (what : ℕ) → old ≡ None → answer.code ≢ no_memory → bad_opening o ≡ Some what → (answer ≡ bad_argument what) × (new ≡ None)
 
--- a closed handle is opened where no argument is bad
+-- a closed handle is opened if no argument is bad
 abbrev pub IsOpened : Option State → Option State → Opening → Answer → Type 0
 IsOpened old new o answer =
     old ≡ None → answer.code ≢ no_memory → bad_opening o ≡ None → (answer ≡ done 0 0 0) × (new ≡ Some (opened o))

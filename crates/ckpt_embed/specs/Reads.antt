@@ -1,4 +1,4 @@
--- What a C program is told by a read, which takes no memory. `relkvanu.h` names the numbers.
+-- The answers of the reads that take no memory. `relkvanu.h` names the numbers.
 use Rattle.std.specs.Prelude.{ℕ, ◌==◌, if◌then◌else◌, Option, Some, None, length}
 use Rattle.std.specs.Int.{from_bool}
 use Rattle.ckpt_ids.specs.declared.numbers.Kind.{Kind}
@@ -27,7 +27,7 @@ abbrev pub expiry_told : Option ℕ → Answer
 expiry_told (Some moment) = done 27 moment 0
 expiry_told None = done 28 0 0
 
--- the moment that is told, where one is
+-- the moment, if there is one
 abbrev pub expiry_in : Answer → Option ℕ
 expiry_in answer = if answer.what == 27 then Some answer.a else None
 

@@ -1,4 +1,4 @@
--- What the reads of a recovery are told.
+-- The answers of the reads for a recovery.
 use Rattle.std.specs.Prelude.{◌≡◌, ◌≢◌, ℕ, nat_lt, if◌then◌else◌, List, [], length, Option, Some, None}
 use Rattle.std.specs.Option.{option_and_then}
 use Rattle.ckpt_ids.specs.declared.subtask.SubtaskId.{SubtaskId}
@@ -17,7 +17,7 @@ standing_told stands.Ended = done 48 0 0
 standing_told stands.NotYet = done 49 0 0
 standing_told stands.Never = done 50 0 0
 
--- what is told of a list of files where the buffer has so many places: how many files it has
+-- the answer for a list of files if the buffer has this many places: how many files there are
 abbrev pub list_told : List ℕ → ℕ → Answer
 list_told list places = if nat_lt places (length list) then too_short (length list) else done 51 (length list) 0
 
@@ -29,7 +29,7 @@ abbrev pub acked_told : Option (List ℕ) → ℕ → Answer
 acked_told (Some list) places = list_told list places
 acked_told None places = done 52 0 0
 
--- no files where there is no list
+-- no files if there is no list
 abbrev pub files_acked : Option (List ℕ) → List ℕ
 files_acked (Some list) = list
 files_acked None = []
@@ -38,10 +38,10 @@ abbrev pub waiting_told : Option ℕ → Answer
 waiting_told (Some file) = done 53 file 0
 waiting_told None = done 54 0 0
 
--- a list is told with its length, or how many places the buffer would need; unless memory ran out
+-- a read returns the length of its list, or how many places the buffer needs; unless memory ran out
 abbrev pub IsListTold : List ℕ → ℕ → Answer → Type 0
 IsListTold list places answer = answer.code ≢ no_memory → answer ≡ list_told list places
 
--- the list stands at the front of the buffer
+-- the list is at the start of the buffer
 abbrev pub BringsList : List ℕ → List ℕ → List ℕ → Answer → Type 0
 BringsList list old new answer = answer.code ≡ 0 → StandsInFront list old new

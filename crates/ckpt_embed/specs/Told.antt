@@ -1,4 +1,4 @@
--- What a C program is told: a code, which reply or refusal, and its numbers. `relkvanu.h` names the numbers.
+-- The answers that a C program gets: a code, which reply or refusal, and its numbers. `relkvanu.h` names the numbers.
 use Rattle.std.specs.Prelude.{ℕ, length}
 use Rattle.ckpt_ids.specs.declared.reply.Choice.{Choice}
 use Rattle.ckpt_ids.specs.declared.reply.Choice.TheVariants as choice
@@ -36,7 +36,7 @@ is_closed = answer 3 0 0 0
 abbrev pub bad_argument : ℕ → Answer
 bad_argument what = answer 4 what 0 0
 
--- what a bad argument is
+-- the bad arguments
 abbrev pub already_open : ℕ
 already_open = 1
 

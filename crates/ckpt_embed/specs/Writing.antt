@@ -1,4 +1,4 @@
--- The lines that a C program has written: of a call, and of an opening.
+-- The lines that are written for a C program: the line of a call, and the lines of an opening.
 use Rattle.std.specs.Prelude.{◌≡◌, ℕ, nat_lt, if◌then◌else◌, List, [], ◌∷◌, ◌++◌, get_or, length, take, Option, Some, None, Result, Ok, Err}
 use Rattle.ckpt_ids.specs.declared.call.Call.{Call}
 use Rattle.ckpt_ids.specs.declared.call.Call.TheVariants as call
@@ -33,11 +33,11 @@ kinds c first second =
     ∷ Ok (call.Decline c.now c.number (subtask_in c)) ∷ Ok (call.Dispose c.number) ∷ restore_in c first ∷ Ok (call.Cancel c.now)
     ∷ Ok (call.Take c.number) ∷ Ok (call.Deleted c.number) ∷ Ok (call.Undeleted c.number) ∷ Ok (call.Show c.number) ∷ Ok (call.Count c.number) ∷ []
 
--- the call that the fields and the two lists give, or which argument is bad
+-- the call of the fields and the two lists, or which argument is bad
 unfoldable pub given : CallFields → List ℕ → List ℕ → Result Call ℕ
 given c first second = get_or (kinds c first second) c.kind (Err bad_kind)
 
--- what is told of a text where the buffer has so many places: how many bytes it has, unless no line may be as long
+-- the answer for a text if the buffer has this many places: how many bytes it has, unless it is too long for a line
 abbrev pub text_told : List ℕ → ℕ → Answer
 text_told text places =
     if nat_lt LONGEST_LINE (length text) then bad_line 1
@@ -63,7 +63,7 @@ newline = 10 ∷ []
 unfoldable pub opening_text : Opening → List ℕ
 opening_text o = config_text o.config ++ newline ++ job_text o.shape ++ newline ++ start_text o.start ++ newline
 
--- what is told of a text, unless an argument is bad
+-- the answer for a text, unless an argument is bad
 abbrev pub text_told_unless : Option ℕ → List ℕ → ℕ → Answer
 text_told_unless None text places = text_told text places
 text_told_unless (Some what) text places = bad_argument what
@@ -71,7 +71,7 @@ text_told_unless (Some what) text places = bad_argument what
 abbrev pub opening_told : Opening → ℕ → Answer
 opening_told o places = text_told_unless (bad_opening o) (opening_text o) places
 
--- each of the three lines is read as what it says
+-- each of the three lines is read as what was written
 abbrev pub OpeningReadsBack : Opening → Answer → Type 0
 OpeningReadsBack o answer =
     answer.code ≡ 0 → (reading (config_text o.config) ≡ Ok (line_of_config o.config))

@@ -1,4 +1,4 @@
-//! What a C program gets: an answer by value, made of a reply, a refusal or a fault.
+//! The answer that a C program gets by value: a reply, a refusal or a fault.
 
 ghost use Rattle.std.specs.Prelude.{◌≡◌};
 ghost use Rattle.ckpt_embed.specs.Lines.{bad_line};

@@ -86,7 +86,7 @@ fn with_files(reply: &Reply, files: &mut [u64]) -> Answer
     Answer::of_reply(reply)
 }
 
-/// Writes files to the front of a buffer that has a place for each.
+/// Writes files to the start of a buffer that has a place for each.
 pub(crate) fn write_files(list: &[FileId], files: &mut [u64])
     requires fits { length list.now ≤ length files.old }
     ensures { StandsInFront list.now files.old files.new }

@@ -12,7 +12,7 @@ use ckpt_core::{Core, CoreFault};
 use ckpt_ids::{Call, CheckpointId, FileId, Files, Shape, ShapeFault, SubtaskId, Target};
 use std::alloc::{AllocError, Global};
 
-/// What BAD_ARGUMENT says of a shape outside its limits.
+/// The bad argument of a shape outside its limits.
 pub(crate) const BAD_SHAPE: u32 = 3;
 
 /// Makes a call that has no list and no buffer.

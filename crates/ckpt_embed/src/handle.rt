@@ -80,10 +80,10 @@ impl Handle {
 /// Only the handle owns the coordinator, so it moves with the handle.
 unsafe impl Send for Handle {}
 
-/// Does nothing: it stands only where a value of the type may go to another thread.
+/// Does nothing. A value of the type `T` can only be here if it may go to another thread.
 fn may_cross<T: Send>() {}
 
-/// Does nothing: the check asks here that a handle may go to another thread.
+/// Does nothing. The check of this call proves that a handle may go to another thread.
 pub fn handle_may_cross() {
     may_cross::<Handle>();
 }

@@ -1,4 +1,4 @@
-//! A coordinator that is saved into a caller's buffer, and a handle that is opened with what was saved.
+//! Saves a coordinator into a caller's buffer, and opens a handle with an image.
 
 ghost use Rattle.std.specs.Prelude.{◌≡◌, ◌≢◌, None, Some, IfOk, IfErr, length, string_bytes};
 ghost use Rattle.core.specs.Str.{IsUtf8};
@@ -24,9 +24,10 @@ const SAVED: u32 = 45;
 
 const BAD_IMAGE: u32 = 7;
 
-/// Writes the image of the coordinator as JSON to the front of the buffer.
+/// Writes the image of the coordinator as JSON to the start of the buffer.
 ///
-/// Where the buffer is too short, it says how many bytes the image has: ask again.
+/// If the buffer is too short, the answer says how many bytes the image has: call again. Takes
+/// memory.
 pub fn save(alloc: Global, handle: &mut Handle, image: &mut [u8]) -> Answer
     ensures closed { StaysClosed handle.old.value handle.new.value result }
     ensures answered { (m : State) → handle.old.value ≡ Some m → IsSaveTold m (length image.old) result }
@@ -43,12 +44,12 @@ pub fn save(alloc: Global, handle: &mut Handle, image: &mut [u8]) -> Answer
     answer
 }
 
-/// Gives a closed handle the coordinator that an image tells: it answers every list of calls as the
-/// one that was saved.
+/// Opens the coordinator that an image describes in a closed handle. It answers every list of calls
+/// as the saved one would.
 ///
-/// The secret keys the maps of files, so that no choice of numbers makes calls slow; it changes no
-/// answer. A handle that is open stays as it is, and says so. One bad argument stands for bytes that
-/// are no image, and for an image of a state that no coordinator can be in.
+/// The secret keys the maps of files, so that no choice of numbers makes calls slow. It changes no
+/// answer. An open handle does not change, and the answer says so. One bad argument is returned for
+/// bytes that are not an image, and for an image of a state that no coordinator can be in.
 pub fn open_saved(alloc: Global, handle: &mut Handle, image: &[u8], secret: Secret) -> Answer
     ensures open { StaysOpen handle.old.value handle.new.value result }
     ensures opened { IsOpenedSaved handle.old.value handle.new.value image.now result }
@@ -88,7 +89,7 @@ fn text_of(alloc: Global, core: &Core) -> Result<String, AllocError>
     image_text(alloc, &image)
 }
 
-/// Writes a text to the front of the buffer, where it is long enough.
+/// Writes a text to the start of the buffer, if that is long enough.
 fn write_text(text: &str, image: &mut [u8]) -> Answer
     ensures told { result ≡ saved_told text.now (length image.old) }
     ensures front { result.code ≡ 0 → StandsInFront text.now image.old image.new }

@@ -1,4 +1,4 @@
-//! A line of a script as a call through a handle, and which line it is.
+//! Makes the call of a script's line through a handle, and says which kind of line it is.
 
 ghost use Rattle.std.specs.Prelude.{◌≡◌, ◌≢◌, ◌||◌, ◌≤◌, true, length, Ok, Err, Some, IfOk, IfErr};
 ghost use Rattle.ckpt_ids.specs.declared.call.Call.TheVariants as call;
@@ -167,7 +167,7 @@ fn of_line_fault(why: LineFault) -> Answer
     }
 }
 
-/// Returns which line of a script it is. Writes the numbers of a line that makes no call to the
+/// Returns the kind of a script's line. Writes the numbers of a line that makes no call to the
 /// start of the buffer, in the line's order.
 ///
 /// The last number of a `config` line is 1 for `keep` and 0 for `delete`. If the buffer has too few

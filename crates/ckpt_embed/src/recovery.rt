@@ -1,5 +1,5 @@
-//! What an engine asks through a handle when it recovers. None of it changes anything, and only the pins of a record
-//! and the taken files take memory.
+//! Reads for an engine that recovers. They change nothing, and only the pins of a record and the
+//! taken files take memory.
 
 ghost use Rattle.std.specs.Prelude.{◌≡◌, ◌≢◌, Some, IfOk, IsErr, find, length, nat_le, option_map, slice_get};
 ghost use Rattle.ckpt_ids.specs.Ascending.{ascending};
@@ -37,7 +37,7 @@ const WAITING: u32 = 53;
 
 const NONE_WAITS: u32 = 54;
 
-/// The first live record whose number is at least this one. It is searched by halves.
+/// The first live record whose number is at least this one. Makes a binary search.
 pub fn live_from(alloc: Global, handle: &mut Handle, id: u64) -> Answer
     ensures closed { StaysClosed handle.old.value handle.new.value result }
     ensures answered { (m : State) → handle.old.value ≡ Some m → result ≡ live_told (option_map live_of (find (λ r. nat_le id r.id) m.records)) }
@@ -51,7 +51,8 @@ pub fn live_from(alloc: Global, handle: &mut Handle, id: u64) -> Answer
     answer
 }
 
-/// What a number is. Any number has an answer. It is searched by halves.
+/// Whether the record with this number is pending, done or ended, or no record has had the number.
+/// Makes a binary search.
 pub fn standing(alloc: Global, handle: &mut Handle, id: u64) -> Answer
     ensures closed { StaysClosed handle.old.value handle.new.value result }
     ensures answered { (m : State) → handle.old.value ≡ Some m → result ≡ standing_told (standing m id) }
@@ -65,11 +66,11 @@ pub fn standing(alloc: Global, handle: &mut Handle, id: u64) -> Answer
     answer
 }
 
-/// Writes the files that this subtask acknowledged in a live record to the front of the buffer, in
+/// Writes the files that this subtask acknowledged in a live record to the start of the buffer, in
 /// ascending order.
 ///
-/// Where the buffer has too few places, it says how many it needs. The record and the subtask are
-/// searched by halves.
+/// If the buffer has too few places, the answer says how many it needs. Makes a binary search for
+/// the record and for the subtask.
 pub fn files_of(
     alloc: Global,
     handle: &mut Handle,
@@ -91,10 +92,10 @@ pub fn files_of(
     answer
 }
 
-/// Writes the files that a pending record holds beside those of its acknowledgements to the front of
-/// the buffer, in ascending order; none where no record of this number is pending.
+/// Writes the files that a pending record pins to the start of the buffer, in ascending order.
+/// Writes none if no record with this number is pending.
 ///
-/// Where the buffer has too few places, it says how many it needs. Takes memory.
+/// If the buffer has too few places, the answer says how many it needs. Takes memory.
 pub fn pins_of(alloc: Global, handle: &mut Handle, id: u64, files: &mut [u64]) -> Answer
     ensures closed { StaysClosed handle.old.value handle.new.value result }
     ensures answered { (m : State) → handle.old.value ≡ Some m → IsListTold (pins_in (pending_of m.records id)) (length files.old) result }
@@ -111,8 +112,8 @@ pub fn pins_of(alloc: Global, handle: &mut Handle, id: u64, files: &mut [u64]) -
     answer
 }
 
-/// The file at this place among those that wait for deletion, where the next to be fetched is the
-/// first. Takes constant time.
+/// The file at this place among those that wait for deletion. The first is fetched next. Takes
+/// constant time.
 pub fn waiting_file(alloc: Global, handle: &mut Handle, place: usize) -> Answer
     ensures closed { StaysClosed handle.old.value handle.new.value result }
     ensures answered { (m : State) → handle.old.value ≡ Some m → result ≡ waiting_told (slice_get m.waiting place) }
@@ -126,11 +127,11 @@ pub fn waiting_file(alloc: Global, handle: &mut Handle, place: usize) -> Answer
     answer
 }
 
-/// Writes the files that were fetched for deletion and are not yet reported to the front of the
+/// Writes the files that were fetched for deletion and are not yet reported to the start of the
 /// buffer, in ascending order.
 ///
-/// Where the buffer has too few places, it says how many it needs. Takes memory, and looks at each
-/// file of the outbox.
+/// If the buffer has too few places, the answer says how many it needs. Takes memory, and visits
+/// each file of the outbox.
 pub fn taken_files(alloc: Global, handle: &mut Handle, files: &mut [u64]) -> Answer
     ensures closed { StaysClosed handle.old.value handle.new.value result }
     ensures answered { (m : State) → handle.old.value ≡ Some m → IsListTold (ascending m.taken) (length files.old) result }
@@ -179,7 +180,7 @@ fn write_acked(core: &Core, id: u64, subtask: SubtaskId, files: &mut [u64]) -> A
     }
 }
 
-/// Writes files that were found, unless memory ran out.
+/// Writes the files of a read, unless it ran out of memory.
 fn write_found(found: Result<Files, AllocError>, files: &mut [u64]) -> Answer
     ensures told { IfOk found (λ list. result ≡ list_told list (length files.old)) }
     ensures front { IfOk found (λ list. BringsList list files.old files.new result) }
@@ -192,7 +193,7 @@ fn write_found(found: Result<Files, AllocError>, files: &mut [u64]) -> Answer
     }
 }
 
-/// Writes files to the front of the buffer, where it has a place for each.
+/// Writes files to the start of the buffer, if it has a place for each.
 fn write_list(list: &[FileId], files: &mut [u64]) -> Answer
     ensures told { result ≡ list_told list.now (length files.old) }
     ensures front { BringsList list.now files.old files.new result }

@@ -1,4 +1,5 @@
-//! Lines of a script, written into a caller's buffer: of a call, and of an opening.
+//! Writes lines of a script into a caller's buffer: the line of a call, and the lines of an
+//! opening.
 
 ghost use Rattle.std.specs.Prelude.{◌≡◌, ◌≢◌, ◌≤◌, None, Ok, Err, IsOk, IfOk, IfErr, length, string_bytes};
 ghost use Rattle.ckpt_ids.specs.declared.call.Call.{Call as Asked};
@@ -48,27 +49,30 @@ const BAD_KIND: u32 = 6;
 
 const WRITTEN: u32 = 44;
 
-/// A call by its kind. A field that the kind has no use for is not read.
+/// A call. Fields that its kind does not use are not read.
 #[repr(C)]
 #[derive(Clone, Copy, Debug, PartialEq, Eq)]
 pub struct CallFields {
     /// 1 to 12: tick, savepoint, ack, decline, dispose, restore, cancel, take, deleted, undeleted, show,
     /// count.
     pub kind: u32,
-    /// The subtask of an ack or a decline.
+    /// The vertex of the subtask of an ack or a decline.
     pub vertex: u16,
+    /// The index of that subtask.
     pub index: u16,
-    /// The moment, in milliseconds, of a call that has one.
+    /// The moment in milliseconds, if the kind has one.
     pub now: u64,
-    /// The number of the record or the file; of a restore the savepoint, or 0 for the latest; of a take
-    /// how many files.
+    /// The number of the record or file. For a restore the savepoint, or 0 for the latest record.
+    /// For a take the most files.
     pub number: u64,
 }
 
-/// Writes the line of a call to the front of the buffer, without its newline, where it is long enough.
+/// Writes the line of a call to the start of the buffer, without its newline, if the buffer is long
+/// enough.
 ///
-/// The lists are the fresh and the reused files of an ack, in any order; the first is the new shape of
-/// a restore, or empty. A line that would be longer than a line may be is a fault. Takes memory.
+/// `first` and `second` are the fresh and the reused files of an ack, in any order. For a restore
+/// `first` is the new shape, or empty. The answer is a fault if the line would be too long. Takes
+/// memory.
 pub fn call_line(
     alloc: Global,
     fields: &CallFields,
@@ -93,7 +97,7 @@ pub fn call_line(
     }
 }
 
-/// The call that the fields and the lists give, or what is answered where they give none.
+/// The call of the fields and the lists, or the answer if they give none.
 #[tactic(auto, unfolding(crate::specs::Writing::given))]
 fn call_of(
     alloc: Global,
@@ -139,10 +143,10 @@ fn call_of(
     }
 }
 
-/// Writes the lines `config`, `job` and `start` of an opening to the front of the buffer, each with its
-/// newline, where it is long enough.
+/// Writes the lines `config`, `job` and `start` of an opening to the start of the buffer, each with
+/// its newline, if the buffer is long enough.
 ///
-/// Answers what [`open`](crate::open) answers to arguments outside their limits. Takes memory.
+/// Returns what [`open`](crate::open) returns for arguments outside their limits. Takes memory.
 pub fn opening_lines(
     alloc: Global,
     settings: &Settings,
@@ -200,7 +204,8 @@ fn joined(alloc: Global, config: &Config, shape: &Shape, now: u64) -> Result<Str
     Ok(text)
 }
 
-/// Writes a text to the front of the buffer, where it is long enough and no longer than a line may be.
+/// Writes a text to the start of the buffer, if the buffer is long enough and the text is no longer
+/// than a line may be.
 fn write_text(text: &str, line: &mut [u8]) -> Answer
     ensures told { result ≡ text_told text.now (length line.old) }
     ensures front { result.code ≡ 0 → StandsInFront text.now line.old line.new }

@@ -1,12 +1,12 @@
 //! Hashing of numbers under two secret words, for maps whose keys come from outside.
 //!
-//! Whoever knows how a map hashes can choose keys that all collide in one place of its table. Then
-//! each look-up visits all of them. A [`Secret`] makes the places depend on two words that nobody
-//! else knows. It is a hash builder: `HashMap::with_hasher(alloc, secret)`.
+//! Somebody who knows how a map hashes can choose keys that all collide in one place of its table.
+//! Then each look-up visits all of them. A [`Secret`] makes the places depend on two words that
+//! nobody else knows. It is a hash builder: `HashMap::with_hasher(alloc, secret)`.
 //!
-//! The hash of a number is its xor with the first word, multiplied by the second word, which is
-//! made odd. The two halves of the product are then joined by xor. That costs as much as the
-//! standard hasher. It is not a cryptographic hash: use it only where no hash is shown to anybody.
+//! To hash a number, xor it with the first word, and multiply it by the second word, which is made
+//! odd. Then xor the two halves of the product. That costs as much as the standard hasher. It is
+//! not a cryptographic hash: use it only if no hash is shown to anybody.
 #![tactic(auto)]
 
 pub mod hasher;

@@ -20,9 +20,9 @@ pub struct Secret {
 impl Secret {
     /// A secret of two words. Take them from a source of random numbers.
     ///
-    /// The multiplier is odd, whatever the second word is. With an even one numbers would lose
-    /// their greatest bits, and with 0 all would hash to 0. So two second words that differ only in
-    /// the lowest bit make the same secret.
+    /// The multiplier is made odd. With an even one numbers would lose their greatest bits, and
+    /// with 0 all would hash to 0. So two second words that differ only in the lowest bit make the
+    /// same secret.
     pub fn of(first: u64, second: u64) -> Secret
         ensures { result ≡ secret_of first second }
     {
@@ -32,7 +32,8 @@ impl Secret {
         }
     }
 
-    /// The same words in each run. Anybody can know them, so use them for keys that nobody chooses.
+    /// The same words in each run. Anybody can know them, so use them only for keys that nobody
+    /// chooses.
     pub fn fixed() -> Secret
         ensures { result ≡ secret_of 0 0 }
     {

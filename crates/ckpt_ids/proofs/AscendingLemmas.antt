@@ -96,7 +96,7 @@ ascending-from_sort xs ys p s =
     same_from_times ys (ascending xs) (IsAscending-from_sorted ys s) (IsAscending-ascending xs)
     (λ z. sum_by-IsPermutation (λ x. cond (eqb x z) 1 0) xs ys p ∙ sym (times-ascending z xs))
 
--- what is in this order stays as it is
+-- an ascending list is its own ascending order
 pub ascending_already : (xs : List ℕ) → IsAscending xs → xs ≡ ascending xs
 ascending_already xs a = same_from_times xs (ascending xs) a (IsAscending-ascending xs) (λ z. sym (times-ascending z xs))
 

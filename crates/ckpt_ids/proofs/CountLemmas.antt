@@ -6,7 +6,7 @@ use Rattle.std.proofs.lemmas.List.Sums.{sum_by-append, sum_by-cons}
 use Rattle.ckpt_ids.specs.Counting.{times}
 use Rattle.ckpt_ids.specs.Ordered.{IsIn, put, in_order}
 
--- one more element in front
+-- one more element at the start
 pub count_by-cons : {X : Type 0} (p : X → Bool) (x : X) (xs : List X) → count_by p (x ∷ xs) ≡ cond (p x) 1 0 + count_by p xs
 count_by-cons p x xs = sum_by-cons (λ y. cond (p y) 1 0) x xs
 
@@ -24,12 +24,12 @@ count_by_no p x xs e =
     let here : one (p x) ≡ 0 = ap one e in
     omega (arith, count_by-cons p x xs)
 
--- where none passes
+-- the count is 0 if no element passes
 pub count_by-none : {X : Type 0} (p : X → Bool) (xs : List X) → ((x : X) → IsIn x xs → p x ≡ false) → count_by p xs ≡ 0
 count_by-none p [] fails = refl
 count_by-none p (x ∷ xs) fails = count_by_no p x xs (fails x (inl refl)) ∙ count_by-none p xs (λ y h. fails y (inr h))
 
--- where an element passes, the count is above 0
+-- the count is above 0 if an element passes
 pub counted-from_IsIn : {X : Type 0} (p : X → Bool) (x : X) (xs : List X) → IsIn x xs → p x ≡ true → 0 < count_by p xs
 counted-from_IsIn p x [] h e = absurd h
 counted-from_IsIn p x (y ∷ xs) (inl same) e = omega (arith, count_by_yes p y xs (ap p (sym same) ∙ e))
@@ -84,7 +84,7 @@ IsIn-from_times f xs h =
     let P : ℕ → Type 0 = λ x. IsIn x xs in
     subst P (eqb-true q.0 f q.2) q.1
 
--- a filter that is told by the number keeps all of a number or none
+-- a filter whose test depends on the number keeps all occurrences of a number, or none
 pub times-filter : (p : ℕ → Bool) (z : ℕ) (xs : List ℕ) → times z (filter p xs) ≡ cond (p z) (times z xs) 0
 times-filter p z [] = cond_both (p z) 0 0 (λ n. 0 ≡ n) (λ _. refl) (λ _. refl)
 times-filter p z (x ∷ xs) =

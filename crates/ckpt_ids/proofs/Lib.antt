@@ -1,3 +1,4 @@
+-- The lemmas that the proofs use.
 pub mod AscendingLemmas
 pub mod ComparisonLemmas
 pub mod CountLemmas

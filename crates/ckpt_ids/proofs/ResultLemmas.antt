@@ -1,14 +1,14 @@
--- What follows of a result from a test of it.
+-- What follows for a result from a test of it.
 use Rattle.std.proofs.Common.{Result, Ok, Err, OnOk, OnErr, ◌≡◌, true, false, refl}
 use Rattle.std.proofs.lemmas.Bool.{both_ways}
 use Rattle.std.specs.Result.{is_err}
 
--- what holds of an `Ok` holds where there is no error
+-- a fact that is known if there is no error holds for the `Ok`
 pub on_ok : {T E : Type 0} (r : Result T E) (P : Type 0) → is_err r ≡ false → OnOk r P → P
 on_ok (Ok x) P e h = h
 on_ok (Err x) P e h = absurd (both_ways true e refl)
 
--- a fact that is known holds of each error
+-- a known fact holds for each error
 pub on_each_error : {T E : Type 0} (r : Result T E) (P : Type 0) → P → OnErr r P
 on_each_error (Ok x) P h = tt
 on_each_error (Err x) P h = h

@@ -1,4 +1,4 @@
--- The subtasks of a shape: how many there are, which one stands at a place, and whether one is there.
+-- The subtasks of a shape: how many there are, which one is at a place, and whether one is there.
 use Rattle.std.proofs.Common.{◌≡◌, ℕ, zero, suc, ◌+◌, ◌-◌, ◌<◌, ◌≤◌, Bool, true, ltb, leb, eqb, List, [], ◌∷◌, ◌++◌, map, sum, length, get_or, refl, sym, ap, subst, ◌∙◌, ◌⊎◌, ⊎_elim, arith, length-append, ◌&&◌, ◌||◌, drop, Some}
 use Rattle.std.specs.List.{list_any, range_with_len}
 use Rattle.std.specs.Prelude.{slice_get}
@@ -53,7 +53,7 @@ subtask_later vertex p shape place h =
     let e : place ≡ length here + (place - p) = omega arith in
     ap (slice_get (subtasks_from vertex (p ∷ shape))) e ∙ slice_get-append_right here (subtasks_from (vertex + 1) shape) (place - p)
 
--- a test of a number in a range, one further down
+-- whether a number is in a range, with the range moved down by one
 range_step : (x n from p : ℕ) (same : Bool) → ((same && eqb x from) || (same && (leb (from + 1) x && ltb x (from + 1 + p)))) ≡ (same && (leb from x && ltb x (from + suc p)))
 range_step x n from p same = grind (arith, nat_tests)
 

@@ -10,7 +10,7 @@ IsAscending = IsInOrder nat_le
 abbrev pub IsAscendingSet : List ℕ → Type 0
 IsAscendingSet = IsInOrder nat_lt
 
--- the same numbers in ascending order; one that stands twice stays twice
+-- the same numbers in ascending order; a number that is there twice stays twice
 abbrev pub ascending : List ℕ → List ℕ
 ascending = in_order nat_lt
 

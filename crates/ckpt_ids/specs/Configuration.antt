@@ -23,7 +23,7 @@ abbrev pub configured : (interval pause at_once timeout tolerable retained : ℕ
 configured interval pause at_once timeout tolerable retained keep_on_cancel =
     record { interval = interval; pause = pause; at_once = at_once; timeout = timeout; tolerable = tolerable; retained = retained; keep_on_cancel = keep_on_cancel }
 
--- the limits are this project's own
+-- whether the values are within the limits, which are this project's own
 pub record IsWithinLimits (c : Configuration) : Type 0 where
   pub interval_from : 10 ≤ c.interval
   pub interval_to : c.interval ≤ LONGEST_DURATION

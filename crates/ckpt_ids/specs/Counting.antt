@@ -1,4 +1,4 @@
--- How often a number stands in a list.
+-- How often a number occurs in a list.
 use Rattle.std.specs.Prelude.{ℕ, ◌==◌, List, count_by}
 
 abbrev pub times : ℕ → List ℕ → ℕ

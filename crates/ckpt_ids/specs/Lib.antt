@@ -1,3 +1,4 @@
+-- The definitions that contracts cite.
 pub mod Acknowledged
 pub mod Ascending
 pub mod Configuration

@@ -6,7 +6,7 @@ abbrev pub IsIn : {X : Type 0} → X → List X → Type 0
 IsIn x [] = ⊥
 IsIn x (y ∷ ys) = (x ≡ y) ⊎ IsIn x ys
 
--- no element stands twice
+-- no element occurs twice
 abbrev pub AreDistinct : {X : Type 0} → List X → Type 0
 AreDistinct [] = Unit {0}
 AreDistinct (x ∷ xs) = (IsIn x xs → ⊥) × AreDistinct xs
@@ -21,17 +21,17 @@ abbrev pub IsInOrder : {X : Type 0} → (X → X → Bool) → List X → Type 0
 IsInOrder before [] = Unit {0}
 IsInOrder before (x ∷ xs) = ComesBefore before x xs × IsInOrder before xs
 
--- x goes before the first that does not come before it
+-- the list with x before the first element that does not come before it
 abbrev pub put : {X : Type 0} → (X → X → Bool) → X → List X → List X
 put before x [] = x ∷ []
 put before x (y ∷ ys) = if before y x then y ∷ put before x ys else x ∷ y ∷ ys
 
--- the same, unless it is there
+-- the same, unless x is in the list already
 abbrev pub put_once : {X : Type 0} → (X → X → Bool) → X → List X → List X
 put_once before x [] = x ∷ []
 put_once before x (y ∷ ys) = if before y x then y ∷ put_once before x ys else (if before x y then x ∷ y ∷ ys else y ∷ ys)
 
--- the same elements in order; one that stands twice stays twice
+-- the same elements in order; an element that occurs twice stays twice
 abbrev pub in_order : {X : Type 0} → (X → X → Bool) → List X → List X
 in_order before [] = []
 in_order before (x ∷ xs) = put before x (in_order before xs)

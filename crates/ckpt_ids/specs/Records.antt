@@ -1,4 +1,4 @@
--- Checkpoints and savepoints as one flat list of records, and what is found in it by filtering.
+-- Checkpoints and savepoints as one flat list of records, and what filters find in it.
 use Rattle.std.specs.Prelude.{◌≡◌, ℕ, Bool, true, false, not, ◌&&◌, ◌||◌, nat_lt, ◌==◌, List, ◌++◌, map, filter, flat_map, count_by}
 use Rattle.std.specs.List.{list_any}
 use Rattle.ckpt_ids.specs.declared.subtask.SubtaskId.{SubtaskId}
@@ -19,7 +19,7 @@ pub record Record : Type 0 where
   pub started : ℕ
   -- the acknowledgements, in subtask order
   pub acks : List Acked
-  -- the files that it holds until it ends, beside those of its acknowledgements
+  -- the files that the record uses until it ends, beside those of its acknowledgements
   pub pins : List ℕ
 
 -- the record with one acknowledgement more

@@ -1,4 +1,4 @@
--- How a refusal is told.
+-- The text of a refusal.
 use Rattle.std.specs.Prelude.{ℕ, List, ◌++◌, codes, decimal}
 use Rattle.ckpt_ids.specs.declared.reply.Refusal.{Refusal}
 use Rattle.ckpt_ids.specs.declared.reply.Refusal.TheVariants as refusal

@@ -8,8 +8,8 @@ use crate::subtask::SubtaskId;
 /// What a job is restored from.
 #[derive(Clone, Copy, Debug, PartialEq, Eq, Hash)]
 pub enum Target {
-    /// The latest completed checkpoint, else the savepoint that the job was rolled back to, else
-    /// nothing.
+    /// The latest completed checkpoint, otherwise the savepoint that the job was rolled back to,
+    /// otherwise nothing.
     Latest,
     /// This completed savepoint. The job's checkpoints are dropped.
     Savepoint(CheckpointId),

@@ -1,4 +1,4 @@
--- Acknowledgements of which each is of a subtask before that of the next.
+-- Acknowledgements in which the subtask of each comes before that of the next.
 use Rattle.std.proofs.Common.{◌≡◌, ℕ, zero, suc, ◌<◌, Bool, true, false, ◌&&◌, List, [], ◌∷◌, length, get_or, refl, sym, ap, subst, arith, add-one}
 use Rattle.std.specs.List.{IsAllAdjacentAnswer}
 use Rattle.std.proofs.lemmas.Bool.{and_from, and_parts, and_right}

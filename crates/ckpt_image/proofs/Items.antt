@@ -6,7 +6,7 @@ use Rattle.serde_json.specs.View.{items_view}
 use Rattle.serde_json.specs.declared.value.Value.{Value}
 use Rattle.ckpt_image.specs.Members.{each}
 
--- with these in front
+-- with these at the start
 abbrev pub with_front : {X : Type 0} → List X → Option (List X) → Option (List X)
 with_front xs rest = option_map (λ ys. xs ++ ys) rest
 

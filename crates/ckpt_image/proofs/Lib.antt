@@ -1,3 +1,4 @@
+-- The lemmas that the proofs use.
 pub mod AckOrder
 pub mod Items
 pub mod OutcomeLemmas

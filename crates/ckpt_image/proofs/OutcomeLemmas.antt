@@ -1,4 +1,4 @@
--- What holds anyway holds where a call succeeds.
+-- A fact that holds in any case holds if a call succeeds.
 use Rattle.std.specs.Prelude.{OnOk, Result, Ok, Err}
 
 pub on_any_ok : {T E : Type 0} (r : Result T E) (P : Type 0) → P → OnOk r P

@@ -1,4 +1,4 @@
--- What is written of a state has no float, so its text is known, and is not deep, so it is read.
+-- The JSON of a state has no float, so its text is known. It is not deep, so it is read.
 use Rattle.std.proofs.Common.{◌≡◌, ℕ, suc, ◌≤◌, false, List, [], ◌∷◌, map, refl, arith, None, Some, Option}
 use Rattle.std.specs.Prelude.{max}
 use Rattle.ckpt_ids.specs.declared.ack.Acked.{Acked}

@@ -1,4 +1,4 @@
--- What is written of a state is read as the state.
+-- The text that is written for a state is read as that state.
 use Rattle.std.proofs.Common.{◌≡◌, ℕ, ◌<◌, ◌^◌, Bool, true, false, List, [], ◌∷◌, map, refl, sym, ap, ◌∙◌, inl, inr, Some, None, Option}
 use Rattle.std.specs.Prelude.{length, nat_le, nat_lt, option_and_then, sum}
 use Rattle.std.specs.Option.{option_map}

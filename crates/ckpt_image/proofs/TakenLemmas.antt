@@ -1,4 +1,4 @@
--- What holds of the first elements of a list, and of the next, holds of one more.
+-- A fact about the first elements of a list and about the next holds for one element more.
 use Rattle.std.proofs.Common.{◌≡◌, ℕ, ◌+◌, ◌<◌, ◌≤◌, List, [], ◌∷◌, ◌++◌, take, length, get_or, map, sym, ap, subst, ◌∙◌, ⊎_elim, inl, inr}
 use Rattle.std.proofs.lemmas.List.{map_push, take_all, take_more}
 use Rattle.ckpt_ids.specs.Ordered.{IsIn}

@@ -1,4 +1,4 @@
--- What the types of an image keep: a state that fits reads back from what is written of it.
+-- What the types of an image guarantee: a state that fits is written as a text that reads back as the state.
 use Rattle.std.specs.Prelude.{◌^◌, ◌<◌}
 use Rattle.ckpt_ids.specs.declared.ack.Acked.{Acked}
 use Rattle.ckpt_ids.specs.Acknowledged.{AreInSubtaskOrder}

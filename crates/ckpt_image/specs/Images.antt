@@ -39,7 +39,8 @@ image_of d =
 unfoldable pub image_read : List ℕ → Option State
 image_read text = option_and_then image_of (read text)
 
--- A function that reads a JSON value gave what is read, or `NoImage` where that is none, unless memory ran out.
+-- A function that reads a JSON value returned the value that the definition reads, or `NoImage` if there is none,
+-- unless memory ran out.
 abbrev pub Reads : {X Y : Type 0} → (X → Y) → Result X TextFault → Option Y → Type 0
 Reads shown (Ok x) read = read ≡ Some (shown x)
 Reads shown (Err why) read = (why ≢ NotJson) × (why ≢ Memory → read ≡ None)

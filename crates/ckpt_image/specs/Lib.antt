@@ -1,3 +1,4 @@
+-- The definitions that contracts cite.
 pub mod Fits
 pub mod Images
 pub mod Members

@@ -1,5 +1,5 @@
--- How the members of an image are read: each by its key, so their order does not matter, and keys that are not named here
--- are passed over. What is not as it must be reads as none. The limits are those that `Config`, `Shape` and `Acks` keep.
+-- How the members of an image are read: each by its key, so their order does not matter, and other keys are ignored. A
+-- member that is not as it must be reads as none. The limits are those that `Config`, `Shape` and `Acks` keep.
 use Rattle.std.specs.Prelude.{ℕ, ◌^◌, ◌==◌, Bool, true, false, ◌&&◌, nat_lt, List, [], ◌∷◌, codes, bytes_eq, if◌then◌else◌, is_some, Option, Some, None, option_map, option_and_then}
 use Rattle.ckpt_ids.specs.declared.ack.Acked.{Acked}
 use Rattle.ckpt_ids.specs.declared.numbers.Kind.{Kind}
@@ -21,7 +21,7 @@ use Rattle.serde_json.specs.Find.{as_array, as_bool, as_null, as_number, as_str,
 
 -- ---- any value
 
--- the value where it passes the test
+-- the value, if it passes the test
 abbrev pub only : {X : Type 0} → (X → Bool) → X → Option X
 only test x = if test x then Some x else None
 
@@ -73,7 +73,7 @@ mode_of d = option_and_then mode_named (as_str d)
 
 -- ---- records
 
--- files of a set: they are taken in ascending order, in whatever order they stand
+-- the files of a set: they are sorted, in whatever order they are
 unfoldable pub files_of : Data → Option (List ℕ)
 files_of d = option_map ascending (list_of number_of d)
 
@@ -87,7 +87,7 @@ ack_of d =
     with_key (codes "vertex") (number_below (2 ^ 16)) d (λ vertex.
     Some (record { subtask = record { vertex = vertex; index = index }; files = files }))))
 
--- each acknowledgement is of a subtask before that of the next
+-- the subtask of each acknowledgement comes before that of the next
 abbrev pub are_in_subtask_order : List Acked → Bool
 are_in_subtask_order [] = true
 are_in_subtask_order (a ∷ []) = true
@@ -144,7 +144,7 @@ clock_of d =
     with_key (codes "latest") number_of d (λ latest.
     Some (record { completed = completed; due = due; latest = latest }))))
 
--- the files that wait stand in their order
+-- the waiting files keep their order
 unfoldable pub outbox_of : Data → Option Outbox
 outbox_of d =
     with_key (codes "taken") files_of d (λ taken.

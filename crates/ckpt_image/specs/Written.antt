@@ -1,5 +1,5 @@
--- What is written of a state: one JSON object. The members of each object stand in the order of their keys, since
--- `serde_json` keeps them so. Of two equal states the same is written.
+-- The JSON object that is written for a state. The members of each object are in the order of their keys, because
+-- `serde_json` keeps them that way. Two equal states have the same text.
 use Rattle.std.specs.Prelude.{ℕ, List, [], ◌∷◌, ◌++◌, map, codes, Option, Some, None}
 use Rattle.ckpt_ids.specs.declared.ack.Acked.{Acked}
 use Rattle.ckpt_ids.specs.Configuration.{Configuration}

@@ -1,7 +1,7 @@
 //! The text of an image of a coordinator: one JSON object.
 //!
-//! [`image_text`] writes it and [`parse_image`] reads it. `specs/Written.antt` says what is written,
-//! `specs/Members.antt` and `specs/Images.antt` what a text is read as.
+//! [`image_text`] writes it and [`parse_image`] reads it. `specs/Written.antt` defines what is
+//! written. `specs/Members.antt` and `specs/Images.antt` define how a text is read.
 #![tactic(auto)]
 
 mod fault;

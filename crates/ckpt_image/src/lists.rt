@@ -20,7 +20,7 @@ pub(crate) fn files(alloc: Global, value: &Value) -> Result<Files, TextFault>
     Ok(Files::of(file_list(alloc, value)?))
 }
 
-/// The files in the order in which they stand.
+/// The files, in their order in the array.
 pub(crate) fn handed(alloc: Global, value: &Value) -> Result<Handed, TextFault>
     ensures { Reads (λ files. files) result (list_of number_of (view value.now)) }
 {

@@ -1,4 +1,4 @@
-//! What a text is an image of.
+//! Reads the text of an image.
 
 ghost use Rattle.std.specs.Prelude.{◌≡◌, ◌≢◌, Some, None, Err, IfOk, IfErr};
 ghost use Rattle.ckpt_core.specs.Images.{state_in};
@@ -19,10 +19,10 @@ use ckpt_ids::CheckpointId;
 use serde_json::{Error, Value};
 use std::alloc::Global;
 
-/// The image that a text tells, as [`crate::image_text`] writes it.
+/// The image that a text describes, as [`crate::image_text`] writes it.
 ///
-/// Answers [`TextFault::NotJson`] only where the text is no JSON, [`TextFault::NoImage`] only where it is JSON
-/// that tells no image, and [`TextFault::Memory`] where memory runs out.
+/// Returns [`TextFault::NotJson`] only if the text is not JSON, [`TextFault::NoImage`] only if it
+/// is JSON that does not describe an image, and [`TextFault::Memory`] if memory runs out.
 #[tactic(auto, unfolding(crate::specs::Images::image_read))]
 pub fn parse_image(alloc: Global, text: &str) -> Result<Image, TextFault>
     ensures ok { IfOk result (λ image. image_read text.now ≡ Some (state_in image)) }

@@ -16,7 +16,7 @@ use ckpt_ids::{Acked, Acks, CheckpointId, Metadata, SubtaskId};
 use serde_json::Value;
 use std::alloc::Global;
 
-/// The live records, in the order in which they stand.
+/// The live records, in their order in the array.
 pub(crate) fn records(alloc: Global, value: &Value) -> Result<Vec<Saved>, TextFault>
     ensures { Reads (λ records. map record_in records.items) result (list_of saved_of (view value.now)) }
 {
@@ -84,7 +84,7 @@ fn ack(alloc: Global, value: &Value) -> Result<Acked, TextFault>
     Ok(Acked { subtask, files })
 }
 
-/// Whether each acknowledgement is of a subtask before that of the next.
+/// Whether the subtask of each acknowledgement comes before that of the next.
 fn are_in_order(acks: &[Acked]) -> bool
     ensures value { result ≡ are_in_subtask_order acks.now }
     ensures order { IsTrue result → AreInSubtaskOrder acks.now }

@@ -23,9 +23,9 @@ use ckpt_texts::metadata::{files_value, kind_name, shape_value, state_name};
 use serde_json::{Map, Value, json, put};
 use std::alloc::{AllocError, Global};
 
-/// The image as JSON without spaces, and without a newline.
+/// The image as JSON, without spaces and without a newline.
 ///
-/// The keys stand in the order of their bytes. Fails only for want of memory.
+/// The keys are in the order of their bytes. Fails only if memory runs out.
 #[tactic(auto, unfolding(crate::specs::Written::image_bytes))]
 pub fn image_text(alloc: Global, image: &Image) -> Result<String, AllocError>
     ensures text { IfOk result (λ text. string_bytes text ≡ image_bytes (state_in image.now)) }
@@ -72,7 +72,7 @@ fn put_later(
     put(object, alloc, "opening", opening_value(alloc, image)?)
 }
 
-/// Puts the members up to `next`, from the last to the first, in front of the others.
+/// Puts the members up to `next`, from the last to the first, before the others.
 fn put_early(
     object: &mut Map<String, Value>,
     alloc: Global,
@@ -134,7 +134,7 @@ fn outbox_value(alloc: Global, image: &Image) -> Result<Value, AllocError>
     ensures taken { OnOk result (IsAscending image.now.taken) }
 {
     let taken = files_value(alloc, &image.taken)?;
-    // Tells that they stand in ascending order.
+    // The contract of this read says that they are in ascending order.
     let _ = image.taken.as_slice();
     let waiting = handed_value(alloc, &image.waiting)?;
     json!(in alloc; {"taken": taken, "waiting": waiting})
@@ -168,7 +168,7 @@ fn record_value(alloc: Global, saved: &Saved) -> Result<Value, AllocError>
 {
     let acks = acks_value(alloc, &saved.metadata.acks)?;
     let pins = files_value(alloc, &saved.pins)?;
-    // Tells that they stand in ascending order.
+    // The contract of this read says that they are in ascending order.
     let _ = saved.pins.as_slice();
     let shape = shape_value(alloc, &saved.metadata.shape)?;
     // Tells that it is a shape.
@@ -205,7 +205,7 @@ fn ack_value(alloc: Global, acked: &Acked) -> Result<Value, AllocError>
     ensures fits { OnOk result (AckFits acked.now) }
 {
     let files = files_value(alloc, &acked.files)?;
-    // Tells that they stand in ascending order.
+    // The contract of this read says that they are in ascending order.
     let _ = acked.files.as_slice();
     let index = acked.subtask.index;
     let vertex = acked.subtask.vertex;

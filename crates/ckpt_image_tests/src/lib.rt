@@ -1,6 +1,6 @@
-//! Tests of the text of an image: what is read of it, and which texts are refused.
+//! Tests of the text of an image: how it is read, and which texts are refused.
 //!
-//! `docs/DECISIONS.md` says why they stand apart from the crate that they test.
+//! `docs/DECISIONS.md` says why these tests are not in the crate that they test.
 #![tactic(auto)]
 
 #[cfg(test)]

@@ -27,10 +27,10 @@ const IMAGE: &str = r#"{"base":1,
 "shape":[1,7],
 "version":1}"#;
 
-/// How many members the objects of that text have, all together.
+/// How many members the objects of that text have together.
 const MEMBERS: usize = 46;
 
-/// The same image as a job has that was just opened.
+/// The same for a job that was just opened.
 const OPENED: &str = r#"
  { "version" : 1, "shape" : [ 1 ], "records" : [ ], "remark" : "no member of an image",
    "outbox" : { "waiting" : [ ], "taken" : [ ] },
@@ -40,7 +40,7 @@ const OPENED: &str = r#"
    "clock" : { "latest" : 0, "due" : 10, "completed" : null }, "base" : null }
 "#;
 
-/// What the text is refused for, or `None` where it is read. Fails where memory runs out.
+/// Why the text is refused, or `None` if it is read. Fails if memory runs out.
 fn refusal(alloc: Global, text: &str) -> Result<Option<TextFault>, TextFault> {
     match parse_image(alloc, text) {
         Ok(_) => Ok(None),
@@ -190,7 +190,7 @@ fn refuses_an_image_that_lacks_a_member(rt: HostRuntime) -> Result<(), Fail> {
     Ok(())
 }
 
-/// The text with `other` in the place of `part`.
+/// The text with `other` in place of `part`.
 fn with(alloc: Global, part: &str, other: &str) -> Result<String, AllocError> {
     let mut text = String::new(alloc);
     if let Some((front, back)) = IMAGE.split_once(part) {

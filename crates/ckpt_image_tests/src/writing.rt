@@ -1,4 +1,5 @@
-//! What is written of a job that ran, and what is made of it again. The job and its text are those of docs/IMAGE.md.
+//! The text that is written for a job that ran, and the coordinator that is made from it. The job
+//! and its text are those of docs/IMAGE.md.
 use ckpt_core::{Core, Secret};
 use ckpt_ids::{Call, CheckpointId, Config, FileId, Files, Shape, SubtaskId};
 use ckpt_image::{image_text, parse_image};
@@ -6,7 +7,7 @@ use std::alloc::{AllocError, Global};
 use std::process::Abort;
 use std::test::Fail;
 
-/// The text, but for the newlines and the spaces that begin a line.
+/// The text without the newlines and the spaces at the beginnings of lines.
 const WRITTEN: &str = r#"
 {"base":null,
  "clock":{"completed":2020,"due":4000,"latest":3010},

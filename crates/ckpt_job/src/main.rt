@@ -1,8 +1,8 @@
 //! Runs a job script: reads it on standard input, and writes what its lines print to standard
 //! output.
 //!
-//! Ends with status 0; with 1 where a line had a fault; with 2 where the run ended before the end
-//! of the script, and then standard error says why.
+//! The status is 0; 1 if a line had a fault; 2 if the run ended before the end of the script. For
+//! status 2 standard error says why.
 #![tactic(auto)]
 
 use ckpt_script::{RunFault, Secret, run_keyed};
@@ -25,15 +25,15 @@ fn main(rt: HostRuntime) -> ExitCode {
     match result {
         Ok(summary) => ExitCode::from(u8::from(summary.faults > 0)),
         Err(fault) => {
-            // Where standard error fails too, the status alone tells.
+            // If standard error fails too, only the status says how the run ended.
             let _ = eprintln!(rt; "fault: {fault}");
             ExitCode::from(CUT)
         }
     }
 }
 
-/// A secret that whoever writes the script can't know, so no choice of file numbers makes a line
-/// slow. Fails where the system gives no random numbers.
+/// A secret that the author of a script can't know, so no choice of file numbers makes a line slow.
+/// Fails if the system gives no random numbers.
 fn secret(rt: &impl RandomSource) -> io::Result<Secret> {
     Ok(Secret::of(word(rt)?, word(rt)?))
 }

@@ -4,7 +4,7 @@ use Rattle.std.proofs.lemmas.List.{append-nil}
 use Rattle.ckpt_lines.specs.declared.fault.LineFault.{LineFault}
 use Rattle.ckpt_lines.specs.Reading.{◌>>=◌, each}
 
--- what was read before, and what is still read
+-- what was read before, and then what is still to be read
 abbrev pub with_front : {X : Type 0} → List X → Result (List X) LineFault → Result (List X) LineFault
 with_front front read = read >>= λ others. Ok (front ++ others)
 

@@ -21,7 +21,7 @@ first text = take (first_length text) text
 first-length : (text : List ℕ) → length (first text) ≡ first_length text
 first-length text = length-take-le (first_length text) text (prefix_len-le-length _ text)
 
--- so many bytes of the first word were read, and spell the number
+-- this many bytes of the first word were read, and spell the number
 pub record Reads (text : List ℕ) (place number : ℕ) : Type 0 where
   pub within : place ≤ first_length text
   pub spells : Spells (first text) place number
@@ -32,7 +32,7 @@ Reads-none text = record { within = omega arith; spells = Spells-none (first tex
 pub other_byte : (byte : ℕ) → (byte ≡ 32 → ⊥) → is_space byte ≡ false
 other_byte byte not = grind (arith, nat_tests)
 
--- a byte that is no space stands in the word
+-- a byte that is no space is in the word
 inside : (text : List ℕ) (place : ℕ) → place ≤ first_length text → place < length text → is_space (get_or text place 0) ≡ false → place < first_length text
 inside text place within there other = by (ltb place (first_length text)) refl
   where
@@ -70,7 +70,7 @@ nineteen k few =
     let most : 10 ^ k ≤ 10 ^ 19 = rw same at below in
     omega arith
 
--- so many bytes are digits, and few enough
+-- this many bytes are digits, and few enough
 pub record Short (text : List ℕ) (place number : ℕ) : Type 0 where
   pub few : place ≤ 19
   pub reads : Reads text place number
@@ -106,7 +106,7 @@ Short-more text place number digit there few short small is =
       below = Short-bound text place number digit few short small;
     }
 
--- where the text ends or a space stands, the word was read
+-- the word was read if the text ends here or a space follows
 ended : (text : List ℕ) (place : ℕ) → place ≤ first_length text → (place < length text → is_space (get_or text place 0) ≡ true) → first_length text ≡ place
 ended text place within end = by (ltb place (first_length text)) refl
   where

@@ -1,3 +1,4 @@
+-- The lemmas that the proofs use.
 pub mod EachLemmas
 pub mod FileLemmas
 pub mod FirstNumbers

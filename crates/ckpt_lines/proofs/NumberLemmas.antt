@@ -10,7 +10,7 @@ use Rattle.std.proofs.lemmas.List.{take_all}
 use Rattle.std.proofs.lemmas.Str.Parse.{digits_value-take-le}
 use Rattle.ckpt_lines.specs.Values.{is_number, number_of, with_digit}
 
--- the first so many bytes are digits, and spell the number
+-- this many bytes from the start are digits, and spell the number
 pub record Spells (word : List ℕ) (place number : ℕ) : Type 0 where
   pub digits : all_ascii_digits (take place word) ≡ true
   pub value : number ≡ digits_value 10 (take place word)
@@ -81,7 +81,7 @@ no_number word not = by (is_number word) refl
 pub Spells-empty : (word : List ℕ) → length word ≡ 0 → number_of word ≡ None
 Spells-empty word empty = no_number word (λ is. let some : 0 < length word = is.0 in absurd (omega arith))
 
--- where a byte can't be taken there is no number
+-- there is no number if a byte can't be taken
 pub Spells-stops : (word : List ℕ) (i number : ℕ) → i < length word → Spells word i number → with_digit number (get_or word i 0) ≡ None → number_of word ≡ None
 Spells-stops word i number within spells is = no_number word (λ all.
     let digit : is_ascii_digit (get_or word i 0) ≡ true = digit_at word i within all.1 in

@@ -1,4 +1,4 @@
--- A subtask's word: what stands before its first dot, and after it.
+-- A subtask's word: the part before its first dot, and the part after it.
 use Rattle.std.proofs.Common.{◌≡◌, ℕ, ◌+◌, ◌-◌, ◌≤◌, Bool, true, false, cond, ltb, ltb-false, List, [], length, take, drop, Option, Some, None, option_and_then, refl, ap, arith, length-drop}
 use Rattle.std.specs.List.{position_or_len}
 use Rattle.std.specs.Option.{option_map}

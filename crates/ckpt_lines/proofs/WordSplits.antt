@@ -24,7 +24,7 @@ split_front (b ∷ bs) =
           rw (more.0, more.1, split_front bs) refl
     ]
 
--- where a word ends the text ends, or a space stands
+-- a word ends at the end of the text or at a space
 abbrev EndsWord : List ℕ → Type 0
 EndsWord [] = Unit {0}
 EndsWord (b ∷ bs) = is_space b ≡ true

@@ -1,3 +1,4 @@
+-- The definitions that contracts cite.
 pub mod Keywords
 pub mod Meanings
 pub mod Reading

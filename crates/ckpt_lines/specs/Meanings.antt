@@ -1,4 +1,4 @@
--- What a line says: a call of the coordinator, or what else it is.
+-- What a line says: a call of the coordinator, or another kind of line.
 use Rattle.std.specs.Prelude.{ℕ, Bool, true, false, List, [], ◌∷◌, if◌then◌else◌, Option, Some, None, Result, Ok, Err}
 use Rattle.ckpt_ids.specs.Shapes.{is_shape}
 use Rattle.ckpt_ids.specs.declared.call.Call.TheVariants as call
@@ -10,7 +10,7 @@ use Rattle.ckpt_lines.specs.declared.line.Line.TheVariants as line
 use Rattle.ckpt_lines.specs.declared.meaning.Meaning.{Meaning}
 use Rattle.ckpt_lines.specs.declared.meaning.Meaning.TheVariants.{Skip, Config, Job, Start, Call, All}
 
--- where a `restore` has parallelisms, they are the new shape
+-- the parallelisms of a `restore`, if it has any, are the new shape
 abbrev pub is_new_shape : List ℕ → Bool
 is_new_shape [] = true
 is_new_shape (p ∷ ps) = is_shape (p ∷ ps)

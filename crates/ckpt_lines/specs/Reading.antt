@@ -41,7 +41,7 @@ retention_place words = place retention words
 unfoldable pub target_place : List (List ℕ) → Result (Target × List (List ℕ)) LineFault
 target_place words = place target_of words
 
--- the next file word, where there is a word
+-- the next file word, if there is a word
 unfoldable pub file_place : List (List ℕ) → Result (Option FileWord × List (List ℕ)) LineFault
 file_place [] = Ok (None, [])
 file_place (word ∷ words) = do
@@ -82,14 +82,14 @@ job_line words = do
   parallelisms ← each number words
   some_parallelisms parallelisms
 
--- one number and no more
+-- one number and nothing after it
 unfoldable pub number_line : (ℕ → Line) → List (List ℕ) → Result Line LineFault
 number_line line words = do
   n ← number_place words
   _ ← ended n.1
   Ok (line n.0)
 
--- the new files and the reused ones, whatever the order of the words
+-- the fresh files and the reused ones, for any order of the words
 unfoldable pub file_places : List (List ℕ) → Result (List ℕ × List ℕ) LineFault
 file_places words = do
   files ← each file_word words
@@ -195,7 +195,7 @@ abbrev pub Reads : {X : Type 0} → Result X LineFault → Result X LineFault �
 Reads (Ok x) read = read ≡ Ok x
 Reads (Err why) read = is_memory why ≡ false → read ≡ Err why
 
--- A keyword was taken from the front, or none.
+-- A keyword was taken from the start of the words, or none was.
 abbrev pub Takes : Option Keyword → List (List ℕ) → List (List ℕ) → Type 0
 Takes None before after = after ≡ before
 Takes (Some first) before after = before ≡ spelling first ∷ after

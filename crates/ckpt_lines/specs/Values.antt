@@ -13,14 +13,14 @@ use Rattle.ckpt_lines.specs.declared.fault.LineFault.TheVariants as fault
 use Rattle.ckpt_lines.specs.declared.values.FileWord.{FileWord}
 use Rattle.ckpt_lines.specs.declared.values.FileWord.TheVariants.{Fresh, Reused}
 
--- one or more digits with a value of at most 2^64 - 1; zeros may stand first
+-- one or more digits with a value of at most 2^64 - 1; leading zeros are allowed
 abbrev pub is_number : List ℕ → Bool
 is_number word = nat_lt 0 (length word) && all_ascii_digits word && nat_lt (digits_value 10 word) (2 ^ 64)
 
 unfoldable pub number_of : List ℕ → Option ℕ
 number_of word = if is_number word then Some (digits_value 10 word) else None
 
--- the number with one digit more, where the byte is a digit and the number is at most 2^64 - 1
+-- the number with one more digit, if the byte is a digit and the number is at most 2^64 - 1
 abbrev pub with_digit : ℕ → ℕ → Option ℕ
 with_digit number byte = if is_ascii_digit byte && nat_lt (number * 10 + (byte - 48)) (2 ^ 64) then Some (number * 10 + (byte - 48)) else None
 

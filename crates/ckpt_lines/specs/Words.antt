@@ -17,6 +17,6 @@ abbrev pub begins_with_space : List ℕ → Bool
 begins_with_space [] = false
 begins_with_space (byte ∷ bytes) = is_space byte
 
--- how many bytes stand before the first space, all where there is none
+-- how many bytes come before the first space, or all if there is none
 abbrev pub first_length : List ℕ → ℕ
 first_length text = position_or_len is_space text

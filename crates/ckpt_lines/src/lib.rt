@@ -2,7 +2,8 @@
 //!
 //! [`parse_line`] reads one line, and returns a [`Line`] or the first [`LineFault`] from the left.
 //! `specs/Reading.antt` defines how a line is read, over the list of its words. [`Line::meaning`]
-//! returns the call of a line, or what else the line is. `specs/Meanings.antt` defines that.
+//! returns the call of a line, or which other kind of line it is. `specs/Meanings.antt` defines
+//! that.
 #![tactic(auto)]
 
 mod fault;

@@ -1,4 +1,4 @@
-//! What a line says: a call of the coordinator, or what else it is.
+//! What a line says: a call of the coordinator, or another kind of line.
 
 ghost use Rattle.std.specs.Prelude.{◌≡◌, ◌≢◌, ◌↔◌, [], true, false, Ok, Err, IfOk};
 ghost use Rattle.ckpt_lines.specs.Meanings.{has_new_shape, is_new_shape, meaning, new_shape};

@@ -1,7 +1,9 @@
-//! Tests of lines: what is read ([`ckpt_lines`]), and calls written as lines ([`ckpt_call_lines`]).
+//! Tests of lines: how lines are read ([`ckpt_lines`]), and how calls are written as lines
+//! ([`ckpt_call_lines`]).
 //!
-//! What is printed for an answer is compared in `examples/rows`, whose outputs have each reply and each refusal but `IdsUsedUp`,
-//! which `ckpt_core_tests` has. `docs/DECISIONS.md` says why tests stand apart from the crate that they test.
+//! `examples/rows` compare the printed answers. Their outputs have each reply, and each refusal but
+//! `IdsUsedUp`, which `ckpt_core_tests` has. `docs/DECISIONS.md` says why these tests are not in
+//! the crate that they test.
 #![tactic(auto)]
 
 #[cfg(test)]

@@ -1,4 +1,4 @@
-//! Lines: what they are read as and what they say, and the lines that are written for calls.
+//! How lines are read, what they say, and the lines that are written for calls.
 use ckpt_call_lines::call_line;
 use ckpt_ids::{CheckpointId, ShapeFault};
 use ckpt_lines::{Line, LineFault, Meaning, Numbers, parse_line};
@@ -14,7 +14,7 @@ enum Said {
     Fault(LineFault),
 }
 
-/// What the line says. Fails only for want of memory.
+/// What the line says. Fails only if memory runs out.
 fn read_once(alloc: Global, line: &[u8]) -> Result<Said, AllocError> {
     match parse_line(alloc, line) {
         Ok(line) => match line.meaning(alloc) {
@@ -27,7 +27,7 @@ fn read_once(alloc: Global, line: &[u8]) -> Result<Said, AllocError> {
     }
 }
 
-/// The same, said again where memory ran out: a refused allocation leaves the line as it is.
+/// The same, with a second try if memory runs out: a refused allocation leaves the line as it is.
 fn read(alloc: Global, line: &[u8]) -> Result<Said, AllocError> {
     match read_once(alloc, line) {
         Ok(read) => Ok(read),
@@ -43,7 +43,7 @@ fn is_written(alloc: Global, line: &str, written: &str) -> Result<bool, AllocErr
     }
 }
 
-/// Lines that say calls, and how these are written: files ascend, and numbers have no zeros in front.
+/// Lines of calls, and how the calls are written: files ascend, and numbers have no leading zeros.
 const CALLS: [(&str, &str); 19] = [
     ("  tick   8 ", "tick 8"),
     ("tick 8 \r", "tick 8"),
@@ -116,7 +116,8 @@ fn faults(rt: HostRuntime) -> Result<(), Fail> {
     Ok(())
 }
 
-/// A `job` line says the parallelisms, also where they are no shape; a `restore` line then says no call.
+/// A `job` line says the parallelisms even if they are not a shape. A `restore` line then makes no
+/// call.
 #[test]
 fn lines_that_say_no_call(rt: HostRuntime) -> Result<(), Fail> {
     let alloc = rt.alloc();

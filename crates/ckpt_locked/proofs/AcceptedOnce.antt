@@ -1,4 +1,4 @@
--- The accepted acknowledgements of a done record are one of each subtask.
+-- The accepted acknowledgements of a done record: one per subtask.
 use Rattle.std.proofs.Common.{◌≡◌, suc, Bool, true, false, ◌||◌, List, [], ◌∷◌, map, refl, sym, ap, subst, ◌∙◌, ⊎_elim}
 use Rattle.std.specs.List.{list_any}
 use Rattle.std.proofs.lemmas.Bool.{both_ways, cases_Bool, or_left}

@@ -1,4 +1,4 @@
--- A book and a pass may cross threads, and a lock may be shared by them.
+-- A book and a pass may go to another thread, and threads may share a lock.
 use denote.Struct.Declared.{Declared, fields, shape, row}
 use denote.Struct.Struct.{Struct}
 use denote.Param.Send.{IsSend, IsSync, AllSend, AllSync, sendable, view_send, view_sync, recorded_sync, struct_sync}
@@ -15,7 +15,7 @@ use Rattle.ckpt_locked.specs.contracts.lock.Locked.TheInside as InLocked
 use Rattle.ckpt_locked.specs.contracts.lock.Pass as Pass
 use Rattle.ckpt_locked.specs.contracts.lock.Pass.TheInside as InPass
 
--- a struct may be shared where its fields may
+-- a struct may be shared if its fields may be
 declared_sync : (T : Declared) → AllSync (fields T) → IsSync (row T)
 declared_sync T s = recorded_sync (Struct (shape T)) T.D T.to T.to_one (struct_sync (shape T) s)
 

@@ -1,3 +1,4 @@
+-- The lemmas that the proofs use.
 pub mod AcceptedOnce
 pub mod Crossings
 pub mod Keeps

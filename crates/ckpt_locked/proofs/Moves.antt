@@ -1,4 +1,4 @@
--- The steps at a seat that is known by an equation, and what they tell.
+-- What follows from a step at a seat that an equation gives.
 use Rattle.std.proofs.Common.{◌≡◌, ℕ, ◌+◌, ◌%◌, ◌^◌, ◌<◌, eqb, List, [], ◌∷◌, ◌++◌, length, drop, sym, ap, ◌∙◌, subst, arith, length-append, append_assoc, get_or, refl, Option, Some}
 use mathlib.Core.Option.{none}
 use prog.Atomic.{either}
@@ -22,7 +22,7 @@ draws_as base n id m c e = subst (λ (x : Sat). Allows (Orderly base) n id x 1 (
 pub awaits_as : (base : Base) (n id : ℕ) (m : Sat) (c : Claim) (t : ℕ) → n ≡ 1 → m ≡ (waiting c t, []) → Allows (Orderly base) n id m 2 (λ k. k) (awaited (step n 2 0 0 none) m)
 awaits_as base n id m c t one e = subst (λ (x : ℕ × Sat). Allows (Orderly base) x.0 id x.1 2 (λ k. k) (awaited (step x.0 2 0 0 none) x.1)) (λ i. (sym one i, sym e i)) (awaits base id c t)
 
--- the entry that a book has more
+-- the new entry of a book
 more : (c : Claim) (was : List Entry) (e : Entry) (b : History) → b ≡ kept c.base (was ++ e ∷ []) → drop (length c.base.book.entries) b.entries ≡ was ++ e ∷ []
 more c was e b is = ap (λ (k : History). drop (length c.base.book.entries) k.entries) is ∙ drop-append_seam c.base.book.entries (was ++ e ∷ [])
 

@@ -55,7 +55,7 @@ kept_entered core after entries entry keep answer kept call e =
     let there : (step core entry.call).0 ≡ after = ap (λ s. s.0) e in
     subst Kept there (kept_step core entries entry keep kept call)
 
--- how many of the last are in memory has no part in it
+-- the number of entries in memory does not matter for it
 pub kept_keeping : (core : State) (entries : List Entry) (keep most : ℕ) → IsKept core entries keep → IsKept core entries most
 unfolding state_of_book
 kept_keeping core entries keep most kept = record {
@@ -63,7 +63,7 @@ kept_keeping core entries keep most kept = record {
   is_replay = kept.is_replay;
 }
 
--- what the two tell is the entry more
+-- the model of the two is one entry longer
 pub history_entered : (core after : State) (entries more : List Entry) (keep seat : ℕ) (call : Call) (answer : Answer) → step core call ≡ (after, answer) → more ≡ entries ++ record { seat = seat; call = call } ∷ [] → history_of after more keep ≡ entered (history_of core entries keep) seat call
 history_entered core after entries more keep seat call answer e is_more =
     let same_opening : after.opening ≡ core.opening = sym (ap (λ s. s.0.opening) e) ∙ step_keeps_opening core call in
@@ -71,7 +71,7 @@ history_entered core after entries more keep seat call answer e is_more =
     let of_entries : List Entry → History = λ xs. record { opening = core.opening; entries = xs; keep = keep } in
     ap of_opening same_opening ∙ ap of_entries is_more
 
--- what it answers is the answer to the list
+-- the answer is the answer to the list
 pub answer_is : (core after : State) (entries : List Entry) (keep : ℕ) (call : Call) (answer : Answer) → IsKept core entries keep → step core call ≡ (after, answer) → answer ≡ answer_to (history_of core entries keep) call
 unfolding answer_to
 answer_is core after entries keep call answer kept e =

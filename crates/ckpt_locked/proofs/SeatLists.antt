@@ -1,4 +1,4 @@
--- Sums over views, functions that change at one number, and beginnings of a history.
+-- Sums over views, functions that change at one number, and prefixes of a history.
 use Rattle.std.proofs.Common.{◌≡◌, ℕ, zero, suc, ◌+◌, ◌<◌, ◌≤◌, ◌≢◌, Bool, true, false, cond, eqb, eq-eqb, ne_eqb, List, [], ◌∷◌, ◌++◌, length, set, sym, refl, ap, ◌∙◌, subst, ⊎_elim, arith, append_assoc, append-nil, All}
 use Rattle.std.proofs.lemmas.List.Elements.{All-nil, All-head, All-tail, All-cons}
 use mathlib.Core.Logic.{dite}
@@ -26,7 +26,7 @@ module _ {A : Type 0} where
   set_at (x ∷ xs) zero v w e = refl
   set_at (x ∷ xs) (suc i) v w e = set_at xs i v w e
 
-  -- what holds of each other place, and of the changed one, holds everywhere
+  -- a fact about each other place, and about the changed one, holds everywhere
   pub all_set : (P : ℕ → A → Type 0) (l : List A) (i : ℕ) (w : A) → ((j : ℕ) (u : A) → j ≢ i → get_elem? l j ≡ some u → P j u) → P i w → (j : ℕ) (u : A) → get_elem? (set l i w) j ≡ some u → P j u
   all_set P l i w others mine j u e =
       ⊎_elim
@@ -53,7 +53,7 @@ put_here f k p x e = ap (λ b. cond b p (f x)) (eq-eqb x k e)
 pub put_else : (f : ℕ → ℕ) (k p x : ℕ) → x ≢ k → put f k p x ≡ f x
 put_else f k p x n = ap (λ b. cond b p (f x)) (ne_eqb x k n)
 
--- where f is p already, or is changed to p
+-- f has the value p already, or is changed to p
 pub put_to : (f : ℕ → ℕ) (k p x : ℕ) → f x ≡ p → put f k p x ≡ p
 put_to f k p x e = dite (ℕ_discrete x k) (λ same. put_here f k p x same) (λ ne. put_else f k p x ne ∙ e)
 

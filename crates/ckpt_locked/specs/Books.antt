@@ -1,4 +1,4 @@
--- A book: what a coordinator was opened with and all calls since, and the state that they lead to.
+-- A book: what a coordinator was opened with, all calls since, and the state that they lead to.
 use Rattle.std.specs.Prelude.{◌≡◌, ℕ, ◌+◌, if◌then◌else◌, nat_lt, List, [], ◌∷◌, ◌++◌, map, length, Option, None, slice_get}
 use Rattle.ckpt_ids.specs.declared.call.Call.{Call}
 use Rattle.ckpt_ids.specs.declared.reply.Answer.{Answer}
@@ -12,7 +12,8 @@ use Rattle.ckpt_core.specs.Laws.{CanOpen, AreCalls}
 use Rattle.ckpt_recent.specs.Lists.{all}
 use Rattle.ckpt_locked.specs.declared.book.Entry.{Entry}
 
--- what a book tells: the opening, each call with who made it, refused calls too, and how many of the last are in memory
+-- what contracts see of a book: the opening, each call with its caller, refused calls too, and how many of the last are
+-- in memory
 pub record History : Type 0 where
   pub opening : Opening
   pub entries : List Entry
@@ -22,7 +23,7 @@ pub record History : Type 0 where
 abbrev pub newly_opened : Opening → History
 newly_opened o = record { opening = o; entries = []; keep = all }
 
--- the entry at this place, where it is among the last `keep`
+-- the entry at this place, if it is among the last `keep`
 abbrev pub entry_at : History → ℕ → Option Entry
 entry_at h place = if nat_lt (place + h.keep) (length h.entries) then None else slice_get h.entries place
 
@@ -37,7 +38,7 @@ state_of_book h = replay (opened h.opening) (calls_of h.entries)
 abbrev pub entered : History → ℕ → Call → History
 entered h seat call = record h { entries = h.entries ++ record { seat = seat; call = call } ∷ [] }
 
--- what the call is answered after all of these
+-- the answer to the call after all of these
 unfoldable pub answer_to : History → Call → Answer
 answer_to h call = (step (state_of_book h) call).1
 
@@ -45,12 +46,12 @@ answer_to h call = (step (state_of_book h) call).1
 abbrev pub counted : History → ℕ → Answer
 counted h file = Done (Counted file (count (uses (state_of_book h).records) file))
 
--- a coordinator can be opened so, and each of the calls can be made
+-- the opening is valid, and each of the calls can be made
 pub record IsHistory (h : History) : Type 0 where
   pub can_open : CanOpen h.opening
   pub are_calls : AreCalls (calls_of h.entries)
 
--- what the coordinator and the list beside it tell together
+-- the model of the coordinator and of the list beside it
 abbrev pub history_of : State → List Entry → ℕ → History
 history_of core entries keep = record { opening = core.opening; entries = entries; keep = keep }
 

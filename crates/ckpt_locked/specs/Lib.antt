@@ -1,3 +1,4 @@
+-- The definitions that contracts cite.
 pub mod Books
 pub mod Promises
 pub mod Seats

@@ -23,11 +23,11 @@ pub record Hand : Type 0 where
   pub later : List Entry
   pub own : List Call
 
--- the list of the book that the lock was made with
+-- the log of the book that the lock was made with
 abbrev pub prior : Hand → List Entry
 prior h = h.lock.base.book.entries
 
--- the list of the book as the pass has seen it
+-- the log of the book as the pass has seen it
 abbrev pub seen : Hand → List Entry
 seen h = prior h ++ h.later
 
@@ -56,18 +56,18 @@ HasBook m t book = (t < TICKETS_END) × (m ≡ (serving m.0.mine t m.0.found, (0
 abbrev pub found_with : Sat → ℕ → Call → List Entry
 found_with m number call = m.0.found ++ entry number call ∷ []
 
--- its turn came to the seat, which had this claim
+-- the seat has its turn, and had this claim
 abbrev pub CameTo : Claim → ℕ → Sat → Type 0
 CameTo c t m =
     HasBook m t (kept m.0.mine.base m.0.found) × (m.0.mine ≡ c)
     × StartsWith m.0.found c.later × (calls_by c.number m.0.found ≡ c.own) × SeatsBelow c.base.seats m.0.found
 
--- the slot has the book with this call, which was answered so
+-- the slot has the book with this call, which had this answer
 abbrev pub Entered : History → ℕ → Call → Option History → Answer → Type 0
 Entered book number call slot answer =
     (slot ≡ Some (entered book number call)) × (answer ≡ answer_to book call) × (length book.entries + 1 < 2 ^ 64)
 
--- the seat made this call on the book, and was answered so
+-- the seat made this call on the book, and got this answer
 abbrev pub Asked : Sat → ℕ → ℕ → Call → Sat → Answer → Type 0
 Asked before t number call after answer =
     (after.0 ≡ before.0) × (answer ≡ answer_to (kept before.0.mine.base before.0.found) call)
@@ -84,15 +84,15 @@ newcomers lock (suc n) = newcomers lock n ++ newcomer lock n ∷ []
 abbrev pub lock_of : History → ℕ → TableId → Lock
 lock_of book seats id = record { table_id = id; base = record { book = book; seats = seats } }
 
--- the book of the lock with this list
+-- the book of the lock with this log
 abbrev pub book_with : Lock → List Entry → History
 book_with lock entries = record lock.base.book { entries = entries }
 
--- A call was made. What was seen before begins what is seen after, which ends with the call, and of the entries since the
--- lock was made those with this seat are the pass's own calls.
+-- A call was made. What is seen after it begins with what was seen before, and ends with the call. Of the entries since
+-- the lock was made, those with this seat are the pass's own calls.
 pub record Made (old : Hand) (call : Call) (new : Hand) (answer : Answer) : Type 0 where
   pub same : (new.lock ≡ old.lock) × (new.seat ≡ old.seat)
-  -- what others entered since the pass was used last
+  -- the entries of others since the pass was used last
   pub between : List Entry
   pub seen_is : seen new ≡ (seen old ++ between) ++ entry old.seat call ∷ []
   pub answer_is : answer ≡ answer_to (book_with old.lock (seen old ++ between)) call
@@ -107,11 +107,11 @@ later_in lock book = drop (length lock.base.book.entries) book.entries
 abbrev pub SeenIn : List Entry → Hand → Type 0
 SeenIn log h = StartsWith log h.later × (calls_by h.seat log ≡ h.own)
 
--- the book begins with all that the pass has seen, and its later calls with the pass's seat are the pass's own
+-- the book begins with everything that the pass has seen, and its later calls with the pass's seat are the pass's own
 abbrev pub Agrees : Lock → History → Hand → Type 0
 Agrees lock book h = StartsWith book.entries (seen h) × (calls_by h.seat (later_in lock book) ≡ h.own)
 
--- The book that a lock gives back. It has the opening that the lock was made with, and its list begins with that book's.
+-- The book that a lock returns. It has the opening that the lock was made with, and its log begins with that book's.
 pub record GivenBack (lock : Lock) (book : History) (hands : List Hand) : Type 0 where
   pub book_is : book ≡ kept lock.base (later_in lock book)
   pub seats : SeatsBelow lock.base.seats (later_in lock book)

@@ -1,4 +1,4 @@
--- What is promised of every book.
+-- What every book promises.
 use Rattle.std.specs.Prelude.{◌≡◌, ℕ, true, List, ◌∷◌, ◌++◌, count_by}
 use Rattle.ckpt_ids.specs.declared.ack.Acked.{Acked}
 use Rattle.ckpt_ids.specs.declared.call.Call.{Call}
@@ -22,15 +22,15 @@ accepted_in h id = along (accepted_by id) (opened h.opening) (calls_of h.entries
 abbrev pub times_of : SubtaskId → List Acked → ℕ
 times_of s acks = count_by (λ a. same_subtask s a.subtask) acks
 
--- for a done record one acknowledgement of each subtask of its shape was accepted, of no other any, and they are the record's
--- Source: Carbone et al. 2015: a snapshot is complete when each task has taken its part, once.
+-- for a done record exactly one acknowledgement per subtask of its shape was accepted, and none from any other; they
+-- are the record's. Source: Carbone et al. 2015: a snapshot is complete when each task has taken its part, once.
 abbrev pub ExactlyOne : History → Type 0
 ExactlyOne h =
     (r : Record) → IsIn r (state_of_book h).records → r.done ≡ true
     → ((s : SubtaskId) → times_of s (accepted_in h r.id) ≡ one_if (is_subtask r.shape s)) × ((a : Acked) → IsIn a (accepted_in h r.id) → IsIn a r.acks)
 
--- What holds between any moment of the book, after the calls `before`, and now. First: a file that was handed out by then is
--- used by no live record, then or now.
+-- What holds between any moment of the book, after the calls `before`, and now. First: no live record uses a file that
+-- was handed out by then, neither then nor now.
 abbrev pub AreHandedForGood : History → Type 0
 AreHandedForGood h = (before calls : List Call) → calls_of h.entries ≡ before ++ calls → UsedNoMore h.opening before calls
 
@@ -38,6 +38,6 @@ AreHandedForGood h = (before calls : List Call) → calls_of h.entries ≡ befor
 abbrev pub SavepointsStay : History → Type 0
 SavepointsStay h = (before calls : List Call) → calls_of h.entries ≡ before ++ calls → Savepoints h.opening before calls
 
--- a record that `call` triggered still holds the files that the job would have been restored from then
+-- a record that `call` triggered still has the files that the job would have been restored from then
 abbrev pub PinsHold : History → Type 0
 PinsHold h = (before : List Call) (call : Call) (calls : List Call) → calls_of h.entries ≡ before ++ call ∷ calls → Pinned h.opening before call calls

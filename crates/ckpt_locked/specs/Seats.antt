@@ -1,4 +1,4 @@
--- The entries of a book by the seats that they came from.
+-- The entries of a book by their seats.
 use Rattle.std.specs.Prelude.{◌≡◌, ℕ, ◌<◌, ◌==◌, if◌then◌else◌, List, [], ◌∷◌, ◌++◌}
 use Rattle.ckpt_ids.specs.declared.call.Call.{Call}
 use Rattle.ckpt_ids.specs.declared.reply.Answer.{Answer}
@@ -13,7 +13,7 @@ abbrev pub calls_by : ℕ → List Entry → List Call
 calls_by seat [] = []
 calls_by seat (e ∷ es) = if e.seat == seat then e.call ∷ calls_by seat es else calls_by seat es
 
--- what they are answered where the entries come after that history, in this order
+-- their answers, if the entries come after that history, in this order
 abbrev pub answers_by : ℕ → History → List Entry → List Answer
 answers_by seat h [] = []
 answers_by seat h (e ∷ es) =

@@ -1,5 +1,6 @@
--- The rule of a lock's table. Word 0 is the number of entries since the lock was made, word 1 the next ticket, word 2 the
--- ticket that is served, and word 3 the next seat. The rest are perches, on which those who wait sleep. The slot has the book.
+-- The rule of a lock's table. Word 0 is the number of entries since the lock was made, word 1 the next ticket, word 2
+-- the ticket that is served, and word 3 the next seat. The other words are perches, on which waiting seats sleep. The
+-- slot has the book.
 use Rattle.std.specs.Prelude.{◌≡◌, ◌≢◌, ℕ, ◌+◌, ◌<◌, ◌≤◌, ◌⊎◌, true, false, if◌then◌else◌, List, [], ◌∷◌, ◌++◌, length, drop, Option, Some, None}
 use mathlib.Core.Option.{some}
 use lib.ListN.{get_elem?}
@@ -24,7 +25,7 @@ kept base log = record base.book { entries = base.book.entries ++ log }
 abbrev pub claim : Base → ℕ → List Entry → List Call → Claim
 claim base number later own = record { base = base; number = number; later = later; own = own }
 
--- stands where nothing is claimed
+-- the value if nothing is claimed
 abbrev pub no_book : History
 no_book = record {
   opening = record {
@@ -40,7 +41,7 @@ no_book = record {
 abbrev pub no_claim : Claim
 no_claim = claim (record { book = no_book; seats = 0 }) 0 [] []
 
--- the five states of a seat, and of one that is used up
+-- the five states of a seat, and the state of a seat that is used up
 abbrev pub fresh : Base → View
 fresh base = record { live = true; numbered = false; mine = claim base 0 [] []; queued = false; ticket = 0; turn = false; found = []; claims = false; other = no_claim }
 
@@ -59,13 +60,13 @@ showing c t log d = record { live = true; numbered = true; mine = c; queued = tr
 abbrev pub spent : View
 spent = record { live = false; numbered = false; mine = no_claim; queued = false; ticket = 0; turn = false; found = []; claims = false; other = no_claim }
 
--- it has seen a beginning of the history, and its calls are all those of its number there
+-- it has seen a prefix of the history, and its calls are all those of its number there
 pub record Claimed (base : Base) (log : List Entry) (c : Claim) : Type 0 where
   pub base_is : c.base ≡ base
   pub seen : StartsWith log c.later
   pub own : calls_by c.number log ≡ c.own
 
--- what the rule says of the view in one place; owner and holder give the place of a number and of a ticket
+-- what the rule says of the view at one place; owner and holder give the place of a number and of a ticket
 pub record Fits (base : Base) (log : List Entry) (tickets served given : ℕ) (owner holder : ℕ → ℕ) (place : ℕ) (v : View) : Type 0 where
   pub lives : v.live ≡ true → v.mine.base ≡ base
   pub number : v.numbered ≡ true → (owner v.mine.number ≡ place) × (v.mine.number < given) × Claimed base log v.mine
@@ -87,7 +88,7 @@ has_number v = if v.numbered then 1 else 0
 abbrev pub Busy : List View → Type 0
 Busy views = (place : ℕ) × (v : View) × (get_elem? views place ≡ some v) × (v.turn ≡ true)
 
--- what holds of the table between any two steps; `log` is the history since the lock was made
+-- what holds for the table between any two steps; `log` is the history since the lock was made
 pub record Orderly (base : Base) (s : State (Option History) View) : Type 0 where
   pub log : List Entry
   pub tickets : ℕ
@@ -103,7 +104,7 @@ pub record Orderly (base : Base) (s : State (Option History) View) : Type 0 wher
   pub numbers : total has_number s.views ≤ given
   pub seats : SeatsBelow given log
   pub views : (place : ℕ) (v : View) → get_elem? s.views place ≡ some v → Fits base log tickets served given owner holder place v
-  -- the book is at home, or with the seat whose turn it is
+  -- the book is in its slot, or with the seat that has the turn
   pub slot : (get_elem? s.homes 0 ≡ some (some (Some (kept base log)))) ⊎ Busy s.views
 
 abbrev pub Sat : Type 0
@@ -146,11 +147,11 @@ committed st m r n =
 abbrev pub passed : Play
 passed st m r n = n ≡ (idle m.0.mine, [])
 
--- a perch changed, and nothing else
+-- one perch changed, and nothing else
 abbrev pub stirred : Play
 stirred st m r n = n ≡ m
 
--- the other pass saw a beginning of what this one has found, and its calls are all those of its number there
+-- the other pass saw a prefix of what this one has found, and its calls are all those of its number there
 abbrev pub compared : Play
 compared st m r n =
     (n ≡ (serving m.0.mine m.0.ticket m.0.found, m.1)) × (m.0.other.base ≡ m.0.mine.base)

@@ -10,19 +10,20 @@ use ckpt_recent::Recent;
 use std::alloc::{AllocError, Global};
 use std::marker::Model;
 
-/// An entry of the book: who made the call, and the call, also where it was refused.
+/// An entry of the book: a call and its caller. Refused calls have entries too.
 #[derive(Debug, Drop, PartialEq, Eq)]
 pub struct Entry {
-    /// The number that the caller goes by. The book takes whatever it is given.
+    /// The number of the caller. The book takes any number.
     pub seat: u32,
+    /// The call.
     pub call: Call,
 }
 
-/// A coordinator with the list of all its calls, for one thread.
+/// A coordinator with the log of all its calls, for one thread.
 ///
-/// At each moment the coordinator is the replay of the list from its opening: [`Book::core`] says
-/// so, and what follows from it. All entries are kept in memory, some 100 bytes each, unless
-/// [`Book::keep_last`] says how many; what is promised is of all of them either way.
+/// The coordinator is always the replay of the log from its opening: [`Book::core`] says so, and
+/// what follows from it. All entries are kept in memory, some 90 bytes each, unless
+/// [`Book::keep_last`] bounds their number. All promises are about all entries in both cases.
 #[derive(Debug)]
 pub struct Book {
     alloc: Global,
@@ -59,13 +60,13 @@ impl Book {
     ghost use Rattle.ckpt_locked.specs.Books.{IsHistory, answer_to, calls_of, counted, entered, entry_at, newly_opened, state_of_book};
     ghost use Rattle.ckpt_locked.specs.Promises.{AreDoneFull, AreHandedForGood, ExactlyOne, PinsHold, SavepointsStay};
 
-    /// Opens a coordinator as [`Core::new`] does, with an empty list, which keeps all entries. Takes no
-    /// memory.
+    /// Opens a coordinator as [`Core::new`] does, with an empty log that keeps all entries. Takes
+    /// no memory.
     ///
-    /// `now` is in milliseconds. Answers [`OpenFault::MomentTooLarge`] exactly where it is above
-    /// 2^62 - 1, and else [`OpenFault::BadFirst`] exactly where `first` is outside 1 to 2^62 - 1.
+    /// `now` is in milliseconds. Returns [`OpenFault::MomentTooLarge`] exactly if it is above 2^62
+    /// - 1. Otherwise returns [`OpenFault::BadFirst`] exactly if `first` is outside 1 to 2^62 - 1.
     ///
-    /// Where somebody else chooses the files' numbers, take [`Book::keyed`].
+    /// If file numbers come from outside, use [`Book::keyed`].
     pub fn new(
         alloc: Global,
         config: Config,
@@ -79,8 +80,8 @@ impl Book {
         Book::keyed(alloc, config, shape, now, first, Secret::fixed())
     }
 
-    /// As [`Book::new`], over the coordinator that [`Core::keyed`] opens: no choice of file numbers
-    /// makes its calls slow. The secret changes no answer.
+    /// Opens a book as [`Book::new`] does, with a coordinator that [`Core::keyed`] opens: no choice
+    /// of file numbers makes its calls slow. The secret changes no answer.
     pub fn keyed(
         alloc: Global,
         config: Config,
@@ -92,7 +93,7 @@ impl Book {
         ensures fault { result_err result ≡ open_fault now first }
         ensures value { IfOk result (λ book. book ≡ newly_opened (record { config = config; shape = shape; start = now; first = first })) }
     {
-        // Tells that both are within their limits.
+        // The contracts of these reads say that both are within their limits.
         let _ = (config.interval(), shape.size());
         let core = Core::keyed(alloc, config, shape, now, first, secret)?;
         let entries = Recent::new(alloc);
@@ -103,10 +104,10 @@ impl Book {
         })
     }
 
-    /// Makes a call, enters it, and answers what it gave. A refused call is entered too.
+    /// Makes a call, enters it in the log, and returns its answer. A refused call is entered too.
     ///
-    /// Gives the call back where memory runs out, or at 2^64 - 1 entries, and then nothing has changed.
-    /// An entry takes memory now and then, so any call may be given back, a refused one too.
+    /// Returns the call if memory runs out, or at 2^64 - 1 entries. Then nothing has changed. An
+    /// entry may take memory, so any call may run out of memory, even a refused one.
     pub fn apply(&mut self, seat: u32, call: Call) -> Result<Answer, Call>
         ensures entered { OnOk result (self.new ≡ entered self.old seat call) }
         ensures answer { IfOk result (λ answer. answer ≡ answer_to self.old call) }
@@ -134,7 +135,7 @@ impl Book {
         }
     }
 
-    /// Where the book takes memory.
+    /// The allocator of the book.
     pub(crate) fn alloc(&self) -> Global {
         self.alloc
     }
@@ -153,31 +154,32 @@ impl Book {
         self.entries.is_empty()
     }
 
-    /// Keeps from now on at most the last `most` entries in memory, 0 to 2^64 - 1. The others can't be
-    /// read any more; they count all the same, and the coordinator is still the replay of all. A
-    /// greater number later brings none back. Takes no memory.
+    /// From now on keeps at most the last `most` entries in memory, 0 to 2^64 - 1. The others can
+    /// no longer be read. They still count, and the coordinator is still the replay of all of them.
+    /// A later call with a greater number changes nothing. Takes no memory.
     pub fn keep_last(&mut self, most: u64)
         ensures kept { self.new ≡ record self.old { keep = min self.old.keep most } }
     {
         self.entries.keep_last(most);
     }
 
-    /// How many entries are in memory: all, or as many as [`Book::keep_last`] left.
+    /// How many entries are in memory: all, or at most the number given to [`Book::keep_last`].
     pub fn held(&self) -> u64
         ensures { result ≡ min (length self.now.entries) self.now.keep }
     {
         self.entries.held()
     }
 
-    /// The entry at this place, counted from 0, or `None` past the last and where it was forgotten.
+    /// The entry at this place, counted from 0. `None` past the last entry, and if the entry was
+    /// forgotten.
     pub fn entry(&self, place: u64) -> Option<&Entry>
         ensures { option_copied result ≡ entry_at self.now place }
     {
         self.entries.get(place)
     }
 
-    /// The coordinator: the replay of the list from its opening. The other clauses are what follows
-    /// of every book.
+    /// The coordinator: the replay of the log from its opening. The other clauses are promises that
+    /// hold for every book.
     pub fn core(&self) -> &Core
         ensures replay { result.now ≡ state_of_book self.now }
         ensures history { IsHistory self.now }
@@ -190,7 +192,7 @@ impl Book {
         ensures numbers { Numbers self.now.opening (calls_of self.now.entries) }
         ensures savepoints { SavepointsStay self.now }
 
-        // Files: each is in use, or was handed out, and none in use is lost.
+        // Files: each is in use or was handed out, and no file in use is lost.
         ensures balance { Balance self.now.opening (calls_of self.now.entries) }
         ensures handed { Handed self.now.opening (calls_of self.now.entries) }
         ensures handed_for_good { AreHandedForGood self.now }

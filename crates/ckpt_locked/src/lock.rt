@@ -18,8 +18,8 @@ use thiserror::Error;
 
 /// The right to make calls with one seat.
 ///
-/// In contracts it knows its lock, its seat, the log of the book as it saw it last (`seen`), and
-/// its own calls in order (`own`). No other pass has its seat, and it can't be copied.
+/// Contracts see its lock, its seat, the log of the book as the pass saw it last (`seen`), and its
+/// own calls in order (`own`). No other pass has its seat, and it can't be copied.
 #[derive(Drop)]
 pub struct Pass {
     seat: Seat,
@@ -39,7 +39,7 @@ impl Model for Pass {
 
 /// A book whose callers take turns, in the order in which they drew their tickets.
 ///
-/// While nobody has the turn, the book in it is an ordinary [`Book`], with all promises of
+/// While nobody has the turn, its book is an ordinary [`Book`], with all promises of
 /// [`Book::core`].
 pub struct Locked {
     table: Table<Option<Book>, View, Key, Turns, Global>,
@@ -142,9 +142,9 @@ impl Locked {
 
     /// Waits for its turn, and makes a call with a pass of this lock.
     ///
-    /// Afterwards the log of the book begins with all that the pass had seen, and ends with this
-    /// call. The answer is that of the call after the entries before it. Fails only if memory runs
-    /// out. Then the caller gets the pass and the call back unchanged.
+    /// After the call the log of the book begins with everything that the pass had seen, and ends
+    /// with this call. The answer is that of the call after the entries before it. Fails only if
+    /// memory runs out. Then the caller gets the pass and the call back unchanged.
     pub fn call<R: Wait>(
         &self,
         rt: &R,

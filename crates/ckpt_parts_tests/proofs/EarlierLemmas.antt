@@ -1,4 +1,4 @@
--- What the tests need: which records have uses after a call, and what their checks say.
+-- What the tests need: which records have uses after a call, and what follows from their checks.
 use Rattle.std.proofs.Common.{◌≡◌, ℕ, suc, false, if◌then◌else◌, length, ◌+◌, ◌-◌, ◌<◌, ◌≤◌, ◌^◌, Bool, true, not, eqb, ltb, ◌&&◌, List, [], ◌∷◌, ◌++◌, Result, Ok, Err, sym, ap, subst, ◌∙◌, inl, inr, ⊎_elim, arith}
 use Rattle.std.specs.List.{list_all}
 use Rattle.std.proofs.lemmas.List.{length-map}
@@ -40,7 +40,7 @@ IsUsable-from_tests us fresh reused a b c d = record {
         omega (arith, eqb-true (times f reused) 1 p.0) in
         ⊎_elim first (λ (g : times f fresh ≤ 0). ⊎_elim (second g) (λ (h : times f reused ≤ 0). omega arith) (cases_lt 0 (times f reused))) (cases_lt 0 (times f fresh))
 
--- putting lists in order makes none longer
+-- a list that is put in order is not longer
 length-put_once : {X : Type 0} (before : X → X → Bool) (x : X) (ys : List X) → length (put_once before x ys) ≤ suc (length ys)
 length-put_once before x [] = omega arith
 length-put_once {X} before x (y ∷ ys) =

@@ -1,7 +1,8 @@
 //! Tests of the crates below the coordinator: its values, records, registry, outbox and store.
 //!
-//! The clock and the count of failures are run by the program: each call of theirs decides what a row of `examples/rows` prints.
-//! `docs/DECISIONS.md` says why they stand apart from the crates that they test.
+//! The programs run the clock and the count of failures: each of their calls decides what a row of
+//! `examples/rows` prints. `docs/DECISIONS.md` says why these tests are not in the crates that they
+//! test.
 #![tactic(auto)]
 
 #[cfg(test)]

@@ -1,4 +1,4 @@
-//! Tests of the outbox: files that are put, taken, returned and deleted.
+//! Tests of the outbox: files are put, taken, returned and deleted.
 ghost use Rattle.std.specs.Prelude.{◌≡◌, ◌++◌, take, drop, IfOk, OnOk, OnErr};
 ghost use Rattle.ckpt_outbox.specs.Queues.{Queues};
 
@@ -11,7 +11,7 @@ use std::test::Fail;
 /// How many files the large test has.
 const MANY: u64 = 100_000;
 
-/// Takes, and where that finds no memory looks that nothing has changed and takes again.
+/// Takes. If memory runs out, checks that nothing has changed, and takes again.
 fn take_again(rt: &impl Abort, outbox: &mut Outbox, most: u64) -> Result<Handed, AllocError> {
     let waiting = outbox.waiting();
     if let Ok(files) = outbox.take(most) {
@@ -44,7 +44,7 @@ fn takes(
     Ok(())
 }
 
-/// Whether so many files wait, and so many are taken.
+/// Whether this many files wait, and this many are taken.
 fn has(outbox: &Outbox, waiting: u64, taken: u64) -> bool {
     outbox.waiting() == waiting && outbox.taken() == taken
 }
@@ -54,7 +54,7 @@ fn is_out(outbox: &Outbox, file: FileId) -> bool {
     outbox.knows(file) && outbox.is_taken(file)
 }
 
-/// Whether a taken file goes back.
+/// Whether a taken file is returned.
 fn returns(outbox: &mut Outbox, file: FileId) -> bool {
     is_out(outbox, file)
         && outbox.undeleted(file) == Ok(())
@@ -62,12 +62,12 @@ fn returns(outbox: &mut Outbox, file: FileId) -> bool {
         && !outbox.is_taken(file)
 }
 
-/// Whether a taken file is reported as deleted, and not known any more.
+/// Whether a taken file is reported as deleted, and then unknown.
 fn deletes(outbox: &mut Outbox, file: FileId) -> bool {
     is_out(outbox, file) && outbox.deleted(file) == Ok(()) && !outbox.knows(file)
 }
 
-/// Whether a file that is not taken is reported in vain.
+/// Whether the reports on a file that is not taken are refused.
 fn is_gone(outbox: &mut Outbox, file: FileId) -> bool {
     outbox.deleted(file) == Err(NotTaken)
         && outbox.undeleted(file) == Err(NotTaken)
@@ -85,7 +85,7 @@ fn put_new(rt: &impl Abort, outbox: &mut Outbox, file: FileId) -> Result<(), All
     Ok(())
 }
 
-/// Hands out so many files, from 0 on.
+/// Hands out this many files, from 0 on.
 fn put_many(rt: &impl Abort, outbox: &mut Outbox, count: u64) -> Result<(), AllocError> {
     for number in 0..count {
         put_new(rt, outbox, FileId(number))?;
@@ -125,14 +125,14 @@ fn takes_returns_and_deletes(rt: HostRuntime) -> Result<(), Fail> {
     Ok(())
 }
 
-/// All files, from the last to the first, go back.
+/// Returns all files, from the last to the first.
 fn return_all(rt: &impl Abort, outbox: &mut Outbox) {
     for number in (0..MANY).rev() {
         assert!(rt; returns(outbox, FileId(number)));
     }
 }
 
-/// All files, from the first to the last, are reported as deleted.
+/// Reports all files as deleted, from the first to the last.
 fn delete_all(rt: &impl Abort, outbox: &mut Outbox) {
     for number in 0..MANY {
         assert!(rt; deletes(outbox, FileId(number)));
@@ -140,7 +140,7 @@ fn delete_all(rt: &impl Abort, outbox: &mut Outbox) {
     }
 }
 
-/// In this order a scan for each file would take the square of their number.
+/// In this order, a scan for each file would take time that grows with the square of their number.
 #[test]
 fn looks_up_among_many_files(rt: HostRuntime) -> Result<(), Fail> {
     let mut outbox = Outbox::new(rt.alloc());

@@ -1,4 +1,4 @@
-//! A test of a record that waits for acknowledgements and is then complete, where memory is refused.
+//! A test of a record with refused memory: it waits for acknowledgements, and is then complete.
 ghost use Rattle.std.specs.Prelude.{◌<◌};
 
 use ckpt_ids::{CheckpointId, FileId, Files, Kind, Shape, SubtaskId};
@@ -22,7 +22,7 @@ fn waiting(alloc: Global) -> Result<Pending, Fail> {
     Ok(Pending::new(alloc, CheckpointId(1), Kind::Checkpoint, shape, 1000))
 }
 
-/// What comes of an acknowledgement by the subtask, with these files.
+/// The result of an acknowledgement by the subtask, with these files.
 fn acks(
     alloc: Global,
     pending: &mut Pending,
@@ -40,8 +40,8 @@ fn finished(pending: Pending) -> Result<Done, Fail> {
     }
 }
 
-/// The subtask acknowledges with two files. Where that finds no memory, the record is as it was, and
-/// the same call then works.
+/// The subtask acknowledges with two files. If memory runs out, the record is as it was, and the
+/// same call then works.
 fn acks_again(
     rt: &impl Abort,
     alloc: Global,
@@ -77,21 +77,21 @@ fn acked_again(rt: &impl Abort, alloc: Global) -> Result<Pending, Fail> {
     Ok(pending)
 }
 
-/// Whether the record tells both acknowledgements, when it is asked again where memory is refused.
+/// Whether the record returns both acknowledgements when it is read again after refused memory.
 fn is_told_again(pending: &Pending) -> Result<bool, AllocError> {
     let metadata = pending.metadata().or_else(|_| pending.metadata())?;
     Ok(metadata.acks.len() == 2)
 }
 
-/// Whether the complete record does so too, and tells each of the two files once.
+/// Whether the complete record does so too, and returns each of the two files once.
 fn has_files_again(done: &Done) -> Result<bool, AllocError> {
     let metadata = done.metadata().or_else(|_| done.metadata())?;
     let all = done.files().or_else(|_| done.files())?;
     Ok(metadata.acks.len() == 2 && all.len() == 2)
 }
 
-/// Run with each allocation refused in turn: a refused call leaves the record as it was, and works
-/// when it is made again. A file that both subtasks name is told once.
+/// Run with each allocation refused in turn: a call that runs out of memory leaves the record as it
+/// was, and works when it is made again. A file that both subtasks name is returned once.
 #[test]
 fn a_refused_call_works_again(rt: HostRuntime) -> Result<(), Fail> {
     let pending = acked_again(&rt, rt.alloc())?;

@@ -1,4 +1,4 @@
-//! Tests of the registry: uses, pins, and what is released when records go.
+//! Tests of the registry: uses, pins, and the files that are released when records end.
 ghost use Rattle.std.specs.Prelude.{◌≡◌, ◌<◌, ◌+◌, ◌-◌, ◌^◌, ◌&&◌, ◌==◌, [], ◌++◌, length, not, nat_lt, IsTrue, IfOk, OnOk, MatchBool};
 ghost use Rattle.std.specs.List.{list_all};
 ghost use Rattle.ckpt_ids.specs.Records.{count, is_present};
@@ -16,7 +16,7 @@ const SUBTASK: SubtaskId = SubtaskId {
     index: 0,
 };
 
-// Where memory is refused once, the fixture is made at the second try.
+// If memory runs out once, the fixture is made at the second try.
 fn files(alloc: Global, numbers: &[u64]) -> Result<Files, AllocError> {
     match made(alloc, numbers) {
         Ok(files) => Ok(files),
@@ -101,8 +101,8 @@ fn pins(registry: &mut Registry, id: u64, files: &Files) -> bool
     registry.pin(CheckpointId(id), files).is_ok()
 }
 
-// The acknowledgement of the one subtask of a record, which is the latest so far. Where memory
-// is refused, the registry is as before, and the same call then works.
+// The acknowledgement of the only subtask of a record, which is the latest so far. If memory runs
+// out, the registry is as before, and the same call then works.
 fn acknowledge(rt: &impl Abort, registry: &mut Registry, id: u64, fresh: &Files, reused: &Files)
     requires { AreBefore registry.old id }
     ensures { AreBefore registry.new (id + 1) }
@@ -116,7 +116,7 @@ fn acknowledge(rt: &impl Abort, registry: &mut Registry, id: u64, fresh: &Files,
     }
 }
 
-// The pins of a record that has no uses, in the same way.
+// The pins of a record without uses, in the same way.
 fn pin(rt: &impl Abort, registry: &mut Registry, id: u64, files: &Files)
     requires { AreBefore registry.old id }
     ensures { AreBefore registry.new (id + 1) }
@@ -140,7 +140,7 @@ fn pins_whole(registry: &mut Registry, id: u64, chosen: u64) -> bool
         .is_ok()
 }
 
-// The pins of a record of which another is pinned as a whole, in the same way.
+// The pins of a record that pins another one as a whole, in the same way.
 fn pin_whole(rt: &impl Abort, registry: &mut Registry, id: u64, chosen: u64)
     requires before { AreBefore registry.old id }
     requires few { length registry.old < 100 }
@@ -205,7 +205,7 @@ fn ended(
     assert!(rt; registry.end(ends, owners) == files);
 }
 
-// Whether so many files are present, and each of these is counted so often.
+// Whether this many files are present, and each of these has this count.
 fn has(registry: &Registry, present: u64, counts: &[(u64, u32)]) -> bool {
     for (file, count) in counts {
         if registry.count(FileId(*file)) != *count {
@@ -280,7 +280,7 @@ fn with_pinned_record(rt: &impl Abort, alloc: Global) -> Result<Registry, AllocE
     Ok(registry)
 }
 
-// The record that is pinned goes first: its files stay for the one that pins them.
+// The pinned record ends first: its files stay for the record that pins them.
 #[test]
 fn keeps_the_files_of_a_record_that_is_pinned_as_a_whole(rt: HostRuntime) -> Result<(), Fail> {
     let mut registry = with_pinned_record(&rt, rt.alloc())?;
@@ -294,7 +294,7 @@ fn keeps_the_files_of_a_record_that_is_pinned_as_a_whole(rt: HostRuntime) -> Res
     Ok(())
 }
 
-// The one that pins ends first, and then a record without files is pinned.
+// The record that pins ends first. After that a record without files is pinned.
 #[test]
 fn lets_go_of_a_record_that_was_pinned_as_a_whole(rt: HostRuntime) -> Result<(), Fail> {
     let mut registry = with_pinned_record(&rt, rt.alloc())?;
@@ -330,7 +330,7 @@ fn with_thousand(rt: &impl Abort, alloc: Global) -> Result<Registry, AllocError>
     Ok(registry)
 }
 
-// A record comes with two files of its own and three of another one, and goes.
+// A record with two files of its own and three of another one begins and ends.
 fn come_and_go(
     rt: &impl Abort,
     alloc: Global,
@@ -353,8 +353,8 @@ fn come_and_go(
     Ok(())
 }
 
-// 1000 records with 100 files each stay, while 20,000 more come and go, each with two files of its
-// own and three of another record. A call that walked the other files would take minutes.
+// 1000 records with 100 files each stay. Meanwhile 20,000 more begin and end, each with two files
+// of its own and three of another record. A call that visited the other files would take minutes.
 #[test]
 fn visits_only_what_a_call_names(rt: HostRuntime) -> Result<(), Fail> {
     let alloc = rt.alloc();

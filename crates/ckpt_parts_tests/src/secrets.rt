@@ -1,4 +1,4 @@
-//! Tests of secrets: where numbers are placed that were chosen against another one.
+//! Tests of secrets: the places of numbers that were chosen against another secret.
 use ckpt_hash::Secret;
 use std::hash::BuildHasher;
 use std::test::Fail;
@@ -6,7 +6,7 @@ use std::test::Fail;
 /// How many places the table of the test has.
 const PLACES: u64 = 256;
 
-/// Among so many numbers 64 meet in each place on the average.
+/// Of this many numbers 64 collide in each place on average.
 const TRIED: u64 = 64 * PLACES;
 
 /// The place of a number in a table, as std's map finds it.
@@ -31,8 +31,8 @@ fn are_spread(secret: &Secret, numbers: &[u64]) -> bool {
         .all(|number| sharing(secret, numbers, *number) <= 8)
 }
 
-/// Somebody who knows the secret can choose numbers that meet. Where either word is another one,
-/// they are spread like any others: of 64 in 256 places, three or four share one.
+/// Somebody who knows the secret can choose numbers that collide. If either word is another one,
+/// these numbers are spread like any others: of 64 in 256 places, three or four share one.
 #[test]
 fn another_word_spreads_numbers_that_meet(rt: HostRuntime) -> Result<(), Fail> {
     let known = Secret::fixed();
@@ -55,8 +55,8 @@ fn another_word_spreads_numbers_that_meet(rt: HostRuntime) -> Result<(), Fail> {
     Ok(())
 }
 
-/// The multiplier is odd, whatever the second word. With this one, and with the one beside it, it would
-/// be 0 and 1, if it were not; under 0 all numbers would meet.
+/// The multiplier is made odd. Otherwise it would be 0 with this second word, and 1 with the next
+/// one. With 0 all numbers would collide.
 #[test]
 fn no_second_word_makes_all_numbers_meet(rt: HostRuntime) -> Result<(), Fail> {
     let numbers: Vec<u64> = (0..64).collect(rt.alloc())?;

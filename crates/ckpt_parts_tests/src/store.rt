@@ -1,4 +1,5 @@
-//! A test of the store where memory is refused. `examples/rows` run its calls: what a job restarts from, and what is dropped.
+//! A test of the store with refused memory. `examples/rows` run its calls: what a job restarts
+//! from, and what is dropped.
 ghost use Rattle.std.specs.Prelude.{◌≡◌, IfOk};
 
 use ckpt_ids::{CheckpointId, Choice, Files, Kind, Shape, SubtaskId};
@@ -23,8 +24,8 @@ fn completed(alloc: Global, kind: Kind, number: u64) -> Result<Done, Fail>
     Ok(done)
 }
 
-// Run with each allocation refused in turn: a refused `reserve` leaves the store as it was, and
-// works when it is made again.
+// Run with each allocation refused in turn: a `reserve` that runs out of memory leaves the store as
+// it was, and works when it is made again.
 #[test]
 fn a_refused_reserve_works_again(rt: HostRuntime) -> Result<(), Fail> {
     let mut store = Store::new(rt.alloc(), 2);

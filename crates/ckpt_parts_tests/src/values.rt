@@ -32,7 +32,7 @@ fn has_three(shape: &Shape) -> bool {
         && !shape.contains(missing)
 }
 
-/// That shape. Where memory is refused, it is made again.
+/// That shape. If memory runs out, it is made again.
 fn of_three(rt: &impl Abort, alloc: Global) -> Result<Shape, ShapeFault> {
     match Shape::new(alloc, &[1, 2]) {
         Err(fault) => {
@@ -43,7 +43,7 @@ fn of_three(rt: &impl Abort, alloc: Global) -> Result<Shape, ShapeFault> {
     }
 }
 
-/// With an allocation refused, the shape is as before, and the same call then answers.
+/// After a refused allocation the shape is as before, and the same call then works.
 #[test]
 fn refused_memory_changes_no_shape(rt: HostRuntime) -> Result<(), Fail> {
     let shape = of_three(&rt, rt.alloc())?;
@@ -75,7 +75,7 @@ fn config_of(values: &[u64; 6]) -> Result<Config, BadConfig> {
     Config::new(interval, pause, at_once, timeout, tolerable, retained, true)
 }
 
-/// What is below the least, or above the most.
+/// Values below the least or above the greatest.
 const BAD: [[u64; 6]; 10] = [
     [9, 0, 1, 1, 0, 1],
     [10, 0, 0, 1, 0, 1],
@@ -116,7 +116,7 @@ fn has_files(list: &Files, files: &[FileId]) -> bool {
         && list.iter().eq(files.iter())
 }
 
-/// With an allocation refused, the files are as before, and the same call then answers.
+/// After a refused allocation the files are as before, and the same call then works.
 #[test]
 fn refused_memory_changes_no_files(rt: HostRuntime) -> Result<(), Fail> {
     let numbers = files(rt.alloc(), &[5, 3]).or_else(|_| files(rt.alloc(), &[5, 3]))?;
@@ -158,7 +158,7 @@ const SUBTASK: SubtaskId = SubtaskId {
     index: 0,
 };
 
-/// Whether the acknowledgement is of that subtask.
+/// Whether the acknowledgement comes from that subtask.
 fn is_of_subtask(acked: Option<&Acked>) -> bool {
     match acked {
         Some(acked) => acked.subtask == SUBTASK,
@@ -166,7 +166,7 @@ fn is_of_subtask(acked: Option<&Acked>) -> bool {
     }
 }
 
-/// Whether the list has that acknowledgement alone.
+/// Whether the list has only that acknowledgement.
 fn has_one(acks: &Acks) -> bool {
     acks.len() == 1
         && !acks.is_empty()

@@ -1,1 +1,2 @@
+-- The lemmas that the proofs use.
 pub mod Words

@@ -1,7 +1,7 @@
 //! A box taken apart: its pointer and its allocator, with the right to free it.
 //!
-//! [`RawBox`] is the way of a box through code that can carry a pointer and nothing else, as a
-//! handle that a C program holds. No memory is taken or freed on the way.
+//! Some code can carry only a pointer, such as a handle that a C program holds. [`RawBox`] takes a
+//! box through such code. That takes and frees no memory.
 #![tactic(auto)]
 
 mod raw_box;

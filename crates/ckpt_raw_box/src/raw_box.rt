@@ -8,9 +8,11 @@ use std::marker::Model;
 
 /// A box as its pointer and its allocator. It owns the value at `at`, and the right to free it.
 ///
-/// It is not dropped by itself: make it a box again with [`RawBox::into_box`].
+/// Nothing drops it: make it a box again with [`RawBox::into_box`].
 pub struct RawBox<T, A: Allocator> {
+    /// The address of the value.
     pub at: *mut T,
+    /// The allocator of the box.
     pub alloc: A,
     /// The value at `at`.
     pub ghost value: { T },

@@ -3,7 +3,7 @@
 use crate::RawBox;
 use std::test::Fail;
 
-/// A box comes back with its value, and is freed as ever.
+/// A box has its value after that, and is freed as usual.
 #[test]
 fn there_and_back(rt: HostRuntime) -> Result<(), Fail> {
     let boxed = Box::new(rt.alloc(), 7u64)?;

@@ -5,7 +5,7 @@ ghost use Rattle.std.specs.Prelude.{◌≡◌, [], ◌∷◌, ◌++◌};
 use std::marker::Model;
 use std::snapshot::Snapshot;
 
-// All items so far. A value lives only for a moment, for its snapshot.
+// All items so far. A value exists only for a moment, for its snapshot.
 struct Link<T> {
     before: Option<Snapshot<Link<T>>>,
     last: T,

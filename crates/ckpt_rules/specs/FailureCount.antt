@@ -4,5 +4,5 @@ use Rattle.std.specs.Prelude.{ℕ}
 pub record FailureCount : Type 0 where
   -- how many are tolerated
   pub tolerable : ℕ
-  -- how many there were since the last that completed
+  -- how many failed since the last completion
   pub number : ℕ

@@ -1,3 +1,4 @@
+-- The definitions that contracts cite.
 pub mod FailureCount
 pub mod Moments
 pub mod Trigger

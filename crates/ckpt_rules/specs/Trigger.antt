@@ -4,8 +4,8 @@ use Rattle.ckpt_ids.specs.Configuration.{Configuration}
 use Rattle.ckpt_rules.specs.declared.hold.Hold.{Hold}
 use Rattle.ckpt_rules.specs.declared.hold.Hold.TheVariants.{Interval, AtOnce, Pause, Go}
 
--- Milliseconds between two triggers.
--- Source: the Flink documentation, "Configuration", execution.checkpointing.interval. That a greater pause lifts it is this project's own rule.
+-- Milliseconds between two triggers. Source: the Flink documentation, "Configuration",
+-- execution.checkpointing.interval. That a greater pause replaces it is this project's own rule.
 abbrev pub gap : Configuration → ℕ
 gap c = max c.interval c.pause
 
@@ -14,14 +14,14 @@ gap c = max c.interval c.pause
 abbrev pub limit : Configuration → ℕ
 limit c = if nat_lt 0 c.pause then 1 else c.at_once
 
--- The moment from which the pause after the last completion is over; 0 where none has completed.
--- Source: the same, execution.checkpointing.min-pause.
+-- The moment at which the pause after the last completion is over; 0 if no checkpoint has completed. Source: the same,
+-- execution.checkpointing.min-pause.
 abbrev pub pause_ends : Configuration → Option ℕ → ℕ
 pause_ends c None = 0
 pause_ends c (Some completed) = completed + c.pause
 
--- Whether a checkpoint is held back at the moment t, where so many are pending: the first of the three that holds decides.
--- The order of the three is this project's own rule.
+-- Whether a checkpoint is held back at the moment t while this many are pending: the first of the three that applies
+-- decides. The order of the three is this project's own rule.
 abbrev pub hold : Configuration → ℕ → Option ℕ → ℕ → ℕ → Hold
 hold c due completed t pending =
     if nat_lt t due then Interval

@@ -4,7 +4,7 @@ use std::alloc::{AllocError, Global};
 use std::process::Abort;
 use std::test::Fail;
 
-/// Whether the lines print this after those that start a job of one subtask.
+/// Whether the lines print this after the lines that start a job of one subtask.
 fn prints_after_start(
     alloc: Global,
     lines: &[u8],

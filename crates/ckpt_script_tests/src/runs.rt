@@ -8,7 +8,7 @@ use std::io::{Read, Write};
 use std::process::Abort;
 use std::test::Fail;
 
-/// Gives a text in pieces of at most so many bytes, and fails once it was read so often.
+/// Returns a text in pieces of at most this many bytes, and fails after this many reads.
 #[derive(Drop)]
 struct Pieces<'a> {
     text: &'a [u8],
@@ -29,7 +29,7 @@ impl<'a> Read for Pieces<'a> {
     }
 }
 
-/// Takes so many bytes, and then fails.
+/// Takes this many bytes, and then fails.
 #[derive(Drop)]
 struct Narrow {
     taken: Vec<u8>,
@@ -52,7 +52,7 @@ impl Write for Narrow {
     }
 }
 
-/// Takes all, and fails to flush.
+/// Takes all bytes, and fails to flush.
 #[derive(Drop)]
 struct Unflushed(Vec<u8>);
 
@@ -67,7 +67,7 @@ impl Write for Unflushed {
     }
 }
 
-/// Takes nothing, and tells no fault.
+/// Takes no bytes, and returns no fault.
 #[derive(Drop)]
 struct Full;
 
@@ -108,7 +108,7 @@ fn abandoned() -> &'static [u8] {
     b"config 1000 0 1 600000 0 1 delete\njob 1\nstart 0\ntick 1000\nack 1000 1 0.0 +1\nsavepoint 1500\nack 1500 2 0.0 +2\ntick 2000\nack 2000 3 0.0 +3\nrestore 2500 2\nrestore 2600 latest\ndispose 2\ntick 3600\nack 3600 4 0.0 +4 =2\ndispose 2\ncount 2\ntake 9\n".as_slice()
 }
 
-/// Each of its lines, but for the first three, prints one.
+/// Each of its lines after the first three prints one line.
 fn abandoned_output() -> &'static [u8] {
     b"tick expired 0 triggered 1\nack completed 0 0\nsavepoint triggered 2\nack completed 0 0\ntick expired 0 triggered 3\nack completed 1 1\nrestored savepoint 2 1\nrestored savepoint 2 0\nrefused InUse\ntick expired 0 triggered 4\nack completed 0 0\ndisposed 0\ncount 2 1\ntake 1 3\n".as_slice()
 }
@@ -152,7 +152,7 @@ fn newlines(text: &[u8]) -> usize {
     count
 }
 
-/// So many lines of a text, from its first on.
+/// This many lines from the start of a text.
 fn front(text: &[u8], lines: usize) -> &[u8] {
     let mut left = lines;
     for place in 0..text.len() {
@@ -166,7 +166,7 @@ fn front(text: &[u8], lines: usize) -> &[u8] {
     text
 }
 
-/// Whether a run ended so, and wrote this. Where memory ran out, it has to have written its front.
+/// Whether a run ended this way, and wrote this. If memory ran out, it wrote a prefix of this.
 pub(crate) fn is_so(
     answer: Result<Summary, RunFault>,
     written: &[u8],
@@ -179,7 +179,7 @@ pub(crate) fn is_so(
     Ok(answer == expected && written == output)
 }
 
-/// Whether a run of what is read ends so, and writes this.
+/// Whether a run of this input ends this way, and writes this.
 fn runs<R: Read>(
     alloc: Global,
     reader: &mut R,
@@ -191,7 +191,7 @@ fn runs<R: Read>(
     is_so(answer, written.as_slice(), expected, output)
 }
 
-/// Whether a script of so many lines, of which so many have a fault, prints this.
+/// Whether a script of this many lines, of which this many have a fault, prints this.
 pub(crate) fn prints(
     alloc: Global,
     script: &[u8],
@@ -203,7 +203,7 @@ pub(crate) fn prints(
     runs(alloc, &mut text, whole(lines, faults), output)
 }
 
-/// Whether a run into a writer that takes so many bytes and then fails writes them.
+/// Whether a run writes this many bytes to a writer that takes no more and then fails.
 fn writes(alloc: Global, script: &[u8], room: usize, output: &[u8]) -> Result<bool, AllocError> {
     let mut reader = script;
     let taken = Vec::with_capacity(alloc, room)?;
@@ -217,8 +217,8 @@ fn writes(alloc: Global, script: &[u8], room: usize, output: &[u8]) -> Result<bo
     )
 }
 
-/// Whether a run ends where read `reads` fails, all of seven bytes, and writes what the lines print
-/// that were read whole.
+/// Whether a run ends with `Read` if reading fails after this many reads of at most seven bytes. It
+/// writes what the whole lines print.
 fn fails_at(alloc: Global, reads: usize) -> Result<bool, AllocError> {
     let text = abandoned();
     let given = text.len().min(reads.saturating_mul(7));
@@ -236,8 +236,8 @@ fn fails_at(alloc: Global, reads: usize) -> Result<bool, AllocError> {
     )
 }
 
-/// Whether a run of so many bytes counts their lines, and writes what the whole ones print, and
-/// after that a line at most.
+/// Whether a run of this many bytes counts their lines. It writes what the whole lines print, and
+/// at most one line after that.
 fn ends_after(alloc: Global, bytes: usize) -> Result<bool, AllocError> {
     let text = abandoned();
     let mut piece = &text[..bytes.min(text.len())];

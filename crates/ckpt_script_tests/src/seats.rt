@@ -1,4 +1,4 @@
-//! Tests of who made each call of a script: a team looks at the book that an `all` line hands it.
+//! Tests of the seats of a script's calls: a team looks at the book that an `all` line gives it.
 use crate::runs::is_so;
 use ckpt_call_lines::call_line;
 use ckpt_ids::Call;
@@ -9,8 +9,8 @@ use std::alloc::{AllocError, Global};
 use std::process::Abort;
 use std::test::Fail;
 
-/// Makes the calls as [`InOrder`] does, and tells the entries of the book that it was given last: a
-/// line for each, with its seat and its call.
+/// Makes the calls as [`InOrder`] does, and keeps the entries of the last book that it got: a line
+/// for each, with its seat and its call.
 #[derive(Drop)]
 struct Looking {
     alloc: Global,
@@ -55,7 +55,7 @@ fn seat_name(seat: u32) -> &'static str {
     }
 }
 
-/// Whether a script prints this, and the last `all` line that makes calls finds these entries.
+/// Whether a script prints this, and its last `all` line that makes calls finds these entries.
 fn enters(
     alloc: Global,
     script: &[u8],
@@ -74,8 +74,8 @@ fn enters(
     Ok(printed && team.entries.as_str() == entries)
 }
 
-// Lines that make no call: a comment, one with a fault, and what the script itself refuses, but for an
-// `all` line that finds its record not pending: it has asked for it.
+// Lines that make no call: a comment, a line with a fault, and lines that the script itself
+// refuses. An `all` line whose record is not pending does make one call: it asks for the record.
 #[test]
 fn a_line_has_a_seat_of_its_own(rt: HostRuntime) -> Result<(), Fail> {
     let script =
@@ -92,8 +92,8 @@ fn a_line_has_a_seat_of_its_own(rt: HostRuntime) -> Result<(), Fail> {
     Ok(())
 }
 
-// The first `all` line leaves subtask 0.1 missing, whose file has a taken name, so it asks for the
-// record again. The others complete theirs.
+// The first `all` line leaves subtask 0.1 missing, because the name of its file is taken. So it
+// asks for the record again. The others complete theirs.
 #[test]
 fn an_all_line_deals_its_calls_to_seats(rt: HostRuntime) -> Result<(), Fail> {
     let script =

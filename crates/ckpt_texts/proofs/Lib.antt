@@ -1,3 +1,4 @@
+-- The lemmas that the proofs use.
 pub mod ListLemmas
 pub mod MissingLemmas
 pub mod NoFloats

@@ -25,7 +25,7 @@ none_within-absurd [] k none within = omega arith
 none_within-absurd (x ∷ xs) zero none within = cc
 none_within-absurd (x ∷ xs) (suc k) none within = none_within-absurd xs k none (omega arith)
 
--- the count of a front, with one element more
+-- the count in a prefix, with one element more
 pub count_by-take-next : {X : Type 0} (p : X → Bool) (xs : List X) (k : ℕ) (b : Bool) (old new : ℕ) → k < length xs → b ≡ option_map_or p (slice_get xs k) false → old ≡ count_by p (take k xs) → new ≡ old + cond b 1 0 → new ≡ count_by p (take (k + 1) xs)
 count_by-take-next {X} p xs k b old new within e before after = by (slice_get xs k) refl
   where

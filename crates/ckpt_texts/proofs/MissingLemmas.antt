@@ -1,4 +1,4 @@
--- Each subtask of a shape is missing, or one acknowledgement is of it.
+-- Each subtask of a shape is missing, or one acknowledgement comes from it.
 use Rattle.std.proofs.Common.{◌≡◌, ℕ, ◌+◌, Bool, true, false, ◌||◌, List, [], ◌∷◌, length, refl, sym, ap, ◌∙◌, ⊎_elim, arith}
 use Rattle.std.specs.Prelude.{count_by, not}
 use Rattle.std.specs.List.{list_any}
@@ -20,7 +20,7 @@ is_acked acks s = list_any (λ a. same_subtask s a.subtask) acks
 abbrev is_missing : List Acked → SubtaskId → Bool
 is_missing acks s = not (is_acked acks s)
 
--- no later acknowledgement is of the first one's subtask
+-- no later acknowledgement comes from the first one's subtask
 acked_once : (a : Acked) (acks : List Acked) → AreInSubtaskOrder (a ∷ acks) → is_acked acks a.subtask ≡ false
 acked_once a acks order = ⊎_elim twice (λ (h : is_acked acks a.subtask ≡ false). h) (cases_Bool (is_acked acks a.subtask))
   where

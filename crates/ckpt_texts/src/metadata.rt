@@ -63,7 +63,7 @@ fn ack_value(alloc: Global, acked: &Acked) -> Result<Value, AllocError>
     json!(in alloc; {"files": files, "subtask": subtask})
 }
 
-/// The numbers of the files as a JSON array, in ascending order. Fails only for want of memory.
+/// The numbers of the files as a JSON array, in ascending order. Fails only if memory runs out.
 pub fn files_value(alloc: Global, files: &Files) -> Result<Value, AllocError>
     ensures { IfOk result (λ value. view value ≡ list (map natural files.now)) }
 {
@@ -74,7 +74,7 @@ pub fn files_value(alloc: Global, files: &Files) -> Result<Value, AllocError>
     Ok(Value::from(items))
 }
 
-/// The parallelisms as a JSON array, one for each vertex. Fails only for want of memory.
+/// The parallelisms as a JSON array, one for each vertex. Fails only if memory runs out.
 pub fn shape_value(alloc: Global, shape: &Shape) -> Result<Value, AllocError>
     ensures { IfOk result (λ value. view value ≡ list (map natural shape.now)) }
 {
@@ -117,7 +117,7 @@ fn acknowledged(acks: &Acks, shape: &Shape) -> u64
     count
 }
 
-/// Whether the acknowledgement at this place is of a subtask of the shape.
+/// Whether the acknowledgement at this place comes from a subtask of the shape.
 fn is_of(acks: &Acks, place: usize, shape: &Shape) -> bool
     ensures { result ≡ option_map_or (λ a. is_subtask shape.now a.subtask) (slice_get acks.now place) false }
 {

@@ -1,4 +1,4 @@
--- Shares and reports may cross threads.
+-- Shares and reports may go to another thread.
 use denote.Param.Send.{IsSend, sendable}
 use Rattle.std.proofs.Crossing.{crosses}
 use Rattle.ckpt_ids.specs.contracts.call.Call as Call

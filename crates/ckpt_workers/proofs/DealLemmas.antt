@@ -46,7 +46,7 @@ module _ {A : Type 0} where
           ∙ ap (λ l. dealt_to (length hands) k xs ++ l) (sym (in_turn_not (length hands) (length xs) k x (λ e. ne (sym e ∙ sym at))))
           ∙ sym (dealt_to-push (length hands) k xs x))
 
-  -- the same, where the hands are held in something else
+  -- the same, if the hands are part of something else
   pub IsDeal-given : {S : Type 0} (held : S → List A) (shares : List S) (place n : ℕ) (xs : List A) (x : A) (old new : S) → 0 < length shares → n ≡ length shares → place ≡ length xs
       → old ≡ get_or shares (place % n) old → held new ≡ held old ++ x ∷ [] → IsDeal (map held shares) xs → IsDeal (map held (set shares (place % n) new)) (xs ++ x ∷ [])
   IsDeal-given held shares place n xs x old new some many at is more deal =
@@ -59,7 +59,7 @@ module _ {A : Type 0} where
       subst (λ l. IsDeal l (xs ++ x ∷ [])) (sym (map-set held shares seat new ∙ ap (set hands seat) (more ∙ ap (λ l. l ++ x ∷ []) mine)))
       (IsDeal-push hands xs x seat turn (omega arith) deal)
 
-  -- what was read so far begins each hand
+  -- each hand begins with what was read so far
   abbrev pub IsRead : List (List A) → List A → Type 0
   IsRead hands xs = (k : ℕ) → k < length hands → dealt_to (length hands) k xs ≡ take (length (dealt_to (length hands) k xs)) (get_or hands k [])
 
@@ -95,7 +95,7 @@ module _ {A : Type 0} where
           let all : dealt_to n k (xs ++ x ∷ []) ≡ dealt_to n k xs = dealt_to-push n k xs x ∙ ap (λ l. dealt_to n k xs ++ l) (in_turn_not n (length xs) k x ne) ∙ append-nil (dealt_to n k xs) in
           all ∙ read k below ∙ ap (λ l. take (length l) (get_or hands k [])) (sym all))
 
-  -- where all were read, they are what was dealt out
+  -- if all were read, they are what was dealt out
   pub IsRead-all : (hands : List (List A)) (xs : List A) (count : ℕ) → length xs ≡ count → IsDealOf hands count → IsRead hands xs → IsDeal hands xs
   IsRead-all hands xs count as_many of read = λ k below.
       let n = length hands in

@@ -61,7 +61,7 @@ turns_of-le n k m (suc more) below =
     let e : m + suc more ≡ m + more + 1 = omega arith in
     omega (arith, turns_of-le n k m more below, turns_of-next n k (m + more) below, ap (turns_of n k) e)
 
--- the seat's place in its list, where more places than this one are dealt out
+-- the seat's place in its list, if more places than this one are dealt out
 pub turns_of-within : (n m count : ℕ) → 0 < n → m < count → m / n < turns_of n (m % n) count
 turns_of-within n m count some less =
     let small : m % n < n = mod-lt m some in
@@ -74,7 +74,7 @@ module _ {A : Type 0} where
   abbrev pub dealt_from : ℕ → ℕ → ℕ → List A → List A
   dealt_from n threads seat xs = map (λ (p : ℕ × A). p.1) (filter (λ p. eqb (p.0 % threads) seat) (enumerate_from n xs))
 
-  -- the one at this place, where it goes to the seat
+  -- the one at this place, if it goes to the seat
   abbrev pub in_turn : ℕ → ℕ → ℕ → A → List A
   in_turn threads seat place x = cond (eqb (place % threads) seat) (x ∷ []) []
 
@@ -104,7 +104,7 @@ module _ {A : Type 0} where
       dealt_from-append 0 threads seat xs (x ∷ [])
       ∙ ap (λ l. dealt_from 0 threads seat xs ++ l) (dealt_from-one (0 + length xs) threads seat x ∙ ap (λ k. in_turn threads seat k x) (omega arith))
 
-  -- one more in front
+  -- one more at the start
   pub dealt_from-cons : (n threads seat : ℕ) (x : A) (xs : List A) → dealt_from n threads seat (x ∷ xs) ≡ in_turn threads seat n x ++ dealt_from (n + 1) threads seat xs
   dealt_from-cons n threads seat x xs =
       dealt_from-append n threads seat (x ∷ []) xs

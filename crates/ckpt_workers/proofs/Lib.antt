@@ -1,3 +1,4 @@
+-- The lemmas that the proofs use.
 pub mod Crossings
 pub mod DealLemmas
 pub mod Dealing

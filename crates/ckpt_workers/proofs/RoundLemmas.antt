@@ -21,7 +21,7 @@ never : (b : Bool) → b ≡ false → b ≡ true → ⊥
 never true e t = absurd cc
 never false e t = absurd cc
 
--- where the files stand before the first is tried
+-- the state of the files before the first is tried
 pub IsReported-none : (files : List ℕ) (gone : Bool) (stored : Stored) (hand : Hand) (round : Round)
     → round.left ≡ files → round.gone ≡ gone → round.taken ≡ length files → round.deleted ≡ 0 → round.failed ≡ 0 → round.memory ≡ false
     → (gone ≡ true → files ≢ [])
@@ -43,7 +43,7 @@ IsReported-none files gone stored hand round left is_gone taken deleted failed m
   gone_left = λ e none. some (sym is_gone ∙ e) (sym left ∙ none);
 }
 
--- what storage's list gains by a try
+-- the files that storage's list gains by a try
 tried_gain : (file : ℕ) (rest : List ℕ) (gone deleted : Bool) (before after : Stored) → IsTried file gone before after deleted
     → (more : List ℕ) × (after.deleted ≡ before.deleted ++ more) × (gone_in gone (file ∷ rest) ++ more ≡ gone_in deleted (file ∷ rest))
 tried_gain file rest true deleted before after t = ([], ap (λ (s : Stored). s.deleted) t.1 ∙ sym (append-nil before.deleted), ap (λ d. gone_in d (file ∷ rest)) (sym t.0))
@@ -68,7 +68,7 @@ gained_more files rest fates gained more file first gone deleted was adds =
     ∙ append_assoc (deleted_in fates) (gone_in gone (file ∷ rest)) more
     ∙ ap (λ l. deleted_in fates ++ l) adds
 
--- a try whose report found no memory
+-- a try whose report ran out of memory
 pub IsReported-stop : (files rest : List ℕ) (file : ℕ) (first deleted : Bool) (before mid after : Stored) (old hand : Hand) (was is : Round)
     → IsReported files first before mid old hand was → was.left ≡ file ∷ rest → IsTried file was.gone mid after deleted
     → is.taken ≡ was.taken → is.deleted ≡ was.deleted → is.failed ≡ was.failed → is.left ≡ file ∷ rest → is.gone ≡ deleted
@@ -163,7 +163,7 @@ IsReported-next files rest file first deleted before mid after old hand new was 
       gone_left = λ e. absurd (never is.gone is_gone e);
     }
 
--- the same round, told otherwise
+-- the same round in other words
 pub IsReported-as : (files : List ℕ) (first : Bool) (before after : Stored) (old new : Hand) (was is : Round)
     → IsReported files first before after old new was
     → is.taken ≡ was.taken → is.deleted ≡ was.deleted → is.failed ≡ was.failed → is.left ≡ was.left → is.gone ≡ was.gone → is.memory ≡ was.memory
@@ -193,7 +193,7 @@ pub drop_at : (files : List ℕ) (place file : ℕ) → slice_get files place �
 drop_at files place file at =
     drop_more files place file (slice_get_within files place file at) ∙ ap (λ f. f ∷ drop (place + 1) files) (get_or_from_slice_get files place file file at)
 
--- a round that a discarder made can be gone on with
+-- a discarder's round can be resumed
 pub can_resume : (most : ℕ) (before after : Stored) (old new : Hand) (round : Round) (answer : Option Answer)
     → IsDiscarded most before after old new round answer → round.gone ≡ true → round.left ≢ []
 can_resume most before after old new round None is e = absurd (never round.gone (ap (λ (r : Round). r.gone) is.2) e)

@@ -34,7 +34,7 @@ answers_by-append k h (x ∷ xs) ys =
     by_test true rest = ap (λ l. answer_to h x.call ∷ l) rest
     by_test false rest = rest
 
--- where the seat makes no call, it gets no answer
+-- if the seat makes no call, it gets no answer
 pub answers_by-none : (k : ℕ) (h : History) (es : List Entry) → calls_by k es ≡ [] → answers_by k h es ≡ []
 answers_by-none k h [] none = refl
 answers_by-none k h (x ∷ xs) none = by_test (eqb x.seat k) (λ e. answers_by-none k (entered h x.seat x.call) xs e) none

@@ -1,4 +1,4 @@
--- Reports, where none is missing.
+-- Reports, if none is missing.
 use Rattle.std.proofs.Common.{◌≡◌, ℕ, ◌<◌, List, [], ◌∷◌, zero, suc, get_or, subst, sym}
 use Rattle.std.specs.Prelude.{map, Ok, Err, Result, IfOk}
 
@@ -7,7 +7,7 @@ at_place E P [] i r p = p
 at_place E P (x ∷ xs) zero r p = p
 at_place E P (x ∷ xs) (suc i) r p = at_place E P xs i r p
 
--- what holds of the outcome at a place, where each is a report, holds of the report
+-- a fact about the outcome at a place holds for its report, if each outcome is a report
 report_at : {R E : Type 0} (P : R → Type 0) (reports : List R) (outcomes : List (Result R E)) (i : ℕ) (r : R)
     → map (λ (x : R). Ok x) reports ≡ outcomes → IfOk (get_or outcomes i (Ok r)) P → P (get_or reports i r)
 report_at P reports outcomes i r all h = at_place _ P reports i r (subst (λ l. IfOk (get_or l i (Ok r)) P) (sym all) h)

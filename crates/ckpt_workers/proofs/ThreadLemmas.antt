@@ -30,7 +30,7 @@ use Rattle.ckpt_workers.proofs.TeamLemmas.{IsCounted, IsTally-push}
 abbrev book_of : Hand → History
 book_of h = h.lock.base.book
 
--- what the hand has seen later is what it had seen, what others entered, and the call
+-- what the hand has seen later: what it had seen, the entries of others, and the call
 later_is : (old new : Hand) (call : Call) (answer : Answer) → (m : Made old call new answer) → new.later ≡ (old.later ++ m.between) ++ entry old.seat call ∷ []
 later_is old new call answer m =
     let e = entry old.seat call in
@@ -88,7 +88,7 @@ answers_more old new call answer m at =
     )
     ∙ ap (λ l. answers_by k book old.later ++ l) (one_answer k (after book found) call ∙ ap (λ (h : History). answer_to h call ∷ []) here ∙ ap (λ a. a ∷ []) (sym m.answer_is))
 
--- what the entries that a hand has seen say of its calls and answers
+-- what follows for a hand's calls and answers from the entries that it has seen
 pub record IsTold (old : Hand) (told : List Exchange) (new : Hand) : Type 0 where
   pub own : calls_by old.seat new.later ≡ new.own
   pub answers : answers_by old.seat (book_of old) new.later ≡ answers_by old.seat (book_of old) old.later ++ answers_in told
@@ -128,7 +128,7 @@ newcomers_at lock (suc n) k d below =
     let long : length (newcomers lock n) ≡ n = length-newcomers lock n in
     get_or_append_left (newcomers lock n) (newcomer lock n ∷ []) d k (omega (arith, ne)) ∙ newcomers_at lock n k d (omega (arith, ne)))
 
--- what a seat's calls and answers are in the book that comes back
+-- a seat's calls and answers in the book that the lock returns
 pub record IsSeats (lock : Lock) (book : History) (k : ℕ) (share : Share) (report : Report) : Type 0 where
   pub calls : calls_by k (later_in lock book) ≡ share.calls.items
   pub answers : answers_by k lock.base.book (later_in lock book) ≡ report.answers.items
@@ -166,7 +166,7 @@ head_of : {X : Type 0} (xs : List X) → 0 < length xs → X
 head_of [] some = absurd (omega arith)
 head_of (x ∷ xs) some = x
 
--- what its share and its report say of a seat
+-- what a seat's share and its report say
 IsSeats-at : (lock : Lock) (shares : List Share) (reports : List Report) (book : History)
     → map (λ (s : Share). s.pass) shares ≡ newcomers lock lock.base.seats
     → length reports ≡ length shares
@@ -220,7 +220,7 @@ IsTeamwork-threads lock calls shares reports book made passes dealt as_many work
       completed_is = tallied.tally.completed;
     }
 
--- so many answers were read and counted
+-- this many answers were read and counted
 pub record IsCounting (hands : List (List Answer)) (book : History) (place : ℕ) (made : team.Made) : Type 0 where
   pub told : List Answer
   pub as_many : length told ≡ place
@@ -237,7 +237,7 @@ IsCounting-none hands book made is = record {
   tally = record { accepted = ap (λ (m : team.Made). m.accepted) is; refused = ap (λ (m : team.Made). m.refused) is; completed = ap (λ (m : team.Made). m.completed) is };
 }
 
--- where more places than this one are dealt out, its hand has an answer for it
+-- if more places than this one are dealt out, its hand has an answer for it
 pub turn_within : {X : Type 0} (items : X → List Answer) (xs : List X) (count place : ℕ) (x : X) → 0 < length xs → IsDealOf (map items xs) count → place < count → x ≡ get_or xs (place % length xs) x → place / length xs < length (items x)
 turn_within items xs count place x some of less hand =
     let n = length xs in
@@ -289,7 +289,7 @@ pub map_twice : {X Y Z : Type 0} (f : X → Y) (g : Y → Z) (xs : List X) → m
 map_twice f g [] = refl
 map_twice f g (x ∷ xs) = ap (λ l. g (f x) ∷ l) (map_twice f g xs)
 
--- the passes of new shares are of the lock
+-- the passes of new shares belong to the lock
 pub shares_are : (lock : Lock) (n : ℕ) (shares : List Share) → map (λ (s : Share). s.pass) shares ≡ newcomers lock n → All (λ (s : Share). s.pass.lock ≡ lock) shares
 shares_are lock n shares passes = λ k d below.
     let long : length shares ≡ length (newcomers lock n) = sym (length-map shares (λ (s : Share). s.pass)) ∙ ap length passes in

@@ -1,4 +1,4 @@
--- A timer, beat by beat.
+-- A timer, tick by tick.
 use Rattle.std.proofs.Common.{◌≡◌, ℕ, ◌+◌, cond, List, [], ◌∷◌, ◌++◌, refl, sym, ap, ◌∙◌, subst, append_assoc, append-nil}
 use Rattle.std.specs.Prelude.{map, not, Option, Some, None, is_some}
 use Rattle.std.proofs.lemmas.List.{map-append}

@@ -1,4 +1,4 @@
--- Lists that the members of one list were dealt out to, in turn.
+-- Lists to which the members of one list were dealt out in turn.
 use Rattle.std.specs.Prelude.{◌≡◌, ℕ, ◌+◌, ◌-◌, ◌/◌, ◌<◌, List, [], length, slice_index_or}
 use Rattle.ckpt_ids.specs.declared.reply.Answer.{Answer}
 use Rattle.ckpt_workers.specs.declared.team.Made.{Made}
@@ -16,7 +16,7 @@ turns_of threads seat count = (count + (threads - 1 - seat)) / threads
 abbrev pub IsDealOf : {A : Type 0} → List (List A) → ℕ → Type 0
 IsDealOf hands count = (k : ℕ) → k < length hands → length (slice_index_or hands k []) ≡ turns_of (length hands) k count
 
--- so many answers were dealt out, and counted in the order in which they were
+-- this many answers were dealt out, and counted in the order of the deal
 pub record IsTallied (hands : List (List Answer)) (count : ℕ) (made : Made) : Type 0 where
   pub answers : List Answer
   pub as_many : length answers ≡ count

@@ -1,3 +1,4 @@
+-- The definitions that contracts cite.
 pub mod Deals
 pub mod Orders
 pub mod Rounds

@@ -1,4 +1,4 @@
--- What a task is ordered to acknowledge.
+-- The acknowledgements that a task can be ordered to make.
 use Rattle.std.specs.Prelude.{◌≡◌, Bool, true, false, None}
 use Rattle.ckpt_ids.specs.declared.call.Call.{Call}
 use Rattle.ckpt_ids.specs.declared.call.Call.TheVariants.{Ack}
@@ -8,7 +8,7 @@ abbrev pub is_ack : Call → Bool
 is_ack (Ack now id subtask fresh reused) = true
 is_ack call = false
 
--- an acknowledgement that no coordinator refuses for its moment, for the number of its files, or for a file that is named twice
+-- an acknowledgement that no coordinator refuses for its moment, for the number of its files, or for a repeated file
 pub record IsOrder (call : Call) : Type 0 where
   pub ack : is_ack call ≡ true
   pub moment : moment_too_large (moment_of call) ≡ None

@@ -28,25 +28,26 @@ reports_of fates = map (λ f. report_of f.file f.deleted) fates
 abbrev pub deleted_in : List Fate → List ℕ
 deleted_in fates = map (λ f. f.file) (filter (λ f. f.deleted) fates)
 
--- the first of the files, where storage has deleted it and that is not reported
+-- the first of the files, if storage has deleted it and that is not reported
 abbrev pub gone_in : Bool → List ℕ → List ℕ
 gone_in gone files = if gone then take 1 files else []
 
--- The file was deleted, or storage failed; one that was gone before was not tried again.
+-- The file was deleted, or storage failed. A file that was gone before was not tried again.
 abbrev pub IsTried : ℕ → Bool → Stored → Stored → Bool → Type 0
 IsTried file true before after deleted = (deleted ≡ true) × (after ≡ before)
 IsTried file false before after true = (after.deleted ≡ before.deleted ++ file ∷ []) × (before.failures ≤ after.failures)
 IsTried file false before after false = (after.deleted ≡ before.deleted) × (before.failures < after.failures)
 
--- The files were reported in order, from the first on, each as what storage did with it; the rest is left. `gone` says whether storage had
--- deleted the first before: then it is reported and not deleted again. Where the round ends for want of memory, or a file is gone, some are left.
+-- The files were reported in order, from the first on, each as what storage did with it. The others are left. `gone`
+-- says whether storage had deleted the first file before: then it is reported and not deleted again. If the round runs
+-- out of memory, or a file is gone, some files are left.
 pub record IsReported (files : List ℕ) (gone : Bool) (before after : Stored) (old new : Hand) (round : Round) : Type 0 where
   pub fates : List Fate
   pub files_are : files ≡ map (λ f. f.file) fates ++ round.left
   pub told : List Exchange
   pub shift : IsShift old told new
   pub calls_are : calls_in told ≡ reports_of fates
-  -- what storage's list gains
+  -- the files that storage's list gains
   pub gained : List ℕ
   pub storage_is : after.deleted ≡ before.deleted ++ gained
   pub gained_is : gone_in gone files ++ gained ≡ deleted_in fates ++ gone_in round.gone round.left
@@ -57,7 +58,7 @@ pub record IsReported (files : List ℕ) (gone : Bool) (before after : Stored) (
   pub memory_left : round.memory ≡ true → round.left ≢ []
   pub gone_left : round.gone ≡ true → round.left ≢ []
 
--- a round ends with all files reported, or for want of memory at the first that is left
+-- a round ends when all files are reported, or when it runs out of memory at the first that is left
 pub record IsEnded (round : Round) : Type 0 where
   pub all : round.memory ≡ false → (round.left ≡ []) × (round.gone ≡ false)
   pub counted : round.deleted + round.failed + length round.left ≡ round.taken
@@ -69,7 +70,7 @@ taken_in answer = []
 abbrev pub nothing_taken : Round
 nothing_taken = record { taken = 0; deleted = 0; failed = 0; left = []; gone = false; memory = true }
 
--- One take, and then reports on its files; without memory for the take, nothing.
+-- One take, and then reports on its files. Nothing, if the take ran out of memory.
 abbrev pub IsDiscarded : ℕ → Stored → Stored → Hand → Hand → Round → Option Answer → Type 0
 IsDiscarded most before after old new round None = (new ≡ old) × (after ≡ before) × (round ≡ nothing_taken)
 IsDiscarded most before after old new round (Some answer) =

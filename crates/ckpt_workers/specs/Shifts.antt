@@ -15,7 +15,7 @@ calls_in told = map (λ t. t.call) told
 abbrev pub answers_in : List Exchange → List Answer
 answers_in told = map (λ t. t.answer) told
 
--- each call was made with the pass that the one before left
+-- each call was made with the pass that the call before left
 abbrev pub MadeAll : Hand → List Exchange → Hand → Type 0
 MadeAll old [] new = new ≡ old
 MadeAll old (t ∷ rest) new = (next : Hand) × Made old t.call next t.answer × MadeAll next rest new
@@ -26,7 +26,7 @@ pub record IsShift (old : Hand) (told : List Exchange) (new : Hand) : Type 0 whe
   pub own : new.own ≡ old.own ++ calls_in told
   pub made : MadeAll old told new
 
--- a call was made, or found no memory and left the pass as it was
+-- a call was made, or ran out of memory and left the pass as it was
 abbrev pub IsAsked : Hand → Call → Hand → Option Answer → Type 0
 IsAsked old call new None = new ≡ old
 IsAsked old call new (Some answer) = Made old call new answer

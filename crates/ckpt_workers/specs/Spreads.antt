@@ -11,11 +11,11 @@ pub record IsWorked (share : Share) (report : Report) : Type 0 where
   pub calls_are : calls_in told ≡ share.calls.items
   pub answers_are : answers_in told ≡ report.answers.items
 
--- report i is of share i
+-- report i is that of share i
 abbrev pub AreWorked : List Share → List Report → Type 0
 AreWorked shares reports = (i : ℕ) (s : Share) (r : Report) → i < length shares → IsWorked (slice_index_or shares i s) (slice_index_or reports i r)
 
--- what came of share i, where it is a report, is of share i
+-- the result of share i, if it is a report, is that of share i
 abbrev pub AreTried : {E : Type 0} → List Share → List (Result Report E) → Type 0
 AreTried {E} shares outcomes =
     (i : ℕ) (s : Share) (o : Result Report E) → i < length shares → IfOk (slice_index_or outcomes i o) (IsWorked (slice_index_or shares i s))

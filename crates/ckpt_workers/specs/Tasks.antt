@@ -17,7 +17,7 @@ abbrev pub is_late : Answer → Bool
 is_late (Done (AckLate handed)) = true
 is_late answer = false
 
--- neither taken in nor late
+-- neither pending, completed nor late
 abbrev pub is_other : Answer → Bool
 is_other answer = not (is_taken_in answer || is_late answer)
 
@@ -26,7 +26,7 @@ abbrev pub answers : (Answer → Bool) → Option Answer → Bool
 answers kind None = false
 answers kind (Some answer) = kind answer
 
--- Only orders were called, and the answers are counted by what they say.
+-- Only orders were called, and the answers are counted by their kinds.
 pub record IsTasked (old new : Hand) (tally : Tally) : Type 0 where
   pub told : List Exchange
   pub shift : IsShift old told new

@@ -1,4 +1,4 @@
--- What a team makes of a list of calls.
+-- What a team does with a list of calls.
 use Rattle.std.specs.Prelude.{◌≡◌, ℕ, ◌+◌, ◌%◌, ◌<◌, ◌==◌, if◌then◌else◌, Bool, true, false, not, List, ◌++◌, map, filter, length, count_by}
 use Rattle.std.specs.List.{enumerate_from}
 use Rattle.std.specs.Option.{option_or}
@@ -19,7 +19,7 @@ abbrev pub is_accepted : Answer → Bool
 is_accepted (Done reply) = true
 is_accepted (Refused why) = false
 
--- what is counted of these answers
+-- the counts of these answers
 pub record IsTally (made : Made) (answers : List Answer) : Type 0 where
   pub accepted : made.accepted ≡ count_by is_accepted answers
   pub refused : made.refused ≡ count_by (λ a. not (is_accepted a)) answers
@@ -32,8 +32,8 @@ pub record IsOneMore (old : Made) (seat : ℕ) (call : Call) (new : Made) : Type
   pub refused : new.refused ≡ old.refused + (if is_accepted (answer_to old.book call) then 0 else 1)
   pub completed : new.completed ≡ option_or old.completed (completed_by (answer_to old.book call))
 
--- The calls of the list are entered, each with its seat, and the answers are counted. The seats' calls may stand in any order among
--- each other.
+-- The calls of the list are entered, each with its seat, and the answers are counted. The calls of different seats may
+-- be in any order.
 pub record IsTeamwork (old : History) (calls : List Call) (threads : ℕ) (made : Made) : Type 0 where
   pub new : List Entry
   pub book_is : made.book ≡ record old { entries = old.entries ++ new }

@@ -8,7 +8,7 @@ use Rattle.ckpt_workers.specs.declared.timer.TimerTally.{TimerTally}
 use Rattle.ckpt_workers.specs.Shifts.{Exchange, IsShift, capped}
 use Rattle.ckpt_workers.specs.Teams.{is_accepted}
 
--- a moment, and what its tick was answered: nothing where it found no memory
+-- a moment, and the answer to its tick: none if the tick ran out of memory
 pub record Beat : Type 0 where
   pub moment : ℕ
   pub answer : Option Answer
@@ -25,7 +25,7 @@ abbrev pub is_refused : Option Answer → Bool
 is_refused None = false
 is_refused (Some answer) = not (is_accepted answer)
 
--- Each moment that was given since was ticked, in order, less those ticks that found no memory.
+-- There was a tick at each moment that was given since, in order, except for ticks that ran out of memory.
 pub record IsTimed (given_before given_after : List ℕ) (old new : Hand) (tally : TimerTally) : Type 0 where
   pub beats : List Beat
   pub given : given_after ≡ given_before ++ map (λ b. b.moment) beats

@@ -55,8 +55,9 @@ pub fn discard_round<R: Wait, G: Gate, S: Storage>(
 
 /// Goes on with a round that ran out of memory: `left` and `gone` are those of that round.
 ///
-/// It takes no more files. If the first file of `left` is gone already, it is reported as `Deleted`
-/// and not deleted again. It handles the other files as [`discard_round`] does.
+/// It takes no more files. If storage has deleted the first file of `left` already, that file is
+/// reported as `Deleted` and not deleted again. The other files are handled as in
+/// [`discard_round`].
 pub fn resume_round<R: Wait, G: Gate, S: Storage>(
     rt: &R,
     gate: &G,

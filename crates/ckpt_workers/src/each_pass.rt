@@ -21,8 +21,8 @@ pub trait Work<T> {
 
 /// Does the work with each pass in a thread of its own. Result i is that of pass i.
 ///
-/// If a thread can't be started, its work is done in turn with others'. So work that waits for
-/// other work may wait forever then. Fails only if memory runs out, and then the passes are lost.
+/// If a thread can't be started, its work is done in turn with that of others. Then work that waits
+/// for other work may wait forever. Fails only if memory runs out, and then the passes are lost.
 pub fn work_on_each<R: Threads + Wait + Sync, T: Send + Drop, W: Work<T> + Sync>(
     rt: &R,
     work: &W,

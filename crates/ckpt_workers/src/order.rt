@@ -8,7 +8,7 @@ use ckpt_ids::{Call, CheckpointId, Files, MOMENTS_END, SubtaskId};
 use std::marker::Model;
 use thiserror::Error;
 
-/// The acknowledgement would be refused whatever the coordinator's state is.
+/// The acknowledgement would be refused in every state of the coordinator.
 #[derive(Clone, Copy, Debug, PartialEq, Eq, Error)]
 #[error("an acknowledgement that no coordinator takes")]
 pub struct BadOrder;
@@ -16,8 +16,8 @@ pub struct BadOrder;
 /// What a task has to acknowledge: the files of its part of a checkpoint or savepoint.
 ///
 /// Contracts see an order as its call. The type says that the call is not refused for its moment,
-/// for the number of its files, or for a file that is named twice. That also holds for an order
-/// that comes through a channel.
+/// for the number of its files, or for a repeated file. That also holds for an order that comes
+/// through a channel.
 #[derive(Debug, Drop)]
 pub struct Order {
     now: u64,

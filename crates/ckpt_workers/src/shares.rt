@@ -19,7 +19,7 @@ pub struct Share {
     pub calls: Vec<Call>,
 }
 
-/// What came of a share.
+/// The result of a share.
 #[derive(Drop)]
 pub struct Report {
     /// The pass after the calls.
@@ -30,9 +30,9 @@ pub struct Report {
 
 /// Makes the calls of each share in a thread of its own, in order. Report i is that of share i.
 ///
-/// Shares for which no thread can be started are done in turn. If calls at a gate wait for each
-/// other, they may wait forever then. Fails only if memory runs out, even in a call, and then the
-/// passes are lost.
+/// Shares for which no thread can be started are made in turn. Then calls that wait for each other
+/// at a gate may wait forever. Fails only if memory runs out, even in a call, and then the passes
+/// are lost.
 pub fn spread<R: Threads + Wait + Sync, G: Gate + Sync>(
     rt: &R,
     alloc: Global,

@@ -15,8 +15,8 @@ pub trait Storage {
     /// The files that it has deleted, in order, and how often it has failed.
     ghost stored: { Self → Stored };
 
-    /// Deletes a file. After a fault the file is still there, as far as storage knows, and the
-    /// fault is counted.
+    /// Deletes a file. After a fault storage still has the file, as far as it knows, and the fault
+    /// is counted.
     fn delete(&mut self, file: FileId) -> Result<(), StorageFault>
         ensures deleted { OnOk result ((stored self.new).deleted ≡ (stored self.old).deleted ++ file ∷ []) }
         ensures same { OnErr result ((stored self.new).deleted ≡ (stored self.old).deleted) }

@@ -1,4 +1,4 @@
-//! A task worker: makes acknowledgements as they are ordered.
+//! A task worker: makes the acknowledgements of its orders.
 ghost use Rattle.std.specs.Prelude.{◌≡◌, ◌+◌, if◌then◌else◌};
 ghost use Rattle.ckpt_workers.specs.Shifts.{capped};
 ghost use Rattle.ckpt_workers.specs.Tasks.{IsTasked, answers, is_late, is_other, is_taken_in};
@@ -11,7 +11,7 @@ use ckpt_locked::Pass;
 use crossbeam_channel::Receiver;
 use std::sync::Wait;
 
-/// How the acknowledgements of a task went. Each count stays at 2^64 - 1 once there.
+/// How the acknowledgements of a task went. A count that reaches 2^64 - 1 stays there.
 #[derive(Clone, Copy, Debug, PartialEq, Eq)]
 pub struct Tally {
     /// Accepted acknowledgements of a pending record.

@@ -15,7 +15,7 @@ use std::thread;
 
 /// Makes each seat's calls in a thread of its own, over a lock with a seat for each thread.
 ///
-/// If a thread can't be started, its calls are made in turn with others'.
+/// If a thread can't be started, its calls are made in turn with those of others.
 #[derive(Clone, Copy)]
 pub struct Threads<R> {
     rt: R,

@@ -10,7 +10,7 @@ use ckpt_ids::{Answer, Call};
 use ckpt_locked::Pass;
 use std::sync::Wait;
 
-/// How the ticks of a timer went. Each count stays at 2^64 - 1 once there.
+/// How the ticks of a timer went. A count that reaches 2^64 - 1 stays there.
 #[derive(Clone, Copy, Debug, PartialEq, Eq)]
 pub struct TimerTally {
     /// Ticks that were answered, refused ones included.

@@ -1,4 +1,4 @@
-//! Books for the tests: a job, and the calls that it begins with.
+//! Books for the tests: a job, and its first calls.
 use ckpt_ids::{Call, CheckpointId, Config, FileId, Files, Shape, SubtaskId};
 use ckpt_locked::Book;
 use std::alloc::{AllocError, Global};
@@ -7,7 +7,7 @@ use std::test::Fail;
 /// A seat that no lock gives to a pass.
 const NO_SEAT: u32 = 64;
 
-/// A job with a checkpoint each second, of which one is kept, opened at the moment 0.
+/// A job that opens at 0, takes a checkpoint each second, and keeps one.
 pub(crate) fn open(alloc: Global, parallelism: u64) -> Result<Book, Fail> {
     let config = Config::new(1000, 0, 1, 600_000, 0, 1, false)?;
     let shape = Shape::new(alloc, &[parallelism])?;
@@ -43,7 +43,7 @@ fn enter(book: &mut Book, call: Call) -> Result<(), AllocError> {
     }
 }
 
-/// A job of so many subtasks whose first checkpoint is pending.
+/// A job of this many subtasks whose first checkpoint is pending.
 pub(crate) fn pending(alloc: Global, parallelism: u64) -> Result<Book, Fail> {
     let mut book = open(alloc, parallelism)?;
     enter(&mut book, Call::Tick { now: 1000 })?;

@@ -1,4 +1,4 @@
-//! What is done with a pass of a gate, and what comes of it.
+//! Work with a pass of a gate, and its results.
 ghost use Rattle.std.specs.Prelude.{◌≡◌, ◌≢◌, [], true, IfOk};
 
 use crate::desk::{Listed, orders};
@@ -22,7 +22,7 @@ fn ticked<R: Wait, G: Gate>(rt: &R, gate: &G, pass: Pass, moments: &[u64]) -> (P
     timer_worker(rt, gate, pass, &mut Listed::new(moments))
 }
 
-/// A timer with these moments has so many ticks, refused and unanswered ones.
+/// A timer with these moments has this many ticks, refused ones and unanswered ones.
 pub(crate) fn ticks<R: Abort + Wait, G: Gate>(
     rt: &R,
     gate: &G,
@@ -38,7 +38,7 @@ pub(crate) fn ticks<R: Abort + Wait, G: Gate>(
     pass
 }
 
-/// Does what the orders ask for.
+/// Makes the acknowledgements of the orders.
 fn tasked<R: Wait, G: Gate>(rt: &R, gate: &G, pass: Pass, orders: Receiver<Order>) -> (Pass, Tally)
     requires { pass.lock ≡ G.lock gate.now }
     ensures { result.0.lock ≡ G.lock gate.now }
@@ -46,7 +46,7 @@ fn tasked<R: Wait, G: Gate>(rt: &R, gate: &G, pass: Pass, orders: Receiver<Order
     task_worker(rt, gate, pass, orders)
 }
 
-/// A task with these orders has so many accepted, late, refused and unanswered ones.
+/// A task with these orders has this many accepted, late, refused and unanswered ones.
 pub(crate) fn tasks<R: Abort + Wait, G: Gate>(
     rt: &R,
     alloc: Global,
@@ -64,7 +64,7 @@ pub(crate) fn tasks<R: Abort + Wait, G: Gate>(
     Ok(pass)
 }
 
-/// A round of a discarder, with which another can go on.
+/// A round of a discarder that can be resumed.
 pub(crate) fn round_of<R: Wait, G: Gate, S: Storage>(
     rt: &R,
     alloc: Global,
@@ -79,7 +79,7 @@ pub(crate) fn round_of<R: Wait, G: Gate, S: Storage>(
     discard_round(rt, alloc, gate, pass, storage, 8)
 }
 
-/// The rest of a round, of which the first file may be gone.
+/// The rest of a round whose first file may be deleted already.
 pub(crate) fn rest_of<R: Wait, G: Gate, S: Storage>(
     rt: &R,
     gate: &G,
@@ -100,7 +100,7 @@ pub(crate) fn is_whole(round: &Round) -> bool {
     round.left.is_empty() && !round.gone && !round.memory
 }
 
-/// A round of a discarder takes, deletes and fails to delete so many files, and leaves none.
+/// A round of a discarder takes, deletes and fails to delete this many files, and leaves none.
 pub(crate) fn discards<R: Abort + Wait, G: Gate, S: Storage>(
     rt: &R,
     alloc: Global,

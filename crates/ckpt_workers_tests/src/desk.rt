@@ -36,7 +36,7 @@ pub(crate) fn three<R: Wait>(rt: &R, book: Book) -> Result<(Locked, Pass, Pass, 
     Ok((lock, first, second, third))
 }
 
-/// Closes the lock with all its passes, and gives the book.
+/// Closes the lock with all its passes, and returns the book.
 pub(crate) fn closed<R: Wait>(rt: &R, lock: Locked, passes: Vec<Pass>) -> Result<Book, Fail>
     requires { All (λ p. p.lock ≡ lock) passes.items }
 {
@@ -46,7 +46,7 @@ pub(crate) fn closed<R: Wait>(rt: &R, lock: Locked, passes: Vec<Pass>) -> Result
     }
 }
 
-/// Closes a lock of two passes, and gives the book.
+/// Closes a lock of two passes, and returns the book.
 pub(crate) fn closed_with<R: Wait>(
     rt: &R,
     alloc: Global,
@@ -60,7 +60,7 @@ pub(crate) fn closed_with<R: Wait>(
     closed(rt, lock, passes)
 }
 
-/// Gives the moments of a list, in order.
+/// Returns the moments of a list, in order.
 #[derive(Drop)]
 pub(crate) struct Listed<'a> {
     moments: &'a [u64],
@@ -88,7 +88,7 @@ impl<'a> Moments for Listed<'a> {
     }
 }
 
-/// Deletes files by listing them, and fails at some tries, which are counted from 0.
+/// Deletes files by listing them. The try at `fails_at`, counted from 0, fails.
 #[derive(Drop)]
 pub(crate) struct Disk<'a, R: Abort> {
     rt: &'a R,
@@ -125,7 +125,7 @@ impl<'a, R: Abort> Storage for Disk<'a, R> {
     }
 }
 
-/// An order to acknowledge for a subtask of vertex 0 with one new file.
+/// An order for an acknowledgement of a subtask of vertex 0 with one new file.
 pub(crate) fn order(
     alloc: Global,
     now: u64,
@@ -140,7 +140,7 @@ pub(crate) fn order(
     Ok(Order::new(now, CheckpointId(id), subtask, Files::of(fresh), none))
 }
 
-/// A closed channel with these orders: moment, number, index of the subtask and new file of each.
+/// A closed channel with these orders: moment, record, index of the subtask and new file of each.
 pub(crate) fn orders<R: Wait>(
     rt: &R,
     alloc: Global,

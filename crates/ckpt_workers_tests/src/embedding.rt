@@ -20,14 +20,14 @@ struct Timer {
     orders: Vec<(Sender<Order>, Order)>,
 }
 
-/// A task, and the channel by which it is told what to acknowledge.
+/// A task, and the channel that brings its orders.
 #[derive(Drop)]
 struct Task {
     pass: Pass,
     orders: Receiver<Order>,
 }
 
-/// Tells each task what to acknowledge, and closes its channel. One that has ended is told nothing.
+/// Sends each task its order, and closes its channel. A task that has ended gets none.
 fn tell<R: Wait>(rt: &R, orders: Vec<(Sender<Order>, Order)>) {
     for (task, order) in orders {
         let _ = task.send(rt, order);
@@ -44,7 +44,7 @@ fn trigger<R: Wait>(rt: &R, lock: &Locked, timer: Timer) -> Pass
     pass
 }
 
-/// Acknowledges what the task is told, until its channel is closed.
+/// Makes the acknowledgements of the task's orders, until its channel is closed.
 fn acknowledge<R: Wait>(rt: &R, lock: &Locked, task: Task) -> Pass
     requires { task.pass.lock ≡ lock.now }
     ensures { result.lock ≡ lock.now }
@@ -53,7 +53,7 @@ fn acknowledge<R: Wait>(rt: &R, lock: &Locked, task: Task) -> Pass
     pass
 }
 
-/// Each task in a thread of its own.
+/// Runs each task in a thread of its own.
 fn two_tasks<R: Threads + Wait + Sync>(
     rt: &R,
     lock: &Locked,
@@ -78,7 +78,7 @@ fn two_tasks<R: Threads + Wait + Sync>(
     )
 }
 
-/// The tasks beside the timer, which comes first where no thread can be started.
+/// Runs the tasks beside the timer. If no thread can be started, the timer runs first.
 fn all_three<R: Threads + Wait + Sync>(
     rt: &R,
     lock: &Locked,
@@ -106,7 +106,7 @@ fn all_three<R: Threads + Wait + Sync>(
     )
 }
 
-/// Deletes the files that no checkpoint has any more.
+/// Deletes files that no record uses any more.
 fn discard<R: Wait, S: Storage>(
     rt: &R,
     alloc: Global,
@@ -128,7 +128,7 @@ fn with_checkpoint_one(alloc: Global) -> Result<Book, Fail> {
     Ok(book)
 }
 
-/// A task, and the end of its channel by which it is told.
+/// A task, and the sender of its orders.
 fn open_task(alloc: Global, pass: Pass) -> Result<(Sender<Order>, Task), AllocError>
     ensures { IfOk result (λ made. made.1.pass ≡ pass) }
 {
@@ -151,7 +151,7 @@ fn open_timer(
     Ok(Timer { pass, orders })
 }
 
-/// Takes checkpoint 2, deletes what checkpoint 1 alone had, and gives all passes back.
+/// Takes checkpoint 2, deletes the files that only checkpoint 1 used, and returns all passes.
 fn take_checkpoint_two<R: Threads + Wait + Sync, S: Storage>(
     rt: &R,
     alloc: Global,
@@ -174,7 +174,7 @@ fn take_checkpoint_two<R: Threads + Wait + Sync, S: Storage>(
     Ok(passes)
 }
 
-/// A lock over a book has a pass for each thread, and gives the book back for all of them.
+/// Makes a lock over a book, with a pass for each thread, and gets the book back for all passes.
 fn under_a_lock<R: Threads + Wait + Sync, S: Storage>(
     rt: &R,
     alloc: Global,

@@ -1,4 +1,4 @@
-//! Gates of tests, each around a lock.
+//! Gates for tests, each around a lock.
 ghost use Rattle.std.specs.Prelude.{◌≡◌};
 
 use ckpt_ids::{Answer, Call};
@@ -8,7 +8,7 @@ use std::sync::Wait;
 use std::sync::atomic::{AtomicBool, AtomicU64, Ordering};
 use std::thread::yield_now;
 
-/// Gives calls back as if they had found no memory: those of these places, counted from 0.
+/// Returns the calls of these places, counted from 0, as if they had run out of memory.
 #[derive(Drop)]
 pub(crate) struct Forgetful {
     pub(crate) locked: Locked,
@@ -45,7 +45,7 @@ impl Gate for Forgetful {
     }
 }
 
-/// How often a call looks whether the other's has begun.
+/// How often a call checks whether the other one has begun.
 const TURNS: u32 = 1_000_000;
 
 /// Holds each call of two seats until a call of the other has begun.
@@ -70,7 +70,7 @@ impl Meeting {
         }
     }
 
-    /// Whether a call has looked for the other's in vain.
+    /// Whether a call never saw the other one.
     pub(crate) fn has_missed(&self) -> bool {
         self.missed.load(Ordering::SeqCst)
     }

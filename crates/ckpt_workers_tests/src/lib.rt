@@ -1,10 +1,10 @@
-//! Tests of a lock, and of workers and teams over it: rows of what they did.
+//! Tests of a lock, and of workers and teams over it.
 //!
-//! A book by itself is run by the programs: `examples/rows` make its calls, `ckpt_bench` forgets its entries. Work with each pass in
-//! a thread of its own is what `ckpt_bench` and `ckpt_demo` do.
+//! The programs run a book by itself: `examples/rows` make its calls, and `ckpt_bench` forgets its
+//! entries. `ckpt_bench` and `ckpt_demo` also run work with each pass in a thread of its own.
 //!
-//! `docs/DECISIONS.md` says why they stand apart from the crate that they test, and which wrong bodies
-//! they alone refuse.
+//! `docs/DECISIONS.md` says why these tests are not in the crate that they test, and which wrong
+//! bodies only they refuse.
 #![tactic(auto)]
 
 #[cfg(test)]

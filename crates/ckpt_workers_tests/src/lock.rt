@@ -1,4 +1,5 @@
-//! A lock of two seats: it refuses other numbers than it has room for, and closes with all its passes alone.
+//! A lock of two seats: it refuses other numbers of seats than it may have, and closes only with
+//! all its passes.
 ghost use Rattle.std.specs.Prelude.{◌≡◌, IfOk};
 
 use crate::books::pending;
@@ -11,7 +12,7 @@ use std::process::Abort;
 use std::sync::Wait;
 use std::test::Fail;
 
-/// Tries to make a lock with so many seats, which are too many or none, and gives the book back.
+/// Tries to make a lock with this many seats, which are none or too many, and returns the book.
 fn refuse<R: Wait>(rt: &R, book: Book, seats: u32) -> Result<Book, Fail> {
     match Locked::new(rt, book, seats) {
         Err((book, LockFault::BadSeats)) => Ok(book),
@@ -20,7 +21,7 @@ fn refuse<R: Wait>(rt: &R, book: Book, seats: u32) -> Result<Book, Fail> {
     }
 }
 
-/// Tries to close a lock of two seats with one pass, and gives both back.
+/// Tries to close a lock of two seats with one pass, and returns both.
 fn close_with_one<R: Wait>(
     rt: &R,
     alloc: Global,
@@ -41,7 +42,7 @@ fn close_with_one<R: Wait>(
     }
 }
 
-/// Whether the pass has this seat, and made so many calls.
+/// Whether the pass has this seat, and made this many calls.
 fn has(pass: &Pass, seat: u32, calls: u64) -> bool {
     pass.seat() == seat && pass.calls() == calls
 }

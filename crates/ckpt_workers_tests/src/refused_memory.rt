@@ -1,4 +1,4 @@
-//! A round of the discarder where one allocation is refused: what was there stays, and the round goes on.
+//! A round of the discarder with a refused allocation: nothing is lost, and the round is resumed.
 ghost use Rattle.std.specs.Prelude.{◌≡◌};
 
 use crate::deeds::{rest_of, round_of};
@@ -11,7 +11,7 @@ use std::process::Abort;
 use std::sync::Wait;
 use std::test::Fail;
 
-/// Deletes files by listing them, for which it has room.
+/// Deletes files by listing them, in a list that has room.
 #[derive(Drop)]
 struct Disk<'a, R: Abort> {
     rt: &'a R,
@@ -35,7 +35,8 @@ fn with_room<R: Abort>(rt: &R, alloc: Global) -> Result<Disk<'_, R>, AllocError>
     })
 }
 
-/// A round of the discarder, which goes on where it found no memory. Gives the number of files taken.
+/// A round of the discarder, which is resumed if it ran out of memory. Returns the number of files
+/// taken.
 fn clean<R: Wait + Abort, S: Storage>(
     rt: &R,
     alloc: Global,
@@ -53,14 +54,14 @@ fn clean<R: Wait + Abort, S: Storage>(
     (pass, taken)
 }
 
-/// Where an allocation before the round is refused, the test ends for want of memory.
+/// If an allocation before the round is refused, the test ends, out of memory.
 #[test]
 fn refused_memory_in_a_round(rt: HostRuntime) -> Result<(), Fail> {
     let alloc = rt.alloc();
     let (lock, pass) = lock_with_three_files(&rt, alloc)?;
     let mut disk = with_room(&rt, alloc)?;
     let (pass, taken) = clean(&rt, alloc, &lock, pass, &mut disk);
-    // Where the take found no memory, the files wait still.
+    // If the take ran out of memory, the files still wait.
     if taken == 0 {
         clean(&rt, alloc, &lock, pass, &mut disk);
     }

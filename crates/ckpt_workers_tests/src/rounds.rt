@@ -1,4 +1,4 @@
-//! Rounds of the discarder that end early, and go on.
+//! Rounds of the discarder that end early, and are resumed.
 ghost use Rattle.std.specs.Prelude.{◌≡◌, ◌≢◌, [], true, IfOk};
 
 use crate::books::{complete, open};
@@ -13,7 +13,7 @@ use std::process::Abort;
 use std::sync::Wait;
 use std::test::Fail;
 
-/// A job whose first checkpoint had the files 1, 2 and 3, which the second one has released.
+/// A job whose second checkpoint has released the files 1, 2 and 3 of the first one.
 fn with_three_files(alloc: Global) -> Result<Book, Fail> {
     let mut book = open(alloc, 1)?;
     complete(alloc, &mut book, 1000, 1, &[&[1, 2, 3]])?;
@@ -29,7 +29,7 @@ pub(crate) fn lock_with_three_files<R: Wait>(rt: &R, alloc: Global) -> Result<(L
     Ok((lock, pass))
 }
 
-/// A round whose second report finds no memory, and what it leaves.
+/// A round whose second report runs out of memory, and what it leaves.
 fn is_cut_short<R: Abort + Wait, G: Gate, S: Storage>(
     rt: &R,
     alloc: Global,
@@ -67,8 +67,8 @@ fn goes_on<R: Abort + Wait, G: Gate, S: Storage>(
     pass
 }
 
-/// A round of three files whose second report finds no memory, and what is left of it. Each file is
-/// deleted once, and none waits any more.
+/// A round of three files whose second report runs out of memory, and the rest of it. Each file is
+/// deleted once, and then none waits.
 fn is_done_in_two<R: Abort + Wait>(
     rt: &R,
     alloc: Global,
@@ -87,13 +87,13 @@ fn is_done_in_two<R: Abort + Wait>(
     Ok(())
 }
 
-/// The second file is gone: it is reported, and not deleted again.
+/// The second file is deleted already: it is reported, and not deleted again.
 #[test]
 fn a_round_without_memory_goes_on(rt: HostRuntime) -> Result<(), Fail> {
     is_done_in_two(&rt, rt.alloc(), None, true)
 }
 
-/// Storage failed on the second file: it is tried again.
+/// Storage failed to delete the second file: it is tried again.
 #[test]
 fn a_round_without_memory_tries_again(rt: HostRuntime) -> Result<(), Fail> {
     is_done_in_two(&rt, rt.alloc(), Some(1), false)

@@ -36,7 +36,7 @@ fn spread_two<R: Threads + Wait + Sync, G: Gate + Sync>(
     spread(rt, alloc, gate, shares)
 }
 
-/// Over a lock.
+/// The same over a lock.
 fn over_lock<R: Threads + Wait + Sync>(
     rt: &R,
     alloc: Global,
@@ -51,7 +51,7 @@ fn over_lock<R: Threads + Wait + Sync>(
     spread_two(rt, alloc, lock, first, second)
 }
 
-/// Over a gate at which the two meet.
+/// The same over a gate at which the two calls wait for each other.
 fn over_meeting<R: Threads + Wait + Sync>(
     rt: &R,
     alloc: Global,
@@ -85,7 +85,7 @@ fn two_calls_at_once(rt: HostRuntime) -> Result<(), Fail> {
     Ok(())
 }
 
-/// Whether a tick is the one call of the report, and was held for the interval.
+/// Whether a tick is the only call of the report, and was held for the interval.
 fn has_held(report: &Report) -> bool {
     report.pass.calls() == 1
         && report.answers.len() == 1
@@ -98,7 +98,7 @@ fn has_held(report: &Report) -> bool {
         )
 }
 
-/// Whether a count of the file 5 is the one call of the report, and found no use.
+/// Whether a count of the file 5 is the only call of the report, and found no use.
 fn has_counted(report: &Report) -> bool {
     report.pass.calls() == 1
         && report.answers.len() == 1

@@ -43,7 +43,7 @@ fn has_acknowledged(
     Ok(subtasks_of(alloc, book, seat)?.as_slice() == subtasks)
 }
 
-/// Whether all three were accepted, and the last of them completed the checkpoint.
+/// Whether all three were accepted, and the last one completed the checkpoint.
 fn has_completed(made: &Made) -> bool {
     made.accepted == 3
         && made.refused == 0
@@ -51,7 +51,7 @@ fn has_completed(made: &Made) -> bool {
         && matches!(made.completed, Some((0, 0)))
 }
 
-/// What the team makes of the acknowledgements.
+/// The result of the team for the acknowledgements.
 fn made_by(alloc: Global, team: &mut impl Team, threads: u32) -> Result<Made, Fail>
     requires { (0 < threads) × (threads ≤ 64) }
 {
@@ -60,7 +60,8 @@ fn made_by(alloc: Global, team: &mut impl Team, threads: u32) -> Result<Made, Fa
     Ok(team.make(book, calls, threads)?)
 }
 
-/// The checkpoint is completed, and the calls of the first two seats are of these subtasks.
+/// Whether the checkpoint is complete, and the calls of the first two seats come from these
+/// subtasks.
 fn is_complete(
     rt: &impl Abort,
     alloc: Global,
@@ -75,7 +76,8 @@ fn is_complete(
     Ok(())
 }
 
-/// So many threads of the team complete the checkpoint, each of the first two by these calls.
+/// This many threads of the team complete the checkpoint. Each of the first two seats makes these
+/// calls.
 fn completes(
     rt: &impl Abort,
     alloc: Global,

@@ -1,4 +1,4 @@
-//! Timers, tasks and discarders over one lock: what they counted.
+//! Timers, tasks and discarders over one lock, and their counts.
 use crate::books::{ack, open, pending};
 use crate::deeds::{discards, tasks, ticks};
 use crate::desk::{Disk, closed_with, order, three, two};
@@ -18,8 +18,8 @@ fn an_order_is_refused_for_its_moment(rt: HostRuntime) -> Result<(), Fail> {
     Ok(())
 }
 
-/// A checkpoint is triggered, acknowledged and acknowledged again; the next one subsumes it, and its
-/// file is deleted at the second try.
+/// A checkpoint is triggered, acknowledged and acknowledged again. The next one subsumes it, and
+/// its file is deleted at the second try.
 #[test]
 fn three_workers_share_a_lock(rt: HostRuntime) -> Result<(), Fail> {
     let alloc = rt.alloc();
@@ -49,7 +49,8 @@ fn file_at(place: u16) -> u64 {
     1000 + u64::from(place)
 }
 
-/// Two orders to acknowledge checkpoint 1 for each of a hundred subtasks, the second ones after the first.
+/// Two orders for each of a hundred subtasks to acknowledge checkpoint 1: first one of each
+/// subtask, then the others.
 fn two_of_each(alloc: Global) -> Result<Vec<(u64, u64, u16, u64)>, AllocError> {
     let mut rows = Vec::new(alloc);
     for place in 0..ORDERS {
@@ -66,7 +67,8 @@ fn is_entered(book: &Book, place: u64, call: &Call) -> bool {
     }
 }
 
-/// Whether the book has the acknowledgements after its tick, in order, but for those that were forgotten, and no more.
+/// Whether the book has the acknowledgements after its tick, in order, except for the forgotten
+/// ones, and no others.
 fn are_entered(alloc: Global, book: &Book) -> Result<bool, AllocError> {
     let mut next = 1u64;
     for place in 0..ORDERS {
@@ -81,19 +83,20 @@ fn are_entered(alloc: Global, book: &Book) -> Result<bool, AllocError> {
     Ok(book.len() == next)
 }
 
-/// The book after a task had those orders over a gate that forgets four of them.
+/// The book after a task got those orders over a gate that forgets four of them.
 fn after_two_hundred<R: Abort + Wait>(rt: &R, alloc: Global) -> Result<Book, Fail> {
     let (lock, task, other) = two(rt, pending(alloc, 100)?)?;
     let gate = Forgetful::new(lock, FORGOTTEN);
     let rows = two_of_each(alloc)?;
-    // Three of the first orders are forgotten, so the checkpoint is complete at the second one of subtask 97.
+    // Three of the first orders are forgotten, so the second one of subtask 97 completes the
+    // checkpoint.
     let task = tasks(rt, alloc, &gate, task, rows.as_slice(), [100, 2, 94, 4])?;
     let Forgetful { locked, .. } = gate;
     closed_with(rt, alloc, locked, task, other)
 }
 
-/// The first order of each subtask is accepted, or where it was forgotten the second one; other second ones are refused while
-/// the checkpoint is pending, and late once it is complete.
+/// The first order of each subtask is accepted, or the second one if the first was forgotten. Other
+/// second orders are refused while the checkpoint is pending, and late once it is complete.
 #[test]
 fn two_hundred_orders_of_which_four_are_forgotten(rt: HostRuntime) -> Result<(), Fail> {
     let book = after_two_hundred(&rt, rt.alloc())?;

@@ -1,4 +1,4 @@
-//! The exports that save a coordinator, and open a handle with what was saved.
+//! The exports that save a coordinator, and open a handle with an image.
 
 ghost use Rattle.std.specs.Prelude.{◌≡◌, ◌≢◌, Some, length};
 ghost use Rattle.ckpt_core.specs.State.{State};
@@ -23,7 +23,8 @@ pub extern "C" fn relkvanu_save(alloc: Global, handle: &mut Handle, image: &mut 
     ckpt_embed::save(alloc, handle, image)
 }
 
-/// Gives a closed handle the coordinator that an image tells. The two words are the secret of its maps.
+/// Opens the coordinator that an image describes in a closed handle. The two words are the secret
+/// of its maps.
 #[unsafe(no_mangle)]
 pub extern "C" fn relkvanu_open_saved(
     alloc: Global,

@@ -1,4 +1,4 @@
-//! Lines of a script through C: what a line says, its call, and a call's line.
+//! Lines of a script through C: what a line says, the call of a line, and the line of a call.
 
 ghost use Rattle.std.specs.Prelude.{◌≡◌, ◌≢◌, true, Some, IsOk, length};
 ghost use Rattle.ckpt_core.specs.Coordinator.{State};
@@ -13,7 +13,7 @@ ghost use Rattle.ckpt_embed.specs.Writing.{OpeningReadsBack, ReadsBack, call_lin
 use ckpt_embed::{Answer, CallFields, Handle, Settings};
 use std::alloc::Global;
 
-/// Makes the call that a line of a script says.
+/// Makes the call of a script's line.
 #[unsafe(no_mangle)]
 pub extern "C" fn relkvanu_line(
     alloc: Global,
@@ -32,7 +32,7 @@ pub extern "C" fn relkvanu_line(
     ckpt_embed::line(alloc, handle, line, files)
 }
 
-/// Tells which line of a script it is, and the numbers of one that makes no call.
+/// Returns the kind of a script's line, and the numbers of a line that makes no call.
 #[unsafe(no_mangle)]
 pub extern "C" fn relkvanu_line_says(alloc: Global, line: &[u8], numbers: &mut [u64]) -> Answer
     ensures told { result.code ≢ no_memory → result ≡ says_told (reading line.now) (length numbers.old) }

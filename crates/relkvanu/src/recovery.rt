@@ -1,4 +1,4 @@
-//! The exports of what an engine asks when it recovers.
+//! The exports of the reads for an engine that recovers.
 
 ghost use Rattle.std.specs.Prelude.{◌≡◌, ◌≢◌, Some, find, length, nat_le, option_map, slice_get};
 ghost use Rattle.ckpt_ids.specs.Ascending.{ascending};
@@ -22,7 +22,7 @@ pub extern "C" fn relkvanu_live_from(alloc: Global, handle: &mut Handle, id: u64
     ckpt_embed::live_from(alloc, handle, id)
 }
 
-/// What a number is.
+/// Whether the record with this number is pending, done or ended, or no record has had the number.
 #[unsafe(no_mangle)]
 pub extern "C" fn relkvanu_standing(alloc: Global, handle: &mut Handle, id: u64) -> Answer
     ensures closed { StaysClosed handle.old.value handle.new.value result }
@@ -51,7 +51,7 @@ pub extern "C" fn relkvanu_files_of(
     ckpt_embed::files_of(alloc, handle, id, SubtaskId { vertex, index }, files)
 }
 
-/// Writes the files that a pending record holds beside those of its acknowledgements.
+/// Writes the files that a pending record pins.
 #[unsafe(no_mangle)]
 pub extern "C" fn relkvanu_pins_of(
     alloc: Global,

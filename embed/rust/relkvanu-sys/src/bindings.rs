@@ -64,7 +64,7 @@ pub const RELKVANU_SHOWN: u32 = 21;
 /// a: file, b: uses
 pub const RELKVANU_COUNTED: u32 = 22;
 pub const RELKVANU_MODE_RUNNING: u32 = 23;
-/// too many checkpoints failed in a row: the job is to be restored
+/// too many checkpoints failed in a row: restore the job
 pub const RELKVANU_MODE_FAILED: u32 = 24;
 /// the job has ended for good
 pub const RELKVANU_MODE_CANCELLED: u32 = 25;
@@ -109,7 +109,7 @@ pub const RELKVANU_SAVED: u32 = 45;
 pub const RELKVANU_STANDS_PENDING: u32 = 46;
 /// a live record has the number, and is complete
 pub const RELKVANU_STANDS_DONE: u32 = 47;
-/// a record had the number, and is live no more
+/// a record had the number, and is no longer live
 pub const RELKVANU_STANDS_ENDED: u32 = 48;
 /// no record has had the number so far
 pub const RELKVANU_STANDS_NOT_YET: u32 = 49;
@@ -121,7 +121,7 @@ pub const RELKVANU_FILES: u32 = 51;
 pub const RELKVANU_NOT_ACKNOWLEDGED: u32 = 52;
 /// a: file
 pub const RELKVANU_WAITING: u32 = 53;
-/// fewer files wait
+/// there are fewer waiting files
 pub const RELKVANU_NONE_WAITS: u32 = 54;
 pub const RELKVANU_MOMENT_TOO_LARGE: u32 = 1;
 pub const RELKVANU_NOT_RUNNING: u32 = 2;
@@ -146,7 +146,7 @@ pub const RELKVANU_BAD_SHAPE: u32 = 3;
 pub const RELKVANU_BAD_MOMENT: u32 = 4;
 pub const RELKVANU_BAD_FIRST: u32 = 5;
 pub const RELKVANU_BAD_KIND: u32 = 6;
-/// the bytes are no image, or no coordinator can be in the state that it tells
+/// the bytes are not an image, or no coordinator can be in the state that it describes
 pub const RELKVANU_BAD_IMAGE: u32 = 7;
 /// a line has at most 131072 bytes
 pub const RELKVANU_FAULT_TOO_LONG: u32 = 1;
@@ -223,7 +223,7 @@ extern "C" {
     /// The version of the library that is linked, as RELKVANU_VERSION.
     pub fn relkvanu_version() -> *const c_char;
 
-    /// Opens a coordinator in a closed handle, from the moment now on. Its first record has the number first, 1 to 2^62 - 1. The shape is the parallelism of each vertex: 1 to 256 vertices, at least 1 each, at most 4096 in sum. Take the two words from a source of random numbers: they key the maps of files, so that no choice of file numbers makes calls slow. They change no answer. RELKVANU_OPENED; or RELKVANU_BAD_ARGUMENT, and the handle stays as it was: RELKVANU_ALREADY_OPEN, RELKVANU_BAD_CONFIG, RELKVANU_BAD_SHAPE, RELKVANU_BAD_MOMENT, RELKVANU_BAD_FIRST, checked in this order. Takes memory: after RELKVANU_NO_MEMORY the handle is closed, as before.
+    /// Opens a coordinator in a closed handle, from the moment now on. Its first record has the number first, 1 to 2^62 - 1. The shape is the parallelism of each vertex: 1 to 256 vertices, at least 1 each, at most 4096 in sum. Take the two words from a source of random numbers. They key the maps of files, so that no choice of file numbers makes calls slow. They change no answer. RELKVANU_OPENED; or RELKVANU_BAD_ARGUMENT, and the handle stays as it was: RELKVANU_ALREADY_OPEN, RELKVANU_BAD_CONFIG, RELKVANU_BAD_SHAPE, RELKVANU_BAD_MOMENT, RELKVANU_BAD_FIRST, checked in this order. Takes memory: after RELKVANU_NO_MEMORY the handle is closed, as before.
     pub fn relkvanu_open(
         handle: *mut relkvanu,
         settings: *const relkvanu_settings,
@@ -238,13 +238,13 @@ extern "C" {
     /// Closes the coordinator and frees its memory. A closed handle stays closed.
     pub fn relkvanu_close(handle: *mut relkvanu);
 
-    /// Time has passed: records that are too old expire, and a checkpoint is triggered if one is due. RELKVANU_TICK_TRIGGERED to RELKVANU_TICK_FAILED. Refused: RELKVANU_MOMENT_TOO_LARGE, RELKVANU_NOT_RUNNING, RELKVANU_IDS_USED_UP. Takes memory only where it triggers.
+    /// Time has passed: records that are too old expire, and a checkpoint is triggered if one is due. RELKVANU_TICK_TRIGGERED to RELKVANU_TICK_FAILED. Refused: RELKVANU_MOMENT_TOO_LARGE, RELKVANU_NOT_RUNNING, RELKVANU_IDS_USED_UP. Takes memory only if it triggers.
     pub fn relkvanu_tick(handle: *mut relkvanu, now: u64) -> relkvanu_answer;
 
     /// Triggers a savepoint. At most 1000 savepoints are pending or done. RELKVANU_SAVEPOINT_TRIGGERED. Refused: RELKVANU_MOMENT_TOO_LARGE, RELKVANU_NOT_RUNNING, RELKVANU_TOO_MANY_SAVEPOINTS, RELKVANU_IDS_USED_UP. Takes memory.
     pub fn relkvanu_savepoint(handle: *mut relkvanu, now: u64) -> relkvanu_answer;
 
-    /// The subtask vertex.index has taken its part of record id: fresh are the files that it wrote, reused those of an earlier record that it uses again, at most 4096 together, in any order. RELKVANU_ACK_PENDING, RELKVANU_ACK_COMPLETED or RELKVANU_ACK_LATE: the fresh files belong to the coordinator now. Refused: RELKVANU_MOMENT_TOO_LARGE, RELKVANU_TOO_MANY_FILES, RELKVANU_REPEATED_FILE, RELKVANU_UNKNOWN_CHECKPOINT, RELKVANU_UNKNOWN_SUBTASK, RELKVANU_ALREADY_ACKNOWLEDGED, RELKVANU_NAME_TAKEN, RELKVANU_FILE_GONE: then the task deletes no file that an accepted acknowledgement ever named. First copies the two lists, which takes memory, so it may return RELKVANU_NO_MEMORY even where it would be refused.
+    /// The subtask vertex.index has taken its part of record id. fresh has the files that it wrote. reused has files of earlier records that it uses again. Both may be in any order, with at most 4096 files together. RELKVANU_ACK_PENDING, RELKVANU_ACK_COMPLETED or RELKVANU_ACK_LATE: the fresh files belong to the coordinator now. Refused: RELKVANU_MOMENT_TOO_LARGE, RELKVANU_TOO_MANY_FILES, RELKVANU_REPEATED_FILE, RELKVANU_UNKNOWN_CHECKPOINT, RELKVANU_UNKNOWN_SUBTASK, RELKVANU_ALREADY_ACKNOWLEDGED, RELKVANU_NAME_TAKEN, RELKVANU_FILE_GONE. After a refusal the task must not delete a file that an accepted acknowledgement ever named. The call first copies the two lists, which takes memory. So it may return RELKVANU_NO_MEMORY where it would otherwise be refused.
     pub fn relkvanu_ack(
         handle: *mut relkvanu,
         now: u64,
@@ -269,7 +269,7 @@ extern "C" {
     /// A user disposes of the completed savepoint id. RELKVANU_DISPOSED. Refused: RELKVANU_NO_SUCH_SAVEPOINT, RELKVANU_IN_USE. Takes no memory.
     pub fn relkvanu_dispose(handle: *mut relkvanu, id: u64) -> relkvanu_answer;
 
-    /// The job begins again: from a savepoint, or from the latest record if savepoint is 0. With shape_len above 0 it begins in a new shape, within the limits of relkvanu_open, otherwise in its current shape. RELKVANU_RESTORED_CHECKPOINT, RELKVANU_RESTORED_SAVEPOINT or RELKVANU_RESTORED_FRESH. RELKVANU_BAD_ARGUMENT with RELKVANU_BAD_SHAPE is checked first. Refused: RELKVANU_MOMENT_TOO_LARGE, RELKVANU_NOT_RUNNING (cancelled), RELKVANU_NO_SUCH_SAVEPOINT. First copies the shape, which takes memory, so it may return RELKVANU_NO_MEMORY even where it would be refused. Without a shape it takes none.
+    /// The job begins again: from a savepoint, or from the latest record if savepoint is 0. With shape_len above 0 it begins in a new shape, within the limits of relkvanu_open. Otherwise it keeps its current shape. RELKVANU_RESTORED_CHECKPOINT, RELKVANU_RESTORED_SAVEPOINT or RELKVANU_RESTORED_FRESH. RELKVANU_BAD_ARGUMENT with RELKVANU_BAD_SHAPE is checked first. Refused: RELKVANU_MOMENT_TOO_LARGE, RELKVANU_NOT_RUNNING (cancelled), RELKVANU_NO_SUCH_SAVEPOINT. The call first copies the shape, which takes memory. So it may return RELKVANU_NO_MEMORY where it would otherwise be refused. Without a shape it takes no memory.
     pub fn relkvanu_restore(
         handle: *mut relkvanu,
         now: u64,
@@ -308,7 +308,7 @@ extern "C" {
     /// What the job is doing: RELKVANU_MODE_RUNNING, RELKVANU_MODE_FAILED or RELKVANU_MODE_CANCELLED.
     pub fn relkvanu_mode(handle: *mut relkvanu) -> relkvanu_answer;
 
-    /// RELKVANU_DUE: the moment from which neither the interval nor the pause holds a checkpoint back. No tick before it triggers one. A tick at it or later triggers one, with three exceptions: as many are pending as may be, the job is not running, or so many checkpoints expire in the tick that the job fails over. A call that triggers, completes or restores moves this moment: read it again after a call.
+    /// RELKVANU_DUE: the moment from which neither the interval nor the pause holds a checkpoint back. No tick before it triggers one. A tick at it or later triggers one, with three exceptions: as many are pending as may be, the job is not running, or so many checkpoints expire in the tick that the job fails over. A call that triggers, completes or restores may move this moment, so read it again after a call.
     pub fn relkvanu_due(handle: *mut relkvanu) -> relkvanu_answer;
 
     /// RELKVANU_EXPIRES: the moment from which a pending record is expired. A tick at that moment drops the record. RELKVANU_NONE_PENDING if no record is pending. Visits each pending record.
@@ -317,7 +317,7 @@ extern "C" {
     /// The record that a restore of the latest would begin from: RELKVANU_CHOICE_CHECKPOINT, RELKVANU_CHOICE_SAVEPOINT or RELKVANU_CHOICE_FRESH.
     pub fn relkvanu_choice(handle: *mut relkvanu) -> relkvanu_answer;
 
-    /// The live record at this place, from 0, in order of their numbers: RELKVANU_LIVE_CHECKPOINT or RELKVANU_LIVE_SAVEPOINT; RELKVANU_LIVE_NONE past the last. Its time grows with the place.
+    /// The live record at this place, from 0, in order of their numbers: RELKVANU_LIVE_CHECKPOINT or RELKVANU_LIVE_SAVEPOINT; RELKVANU_LIVE_NONE past the last. The time grows with the place.
     pub fn relkvanu_live(handle: *mut relkvanu, place: usize) -> relkvanu_answer;
 
     /// RELKVANU_MISSING: how many subtasks of this record have not acknowledged. RELKVANU_NOT_PENDING if no record with this number is pending.
@@ -329,7 +329,7 @@ extern "C" {
     /// Returns the length of the name of the refusal with this number, such as "NotRunning", or 0 if no refusal has the number. Writes the name, without a zero at its end, if text_len is at least the length.
     pub fn relkvanu_refusal_text(what: u32, text: *mut u8, text_len: usize) -> usize;
 
-    /// Makes the call of a line, and returns what the function of that call returns. A take line writes the files that it fetches to the start of files. If it would fetch more than files_len, the answer is RELKVANU_TOO_SHORT, a is how many places it needs, and nothing has changed. A show line returns what relkvanu_show returns with an empty buffer. A restore line with a bad shape is RELKVANU_BAD_ARGUMENT with RELKVANU_BAD_SHAPE. RELKVANU_SKIPPED if the line has no words or is a comment; RELKVANU_BAD_LINE if it can't be read, or makes no call. Only RELKVANU_TAKEN changes the buffer. Takes memory as the call does, and for the lists of an ack, job or restore line. So such a line may return RELKVANU_NO_MEMORY even where the call would be refused.
+    /// Makes the call of a line, and returns what the function of that call returns. A take line writes the files that it fetches to the start of files. If it would fetch more than files_len, the answer is RELKVANU_TOO_SHORT, a is how many places it needs, and nothing has changed. A show line returns what relkvanu_show returns with an empty buffer. A restore line with a bad shape returns RELKVANU_BAD_ARGUMENT with RELKVANU_BAD_SHAPE. A line that has no words or is a comment returns RELKVANU_SKIPPED. A line that can't be read, or makes no call, returns RELKVANU_BAD_LINE. Only RELKVANU_TAKEN changes the buffer. The call takes memory as its own function does, and for the lists of an ack, job or restore line. So such a line may return RELKVANU_NO_MEMORY where the call would be refused.
     pub fn relkvanu_line(
         handle: *mut relkvanu,
         line: *const u8,
@@ -338,7 +338,7 @@ extern "C" {
         files_len: usize,
     ) -> relkvanu_answer;
 
-    /// Returns which line it is, RELKVANU_LINE_SKIP to RELKVANU_LINE_ALL, and writes the numbers of a line that makes no call to the start of numbers, in the line's order; keep is 1 and delete is 0. Checks no number against the limits of a job. RELKVANU_TOO_SHORT, and a is how many places it needs; or RELKVANU_BAD_LINE with the fault. Neither changes the buffer. A restore line with a bad shape is RELKVANU_LINE_CALL: relkvanu_line says what is wrong with it. Takes memory only for the lists of an ack, job or restore line.
+    /// Returns the kind of the line, RELKVANU_LINE_SKIP to RELKVANU_LINE_ALL. If the line makes no call, writes its numbers to the start of numbers, in the line's order; keep is 1 and delete is 0. Checks no number against the limits of a job. RELKVANU_TOO_SHORT, and a is how many places it needs; or RELKVANU_BAD_LINE with the fault. Neither changes the buffer. A restore line with a bad shape is RELKVANU_LINE_CALL: relkvanu_line says what is wrong with it. Takes memory only for the lists of an ack, job or restore line.
     pub fn relkvanu_line_says(
         line: *const u8,
         line_len: usize,
@@ -346,7 +346,7 @@ extern "C" {
         numbers_len: usize,
     ) -> relkvanu_answer;
 
-    /// Writes the line of a call, without a newline and without a zero at its end. relkvanu_line reads it as that call. For an ack, first and second are the fresh and the reused files, in any order. For a restore, first is the new shape, or empty. RELKVANU_WRITTEN; RELKVANU_TOO_SHORT, and a is how many bytes it needs; RELKVANU_BAD_ARGUMENT with RELKVANU_BAD_KIND or RELKVANU_BAD_SHAPE; RELKVANU_BAD_LINE with RELKVANU_FAULT_TOO_LONG if the line would be too long: it is never cut. Only RELKVANU_WRITTEN changes the buffer. Takes memory.
+    /// Writes the line of a call, without a newline and without a zero at its end. relkvanu_line reads it as that call. For an ack, first and second are the fresh and the reused files, in any order. For a restore, first is the new shape, or empty. RELKVANU_WRITTEN; RELKVANU_TOO_SHORT, and a is how many bytes it needs; RELKVANU_BAD_ARGUMENT with RELKVANU_BAD_KIND or RELKVANU_BAD_SHAPE; RELKVANU_BAD_LINE with RELKVANU_FAULT_TOO_LONG if the line would be too long. No line is cut. Only RELKVANU_WRITTEN changes the buffer. Takes memory.
     pub fn relkvanu_call_line(
         call: *const relkvanu_call,
         first: *const u64,
@@ -367,14 +367,14 @@ extern "C" {
         lines_len: usize,
     ) -> relkvanu_answer;
 
-    /// Writes the image of the coordinator as JSON, without a zero at its end: all of its state. A handle that is opened with it answers every list of calls as this one would. RELKVANU_SAVED; RELKVANU_TOO_SHORT, where a is how many bytes it has: ask again with a buffer of that many. Changes nothing but the buffer, and only RELKVANU_SAVED changes that. Takes memory, also if the buffer is too short.
+    /// Writes the image of the coordinator, all of its state, as JSON without a zero at its end. A handle that is opened with the image answers every list of calls as this one would. RELKVANU_SAVED; RELKVANU_TOO_SHORT, and a is its number of bytes: call again with a buffer of that many. Only RELKVANU_SAVED changes the buffer, and nothing else changes. Takes memory, even if the buffer is too short.
     pub fn relkvanu_save(
         handle: *mut relkvanu,
         image: *mut u8,
         image_len: usize,
     ) -> relkvanu_answer;
 
-    /// Gives a closed handle the coordinator that an image describes. The two words are those of relkvanu_open. They may differ from those of the coordinator that was saved. RELKVANU_OPENED; or RELKVANU_BAD_ARGUMENT, and the handle stays as it was: RELKVANU_ALREADY_OPEN, RELKVANU_BAD_IMAGE. Takes memory: after RELKVANU_NO_MEMORY the handle is closed, as before.
+    /// Opens the coordinator that an image describes in a closed handle. The two words have the meaning that they have in relkvanu_open. They may differ from those of the coordinator that was saved. RELKVANU_OPENED; or RELKVANU_BAD_ARGUMENT, and the handle stays as it was: RELKVANU_ALREADY_OPEN, RELKVANU_BAD_IMAGE. Takes memory: after RELKVANU_NO_MEMORY the handle is closed, as before.
     pub fn relkvanu_open_saved(
         handle: *mut relkvanu,
         image: *const u8,
@@ -383,13 +383,13 @@ extern "C" {
         second_word: u64,
     ) -> relkvanu_answer;
 
-    /// The live record with the least number that is at least id: RELKVANU_LIVE_CHECKPOINT or RELKVANU_LIVE_SAVEPOINT; RELKVANU_LIVE_NONE if there is none. From 0 on, and then from each number plus 1, it visits all live records. Searches by halves. Takes no memory.
+    /// The live record with the least number that is at least id: RELKVANU_LIVE_CHECKPOINT or RELKVANU_LIVE_SAVEPOINT; RELKVANU_LIVE_NONE if there is none. To visit all live records, begin with 0, and go on with the returned number plus 1. A binary search. Takes no memory.
     pub fn relkvanu_live_from(handle: *mut relkvanu, id: u64) -> relkvanu_answer;
 
-    /// What a number is: RELKVANU_STANDS_PENDING to RELKVANU_STANDS_NEVER. Searches by halves. Takes no memory.
+    /// Whether the record with this number is pending, done or ended, or no record has had the number: RELKVANU_STANDS_PENDING to RELKVANU_STANDS_NEVER. A binary search. Takes no memory.
     pub fn relkvanu_standing(handle: *mut relkvanu, id: u64) -> relkvanu_answer;
 
-    /// Writes the files that the subtask vertex.index acknowledged in the live record id, in ascending order. RELKVANU_FILES; RELKVANU_NOT_ACKNOWLEDGED; RELKVANU_TOO_SHORT. Searches by halves. Takes no memory.
+    /// Writes the files that the subtask vertex.index acknowledged in the live record id, in ascending order. RELKVANU_FILES; RELKVANU_NOT_ACKNOWLEDGED; RELKVANU_TOO_SHORT. A binary search. Takes no memory.
     pub fn relkvanu_files_of(
         handle: *mut relkvanu,
         id: u64,
@@ -399,7 +399,7 @@ extern "C" {
         files_len: usize,
     ) -> relkvanu_answer;
 
-    /// Writes the files that the pending record id keeps beside those of its acknowledgements, in ascending order: the files of the record that a restart would have begun from when it was triggered. There are none if no record of this number is pending. RELKVANU_FILES; RELKVANU_TOO_SHORT. Takes memory.
+    /// Writes the files that the pending record id pins, in ascending order: the files of the record that a restart would have begun from at its trigger. Writes none if no record with this number is pending. RELKVANU_FILES; RELKVANU_TOO_SHORT. Takes memory.
     pub fn relkvanu_pins_of(
         handle: *mut relkvanu,
         id: u64,
@@ -407,10 +407,10 @@ extern "C" {
         files_len: usize,
     ) -> relkvanu_answer;
 
-    /// The file at this place, from 0, among those that wait for deletion: the next to be fetched is the first. RELKVANU_WAITING; RELKVANU_NONE_WAITS past the last. Takes constant time and no memory.
+    /// The file at this place, from 0, among those that wait for deletion. The next to be fetched is the first. RELKVANU_WAITING; RELKVANU_NONE_WAITS past the last. Takes constant time and no memory.
     pub fn relkvanu_waiting_file(handle: *mut relkvanu, place: usize) -> relkvanu_answer;
 
-    /// Writes the files that were fetched for deletion and are not yet reported, in ascending order. RELKVANU_FILES; RELKVANU_TOO_SHORT. Looks at each file that waits or was fetched. Takes memory.
+    /// Writes the files that were fetched for deletion and are not yet reported, in ascending order. RELKVANU_FILES; RELKVANU_TOO_SHORT. Visits each file that waits or was fetched. Takes memory.
     pub fn relkvanu_taken_files(
         handle: *mut relkvanu,
         files: *mut u64,

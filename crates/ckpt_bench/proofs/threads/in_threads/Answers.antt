@@ -1,3 +1,4 @@
+-- Answers the goals of `in_threads`.
 use Rattle.std.proofs.Common.{◌≡◌, All, subst}
 use Rattle.ckpt_locked.specs.Locks.{Hand}
 use Rattle.ckpt_bench.proofs.Firsts.{firsts}

@@ -1,3 +1,4 @@
+-- The loop invariants of `part`.
 use Rattle.std.proofs.Common.{◌≡◌}
 use Rattle.std.specs.Prelude.{map}
 use Rattle.ckpt_bench.proofs.threads.part.Given as goal

@@ -1,3 +1,4 @@
+-- Answers the goals of `run`.
 use Rattle.std.proofs.Common.{◌≡◌, All, subst, sym}
 use Rattle.ckpt_locked.specs.Locks.{Hand}
 use Rattle.ckpt_locked.proofs.LockCalls.{newcomers_are}

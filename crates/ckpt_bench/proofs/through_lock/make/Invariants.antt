@@ -1,3 +1,4 @@
+-- The loop invariants of `make`.
 use Rattle.std.proofs.Common.{◌≡◌}
 use Rattle.ckpt_bench.proofs.through_lock.make.Given as goal
 

@@ -1,3 +1,4 @@
+-- Answers the goals of `run`.
 use denote.Param.Send.{sendable}
 use Rattle.std.proofs.Crossing.{crosses}
 use Rattle.ckpt_locked.proofs.Crossings.{book_send}

@@ -1,3 +1,4 @@
+-- The loop invariants of `insist`.
 use Rattle.std.proofs.Common.{◌≡◌}
 use Rattle.ckpt_bench.proofs.worker.insist.Given as goal
 

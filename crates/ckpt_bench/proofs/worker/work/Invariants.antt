@@ -1,3 +1,4 @@
+-- The loop invariants of `work`.
 use Rattle.std.proofs.Common.{◌≡◌}
 use Rattle.ckpt_bench.proofs.worker.work.Given as goal
 

@@ -1,3 +1,4 @@
+-- Answers the goals of `call_line`.
 use Rattle.std.proofs.Common.{rules}
 use Rattle.ckpt_call_lines.proofs.ReadBack.{reads}
 use Rattle.ckpt_call_lines.proofs.calls.call_line.Goals as goal

@@ -1,3 +1,4 @@
+-- Answers the goals of `config_line`.
 use Rattle.std.proofs.Common.{rules}
 use Rattle.ckpt_call_lines.proofs.ReadBack.{config}
 use Rattle.ckpt_call_lines.proofs.opening.config_line.Goals as goal

@@ -1,3 +1,4 @@
+-- Answers the goals of `job_line`.
 use Rattle.std.proofs.Common.{rules}
 use Rattle.ckpt_call_lines.specs.CallTexts.{job_text}
 use Rattle.ckpt_call_lines.proofs.ReadBack.{job_of}

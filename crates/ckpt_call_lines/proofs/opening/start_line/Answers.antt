@@ -1,3 +1,4 @@
+-- Answers the goals of `start_line`.
 use Rattle.std.proofs.Common.{rules}
 use Rattle.ckpt_call_lines.specs.CallTexts.{start_text}
 use Rattle.ckpt_call_lines.proofs.ReadBack.{start}

@@ -1,3 +1,4 @@
+-- Answers the goals of `write_fresh`.
 use Rattle.std.proofs.Common.{sym, ◌∙◌, append_assoc, arith}
 use Rattle.ckpt_texts.proofs.ListLemmas.{flat_map-take-next, none_within-absurd}
 use Rattle.ckpt_call_lines.specs.CallTexts.{fresh_text}

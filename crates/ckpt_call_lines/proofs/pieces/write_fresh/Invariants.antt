@@ -1,3 +1,4 @@
+-- The loop invariants of `write_fresh`.
 use Rattle.std.proofs.Common.{◌≡◌, ◌++◌, take, string_bytes}
 use Rattle.std.specs.Prelude.{All, flat_map}
 use Rattle.ckpt_call_lines.specs.CallTexts.{Fits, fresh_text}

@@ -1,3 +1,4 @@
+-- The loop invariants of `write_reused`.
 use Rattle.std.proofs.Common.{◌≡◌, ◌++◌, take, string_bytes}
 use Rattle.std.specs.Prelude.{All, flat_map}
 use Rattle.ckpt_call_lines.specs.CallTexts.{Fits, reused_text}

@@ -1,3 +1,4 @@
+-- The loop invariants of `conduct`.
 use Rattle.std.proofs.Common.{◌≡◌}
 use Rattle.ckpt_demo.proofs.conductor.conduct.Given as goal
 

@@ -1,3 +1,4 @@
+-- The loop invariants of `count`.
 use Rattle.std.proofs.Common.{◌≡◌}
 use Rattle.ckpt_demo.proofs.conductor.count.Given as goal
 

@@ -1,3 +1,4 @@
+-- The loop invariants of `discard`.
 use Rattle.std.proofs.Common.{◌≡◌}
 use Rattle.ckpt_demo.proofs.discarder.discard.Given as goal
 

@@ -1,3 +1,4 @@
+-- The loop invariants of `work`.
 use Rattle.std.proofs.Common.{◌≡◌}
 use Rattle.ckpt_demo.proofs.task.work.Given as goal
 

@@ -1,3 +1,4 @@
+-- Answers the goals of `close`.
 use Rattle.std.proofs.Common.{◌≡◌, All, subst}
 use Rattle.ckpt_locked.specs.Locks.{Hand}
 use Rattle.ckpt_demo.proofs.Firsts.{firsts}

@@ -1,3 +1,4 @@
+-- The loop invariants of `passes_of`.
 use Rattle.std.proofs.Common.{◌≡◌}
 use Rattle.std.specs.Prelude.{map}
 use Rattle.ckpt_demo.proofs.threads.passes_of.Given as goal

@@ -1,3 +1,4 @@
+-- Answers the goals of `scatter`.
 use denote.Param.Send.{sendable}
 use Rattle.std.proofs.Crossing.{crosses}
 use Rattle.ckpt_demo.proofs.Crossings.{ground_sync}

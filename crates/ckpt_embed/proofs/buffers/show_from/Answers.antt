@@ -1,3 +1,4 @@
+-- Answers the goals of `show_from`.
 use Rattle.std.proofs.Common.{◌≡◌, ◌≢◌, refl, sym, subst, length}
 use Rattle.ckpt_ids.specs.declared.call.Call.TheVariants as call
 use Rattle.ckpt_core.specs.Steps.{step}

@@ -1,3 +1,4 @@
+-- Answers the goals of `take`.
 use Rattle.std.proofs.Common.{length}
 use Rattle.ckpt_embed.proofs.Given.{take_at_most}
 use Rattle.ckpt_embed.proofs.buffers.take.Goals as goal

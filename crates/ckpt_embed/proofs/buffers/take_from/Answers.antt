@@ -1,3 +1,4 @@
+-- Answers the goals of `take_from`.
 use Rattle.std.proofs.Common.{◌≡◌, ◌≢◌, sym, subst}
 use Rattle.ckpt_ids.specs.declared.call.Call.TheVariants as call
 use Rattle.ckpt_core.specs.Steps.{step}

@@ -1,3 +1,4 @@
+-- The loop invariants of `write_files`.
 use Rattle.std.proofs.Common.{◌≡◌, length, take, drop}
 use Rattle.ckpt_embed.proofs.buffers.write_files.Given as goal
 

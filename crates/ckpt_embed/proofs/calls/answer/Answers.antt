@@ -1,3 +1,4 @@
+-- Answers the goals of `answer`.
 use Rattle.std.proofs.Common.{◌≡◌, ◌≢◌, sym, subst}
 use Rattle.ckpt_core.specs.Steps.{step}
 use Rattle.ckpt_embed.specs.declared.answer.Answer.{Answer}

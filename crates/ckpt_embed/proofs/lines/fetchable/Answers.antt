@@ -1,3 +1,4 @@
+-- Answers the goals of `fetchable`.
 use Rattle.std.proofs.Common.{◌≡◌, ℕ, sym, subst, arith}
 use Rattle.ckpt_embed.proofs.Given.{take_brings}
 use Rattle.ckpt_embed.proofs.lines.fetchable.Goals as goal

@@ -1,3 +1,4 @@
+-- Answers the goals of `opening_lines`.
 use Rattle.std.proofs.Common.{◌≤◌, ◌∙◌, ℕ, List, length, subst}
 use Rattle.ckpt_lines.specs.declared.limits.TheConstants.{LONGEST_LINE}
 use Rattle.ckpt_embed.specs.Opening.{opening_of}

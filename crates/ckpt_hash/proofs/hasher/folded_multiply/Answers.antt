@@ -1,3 +1,4 @@
+-- Answers the goals of `folded_multiply`.
 use Rattle.std.proofs.Common.{refl}
 use Rattle.std.specs.Hash.FoldHasher.{folded_multiply}
 use Rattle.ckpt_hash.proofs.hasher.folded_multiply.Goals as goal

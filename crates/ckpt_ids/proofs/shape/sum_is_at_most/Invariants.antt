@@ -1,3 +1,4 @@
+-- The loop invariants of `sum_is_at_most`.
 use Rattle.std.proofs.Common.{◌≡◌, ◌+◌, sum, take}
 use Rattle.ckpt_ids.proofs.shape.sum_is_at_most.Given as goal
 

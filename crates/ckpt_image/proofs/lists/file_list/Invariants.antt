@@ -1,3 +1,4 @@
+-- The loop invariants of `file_list`.
 use Rattle.std.proofs.Common.{◌≡◌}
 use Rattle.ckpt_image.specs.Members.{number_of}
 use Rattle.ckpt_image.proofs.Items.{left, with_front}

@@ -1,3 +1,4 @@
+-- Answers the goals of `are_in_order`.
 use Rattle.std.proofs.Common.{◌∙◌, rules, sym}
 use Rattle.std.proofs.lemmas.List.Sorted.{answers_always}
 use Rattle.ckpt_ids.specs.Acknowledged.{acknowledges_before}

@@ -1,3 +1,4 @@
+-- The loop invariants of `records`.
 use Rattle.std.proofs.Common.{◌≡◌, map}
 use Rattle.ckpt_core.specs.Images.{record_in}
 use Rattle.ckpt_image.specs.Members.{saved_of}

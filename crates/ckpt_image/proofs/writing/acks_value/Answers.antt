@@ -1,3 +1,4 @@
+-- Answers the goals of `acks_value`.
 use Rattle.ckpt_image.specs.Fits.{AckFits}
 use Rattle.ckpt_image.specs.Written.{ack_data}
 use Rattle.ckpt_image.proofs.TakenLemmas.{each-more, each-whole, views-more}

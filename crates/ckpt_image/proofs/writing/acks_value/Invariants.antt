@@ -1,3 +1,4 @@
+-- The loop invariants of `acks_value`.
 use Rattle.std.proofs.Common.{◌≡◌, map, take}
 use Rattle.ckpt_ids.specs.declared.ack.Acked.{Acked}
 use Rattle.ckpt_ids.specs.Ordered.{IsIn}

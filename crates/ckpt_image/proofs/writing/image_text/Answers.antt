@@ -1,3 +1,4 @@
+-- Answers the goals of `image_text`.
 use Rattle.std.proofs.Common.{◌∙◌, ap, sym, subst, ◌≤◌, Some}
 use Rattle.std.specs.Prelude.{option_and_then}
 use Rattle.std.proofs.lemmas.Result.{IfOk-weaker}

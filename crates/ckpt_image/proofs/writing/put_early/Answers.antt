@@ -1,3 +1,4 @@
+-- Answers the goals of `put_early`.
 use Rattle.ckpt_image.proofs.OutcomeLemmas.{on_any_ok}
 use Rattle.ckpt_image.proofs.writing.put_early.Goals as goal
 

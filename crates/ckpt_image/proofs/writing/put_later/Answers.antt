@@ -1,3 +1,4 @@
+-- Answers the goals of `put_later`.
 use Rattle.std.proofs.Common.{map, subst}
 use Rattle.std.specs.Prelude.{List}
 use Rattle.ckpt_core.specs.declared.image.Saved.{Saved}

@@ -1,3 +1,4 @@
+-- Answers the goals of `record_value`.
 use Rattle.ckpt_image.proofs.writing.record_value.Goals as goal
 
 pub returns-in-Ok-json-14-clause-fits : goal.returns-in-Ok-json-14-clause-fits

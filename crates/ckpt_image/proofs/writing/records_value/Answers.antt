@@ -1,3 +1,4 @@
+-- Answers the goals of `records_value`.
 use Rattle.std.proofs.Common.{◌≡◌, List, [], ◌∷◌, map, refl, ap, ◌∙◌}
 use Rattle.std.proofs.lemmas.List.{take_all}
 use Rattle.ckpt_core.specs.declared.image.Saved.{Saved}

@@ -1,3 +1,4 @@
+-- The loop invariants of `records_value`.
 use Rattle.std.proofs.Common.{◌≡◌, map, take}
 use Rattle.ckpt_core.specs.declared.image.Saved.{Saved}
 use Rattle.ckpt_core.specs.Images.{record_in}

@@ -1,3 +1,4 @@
+-- Answers the goals of `front`.
 use Rattle.std.proofs.Common.{◌≡◌, ℕ, ◌+◌, ◌<◌, ◌≤◌, true, false, List, length, take, ap, sym, ◌∙◌, ⊎_elim, arith, min}
 use Rattle.std.proofs.lemmas.Bool.{cases_Bool, ltb-true, ltb-false, lt-ltb, cond-true}
 use Rattle.std.proofs.lemmas.List.{take_all, length-take}

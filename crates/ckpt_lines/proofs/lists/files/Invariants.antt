@@ -1,3 +1,4 @@
+-- The loop invariants of `files`.
 use Rattle.std.proofs.Common.{◌≡◌, List, length}
 use Rattle.std.specs.List.{filter_map}
 use Rattle.ckpt_lines.specs.declared.values.FileWord.{FileWord}

@@ -1,3 +1,4 @@
+-- The loop invariants of `numbers`.
 use Rattle.std.proofs.Common.{◌≡◌, length}
 use Rattle.ckpt_lines.specs.Reading.{each}
 use Rattle.ckpt_lines.specs.Values.{number}

@@ -1,3 +1,4 @@
+-- Answers the goals of `first_keyword`.
 use Rattle.std.proofs.Common.{◌≡◌, false, List, ℕ, ◌∷◌, Some, refl}
 use Rattle.ckpt_lines.specs.declared.keyword.Keyword.{Keyword}
 use Rattle.ckpt_lines.specs.declared.keyword.Keyword.TheVariants.{Config, Job, Start, Tick, Savepoint, Ack, Decline, Dispose, Restore, Cancel, Take, Deleted, Undeleted, Show, Count, All}
@@ -5,7 +6,7 @@ use Rattle.ckpt_lines.specs.Keywords.{keyword_of, spelling, takes_memory}
 use Rattle.ckpt_lines.specs.Reading.{begins_with_a_list, is_comment, line_of, row}
 use Rattle.ckpt_lines.proofs.parse.first_keyword.Goals as goal
 
--- what is spelled as a keyword is that keyword, and no comment
+-- the spelling of a keyword is read as that keyword, and not as a comment
 found : (first : Keyword) → (keyword_of (spelling first) ≡ Some first) × (is_comment (spelling first) ≡ false)
 unfolding keyword_of
 found Config = (refl, refl)

@@ -1,3 +1,4 @@
+-- Answers the goals of `parse_line`.
 use Rattle.ckpt_lines.proofs.ReadingLaws.{reading-no_memory}
 use Rattle.ckpt_lines.proofs.parse.parse_line.Goals as goal
 

@@ -1,3 +1,4 @@
+-- Answers the goals of `target`.
 use Rattle.ckpt_lines.specs.Reading.{target_place}
 use Rattle.ckpt_lines.specs.Values.{target_of}
 use Rattle.ckpt_lines.proofs.PlaceLemmas.{Gives-place}

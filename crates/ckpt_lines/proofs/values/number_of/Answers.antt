@@ -1,3 +1,4 @@
+-- Answers the goals of `number_of`.
 use Rattle.std.proofs.Common.{ℕ, ◌≡◌, ◌<◌, eqb, false, length, sym, ◌∙◌, arith, eqb-true, zero, suc}
 use Rattle.ckpt_lines.proofs.NumberLemmas.{Spells-all, Spells-empty, Spells-more, Spells-stops}
 use Rattle.ckpt_lines.proofs.values.number_of.Goals as goal

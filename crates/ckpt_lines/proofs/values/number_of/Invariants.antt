@@ -1,3 +1,4 @@
+-- The loop invariants of `number_of`.
 use Rattle.ckpt_lines.proofs.NumberLemmas.{Spells}
 use Rattle.ckpt_lines.proofs.values.number_of.Given as goal
 

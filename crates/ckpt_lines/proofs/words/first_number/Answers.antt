@@ -1,3 +1,4 @@
+-- Answers the goals of `first_number`.
 use Rattle.std.proofs.Common.{◌∙◌, ◌<◌, ◌≤◌, ◌+◌, ◌*◌, ◌^◌, sym, arith}
 use Rattle.ckpt_lines.proofs.FirstNumbers.{Reads-all, Short-fits, Short-more, Short-none}
 use Rattle.ckpt_lines.proofs.words.first_number.Goals as goal

@@ -1,3 +1,4 @@
+-- The loop invariants of `without_spaces`.
 use Rattle.std.proofs.Common.{◌≡◌, length}
 use Rattle.ckpt_lines.specs.Words.{words_of}
 use Rattle.ckpt_lines.proofs.words.without_spaces.Given as goal

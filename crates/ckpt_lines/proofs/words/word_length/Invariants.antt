@@ -1,3 +1,4 @@
+-- The loop invariants of `word_length`.
 use Rattle.std.proofs.Common.{◌≡◌, ◌+◌, length}
 use Rattle.ckpt_lines.specs.Words.{first_length}
 use Rattle.ckpt_lines.proofs.words.word_length.Given as goal

@@ -1,3 +1,4 @@
+-- Answers the goals of `compare`.
 use Rattle.std.proofs.Common.{rules, ap, ◌∙◌}
 use Rattle.ckpt_locked.specs.Turns.{Sat, base_of}
 use Rattle.ckpt_locked.specs.Locks.{Hand}

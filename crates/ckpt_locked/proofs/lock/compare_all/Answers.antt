@@ -1,3 +1,4 @@
+-- Answers the goals of `compare_all`.
 use Rattle.std.proofs.Common.{◌≡◌, ◌++◌, [], ◌∷◌, List, length, refl, subst, sym, ap, ◌∙◌, append_assoc, arith, All}
 use Rattle.std.proofs.lemmas.List.Elements.{All-cons}
 use Rattle.ckpt_locked.specs.Locks.{Hand, SeenIn}

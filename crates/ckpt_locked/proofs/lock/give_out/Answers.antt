@@ -1,3 +1,4 @@
+-- Answers the goals of `give_out`.
 use Rattle.std.proofs.Common.{ap, arith, length, List}
 use Rattle.ckpt_locked.specs.Locks.{Hand}
 use Rattle.ckpt_locked.proofs.LockCalls.{length-newcomers}

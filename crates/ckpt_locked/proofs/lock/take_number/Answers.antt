@@ -1,3 +1,4 @@
+-- Answers the goals of `take_number`.
 use Rattle.std.proofs.Common.{rules, ◌∙◌, refl}
 use Rattle.ckpt_locked.specs.Turns.{base_of}
 use Rattle.ckpt_locked.proofs.Moves.{numbers_as}

@@ -1,3 +1,4 @@
+-- The loop invariants of `take_number`.
 use Rattle.std.proofs.Common.{◌≡◌}
 use Rattle.ckpt_locked.proofs.lock.take_number.Given as goal
 

@@ -1,3 +1,4 @@
+-- Answers the goals of `ask`.
 use Rattle.std.proofs.Common.{Some}
 use Rattle.std.proofs.lemmas.Result.{IfOk-weaker}
 use Rattle.ckpt_locked.specs.Turns.{kept}

@@ -1,3 +1,4 @@
+-- Answers the goals of `commit`.
 use Rattle.std.proofs.Common.{rules, refl, ◌++◌, ◌∷◌, []}
 use Rattle.ckpt_locked.specs.Seats.{entry}
 use Rattle.ckpt_locked.specs.Turns.{base_of, kept, grown}

@@ -1,3 +1,4 @@
+-- Answers the goals of `enter`.
 use Rattle.std.proofs.Common.{rules}
 use Rattle.ckpt_locked.specs.Turns.{base_of}
 use Rattle.ckpt_locked.proofs.Moves.{draws_as}

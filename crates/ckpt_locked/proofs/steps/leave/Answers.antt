@@ -1,3 +1,4 @@
+-- Answers the goals of `leave`.
 use Rattle.std.proofs.Common.{rules, refl}
 use Rattle.ckpt_locked.specs.Turns.{base_of, kept}
 use Rattle.ckpt_locked.proofs.Moves.{passes_as}

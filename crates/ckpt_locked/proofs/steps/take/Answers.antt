@@ -1,3 +1,4 @@
+-- Answers the goals of `take`.
 use Rattle.std.proofs.Common.{Some}
 use Rattle.ckpt_locked.specs.Turns.{kept}
 use Rattle.ckpt_locked.proofs.Moves.{held}

@@ -1,3 +1,4 @@
+-- The loop invariants of `wait`.
 use Rattle.std.proofs.Common.{◌≡◌}
 use Rattle.ckpt_locked.proofs.steps.wait.Given as goal
 

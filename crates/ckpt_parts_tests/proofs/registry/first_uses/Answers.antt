@@ -1,3 +1,4 @@
+-- Answers the goals of `first_uses`.
 use Rattle.std.proofs.Common.{List, ◌++◌, sym, subst}
 use Rattle.std.proofs.lemmas.Result.{on_ok_weaker}
 use Rattle.ckpt_ids.specs.Records.{Use, Subtask}

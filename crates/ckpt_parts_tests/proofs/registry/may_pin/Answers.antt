@@ -1,3 +1,4 @@
+-- Answers the goals of `may_pin`.
 use Rattle.std.proofs.Common.{List, ℕ, sym, subst, ◌∙◌}
 use Rattle.ckpt_ids.specs.Ascending.{IsAscending}
 use Rattle.ckpt_parts_tests.specs.Earlier.{IsPinnable}

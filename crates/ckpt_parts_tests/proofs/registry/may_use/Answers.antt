@@ -1,3 +1,4 @@
+-- Answers the goals of `may_use`.
 use Rattle.std.proofs.Common.{sym, ◌∙◌}
 use Rattle.ckpt_parts_tests.proofs.EarlierLemmas.{IsUsable-from_tests, IsUsable-same}
 use Rattle.ckpt_parts_tests.proofs.registry.may_use.Goals as goal

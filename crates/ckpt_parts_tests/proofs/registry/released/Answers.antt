@@ -1,3 +1,4 @@
+-- Answers the goals of `released`.
 use Rattle.std.proofs.Common.{List, sym, subst}
 use Rattle.ckpt_ids.specs.Records.{Use}
 use Rattle.ckpt_parts_tests.specs.Earlier.{AreBefore}

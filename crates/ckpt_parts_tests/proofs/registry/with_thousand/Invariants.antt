@@ -1,3 +1,4 @@
+-- The loop invariants of `with_thousand`.
 use Rattle.ckpt_parts_tests.specs.Earlier.{AreBefore}
 use Rattle.ckpt_parts_tests.proofs.registry.with_thousand.Given as goal
 

@@ -1,3 +1,4 @@
+-- Answers the goals of `acknowledged`.
 use Rattle.std.proofs.Common.{◌≡◌, ◌∙◌, ◌+◌, ap, cond, sym, arith}
 use Rattle.ckpt_ids.specs.Shapes.{is_subtask}
 use Rattle.ckpt_texts.proofs.ListLemmas.{count_by-take-next}

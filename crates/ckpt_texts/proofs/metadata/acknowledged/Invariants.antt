@@ -1,3 +1,4 @@
+-- The loop invariants of `acknowledged`.
 use Rattle.std.proofs.Common.{◌≡◌, take}
 use Rattle.std.specs.Prelude.{count_by}
 use Rattle.ckpt_ids.specs.Shapes.{is_subtask}

@@ -1,3 +1,4 @@
+-- The loop invariants of `acks_value`.
 use Rattle.std.proofs.Common.{◌≡◌, map, take}
 use Rattle.serde_json.specs.View.{view}
 use Rattle.ckpt_texts.specs.MetadataTexts.{ack_data}

@@ -1,3 +1,4 @@
+-- Answers the goals of `missing`.
 use Rattle.std.proofs.Common.{arith}
 use Rattle.ckpt_texts.proofs.MissingLemmas.{missing-counted}
 use Rattle.ckpt_texts.proofs.metadata.missing.Goals as goal

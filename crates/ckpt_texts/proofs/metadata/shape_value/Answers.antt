@@ -1,3 +1,4 @@
+-- Answers the goals of `shape_value`.
 use Rattle.std.proofs.Common.{sym, ◌∙◌, ap, arith}
 use Rattle.ckpt_texts.specs.MetadataTexts.{natural}
 use Rattle.ckpt_texts.proofs.ListLemmas.{none_within-absurd}

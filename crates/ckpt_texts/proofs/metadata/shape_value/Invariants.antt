@@ -1,3 +1,4 @@
+-- The loop invariants of `shape_value`.
 use Rattle.std.proofs.Common.{◌≡◌, map, take}
 use Rattle.serde_json.specs.View.{view}
 use Rattle.ckpt_texts.specs.MetadataTexts.{natural}

@@ -1,3 +1,4 @@
+-- Answers the goals of `write_files`.
 use Rattle.std.proofs.Common.{sym, ◌∙◌, append_assoc, arith}
 use Rattle.ckpt_texts.specs.Texts.{spaced}
 use Rattle.ckpt_texts.proofs.ListLemmas.{flat_map-take-next, none_within-absurd}

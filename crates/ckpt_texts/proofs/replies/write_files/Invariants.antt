@@ -1,3 +1,4 @@
+-- The loop invariants of `write_files`.
 use Rattle.std.proofs.Common.{◌≡◌, ◌++◌, take, string_bytes}
 use Rattle.std.specs.Prelude.{flat_map}
 use Rattle.ckpt_texts.specs.Texts.{spaced}

@@ -1,3 +1,4 @@
+-- Answers the goals of `write_reply`.
 use Rattle.ckpt_texts.specs.Texts.{reply_bytes}
 use Rattle.ckpt_texts.proofs.replies.write_reply.Goals as goal
 

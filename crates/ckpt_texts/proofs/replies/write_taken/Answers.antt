@@ -1,3 +1,4 @@
+-- Answers the goals of `write_taken`.
 use Rattle.std.proofs.Common.{◌≡◌, List, [], ◌∷◌, ℕ, refl, codes, flat_map, rules}
 use Rattle.std.proofs.lemmas.Bool.{false≢true}
 use Rattle.ckpt_texts.specs.Texts.{spaced, taken_bytes}

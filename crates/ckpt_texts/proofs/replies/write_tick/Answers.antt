@@ -1,3 +1,4 @@
+-- Answers the goals of `write_tick`.
 use Rattle.std.proofs.Common.{◌≡◌, ◌++◌, List, ℕ, codes, decimal, append_assoc, arith, rules}
 use Rattle.std.proofs.lemmas.Fmt.{decimal_digit}
 use Rattle.ckpt_texts.specs.Texts.{spaced, tick_end_bytes}

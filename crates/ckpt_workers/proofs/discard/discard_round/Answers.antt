@@ -1,3 +1,4 @@
+-- Answers the goals of `discard_round`.
 use Rattle.std.proofs.Common.{List, ℕ, false, subst}
 use Rattle.std.specs.Prelude.{Option, Some}
 use Rattle.ckpt_ids.specs.declared.call.Call.TheVariants.{Take}

@@ -1,3 +1,4 @@
+-- The loop invariants of `report_each`.
 use Rattle.std.proofs.Common.{◌≡◌, ◌+◌, false, length, drop}
 use Rattle.ckpt_workers.specs.Rounds.{IsReported}
 use Rattle.ckpt_workers.proofs.discard.report_each.Given as goal

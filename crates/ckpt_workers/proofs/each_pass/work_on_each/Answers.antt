@@ -1,3 +1,4 @@
+-- Answers the goals of `work_on_each`.
 use denote.Param.Send.{sendable}
 use Rattle.std.proofs.Crossing.{crosses}
 use Rattle.ckpt_locked.proofs.Crossings.{pass_send}

@@ -1,3 +1,4 @@
+-- The loop invariants of `all_of`.
 use Rattle.std.proofs.Common.{◌≡◌}
 use Rattle.std.specs.Prelude.{map, Ok}
 use Rattle.ckpt_workers.proofs.shares.all_of.Given as goal

@@ -1,3 +1,4 @@
+-- Answers the goals of `spread`.
 use Rattle.std.proofs.Common.{length}
 use Rattle.ckpt_workers.specs.Spreads.{IsWorked}
 use Rattle.ckpt_workers.proofs.ShareLemmas.{each_report}

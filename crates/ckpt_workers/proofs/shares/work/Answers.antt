@@ -1,3 +1,4 @@
+-- Answers the goals of `work`.
 use Rattle.std.proofs.Common.{[], ◌∷◌, ◌++◌, ap, ◌∙◌, sym}
 use Rattle.std.proofs.lemmas.List.{map-append}
 use Rattle.ckpt_workers.specs.Shifts.{Exchange}

@@ -1,3 +1,4 @@
+-- The loop invariants of `work`.
 use Rattle.std.proofs.Common.{◌≡◌}
 use Rattle.ckpt_workers.specs.Shifts.{Exchange, IsShift, answers_in, calls_in}
 use Rattle.ckpt_workers.proofs.shares.work.Given as goal

@@ -1,3 +1,4 @@
+-- Answers the goals of `work_on_all`.
 use denote.Param.Send.{sendable}
 use Rattle.std.proofs.Crossing.{crosses}
 use Rattle.ckpt_workers.proofs.Crossings.{report_send, share_send}

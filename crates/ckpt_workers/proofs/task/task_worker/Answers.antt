@@ -1,3 +1,4 @@
+-- Answers the goals of `task_worker`.
 use Rattle.ckpt_workers.proofs.TaskLemmas.{IsTasked-push}
 use Rattle.ckpt_workers.proofs.task.task_worker.Goals as goal
 

@@ -1,3 +1,4 @@
+-- The loop invariants of `task_worker`.
 use Rattle.ckpt_workers.specs.Tasks.{IsTasked}
 use Rattle.ckpt_workers.proofs.task.task_worker.Given as goal
 

@@ -1,3 +1,4 @@
+-- Answers the goals of `counted`.
 use Rattle.std.proofs.Common.{◌≡◌, ◌<◌, ◌/◌, length, map, subst, arith}
 use Rattle.ckpt_workers.proofs.ThreadLemmas.{IsCounting, IsCounting-all, IsCounting-none, IsCounting-push, turn_within}
 use Rattle.ckpt_workers.proofs.threads.counted.Goals as goal

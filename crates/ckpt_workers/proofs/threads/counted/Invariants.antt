@@ -1,3 +1,4 @@
+-- The loop invariants of `counted`.
 use Rattle.std.proofs.Common.{map}
 use Rattle.ckpt_workers.proofs.ThreadLemmas.{IsCounting}
 use Rattle.ckpt_workers.proofs.threads.counted.Given as goal

@@ -1,3 +1,4 @@
+-- The loop invariants of `deal`.
 use Rattle.std.proofs.Common.{◌≡◌, length, map}
 use Rattle.ckpt_workers.specs.Deals.{IsDeal}
 use Rattle.ckpt_workers.proofs.threads.deal.Given as goal

@@ -1,3 +1,4 @@
+-- The loop invariants of `parted`.
 use Rattle.std.proofs.Common.{◌≡◌, map}
 use Rattle.ckpt_workers.proofs.threads.parted.Given as goal
 

@@ -1,3 +1,4 @@
+-- The loop invariants of `without_calls`.
 use Rattle.std.proofs.Common.{◌≡◌, [], map, All}
 use Rattle.ckpt_workers.proofs.threads.without_calls.Given as goal
 

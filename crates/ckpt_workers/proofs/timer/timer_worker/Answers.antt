@@ -1,3 +1,4 @@
+-- Answers the goals of `timer_worker`.
 use Rattle.ckpt_workers.proofs.TimerLemmas.{IsTimed-push}
 use Rattle.ckpt_workers.proofs.timer.timer_worker.Goals as goal
 

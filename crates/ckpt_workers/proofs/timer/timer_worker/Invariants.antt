@@ -1,3 +1,4 @@
+-- The loop invariants of `timer_worker`.
 use Rattle.ckpt_workers.specs.Timers.{IsTimed}
 use Rattle.ckpt_workers.proofs.timer.timer_worker.Given as goal
 

@@ -1,3 +1,4 @@
+-- Answers the goals of `round_of`.
 use Rattle.ckpt_workers.proofs.RoundLemmas.{can_resume}
 use Rattle.ckpt_workers_tests.proofs.deeds.round_of.Goals as goal
 

@@ -1,3 +1,4 @@
+-- Answers the goals of `take_checkpoint_two`.
 use Rattle.std.proofs.Common.{◌≡◌, List, [], ◌∷◌, All}
 use Rattle.std.proofs.lemmas.List.Elements.{All-cons, All-nil, All-same}
 use Rattle.ckpt_locked.specs.Locks.{Hand, Lock}

@@ -1,3 +1,4 @@
+-- Answers the goals of `two_tasks`.
 use denote.Param.Send.{IsSend, sendable}
 use Rattle.std.proofs.Crossing.{crosses}
 use Rattle.ckpt_locked.proofs.Crossings.{locked_sync, pass_send}
@@ -8,7 +9,7 @@ use Rattle.ckpt_workers_tests.proofs.embedding.two_tasks.Goals as goal
 order_send : IsSend Order.the_row
 order_send = search (sendable, crosses) depth 80 fits 20000
 
--- a task may cross threads
+-- a task may go to another thread
 task_send : IsSend Task.the_row
 task_send = search (pass_send, order_send, sendable, crosses) depth 80 fits 20000
 

@@ -1,3 +1,4 @@
+-- Answers the goals of `over_lock`.
 use denote.Param.Send.{sendable}
 use Rattle.std.proofs.Crossing.{crosses}
 use Rattle.ckpt_locked.proofs.Crossings.{locked_sync}

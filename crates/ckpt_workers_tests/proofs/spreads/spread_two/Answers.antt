@@ -1,3 +1,4 @@
+-- Answers the goals of `spread_two`.
 use Rattle.std.proofs.Common.{◌≡◌, ℕ, List, [], ◌∷◌, length, ◌∙◌, arith, All}
 use Rattle.std.specs.Prelude.{Result, Ok, Err, IfOk, vec_len}
 use Rattle.std.proofs.lemmas.List.Elements.{All-cons, All-nil, All-same}
@@ -7,7 +8,7 @@ use Rattle.ckpt_workers.specs.declared.shares.Share.{Share}
 use Rattle.ckpt_workers.specs.Spreads.{AreWorked}
 use Rattle.ckpt_workers_tests.proofs.spreads.spread_two.Goals as goal
 
--- the passes of the shares are of the lock, so those of the reports are
+-- the passes of the shares belong to the lock, so those of the reports do
 reports_are : (lock : Lock) (shares : List Share) (reports : List Report) → All (λ (s : Share). s.pass.lock ≡ lock) shares → length reports ≡ length shares → AreWorked shares reports
     → All (λ (r : Report). r.pass.lock ≡ lock) reports
 reports_are lock [] reports passes many worked = λ k d below. absurd (omega arith)

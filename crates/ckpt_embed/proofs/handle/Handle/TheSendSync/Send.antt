@@ -1,4 +1,4 @@
--- A handle says the same to every thread: what it owns is the coordinator's box, and a coordinator may cross.
+-- A handle is the same for every thread: it owns the coordinator's box, and a coordinator may go to another thread.
 use mir.Raw.{raw}
 use base.Fraction.{full_share}
 use base.Shift.{Keyless}

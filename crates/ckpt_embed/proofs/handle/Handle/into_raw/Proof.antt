@@ -1,4 +1,4 @@
--- `into_raw` asks whether the pointer is null, and else has the box.
+-- `into_raw` tests whether the pointer is null. If it is not, it has the box.
 use Rattle.std.proofs.Common.{◌≡◌, List, [], ◌∷◌, ◌++◌, refl, sym, ap, ◌∙◌, subst, lit<}
 use mir.Val.{Val, vptr, vcons, vnil}
 use base.Logic.{SProp, ent, emp, id⊢}

@@ -1,4 +1,4 @@
--- `of` keeps the pointer of the box. The allocator takes no bytes and is one.
+-- `of` keeps the pointer of the box. The allocator takes no bytes, and there is only one.
 use Rattle.std.proofs.Common.{◌≡◌, List, [], ◌∷◌, ◌++◌, refl, sym, subst}
 use mir.Val.{Val, vptr}
 use base.Logic.{SProp, ent, emp, id⊢}

@@ -1,3 +1,4 @@
+-- Answers the goals of `NumberHasher::mix_each`.
 use Rattle.std.proofs.Common.{rules, take_all}
 use Rattle.std.proofs.hash.Loops.{byte_more}
 use Rattle.ckpt_hash.proofs.hasher.NumberHasher.mix_each.Goals as goal

@@ -1,3 +1,4 @@
+-- The loop invariants of `NumberHasher::mix_each`.
 use Rattle.std.proofs.Common.{◌≡◌, take}
 use Rattle.std.specs.List.{fold}
 use Rattle.ckpt_hash.specs.Hashing.{mixed}

@@ -1,3 +1,4 @@
+-- Answers the goals of `Files::of`.
 use Rattle.std.proofs.Common.{subst}
 use Rattle.std.proofs.lemmas.Bool.{MatchBool-at_true}
 use Rattle.std.proofs.lemmas.List.Sorted.{non_decreasing_from_is_sorted}

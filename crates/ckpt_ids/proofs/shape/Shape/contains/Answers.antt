@@ -1,3 +1,4 @@
+-- Answers the goals of `Shape::contains`.
 use Rattle.std.proofs.Common.{◌∙◌, sym, arith, length, refl, ◌≤◌}
 use Rattle.std.proofs.lemmas.List.{get_or_past}
 use Rattle.std.proofs.lemmas.Bool.{le-ltb}

@@ -1,3 +1,4 @@
+-- The loop invariants of `Shape::new`.
 use Rattle.std.proofs.Common.{◌≡◌, sum, take}
 use Rattle.ckpt_ids.specs.Shapes.{IsShape}
 use Rattle.ckpt_ids.proofs.shape.Shape.new.Given as goal

@@ -1,3 +1,4 @@
+-- Answers the goals of `Shape::nth`.
 use Rattle.std.proofs.Common.{◌∙◌, sym, arith}
 use Rattle.ckpt_ids.proofs.ShapeLemmas.{subtask_found, subtask_further}
 use Rattle.ckpt_ids.proofs.shape.Shape.nth.Goals as goal

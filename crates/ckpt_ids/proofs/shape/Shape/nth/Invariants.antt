@@ -1,3 +1,4 @@
+-- The loop invariants of `Shape::nth`.
 use Rattle.std.proofs.Common.{◌≡◌, drop}
 use Rattle.std.specs.Prelude.{slice_get}
 use Rattle.ckpt_ids.specs.Shapes.{subtasks, subtasks_from}

@@ -1,3 +1,4 @@
+-- Answers the goals of `Shape::size`.
 use Rattle.std.proofs.Common.{◌∙◌, sym}
 use Rattle.std.specs.Arc.{arc_slice_items}
 use Rattle.ckpt_ids.proofs.ShapeLemmas.{length-subtasks_from}

@@ -1,3 +1,4 @@
+-- Answers the goals of `Words::file`.
 use Rattle.std.proofs.Common.{◌≡◌, ℕ, ◌-◌, Err, List, length, take, drop, sym, ap, refl, arith}
 use Rattle.std.proofs.lemmas.Result.{err_from_is_err_and}
 use Rattle.ckpt_lines.specs.Reading.{file_place}

@@ -1,3 +1,4 @@
+-- Answers the goals of `Words::number`.
 use Rattle.std.proofs.Common.{◌≡◌, ◌<◌, ℕ, ◌-◌, List, length, take, drop, ap, refl, arith}
 use Rattle.std.proofs.lemmas.Bool.Decides.{nat_tests}
 use Rattle.ckpt_lines.specs.Words.{words_of}

@@ -1,3 +1,4 @@
+-- Answers the goals of `Book::apply`.
 use Rattle.std.proofs.Common.{◌≡◌, List, [], ◌∷◌, ◌++◌, ap, sym, ◌∙◌}
 use Rattle.std.specs.Prelude.{Err, Some}
 use Rattle.ckpt_ids.specs.declared.call.Call.{Call}

@@ -1,3 +1,4 @@
+-- Answers the goals of `Book::core`.
 use Rattle.std.proofs.Common.{◌≡◌, ◌∷◌, sym, subst, ap, ◌∙◌}
 use Rattle.ckpt_core.specs.Laws.{AreCalls}
 use Rattle.ckpt_core.specs.Soundness.{IsSound}
@@ -6,7 +7,7 @@ use Rattle.ckpt_locked.proofs.AcceptedOnce.{exactly_one}
 use Rattle.ckpt_locked.proofs.Replays.{are_calls-append}
 use Rattle.ckpt_locked.proofs.book.Book.core.Goals as goal
 
--- the laws are of each opening and list; these are the book's
+-- the laws are about each opening and list; these are the book's
 its_history : (c : goal.After-self) → IsHistory c.args.self.now
 its_history c = subst IsHistory c.self.view_is c.self.invariant.history
 

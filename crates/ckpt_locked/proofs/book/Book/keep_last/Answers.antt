@@ -1,3 +1,4 @@
+-- Answers the goals of `Book::keep_last`.
 use Rattle.ckpt_locked.proofs.Replays.{kept_keeping}
 use Rattle.ckpt_locked.proofs.book.Book.keep_last.Goals as goal
 

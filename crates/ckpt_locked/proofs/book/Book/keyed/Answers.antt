@@ -1,3 +1,4 @@
+-- Answers the goals of `Book::keyed`.
 use Rattle.std.proofs.Common.{List, sym, subst}
 use Rattle.ckpt_core.specs.Laws.{CanOpen}
 use Rattle.ckpt_core.specs.State.{State, Opening, opened}

@@ -1,3 +1,4 @@
+-- Answers the goals of `Locked::call`.
 use Rattle.std.proofs.Common.{◌≡◌, ℕ, rules, ap, ◌∙◌, ◌+◌, ◌^◌, ◌<◌, ◌++◌, ◌∷◌, [], length, subst}
 use Rattle.ckpt_ids.specs.declared.call.Call.{Call}
 use Rattle.ckpt_ids.specs.declared.reply.Answer.{Answer}
@@ -14,7 +15,7 @@ overflow_add-calls g c =
     let small : c.pass.inside.calls + 1 < 2 ^ 64 = fits _ _ c.pass.inside.number _ _ c.pass.invariant c.enter-ticket.ensures.turn room in
     search rules
 
--- what the seat is after its call, by what it was when its turn came
+-- the seat after its call, from the seat when its turn came
 told : (came at after : Sat) (number t : ℕ) (x call : Call) (answer : Answer) → x ≡ call → Asked came t number call at answer → after ≡ (idle (grown at.0.mine (at.0.found ++ entry number x ∷ [])), [])
     → after ≡ (idle (grown came.0.mine (came.0.found ++ entry number call ∷ [])), [])
 told came at after number t x call answer is asked e =

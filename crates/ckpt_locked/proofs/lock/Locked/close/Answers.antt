@@ -1,3 +1,4 @@
+-- Answers the goals of `Locked::close`.
 use Rattle.std.proofs.Common.{◌≡◌, [], ◌∷◌, subst, sym, ap, ◌∙◌, arith, All}
 use Rattle.ckpt_locked.specs.declared.view.View.{View}
 use Rattle.ckpt_locked.specs.Locks.{Hand, Lock, SeenIn, GivenBack}

@@ -1,3 +1,4 @@
+-- Answers the goals of `Locked::new`.
 use Rattle.std.proofs.Common.{◌≡◌, ◌++◌, ap, arith, List, ◌∷◌, [], ◌∙◌, Option, Some}
 use Rattle.ckpt_locked.specs.Books.{History}
 use Rattle.ckpt_locked.proofs.Keeps.{starts_as}

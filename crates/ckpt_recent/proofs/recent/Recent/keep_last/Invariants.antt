@@ -1,3 +1,4 @@
+-- The loop invariants of `Recent::keep_last`.
 use Rattle.std.proofs.Common.{◌≡◌, ◌+◌, ◌-◌, ◌^◌, ◌<◌, ◌≤◌, ◌++◌, length}
 use Rattle.ckpt_recent.proofs.recent.Recent.keep_last.Given as goal
 

@@ -1,3 +1,4 @@
+-- Answers the goals of `InOrderTeam::make`.
 use Rattle.std.proofs.Common.{◌%◌, [], ◌∷◌, refl, ap, arith, length-append}
 use Rattle.ckpt_workers.specs.declared.team.Made.{Made}
 use Rattle.ckpt_workers.specs.Teams.{IsTally}

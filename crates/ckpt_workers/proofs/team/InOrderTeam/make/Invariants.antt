@@ -1,3 +1,4 @@
+-- The loop invariants of `InOrderTeam::make`.
 use Rattle.std.proofs.Common.{◌≡◌, ◌++◌, length}
 use Rattle.ckpt_locked.specs.Books.{calls_of}
 use Rattle.ckpt_workers.specs.Teams.{IsTeamwork}
