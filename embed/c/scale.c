@@ -1,7 +1,8 @@
-/* scale acks SUBTASKS ROUNDS | files MOST | log FOLDER CALLS | replay SCRIPT: what the coordinator costs, for docs/SCALE.md.
+/* scale acks SUBTASKS ROUNDS | files MOST | counts RECORDS SUBTASKS | log FOLDER CALLS | replay SCRIPT: what the coordinator costs, for docs/SCALE.md.
  *
  * acks: acknowledgements a second of a job with so many subtasks, from one thread and under a lock from many.
  * files: the bytes that a coordinator has, and how long a trigger and a completion take, at 1000 live files and so on.
+ * counts: how long a count takes while so many pending savepoints each pin another checkpoint, and the last savepoint.
  * log: calls a second that are made and written to a log, with a sync for each or for many; and their replay.
  * replay: calls a second of a script. */
 #define _GNU_SOURCE
@@ -46,7 +47,7 @@ static relkvanu_answer done(relkvanu_answer answer) {
 }
 
 static void opened(relkvanu *handle, uint64_t subtasks, uint64_t retained) {
-    relkvanu_settings settings = {1000, 0, 1, 600000, 0, retained, false};
+    relkvanu_settings settings = {1000, 0, 1, 86400000, 0, retained, false};
     handle->state = NULL;
     done(relkvanu_open(handle, &settings, &subtasks, 1, 0, 1, 1, 2));
 }
@@ -184,6 +185,37 @@ static void records(uint64_t subtasks, uint64_t count) {
     relkvanu_close(&handle);
 }
 
+/* Seconds of a count, the shortest of 20. */
+static double counted(relkvanu *handle, uint64_t file) {
+    double shortest = 1;
+    for (int nth = 0; nth < 20; nth++) {
+        double start = seconds();
+        done(relkvanu_count(handle, file));
+        double took = seconds() - start;
+        shortest = took < shortest ? took : shortest;
+    }
+    return shortest;
+}
+
+/* Each checkpoint has the same files, one of each subtask, and a pending savepoint pins it. */
+static void counts(uint64_t records, uint64_t subtasks) {
+    relkvanu handle;
+    double start = 0, pinned = 0;
+    opened(&handle, subtasks, records);
+    for (uint64_t nth = 1; nth <= records; nth++) {
+        done(relkvanu_tick(&handle, 1000 * nth));
+        record_of(&handle, 1000 * nth, 2 * nth - 1, subtasks, subtasks, nth == 1);
+        start = seconds();
+        done(relkvanu_savepoint(&handle, 1000 * nth));
+        pinned = seconds() - start;
+    }
+    double known = counted(&handle, subtasks), unknown = counted(&handle, subtasks + 1);
+    printf("%" PRIu64 " records of %" PRIu64 " subtasks, each pinned by a savepoint: a count takes %.3f ms, one of an unknown file"
+           " %.3f ms; the last savepoint %.3f ms; %.0f MB\n",
+           records, subtasks, known * 1e3, unknown * 1e3, pinned * 1e3, (double)bytes_now() / 1e6);
+    relkvanu_close(&handle);
+}
+
 static struct script script;
 
 /* Makes a call and writes its line; every so many lines are synced. */
@@ -257,6 +289,8 @@ int main(int argc, char **argv) {
         }
         records(1, 1000);
         records(4096, 100);
+    } else if (argc == 4 && strcmp(argv[1], "counts") == 0) {
+        counts(strtoull(argv[2], NULL, 10), strtoull(argv[3], NULL, 10));
     } else if (argc == 4 && strcmp(argv[1], "log") == 0) {
         char path[512];
         uint64_t calls = strtoull(argv[3], NULL, 10);
@@ -269,7 +303,7 @@ int main(int argc, char **argv) {
     } else if (argc == 3 && strcmp(argv[1], "replay") == 0) {
         replay(argv[2]);
     } else {
-        fprintf(stderr, "scale acks SUBTASKS ROUNDS | files MOST | log FOLDER CALLS | replay SCRIPT\n");
+        fprintf(stderr, "scale acks SUBTASKS ROUNDS | files MOST | counts RECORDS SUBTASKS | log FOLDER CALLS | replay SCRIPT\n");
         return 2;
     }
     return 0;
