@@ -15,7 +15,7 @@ use std::marker::Model;
 pub struct Entry {
     /// The number of the caller. The book takes any number.
     pub seat: u32,
-    /// The call.
+    /// The call as it was made.
     pub call: Call,
 }
 
