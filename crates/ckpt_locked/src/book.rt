@@ -80,8 +80,9 @@ impl Book {
         Book::keyed(alloc, config, shape, now, first, Secret::fixed())
     }
 
-    /// Opens a book as [`Book::new`] does, with a coordinator that [`Core::keyed`] opens: no choice
-    /// of file numbers makes its calls slow. The secret changes no answer.
+    /// Opens a book as [`Book::new`] does, with the same faults, and with a coordinator that
+    /// [`Core::keyed`] opens: no choice of file numbers makes its calls slow. The secret changes no
+    /// answer.
     pub fn keyed(
         alloc: Global,
         config: Config,
