@@ -1,6 +1,6 @@
 # The library, its release, and the commands of README.md.
 #
-#   make                        the library, in build/: proved and built by the toolchain, unless it is there already
+#   make                        the library, in build/: proved and built by the toolchain, unless it is up to date
 #   make install PREFIX=/usr/local DESTDIR=
 #                               headers, libraries, pkg-config and CMake files, man pages, examples, and the programs that are built
 #   make dist                   build/relkvanu-VERSION.tar.gz with the built library, and its checksum

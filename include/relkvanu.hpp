@@ -3,8 +3,7 @@
  * namespace is ckpt, because C has the name relkvanu.
  *
  * Make one call or read at a time for each coordinator. A read takes the state out of its handle and puts it back, so reads
- * are not const. Threads share a coordinator under the engine's own mutex. Functions whose result has a string or a vector may
- * throw std::bad_alloc. open and open_saved throw what std::random_device throws.
+ * are not const. Threads share a coordinator under the engine's own mutex. Only std::bad_alloc is thrown, by show and messages.
  */
 #ifndef RELKVANU_HPP
 #define RELKVANU_HPP

@@ -1,4 +1,4 @@
-"""The script of the row `abandoned-line`, and what each front of it prints, by the rules of docs/SCRIPT.md."""
+"""The script of the row `abandoned-line`, and what each prefix of it prints, by the rules of docs/SCRIPT.md."""
 
 # Each line with what it prints, and what its shorter moments print where they are moments too.
 LINES = [

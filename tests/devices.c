@@ -1,16 +1,16 @@
-/* Stands between a program and the C library, to make memory, streams, threads and random numbers fail as the environment says. It is
-   loaded with LD_PRELOAD, by the tests beside it.
+/* Makes memory, streams, threads and random numbers fail, as the environment says. It is loaded between a program and the C library
+   with LD_PRELOAD, by the tests in this folder.
 
    REFUSE_AT=N      the Nth allocation is refused; with REFUSE_REST=1 all after it too
    READ_MOST=N      a read of standard input gives N bytes at most
    READ_FAILS=N     the Nth read of standard input fails, with the error READ_ERROR (a number); the next would succeed
    WRITE_MOST=N     a write to standard output takes N bytes at most
-   WRITE_FAILS=N    the Nth write to standard output fails, with the error WRITE_ERROR; where that is 0 it takes nothing
-   THREAD_FAILS=N   the Nth start of a thread fails, as where the system has no more; with THREADS_REST=1 all after it too
+   WRITE_FAILS=N    the Nth write to standard output fails, with the error WRITE_ERROR; if that is 0 it takes nothing
+   THREAD_FAILS=N   the Nth start of a thread fails, as if the system had no more; with THREADS_REST=1 all after it too
    RANDOM_ZEROS=1   the system's random bytes are all 0; with RANDOM_FAILS=1 it gives none
-   COUNTS=FILE      at the end, the file gets how many allocations were asked for, how many reads and writes there
-                    were, how many of them came after the one that failed or that told the end of the input, and how
-                    many threads were asked for */
+   COUNTS=FILE      at the end, the file gets the number of allocations, the number of reads and writes, how many of
+                    these came after the one that failed or that found the end of the input, and the number of starts
+                    of threads */
 #define _GNU_SOURCE
 #include <dlfcn.h>
 #include <errno.h>

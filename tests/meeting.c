@@ -1,5 +1,5 @@
-/* Prints file numbers, one a line: meeting KIND COUNT. Of KIND `meeting` they are chosen against a coordinator whose maps
-   hash under two words that are 0: all meet in the low 14 bits of the table's hash. Of KIND `random` nobody chose them. */
+/* meeting KIND COUNT: prints file numbers, one on each line. KIND `meeting`: they are chosen against a coordinator whose maps
+   hash under two words that are 0. All collide in the low 14 bits of the table's hash. KIND `random`: nobody chose them. */
 #include <stdint.h>
 #include <stdio.h>
 #include <stdlib.h>

@@ -1,7 +1,7 @@
 #!/usr/bin/env python3
-"""tests/picture_counts.py CHART JOB: compares what pictures tell with what the program prints, on every example and every row, and on
-scripts of `all` lines that the script refuses. The counts of calls and of records are taken from the program's output; which records
-are live at the end is asked by `show` lines that are added to the script. The last line counts the cases."""
+"""tests/picture_counts.py CHART JOB: compares the texts of pictures with the program's output, on every example and every row, and on
+scripts of `all` lines that the script refuses. The counts of calls and of records come from the program's output. `show` lines
+that are added to the script say which records are live at the end. The last line has the counts."""
 import pathlib
 import re
 import subprocess

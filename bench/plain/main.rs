@@ -1,7 +1,7 @@
-//! The yardstick of the benchmarks: a plain coordinator, which runs the scripts that bench/script.py
-//! prints and answers as ckpt_job does. It uses the standard library alone, keeps the list of all
-//! calls, and is written to be fast. It promises nothing: it knows no `restore`, `cancel`, `show` and
-//! `all`, stops at a line that it can't read, and aborts where memory is wanting.
+//! The program that the benchmarks compare with: a plain coordinator. It runs the scripts that
+//! bench/script.py prints, and answers as ckpt_job does. It uses only the standard library, keeps the
+//! list of all calls, and is written to be fast. It promises nothing: it has no `restore`, `cancel`,
+//! `show` and `all`, stops at a line that it can't read, and aborts if memory runs out.
 
 use std::collections::hash_map::Entry;
 use std::collections::{BTreeMap, HashMap, VecDeque};

@@ -1,7 +1,7 @@
 //! Prints a script whose file numbers are chosen against the fixed hashing of a coordinator that was
 //! opened without a secret: `meeting [--random] [FILES]`, by default 60000 files in acknowledgements
-//! of 4000. All numbers meet in the low 14 bits of the table's hash. With --random as many numbers
-//! that nobody chose, to compare.
+//! of 4000. All numbers collide in the low 14 bits of the table's hash. With --random it prints as
+//! many random numbers, to compare.
 
 const SEED: u64 = 0x243f_6a88_85a3_08d3;
 const MULTIPLIER: u64 = 0x9e37_79b9_7f4a_7c15;

@@ -1,5 +1,5 @@
-/* bench [CALLS]: nanoseconds of processor time of a refused call, where the first test refuses it and where a file is
- * looked up, and of a read. */
+/* bench [CALLS]: nanoseconds of processor time of a call that the first test refuses, of a refused call that looks up a
+ * file, and of a read. */
 #include "../../include/relkvanu.h"
 
 #include <inttypes.h>

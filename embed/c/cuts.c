@@ -1,5 +1,6 @@
-/* cuts: gives the library lines that are cut at each byte, faulty, and over-long, as the end of a page after which nothing may be
- * read, and compares what it answers with docs/SCRIPT.md. A line that can't be read has to change nothing. */
+/* cuts: gives the library lines that are cut at each byte, lines with faults and lines that are too long, each at the end of
+ * a page after which nothing may be read. Compares the answers with docs/SCRIPT.md. A line that can't be read has to change
+ * nothing. */
 #define _GNU_SOURCE
 #include "script.h"
 
@@ -23,7 +24,7 @@ static void check(bool holds, const char *what) {
 
 #define CHECK(condition) check(condition, #condition)
 
-/* The end of so many bytes that stand before a page which can't be touched. */
+/* The end of this many bytes, which are before a page that can't be touched. */
 static char *guarded(void) {
     size_t page = (size_t)sysconf(_SC_PAGESIZE);
     char *room = mmap(NULL, ROOM + page, PROT_READ | PROT_WRITE, MAP_PRIVATE | MAP_ANONYMOUS, -1, 0);
@@ -31,7 +32,7 @@ static char *guarded(void) {
     return room + ROOM;
 }
 
-/* The answer to these bytes, where nothing may be read after them. */
+/* The answer to these bytes, after which nothing may be read. */
 static relkvanu_answer said(const char *line, size_t len) {
     static char *end;
     end = end != NULL ? end : guarded();
@@ -75,7 +76,7 @@ static void state(char text[STATE]) {
     text[len] = '\0';
 }
 
-/* Gives bytes to a job of its own. Where they can't be read, nothing may have changed; where no call is made, neither. */
+/* Gives bytes to a job of its own. If they can't be read or make no call, nothing may have changed. */
 static relkvanu_answer tried(const char *line, size_t len) {
     static char before[STATE], after[STATE];
     begin();
@@ -139,7 +140,7 @@ static void faults(void) {
     CHECK(tried("restore 3000 latest 0", 21).what == RELKVANU_BAD_SHAPE);
 }
 
-/* An ack line of so many files, padded with spaces to a length where that is more. */
+/* An ack line of this many files, padded with spaces to this length if it is shorter. */
 static size_t ack_of(char *line, size_t files, size_t len) {
     size_t at = (size_t)sprintf(line, "ack 3000 2 0.0");
     for (size_t file = 0; file < files; file++) {

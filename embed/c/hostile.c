@@ -1,7 +1,7 @@
-/* hostile MEETING OTHERS: each file has the same count of file numbers, one a line; those of MEETING were chosen against maps that hash
- * under two words that are 0 (tests/meeting.c). A job whose tasks name them is run with each. Under random words the chosen
- * numbers cost at most five times what the others cost; under words that are 0 they cost at least ten times as much, so the
- * first comparison can fail. The cost is the processor time, the best of three runs. */
+/* hostile MEETING OTHERS: each file has the same count of file numbers, one on each line. Those of MEETING were chosen
+ * against maps that hash under two words that are 0 (tests/meeting.c). Runs a job whose tasks name them, with each file.
+ * Under random words the chosen numbers must cost at most five times what the others cost. Under words that are 0 they must
+ * cost at least ten times as much, so the first comparison can fail. The cost is the processor time, the best of three runs. */
 #define _GNU_SOURCE
 #include "../../include/relkvanu.h"
 
@@ -24,7 +24,7 @@ static void fail(const char *what) {
     exit(2);
 }
 
-/* The answer's first number, where the call was made and answers this. */
+/* The answer's first number, if the call was made with this reply. */
 static uint64_t made(relkvanu_answer answer, uint32_t what) {
     if (answer.code != RELKVANU_DONE || answer.what != what) {
         fprintf(stderr, "hostile: code %" PRIu32 ", what %" PRIu32 " in place of what %" PRIu32 "\n", answer.code, answer.what, what);
@@ -72,7 +72,8 @@ static uint64_t report_all(relkvanu *job, relkvanu_answer (*report)(relkvanu *, 
     return told;
 }
 
-/* A job in which all files are named, counted, dropped with their record, fetched, given back, fetched and deleted. */
+/* A job in which all files are named, counted, dropped with their record, fetched, reported as not deleted, fetched and
+ * deleted. */
 static void run(const struct numbers *files, const uint64_t words[2]) {
     relkvanu job = {NULL};
     relkvanu_settings settings = {1000, 0, 1, 1000000, 0, 1, false};
@@ -98,7 +99,7 @@ static void run(const struct numbers *files, const uint64_t words[2]) {
     relkvanu_close(&job);
 }
 
-/* The least processor time of so many runs, in seconds. */
+/* The least processor time of this many runs, in seconds. */
 static double cost(const struct numbers *files, const uint64_t words[2], int runs) {
     double best = 0;
     for (int turn = 0; turn < runs; turn++) {

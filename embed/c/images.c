@@ -1,6 +1,7 @@
-/* images SCRIPTS [SEED]: makes so many random lists of calls, each on two coordinators. One is saved, closed and opened again at random
- * places; both have to answer each call the same, and their images have to be the same bytes. Then images are cut and changed at
- * each byte, and saved and opened with each request for memory refused. Prints how much it tried. */
+/* images SCRIPTS [SEED]: makes this many random lists of calls, each on two coordinators. One is saved, closed and opened
+ * again at random places. Both have to answer each call in the same way, and their images have to be the same bytes. Then
+ * images are cut and changed at each byte, and saved and opened with each request for memory refused. Prints how much it
+ * tried. */
 #include "../../include/relkvanu.h"
 #include "refusing_heap.h"
 
@@ -115,7 +116,7 @@ static size_t saved(relkvanu *job, uint8_t image[IMAGE]) {
     return (size_t)answer.a;
 }
 
-/* The coordinator that goes on from the image of this one. */
+/* A coordinator that is opened with the image of this one. */
 static void reopen(relkvanu *job) {
     static uint8_t image[IMAGE];
     size_t len = saved(job, image);
@@ -236,7 +237,7 @@ int main(int count, char **words) {
         script();
     }
     printf("images: %" PRIu64 " lists, %" PRIu64 " calls, %" PRIu64 " refused\n", scripts, tried, refused);
-    /* the lists have to do something: else nothing was compared */
+    /* the lists must make calls, otherwise nothing was compared */
     CHECK(tried == scripts * CALLS && refused < tried * 3 / 4);
     cut_and_changed();
     without_memory();

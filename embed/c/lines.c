@@ -1,6 +1,6 @@
-/* lines: tries the functions of relkvanu.h that read and write lines of a script, and null for empty lists. What is wanted comes from
- * docs/SCRIPT.md and docs/RULES.md. It is run under AddressSanitizer too, so each buffer is a block of its own of the length that is
- * told. */
+/* lines: tries the functions of relkvanu.h that read and write lines of a script, and null for empty lists. Expected values
+ * come from docs/SCRIPT.md and docs/RULES.md. It also runs under AddressSanitizer, so each buffer is a block of its own with
+ * the length that the call gets. */
 #include "../../include/relkvanu.h"
 
 #include <inttypes.h>
@@ -34,7 +34,7 @@ static void *block(size_t size) {
     return at;
 }
 
-/* The text in a block that ends where it ends. */
+/* The text in a block of exactly its length. */
 static uint8_t *bytes_of(const char *text, size_t len) {
     uint8_t *bytes = block(len);
     if (len != 0) {
@@ -245,7 +245,7 @@ static void try_lengths(void) {
     relkvanu_close(&job);
 }
 
-/* Each beginning of each line is read the same by both readers, and changes nothing where it has a fault. */
+/* Both readers read each prefix of each line in the same way, and a prefix with a fault changes nothing. */
 static void try_cut_lines(void) {
     static const char *const texts[] = {
         "config 1000 0 1 10000 0 1 keep", "job 2 1", "start 0", "tick 1", "savepoint 2", "ack 5 1 0.0 +1 +22 =3", "decline 5 1 0.1",
@@ -274,7 +274,7 @@ static void try_cut_lines(void) {
     relkvanu_close(&job);
 }
 
-/* A null pointer stands for an empty list or buffer, and is no handle to close. */
+/* A null pointer is allowed for an empty list or buffer, and as the handle of a close. */
 static void try_nulls(void) {
     relkvanu job = {NULL};
     relkvanu_settings settings = {1000, 0, 1, 10000, 0, 1, false};

@@ -19,7 +19,7 @@ static bool same(const char *what, uint64_t told, uint64_t wanted) {
     return told == wanted;
 }
 
-/* Whether a read was made, and told this. */
+/* Whether a read was made, and returned this. */
 static bool tells(const char *what, relkvanu_answer told, uint32_t wanted, uint64_t a, uint64_t b) {
     return same(what, told.code, RELKVANU_DONE) && same(what, told.what, wanted) && same(what, told.a, a) && same(what, told.b, b);
 }
@@ -84,7 +84,8 @@ static bool files_fit(const struct reads *reads, relkvanu *handle) {
         && same("files taken", counts.taken, reads->taken) && same("files waiting", counts.waiting, reads->owned - in_use - reads->taken);
 }
 
-/* A tick triggers at the moment that was due or later, and is held by time before it; records expire from the moment told. */
+/* A tick at the moment that `due` returned, or later, triggers. One before it is held by time. Records expire from the
+ * returned moment on. */
 static bool tick_fits(const struct reads *reads, relkvanu_answer answer) {
     bool is_due = reads->due <= reads->latest, expires = reads->expires <= reads->latest;
     bool fit = same("expiry at a tick", answer.a > 0, expires);
@@ -96,7 +97,7 @@ static bool tick_fits(const struct reads *reads, relkvanu_answer answer) {
     }
 }
 
-/* The fresh files of an acknowledgement's line, each of which is counted once however often it comes; how many there are. */
+/* The fresh files of an acknowledgement's line, each counted once. Returns how many there are. */
 static uint64_t remember(struct reads *reads, const char *line) {
     uint64_t fresh = 0;
     for (const char *word = strchr(line, '+'); word != NULL; word = strchr(word + 1, '+')) {
@@ -113,7 +114,7 @@ static uint64_t remember(struct reads *reads, const char *line) {
     return fresh;
 }
 
-/* What an accepted call changes of what the reads tell. */
+/* How an accepted call changes what the reads return. */
 static void note(struct reads *reads, struct script *script, const char *line, relkvanu_answer answer) {
     uint64_t id = 0;
     switch (answer.what) {

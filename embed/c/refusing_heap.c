@@ -6,8 +6,8 @@
 #include <stdlib.h>
 #include <string.h>
 
-/* What stands before each block: what it was asked for with, and that it was not given back. It has a multiple of 16 bytes, so the
- * block is aligned as malloc aligns. */
+/* The header of each block: its size and alignment, and that it is not freed. It has a multiple of 16 bytes, so the block is
+ * aligned as malloc aligns. */
 struct note {
     size_t size, align;
     uint64_t mark, other;
@@ -39,7 +39,7 @@ static struct note *note_of(void *at) {
     return note;
 }
 
-/* The address of no block is one that faults where it is read. A new block is filled, so that nothing counts on its bytes. */
+/* The address for no block faults if it is read. A new block is filled, so that nothing depends on its bytes. */
 relkvanu_block rattle_alloc(size_t size, size_t align) {
     relkvanu_block none = {0, (void *)16};
     check(align != 0 && align <= 16 && (align & (align - 1)) == 0, "an align that is no power of two up to 16");
@@ -54,7 +54,7 @@ relkvanu_block rattle_alloc(size_t size, size_t align) {
     return (relkvanu_block){1, note + 1};
 }
 
-/* Always another block, with the bytes that have to be kept and no more. */
+/* Always returns another block, with the bytes that have to be kept and no others. */
 relkvanu_block rattle_realloc(void *at, size_t kept, size_t size, size_t align) {
     struct note *note = note_of(at);
     check(note->align == align, "another align");

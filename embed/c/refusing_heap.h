@@ -5,7 +5,7 @@
 
 #include <stdint.h>
 
-/* Refuses the n-th request for memory from now on, once. None where n is 0. */
+/* Refuses the n-th request for memory from now on, once. Refuses none if n is 0. */
 void heap_refuse(uint64_t nth);
 
 /* How often memory was asked for since then. */

@@ -125,7 +125,7 @@ static uint64_t bytes_now(void) {
     return info.uordblks + info.hblkhd;
 }
 
-/* The acknowledgements of a record with so many files in all, new ones or the same again; seconds of the last. */
+/* The acknowledgements of a record with this many files in all, new ones or the same again. Returns the seconds of the last. */
 static double record_of(relkvanu *handle, uint64_t moment, uint64_t id, uint64_t subtasks, uint64_t all, bool is_fresh) {
     static uint64_t files[PART];
     double start = 0;
@@ -218,7 +218,7 @@ static void counts(uint64_t records, uint64_t subtasks) {
 
 static struct script script;
 
-/* Makes a call and writes its line; every so many lines are synced. */
+/* Makes a call and writes its line to the log. */
 static void logged_call(int log, const relkvanu_call *call, const uint64_t *fresh, size_t fresh_len) {
     char line[256];
     relkvanu_answer written = done(relkvanu_call_line(call, fresh, fresh_len, NULL, 0, (uint8_t *)line, sizeof line - 1));
@@ -242,7 +242,7 @@ static void logged_opening(int log) {
     done(relkvanu_open(&script.handle, &settings, &shape, 1, 0, 1, 1, 2));
 }
 
-/* Calls a second, where each is made and then its line written to the log, and every so many are synced. */
+/* Calls a second: each is made, and then its line is written to the log. Syncs after every `at_once` lines. */
 static void logged(const char *path, uint64_t calls, uint64_t at_once) {
     int log = open(path, O_CREAT | O_TRUNC | O_WRONLY | O_APPEND, 0600);
     memset(&script, 0, sizeof script);

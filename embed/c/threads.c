@@ -1,6 +1,6 @@
-/* threads ROUNDS: two coordinators in two threads, each with a thread of its own, and a third that two threads share under a mutex.
- * Each takes checkpoints with new and reused files, drops them, takes files and reports them, so that memory is asked for,
- * grown and given back in all threads at once. For ThreadSanitizer: the library has no lock, and needs none between two handles. */
+/* threads ROUNDS: two coordinators in two threads, each with a thread of its own, and a third that two threads share under a
+ * mutex. Each takes checkpoints with new and reused files, drops them, takes files and reports them. So memory is allocated,
+ * grown and freed in all threads at once. For ThreadSanitizer: the library has no lock, and needs none between two handles. */
 #define _GNU_SOURCE
 #include "../../include/relkvanu.h"
 
@@ -31,7 +31,7 @@ static void open_job(struct job *job, uint64_t rounds) {
     check(relkvanu_open(&job->handle, &settings, shape, 1, 0, 1, (uintptr_t)job, rounds), "open");
 }
 
-/* A checkpoint with new files, of which each subtask also names one of its neighbour's again. */
+/* A checkpoint with new files. Each subtask also reuses a file of its neighbour. */
 static void complete(struct job *job) {
     uint64_t fresh[FILES], reused[1] = {job->last_file};
     job->now += 10;
@@ -84,7 +84,7 @@ int main(int argc, char **argv) {
     }
     for (int place = 0; place < 3; place++) {
         records += relkvanu_choice(&jobs[place].handle).a;
-        relkvanu_close(&jobs[place].handle); /* this thread gives back what others asked for */
+        relkvanu_close(&jobs[place].handle); /* this thread frees what others allocated */
     }
     return records == 4 * rounds ? 0 : 1;
 }

@@ -4,9 +4,9 @@
 
 #include "job.h"
 
-/* Of a job that has run: the counts are those of the stream; the last checkpoint can be opened, before anything else is
- * deleted; the storage folder has exactly the files in use, waiting and taken; the log's replay gives the
- * same state; and a cancelled job leaves no file. */
+/* Checks a job that has run. The counts are those of the stream. The last checkpoint can be opened, before anything else is
+ * deleted. The storage folder has exactly the files in use, waiting and taken. The log's replay gives the same state. A
+ * cancelled job leaves no file. */
 void check_end(struct job *job);
 
 #endif

@@ -1,4 +1,4 @@
-/* What all parts of the engine share: its size, what is done where something is wrong, and choices by the seed. */
+/* What all parts of the engine share: its sizes, the reaction to faults, and choices by the seed. */
 #ifndef ENGINE_COMMON_H
 #define ENGINE_COMMON_H
 
@@ -19,7 +19,7 @@ enum {
     PATH = 512
 };
 
-/* Ends the process where the condition does not hold. */
+/* Ends the process if the condition does not hold. */
 #define CHECK(condition, ...)                                                                                          \
     do {                                                                                                               \
         if (!(condition)) {                                                                                            \
@@ -47,7 +47,7 @@ void sleep_ms(uint64_t ms);
 /* Writes a path into a buffer of PATH bytes. */
 __attribute__((format(printf, 2, 3))) void path_of(char *path, const char *format, ...);
 
-/* Makes an empty folder, whatever was there before. */
+/* Makes an empty folder. Whatever was there is removed. */
 void empty_folder(const char *path);
 
 /* Calls for each name in a folder that does not begin with a dot. */

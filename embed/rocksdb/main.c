@@ -1,6 +1,6 @@
-/* engine FOLDER SEED SECONDS [KILLS]: runs a job of four tasks with a RocksDB each for so many seconds over a folder of
- * its own, and checks its end. With KILLS the process that runs it is killed so often first, and started again
- * over its log: at places and moments that the seed chooses, in turn each kind of place and a moment. */
+/* engine FOLDER SEED SECONDS [KILLS]: runs a job of four tasks with a RocksDB each for this many seconds over a folder of
+ * its own, and checks its end. With KILLS the process that runs it is first killed this many times, and started again over
+ * its log: at places and moments that the seed chooses, in turn each kind of place and a moment. */
 #define _GNU_SOURCE
 #include "check.h"
 

@@ -11,7 +11,7 @@ struct store {
     rocksdb_options_t *options;
 };
 
-/* Opens the database of a folder, an empty one where there is none. */
+/* Opens the database of a folder, or an empty one if there is none. */
 void store_open(struct store *store, const char *folder);
 
 void store_close(struct store *store);

@@ -6,7 +6,7 @@
 
 uint16_t stream_key(uint64_t seed, unsigned partition, uint64_t offset);
 
-/* How often each key stands in the partition before the offset. */
+/* How often each key occurs in the partition before the offset. */
 void stream_counts(uint64_t seed, unsigned partition, uint64_t offset, uint64_t counts[KEYS]);
 
 #endif

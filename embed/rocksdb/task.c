@@ -97,9 +97,8 @@ static void repeat(struct task *task, const struct upload *upload) {
     pthread_mutex_unlock(&task->coordinator->lock);
 }
 
-/* Uploads the checkpoint in the folder and acknowledges. Says whether that was accepted, or the task was stopped:
- * it is refused where a file that was to be used again is gone, as it is with those of a checkpoint that
- * another task declined. */
+/* Uploads the checkpoint in the folder and acknowledges. Returns whether that was accepted, or the task was stopped. It is
+ * refused if a reused file is gone, as the files of a checkpoint are that another task declined. */
 static bool uploads(struct task *task, uint64_t id, const char *folder) {
     static _Thread_local struct upload upload;
     struct uploading uploading = {task, folder, &upload};

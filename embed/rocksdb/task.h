@@ -9,7 +9,7 @@
 
 #include <stdatomic.h>
 
-/* The cut of record id stands at id modulo CUTS. */
+/* The cut of record id is at id modulo CUTS. */
 enum { CUTS = 1024 };
 
 /* A file of a database, and the number that it has in the storage folder. */
@@ -43,7 +43,7 @@ struct task {
     uint64_t (*cuts)[PARTITIONS]; /* the job's: how far each partition was counted at a record's barrier */
     unsigned parallelism;
     atomic_bool is_stopped;
-    atomic_uint stops_after;    /* in the next checkpoint, after so many files; 0: not there */
+    atomic_uint stops_after;    /* in the next checkpoint, after this many files; 0: not there */
     atomic_bool *is_failed;     /* the job's: it has to be restored */
 };
 

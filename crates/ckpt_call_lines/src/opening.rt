@@ -69,7 +69,8 @@ pub fn job_line(alloc: Global, shape: &Shape) -> Result<String, AllocError>
     Ok(text)
 }
 
-/// The `start` line, without its newline. Fails only if memory runs out.
+/// The `start` line of this moment, in milliseconds, without its newline. Fails only if memory runs
+/// out.
 #[tactic(auto, unfolding(crate::specs::CallTexts::start_text))]
 pub fn start_line(alloc: Global, now: u64) -> Result<String, AllocError>
     ensures text { IfOk result (λ text. string_bytes text ≡ start_text now) }

@@ -18,8 +18,8 @@ use ckpt_ids::{Call, CheckpointId, FileId, Metadata, Reply};
 use ckpt_texts::metadata_text;
 use std::alloc::Global;
 
-/// Fetches files that wait for deletion, as many as the buffer has places, and writes them to the
-/// start of the buffer.
+/// Fetches files that wait for deletion, at most as many as the buffer has places, and writes them
+/// to the start of the buffer. Takes memory.
 pub fn take(alloc: Global, handle: &mut Handle, files: &mut [u64]) -> Answer
     ensures closed { StaysClosed handle.old.value handle.new.value result }
     ensures answered { IsAnswered handle.old.value handle.new.value (call.Take (length files.old)) result }
@@ -39,7 +39,8 @@ pub fn take(alloc: Global, handle: &mut Handle, files: &mut [u64]) -> Answer
 
 /// Writes the metadata of a live record as JSON to the start of the buffer.
 ///
-/// If the buffer is too short, the answer says how many bytes the metadata has: call again.
+/// If the buffer is too short, the answer says how many bytes the metadata has: call again. Refused
+/// if no live record has the number. Takes memory.
 pub fn show(alloc: Global, handle: &mut Handle, id: u64, json: &mut [u8]) -> Answer
     ensures closed { StaysClosed handle.old.value handle.new.value result }
     ensures answered { (m : State) → handle.old.value ≡ Some m → IsShowTold m id (length json.old) result }

@@ -18,7 +18,8 @@ pub(crate) const BAD_SHAPE: u32 = 3;
 /// Makes a call that has no list and no buffer.
 ///
 /// A closed handle stays closed. Otherwise the coordinator makes the step, and its answer is
-/// returned. Or memory runs out, and nothing has changed.
+/// returned. Or memory runs out, and nothing has changed. `docs/RULES.md` of the repository says
+/// when each call is refused.
 pub fn call(alloc: Global, handle: &mut Handle, call: &Call) -> Answer
     ensures closed { StaysClosed handle.old.value handle.new.value result }
     ensures answered { IsAnswered handle.old.value handle.new.value call.now result }
@@ -35,7 +36,8 @@ pub fn call(alloc: Global, handle: &mut Handle, call: &Call) -> Answer
     answer
 }
 
-/// Makes an acknowledgement with these files, in any order.
+/// Makes an acknowledgement of record `id` at the moment `now`, in milliseconds, with these files,
+/// in any order, at most 4096 together.
 ///
 /// Takes memory for a copy of the two lists, even if the call is then refused.
 pub fn ack(
@@ -63,8 +65,10 @@ pub fn ack(
     answer
 }
 
-/// Restores the job: `savepoint` is 0 for the latest, and `shape` is empty for the current shape.
+/// Restores the job at the moment `now`, in milliseconds: `savepoint` is 0 for the latest, and
+/// `shape` is empty for the current shape.
 ///
+/// A shape outside the limits of [`Shape`](ckpt_ids::Shape) is a bad argument, before any refusal.
 /// Takes memory for a copy of the shape, even if the call is then refused.
 pub fn restore(
     alloc: Global,

@@ -46,8 +46,13 @@ pub struct Settings {
 /// Opens a coordinator in a closed handle, from the moment `now` on. Its first record has the
 /// number `first`.
 ///
+/// `now` is in milliseconds, at most 2^62 - 1, and `first` is 1 to 2^62 - 1. The first of these that
+/// applies is a bad argument: the handle is open, or the settings, the shape, the moment or the
+/// first number are outside their limits. Then the handle does not change. Takes memory for the
+/// coordinator and its shape.
+///
 /// The secret keys the maps of files, so that no choice of numbers makes calls slow. It changes no
-/// answer. An open handle does not change, and the answer says so.
+/// answer.
 pub fn open(
     alloc: Global,
     handle: &mut Handle,

@@ -58,7 +58,7 @@ pub struct CallFields {
     pub kind: u32,
     /// The vertex of the subtask of an ack or a decline.
     pub vertex: u16,
-    /// The index of that subtask.
+    /// The subtask's index in its vertex.
     pub index: u16,
     /// The moment in milliseconds, if the kind has one.
     pub now: u64,

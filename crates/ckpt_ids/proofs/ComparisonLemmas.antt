@@ -1,4 +1,4 @@
--- What follows from a comparison of two numbers.
+-- What a comparison of two numbers tells.
 use Rattle.std.proofs.Common.{◌≡◌, ℕ, ◌≤◌, arith}
 use Rattle.std.specs.Ordering.{nat_cmp, ordering_index}
 use Rattle.std.specs.declared.cmp.Ordering.TheVariants.{Equal}

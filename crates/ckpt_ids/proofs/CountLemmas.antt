@@ -84,7 +84,7 @@ IsIn-from_times f xs h =
     let P : ℕ → Type 0 = λ x. IsIn x xs in
     subst P (eqb-true q.0 f q.2) q.1
 
--- a filter whose test depends on the number keeps all occurrences of a number, or none
+-- a filter that is told by the number keeps all of a number or none
 pub times-filter : (p : ℕ → Bool) (z : ℕ) (xs : List ℕ) → times z (filter p xs) ≡ cond (p z) (times z xs) 0
 times-filter p z [] = cond_both (p z) 0 0 (λ n. 0 ≡ n) (λ _. refl) (λ _. refl)
 times-filter p z (x ∷ xs) =

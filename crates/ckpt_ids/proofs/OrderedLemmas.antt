@@ -1,4 +1,4 @@
--- Lemmas about lists in order. The principle: two lists in a strict order that have the same elements are equal.
+-- What holds of lists in order. The principle: two lists in a strict order that have the same elements are equal.
 use Rattle.std.proofs.Common.{◌≡◌, ℕ, zero, suc, length, get_or, ◌<◌, Bool, true, false, cond, List, [], ◌∷◌, ◌++◌, map, refl, sym, ap, subst, ◌∙◌, ◌⊎◌, inl, inr, ⊎_elim, arith}
 use Rattle.std.specs.List.{filter, list_any, flat_map}
 use Rattle.std.proofs.lemmas.Bool.{cases_Bool, both_ways, cond-true, or_cases, or_left, or_right}

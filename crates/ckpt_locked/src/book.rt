@@ -15,7 +15,7 @@ use std::marker::Model;
 pub struct Entry {
     /// The number of the caller. The book takes any number.
     pub seat: u32,
-    /// The call.
+    /// The call as it was made.
     pub call: Call,
 }
 
@@ -80,8 +80,9 @@ impl Book {
         Book::keyed(alloc, config, shape, now, first, Secret::fixed())
     }
 
-    /// Opens a book as [`Book::new`] does, with a coordinator that [`Core::keyed`] opens: no choice
-    /// of file numbers makes its calls slow. The secret changes no answer.
+    /// Opens a book as [`Book::new`] does, with the same faults, and with a coordinator that
+    /// [`Core::keyed`] opens: no choice of file numbers makes its calls slow. The secret changes no
+    /// answer.
     pub fn keyed(
         alloc: Global,
         config: Config,

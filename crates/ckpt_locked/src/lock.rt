@@ -191,9 +191,10 @@ impl Locked {
     }
 
     /// Ends the lock and its passes, and returns the book, with the calls of all passes. The passes
-    /// are those of this lock.
+    /// are those of this lock. May wait.
     ///
-    /// Returns everything unchanged exactly if there are fewer passes than seats.
+    /// Returns the lock and the passes in a [`MissingPass`], unchanged, exactly if there are fewer
+    /// passes than seats.
     pub fn close<R: Wait>(self, rt: &R, mut passes: Vec<Pass>) -> Result<Book, MissingPass>
         requires passes { All (λ p. p.lock ≡ self) passes.items }
         ensures all { IfOk result (λ book. self.base.seats ≤ length passes.items) }

@@ -10,9 +10,9 @@ use std::marker::Model;
 ///
 /// Nothing drops it: make it a box again with [`RawBox::into_box`].
 pub struct RawBox<T, A: Allocator> {
-    /// The address of the value.
+    /// Where the value is.
     pub at: *mut T,
-    /// The allocator of the box.
+    /// The allocator of the box, which frees it.
     pub alloc: A,
     /// The value at `at`.
     pub ghost value: { T },

@@ -1,5 +1,5 @@
-//! Links librelkvanu.a: of the folder that RELKVANU_LIB names; else of `build` in this repository, where `make` leaves it;
-//! else of the folder that pkg-config tells.
+//! Links librelkvanu.a: from the folder that RELKVANU_LIB names, otherwise from `build` in this repository, where
+//! `make` leaves it, otherwise from the folder that pkg-config finds.
 use std::env;
 use std::path::{Path, PathBuf};
 use std::process::Command;

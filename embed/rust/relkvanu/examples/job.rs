@@ -30,7 +30,7 @@ fn path(folder: &Path, file: u64) -> PathBuf {
     folder.join(file.to_string())
 }
 
-/// Ticks when a checkpoint is due, and tells the tasks of each one.
+/// Ticks when a checkpoint is due, and sends each checkpoint to the tasks.
 fn timer(job: &Job, sources: Vec<Sender<u64>>) {
     while job.completed.load(SeqCst) < COMPLETED {
         let seen = job.coordinator.calls() + 1; // with this tick

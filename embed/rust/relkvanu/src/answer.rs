@@ -63,7 +63,7 @@ pub enum Standing {
     Pending,
     /// A live record has it, and is complete.
     Done,
-    /// A record had it, and is live no more.
+    /// A record had the number, and is no longer live.
     Ended,
     /// No record has had it so far.
     NotYet,

@@ -100,8 +100,8 @@ impl Coordinator {
         })
     }
 
-    /// Opens the coordinator that an image tells, which [`save`](Self::save) wrote (`docs/IMAGE.md`): it answers every list of
-    /// calls as the one that was saved. Takes memory for the coordinator.
+    /// Opens the coordinator that an image describes, which [`save`](Self::save) wrote (`docs/IMAGE.md`). It answers
+    /// every list of calls as the saved one would. Takes memory for the coordinator.
     pub fn open_saved(image: &[u8]) -> Result<Coordinator, Fault> {
         // SAFETY: the handle is all zero; the slice outlives the call, which does not keep it.
         Coordinator::opened(|handle, word, other| unsafe {
@@ -317,7 +317,7 @@ impl Coordinator {
         }))
     }
 
-    /// The live record with the least number that is at least `id`, or `None`. It is searched by halves.
+    /// The live record with the least number that is at least `id`, or `None`. Makes a binary search.
     pub fn live_from(&self, id: u64) -> Option<Live> {
         // SAFETY: as in `count`.
         answer::live(read(unsafe {
@@ -325,7 +325,8 @@ impl Coordinator {
         }))
     }
 
-    /// What a number is. It is searched by halves.
+    /// Whether the record with this number is pending, done or ended, or no record has had the number. Makes a binary
+    /// search.
     pub fn standing(&self, id: u64) -> Standing {
         // SAFETY: as in `count`.
         answer::standing(read(unsafe {
@@ -349,7 +350,7 @@ impl Coordinator {
         told.expect("a read that takes no memory")
     }
 
-    /// The files that a pending record keeps beside those of its acknowledgements, ascending. Takes memory in the library.
+    /// The files that a pending record pins, ascending. Takes memory in the library.
     pub fn pins_of(&self, id: u64) -> Result<Vec<u64>, Fault> {
         // SAFETY: as in `files_of`.
         let told = files(|buffer| unsafe {

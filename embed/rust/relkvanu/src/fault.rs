@@ -17,7 +17,7 @@ pub enum Refusal {
     AlreadyAcknowledged,
     /// A fresh file with this number is known. It may be in use: do not delete it.
     NameTaken(u64),
-    /// A reused file is not present any more: the task writes its state anew, under a new number.
+    /// A reused file is no longer present: the task writes its state again, under a new number.
     FileGone(u64),
     NoSuchSavepoint,
     InUse,
@@ -116,7 +116,7 @@ pub enum Fault {
     BadMoment,
     /// The first number of an opening is not within 1 to 2^62 - 1.
     BadFirst,
-    /// The bytes are no image, or no coordinator can be in the state that it tells.
+    /// The bytes are not an image, or no coordinator can be in the state that the image describes.
     BadImage,
     /// A line of a script can't be read, or the line of a call would be too long.
     BadLine(LineFault),
