@@ -9,5 +9,6 @@ pub mod Reading
 pub mod Records
 pub mod Reordering
 pub mod Soundness
+pub mod Stepping
 pub mod Triggering
 pub mod Using

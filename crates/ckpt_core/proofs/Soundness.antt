@@ -1,4 +1,4 @@
--- Each call keeps a coordinator sound, one file for each kind of call.
+-- What keeps a coordinator sound, one file for each kind of change; and that each call does, read off `Stepping`.
 pub mod Acks
 pub mod Calls
 pub mod Completions

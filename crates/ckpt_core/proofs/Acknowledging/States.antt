@@ -43,7 +43,7 @@ use Rattle.ckpt_core.proofs.Records.Lookups.{has_number}
 use Rattle.ckpt_core.proofs.Records.Pending.{find-from_IsIn}
 use Rattle.ckpt_core.proofs.Records.Replacing.{same_record}
 use Rattle.ckpt_core.proofs.Soundness.Acks.{IsAcking, with_ack, with_ack_is}
-use Rattle.ckpt_core.proofs.Soundness.Calls.{acking}
+use Rattle.ckpt_core.proofs.Soundness.Acks.{acking}
 use Rattle.ckpt_core.proofs.Using.Order.{from_holds, all_uses_in_order, record_in_order, record_uses_in_order, uses-in_order}
 use Rattle.ckpt_core.specs.Inside.Moving.{taken_in}
 

@@ -28,7 +28,7 @@ use Rattle.ckpt_core.proofs.Ending.Drops.{apart_in, groups_of}
 use Rattle.ckpt_core.proofs.Records.Lookups.{has_number, pending_of-groups, find-map, find_agree}
 use Rattle.ckpt_core.proofs.Records.Replacing.{same_record}
 use Rattle.ckpt_core.proofs.Soundness.Acks.{IsAcking}
-use Rattle.ckpt_core.proofs.Soundness.Calls.{acking}
+use Rattle.ckpt_core.proofs.Soundness.Acks.{acking}
 use Rattle.ckpt_core.proofs.Triggering.TriggerParts.{live_records}
 use Rattle.ckpt_core.proofs.Using.Order.{holds, from_holds, use_of_record}
 use Rattle.ckpt_core.proofs.Reordering.ExchangeLemmas.{has_its_own}

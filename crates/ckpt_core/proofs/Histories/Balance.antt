@@ -14,7 +14,7 @@ use Rattle.ckpt_core.specs.Laws.{CanOpen, AreCalls, along, one_if, registered_by
 use Rattle.ckpt_core.proofs.Ending.Released.{not_in-from_test}
 use Rattle.ckpt_core.proofs.Records.Lists.{outbox_of}
 use Rattle.ckpt_core.proofs.Histories.Balances.{times_none, times_at_most_once}
-use Rattle.ckpt_core.proofs.Histories.StepBalances.{step_balances, out_stays, handed_is_out, deleted_is_gone, newly_present}
+use Rattle.ckpt_core.proofs.Histories.StepBalances.{step_settled, newly_present}
 use Rattle.ckpt_core.proofs.Soundness.Calls.{step_keeps}
 use Rattle.ckpt_core.proofs.Soundness.Histories.{opening_is_sound, replay_is_sound}
 use Rattle.ckpt_ids.specs.Counting.{times}
@@ -25,7 +25,7 @@ balance_from : (m : State) (calls : List Call) (f : ℕ) → IsSound m → AreCa
 balance_from m [] f s a = refl
 balance_from m (call ∷ calls) f s a =
     let n : State = (step m call).0 in
-    let here : times f (registered_by m call) + one_if (is_present (uses m.records) f) ≡ times f (handed_by m call) + one_if (is_present (uses n.records) f) = step_balances m call f s in
+    let here : times f (registered_by m call) + one_if (is_present (uses m.records) f) ≡ times f (handed_by m call) + one_if (is_present (uses n.records) f) = (step_settled m call s).even f in
     let rest : times f (along registered_by n calls) + one_if (is_present (uses n.records) f) ≡ times f (along handed_by n calls) + one_if (is_present (uses (replay n calls).records) f) = balance_from n calls f (step_keeps m call a.0 s) a.1 in
     omega (arith, times-append f (registered_by m call) (along registered_by n calls), times-append f (handed_by m call) (along handed_by n calls))
 
@@ -46,10 +46,10 @@ step_traces m call handed gone s t f h =
     let Goal : Type 0 = IsIn f (n.waiting ++ n.taken) ⊎ IsIn f (gone ++ deleted_by m call) in
     let old : IsIn f handed → Goal = λ (k : IsIn f handed).
     ⊎_elim
-    (λ (i : IsIn f (m.waiting ++ m.taken)). ⊎_elim (λ (j : IsIn f (n.waiting ++ n.taken)). inl j) (λ (j : IsIn f (deleted_by m call)). inr (IsIn-append_right f gone (deleted_by m call) j)) (out_stays m call f s i))
+    (λ (i : IsIn f (m.waiting ++ m.taken)). ⊎_elim (λ (j : IsIn f (n.waiting ++ n.taken)). inl j) (λ (j : IsIn f (deleted_by m call)). inr (IsIn-append_right f gone (deleted_by m call) j)) ((step_settled m call s).stays f i))
     (λ (i : IsIn f gone). inr (IsIn-append_left f gone (deleted_by m call) i))
     (t f k) in
-    ⊎_elim old (λ (k : IsIn f (handed_by m call)). inl (handed_is_out m call f s k)) (IsIn-append_cases f handed (handed_by m call) h)
+    ⊎_elim old (λ (k : IsIn f (handed_by m call)). inl ((step_settled m call s).out f k)) (IsIn-append_cases f handed (handed_by m call) h)
 
 -- a list of calls
 traced_along : (m : State) (calls : List Call) (handed gone : List ℕ) → IsSound m → AreCalls calls → IsTraced m handed gone → IsTraced (replay m calls) (handed ++ along handed_by m calls) (gone ++ along deleted_by m calls)
@@ -75,7 +75,7 @@ step_gone m call gone s apart g f h =
     (λ (e : is_present (uses n.records) f ≡ true). ⊎_elim (λ (i : IsIn f (new_by m call)). absurd (apart f k i)) (λ (i : is_present (uses m.records) f ≡ true). absurd (both_ways (is_present (uses m.records) f) (g f k) i)) (newly_present m call f s e))
     (λ (e : is_present (uses n.records) f ≡ false). e)
     (cases_Bool (is_present (uses n.records) f)) in
-    ⊎_elim old (λ (k : IsIn f (deleted_by m call)). deleted_is_gone m call f s k) (IsIn-append_cases f gone (deleted_by m call) h)
+    ⊎_elim old (λ (k : IsIn f (deleted_by m call)). (step_settled m call s).gone f k) (IsIn-append_cases f gone (deleted_by m call) h)
 
 -- a list of calls
 gone_along : (m : State) (calls : List Call) (gone : List ℕ) → IsSound m → AreCalls calls → NoneAgain gone m calls → AreGone m gone → AreGone (replay m calls) (gone ++ along deleted_by m calls)

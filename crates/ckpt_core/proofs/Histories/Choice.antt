@@ -9,13 +9,12 @@ use Rattle.ckpt_ids.proofs.OrderedLemmas.{IsIn-from_list_any}
 use Rattle.ckpt_core.specs.State.{State, Opening, opened, is_checkpoint, is_done_checkpoint, last_checkpoint, choice_from, choice_of, record_of}
 use Rattle.ckpt_core.specs.Histories.{replay}
 use Rattle.ckpt_core.specs.Soundness.{IsSound, id_before}
-use Rattle.ckpt_core.specs.Laws.{CanOpen, AreCalls, names, ChoiceIsLive}
+use Rattle.ckpt_core.specs.Laws.{names, ChoiceIsLive}
 use Rattle.ckpt_core.proofs.Using.Present.{present-from_IsHeld}
 use Rattle.ckpt_core.proofs.Records.Replacing.{same_record}
 use Rattle.ckpt_core.proofs.Reordering.ExchangeLemmas.{find-only}
 use Rattle.ckpt_core.proofs.Soundness.Drops.{is_savepoint}
 use Rattle.ckpt_core.proofs.Soundness.Triggers.{held-from_files_of}
-use Rattle.ckpt_core.proofs.Soundness.Histories.{replay_is_sound}
 
 -- the last done checkpoint of a list, from that of its rest
 last_among : (r : Record) (rs : List Record) (id : ℕ) (o : Option ℕ) → ((i : ℕ) → last_checkpoint rs ≡ Some i → (s : Record) × IsIn s rs × (s.id ≡ i) × (is_done_checkpoint s ≡ true)) → last_checkpoint rs ≡ o → elim o [ Some i ↦ Some i | None ↦ cond (is_done_checkpoint r) (Some r.id) None ] ≡ Some id → (s : Record) × IsIn s (r ∷ rs) × (s.id ≡ id) × (is_done_checkpoint s ≡ true)
@@ -56,10 +55,10 @@ chosen_is_done m id s e =
     (q.0, q.1, ap (record_of m) (sym (eqb-true (q.0).id id parts.1)) ∙ found m q.0 s.in_order q.1, (and_parts (q.0).done (not (is_checkpoint q.0)) parts.0).0) in
     ⊎_elim checkpoint base (names_is (last_checkpoint m.records) m.base id e)
 
--- the law
-pub choice_is_live : (o : Opening) (calls : List Call) → CanOpen o → AreCalls calls → ChoiceIsLive o calls
-choice_is_live o calls c a id e =
+-- the law, of a sound state
+pub choice_is_live : (o : Opening) (calls : List Call) → IsSound (replay (opened o) calls) → ChoiceIsLive o calls
+choice_is_live o calls s id e =
     let m : State = replay (opened o) calls in
-    let q = chosen_is_done m id (replay_is_sound o calls c a) e in
+    let q = chosen_is_done m id s e in
     let same : (r : Record) → ◌≡◌ {A = Option Record} (Some q.0) (Some r) → IsIn r m.records = λ r k. let P : Record → Type 0 = λ x. IsIn x m.records in let e : q.0 ≡ r = cc in subst P e q.1 in
     (q.0, q.2, q.3, λ f h. present-from_IsHeld f m.records (held-from_files_of f (Some q.0) m.records same h))

@@ -14,12 +14,13 @@ use Rattle.ckpt_core.specs.Laws.{Part, ack_of, is_ack_taken}
 use Rattle.ckpt_core.proofs.Records.Counts.{IsIn-from_find}
 use Rattle.ckpt_core.proofs.Answering.Accepted.{IsAcceptedAck, accepted_ack}
 use Rattle.ckpt_core.proofs.Soundness.Drops.{moment_is_sound}
-use Rattle.ckpt_core.proofs.Soundness.Acks.{IsAcking, with_ack}
 use Rattle.ckpt_core.proofs.Soundness.Completions.{having}
-use Rattle.ckpt_core.proofs.Soundness.Calls.{acking, acking_at}
+use Rattle.ckpt_core.proofs.Soundness.Acks.{IsAcking, with_ack, acking, acking_at}
 use Rattle.ckpt_core.proofs.Reordering.Exchange.{step_ack}
-use Rattle.ckpt_core.proofs.Histories.Moves.{IsMoved, unmoved, effect_moves, disposed_of, IsNoAck}
-use Rattle.ckpt_core.proofs.Histories.Takings.{IsTaken, taken}
+use Rattle.ckpt_core.proofs.Histories.Moves.{IsMoved, unmoved, disposed_of, IsNoAck}
+use Rattle.ckpt_core.proofs.Histories.Takings.{IsTaken}
+use Rattle.ckpt_core.proofs.Stepping.Acknowledged.{acked_is}
+use Rattle.ckpt_core.proofs.Stepping.Walk.{effect_is}
 use Rattle.ckpt_core.proofs.Answering.StepCases.{step_refused, step_accepted}
 
 -- a refusal, or none
@@ -33,7 +34,7 @@ step_moves m call s n =
     let After : Option ℕ → Stepped → Type 0 = λ d x. IsMoved m d x.0.records in
     ⊎_elim
     (λ (e : (why : Refusal) × (refusal m call ≡ Some why)). inl (subst (After None) (sym (step_refused m call e.0 e.1)) (unmoved m None)))
-    (λ (e : refusal m call ≡ None). inr (e, subst (After (disposed_of call)) (sym (step_accepted m call e)) (effect_moves m call s n)))
+    (λ (e : refusal m call ≡ None). inr (e, subst (After (disposed_of call)) (sym (step_accepted m call e)) ((effect_is m call e).moves n s)))
     (refused_or_not (refusal m call))
 
 -- an acknowledgement that changes no record
@@ -76,7 +77,7 @@ late_is_passed_over m now id p e k =
 -- an accepted one of a pending record changes the records so, whatever the moment
 taken_at : (m : State) (latest now id : ℕ) (p : Part) (q : Record) → IsSound m → now < 2 ^ 62 → IsAcking m q p.subtask p.fresh p.reused → IsTaken m q (record { subtask = p.subtask; files = ascending (p.fresh ++ p.reused) }) (acknowledged_in (record m { latest = max now m.latest }) (with_ack q p.subtask p.fresh p.reused)).0.records
 taken_at m latest now id p q s within a =
-    let i = taken (record m { latest = max now m.latest }) q p.subtask p.fresh p.reused (moment_is_sound m now s within) (acking_at m (max now m.latest) q p.subtask p.fresh p.reused a) in
+    let i = (acked_is (record m { latest = max now m.latest }) q p.subtask p.fresh p.reused (acking_at m (max now m.latest) q p.subtask p.fresh p.reused a)).taken (moment_is_sound m now s within) in
     record { change = i.change; keep = i.keep; new = i.new; records = i.records; replaces = i.replaces; acks = i.acks; pins = i.pins; savepoints = i.savepoints }
 
 -- so it is taken

@@ -1,21 +1,20 @@
 -- What an acknowledgement that is accepted for a pending record does to the records: it puts one in the place of that record, and a completion drops some.
-use Rattle.std.proofs.Common.{◌≡◌, ℕ, Bool, true, false, not, ◌&&◌, ◌||◌, ltb, eqb, List, [], ◌++◌, map, refl, sym, ap, subst, ◌∙◌, ◌⊎◌, inl, inr, ⊎_elim}
-use Rattle.std.specs.Prelude.{Some, None}
+use Rattle.std.proofs.Common.{◌≡◌, ℕ, Bool, true, false, not, ◌&&◌, ◌||◌, ltb, List, [], ◌++◌, map, refl, sym, ap, subst, ◌∙◌, ◌⊎◌, inl, inr, ⊎_elim}
 use Rattle.std.specs.List.{filter}
-use Rattle.std.proofs.lemmas.Bool.{both_ways, not_from_false, and_left, and_right, or_from, cond_both}
+use Rattle.std.proofs.lemmas.Bool.{both_ways, not_from_false, and_left, and_right, or_from}
 use Rattle.ckpt_ids.specs.declared.subtask.SubtaskId.{SubtaskId}
 use Rattle.ckpt_ids.specs.declared.ack.Acked.{Acked}
 use Rattle.ckpt_ids.specs.Ordered.{IsIn}
 use Rattle.ckpt_ids.specs.Acknowledged.{put_ack}
 use Rattle.ckpt_ids.specs.Ascending.{ascending}
-use Rattle.ckpt_ids.specs.Records.{Record, missing}
-use Rattle.ckpt_core.specs.State.{State, is_checkpoint, is_pending, is_subsumed, is_surplus, drop}
-use Rattle.ckpt_core.specs.Steps.{Stepped, replaced, with_records, superseded, completed_with, acknowledged_in}
+use Rattle.ckpt_ids.specs.Records.{Record}
+use Rattle.ckpt_core.specs.State.{State, is_checkpoint, is_pending, is_subsumed, is_surplus}
+use Rattle.ckpt_core.specs.Steps.{replaced, superseded}
 use Rattle.ckpt_core.specs.Soundness.{IsSound}
 use Rattle.ckpt_core.proofs.Records.Counts.{IsIn-changed, IsIn-from_changed}
 use Rattle.ckpt_core.proofs.Records.Replacing.{put_in, IsReplacing, put_in_replaces, unpinned_replaces}
 use Rattle.ckpt_core.proofs.Soundness.Acks.{IsAcking, with_ack, nothing_dropped}
-use Rattle.ckpt_core.proofs.Soundness.Completions.{completed, having, ending, staying, left_is}
+use Rattle.ckpt_core.proofs.Soundness.Completions.{completed, having, ending, staying, left_by, left_is}
 
 -- one acknowledgement more in a pending record
 pub record IsTaken (m : State) (q : Record) (a : Acked) (after : List Record) : Type 0 where
@@ -56,7 +55,7 @@ savepoint_kept {m} {q} {a} {after} i pending r h done savepoint =
     subst There (sym i.records) (subst P itself (IsIn-changed i.change i.keep r m.records h (i.savepoints r h done savepoint)))
 
 -- the record is pending still
-taken_pending : (m : State) (q : Record) (subtask : SubtaskId) (fresh reused : List ℕ) → IsSound m → IsAcking m q subtask fresh reused → IsTaken m q (record { subtask = subtask; files = ascending (fresh ++ reused) }) (replaced m.records (with_ack q subtask fresh reused))
+pub taken_pending : (m : State) (q : Record) (subtask : SubtaskId) (fresh reused : List ℕ) → IsSound m → IsAcking m q subtask fresh reused → IsTaken m q (record { subtask = subtask; files = ascending (fresh ++ reused) }) (replaced m.records (with_ack q subtask fresh reused))
 taken_pending m q subtask fresh reused s a =
     let w : Record = with_ack q subtask fresh reused in
     record {
@@ -82,15 +81,11 @@ not_superseded m q c r g pending h done savepoint =
     ap (λ z. not (superseded n c z)) itself ∙ not_from_false (superseded n c r) none
 
 -- the record is completed
-taken_completed : (m : State) (q : Record) (subtask : SubtaskId) (fresh reused : List ℕ) → IsSound m → IsAcking m q subtask fresh reused → IsTaken m q (record { subtask = subtask; files = ascending (fresh ++ reused) }) (completed_with (having m (completed q subtask fresh reused)) (completed q subtask fresh reused)).0.records
-unfolding completed_with drop
+pub taken_completed : (m : State) (q : Record) (subtask : SubtaskId) (fresh reused : List ℕ) → IsSound m → IsAcking m q subtask fresh reused → IsTaken m q (record { subtask = subtask; files = ascending (fresh ++ reused) }) (left_by m (completed q subtask fresh reused))
 taken_completed m q subtask fresh reused s a =
     let c : Record = completed q subtask fresh reused in
-    let n : State = having m c in
-    let after : State = drop n (superseded n c) (Some c.id) in
-    let its : Acked = record { subtask = subtask; files = ascending (fresh ++ reused) } in
     let g : IsReplacing (put_in c) q c m.records = put_in_replaces q c m.records s.in_order a.there refl in
-    let i : IsTaken m q its after.records = record {
+    record {
       change = ending c;
       keep = staying m c;
       new = record c { pins = [] };
@@ -99,16 +94,4 @@ taken_completed m q subtask fresh reused s a =
       acks = refl;
       pins = λ e. absurd (both_ways true e refl);
       savepoints = λ r h done savepoint. not_superseded m q c r g a.pending h done savepoint;
-    } in
-    cond_both (is_checkpoint c) (record after { failures = 0; completed = Some n.latest; base = None }) after (λ (k : State). IsTaken m q its k.records) (λ _. i) (λ _. i)
-
--- an acknowledgement that is accepted for a pending record
-pub taken : (m : State) (q : Record) (subtask : SubtaskId) (fresh reused : List ℕ) → IsSound m → IsAcking m q subtask fresh reused → IsTaken m q (record { subtask = subtask; files = ascending (fresh ++ reused) }) (acknowledged_in m (with_ack q subtask fresh reused)).0.records
-unfolding acknowledged_in
-taken m q subtask fresh reused s a =
-    let w : Record = with_ack q subtask fresh reused in
-    let c : Record = completed q subtask fresh reused in
-    let its : Acked = record { subtask = subtask; files = ascending (fresh ++ reused) } in
-    cond_both (eqb (missing w) 0) (completed_with (having m c) c) (with_records m (replaced m.records w), _) (λ (x : Stepped). IsTaken m q its x.0.records)
-    (λ _. taken_completed m q subtask fresh reused s a)
-    (λ _. taken_pending m q subtask fresh reused s a)
+    }

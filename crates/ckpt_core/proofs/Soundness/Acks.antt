@@ -2,7 +2,7 @@
 use Rattle.std.proofs.Common.{◌≡◌, ℕ, ◌≤◌, Bool, true, false, not, ◌&&◌, ◌||◌, cond, ltb, leb, eqb, List, [], ◌∷◌, ◌++◌, map, refl, sym, ap, subst, ◌∙◌, inl, inr, ⊎_elim, arith}
 use Rattle.std.specs.Prelude.{count_by, Option, Some, None}
 use Rattle.std.specs.List.{filter, list_any}
-use Rattle.std.proofs.lemmas.Bool.{cases_Bool, both_ways, not-true, not_from_false, and_parts, and_left, and_cases, and_from, or_parts, cond_both, ltb-false}
+use Rattle.std.proofs.lemmas.Bool.{cases_Bool, both_ways, not-true, not-false, not_from_false, and_parts, and_left, and_cases, and_from, or_parts, cond_both, ltb-false}
 use Rattle.ckpt_ids.specs.declared.subtask.SubtaskId.{SubtaskId}
 use Rattle.ckpt_ids.specs.declared.ack.Acked.{Acked}
 use Rattle.ckpt_ids.specs.Ordered.{IsIn, IsInOrder, AreDistinct}
@@ -10,15 +10,17 @@ use Rattle.ckpt_ids.specs.Ascending.{ascending}
 use Rattle.ckpt_ids.specs.Records.{Record, uses, is_present, missing, has_acknowledged, acknowledged}
 use Rattle.ckpt_ids.specs.Shapes.{is_subtask}
 use Rattle.ckpt_ids.proofs.OrderedLemmas.{IsIn-append_cases, IsIn-from_in_order, filter-all}
-use Rattle.ckpt_core.specs.State.{State, is_checkpoint, is_done_checkpoint, is_subsumed, is_surplus, is_known, in_outbox, kept, unpinned}
+use Rattle.ckpt_core.specs.State.{State, is_checkpoint, is_pending, is_done_checkpoint, is_subsumed, is_surplus, is_known, in_outbox, kept, unpinned}
+use Rattle.ckpt_core.specs.Refusals.{pending_of}
 use Rattle.ckpt_core.specs.Steps.{replaced, with_records, superseded}
 use Rattle.ckpt_core.specs.Soundness.{IsSound, IsRecord, id_before}
-use Rattle.ckpt_core.proofs.Records.Counts.{count_by-changed, IsIn-from_changed}
+use Rattle.ckpt_core.proofs.Records.Counts.{count_by-changed, IsIn-from_changed, IsIn-from_find, fails-from_find}
 use Rattle.ckpt_core.proofs.Using.Present.{Holds, IsHeld, Holds-put_ack, absent-from_not_held, not_held}
-use Rattle.ckpt_core.proofs.Ending.Released.{not_in-from_test}
+use Rattle.ckpt_core.proofs.Ending.Released.{distinct-from_test, not_in-from_test}
 use Rattle.ckpt_core.proofs.Records.Lists.{AreSoundRecords, IsSoundOutbox, sound_from, records_of, outbox_of, is_pending_checkpoint, later, newest_at_most}
 use Rattle.ckpt_core.proofs.Records.Replacing.{put_in, IsReplacing, put_in_replaces, cond_same, replaced_records}
 use Rattle.ckpt_core.proofs.Records.Held.{held_after_put}
+use Rattle.ckpt_core.proofs.Answering.Accepted.{IsAcceptedAck}
 use Rattle.ckpt_core.proofs.Acknowledging.Records.{IsAcknowledged, acknowledged_is, acknowledged_pending, ascending-distinct}
 use Rattle.ckpt_core.proofs.Soundness.Drops.{is_savepoint, savepoint_stays}
 
@@ -31,6 +33,32 @@ pub record IsAcking (m : State) (q : Record) (subtask : SubtaskId) (fresh reused
   pub once : AreDistinct (fresh ++ reused)
   pub unknown : (f : ℕ) → IsIn f fresh → is_known m f ≡ false
   pub present : (f : ℕ) → IsIn f reused → is_present (uses m.records) f ≡ true
+
+-- the acknowledgement of a pending record that is accepted
+pub acking : (m : State) (now id : ℕ) (subtask : SubtaskId) (fresh reused : List ℕ) (q : Record) → IsAcceptedAck m now id subtask fresh reused → pending_of m.records id ≡ Some q → IsAcking m q subtask fresh reused
+acking m now id subtask fresh reused q a e =
+    let found = IsIn-from_find (λ r. is_pending r && eqb r.id id) q m.records e in
+    record {
+      there = found.0;
+      pending = not-true q.done (and_parts (is_pending q) (eqb q.id id) found.1).0;
+      of_subtask = a.of_subtask q e;
+      first = a.first q e;
+      once = distinct-from_test (fresh ++ reused) a.once;
+      unknown = λ f h. fails-from_find (is_known m) f fresh (a.unknown q e) h;
+      present = λ f h. not-false (is_present (uses m.records) f) (fails-from_find (λ g. not (is_present (uses m.records) g)) f reused (a.present q e) h);
+    }
+
+-- the moment is the only thing that an accepted call changes before its effect, and an acknowledgement does not read it
+pub acking_at : (m : State) (latest : ℕ) (q : Record) (subtask : SubtaskId) (fresh reused : List ℕ) → IsAcking m q subtask fresh reused → IsAcking (record m { latest = latest }) q subtask fresh reused
+acking_at m latest q subtask fresh reused a = record {
+  there = a.there;
+  pending = a.pending;
+  of_subtask = a.of_subtask;
+  first = a.first;
+  once = a.once;
+  unknown = a.unknown;
+  present = a.present;
+}
 
 -- the record with it
 abbrev pub with_ack : Record → SubtaskId → List ℕ → List ℕ → Record

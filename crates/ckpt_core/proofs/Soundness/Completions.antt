@@ -1,21 +1,22 @@
 -- An acknowledgement that completes a record keeps a coordinator sound, and so does a late one.
 use Rattle.std.proofs.Common.{◌≡◌, ℕ, ◌<◌, ◌≤◌, Bool, true, false, not, eqb, List, [], ◌++◌, map, refl, sym, ap, subst, ◌∙◌, ⊎_elim, arith}
-use Rattle.std.specs.Prelude.{count_by, Some, None}
+use Rattle.std.specs.Prelude.{count_by, Option, Some, None}
 use Rattle.std.specs.List.{filter, list_any}
-use Rattle.std.proofs.lemmas.Bool.{cases_Bool, both_ways, not-true, not_from_false, and_left, and_right, or_parts, cond_both, eqb-true, ltb-true, lt-ltb}
+use Rattle.std.proofs.lemmas.Bool.{cases_Bool, both_ways, not-true, not_from_false, and_left, and_right, or_parts, ltb-true, lt-ltb}
 use Rattle.ckpt_ids.specs.declared.subtask.SubtaskId.{SubtaskId}
 use Rattle.ckpt_ids.specs.Ordered.{IsIn, IsInOrder, AreDistinct}
 use Rattle.ckpt_ids.specs.Records.{Record, uses, is_present, missing}
 use Rattle.ckpt_ids.proofs.OrderedLemmas.{IsIn-append_left, IsIn-append_right, IsIn-append_cases, IsIn-from_filter, IsInOrder-map, AreDistinct-append, AreDistinct-left, AreDistinct-right, AreDistinct-apart, AreDistinct-filter}
+use Rattle.ckpt_core.specs.declared.mode.Mode.TheVariants.{Running}
 use Rattle.ckpt_core.specs.State.{State, is_checkpoint, is_done_checkpoint, is_known, in_outbox, kept, unpinned, drop, released_by}
-use Rattle.ckpt_core.specs.Steps.{Stepped, replaced, with_records, superseded, completed_with, acknowledged_in, ack}
+use Rattle.ckpt_core.specs.Steps.{replaced, with_records, superseded, ack}
 use Rattle.ckpt_core.specs.Soundness.{IsSound, IsRecord, id_before}
 use Rattle.ckpt_core.proofs.Ending.Released.{test-from_IsIn}
 use Rattle.ckpt_core.proofs.Records.Lists.{AreSoundRecords, IsSoundOutbox, sound_from, records_of, outbox_of, is_pending_checkpoint}
 use Rattle.ckpt_core.proofs.Records.Replacing.{put_in, IsReplacing, put_in_replaces, unpinned_replaces, cond_same, replaced_records, completed_records}
 use Rattle.ckpt_core.proofs.Acknowledging.Records.{completed_is}
 use Rattle.ckpt_core.proofs.Soundness.Drops.{is_savepoint, savepoint_stays, outbox_dropped}
-use Rattle.ckpt_core.proofs.Soundness.Acks.{IsAcking, with_ack, with_ack_is, outbox_acked, savepoint_is_other, ack_pending_is_sound, fused, held_before_kept, retained_after, not_before}
+use Rattle.ckpt_core.proofs.Soundness.Acks.{IsAcking, with_ack, with_ack_is, outbox_acked, savepoint_is_other, fused, held_before_kept, retained_after, not_before}
 
 -- the record with all its acknowledgements, the state that has it, and the change that its completion makes
 abbrev pub completed : Record → SubtaskId → List ℕ → List ℕ → Record
@@ -84,7 +85,7 @@ records_completed m q c s i =
         IsInOrder-map id_before id_before (put_in c) rs (λ x y e. let less : x.id < y.id = ltb-true x.id y.id e in lt-ltb (put_in c x).id (put_in c y).id (omega (arith, g.same x, g.same y))) a
 
 -- of a savepoint's completion each done savepoint is left
-savepoints_left : (m : State) (q c : Record) (id : ℕ) → IsSound m → IsCompleting m q c → is_checkpoint c ≡ false → list_any (is_savepoint id) m.records ≡ true → list_any (is_savepoint id) (left_by m c) ≡ true
+pub savepoints_left : (m : State) (q c : Record) (id : ℕ) → IsSound m → IsCompleting m q c → is_checkpoint c ≡ false → list_any (is_savepoint id) m.records ≡ true → list_any (is_savepoint id) (left_by m c) ≡ true
 savepoints_left m q c id s i e there =
     let rs : List Record = m.records in
     let p : IsReplacing (ending c) q (record c { pins = [] }) rs = unpinned_replaces q c rs s.in_order i.there i.id in
@@ -100,39 +101,21 @@ outbox_completed m q c s i = outbox_dropped (map (put_in c) m.records) (left_by 
 runs-from_pending : {A : Type 0} (done : Bool) → done ≡ false → done ≡ true → A
 runs-from_pending done e h = absurd (both_ways done e h)
 
--- a completion
-pub completed_is_sound : (m : State) (q c : Record) → IsSound m → IsCompleting m q c → IsSound (completed_with (having m c) c).0
-unfolding completed_with drop
-completed_is_sound m q c s i =
-    let after : State = drop (having m c) (superseded (having m c) c) (Some c.id) in
-    let records : AreSoundRecords m.opening m.next (left_by m c) = records_completed m q c s i in
-    let outbox : IsSoundOutbox after.records after.waiting after.taken = outbox_completed m q c s i in
-    let of_checkpoint : State = record after { failures = 0; completed = Some m.latest; base = None } in
-    let checkpoint : is_checkpoint c ≡ true → IsSound of_checkpoint = λ _.
-    sound_from of_checkpoint (record {
+-- a completion, with the settings after
+pub completed_is_sound : (m : State) (q c : Record) (failures : ℕ) (completed_at base : Option ℕ) → IsSound m → IsCompleting m q c → ((id : ℕ) → base ≡ Some id → list_any (is_savepoint id) (left_by m c) ≡ true) → (m.mode ≡ Running → failures ≤ m.opening.config.tolerable) → IsSound (record (drop (having m c) (superseded (having m c) c) (Some c.id)) { failures = failures; completed = completed_at; base = base })
+unfolding drop
+completed_is_sound m q c failures completed_at base s i base_left few =
+    sound_from (record (drop (having m c) (superseded (having m c) c) (Some c.id)) { failures = failures; completed = completed_at; base = base }) (record {
       config = s.config;
       shape = s.shape;
       latest = s.latest;
       first = s.first;
       next_from = s.next_from;
       next_to = s.next_to;
-      base = λ id e. absurd (cc);
+      base = base_left;
       idle = λ ne. runs-from_pending q.done i.pending (s.idle ne q i.there);
-      failures = λ _. omega arith;
-    }) records outbox in
-    let savepoint : is_checkpoint c ≡ false → IsSound after = λ (e : is_checkpoint c ≡ false).
-    sound_from after (record {
-      config = s.config;
-      shape = s.shape;
-      latest = s.latest;
-      first = s.first;
-      next_from = s.next_from;
-      next_to = s.next_to;
-      base = λ id k. savepoints_left m q c id s i e (s.base id k);
-      idle = λ ne. runs-from_pending q.done i.pending (s.idle ne q i.there);
-      failures = s.failures;
-    }) records outbox in
-    cond_both (is_checkpoint c) of_checkpoint after IsSound checkpoint savepoint
+      failures = few;
+    }) (records_completed m q c s i) (outbox_completed m q c s i)
 
 -- an acknowledgement after which none is missing completes its record
 pub completing : (m : State) (q : Record) (subtask : SubtaskId) (fresh reused : List ℕ) → IsSound m → IsAcking m q subtask fresh reused → missing (with_ack q subtask fresh reused) ≡ 0 → IsCompleting m q (completed q subtask fresh reused)
@@ -146,16 +129,6 @@ completing m q subtask fresh reused s a none = record {
   free = completed_is q (s.each q a.there) (with_ack q subtask fresh reused) refl (with_ack_is s a) none;
   outbox = outbox_acked (completed q subtask fresh reused) s a refl refl refl;
 }
-
--- an accepted acknowledgement of a pending record
-pub acknowledged_is_sound : (m : State) (q : Record) (subtask : SubtaskId) (fresh reused : List ℕ) → IsSound m → IsAcking m q subtask fresh reused → IsSound (acknowledged_in m (with_ack q subtask fresh reused)).0
-unfolding acknowledged_in
-acknowledged_is_sound m q subtask fresh reused s a =
-    let w : Record = with_ack q subtask fresh reused in
-    let c : Record = completed q subtask fresh reused in
-    cond_both (eqb (missing w) 0) (completed_with (having m c) c) (with_records m (replaced m.records w), _) (λ (x : Stepped). IsSound x.0)
-    (λ (e : eqb (missing w) 0 ≡ true). completed_is_sound m q c s (completing m q subtask fresh reused s a (eqb-true (missing w) 0 e)))
-    (λ (e : eqb (missing w) 0 ≡ false). ack_pending_is_sound m q subtask fresh reused s a e)
 
 -- a late one
 pub late_is_sound : (m : State) (subtask : SubtaskId) (fresh reused : List ℕ) → IsSound m → AreDistinct (fresh ++ reused) → IsSound (ack m None subtask fresh reused).0

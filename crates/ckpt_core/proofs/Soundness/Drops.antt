@@ -1,19 +1,17 @@
--- Dropping records and handing out what is released keeps a coordinator sound, and so does failing over.
-use Rattle.std.proofs.Common.{◌≡◌, ◌≢◌, ℕ, ◌<◌, ◌≤◌, ◌^◌, max, Bool, true, false, not, ◌&&◌, eqb, List, ◌++◌, map, refl, ap, subst, ◌∙◌, ⊎_elim, arith}
-use Rattle.std.specs.Prelude.{Some, None}
+-- Of a drop of records: which done savepoints, idle states and outboxes stay as a sound state has them. And a later moment keeps it sound.
+use Rattle.std.proofs.Common.{◌≡◌, ◌≢◌, ℕ, ◌<◌, ◌^◌, max, Bool, true, false, not, ◌&&◌, eqb, List, ◌++◌, map, ap, subst, ◌∙◌, ⊎_elim, arith}
 use Rattle.std.specs.List.{filter, list_any}
-use Rattle.std.proofs.lemmas.Bool.{cases_Bool, both_ways, not-true, not_from_false, and_parts}
+use Rattle.std.proofs.lemmas.Bool.{cases_Bool, both_ways, not-true, not_from_false}
 use Rattle.ckpt_ids.specs.Ordered.{IsIn, AreDistinct}
 use Rattle.ckpt_ids.specs.Records.{Record, uses, is_present, released}
 use Rattle.ckpt_ids.proofs.OrderedLemmas.{IsIn-append_left, IsIn-append_right, IsIn-append_cases, IsIn-from_list_any, list_any-from_IsIn, AreDistinct-append, AreDistinct-left, AreDistinct-right, AreDistinct-apart, AreDistinct-from_order}
-use Rattle.ckpt_core.specs.declared.mode.Mode.TheVariants.{Running, Failed}
-use Rattle.ckpt_core.specs.State.{State, is_checkpoint, is_pending, drop}
-use Rattle.ckpt_core.specs.Steps.{failed_over}
+use Rattle.ckpt_core.specs.declared.mode.Mode.TheVariants.{Running}
+use Rattle.ckpt_core.specs.State.{State, is_checkpoint, is_pending}
 use Rattle.ckpt_core.specs.Soundness.{IsSound}
 use Rattle.ckpt_core.proofs.Records.Counts.{IsIn-changed, IsIn-from_changed}
 use Rattle.ckpt_core.proofs.Using.Present.{Holds, IsHeld, IsHeld_before}
 use Rattle.ckpt_core.proofs.Ending.Released.{ascending-released, after-from_released, held-from_released}
-use Rattle.ckpt_core.proofs.Records.Lists.{IsSoundOutbox, sound_from, records_of, outbox_of, filtered_records}
+use Rattle.ckpt_core.proofs.Records.Lists.{IsSoundOutbox, sound_from, records_of, outbox_of}
 use Rattle.ckpt_ids.proofs.AscendingLemmas.{numbers_in_order}
 
 -- a done savepoint with this number
@@ -62,56 +60,9 @@ outbox_dropped before after waiting taken s was =
 pub outbox_filtered : (q : Record → Bool) (rs : List Record) (waiting taken : List ℕ) → IsSoundOutbox rs waiting taken → IsSoundOutbox (map (λ r. r) (filter q rs)) (waiting ++ released (uses rs) (uses (map (λ r. r) (filter q rs)))) taken
 outbox_filtered q rs waiting taken s = outbox_dropped rs (map (λ r. r) (filter q rs)) waiting taken s (held_before_filter q rs)
 
--- the base stays where no done savepoint of its number is dropped
-pub base_stays : {m : State} (dropped : Record → Bool) → IsSound m → ((id : ℕ) (r : Record) → m.base ≡ Some id → IsIn r m.records → is_savepoint id r ≡ true → dropped r ≡ false) → (id : ℕ) → m.base ≡ Some id → list_any (is_savepoint id) (map (λ r. r) (filter (λ r. not (dropped r)) m.records)) ≡ true
-base_stays {m} dropped s not_base id e =
-    savepoint_stays (λ r. r) (λ r. not (dropped r)) id m.records (λ r h t. (not_from_false (dropped r) (not_base id r e h t), refl)) (s.base id e)
-
 -- what is idle stays so
 pub idle_stays : {m : State} (dropped : Record → Bool) → IsSound m → m.mode ≢ Running → (r : Record) → IsIn r (map (λ r. r) (filter (λ r. not (dropped r)) m.records)) → r.done ≡ true
 idle_stays {m} dropped s ne r h = let p = IsIn-from_changed (λ (r : Record). r) (λ r. not (dropped r)) r m.records h in ap (λ x. x.done) p.3 ∙ s.idle ne p.0 p.1
-
--- a drop, of whatever records but the base
-pub drop_keeps : (m : State) (dropped : Record → Bool) → IsSound m → ((id : ℕ) (r : Record) → m.base ≡ Some id → IsIn r m.records → is_savepoint id r ≡ true → dropped r ≡ false) → IsSound (drop m dropped None)
-unfolding drop
-drop_keeps m dropped s not_base =
-    sound_from (drop m dropped None) (record {
-      config = s.config;
-      shape = s.shape;
-      latest = s.latest;
-      first = s.first;
-      next_from = s.next_from;
-      next_to = s.next_to;
-      base = base_stays dropped s not_base;
-      idle = idle_stays dropped s;
-      failures = s.failures;
-    }) (filtered_records (λ r. not (dropped r)) (records_of s)) (outbox_filtered (λ r. not (dropped r)) m.records m.waiting m.taken (outbox_of s))
-
--- a done savepoint is not pending
-pub savepoint_not_pending : (id : ℕ) (r : Record) → is_savepoint id r ≡ true → is_pending r ≡ false
-savepoint_not_pending id r t = ap not (savepoint_done id r t)
-  where
-    savepoint_done : (id : ℕ) (r : Record) → is_savepoint id r ≡ true → r.done ≡ true
-    savepoint_done id r t = (and_parts r.done (not (is_checkpoint r)) (and_parts (r.done && not (is_checkpoint r)) (eqb r.id id) t).0).0
-
--- nor a checkpoint
-pub savepoint_not_checkpoint : (id : ℕ) (r : Record) → is_savepoint id r ≡ true → is_checkpoint r ≡ false
-savepoint_not_checkpoint id r t = not-true (is_checkpoint r) (and_parts r.done (not (is_checkpoint r)) (and_parts (r.done && not (is_checkpoint r)) (eqb r.id id) t).0).1
-
--- more failures, where few enough
-pub counted_is_sound : (m : State) (failures : ℕ) → IsSound m → (m.mode ≡ Running → failures ≤ m.opening.config.tolerable) → IsSound (record m { failures = failures })
-counted_is_sound m failures s few =
-    sound_from (record m { failures = failures }) (record {
-      config = s.config;
-      shape = s.shape;
-      latest = s.latest;
-      first = s.first;
-      next_from = s.next_from;
-      next_to = s.next_to;
-      base = s.base;
-      idle = s.idle;
-      failures = few;
-    }) (records_of s) (outbox_of s)
 
 -- a later moment
 pub moment_is_sound : (m : State) (now : ℕ) → IsSound m → now < 2 ^ 62 → IsSound (record m { latest = max now m.latest })
@@ -128,10 +79,6 @@ moment_is_sound m now s within =
       failures = s.failures;
     }) (records_of s) (outbox_of s)
 
--- a failed job does not run
-not_running : Failed ≡ Running → ⊥
-not_running e = cc
-
 -- no pending record is left where all are dropped
 pub none_pending_left : (rs : List Record) (dropped : Record → Bool) → ((r : Record) → is_pending r ≡ true → dropped r ≡ true) → (r : Record) → IsIn r (map (λ r. r) (filter (λ r. not (dropped r)) rs)) → r.done ≡ true
 none_pending_left rs dropped all r h =
@@ -139,19 +86,3 @@ none_pending_left rs dropped all r h =
     let stays : dropped p.0 ≡ false = not-true (dropped p.0) p.2 in
     let done : (p.0).done ≡ true = ⊎_elim (λ (e : (p.0).done ≡ true). e) (λ (e : (p.0).done ≡ false). absurd (both_ways (dropped p.0) stays (all p.0 (not_from_false (p.0).done e)))) (cases_Bool (p.0).done) in
     ap (λ x. x.done) p.3 ∙ done
-
--- failing over, whatever the failures
-pub failed_over_is_sound : (m : State) (failures : ℕ) → IsSound m → IsSound (failed_over (record m { failures = failures }))
-unfolding drop failed_over
-failed_over_is_sound m failures s =
-    sound_from (failed_over (record m { failures = failures })) (record {
-      config = s.config;
-      shape = s.shape;
-      latest = s.latest;
-      first = s.first;
-      next_from = s.next_from;
-      next_to = s.next_to;
-      base = base_stays is_pending s (λ id r _ _ t. savepoint_not_pending id r t);
-      idle = λ _. none_pending_left m.records is_pending (λ r e. e);
-      failures = λ e. absurd (not_running e);
-    }) (filtered_records (λ r. not (is_pending r)) (records_of s)) (outbox_filtered (λ r. not (is_pending r)) m.records m.waiting m.taken (outbox_of s))

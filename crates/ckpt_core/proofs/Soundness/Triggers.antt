@@ -1,8 +1,8 @@
--- Triggering a checkpoint or savepoint keeps a coordinator sound, and so does each tick.
+-- Triggering a checkpoint or savepoint keeps a coordinator sound, and when a tick may trigger one.
 use Rattle.std.proofs.Common.{◌≡◌, ℕ, ◌+◌, ◌<◌, ◌≤◌, ◌^◌, Bool, true, false, not, ◌&&◌, cond, ltb, leb, eqb, List, [], ◌∷◌, ◌++◌, map, sum, length, refl, sym, ap, subst, ◌∙◌, inl, ⊎_elim, arith}
 use Rattle.std.specs.Prelude.{count_by, Option, Some, None}
 use Rattle.std.specs.List.{list_any}
-use Rattle.std.proofs.lemmas.Bool.{cases_Bool, both_ways, and_left, and_cases, or_left, cond_both, leb-false, ltb-false}
+use Rattle.std.proofs.lemmas.Bool.{cases_Bool, both_ways, and_left, and_cases, or_left, leb-false, ltb-false}
 use Rattle.std.proofs.lemmas.List.Sums.{sum_by-cons}
 use Rattle.std.proofs.lemmas.List.Folds.{list_any-append}
 use Rattle.std.proofs.lemmas.List.{append-nil}
@@ -19,19 +19,19 @@ use Rattle.ckpt_ids.specs.Shapes.{IsShape, subtasks, same_subtask}
 use Rattle.ckpt_ids.proofs.AscendingLemmas.{numbers_in_order}
 use Rattle.ckpt_ids.proofs.ShapeLemmas.{length-subtasks_from}
 use Rattle.ckpt_ids.proofs.OrderedLemmas.{IsIn-append_cases, IsIn-from_map, IsIn-from_in_order_once, IsInOrder-in_order_once}
-use Rattle.ckpt_rules.specs.Trigger.{hold, limit, pause_ends, gap}
+use Rattle.ckpt_rules.specs.Trigger.{hold, limit, pause_ends}
 use Rattle.ckpt_rules.specs.declared.hold.Hold.{Hold}
 use Rattle.ckpt_rules.specs.declared.hold.Hold.TheVariants.{Interval, AtOnce, Pause, Go}
 use Rattle.ckpt_core.specs.declared.mode.Mode.TheVariants.{Running}
-use Rattle.ckpt_core.specs.State.{State, is_checkpoint, is_pending, is_expired, files_of, chosen, choice_of, pins_now, drop}
+use Rattle.ckpt_core.specs.State.{State, is_checkpoint, is_pending, is_expired, files_of, chosen, choice_of, pins_now}
 use Rattle.ckpt_core.specs.Refusals.{savepoints}
-use Rattle.ckpt_core.specs.Steps.{Stepped, triggered, start_or_hold, after_expiry, tick, failed_over, pending_checkpoints, dropped_by}
+use Rattle.ckpt_core.specs.Steps.{triggered, pending_checkpoints}
 use Rattle.ckpt_core.specs.Soundness.{IsSound, IsRecord}
 use Rattle.ckpt_ids.proofs.CountLemmas.{count_by-append, count_by_yes, count_by_no, counted-from_IsIn}
 use Rattle.ckpt_core.proofs.Records.Counts.{IsIn-from_find}
 use Rattle.ckpt_core.proofs.Using.Present.{Holds, IsHeld, Holds-from_use, absent-from_not_held, not_held}
 use Rattle.ckpt_core.proofs.Records.Lists.{AreSoundRecords, IsSoundOutbox, sound_from, records_of, outbox_of, appended_records, is_pending_checkpoint}
-use Rattle.ckpt_core.proofs.Soundness.Drops.{is_savepoint, drop_keeps, counted_is_sound, failed_over_is_sound, savepoint_not_pending}
+use Rattle.ckpt_core.proofs.Soundness.Drops.{is_savepoint}
 
 -- the files of a choice are held by live records
 
@@ -178,21 +178,8 @@ fewer-from_go c due completed t pending e =
     (cases_Bool (leb (limit c) pending)) in
     ⊎_elim waits goes (cases_Bool (ltb t due))
 
--- a start, or what holds it back
-start_is_sound : (m : State) (expired : ℕ) (h : Hold) → hold m.opening.config m.due m.completed m.latest (pending_checkpoints m) ≡ h → IsSound m → m.mode ≡ Running → m.next < 2 ^ 62 → IsSound (start_or_hold m expired h).0
-unfolding start_or_hold
-start_is_sound m expired Interval e s running room = s
-start_is_sound m expired AtOnce e s running room = s
-start_is_sound m expired Pause e s running room = s
-start_is_sound m expired Go e s running room = checkpoint_is_sound m (m.latest + gap m.opening.config) s running room (fewer-from_go m.opening.config m.due m.completed m.latest (pending_checkpoints m) e)
-
--- what follows the expiry
-pub after_expiry_is_sound : (m : State) (expired : ℕ) → IsSound m → m.mode ≡ Running → m.next < 2 ^ 62 → IsSound (after_expiry m expired).0
-unfolding after_expiry
-after_expiry_is_sound m expired s running room = start_is_sound m expired (hold m.opening.config m.due m.completed m.latest (pending_checkpoints m)) refl s running room
-
 -- where a tick does not fail over, few enough checkpoints have failed
-few_failures : (late failures tolerable : ℕ) → failures ≤ tolerable → (ltb 0 late && ltb tolerable (failures + late)) ≡ false → failures + late ≤ tolerable
+pub few_failures : (late failures tolerable : ℕ) → failures ≤ tolerable → (ltb 0 late && ltb tolerable (failures + late)) ≡ false → failures + late ≤ tolerable
 few_failures late failures tolerable few e =
     ⊎_elim
     (λ (h : ltb 0 late ≡ false). omega (arith, ltb-false 0 late h))
@@ -202,18 +189,3 @@ few_failures late failures tolerable few e =
 -- an expired record is pending
 pub expired_is_pending : (m : State) (t : ℕ) (r : Record) → is_pending r ≡ false → is_expired m t r ≡ false
 expired_is_pending m t r e = and_left (is_pending r) (leb (r.started + m.opening.config.timeout) t) e
-
--- a tick of a job that runs
-pub tick_is_sound : (m : State) → IsSound m → m.mode ≡ Running → m.next < 2 ^ 62 → IsSound (tick m).0
-unfolding tick drop
-tick_is_sound m s running room =
-    let expired : Record → Bool = is_expired m m.latest in
-    let late : ℕ = count_by (λ r. expired r && is_checkpoint r) m.records in
-    let counted : State = record m { failures = m.failures + late } in
-    let fails : Bool = ltb 0 late && ltb m.opening.config.tolerable (m.failures + late) in
-    let failing : fails ≡ true → IsSound (failed_over counted) = λ _. failed_over_is_sound m (m.failures + late) s in
-    let going : fails ≡ false → IsSound (after_expiry (drop counted expired None) (dropped_by m expired)).0 = λ (e : fails ≡ false).
-    let few : m.failures + late ≤ m.opening.config.tolerable = few_failures late m.failures m.opening.config.tolerable (s.failures running) e in
-    let sound : IsSound counted = counted_is_sound m (m.failures + late) s (λ _. few) in
-    after_expiry_is_sound (drop counted expired None) (dropped_by m expired) (drop_keeps counted expired sound (λ id r _ _ t. expired_is_pending m m.latest r (savepoint_not_pending id r t))) running room in
-    cond_both fails (failed_over counted, _) (after_expiry (drop counted expired None) (dropped_by m expired)) (λ (x : Stepped). IsSound x.0) failing going
