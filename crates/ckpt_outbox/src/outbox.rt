@@ -228,11 +228,14 @@ impl Outbox {
         Ok(Files::of(files))
     }
 
-    /// Whether the file waits or is taken. One look-up.
+    /// Whether the file waits or is taken. One look-up, and none while the outbox is empty.
     pub fn knows(&self, file: FileId) -> bool
         ensures value { result ≡ is_known self.now file }
         ensures distinct { AreDistinct (self.now.waiting ++ self.now.taken) }
     {
+        if self.waiting.is_empty() && self.taken.len() == 0 {
+            return false;
+        }
         self.index.contains_key(&file)
     }
 
