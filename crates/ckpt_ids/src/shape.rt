@@ -1,13 +1,16 @@
 //! The shape of a job: the parallelism of each vertex.
 
-ghost use Rattle.std.specs.Prelude.{◌≡◌, ◌+◌, ◌≤◌, ◌^◌, ◌↔◌, ◌≢◌, Bool, true, false, Ok, Err, None, Some, IsTrue, IsOk, IfOk, OnOk, OnErr, sum, length, nat_le, slice_get, is_some};
+ghost use Rattle.std.specs.Prelude.{◌≡◌, ℕ, ◌+◌, ◌≤◌, ◌^◌, ◌↔◌, ◌≢◌, Bool, true, false, Ok, Err, None, Some, IsTrue, IsOk, IfOk, OnOk, OnErr, sum, length, nat_le, slice_get, is_some};
+ghost use Rattle.std.specs.Iterator.Adapters.{IterYieldsInOrder, IterYieldsInReverse};
 ghost use Rattle.std.specs.List.{list_all};
+ghost use Rattle.std.specs.Slice.Iter.{iter_rest};
 ghost use Rattle.ckpt_ids.specs.Shapes.{IsShape, is_shape, is_subtask, subtasks};
 
 use crate::limits::{MOST_SUBTASKS, MOST_VERTICES};
 use crate::subtask::SubtaskId;
 use std::alloc::{AllocError, Global};
 use std::marker::Model;
+use std::slice::Iter;
 use std::sync::ArcSlice;
 use thiserror::Error;
 
@@ -135,7 +138,23 @@ impl Shape {
     pub fn parallelism(&self, vertex: u32) -> Option<u32>
         ensures { result ≡ slice_get self.now vertex }
     {
-        self.parallelisms.as_slice().get(vertex as usize).copied()
+        self.as_slice().get(vertex as usize).copied()
+    }
+
+    /// The parallelisms, in the order of the vertices.
+    pub fn as_slice(&self) -> &[u32]
+        ensures { result.now ≡ self.now }
+    {
+        self.parallelisms.as_slice()
+    }
+
+    /// The parallelisms one after the other, in the order of the vertices.
+    pub fn iter(&self) -> Iter<'_, u32>
+        ensures rest { iter_rest result ≡ self.now }
+        ensures runs { IterYieldsInOrder ℕ }
+        ensures runs_back { IterYieldsInReverse ℕ }
+    {
+        self.as_slice().iter()
     }
 
     /// A copy of the shape. Fails only if memory runs out.
@@ -147,6 +166,22 @@ impl Shape {
             parallelisms: parallelisms.clone()?,
             size: *size,
         })
+    }
+}
+
+impl<'a> IntoIterator for &'a Shape {
+    ghost use Rattle.std.specs.Prelude.{◌≡◌, ℕ};
+    ghost use Rattle.std.specs.Iterator.Adapters.{IterYieldsInOrder};
+    ghost use Rattle.std.specs.Slice.Iter.{iter_rest};
+
+    type Item = &'a u32;
+
+    type IntoIter = Iter<'a, u32>;
+
+    ghost into_iter_gives = { λ all it. (iter_rest it ≡ all.now) × IterYieldsInOrder ℕ };
+
+    fn into_iter(self) -> Iter<'a, u32> {
+        self.iter()
     }
 }
 
