@@ -48,7 +48,7 @@ install: $(LIBRARY)
 	$(INSTALL) -m 644 packaging/relkvanu-config.cmake $(into)/lib/cmake/relkvanu
 	$(INSTALL) -m 644 packaging/man/*.1 $(into)/share/man/man1
 	$(INSTALL) -m 644 packaging/man/*.3 $(into)/share/man/man3
-	$(INSTALL) -m 644 docs/EMBEDDING.md docs/RULES.md docs/SCRIPT.md docs/SCALE.md $(into)/share/doc/relkvanu
+	$(INSTALL) -m 644 docs/EMBEDDING.md docs/IMAGE.md docs/RULES.md docs/SCRIPT.md docs/SCALE.md $(into)/share/doc/relkvanu
 	$(INSTALL) -m 644 examples/*.script examples/*.stdout $(into)/share/doc/relkvanu/examples
 	embed/samples --write $(into)/share/doc/relkvanu/examples/engine
 	for it in $(PROGRAMS); do if [ -x crates/$$it/out/$$it ]; then $(INSTALL) crates/$$it/out/$$it $(into)/bin || exit 1; fi; done

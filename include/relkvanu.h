@@ -1,8 +1,8 @@
 /* The coordinator of a stream processor's checkpoints.
  *
- * Link librelkvanu.a, which `rt lib` builds in crates/relkvanu/out, and the three functions
- * rattle_alloc, rattle_realloc and rattle_dealloc over one allocator. embed/c/heap.c has them over
- * malloc. docs/EMBEDDING.md has worked examples. docs/RULES.md says what each call does.
+ * Link librelkvanu.a, which `make` leaves in build and a release contains. It takes its memory from malloc, or from the three
+ * functions of relkvanu_alloc.h where a program defines them. docs/EMBEDDING.md has worked examples. docs/RULES.md says what each
+ * call does.
  *
  * Conditions for the caller:
  * - A handle is all zero, or as the library last left it. Do not copy it or change its field.

@@ -3,7 +3,8 @@
  * namespace is ckpt, because C has the name relkvanu.
  *
  * Make one call or read at a time for each coordinator. A read takes the state out of its handle and puts it back, so reads
- * are not const. Threads share a coordinator under the engine's own mutex. Only std::bad_alloc is thrown, by show and messages.
+ * are not const. Threads share a coordinator under the engine's own mutex. Only std::bad_alloc is thrown: by what
+ * answers a string or a list, and by messages.
  */
 #ifndef RELKVANU_HPP
 #define RELKVANU_HPP
@@ -337,9 +338,7 @@ public:
     line_answer line(std::string_view text, span<std::uint64_t> buffer = {}) {
         relkvanu_answer told = relkvanu_line(&handle_, reinterpret_cast<const std::uint8_t *>(text.data()), text.size(), buffer.data(), buffer.size());
         if (told.code == RELKVANU_TOO_SHORT && text.find("show") != text.npos) {
-            show_answer shown = show(number_in(text));
-            std::string *json = std::get_if<std::string>(&shown);
-            return json != nullptr ? line_answer(std::move(*json)) : line_answer(std::get<refused>(shown));
+            return shown_by(text);
         } else if (told.code != RELKVANU_DONE) {
             return refusal(told);
         }
@@ -459,13 +458,18 @@ private:
         return std::variant<Coordinator, refused>(std::move(it));
     }
 
-    /* The number of a line that has one. The library has read the line. */
-    static std::uint64_t number_in(std::string_view text) {
-        std::uint64_t number = 0;
-        for (char each : text) {
-            number = each >= '0' && each <= '9' ? 10 * number + static_cast<std::uint64_t>(each - '0') : number;
+    /* What a show line shows. The library reads the number of a job line, which has its own where a show line has that of the record. */
+    line_answer shown_by(std::string_view text) {
+        std::string job(text);
+        job.replace(job.find("show"), 4, "job");
+        std::uint64_t id = 0;
+        relkvanu_answer says = relkvanu_line_says(reinterpret_cast<const std::uint8_t *>(job.data()), job.size(), &id, 1);
+        if (says.code != RELKVANU_DONE) { /* out of memory */
+            return refusal(says);
         }
-        return number;
+        show_answer shown = show(id);
+        std::string *json = std::get_if<std::string>(&shown);
+        return json != nullptr ? line_answer(std::move(*json)) : line_answer(std::get<refused>(shown));
     }
 
     static relkvanu_answer read(relkvanu_answer told) {

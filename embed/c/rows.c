@@ -1,6 +1,6 @@
 /* rows SCRIPT WANTED: opens a coordinator as the script says, makes its calls, and compares each answer
- * with the lines of the file WANTED. The script has one config, job and start line, and then calls
- * (docs/SCRIPT.md).
+ * with the lines of the file WANTED. The script has a config and a job line, a start line, and then calls alone, beside lines with
+ * faults (docs/SCRIPT.md). Any other is not run: the status is 3.
  *
  * The script is run once with the reads compared after each line, once with all memory, and then once for each
  * request for memory, which is refused once: the call that wants it says so, and is made again. */
@@ -14,19 +14,19 @@
 #include <string.h>
 
 /* Tells what the line's call answers. It is made again where memory was refused: that happens once. */
-static void obey(struct script *script, const char *line, size_t len, FILE *told) {
+static void obey(struct script *script, const char *line, size_t len, uint64_t number, FILE *told) {
     relkvanu_answer answer = script_line(script, line, len);
     if (answer.code == RELKVANU_NO_MEMORY) {
         answer = script_line(script, line, len);
     }
-    script_tell(script, told, answer);
+    script_tell(script, told, number, answer);
 }
 
 /* The same with all memory, and whether the reads fit then. */
-static bool obey_and_read(struct script *script, struct reads *reads, const char *line, size_t len, FILE *told) {
+static bool obey_and_read(struct script *script, struct reads *reads, const char *line, size_t len, uint64_t number, FILE *told) {
     reads_before(reads, script);
     relkvanu_answer answer = script_line(script, line, len);
-    script_tell(script, told, answer);
+    script_tell(script, told, number, answer);
     if (reads_fit(reads, script, line, answer)) {
         return true;
     }
@@ -41,6 +41,46 @@ static FILE *opened(const char *path) {
         exit(2);
     }
     return from;
+}
+
+/* The next line without its newline, and its length; -1 at the end. */
+static ssize_t next_line(char **line, size_t *room, FILE *from) {
+    ssize_t len = getline(line, room, from);
+    if (len > 0 && (*line)[len - 1] == '\n') {
+        (*line)[--len] = '\0';
+    }
+    return len;
+}
+
+/* Which line may come next in a list of calls. */
+enum part { OPENING, CONFIGURED, SHAPED, STARTING, CALLS, OTHER };
+
+static enum part after(enum part part, uint32_t line) {
+    switch (part) {
+    case OPENING: return line == RELKVANU_LINE_CONFIG ? CONFIGURED : line == RELKVANU_LINE_JOB ? SHAPED : OTHER;
+    case CONFIGURED: return line == RELKVANU_LINE_JOB ? STARTING : OTHER;
+    case SHAPED: return line == RELKVANU_LINE_CONFIG ? STARTING : OTHER;
+    case STARTING: return line == RELKVANU_LINE_START ? CALLS : OTHER;
+    case CALLS: return line == RELKVANU_LINE_CALL ? CALLS : OTHER;
+    default: return OTHER;
+    }
+}
+
+/* Whether the script opens one coordinator, and then makes calls alone. */
+static bool is_list_of_calls(const char *path) {
+    char *line = NULL;
+    size_t room = 0;
+    enum part part = OPENING;
+    FILE *from = opened(path);
+    for (ssize_t len = next_line(&line, &room, from); len >= 0; len = next_line(&line, &room, from)) {
+        uint64_t numbers[SCRIPT_SHAPE];
+        relkvanu_answer says = relkvanu_line_says((const uint8_t *)line, (size_t)len, numbers, SCRIPT_SHAPE);
+        bool has_part = says.code == RELKVANU_DONE && says.what != RELKVANU_LINE_SKIP;
+        part = says.code == RELKVANU_TOO_SHORT ? OTHER : has_part ? after(part, says.what) : part;
+    }
+    free(line);
+    fclose(from);
+    return part == CALLS;
 }
 
 /* Runs the script, and says whether it told what is wanted, as did the reads where they are to be compared. */
@@ -58,13 +98,13 @@ static bool runs(const char *path, const char *wanted, size_t wanted_len, struct
     memset(&script, 0, sizeof script);
     heap_refuse(refused);
     bool fit = true;
-    while (fit && getline(&line, &room, from) > 0) {
-        size_t line_len = strcspn(line, "\n");
-        line[line_len] = '\0';
+    uint64_t number = 0;
+    for (ssize_t line_len = next_line(&line, &room, from); fit && line_len >= 0; line_len = next_line(&line, &room, from)) {
+        number++;
         if (reads == NULL) {
-            obey(&script, line, line_len, told);
+            obey(&script, line, (size_t)line_len, number, told);
         } else {
-            fit = obey_and_read(&script, reads, line, line_len, told);
+            fit = obey_and_read(&script, reads, line, (size_t)line_len, number, told);
         }
     }
     *requests = heap_requests();
@@ -93,6 +133,9 @@ int main(int argc, char **argv) {
     if (argc != 3) {
         fprintf(stderr, "rows SCRIPT WANTED\n");
         return 2;
+    }
+    if (!is_list_of_calls(argv[1])) {
+        return 3;
     }
     size_t len;
     char *wanted = contents(argv[2], &len);

@@ -58,22 +58,19 @@ static void tell_refused(FILE *to, relkvanu_answer answer) {
     fprintf(to, "\n");
 }
 
-void script_tell(const struct script *script, FILE *to, relkvanu_answer answer) {
+static void tell_fault(FILE *to, uint64_t number, relkvanu_answer answer) {
+    static const char *const names[] = {"", "TooLong", "Word", "Missing", "Number", "Extra", "NoCall"};
+    fprintf(to, "line %" PRIu64 " fault %s\n", number, names[answer.what]);
+}
+
+void script_tell(const struct script *script, FILE *to, uint64_t number, relkvanu_answer answer) {
     switch (answer.code) {
     case RELKVANU_DONE: tell_done(script, to, answer); break;
     case RELKVANU_REFUSED: tell_refused(to, answer); break;
+    case RELKVANU_BAD_LINE: tell_fault(to, number, answer); break;
     case RELKVANU_BAD_ARGUMENT: fprintf(to, "refused %s\n", answer.what == RELKVANU_BAD_SHAPE ? "BadShape" : "BadArgument"); break;
     default: fprintf(to, "code %" PRIu32 "\n", answer.code); break;
     }
-}
-
-/* The record of a show line, which the library has read: so its digits are those of one number. */
-static uint64_t record_of(const char *line, size_t len) {
-    uint64_t id = 0;
-    for (size_t place = 0; place < len; place++) {
-        id = line[place] >= '0' && line[place] <= '9' ? 10 * id + (uint64_t)(line[place] - '0') : id;
-    }
-    return id;
 }
 
 /* Asks with the buffer that is there, or with one that is long enough. */
@@ -87,6 +84,23 @@ static relkvanu_answer show(struct script *script, uint64_t id, size_t bytes) {
         script->json_len = bytes;
     }
     return relkvanu_show(&script->handle, id, script->json, script->json_len);
+}
+
+/* Shows the record of a show line, which needs so many bytes. The library has read the line. It reads the number of a job line, which
+ * has its own where a show line has that of the record. */
+static relkvanu_answer show_line(struct script *script, const char *line, size_t len, size_t bytes) {
+    uint64_t id = 0;
+    size_t before = (size_t)((const char *)memmem(line, len, "show", 4) - line), after = before + 4;
+    char *job = malloc(len);
+    if (job == NULL) {
+        return (relkvanu_answer){RELKVANU_NO_MEMORY, 0, 0, 0};
+    }
+    memcpy(job, line, before);
+    memcpy(job + before, "job", 3);
+    memcpy(job + before + 3, line + after, len - after);
+    relkvanu_answer says = relkvanu_line_says((const uint8_t *)job, len - 1, &id, 1);
+    free(job);
+    return says.code == RELKVANU_DONE ? show(script, id, bytes) : says;
 }
 
 static void configure(relkvanu_settings *settings, const uint64_t *numbers) {
@@ -132,7 +146,7 @@ relkvanu_answer script_line(struct script *script, const char *line, size_t len)
         return opening(script, bytes, len);
     }
     /* no take line fetches more than there is place for here, so this is a show line */
-    return answer.code == RELKVANU_TOO_SHORT ? show(script, record_of(line, len), answer.a) : answer;
+    return answer.code == RELKVANU_TOO_SHORT ? show_line(script, line, len, answer.a) : answer;
 }
 
 void script_close(struct script *script) {

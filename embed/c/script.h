@@ -25,8 +25,8 @@ struct script {
  * RELKVANU_BAD_LINE. A call that found no memory can be made again by the same line. */
 relkvanu_answer script_line(struct script *script, const char *line, size_t len);
 
-/* Writes the answer of the last line as it is printed; nothing for an opening and a line without a call. */
-void script_tell(const struct script *script, FILE *to, relkvanu_answer answer);
+/* Writes the answer of the last line, which has this number, as it is printed; nothing for an opening and a line without a call. */
+void script_tell(const struct script *script, FILE *to, uint64_t number, relkvanu_answer answer);
 
 /* Closes the coordinator, and frees what the script holds. */
 void script_close(struct script *script);

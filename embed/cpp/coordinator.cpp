@@ -164,6 +164,9 @@ static void lines() {
     CHECK(std::get<ckpt::answered>(job.line("tick 1000")).answer.what == RELKVANU_TICK_TRIGGERED);
     CHECK(std::get<ckpt::answered>(job.line("ack 1000 1 0.0 +1 +2\r")).answer.a == 2);
     CHECK(std::get<std::string>(job.line("show 1")).find("\"files\":[1,2]") != std::string::npos);
+    CHECK(std::get<std::string>(job.line(" show  01 ")) == std::get<std::string>(job.show(1)));
+    CHECK(std::get<std::string>(job.line("show " + std::string((1 << 17) - 6, '0') + "1")) == std::get<std::string>(job.show(1)));
+    CHECK(is(job.line("show 18446744073709551615"), ckpt::error::no_such_record));
     CHECK(std::holds_alternative<ckpt::skipped>(job.line("# a comment")) && std::holds_alternative<ckpt::skipped>(job.line("")));
     CHECK(is(job.line("tick"), ckpt::error::line_missing) && is(job.line("start 7"), ckpt::error::line_no_call));
     CHECK(is(job.line("tick x"), ckpt::error::line_number) && is(job.line("Tick 1"), ckpt::error::line_word));

@@ -4,7 +4,7 @@ librelkvanu.so.0 is looked for in the folder that RELKVANU_LIB names, else besid
 where the system's loader looks. docs/RULES.md says what each call does, and when it is refused.
 """
 from relkvanu import lines
-from relkvanu.coordinator import BadArgument, BadLine, Closed, Coordinator, OutOfMemory, Refused, Settings, version
+from relkvanu.coordinator import BadArgument, BadLine, Closed, Coordinator, OutOfMemory, Refused, Settings, TooShort, version
 from relkvanu.discarder import Discarded, Discarder, Patience
 from relkvanu.reads import Chosen, FileCounts, Kind, Live, Mode, Standing
 from relkvanu.replies import (
@@ -17,6 +17,6 @@ __all__ = [
     "AckCompleted", "AckLate", "AckPending", "BadArgument", "BadLine", "Cancelled", "Chosen", "Closed", "Coordinator", "Counted",
     "DeclineAborted", "DeclineFailed", "DeclineLate", "Deleted", "Discarded", "Discarder", "Disposed", "Failed", "FileCounts", "HeldAtOnce",
     "HeldInterval", "HeldPause", "Kind", "Live", "Mode", "OutOfMemory", "Patience", "Refused", "Reply", "RestoredCheckpoint",
-    "RestoredFresh", "RestoredSavepoint", "SavepointTriggered", "Settings", "Shown", "Standing", "Taken", "Triggered", "Undeleted",
+    "RestoredFresh", "RestoredSavepoint", "SavepointTriggered", "Settings", "Shown", "Standing", "Taken", "TooShort", "Triggered", "Undeleted",
     "lines", "version",
 ]

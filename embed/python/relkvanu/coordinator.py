@@ -6,7 +6,7 @@ import pathlib
 import secrets
 import threading
 from dataclasses import dataclass
-from typing import Any, Callable, Iterator, Optional, Sequence, Tuple
+from typing import Any, Callable, Iterator, Optional, Sequence, Tuple, Union
 
 from relkvanu import header
 from relkvanu.reads import CHOSEN, LIVE, Chosen, FileCounts, Live, Mode, Standing
@@ -28,6 +28,7 @@ ARGUMENTS = {
     header.BAD_SHAPE: "BadShape",
     header.BAD_MOMENT: "BadMoment",
     header.BAD_FIRST: "BadFirst",
+    header.BAD_KIND: "BadKind",
     header.BAD_IMAGE: "BadImage",
 }
 
@@ -57,6 +58,14 @@ class BadLine(ValueError):
     def __init__(self, name: str) -> None:
         super().__init__(name)
         self.name = name
+
+
+class TooShort(ValueError):
+    """A take line would fetch `places` files, more than it may. Nothing has changed."""
+
+    def __init__(self, places: int) -> None:
+        super().__init__(f"the line would fetch {places} files")
+        self.places = places
 
 
 class OutOfMemory(MemoryError):
@@ -169,6 +178,15 @@ def _written(write: Callable[[Any, int], Any]) -> str:
         length = answer.a
 
 
+def _shown(line: bytes) -> Optional[int]:
+    """The record of a show line, or None of a take line. The library has read the line. It reads the number of a job line, which
+    has its own where a show line has that of the record."""
+    job = line.replace(b"show", b"job", 1)
+    number = U64()
+    answer = _done(_shared().relkvanu_line_says(_text(job), len(job), ctypes.byref(number), 1))
+    return number.value if answer.what == header.LINE_JOB else None
+
+
 def _live(answer: header.relkvanu_answer) -> Optional[Live]:
     live = _done(answer)
     return Live(live.a, LIVE[live.what], live.b == 1) if live.what in LIVE else None
@@ -197,10 +215,10 @@ class Coordinator:
         _done(self._call("open", ctypes.byref(values), _words(shape), len(shape), _u64(now), _u64(first), *_keys()))
 
     @classmethod
-    def open_saved(cls, image: str) -> "Coordinator":
+    def open_saved(cls, image: Union[str, bytes]) -> "Coordinator":
         """Opens the coordinator that an image describes, which save() returned (docs/IMAGE.md). It answers every list of calls as
         the one that was saved. Raises BadArgument if the text is no image, or no coordinator can be in the state that it tells."""
-        text = image.encode()
+        text = image.encode() if isinstance(image, str) else image
         opened = cls.__new__(cls)
         opened._begin()
         _done(opened._call("open_saved", _text(text), len(text), *_keys()))
@@ -316,7 +334,7 @@ class Coordinator:
     def line(self, line: bytes, most: int = 4096) -> Optional[Reply]:
         """Makes the call of a script's line (docs/SCRIPT.md): the bytes before its newline. Returns None if it has no words or is a
         comment. Raises BadLine if it can't be read or makes no call, and what the call raises. A take line fetches at most
-        `most` files. If it would fetch more, it raises ValueError, and nothing has changed."""
+        `most` files. If it would fetch more, it raises TooShort, and nothing has changed."""
         files = (U64 * max(_u64(most), 1))()
         text = _text(line)
         with self._lock:
@@ -324,10 +342,10 @@ class Coordinator:
             self._lock.notify_all()
             answer = self._call("line", text, len(line), files, most)
             if answer.code == header.TOO_SHORT:
-                words = line.split()
-                if words[0] == b"show":  # the library has read it, so the other word is the record's number
-                    return self.show(int(words[1].lstrip(b"0") or b"0"))
-                raise ValueError(f"the line would fetch {answer.a} files")
+                shown = _shown(line)
+                if shown is not None:
+                    return self.show(shown)
+                raise TooShort(answer.a)
         if _done(answer).what == header.SKIPPED:
             return None
         return Taken(tuple(files[: answer.a])) if answer.what == header.TAKEN else MADE[answer.what](answer.a, answer.b)

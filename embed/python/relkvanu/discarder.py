@@ -1,9 +1,10 @@
 """Threads that delete the files that no record uses any more."""
+import contextlib
 import threading
 from dataclasses import dataclass
 from typing import Callable, List, Tuple
 
-from relkvanu.coordinator import Closed, Coordinator, OutOfMemory
+from relkvanu.coordinator import Closed, Coordinator, OutOfMemory, Refused
 
 
 @dataclass(frozen=True)
@@ -20,6 +21,8 @@ class Patience:
     def __post_init__(self) -> None:
         if min(self.threads, self.batch, self.attempts) < 1:
             raise ValueError("threads, batch and attempts are at least 1")
+        if min(self.first_wait, self.longest_wait, self.idle) < 0:
+            raise ValueError("no time is negative")
 
 
 @dataclass(frozen=True)
@@ -37,7 +40,11 @@ class Discarder:
 
     `delete` deletes the file with a number, or raises OSError. Several threads call it at once, each with another file, and
     none holds the coordinator's lock. A file that does not exist (FileNotFoundError) counts as deleted, since a repeated
-    acknowledgement that comes late may hand out a deleted file again.
+    acknowledgement that comes late may hand out a deleted file again. So for a storage that is not there at all, such as one that
+    is not mounted, `delete` has to raise another OSError.
+
+    If `delete` raises anything but OSError, its thread ends, and the files that the thread had fetched wait again. If the
+    coordinator is closed first, the threads end, and nothing is reported any more.
     """
 
     def __init__(self, coordinator: Coordinator, delete: Callable[[int], object], patience: Patience = Patience()) -> None:
@@ -46,6 +53,7 @@ class Discarder:
         self._lock = threading.Lock()  # of what is counted
         self._deleted = self._failed = 0
         self._given_up: List[int] = []
+        self._reported = 0  # of these, so many wait again
         self._threads = [threading.Thread(target=self._run, name="relkvanu-discarder", daemon=True) for _ in range(patience.threads)]
         for thread in self._threads:
             thread.start()
@@ -61,12 +69,11 @@ class Discarder:
         for thread in self._threads:
             thread.join()
         self._threads = []
-        told = self.told()
         with self._lock:
-            left, self._given_up = self._given_up, []
+            left, self._reported = self._given_up[self._reported :], len(self._given_up)
         for file in left:
-            self._coordinator.undeleted(file)
-        return told
+            self._report(self._coordinator.undeleted, file)
+        return self.told()
 
     def __enter__(self) -> "Discarder":
         return self
@@ -87,13 +94,18 @@ class Discarder:
             self._discard(list(files))
 
     def _discard(self, files: List[int]) -> None:
-        """Tries files until each is deleted or given up, or the discarder is stopped. Those that are left wait again. If
-        `delete` raises something else than OSError, that ends the thread, and its files wait again too."""
+        """Tries files until each is deleted or given up, or the discarder is stopped. Those that are left wait again."""
         try:
             self._try(files)
         finally:
             for file in files:
-                self._coordinator.undeleted(file)
+                self._report(self._coordinator.undeleted, file)
+
+    def _report(self, report: Callable[[int], object], file: int) -> None:
+        """Reports a file that was fetched here. It is refused only if somebody else has reported it, and then there is nothing to
+        do."""
+        with contextlib.suppress(Closed, Refused):
+            report(file)
 
     def _try(self, files: List[int]) -> None:
         """Removes the files that are deleted or given up from the list."""
@@ -119,7 +131,7 @@ class Discarder:
             with self._lock:
                 self._failed += 1
             return False
-        self._coordinator.deleted(file)
+        self._report(self._coordinator.deleted, file)
         with self._lock:
             self._deleted += 1
         return True

@@ -68,7 +68,24 @@ class Calls(unittest.TestCase):
         with job:
             pass
         job.close()
-        self.assertRaises(Closed, job.tick, 1000)
+        for call in (
+            lambda: job.tick(1000),
+            lambda: job.savepoint(1000),
+            lambda: job.ack(1000, 1, 0, 0, [1]),
+            lambda: job.decline(1000, 1, 0, 0),
+            lambda: job.dispose(1),
+            lambda: job.restore(1000),
+            lambda: job.restore(1000, None, [2]),
+            lambda: job.cancel(1000),
+            lambda: job.take(1),
+            lambda: job.deleted(1),
+            lambda: job.undeleted(1),
+            lambda: job.show(1),
+            lambda: job.count(1),
+            lambda: job.save(),
+            lambda: job.line(b"tick 1000"),
+        ):
+            self.assertRaises(Closed, call)
 
     def test_a_job_is_opened_anew_from_its_last_checkpoint(self):
         with Coordinator(SETTINGS, [2], 0) as job:

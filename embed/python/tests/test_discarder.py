@@ -1,9 +1,11 @@
 """The discarder's threads, and what a timer waits for."""
+import pathlib
+import tempfile
 import threading
 import time
 import unittest
 
-from relkvanu import Cancelled, Coordinator, Discarded, Discarder, FileCounts, HeldAtOnce, Patience, Refused, Settings, Triggered, version
+from relkvanu import Cancelled, Closed, Coordinator, Discarded, Discarder, FileCounts, HeldAtOnce, Patience, Refused, Settings, Triggered, version
 
 SETTINGS = Settings(interval=1000, timeout=5000)
 QUICK = Patience(batch=4, attempts=3, first_wait=0.001, longest_wait=0.004, idle=0.001)
@@ -67,8 +69,68 @@ class Discarding(unittest.TestCase):
         finally:
             threading.excepthook = hook
 
+    def test_a_delete_that_fails_for_ever_is_given_up_and_told(self):
+        def fails(file):
+            raise PermissionError
+
+        with cancelled(self) as job:
+            discarder = Discarder(job, fails, QUICK)
+            wait_for(lambda: len(discarder.told().given_up) == 20)
+            self.assertEqual(job.file_counts(), FileCounts(0, 0, 20))
+            told = discarder.stop()
+            self.assertEqual((told.deleted, told.failed, sorted(told.given_up)), (0, 60, [*range(1, 21)]))
+            self.assertEqual((discarder.stop(), discarder.told()), (told, told))
+            self.assertEqual(job.file_counts(), FileCounts(0, 20, 0), "each waits again, once")
+            with Discarder(job, lambda file: None, QUICK) as discarder:
+                wait_for(lambda: discarder.told() == Discarded(20, 0, ()))
+            self.assertEqual(job.file_counts(), FileCounts(0, 0, 0))
+
+    def test_a_folder_that_is_gone(self):
+        with tempfile.TemporaryDirectory() as name:
+            gone, no_folder = pathlib.Path(name, "gone"), pathlib.Path(name, "file")
+            no_folder.write_text("")
+            with cancelled(self) as job, Discarder(job, lambda file: (gone / str(file)).unlink(), QUICK) as discarder:
+                wait_for(lambda: discarder.told() == Discarded(20, 0, ()))
+            with cancelled(self) as job, Discarder(job, lambda file: (no_folder / str(file)).unlink(), QUICK) as discarder:
+                wait_for(lambda: len(discarder.told().given_up) == 20)
+                self.assertEqual(discarder.told().deleted, 0)
+
+    def test_a_coordinator_that_is_closed_first_ends_the_threads(self):
+        faults = []
+        hook, threading.excepthook = threading.excepthook, faults.append
+        try:
+            job = cancelled(self)
+            is_deleting, is_closed = threading.Event(), threading.Event()
+
+            def delete(file):
+                is_deleting.set()
+                is_closed.wait(30)
+                raise PermissionError
+
+            discarder = Discarder(job, delete, QUICK)
+            is_deleting.wait(30)
+            job.close()
+            is_closed.set()
+            discarder.stop()
+            self.assertRaises(Closed, job.take, 1)
+        finally:
+            threading.excepthook = hook
+        self.assertEqual(faults, [])
+
+    def test_a_file_that_somebody_else_reports(self):
+        def fails(file):
+            raise PermissionError
+
+        with cancelled(self) as job:
+            discarder = Discarder(job, fails, QUICK)
+            wait_for(lambda: len(discarder.told().given_up) == 20)
+            job.deleted(1)  # by hand
+            discarder.stop()
+            self.assertEqual(job.file_counts(), FileCounts(0, 19, 0))
+
     def test_patience_has_limits(self):
         self.assertRaises(ValueError, Patience, attempts=0)
+        self.assertRaises(ValueError, Patience, idle=-1)
 
 
 class Waiting(unittest.TestCase):

@@ -59,7 +59,13 @@ class Reads(unittest.TestCase):
             self.assertEqual((records(again), again.save()), (records(job), job.save()))
 
     def test_a_text_that_is_no_image_opens_nothing(self):
-        for text in ("", "{}", '{"version": 1}'):
+        with with_checkpoint_3() as job:
+            image = job.save().encode()
+        Coordinator.open_saved(image).close()
+        cut = [image[:end] for end in range(len(image))]
+        # a record that no coordinator has given out yet, and files that are in use and wait
+        damaged = [image.replace(b'"next":4', b'"next":3'), image.replace(b'"waiting":[2,3]', b'"waiting":[1,3]')]
+        for text in (b"{}", b'{"version": 1}', b"\xff", image + b"x", *cut, *damaged):
             with self.assertRaises(BadArgument) as raised:
                 Coordinator.open_saved(text)
             self.assertEqual(raised.exception.name, "BadImage")
@@ -124,7 +130,11 @@ class Reads(unittest.TestCase):
     def test_a_closed_one_tells_nothing(self):
         job = Coordinator(SETTINGS, [1], 0)
         job.close()
-        for read in (job.mode, job.due, job.oldest_expiry, job.choice, lambda: job.live(0), lambda: job.missing(1), job.file_counts):
+        for read in (
+            job.mode, job.due, job.oldest_expiry, job.choice, lambda: job.live(0), lambda: job.missing(1), job.file_counts,
+            lambda: job.live_from(0), lambda: job.standing(1), lambda: job.files_of(1, 0, 0), lambda: job.pins_of(1),
+            lambda: job.waiting_file(0), job.taken_files, lambda: job.next_tick(None),
+        ):
             self.assertRaises(Closed, read)
 
 

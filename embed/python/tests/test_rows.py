@@ -8,8 +8,8 @@ import unittest
 
 from relkvanu import (
     AckCompleted, AckLate, AckPending, BadArgument, BadLine, Cancelled, Coordinator, Counted, DeclineAborted, DeclineFailed,
-    DeclineLate, Deleted, Disposed, Failed, HeldAtOnce, HeldInterval, HeldPause, Refused, RestoredCheckpoint,
-    RestoredFresh, RestoredSavepoint, SavepointTriggered, Settings, Shown, Taken, Triggered, Undeleted, lines,
+    DeclineLate, Deleted, Disposed, Failed, FileCounts, HeldAtOnce, HeldInterval, HeldPause, Refused, RestoredCheckpoint,
+    RestoredFresh, RestoredSavepoint, SavepointTriggered, Settings, Shown, Taken, TooShort, Triggered, Undeleted, lines,
 )
 
 ROWS = pathlib.Path(__file__).resolve().parents[3] / "examples/rows"
@@ -107,12 +107,18 @@ class Lines(unittest.TestCase):
         with Coordinator(settings, [1, 2], 7) as job:
             self.assertEqual(job.line(b"tick 2000"), Triggered(0, 1))
             self.assertEqual(job.line(b"ack 2000 1 0.0 +1 +2\r"), AckPending(2))
+            longest = b"show " + b"0" * ((1 << 17) - 6) + b"1"
+            self.assertEqual([job.line(line).files for line in (b" show  01 ", longest)], 2 * [{(0, 0): (1, 2)}])
+            self.assertRaises(Refused, job.line, b"show 18446744073709551615")
             self.assertEqual(job.line(b"cancel 2000"), Cancelled(1, 2))
-            self.assertRaises(ValueError, job.line, b"take 9", 1)
+            with self.assertRaises(TooShort) as raised:
+                job.line(b"take 9", 1)
+            self.assertEqual((raised.exception.places, job.file_counts()), (2, FileCounts(0, 2, 0)))
             self.assertEqual(job.line(b"take 9", 2), Taken((1, 2)))
             self.assertIsNone(job.line(b"# a comment"))
             self.assertIsNone(job.line(b""))
-            for line, name in ((b"tick", "Missing"), (b"start 7", "NoCall"), (b"tick 1 2", "Extra"), (b"tick" + b" " * (1 << 17), "TooLong")):
+            faults = [(b"tick", "Missing"), (b"start 7", "NoCall"), (b"tick 1 2", "Extra"), (b"tick x", "Number"), (b"Tick 1", "Word")]
+            for line, name in [*faults, (b"tick" + b" " * (1 << 17), "TooLong")]:
                 with self.assertRaises(BadLine) as raised:
                     job.line(line)
                 self.assertEqual(raised.exception.name, name)

@@ -68,8 +68,9 @@ struct Shared {
 
 /// Threads that fetch files, delete them and report each. They run until [`stop`](Self::stop) or until this is dropped.
 ///
-/// A file is deleted outside the coordinator's lock. A file that does not exist counts as deleted, since a repeated
-/// acknowledgement that comes late may hand out a deleted file again.
+/// A file is deleted outside the coordinator's lock. A file that does not exist ([`io::ErrorKind::NotFound`]) counts as
+/// deleted, since a repeated acknowledgement that comes late may hand out a deleted file again. So for a storage that is
+/// not there at all, such as one that is not mounted, `delete` has to return another error.
 pub struct Discarder {
     shared: Arc<Shared>,
     threads: Vec<JoinHandle<()>>,

@@ -268,14 +268,17 @@ impl Call<'_> {
     }
 }
 
-/// The record of a show line. The library has read the line, so its digits are those of one number.
-fn shown_record(line: &[u8]) -> Option<u64> {
-    let word = line.iter().position(|byte| *byte != b' ')?;
-    let rest = line[word..].strip_prefix(b"show")?;
-    let digits = rest.iter().filter(|byte| byte.is_ascii_digit());
-    Some(digits.fold(0, |id: u64, digit| {
-        id.wrapping_mul(10).wrapping_add(u64::from(digit - b'0'))
-    }))
+/// The record of a show line, `None` of a take line. The library has read the line. It reads the number of a job line, which
+/// has its own where a show line has that of the record.
+fn shown_record(line: &[u8]) -> Result<Option<u64>, Fault> {
+    let Some(word) = line.windows(4).position(|word| word == b"show") else {
+        return Ok(None);
+    };
+    let job = [&line[..word], b"job", &line[word + 4..]].concat();
+    match Line::of(&job)? {
+        Line::Job(numbers) => Ok(numbers.first().copied()),
+        other => unreachable!("a show line is {other:?}"),
+    }
 }
 
 impl Coordinator {
@@ -295,10 +298,11 @@ impl Coordinator {
                 files.len(),
             )
         };
-        match (told.code, shown_record(line)) {
-            (sys::RELKVANU_TOO_SHORT, Some(id)) => return self.show(id).map(Said::Shown),
-            (sys::RELKVANU_TOO_SHORT, None) => return Err(Fault::TooShort { places: told.a }),
-            _ => {}
+        if told.code == sys::RELKVANU_TOO_SHORT {
+            return match shown_record(line)? {
+                Some(id) => self.show(id).map(Said::Shown),
+                None => Err(Fault::TooShort { places: told.a }),
+            };
         }
         let told = done(told)?;
         Ok(match told.what {

@@ -1,5 +1,5 @@
 //! The coordinator of one job, for any number of threads.
-use crate::answer::{Answer, Choice, FileCounts, Live, Mode};
+use crate::answer::{Answer, Choice, FileCounts, Live, Mode, Standing};
 use crate::coordinator::{Coordinator, Settings};
 use crate::fault::Fault;
 use crate::lines::Said;
@@ -110,7 +110,8 @@ impl SharedCoordinator {
     }
 }
 
-/// The calls and reads of [`Coordinator`], each under the lock.
+/// The calls and reads of [`Coordinator`], each under the lock. `next_tick` is not among them: it belongs to the tick before it, so
+/// both are made under one lock, by [`with`](Self::with).
 impl SharedCoordinator {
     pub fn tick(&self, now: u64) -> Called {
         self.with(|it| it.tick(now))
@@ -201,6 +202,30 @@ impl SharedCoordinator {
 
     pub fn live(&self, place: usize) -> Option<Live> {
         self.read(|it| it.live(place))
+    }
+
+    pub fn live_from(&self, id: u64) -> Option<Live> {
+        self.read(|it| it.live_from(id))
+    }
+
+    pub fn standing(&self, id: u64) -> Standing {
+        self.read(|it| it.standing(id))
+    }
+
+    pub fn files_of(&self, id: u64, subtask: (u16, u16)) -> Option<Vec<u64>> {
+        self.read(|it| it.files_of(id, subtask))
+    }
+
+    pub fn pins_of(&self, id: u64) -> Result<Vec<u64>, Fault> {
+        self.read(|it| it.pins_of(id))
+    }
+
+    pub fn waiting_file(&self, place: usize) -> Option<u64> {
+        self.read(|it| it.waiting_file(place))
+    }
+
+    pub fn taken_files(&self) -> Result<Vec<u64>, Fault> {
+        self.read(Coordinator::taken_files)
     }
 
     pub fn missing(&self, id: u64) -> Option<u64> {

@@ -1,7 +1,9 @@
 //! The rows of `examples/rows` that are lists of calls, through the crate: the library reads the lines.
 mod settings;
 
-use relkvanu::{opening_lines, Answer, Call, Coordinator, Fault, Line, LineFault, Said, Settings};
+use relkvanu::{
+    opening_lines, Answer, Call, Coordinator, Fault, Line, LineFault, Refusal, Said, Settings,
+};
 use settings::SETTINGS;
 use std::path::Path;
 
@@ -167,6 +169,13 @@ fn a_log_is_made_again() {
         job.line(b"ack 2000 1 0.0 +1 +2\r", &mut []),
         Ok(Said::Called(Answer::AckPending { missing: 2 }))
     );
+    let longest = [b"show ".as_slice(), &[b'0'; (1 << 17) - 6], b"1"].concat();
+    for line in [b" show  01 ".as_slice(), &longest] {
+        let shown = job.line(line, &mut []);
+        assert_eq!(shown, job.show(1).map(Said::Shown));
+    }
+    let unknown = Err(Fault::Refused(Refusal::NoSuchRecord));
+    assert_eq!(job.line(b"show 18446744073709551615", &mut []), unknown);
     assert_eq!(
         job.line(b"cancel 2000", &mut []),
         Ok(Said::Called(Answer::Cancelled {
@@ -179,14 +188,19 @@ fn a_log_is_made_again() {
         Err(Fault::TooShort { places: 2 })
     );
     assert_eq!(job.line(b"take 9", &mut [0, 0]), Ok(Said::Taken(&[1, 2])));
-    assert_eq!(
-        job.line(b"tick", &mut []),
-        Err(Fault::BadLine(LineFault::Missing))
-    );
-    assert_eq!(
-        job.line(b"start 7", &mut []),
-        Err(Fault::BadLine(LineFault::NoCall))
-    );
+    let longer = [b"tick".as_slice(), &[b' '; 1 << 17]].concat();
+    for (line, fault) in [
+        (b"tick".as_slice(), LineFault::Missing),
+        (b"tick x", LineFault::Number),
+        (b"tick 1 2", LineFault::Extra),
+        (b"Tick 1", LineFault::Word),
+        (b"start 7", LineFault::NoCall),
+        (&longer, LineFault::TooLong),
+    ] {
+        assert_eq!(job.line(line, &mut []), Err(Fault::BadLine(fault)));
+    }
+    let shape = Err(Fault::BadShape);
+    assert_eq!(job.line(b"restore 2000 latest 0", &mut []), shape);
 }
 
 #[test]

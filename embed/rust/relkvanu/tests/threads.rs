@@ -70,6 +70,51 @@ fn a_discarder_deletes_retries_and_gives_up() {
 }
 
 #[test]
+fn a_delete_that_fails_for_ever_is_given_up_and_told() {
+    let job = cancelled();
+    let fails = |_| Err(io::ErrorKind::PermissionDenied.into());
+    let discarder = Discarder::start(job.clone(), quick(3), fails).unwrap();
+    wait_for(|| discarder.told().given_up.len() == 20);
+    assert_eq!(job.file_counts(), counts(0, 20));
+    let mut told = discarder.stop();
+    told.given_up.sort();
+    assert_eq!((told.deleted, told.failed), (0, 60));
+    assert!(told.given_up.into_iter().eq(1..=20));
+    assert_eq!(job.file_counts(), counts(20, 0), "each waits again, once");
+    let discarder = Discarder::start(job.clone(), quick(3), |_| Ok(())).unwrap();
+    wait_for(|| discarder.told().deleted == 20);
+    assert_eq!(job.file_counts(), counts(0, 0));
+}
+
+#[test]
+fn a_folder_that_is_gone() {
+    let gone = std::env::temp_dir().join("relkvanu-there-is-no-such-folder");
+    let job = cancelled();
+    let delete = move |file: u64| std::fs::remove_file(gone.join(file.to_string()));
+    let discarder = Discarder::start(job.clone(), quick(3), delete).unwrap();
+    wait_for(|| discarder.told().deleted == 20);
+    assert_eq!(discarder.stop().failed, 0);
+    let no_folder = std::env::current_exe().unwrap();
+    let job = cancelled();
+    let delete = move |file: u64| std::fs::remove_file(no_folder.join(file.to_string()));
+    let discarder = Discarder::start(job.clone(), quick(3), delete).unwrap();
+    wait_for(|| discarder.told().given_up.len() == 20);
+    assert_eq!(discarder.stop().deleted, 0);
+    assert_eq!(job.file_counts(), counts(20, 0));
+}
+
+#[test]
+fn a_file_that_somebody_else_reports() {
+    let job = cancelled();
+    let fails = |_| Err(io::ErrorKind::PermissionDenied.into());
+    let discarder = Discarder::start(job.clone(), quick(3), fails).unwrap();
+    wait_for(|| discarder.told().given_up.len() == 20);
+    assert_eq!(job.deleted(1), Ok(Answer::Deleted(1)), "by hand");
+    discarder.stop();
+    assert_eq!(job.file_counts(), counts(19, 0));
+}
+
+#[test]
 fn a_discarder_that_is_stopped_leaves_no_file_taken() {
     let job = cancelled();
     let fails = |_| Err(io::ErrorKind::PermissionDenied.into());

@@ -1,0 +1,108 @@
+"""Memory that runs out, over a library whose heap refuses one request after the other (embed/c/refusing_heap.c): a call that does not go on
+without it says so and has changed nothing, and it is made again."""
+import ctypes
+import os
+import unittest
+
+from relkvanu import (
+    AckCompleted, AckPending, Cancelled, Coordinator, DeclineFailed, Deleted, OutOfMemory, RestoredCheckpoint, Settings,
+    Taken, Triggered, lines,
+)
+
+SETTINGS = Settings(interval=1000, at_once=2, timeout=5000)
+HEAP = ctypes.CDLL(os.path.join(os.environ["RELKVANU_LIB"], "librelkvanu.so.0"))
+HEAP.heap_refuse.argtypes = [ctypes.c_uint64]
+
+
+HEAP.heap_requests.restype = ctypes.c_uint64
+
+
+def requests_of(call):
+    """What it answers, and how often it asks for memory."""
+    HEAP.heap_refuse(0)
+    return call(), HEAP.heap_requests()
+
+
+def refused(nth, call):
+    """What it answers with that request refused; None where it says that it found no memory."""
+    HEAP.heap_refuse(nth)
+    try:
+        return call()
+    except OutOfMemory:
+        return None
+    finally:
+        HEAP.heap_refuse(0)
+
+
+class Memory(unittest.TestCase):
+    def told(self, job, call, reply, takes_memory=True):
+        """Makes the call of a coordinator; and of copies of it, each with another request refused."""
+        image, faults = job.save(), 0
+        answer, requests = requests_of(lambda: call(job))
+        for nth in range(1, requests + 1):
+            with Coordinator.open_saved(image) as copy:
+                told = refused(nth, lambda: call(copy))
+                if told is None:
+                    faults += 1
+                    self.assertEqual(copy.save(), image)
+                    told = call(copy)
+                self.assertEqual((told, copy.save()), (reply, job.save()), nth)
+        self.assertEqual((answer, faults > 0), (reply, takes_memory))
+        self.assertTrue(takes_memory or requests == 0)
+
+    def with_checkpoint_3(self, job):
+        self.told(job, lambda it: it.tick(1000), Triggered(expired=0, id=1))
+        self.told(job, lambda it: it.ack(1100, 1, 0, 0, [1, 2]), AckPending(missing=1))
+        job.savepoint(1200)
+        self.told(job, lambda it: it.ack(1300, 1, 0, 1, [3]), AckCompleted(dropped=0, released=0))
+        self.told(job, lambda it: it.tick(2000), Triggered(expired=0, id=3))
+        self.told(job, lambda it: it.ack(2100, 3, 0, 0, [4], [1]), AckPending(missing=1))
+        self.told(job, lambda it: it.ack(2100, 3, 0, 1, [5]), AckCompleted(dropped=1, released=2))
+
+    def test_calls(self):
+        with Coordinator(SETTINGS, [2], 0) as job:
+            self.with_checkpoint_3(job)
+            self.told(job, lambda it: it.restore(2200, None, [1, 3]), RestoredCheckpoint(id=3, released=0))
+            self.told(job, lambda it: it.take(1), Taken(files=(2,)))
+            self.told(job, lambda it: it.line(b"tick 3300"), Triggered(expired=0, id=4))
+            self.told(job, lambda it: it.line(b"ack 3300 4 0.0 +7 =1"), AckPending(missing=3))
+            self.told(job, lambda it: it.decline(3300, 4, 0, 0), DeclineFailed(released=1), takes_memory=False)
+            self.told(job, lambda it: it.cancel(3400), Cancelled(dropped=1, released=3), takes_memory=False)
+            self.told(job, lambda it: it.deleted(2), Deleted(file=2), takes_memory=False)
+
+    def test_texts_and_reads(self):
+        with Coordinator(SETTINGS, [2], 0) as job:
+            self.with_checkpoint_3(job)
+            job.take(1)
+            files = {(0, 0): (1, 4), (0, 1): (5,)}
+            self.told(job, lambda it: it.show(3).files, files)
+            self.told(job, lambda it: it.line(b"show 3").files, files)
+            self.told(job, lambda it: it.save(), job.save())
+            self.told(job, lambda it: it.taken_files(), (2,))
+            job.tick(3000)
+            self.told(job, lambda it: it.pins_of(4), (1, 4, 5))
+            self.told(job, lambda it: it.files_of(3, 0, 0), (1, 4), takes_memory=False)
+            self.told(job, lambda it: lines.ack_line(5, 1, 0, 0, [2], [1]), "ack 5 1 0.0 +2 =1")
+
+    def opens(self, make):
+        """Opens a coordinator, once with all memory and once with each request refused. Returns the first."""
+        job, requests = requests_of(make)
+        self.assertGreater(requests, 0)
+        faults = 0
+        for nth in range(1, requests + 1):
+            again = refused(nth, make)
+            faults += again is None
+            with again or make() as again:
+                self.assertEqual(again.save(), job.save())
+        self.assertGreater(faults, 0)
+        return job
+
+    def test_openings(self):
+        with self.opens(lambda: Coordinator(SETTINGS, [2], 0)) as job:
+            self.with_checkpoint_3(job)
+            with self.opens(lambda: Coordinator.open_saved(job.save())) as again:
+                self.assertEqual((again.save(), again.show(3).files), (job.save(), job.show(3).files))
+
+
+if __name__ == "__main__":
+    unittest.main()
