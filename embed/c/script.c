@@ -1,3 +1,4 @@
+/* Scripts by the library's own reader: see script.h. */
 #define _GNU_SOURCE
 #include "script.h"
 
