@@ -1,8 +1,8 @@
 /* The coordinator of a stream processor's checkpoints.
  *
- * Link librelkvanu.a, which `make` leaves in build and a release contains. It takes its memory from malloc, or from the three
- * functions of relkvanu_alloc.h where a program defines them. docs/EMBEDDING.md has worked examples. docs/RULES.md says what each
- * call does.
+ * Link librelkvanu.a, which `make` builds in build and a release contains. It takes its memory from malloc. If a program defines the
+ * three functions of relkvanu_alloc.h, it takes its memory from them. docs/EMBEDDING.md has worked examples. docs/RULES.md says what
+ * each call does.
  *
  * Conditions for the caller:
  * - A handle is all zero, or as the library last left it. Do not copy it or change its field.

@@ -3,8 +3,8 @@
  * namespace is ckpt, because C has the name relkvanu.
  *
  * Make one call or read at a time for each coordinator. A read takes the state out of its handle and puts it back, so reads
- * are not const. Threads share a coordinator under the engine's own mutex. Only std::bad_alloc is thrown: by what
- * answers a string or a list, and by messages.
+ * are not const. Threads share a coordinator under the engine's own mutex. Functions whose result has a string or a vector may
+ * throw std::bad_alloc. open and open_saved throw what std::random_device throws.
  */
 #ifndef RELKVANU_HPP
 #define RELKVANU_HPP
@@ -458,7 +458,7 @@ private:
         return std::variant<Coordinator, refused>(std::move(it));
     }
 
-    /* What a show line shows. The library reads the number of a job line, which has its own where a show line has that of the record. */
+    /* The JSON of a show line. The library reads the number of the record from a job line with the same number. */
     line_answer shown_by(std::string_view text) {
         std::string job(text);
         job.replace(job.find("show"), 4, "job");

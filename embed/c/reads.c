@@ -1,3 +1,4 @@
+/* The reads of a coordinator against the lines of a script: see reads.h. */
 #include "reads.h"
 
 #include "refusing_heap.h"

@@ -1,3 +1,4 @@
+/* A heap that refuses requests: see refusing_heap.h. */
 #include "refusing_heap.h"
 
 #include "../../include/relkvanu_alloc.h"

@@ -1,9 +1,8 @@
-/* rows SCRIPT WANTED: opens a coordinator as the script says, makes its calls, and compares each answer
- * with the lines of the file WANTED. The script has a config and a job line, a start line, and then calls alone, beside lines with
- * faults (docs/SCRIPT.md). Any other is not run: the status is 3.
- *
- * The script is run once with the reads compared after each line, once with all memory, and then once for each
- * request for memory, which is refused once: the call that wants it says so, and is made again. */
+/* rows SCRIPT WANTED: opens a coordinator as the script says, makes its calls, and compares each answer with the lines of
+ * the file WANTED. The script has a config and a job line, a start line, and after that only calls and lines with faults
+ * (docs/SCRIPT.md). No other script is run: the status is 3. The script is run once with the reads compared after each line,
+ * once with all memory, and then once for each request for memory, which is refused once. A call that runs out of memory
+ * returns so, and is made again. */
 #define _GNU_SOURCE
 #include "refusing_heap.h"
 #include "reads.h"
@@ -13,7 +12,7 @@
 #include <stdlib.h>
 #include <string.h>
 
-/* Tells what the line's call answers. It is made again where memory was refused: that happens once. */
+/* Makes the line's call and writes its answer. If memory was refused, which happens once, makes the call again. */
 static void obey(struct script *script, const char *line, size_t len, uint64_t number, FILE *told) {
     relkvanu_answer answer = script_line(script, line, len);
     if (answer.code == RELKVANU_NO_MEMORY) {
@@ -83,7 +82,7 @@ static bool is_list_of_calls(const char *path) {
     return part == CALLS;
 }
 
-/* Runs the script, and says whether it told what is wanted, as did the reads where they are to be compared. */
+/* Runs the script. Returns whether the answers are the expected ones, and the reads too if they are compared. */
 static bool runs(const char *path, const char *wanted, size_t wanted_len, struct reads *reads, uint64_t refused, uint64_t *requests) {
     static struct script script;
     char *text = NULL, *line = NULL;

@@ -1,3 +1,4 @@
+/* Scripts by the library's own reader: see script.h. */
 #define _GNU_SOURCE
 #include "script.h"
 
@@ -86,8 +87,8 @@ static relkvanu_answer show(struct script *script, uint64_t id, size_t bytes) {
     return relkvanu_show(&script->handle, id, script->json, script->json_len);
 }
 
-/* Shows the record of a show line, which needs so many bytes. The library has read the line. It reads the number of a job line, which
- * has its own where a show line has that of the record. */
+/* Shows the record of a show line, with a buffer of this many bytes. The library reads the number of the record from a job
+ * line with the same number. */
 static relkvanu_answer show_line(struct script *script, const char *line, size_t len, size_t bytes) {
     uint64_t id = 0;
     size_t before = (size_t)((const char *)memmem(line, len, "show", 4) - line), after = before + 4;

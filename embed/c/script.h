@@ -20,9 +20,9 @@ struct script {
     size_t json_len;
 };
 
-/* Does what a line says, which is given without its newline, and answers as the call does that it makes. A config, a job and a start
- * line answer RELKVANU_OPENED, or RELKVANU_BAD_ARGUMENT; a line without a call RELKVANU_SKIPPED; one with a fault, and an `all` line,
- * RELKVANU_BAD_LINE. A call that found no memory can be made again by the same line. */
+/* Runs a line, which is given without its newline, and returns the answer of its call. A config, a job and a start line
+ * return RELKVANU_OPENED or RELKVANU_BAD_ARGUMENT; a line without a call RELKVANU_SKIPPED; a line with a fault, and an `all`
+ * line, RELKVANU_BAD_LINE. After RELKVANU_NO_MEMORY run the same line again. */
 relkvanu_answer script_line(struct script *script, const char *line, size_t len);
 
 /* Writes the answer of the last line, which has this number, as it is printed; nothing for an opening and a line without a call. */

@@ -1,3 +1,4 @@
+/* The checks at the end of a run: see check.h. */
 #define _GNU_SOURCE
 #include "check.h"
 

@@ -1,3 +1,4 @@
+/* What all parts of the engine share: see common.h. */
 #define _GNU_SOURCE
 #include "common.h"
 

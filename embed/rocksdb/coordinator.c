@@ -1,3 +1,4 @@
+/* The coordinator behind a lock, with a log: see coordinator.h. */
 #define _GNU_SOURCE
 #include "coordinator.h"
 

@@ -1,3 +1,4 @@
+/* The thread that deletes files: see discarder.h. */
 #define _GNU_SOURCE
 #include "discarder.h"
 #include "storage.h"

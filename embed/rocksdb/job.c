@@ -1,3 +1,4 @@
+/* The job: its source, tasks, timer and failures: see job.h. */
 #define _GNU_SOURCE
 #include "job.h"
 #include "stream.h"

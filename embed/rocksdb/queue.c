@@ -1,3 +1,4 @@
+/* The queue of a task: see queue.h. */
 #include "queue.h"
 
 #include <string.h>

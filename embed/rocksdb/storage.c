@@ -1,3 +1,4 @@
+/* The storage folder: see storage.h. */
 #define _GNU_SOURCE
 #include "storage.h"
 

@@ -1,3 +1,4 @@
+/* The state of a task in a RocksDB: see store.h. */
 #include "store.h"
 #include "stream.h"
 

@@ -1,3 +1,4 @@
+/* The stream: see stream.h. */
 #include "stream.h"
 
 #include <string.h>

@@ -1,3 +1,4 @@
+/* The thread of a task: see task.h. */
 #define _GNU_SOURCE
 #include "task.h"
 

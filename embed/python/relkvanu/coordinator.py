@@ -133,7 +133,7 @@ def _words(values: Sequence[int]) -> Any:
 
 
 def _text(text: bytes) -> Any:
-    """The bytes, or one where there is none, as no pointer may be null."""
+    """The bytes, or one byte if there is none, because no pointer may be null."""
     return (ctypes.c_uint8 * max(len(text), 1)).from_buffer_copy(text or b" ")
 
 
@@ -179,8 +179,7 @@ def _written(write: Callable[[Any, int], Any]) -> str:
 
 
 def _shown(line: bytes) -> Optional[int]:
-    """The record of a show line, or None of a take line. The library has read the line. It reads the number of a job line, which
-    has its own where a show line has that of the record."""
+    """The record of a show line, or None for a take line. The library reads the number from a job line with the same number."""
     job = line.replace(b"show", b"job", 1)
     number = U64()
     answer = _done(_shared().relkvanu_line_says(_text(job), len(job), ctypes.byref(number), 1))
@@ -217,7 +216,7 @@ class Coordinator:
     @classmethod
     def open_saved(cls, image: Union[str, bytes]) -> "Coordinator":
         """Opens the coordinator that an image describes, which save() returned (docs/IMAGE.md). It answers every list of calls as
-        the one that was saved. Raises BadArgument if the text is no image, or no coordinator can be in the state that it tells."""
+        the saved one would. Raises BadArgument if the text is not an image, or if no coordinator can be in the state of the image."""
         text = image.encode() if isinstance(image, str) else image
         opened = cls.__new__(cls)
         opened._begin()

@@ -268,8 +268,8 @@ impl Call<'_> {
     }
 }
 
-/// The record of a show line, `None` of a take line. The library has read the line. It reads the number of a job line, which
-/// has its own where a show line has that of the record.
+/// The record of a show line, `None` for a take line. The library reads the number from a job line with the same
+/// number.
 fn shown_record(line: &[u8]) -> Result<Option<u64>, Fault> {
     let Some(word) = line.windows(4).position(|word| word == b"show") else {
         return Ok(None);

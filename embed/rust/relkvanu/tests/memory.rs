@@ -12,7 +12,7 @@ extern "C" {
     fn heap_requests() -> u64;
 }
 
-/// Makes a call with its nth request for memory refused, or none where that is 0. Returns how often it asked, too.
+/// Makes a call with its nth request for memory refused, or none if n is 0. Also returns how many requests there were.
 fn refused<T>(nth: u64, call: impl FnOnce() -> T) -> (T, u64) {
     // SAFETY: the functions take any number, and this is the only thread that uses the heap.
     unsafe { heap_refuse(nth) };

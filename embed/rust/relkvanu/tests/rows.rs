@@ -25,7 +25,8 @@ fn row(path: &Path) -> Row {
     }
 }
 
-/// Opens the job as the config, job and start lines of a row say; none where it has not one of each, then calls alone.
+/// Opens the job as the config, job and start lines of a row say. `None` if the row does not have one of each and then
+/// only calls.
 fn opened(lines: &[Vec<u8>]) -> Option<Coordinator> {
     let says: Vec<Line> = lines
         .iter()
