@@ -18,7 +18,7 @@ HERE = pathlib.Path(__file__).resolve().parent
 PLACES: List[Optional[Place]] = [*Place, None]  # None: from outside
 OF_A_CUT = {Place.HALF_A_LOG, Place.AFTER_A_LOG, Place.AFTER_A_RENAME, Place.AFTER_A_CUT}
 MOST_CALLS, MOST_CUTS, MOST_SECONDS = 120, 2, 8.0
-LONGEST = 180  # seconds, on a busy machine
+LONGEST = 300  # seconds, on a busy machine
 LIBC = ctypes.CDLL(None)
 PR_SET_PDEATHSIG, PR_SET_CHILD_SUBREAPER = 1, 36
 
