@@ -236,7 +236,8 @@ impl Coordinator {
     }
 }
 
-/// Reads. None changes anything. Only [`show`](Self::show) and [`count`](Self::count) can fail.
+/// Reads. None changes anything. [`show`](Self::show), [`save`](Self::save), [`pins_of`](Self::pins_of) and
+/// [`taken_files`](Self::taken_files) may run out of memory, and `show` may be refused. No other fails.
 impl Coordinator {
     /// The handle for a read. A read takes the state out and puts it back, so the handle has to be writable, though
     /// nothing changes.
