@@ -55,8 +55,9 @@ pub struct CallFields {
     /// 1 to 12: tick, savepoint, ack, decline, dispose, restore, cancel, take, deleted, undeleted, show,
     /// count.
     pub kind: u32,
-    /// The subtask of an ack or a decline.
+    /// The vertex of the subtask of an ack or a decline.
     pub vertex: u16,
+    /// The subtask's index in its vertex.
     pub index: u16,
     /// The moment, in milliseconds, of a call that has one.
     pub now: u64,

@@ -15,6 +15,7 @@ use std::marker::Model;
 pub struct Entry {
     /// The number that the caller goes by. The book takes whatever it is given.
     pub seat: u32,
+    /// The call as it was made.
     pub call: Call,
 }
 

@@ -10,7 +10,9 @@ use std::marker::Model;
 ///
 /// It is not dropped by itself: make it a box again with [`RawBox::into_box`].
 pub struct RawBox<T, A: Allocator> {
+    /// Where the value is.
     pub at: *mut T,
+    /// The allocator of the box, which frees it.
     pub alloc: A,
     /// The value at `at`.
     pub ghost value: { T },
