@@ -1,11 +1,12 @@
 """A cluster on the loopback: a scheduler, and worker processes that can be killed."""
+import itertools
 import os
 import pathlib
 import subprocess
 import sys
 import tempfile
 import time
-from typing import Any, Callable, List, Set
+from typing import Any, Callable, Dict, List
 
 import dask
 from distributed import Client, LocalCluster
@@ -23,24 +24,28 @@ def wait_for(condition: Callable[[], Any]) -> None:
         time.sleep(0.005)
 
 
-def addresses(client: Client) -> Set[str]:
-    """Of the workers that the scheduler knows."""
-    return set(client.scheduler_info()["workers"])
+def addresses(client: Client) -> Dict[str, str]:
+    """Of the workers that the scheduler knows, by their names."""
+    return {worker["name"]: address for address, worker in client.scheduler_info()["workers"].items()}
 
 
 class Worker:
-    """A worker process, and its address."""
+    """A worker process, and its address once the scheduler knows it."""
 
-    def __init__(self, client: Client, scheduler: str, folder: str) -> None:
-        before = addresses(client)
-        command = ["-m", "distributed.cli.dask_worker", scheduler, "--no-nanny", "--no-dashboard", "--nthreads", "1"]
+    numbers = itertools.count()
+
+    def __init__(self, scheduler: str, folder: str) -> None:
+        self.name, self.address = f"worker-{next(self.numbers)}", ""
+        command = ["-m", "distributed.cli.dask_worker", scheduler, "--name", self.name, "--no-nanny", "--no-dashboard", "--nthreads", "1"]
         command += ["--host", "127.0.0.1", "--memory-limit", "0", "--local-directory", folder, "--death-timeout", "60"]
         environment = {**os.environ, "PYTHONPATH": str(HERE)}
         self.process = subprocess.Popen(
             [sys.executable, *command], env=environment, stdout=subprocess.DEVNULL, stderr=subprocess.DEVNULL
         )
-        wait_for(lambda: addresses(client) - before)
-        (self.address,) = addresses(client) - before
+
+    def wait(self, client: Client) -> None:
+        wait_for(lambda: self.name in addresses(client))
+        self.address = addresses(client)[self.name]
 
     def has_ended(self, within: float = 0) -> bool:
         """Whether the process has ended, or ends within so many seconds."""
@@ -64,17 +69,19 @@ class Cluster:
         )
         self.client = Client(self.scheduler)
         self.workers: List[Worker] = []
-        for _ in range(workers):
-            self.start_worker()
+        self.start_workers(workers)
 
-    def start_worker(self) -> None:
-        self.workers.append(Worker(self.client, self.scheduler.scheduler_address, self.folder.name))
+    def start_workers(self, count: int) -> None:
+        started = [Worker(self.scheduler.scheduler_address, self.folder.name) for _ in range(count)]
+        for worker in started:
+            worker.wait(self.client)
+        self.workers += started
 
     def kill_worker(self, worker: Worker) -> None:
         """Kills it, and waits until the scheduler has seen its end."""
         worker.kill()
         self.workers.remove(worker)
-        wait_for(lambda: worker.address not in addresses(self.client))
+        wait_for(lambda: worker.name not in addresses(self.client))
 
     def __enter__(self) -> "Cluster":
         return self

@@ -1,5 +1,5 @@
-"""job.py [OPTIONS] SECONDS [SEED]: a keyed count as actors on worker processes. The coordinator is in the driver, or a service that
---service names, which may be killed and started again meanwhile.
+"""job.py [OPTIONS] SECONDS [SEED]: a keyed count as actors on worker processes. The coordinator is in the driver, which keeps a log, and
+goes on where a driver before it was killed; or in a service that --service names, which may be killed and started again meanwhile.
 
 The job has three vertices of different parallelism, each of which reads the whole stream and counts its part of the keys. A
 worker process is killed in the middle of a checkpoint, again and again: in turn the driver declines for the lost task, or the
@@ -12,7 +12,6 @@ import json
 import os
 import pathlib
 import random
-import sys
 import tempfile
 import threading
 import time
@@ -27,6 +26,7 @@ from stream import PARTITIONS, VERTICES, State, counted, read
 WORKERS, LARGE, SMALL = 3, (2, 6, 3), (2, 4, 3)  # worker processes, and the larger and the smaller shape of the job
 SETTINGS = {"interval": 200, "timeout": 4000, "tolerable": 0, "retained": 2}  # milliseconds
 BATCH = 20
+COMPLETED = 3  # checkpoints between two failures
 
 
 class Job:
@@ -37,20 +37,23 @@ class Job:
         self.chance = random.Random(seed)
         self.lock = threading.RLock()  # of the channels and what is counted; the coordinator has its own
         self.channels: List[Channel] = []
-        self.next_file = 1
+        self.next_file = coordinator.files_end
         self.stream = threading.Lock()  # of what is put: a barrier comes behind the same records in each queue
         self.ends = dict.fromkeys(range(PARTITIONS), 0)  # the source's offsets
         self.cuts: Dict[int, Dict[int, int]] = {}  # those at the barriers of a record
         self.replies: "Counter[str]" = Counter()
         self.kills = 0
-        self.has_failed, self.has_completed, self.is_over = threading.Event(), threading.Event(), threading.Event()
+        self.has_failed, self.is_over = threading.Event(), threading.Event()
+        self.completed = 0  # checkpoints since the tasks were started
         self.threads = [threading.Thread(target=loop, args=(self,), daemon=True) for loop in (coordinator.run, source)]
+        coordinator.recover(storage)  # before the discarder fetches anything
         patience = Patience(batch=16, attempts=100, first_wait=0.01, longest_wait=0.05, idle=0.02)
         self.discarder = Discarder(self.coordinator, self.discard, patience)
 
     def new_files(self, most: int) -> Sequence[int]:
         with self.lock:
             self.next_file += most
+            self.coordinator.reserve(self.next_file)
             return range(self.next_file - most, self.next_file)
 
     def path(self, file: int) -> pathlib.Path:
@@ -81,9 +84,8 @@ class Job:
     def note(self, reply: Reply) -> None:
         with self.lock:
             self.replies[type(reply).__name__] += 1
-        if isinstance(reply, AckCompleted):
-            self.has_completed.set()
-        elif isinstance(reply, (DeclineFailed, Failed)):
+            self.completed += isinstance(reply, AckCompleted)
+        if isinstance(reply, (DeclineFailed, Failed)):
             self.has_failed.set()
 
     def ack(self, id: int, subtask: Tuple[int, int], fresh: Sequence[int], reused: Sequence[int]) -> Reply:
@@ -115,15 +117,23 @@ class Job:
             reply = self.called(self.coordinator.restore, shape)
             files = self.coordinator.files(reply.id) if isinstance(reply, RestoredCheckpoint) else {}
             self.has_failed.clear()
-            self.has_completed.clear()
+            self.completed = 0
             channels = self.channels_of(shape, files)
-            ends = self.cuts[reply.id] if isinstance(reply, RestoredCheckpoint) else dict.fromkeys(range(PARTITIONS), 0)
+            ends = self.ends_of(reply, channels)
             for channel in channels:
                 assert channel.ends == {p: ends[p] for p in channel.partitions}, "not the states at the barriers"
             with self.stream:
                 self.channels, self.ends = channels, dict(ends)
             for channel in channels:
                 channel.start()
+
+    def ends_of(self, reply: Reply, channels: Sequence[Channel]) -> Dict[int, int]:
+        """The source's offsets at the barriers of the record that the job begins from. Of one of an earlier driver they are what the
+        states of one vertex tell."""
+        if not isinstance(reply, RestoredCheckpoint):
+            return dict.fromkeys(range(PARTITIONS), 0)
+        of_a_vertex = {p: end for channel in channels if channel.subtask[0] == 0 for p, end in channel.ends.items()}
+        return self.cuts.get(reply.id, of_a_vertex)
 
     def stop_tasks(self) -> None:
         """After this no task does anything, nor does any thread of one."""
@@ -137,9 +147,9 @@ class Job:
         self.start_tasks(shape)
 
     def complete(self, shape: Sequence[int]) -> None:
-        """Waits until a checkpoint is complete since the tasks were started. Where the job failed, it is restored."""
-        while not self.has_completed.is_set():
-            wait_for(lambda: self.has_completed.is_set() or self.has_failed.is_set())
+        """Waits until some checkpoints are complete since the tasks were started. Where the job failed, it is restored."""
+        while self.completed < COMPLETED:
+            wait_for(lambda: self.completed >= COMPLETED or self.has_failed.is_set())
             if self.has_failed.is_set():
                 self.restart_tasks(shape)
 
@@ -163,6 +173,7 @@ class Job:
     def run(self, seconds: float) -> None:
         """Until the time is over, and a lost task was declined once and expired once."""
         end, rounds = time.monotonic() + seconds, 0
+        self.coordinator.settle(self.storage)
         for thread in self.threads:
             thread.start()
         self.start_tasks(LARGE)
@@ -171,7 +182,7 @@ class Job:
             self.kill_in_checkpoint(tells_loss=rounds % 2 == 0)
             self.restart_tasks(SMALL)
             self.complete(SMALL)
-            self.cluster.start_worker()
+            self.cluster.start_workers(1)
             self.restart_tasks(LARGE)
             rounds += 1
         self.complete(LARGE)
@@ -259,37 +270,49 @@ def options() -> argparse.Namespace:
     parser.add_argument("--job", metavar="NAME", default="dask", help="a job that the service does not have yet")
     parser.add_argument("--storage", metavar="FOLDER", type=pathlib.Path, help="where the files lie, and stay; default: a folder that goes, and the job is cancelled")
     parser.add_argument("--answered", metavar="FILE", type=pathlib.Path, help="gets the calls that the service answered, each with its answer")
+    parser.add_argument("--log", metavar="FOLDER", type=pathlib.Path, help="where the driver's log lies, and stays; default: a folder that goes")
+    parser.add_argument("--die", metavar=("PLACE", "NTH"), nargs=2, help="where the driver kills itself (log.py)")
     return parser.parse_args()
 
 
-def coordinator_of(given: argparse.Namespace) -> Any:
+def coordinator_of(given: argparse.Namespace, folder: pathlib.Path) -> Any:
     """Each wants what it needs alone: the library, or the client."""
     if given.service:
         from over_service import OverService
 
         return OverService(given.service, given.job, SETTINGS, LARGE)
-    from in_process import InProcess
+    from log import Death, Log, Place
+    from logged import Logged
 
-    return InProcess(SETTINGS, LARGE)
+    kept = folder / "kept"
+    kept.mkdir(exist_ok=True)
+    death = Death(Place(given.die[0]), int(given.die[1])) if given.die else Death()
+    return Logged(Log(folder / "log", kept, death), SETTINGS, LARGE)
 
 
 def main() -> None:
     given = options()
-    coordinator = coordinator_of(given)
-    with tempfile.TemporaryDirectory() as folder, Cluster(WORKERS) as cluster:
+    with tempfile.TemporaryDirectory() as name:
+        folder = pathlib.Path(name)
+        storage = given.storage or folder / "storage"
+        storage.mkdir(exist_ok=True)
+        coordinator = coordinator_of(given, given.log or folder)
+        coordinator.check(storage)
+        with Cluster(WORKERS) as cluster:
 
-        def end_at_fault(fault: threading.ExceptHookArgs) -> None:
-            """A thread that fails ends all: nothing would wait for it."""
-            threading.__excepthook__(fault)
-            cluster.kill()
-            os._exit(1)
+            def end_at_fault(fault: threading.ExceptHookArgs) -> None:
+                """A thread that fails ends all: nothing would wait for it."""
+                threading.__excepthook__(fault)
+                cluster.kill()
+                os._exit(1)
 
-        threading.excepthook = end_at_fault
-        job = Job(cluster, coordinator, given.storage or pathlib.Path(folder), given.seed)
-        job.run(given.seconds)
-        job.finish()
-        if not given.storage:
-            job.cancel()
+            threading.excepthook = end_at_fault
+            job = Job(cluster, coordinator, storage, given.seed)
+            job.run(given.seconds)
+            job.finish()
+            if not given.storage:
+                job.cancel()
+        coordinator.check(storage)
     if given.answered:
         given.answered.write_text(json.dumps(coordinator.answered))
 

@@ -1,4 +1,5 @@
 """The coordinator as a service, which ticks by itself, and may be killed and started again. It answers here as the Python package does."""
+import pathlib
 import threading
 import uuid
 from typing import Any, Dict, Iterable, List, Sequence, Set, Tuple
@@ -26,6 +27,7 @@ class OverService:
         if self.remote.state()["choice"]["kind"] != "fresh":
             raise SystemExit(f"the service has checkpoints of the job {name}: --job names another one")
         self.begun = 0  # the place of the last restore in the log
+        self.files_end = 1  # the job is new: no file has a number
         self.lock = threading.Lock()  # of the list
         self.answered: List[Tuple[Dict[str, Any], Dict[str, Any]]] = []  # calls, each with its answer
 
@@ -45,6 +47,18 @@ class OverService:
             self.begun = seq
         reply: Reply = REPLIES[f"{name} {answer.pop(name)}"](**answer)
         return reply
+
+    def reserve(self, end: int) -> None:
+        """No driver comes after this one, so it alone gives numbers to files."""
+
+    def recover(self, storage: pathlib.Path) -> None:
+        """No driver was before this one."""
+
+    def settle(self, storage: pathlib.Path) -> None:
+        """No file is there yet."""
+
+    def check(self, storage: pathlib.Path) -> None:
+        """The service has the log. service/tests compares it."""
 
     def ack(self, id: int, subtask: Subtask, fresh: Sequence[int], reused: Sequence[int]) -> Reply:
         return self.reply(service.ack(id, "%d.%d" % subtask, fresh, reused))

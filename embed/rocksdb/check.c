@@ -19,18 +19,15 @@ static void check_counts(struct job *job) {
 
 /* Opens all files of a done record, and compares what its databases have with the stream. */
 static void check_record(struct job *job, uint64_t id) {
-    static struct metadata metadata;
+    static struct record record;
     static struct files held[TASKS];
     struct store stores[TASKS];
-    char *json = coordinator_show(&job->coordinator, id);
-    CHECK(json != NULL, "record %" PRIu64 " is not live", id);
-    metadata_read(&metadata, json);
-    free(json);
-    job_open_record(job, &metadata, stores, held, "checked");
+    coordinator_files(&job->coordinator, id, &record);
+    job_open_record(job, &record, stores, held, "checked");
     for (unsigned partition = 0; partition < PARTITIONS; partition++) {
-        store_check(&stores[partition % metadata.parallelism], job->seed, partition);
+        store_check(&stores[partition % record.parallelism], job->seed, partition);
     }
-    for (unsigned index = 0; index < metadata.parallelism; index++) {
+    for (unsigned index = 0; index < record.parallelism; index++) {
         store_close(&stores[index]);
     }
 }

@@ -377,7 +377,22 @@ void coordinator_close(struct coordinator *c) {
     }
 }
 
-/* Show and count change nothing, so they are not logged. */
+/* Reads change nothing, so they are not logged. Each subtask of a done record has acknowledged it. */
+void coordinator_files(struct coordinator *c, uint64_t id, struct record *record) {
+    record->parallelism = 0;
+    pthread_mutex_lock(&c->lock);
+    CHECK(relkvanu_standing(&c->script.handle, id).what == RELKVANU_STANDS_DONE, "record %" PRIu64 " is not done", id);
+    for (unsigned index = 0; index < TASKS; index++) {
+        uint64_t *files = record->parts[index].files;
+        relkvanu_answer answer = relkvanu_files_of(&c->script.handle, id, 0, (uint16_t)index, files, MOST_FILES);
+        CHECK(answer.code == RELKVANU_DONE, "the files of record %" PRIu64 ": code %" PRIu32, id, answer.code);
+        if (answer.what == RELKVANU_FILES) {
+            record->parts[record->parallelism++].len = answer.a;
+        }
+    }
+    pthread_mutex_unlock(&c->lock);
+}
+
 char *coordinator_show(struct coordinator *c, uint64_t id) {
     char *json = NULL;
     relkvanu_answer answer = {RELKVANU_TOO_SHORT, 0, 1024, 0};

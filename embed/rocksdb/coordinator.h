@@ -86,6 +86,18 @@ size_t coordinator_take(struct coordinator *c, uint64_t *files, size_t most);
 
 void coordinator_report(struct coordinator *c, uint64_t file, bool is_deleted);
 
+/* The files of a done record, by subtask. */
+struct record {
+    unsigned parallelism;
+    struct {
+        uint64_t files[MOST_FILES];
+        size_t len;
+    } parts[TASKS];
+};
+
+/* Reads the files of a done record. */
+void coordinator_files(struct coordinator *c, uint64_t id, struct record *record);
+
 /* The metadata of a live record, to be freed; NULL where the record is not live. */
 char *coordinator_show(struct coordinator *c, uint64_t id);
 

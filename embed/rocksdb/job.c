@@ -54,19 +54,18 @@ static void *feed(void *with) {
     return NULL;
 }
 
-void job_open_record(struct job *job, const struct metadata *metadata, struct store *stores, struct files *held, const char *of) {
+void job_open_record(struct job *job, const struct record *record, struct store *stores, struct files *held, const char *of) {
     char folder[PATH];
-    for (size_t place = 0; place < metadata->len; place++) {
-        const struct part *part = &metadata->parts[place];
-        struct files *files = &held[part->index];
-        path_of(folder, "%.400s/%s-%u", job->local, of, part->index);
+    for (unsigned index = 0; index < record->parallelism; index++) {
+        struct files *files = &held[index];
+        path_of(folder, "%.400s/%s-%u", job->local, of, index);
         empty_folder(folder);
-        files->len = part->len;
-        for (size_t file = 0; file < part->len; file++) {
-            files->items[file].number = part->files[file];
-            storage_get(job->storage, part->files[file], folder, files->items[file].name);
+        files->len = record->parts[index].len;
+        for (size_t file = 0; file < files->len; file++) {
+            files->items[file].number = record->parts[index].files[file];
+            storage_get(job->storage, files->items[file].number, folder, files->items[file].name);
         }
-        store_open(&stores[part->index], folder);
+        store_open(&stores[index], folder);
     }
 }
 
@@ -109,22 +108,18 @@ static void adopt(struct job *job, const struct store *old, const struct files *
 
 /* Gives the tasks the state of the record that the job was restored from; 0: none. */
 static void load(struct job *job, uint64_t id) {
-    static struct metadata metadata;
+    static struct record record;
     static struct files held[TASKS];
     struct store stores[TASKS];
-    metadata.len = metadata.parallelism = 0;
+    record.parallelism = 0;
     if (id != 0) {
-        char *json = coordinator_show(&job->coordinator, id);
-        CHECK(json != NULL, "record %" PRIu64 " is not live", id);
-        metadata_read(&metadata, json);
-        CHECK(metadata.len == metadata.parallelism, "record %" PRIu64 " is not done", id);
-        free(json);
+        coordinator_files(&job->coordinator, id, &record);
     }
-    job_open_record(job, &metadata, stores, held, "database");
-    if (metadata.parallelism == job->parallelism) {
+    job_open_record(job, &record, stores, held, "database");
+    if (record.parallelism == job->parallelism) {
         adopt(job, stores, held);
     } else {
-        redistribute(job, stores, metadata.parallelism);
+        redistribute(job, stores, record.parallelism);
     }
     for (unsigned partition = 0; partition < PARTITIONS; partition++) {
         job->offsets[partition] = store_offset(&job->tasks[partition % job->parallelism].store, partition);

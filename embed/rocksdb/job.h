@@ -4,7 +4,6 @@
 
 #include "coordinator.h"
 #include "discarder.h"
-#include "metadata.h"
 #include "task.h"
 
 struct job {
@@ -37,6 +36,6 @@ void job_open(struct job *job, const char *folder);
 void job_run(struct job *job);
 
 /* Opens the databases of the record that a restore answered, one for each subtask of the record, in local/of. */
-void job_open_record(struct job *job, const struct metadata *metadata, struct store *stores, struct files *held, const char *of);
+void job_open_record(struct job *job, const struct record *record, struct store *stores, struct files *held, const char *of);
 
 #endif

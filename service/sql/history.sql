@@ -1,4 +1,6 @@
 -- The history, which is made from the log and can be deleted.
+create table if not exists version(number integer primary key) strict;
+insert into version select 2 where not exists(select 1 from version) and not exists(select 1 from sqlite_master where name = 'progress');
 -- The last entry of the log that was read, and its moment.
 create table if not exists progress(
     job integer primary key, upto integer not null, at integer not null, shape text not null) strict;
@@ -17,6 +19,10 @@ create index if not exists file_deleted on file(job, deleted) where deleted is n
 create table if not exists queue(
     job integer not null, place integer not null, released integer not null, files integer not null,
     primary key(job, place)) strict, without rowid;
+-- What the calls said that files name, without their lists of files: the log may be cut before them.
+create table if not exists place(
+    job integer not null, seq integer not null, at integer not null, record integer, line text not null, answer text not null,
+    ended text, waiting integer not null, primary key(job, seq)) strict, without rowid;
 create table if not exists sample(
     job integer not null, at integer not null, in_use integer not null, waiting integer not null, taken integer not null,
     pending integer not null, primary key(job, at)) strict, without rowid;

@@ -1,5 +1,6 @@
 -- One group in one statement, with the lease and the fence: $1 seconds of the lease, $2 the epoch, then the columns of
--- `job`, `call` and `request` as arrays. Answers how many rows of each were written; none where another leads.
+-- `job`, `call`, `request` and `image` as arrays, images that go, and calls that go. Answers how many rows of each were
+-- written; none where another leads.
 with l as (
     update leader set until = clock_timestamp() + $1::float8 * interval '1 s' where epoch = $2::bigint returning 1
 ), j as (
@@ -15,5 +16,17 @@ with l as (
     insert into request select u.job, u.key, u.at, u.digest, u.answers from l, unnest(
         $17::bigint[], $18::text[], $19::bigint[], $20::text[], $21::text[]) u(job, key, at, digest, answers)
     returning 1
+), i as (
+    insert into image select u.job, u.seq, u.at, u.digest, u.shape, u.completed, u.event, u.bytes, u.text from l, unnest(
+        $22::bigint[], $23::bigint[], $24::bigint[], $25::text[], $26::text[], $27::bigint[], $28::bigint[], $29::bigint[], $30::text[])
+        u(job, seq, at, digest, shape, completed, event, bytes, text)
+    returning 1
+), d as (
+    delete from image using l, unnest($31::bigint[], $32::bigint[]) u(job, seq)
+    where image.job = u.job and image.seq = u.seq
+), x as (
+    delete from call using l, unnest($33::bigint[], $34::bigint[], $35::bigint[]) u(job, after, upto)
+    where call.job = u.job and call.seq > u.after and call.seq <= u.upto
 )
-select (select count(*) from l), (select count(*) from j), (select count(*) from c), (select count(*) from r)
+select (select count(*) from l), (select count(*) from j), (select count(*) from c), (select count(*) from r),
+    (select count(*) from i)

@@ -29,12 +29,18 @@ pub struct Serve {
     /// An SQLite file, or postgres://.. [default: relkvanu.db]
     #[arg(long, value_name = "DATABASE")]
     pub database: Option<String>,
-    /// The SQLite file of the history, which can be deleted: it is made again [default: DATABASE.history]
+    /// The SQLite file of the history; where it is deleted, it is made again from the log that is there [default: DATABASE.history]
     #[arg(long, value_name = "FILE")]
     pub history: Option<PathBuf>,
     /// The file of tokens: lines of 'read TOKEN' and 'write TOKEN'
     #[arg(long, value_name = "FILE")]
     pub token_file: Option<PathBuf>,
+    /// An image of a job is made after so many calls; 0: never, and the log is kept whole [default: 10000]
+    #[arg(long, value_name = "CALLS")]
+    pub image_calls: Option<u64>,
+    /// Calls before its last image that a job's log keeps [default: 1000000]
+    #[arg(long, value_name = "CALLS")]
+    pub keep_calls: Option<u64>,
     /// The address that a standby names to clients [default: http://LISTEN]
     #[arg(long, value_name = "URL")]
     pub advertise: Option<String>,

@@ -1,5 +1,6 @@
 //! The configuration: defaults, a TOML file over them, and the command line over that.
 use crate::cli::Serve;
+use crate::model::Keeping;
 use serde::Deserialize;
 use std::net::SocketAddr;
 use std::path::{Path, PathBuf};
@@ -7,6 +8,8 @@ use std::time::Duration;
 
 const LISTEN: &str = "127.0.0.1:7780";
 const DATABASE: &str = "relkvanu.db";
+const IMAGE_CALLS: u64 = 10_000;
+const KEEP_CALLS: u64 = 1_000_000;
 
 /// What the file may say.
 #[derive(Deserialize, Default)]
@@ -18,6 +21,8 @@ struct FileConfig {
     token_file: Option<PathBuf>,
     advertise: Option<String>,
     lease_seconds: Option<u64>,
+    image_calls: Option<u64>,
+    keep_calls: Option<u64>,
     limits: Limits,
 }
 
@@ -70,6 +75,7 @@ pub struct Config {
     pub token_file: Option<PathBuf>,
     pub advertise: String,
     pub lease: Duration,
+    pub keeping: Keeping,
     pub limits: Limits,
 }
 
@@ -89,6 +95,10 @@ impl Config {
             token_file: given.token_file.clone().or(file.token_file),
             advertise: given.advertise.clone().or(file.advertise).unwrap_or_else(|| format!("http://{listen}")),
             lease: Duration::from_secs(file.lease_seconds.unwrap_or(5)),
+            keeping: Keeping {
+                image_calls: given.image_calls.or(file.image_calls).unwrap_or(IMAGE_CALLS),
+                keep_calls: given.keep_calls.or(file.keep_calls).unwrap_or(KEEP_CALLS),
+            },
             limits: file.limits,
             listen,
             database,
@@ -107,6 +117,8 @@ impl Config {
             ("limits.idle_seconds", limits.idle_seconds, 1, 3600),
             ("limits.body_seconds", limits.body_seconds, 1, 3600),
             ("lease_seconds", self.lease.as_secs(), 1, 600),
+            ("image_calls", self.keeping.image_calls, 0, 1_000_000_000),
+            ("keep_calls", self.keeping.keep_calls, 0, 1_000_000_000_000),
         ];
         for (name, value, least, most) in numbers {
             if !(least..=most).contains(&value) {
@@ -124,7 +136,7 @@ impl Config {
 }
 
 fn read(path: &Path) -> Result<FileConfig, String> {
-    let text = std::fs::read_to_string(path).map_err(|error| format!("{}: {error}", path.display()))?;
+    let text = std::fs::read_to_string(path).map_err(|error| format!("--config {}: {error}", path.display()))?;
     toml::from_str(&text).map_err(|error| format!("{}: {error}", path.display()))
 }
 

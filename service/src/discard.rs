@@ -15,8 +15,6 @@ const IDLE: Duration = Duration::from_secs(1);
 /// How long it waits after files that could not be deleted: the first time, and at most.
 const FIRST_PAUSE: Duration = Duration::from_millis(500);
 const LONGEST_PAUSE: Duration = Duration::from_secs(60);
-/// How often the history is asked whether it has read the log.
-const LOOK: Duration = Duration::from_millis(200);
 
 struct Discarder {
     job: Job,
@@ -53,6 +51,9 @@ impl Discarder {
         if !given.folder.is_dir() {
             return Err(format!("--folder: {} is no folder", given.folder.display()));
         }
+        if !crate::http::is_name(&given.job) {
+            return Err(format!("--job: {:?} is no name of a job", given.job));
+        }
         if given.prefix.contains('/') || given.suffix.contains('/') {
             return Err("--prefix and --suffix: a '/' would name another folder".to_string());
         }
@@ -86,14 +87,9 @@ impl Discarder {
         }
     }
 
-    /// The files that were taken and never reported, once the history has read all of the log.
+    /// The files that were taken and never reported.
     async fn left(&self) -> Result<Vec<u64>, Error> {
-        let seq = self.job.state().await?["seq"].as_u64().unwrap_or(0);
-        let mut files = self.job.files(1000).await?;
-        while files["upto"].as_u64().unwrap_or(0) < seq {
-            tokio::time::sleep(LOOK).await;
-            files = self.job.files(1000).await?;
-        }
+        let files = self.job.files(1000).await?;
         let taken = files["taken"].as_array().map(Vec::as_slice).unwrap_or_default();
         let number = |row: &Value| row["file"].as_str()?.parse().ok();
         Ok(taken.iter().filter_map(number).collect())

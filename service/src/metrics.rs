@@ -17,6 +17,7 @@ pub struct Metrics {
     requests: IntCounterVec,
     commit_seconds: Histogram,
     commit_rows: Histogram,
+    image_seconds: Histogram,
     leader: IntGauge,
     connections: IntGauge,
     records: IntCounterVec,
@@ -33,6 +34,10 @@ struct Gauges {
     files: IntGaugeVec,
     pending: IntGaugeVec,
     log_calls: IntGaugeVec,
+    kept_calls: IntGaugeVec,
+    image_at: GaugeVec,
+    image_bytes: IntGaugeVec,
+    since_image: IntGaugeVec,
     history: IntGaugeVec,
 }
 
@@ -48,6 +53,11 @@ impl Metrics {
             )?,
             commit_seconds: histogram("relkvanu_commit_seconds", "How long a commit takes.", &SECONDS)?,
             commit_rows: histogram("relkvanu_commit_calls", "How many calls share a commit.", &ROWS)?,
+            image_seconds: histogram(
+                "relkvanu_image_seconds",
+                "How long the writer makes an image of a job, and no calls.",
+                &SECONDS,
+            )?,
             leader: IntGauge::new("relkvanu_leader", "1 where this process leads.")?,
             connections: IntGauge::new("relkvanu_http_connections", "Open connections.")?,
             records: counter(
@@ -71,8 +81,9 @@ impl Metrics {
         for counter in [&self.calls, &self.requests, &self.records] {
             registry.register(Box::new(counter.clone()))?;
         }
-        registry.register(Box::new(self.commit_seconds.clone()))?;
-        registry.register(Box::new(self.commit_rows.clone()))?;
+        for times in [&self.commit_seconds, &self.commit_rows, &self.image_seconds] {
+            registry.register(Box::new(times.clone()))?;
+        }
         registry.register(Box::new(self.leader.clone()))?;
         registry.register(Box::new(self.connections.clone()))?;
         registry.register(Box::new(self.durations.clone()))?;
@@ -86,6 +97,11 @@ impl Metrics {
     pub fn commit(&self, calls: usize, took: Duration) {
         self.commit_seconds.observe(took.as_secs_f64());
         self.commit_rows.observe(calls as f64);
+    }
+
+    /// An image was made.
+    pub fn image(&self, took: Duration) {
+        self.image_seconds.observe(took.as_secs_f64());
     }
 
     pub fn request(&self, route: &str, status: u16) {
@@ -141,17 +157,39 @@ impl Gauges {
                 &["job_name", "state"],
             )?,
             pending: gauge("relkvanu_pending_records", "Records that subtasks are missing of.", &["job_name", "kind"])?,
-            log_calls: gauge("relkvanu_log_calls", "Calls in the job's log.", &["job_name"])?,
-            history: gauge("relkvanu_history_calls", "Calls of the log that the history has read.", &["job_name"])?,
+            log_calls: gauge(
+                "relkvanu_log_calls",
+                "Calls that the job's log has had: the place of the last.",
+                &["job_name"],
+            )?,
+            kept_calls: gauge("relkvanu_log_kept_calls", "Calls that the job's log still has.", &["job_name"])?,
+            image_at: seconds(
+                "relkvanu_image_timestamp_seconds",
+                "The moment of the job's last image, in Unix time; before the first, when the job was opened.",
+            )?,
+            image_bytes: gauge("relkvanu_image_bytes", "How long the job's last image is.", &["job_name"])?,
+            since_image: gauge(
+                "relkvanu_calls_since_image",
+                "Calls after the job's last image, which a start makes again.",
+                &["job_name"],
+            )?,
+            history: gauge(
+                "relkvanu_history_calls",
+                "The place in the job's log up to which the history has read.",
+                &["job_name"],
+            )?,
         })
     }
 
     fn register(&self, registry: &Registry) -> Result<(), prometheus::Error> {
-        let Gauges { mode, interval, completed, opened, files, pending, log_calls, history } = self;
-        for gauge in [mode, files, pending, log_calls, history] {
+        let Gauges { mode, files, pending, log_calls, kept_calls, image_bytes, since_image, history, .. } = self;
+        for gauge in [mode, files, pending, log_calls, kept_calls, image_bytes, since_image, history] {
             registry.register(Box::new(gauge.clone()))?;
         }
-        [interval, completed, opened].into_iter().try_for_each(|gauge| registry.register(Box::new(gauge.clone())))
+        let Gauges { interval, completed, opened, image_at, .. } = self;
+        [interval, completed, opened, image_at]
+            .into_iter()
+            .try_for_each(|gauge| registry.register(Box::new(gauge.clone())))
     }
 
     fn set(&self, job: &JobState) {
@@ -171,7 +209,15 @@ impl Gauges {
         set(&self.files, &[name, "taken"], job.files.taken);
         set(&self.pending, &[name, "checkpoint"], job.pending_checkpoints as u64);
         set(&self.pending, &[name, "savepoint"], job.pending_savepoints as u64);
+        self.set_log(job, name);
+    }
+
+    fn set_log(&self, job: &JobState, name: &str) {
         set(&self.log_calls, &[name], job.seq);
+        set(&self.kept_calls, &[name], (job.seq + 1).saturating_sub(job.first));
+        set_seconds(&self.image_at, name, job.image.map_or(job.opening.started, |image| image.at));
+        set(&self.image_bytes, &[name], job.image.map_or(0, |image| image.bytes));
+        set(&self.since_image, &[name], job.seq.saturating_sub(job.image.map_or(0, |image| image.seq)));
     }
 }
 

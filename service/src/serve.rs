@@ -6,8 +6,8 @@ use crate::history::{Historian, HistoryReader};
 use crate::http::{self, App};
 use crate::log;
 use crate::metrics::Metrics;
-use crate::model::Clock;
-use crate::store::{Lite, LiteReader, Pg, PgReader, Reader, Store};
+use crate::model::{Clock, Keeping};
+use crate::store::{Lite, LiteReader, Pg, PgReader, Reader, Store, Unusable};
 use crate::writer::{Board, Jobs, Message, StartError, Writer, START_AGAIN};
 use sd_notify::NotifyState;
 use std::io::ErrorKind;
@@ -63,7 +63,10 @@ fn serve(config: Config) -> Result<(), Stop> {
     let tokens = config.token_file.as_deref().map(Tokens::read).transpose().map_err(Stop::Never)?;
     // before the lease is taken: a second process at this address never leads
     let listener = listening(&config)?;
-    let store = open_store(&config).map_err(Stop::Again)?;
+    let store = open_store(&config).map_err(|why| match why {
+        Unusable::Newer(_) => Stop::Never(why.to_string()),
+        Unusable::Failed(why) => Stop::Again(format!("database: {why}")),
+    })?;
     let reader = || open_reader(&config).map_err(Stop::Again);
     let metrics = Arc::new(Metrics::new().map_err(|error| Stop::Never(error.to_string()))?);
     let board = Arc::new(Board::new());
@@ -86,7 +89,8 @@ fn serve(config: Config) -> Result<(), Stop> {
         inbox: inbox.clone(),
         since: Clock::starting_after(0).now(),
     };
-    let leader = Leader { store, reader: reader()?, board, metrics, messages, listen: config.listen.to_string() };
+    let (listen, keeping) = (config.listen.to_string(), config.keeping);
+    let leader = Leader { store, reader: reader()?, board, metrics, messages, listen, keeping };
     let working = std::thread::spawn(move || leader.run());
     std::thread::spawn(move || historian.run());
     answer_requests(app, listener)?;
@@ -95,7 +99,7 @@ fn serve(config: Config) -> Result<(), Stop> {
     Ok(())
 }
 
-fn open_store(config: &Config) -> Result<Box<dyn Store>, String> {
+fn open_store(config: &Config) -> Result<Box<dyn Store>, Unusable> {
     match &config.database {
         Database::Sqlite(path) => Ok(Box::new(Lite::open(path)?)),
         Database::Postgres(url) => Ok(Box::new(Pg::open(url, &config.advertise, config.lease)?)),
@@ -142,6 +146,7 @@ struct Leader {
     metrics: Arc<Metrics>,
     messages: Receiver<Message>,
     listen: String,
+    keeping: Keeping,
 }
 
 impl Leader {
@@ -152,7 +157,8 @@ impl Leader {
             log::error(&why);
             std::process::exit(i32::from(status))
         });
-        let writer = Writer::new(self.store, jobs, Arc::clone(&self.board), Arc::clone(&self.metrics));
+        let (board, metrics) = (Arc::clone(&self.board), Arc::clone(&self.metrics));
+        let writer = Writer::new(self.store, jobs, board, metrics, self.keeping);
         // the writer has published all jobs, so that the first request finds them
         self.board.open();
         log::info(&format!("serves on {}", self.listen));
@@ -169,6 +175,7 @@ impl Leader {
             let asked = Instant::now();
             if let Some(epoch) = self.store.lead().map_err(Stop::Again)? {
                 calls += self.catch_up(&mut jobs)?;
+                jobs.take_stock(self.reader.as_mut(), self.keeping).map_err(start_failed)?;
                 self.board.lead(epoch);
                 let (took, over) = (started.elapsed().as_millis(), asked.elapsed().as_millis());
                 let jobs_there = jobs.len();
@@ -187,10 +194,14 @@ impl Leader {
 
     fn catch_up(&mut self, jobs: &mut Jobs) -> Result<u64, Stop> {
         let board = &self.board;
-        jobs.catch_up(self.reader.as_mut(), &|| board.beat()).map_err(|error| match error {
-            StartError::Unread(_) | StartError::NoMemory { .. } => Stop::Again(error.to_string()),
-            _ => Stop::Never(error.to_string()),
-        })
+        jobs.catch_up(self.reader.as_mut(), &|| board.beat()).map_err(start_failed)
+    }
+}
+
+fn start_failed(error: StartError) -> Stop {
+    match error {
+        StartError::Unread(_) | StartError::NoMemory { .. } => Stop::Again(error.to_string()),
+        _ => Stop::Never(error.to_string()),
     }
 }
 

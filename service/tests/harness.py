@@ -1,9 +1,13 @@
 """What the tests share: a service that is started, killed and stopped, and the oracle that its log is compared with."""
 import atexit
+import fcntl
 import json
 import os
+import random
+import re
 import signal
 import socket
+import sqlite3
 import subprocess
 import sys
 import tempfile
@@ -22,10 +26,28 @@ PROGRAM = os.environ.get("RELKVANU_PROGRAM", f"{SERVICE}/target/debug/relkvanu")
 ORACLE = os.environ.get("RELKVANU_ORACLE", f"{TOP}/crates/ckpt_job/out/ckpt_job")
 
 
+# The ports that tests listen on are below those that the system gives to connections, and each is one process's of the tests, of
+# another run on this machine too: the process has a lock on the port's file for as long as it lives.
+PORTS = range(20000, 32000)
+_held = []
+
+
 def free_port():
-    with socket.socket() as it:
-        it.bind(("127.0.0.1", 0))
-        return it.getsockname()[1]
+    locks = f"{tempfile.gettempdir()}/relkvanu-ports"
+    if not os.path.isdir(locks):
+        os.makedirs(locks, exist_ok=True)
+        os.chmod(locks, 0o1777)
+    while True:
+        port = random.choice(PORTS)
+        try:
+            held = open(f"{locks}/{port}", "a", encoding="utf-8")
+            fcntl.flock(held, fcntl.LOCK_EX | fcntl.LOCK_NB)
+            with socket.socket() as it:
+                it.bind(("127.0.0.1", port))
+        except OSError:
+            continue
+        _held.append(held)
+        return port
 
 
 class Server:
@@ -79,6 +101,10 @@ class Server:
     def log(self):
         with open(self.log_path, encoding="utf-8", errors="replace") as it:
             return it.read()
+
+    def replayed(self):
+        """How many calls each start made again."""
+        return [int(count) for count in re.findall(r" leads epoch=\d+ jobs=\d+ calls=(\d+)", self.log())]
 
     def get(self, path, token=None):
         return self.request("GET", path, token=token)
@@ -200,6 +226,60 @@ def check_log(state, shape, log):
     for entry, line in zip(log, lines):
         assert entry["answer"] == line, f"call {entry['seq']} {entry['line']!r}: {entry['answer']!r}, oracle {line!r}"
     return len(lines)
+
+
+CALL = "job, seq, at, record, line, answer, ended, waiting"
+WHOLE = f"(select {CALL} from archive union all select {CALL} from call)"
+
+
+class Archive:
+    """All of an SQLite log: a trigger keeps what is cut."""
+
+    def __init__(self, path):
+        self.path = path
+        old = ", ".join(f"old.{name}" for name in CALL.split(", "))
+        with self.base() as base:
+            base.executescript(f"""create table archive as select * from call where 0;
+                create trigger archived before delete on call begin insert into archive values({old}); end;""")
+
+    def base(self):
+        return sqlite3.connect(self.path, timeout=20)
+
+    def log(self, job):
+        with self.base() as base:
+            rows = base.execute(f"select seq, at, line, answer from {WHOLE} where job = (select job from job where name = ?) order by seq", (job,))
+            return [dict(zip(("seq", "at", "line", "answer"), row)) for row in rows]
+
+    def cut(self, job):
+        """The last call that was cut."""
+        with self.base() as base:
+            return base.execute("select coalesce(max(seq), 0) from archive where job = (select job from job where name = ?)", (job,)).fetchone()[0]
+
+    def images(self, job):
+        with self.base() as base:
+            rows = base.execute("select seq from image where job = (select job from job where name = ?) order by seq", (job,))
+            return [seq for (seq,) in rows]
+
+
+class PgArchive:
+    """The same of a log in PostgreSQL."""
+
+    def __init__(self, database):
+        self.database = database
+        database.sql("""create table archive (like call);
+            create function archived() returns trigger language plpgsql as 'begin insert into archive select old.*; return old; end';
+            create trigger archived before delete on call for each row execute function archived()""")
+
+    def log(self, job):
+        rows = f"select seq, at, line, answer from {WHOLE} it where job = (select job from job where name = '{job}') order by seq"
+        return json.loads(self.database.sql(f"select coalesce(json_agg(it), '[]') from ({rows}) it"))
+
+    def cut(self, job):
+        return int(self.database.sql(f"select coalesce(max(seq), 0) from archive where job = (select job from job where name = '{job}')"))
+
+    def images(self, job):
+        rows = f"select seq from image where job = (select job from job where name = '{job}') order by seq"
+        return json.loads(self.database.sql(f"select coalesce(json_agg(seq), '[]') from ({rows}) it"))
 
 
 def until(said, seconds=20, each=0.05):

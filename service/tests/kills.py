@@ -1,21 +1,23 @@
-"""SIGKILL at random moments, with writers at work: kills.py [KILLS] [DATABASE]. Over SQLite, or the database that is named."""
+"""SIGKILL at random moments, with writers at work, images made and the log cut: kills.py [KILLS] does it over SQLite."""
 import random
 import sys
 import time
 from contextlib import contextmanager
 
-from harness import Server, folder
+from harness import Archive, PgArchive, Server, folder
 from relkvanu_service import Service
 from writers import SETTINGS, Writer, check
 
 JOBS = ["orders", "users"]
 SETTINGS = {**SETTINGS, "interval": 15}
 SHAPE = [4, 8]
+# so that kills land around images and cuts
+KEEPING = "image_calls = 40\nkeep_calls = 100\n"
 
 
 @contextmanager
-def writers_at(urls, told):
-    """Writers at work, until the end. Then `told` has what [`check`] says of them."""
+def writers_at(urls, told, archive=None):
+    """Writers at work, until the end. Then `told` has what `check` says of them."""
     service = Service(*urls)
     for job in JOBS:
         service.open(job, SETTINGS, SHAPE)
@@ -29,29 +31,44 @@ def writers_at(urls, told):
     for writer in writers:
         writer.join(90)
         assert not writer.is_alive(), "a writer hangs"
-    found = [check(writers, service, job, SHAPE) for job in JOBS]
+    found = [check(writers, service, job, SHAPE, archive) for job in JOBS]
     acknowledged, logged = sum(one[0] for one in found), sum(one[1] for one in found)
     oracle = sum(one[2] or 0 for one in found)
     told.append(f"{acknowledged} acknowledged calls, {logged} in the log, {oracle} answered alike by ckpt_job")
     told.append(acknowledged)
 
 
-def run(kills, database=None, config="", seed=1):
+def check_images(server, archive):
+    """Images were made and the log was cut behind one of them, and a start makes the calls after the last ones again. Returns a sentence on
+    it."""
+    calls = {job: len(archive.log(job)) for job in JOBS}
+    images, cuts = {job: archive.images(job) for job in JOBS}, {job: archive.cut(job) for job in JOBS}
+    assert all(images.values()) and all(cuts[job] <= images[job][0] for job in JOBS if cuts[job]), (cuts, images)
+    again, cut = sum(calls[job] - images[job][-1] for job in JOBS), sum(cuts.values())
+    server.start()
+    assert server.replayed()[-1] == again and cut > 0, (server.replayed(), again, cut)
+    return f"the last start made {again} of {sum(calls.values())} calls again, and {cut} were cut"
+
+
+def run(kills, database=None, config=KEEPING, seed=1):
     chance = random.Random(seed)
     told = []
     with folder() as at:
         with open(f"{at}/service.toml", "w", encoding="utf-8") as it:
             it.write(config)
-        server = Server(at, database, ["--config", f"{at}/service.toml"]).start()
-        with writers_at([server.url], told):
+        server = Server(at, database and database.url, ["--config", f"{at}/service.toml"]).start()
+        archive = PgArchive(database) if database else Archive(server.database)
+        with writers_at([server.url], told, archive):
             for _ in range(kills):
                 time.sleep(chance.uniform(0.1, 0.7))
                 server.kill()
                 server.start()
+        server.kill()
+        images = check_images(server, archive)
         server.stop()
     assert told[1] > 20 * kills, f"the writers did next to nothing: {told[0]}"
-    return f"{kills} kills, {told[0]}"
+    return f"{kills} kills, {told[0]}; {images}"
 
 
 if __name__ == "__main__":
-    print(run(int((sys.argv[1:] or ["25"])[0]), *sys.argv[2:3]))
+    print(run(int((sys.argv[1:] or ["25"])[0])))

@@ -1,17 +1,19 @@
-"""Load by wrk: load.py [SECONDS [sqlite|postgres]] prints acknowledgements a second with 1 and 256 connections of one each, and 16 of 64 each,
-beside how many bare commits of as many rows the disk takes, then what a start over that log costs."""
+"""Load by wrk: load.py [SECONDS [sqlite|postgres]] prints acknowledgements a second with 1 and 256 connections, of one and of 64 each, beside
+how many bare commits of as many rows the database takes, then what a start over that log costs with an image and without. Over SQLite
+also what images of a job with a million files cost."""
 import os
 import re
 import sqlite3
 import subprocess
 import sys
+import threading
 import time
 
 from harness import HERE, Server, folder, until
 from postgres import postgres
-from relkvanu_service import Service
+from relkvanu_service import Service, ack, dispose, savepoint
 
-WAYS = [(1, 1), (256, 1), (16, 64)]
+WAYS = [(1, 1), (256, 1), (1, 64), (256, 64)]
 
 
 def wrk(url, connections, batch, seconds):
@@ -36,6 +38,21 @@ def bare(at, rows, seconds=2):
         base.execute("commit")
         commits += 1
     return commits / (time.monotonic() - started)
+
+
+def bare_postgres(database, rows, seconds=2):
+    """The same in PostgreSQL, by pgbench over one connection."""
+    database.sql("create table if not exists bare(a bigserial primary key, line text, answer text)")
+    with open(f"{database.data}/bare.sql", "w", encoding="utf-8") as it:
+        it.write(f"insert into bare(line, answer) select repeat('x', 60), 'ack pending 7' from generate_series(1, {rows});")
+    told = database.run("pgbench", "--no-vacuum", "--protocol=prepared", f"--time={seconds}", f"--file={database.data}/bare.sql", database.url)
+    return float(re.search(r"tps = ([0-9.]+)", told).group(1))
+
+
+def values(server):
+    """The metrics without labels."""
+    lines = [line.split(" ") for line in server.get("/metrics")[2].splitlines()]
+    return {words[0]: float(words[1]) for words in lines if len(words) == 2}
 
 
 def loaded(server, ways, seconds):
@@ -78,31 +95,87 @@ def job_memory(at, jobs=500):
     return each, max(late)
 
 
+def large_images(at, files=1_000_000, seconds=5):
+    """What an image of a job with so many files costs: its bytes, and the seconds in which the writer makes it; then the longest wait of a
+    client of another job, in milliseconds, while it is made and while none is."""
+    os.mkdir(f"{at}/large")
+    # the second savepoint of the large job is its call 4098
+    server = Server(f"{at}/large", args=["--image-calls", "4098"]).start()
+    service = Service(server.url)
+    other, job = service.open("other", {"interval": 1 << 40}, [1]), service.open("large", {"interval": 1 << 40}, [4096])
+    other.calls([savepoint(), ack(1, "0.0"), dispose(1)])
+    job.call(savepoint())
+    each = files // 4096 + 1
+    for first in range(0, 4096, 64):
+        job.calls([ack(1, f"0.{subtask}", range(subtask * each, subtask * each + each)) for subtask in range(first, first + 64)])
+    without = longest(server, seconds)
+    with_image = longest(server, seconds, lambda: job.call(savepoint()))
+    made, image = values(server), job.state()["image"]
+    server.stop()
+    return image["bytes"], made["relkvanu_image_seconds_sum"], with_image, without
+
+
+def longest(server, seconds, other=None):
+    """The longest time that an acknowledgement takes, in milliseconds, with another call at half-time."""
+    job, times, started = Service(server.url).job("other"), [], time.monotonic()
+    while (now := time.monotonic()) < started + seconds:
+        if other and now > started + seconds / 2:
+            threading.Thread(target=other).start()
+            other = None
+        job.call(ack(1, "0.0", [len(times)]))  # a late one, which is kept in the log
+        times.append(time.monotonic() - now)
+    return max(times) * 1000
+
+
 def main(seconds=10, where="sqlite"):
+    print(f"load {os.getloadavg()[0]:.1f} before")
     with folder() as at:
         if where == "postgres":
             with postgres() as database:
-                return measure(at, seconds, database.url)
+                for rows in (1, 64, 1000):
+                    print(f"bare PostgreSQL commits of {rows} rows: {bare_postgres(database, rows):.0f}/s", flush=True)
+                return measure(at, seconds, database)
         for rows in (1, 64, 1000):
             print(f"bare SQLite commits of {rows} rows: {bare(at, rows):.0f}/s", flush=True)
         measure(at, seconds, None)
         each, late = job_memory(at)
         print(f"500 jobs of 4 subtasks that trigger each second: {each:.1f} KiB each, their ticks late by {late} ms at most")
+        size, took, longest_with, longest_without = large_images(at)
+        print(f"images of a million files: {size / 1e6:.1f} MB and {took:.3f} s in all; another job's call waits {longest_with:.0f} ms at most, {longest_without:.0f} without")
+    print(f"load {os.getloadavg()[0]:.1f} after")
 
 
-def measure(at, seconds, database):
-    server = Server(at, database).start()
-    for connections, batch, rate, slow, acks in loaded(server, WAYS, seconds)[0]:
-        print(f"{connections} connections, {batch} a request: {rate:.0f} acknowledgements/s, 99% within {slow}, {acks} calls logged", flush=True)
-    print(f"memory with the job of 4096 subtasks: {memory(server) / 1024:.0f} MiB")
-    server.stop()
+def started_over(server, what):
+    """Prints how long a start takes, and how many calls it makes again."""
     started = time.monotonic()
     server.start(ready=False)
     server.wait_ready(600)
-    calls = server.get("/v1/jobs/load")[2]["seq"]
-    took = time.monotonic() - started
-    size = "" if database else f"; the log has {os.path.getsize(server.database) / max(1, calls):.0f} bytes a call"
-    print(f"start over {calls} calls: {took:.1f} s, {calls / took:.0f} calls/s{size}", flush=True)
+    took, made = time.monotonic() - started, server.replayed()[-1]
+    print(f"start {what}: {took:.1f} s for {made} calls", flush=True)
+
+
+def forget_images(server, database):
+    if database:
+        return database.sql("delete from image")
+    with sqlite3.connect(server.database) as base:
+        base.execute("delete from image")
+
+
+def measure(at, seconds, database):
+    server = Server(at, database and database.url, ["--keep-calls", "1000000000"]).start()
+    for connections, batch, rate, slow, acks in loaded(server, WAYS, seconds)[0]:
+        print(f"{connections} connections, {batch} a request: {rate:.0f} acknowledgements/s, 99% within {slow}, {acks} calls logged", flush=True)
+    print(f"memory with the job of 4096 subtasks: {memory(server) / 1024:.0f} MiB")
+    made, state = values(server), server.get("/v1/jobs/load")[2]
+    count, took = made["relkvanu_image_seconds_count"], made["relkvanu_image_seconds_sum"]
+    print(f"{count:.0f} images, of {state['image']['bytes']} bytes at last, {1000 * took / count:.1f} ms each; load {os.getloadavg()[0]:.1f}")
+    server.kill()
+    if not database:
+        print(f"the log has {os.path.getsize(server.database) / state['seq']:.0f} bytes a call, images in it")
+    started_over(server, "from the last image")
+    server.kill()
+    forget_images(server, database)
+    started_over(server, "without images")
     server.stop()
 
 

@@ -10,7 +10,7 @@ from concurrent.futures import ThreadPoolExecutor
 
 HERE = os.path.dirname(os.path.realpath(__file__))
 # the longest first
-MODULES = ["test_postgres", "test_dask", "test_page", "test_history", "test_kills", "test_disks", "test_start", "test_unit", "test_load", "test_api", "test_clients", "test_discard", "test_memory", "test_metrics"]
+MODULES = ["test_postgres", "test_dask", "test_page", "test_history", "test_kills", "test_disks", "test_images", "test_start", "test_unit", "test_load", "test_api", "test_clients", "test_discard", "test_memory", "test_metrics"]
 
 
 class Skipped(Exception):

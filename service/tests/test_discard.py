@@ -80,7 +80,8 @@ def test_it_survives_the_service():
             server.kill()
             time.sleep(0.2)
             server.start()
-        until(lambda: present(folder) == set(files[-3:]), 30)
+        # what is deleted is reported a moment later
+        until(lambda: present(folder) == set(files[-3:]) and not (it := job.state()["files"])["waiting"] and not it["taken"], 30)
         run.terminate()
         run.wait(10)
         assert not [entry for entry in job.log() if entry["line"].startswith("take") and entry["answer"] == "take none"]

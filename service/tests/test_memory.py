@@ -18,7 +18,7 @@ def test_no_memory_in_calls():
         subprocess.run(["cc", "-O2", "-Wall", "-Wextra", "-Werror", "-shared", "-fPIC", "-o", f"{at}/hungry.so", f"{HERE}/hungry.c"], check=True)
         symbols = dict(reversed(line.split()[::2]) for line in subprocess.run(["nm", PROGRAM], stdout=subprocess.PIPE, text=True, check=True).stdout.splitlines() if line.endswith((" rattle_alloc", " rattle_realloc")))
         offsets = f"{symbols['rattle_alloc']} {symbols['rattle_realloc']} 2"
-        server = Server(at, prefix=["env", f"LD_PRELOAD={at}/hungry.so", f"HUNGRY={offsets}"]).start()
+        server = Server(at, args=["--image-calls", "30"], prefix=["env", f"LD_PRELOAD={at}/hungry.so", f"HUNGRY={offsets}"]).start()
         service = Service(server.url)
         job = service.open("orders", SETTINGS, SHAPE)
         writers = [Writer([server.url], "orders", number) for number in range(4)]

@@ -40,6 +40,9 @@ def test_metrics_say_what_was_done():
             'relkvanu_interval_seconds{job_name="orders"}': 3600,
             'relkvanu_mode{job_name="orders"}': 1,
             'relkvanu_log_calls{job_name="orders"}': 2,
+            'relkvanu_log_kept_calls{job_name="orders"}': 2,
+            'relkvanu_calls_since_image{job_name="orders"}': 2,
+            'relkvanu_image_bytes{job_name="orders"}': 0,
             'relkvanu_http_requests_total{route="none",status="404"}': 1,
             "relkvanu_leader": 1,
         }.items():

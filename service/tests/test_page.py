@@ -135,10 +135,10 @@ def looked_at(page, server, engine):
     page.get(f"{server.url}/#/jobs/orders")
     until(lambda: texts(page, "#jobs a") == ["orders running", "users running"], 20)
     until(lambda: len(texts(page, "#records tr")) >= 10, 20)
-    first = texts(page, '[data-fact="Calls in the log"]')[0]
+    first = texts(page, '[data-fact="Calls made"]')[0]
 
     # live, without reloading: the number of calls rises, and the newest record is the service's
-    until(lambda: int(texts(page, '[data-fact="Calls in the log"]')[0]) > int(first) + 10, 20)
+    until(lambda: int(texts(page, '[data-fact="Calls made"]')[0]) > int(first) + 10, 20)
     until(lambda: texts(page, "#records tr td:first-child")[0] == str(job.records()[0]["id"]), 20, 0.01)
 
     # each row says what the API says

@@ -5,7 +5,7 @@ import signal
 import time
 
 import kills
-from harness import Kept, Server, check_log, folder, until
+from harness import Kept, PgArchive, Server, check_log, folder, until
 from postgres import postgres
 from relkvanu_service import Service
 
@@ -14,7 +14,7 @@ LEASE = 2
 
 def test_kills():
     with postgres() as database:
-        told = kills.run(int(os.environ.get("RELKVANU_KILLS_PG", "15")), database.url, "lease_seconds = 1\n")
+        told = kills.run(int(os.environ.get("RELKVANU_KILLS_PG", "15")), database, "lease_seconds = 1\n" + kills.KEEPING)
         assert database.sql("select count(*) > 0 from call") == "t"
         return told
 
@@ -74,7 +74,7 @@ def leads(server):
 
 
 def test_take_over():
-    config = f"lease_seconds = {LEASE}\n"
+    config = f"lease_seconds = {LEASE}\n" + kills.KEEPING
     with postgres() as database, folder() as at:
         with open(f"{at}/service.toml", "w", encoding="utf-8") as it:
             it.write(config)
@@ -87,7 +87,7 @@ def test_take_over():
         assert told[0] == 503 and told[1]["retry-after"] == "1" and told[1]["relkvanu-leader"] == servers[0].url, told
         assert "relkvanu_leader 0" in servers[1].get("/metrics")[2] and "relkvanu_leader 1" in servers[0].get("/metrics")[2]
         found, times, epochs = [], [], []
-        with kills.writers_at([server.url for server in servers], found):
+        with kills.writers_at([server.url for server in servers], found, PgArchive(database)):
             for way in ("stop", "kill", "stop", "cut"):
                 leader = next(server for server in servers if leads(server))
                 standby = next(server for server in servers if server is not leader)

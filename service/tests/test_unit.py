@@ -36,7 +36,7 @@ def booted(at):
     """Boots systemd over a root of its own, with /usr of this machine, and runs under_systemd.py in it."""
     binds = [f"--bind={at}:/try", f"--bind-ro={HERE}:/tests", f"--bind-ro={SERVICE}/deploy:/deploy", f"--bind-ro={PROGRAM}:/relkvanu"]
     binds += [f"--bind-ro={at}/try.service:/etc/systemd/system/try.service", "--bind-ro=/dev/null:/etc/systemd/system/systemd-firstboot.service"]
-    words = ["--quiet", "--console=pipe", "--directory=/", "--volatile=yes", "--private-network", "--register=no", "--keep-unit", "--machine=relkvanu-test"]
+    words = ["--quiet", "--console=pipe", "--directory=/", "--volatile=yes", "--private-network", "--register=no", "--keep-unit", f"--machine=relkvanu-test-{os.getpid()}"]
     # the program is installed where /usr of this machine can't be written
     words += [*binds, "--tmpfs=/usr/local/bin", "--boot", "--", "--unit=try.service"]
     return subprocess.run(["timeout", "-k", "5", "120", "systemd-nspawn", *words], stdout=subprocess.PIPE, stderr=subprocess.STDOUT, text=True, errors="replace", check=False)

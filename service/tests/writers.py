@@ -113,10 +113,20 @@ def check_made(made, log, seen):
         assert harness.answer_text(answer) == entry["answer"], f"{seq}: {answer} is {entry['answer']}"
 
 
-def check(writers, service, job, shape):
-    """The writers' acknowledged calls are in the log, and the oracle answers it alike. Returns how many were acknowledged, how many
-    the log has, and how many answers the oracle gave."""
+def check_kept(whole, log, first):
+    """The log has all calls from the first on. Returns the whole one."""
+    assert log[0]["seq"] == first, (log[0], first)
+    rest = [{name: entry[name] for name in ("seq", "at", "line", "answer")} for entry in log]
+    assert whole[first - 1 :] == rest, (len(whole), len(rest), first)
+    return whole
+
+
+def check(writers, service, job, shape, archive=None):
+    """The writers' acknowledged calls are in the log, with what was cut from it, and the oracle answers it alike. Returns how many were
+    acknowledged, how many the log has, and how many answers the oracle gave."""
     log = list(service.job(job).log())
+    if archive:
+        log = check_kept(archive.log(job), log, service.job(job).state()["first"])
     seen = set()
     for writer in (writer for writer in writers if writer.name_of_job == job):
         assert not writer.errors, writer.errors[:3]

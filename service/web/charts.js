@@ -25,6 +25,9 @@ function options(title, legend) {
   };
 }
 
+// Pixels that a time takes under a chart.
+const TIME_WIDTH = 120;
+
 export function durations(canvas) {
   return new Chart(canvas, { type: "bar", data: { labels: [], datasets: [{ label: "seconds", data: [] }] }, options: options("seconds", false) });
 }
@@ -53,5 +56,7 @@ export function showCounts(chart, samples) {
   ["in_use", "waiting", "taken"].forEach((name, place) => {
     chart.data.datasets[place].data = samples.map((sample) => sample[name]);
   });
+  // so many times as stand beside each other
+  chart.options.scales.x.ticks.maxTicksLimit = Math.min(6, Math.max(2, Math.floor(chart.width / TIME_WIDTH)));
   chart.update();
 }

@@ -10,7 +10,7 @@ const ROWS = 25; // in the table
 const SAMPLES = 600;
 
 const at = (id) => document.getElementById(id);
-const shown = { job: null, charts: null, wake: null };
+const shown = { job: null, first: 1, charts: null, wake: null };
 
 function chosen(jobs) {
   const name = location.hash.startsWith("#/jobs/") ? location.hash.slice(7) : null;
@@ -59,6 +59,7 @@ async function show() {
   if (job) {
     if (shown.job !== job.name) at("file").replaceChildren();
     shown.job = job.name;
+    shown.first = job.first;
     await showJob(job);
   } else {
     at("job").hidden = true;
@@ -70,7 +71,7 @@ async function show() {
 async function look(file) {
   at("file-number").value = file;
   try {
-    at("file").replaceChildren(...views.fileHistory(await get(`/jobs/${shown.job}/files/${file}`)));
+    at("file").replaceChildren(...views.fileHistory(await get(`/jobs/${shown.job}/files/${file}`), shown.first));
   } catch (error) {
     at("file").replaceChildren(views.element("p", { class: "bad" }, error.message));
   }

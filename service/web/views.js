@@ -43,6 +43,12 @@ function fact(name, value, kind) {
   return element("div", {}, element("dt", {}, name), element("dd", { class: kind, "data-fact": name }, value));
 }
 
+// A start makes the calls after the image again.
+function image(job) {
+  if (job.image === null) return "none yet";
+  return `at call ${job.image.seq}, ${Math.max(1, Math.round(job.image.bytes / 1000))} kB`;
+}
+
 export function facts(job) {
   const choice = job.choice.kind === "fresh" ? "from nothing" : `from ${job.choice.kind} ${job.choice.id}`;
   const completed = job.last_completed === null ? "none yet" : `${duration(Math.max(0, job.now - job.last_completed))} ago`;
@@ -57,7 +63,8 @@ export function facts(job) {
     fact("Files in use", job.files.in_use),
     fact("Files waiting", job.files.waiting),
     fact("Files taken", job.files.taken, job.files.taken > 0 ? "other" : null),
-    fact("Calls in the log", job.seq),
+    fact("Calls made", job.seq),
+    fact("Last image", image(job)),
   ];
 }
 
@@ -98,11 +105,17 @@ function step(word, entry, more) {
   return entry ? element("li", {}, element("strong", {}, word), ` ${moment(entry.at)}, call ${entry.seq}: ${entry.line.slice(0, 120)} → ${entry.answer.slice(0, 120)}`, more ?? null) : null;
 }
 
-export function fileHistory(told) {
+// What is said of a file of which no call is known. The log begins with the call `first`.
+function unknown(told, first) {
+  if (told.uses > 0) return "Who wrote it is not known any more.";
+  return first > 1 ? `No call has named it, or it was deleted before call ${first}, with which the log begins.` : "No call has named it.";
+}
+
+export function fileHistory(told, first) {
   const uses = told.uses === null ? "memory ran out while its uses were counted" : `${told.uses} uses`;
   const pins = told.pins > 0 ? `, ${told.pins} of them by pending records that build on it` : "";
   const history = told.history;
-  const by = told.used_by.map((use) => element("li", {}, `record ${use.record}, subtask ${use.subtask}, ${use.as}`));
+  const by = told.used_by.map((use) => element("li", {}, `record ${use.record}, subtask ${use.subtask}`));
   const steps = history
     ? [
         step("Written", history.born),
@@ -114,6 +127,6 @@ export function fileHistory(told) {
   return [
     element("p", {}, element("strong", {}, `File ${told.file}: `), uses + pins),
     by.length > 0 ? element("ul", { class: "uses" }, ...by) : "",
-    steps.length > 0 ? element("ol", { class: "steps" }, ...steps) : element("p", {}, "No call has named it."),
+    steps.length > 0 ? element("ol", { class: "steps" }, ...steps) : element("p", {}, unknown(told, first)),
   ];
 }

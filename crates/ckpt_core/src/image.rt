@@ -13,6 +13,7 @@ use thiserror::Error;
 /// A live record of an image.
 #[derive(Debug, Drop)]
 pub struct Saved {
+    /// Its number, kind, shape and acknowledgements, and whether it is done.
     pub metadata: Metadata,
     /// The files that a pending record holds until it ends, beside those of its acknowledgements:
     /// each once, in ascending order. A done record has none.
@@ -24,6 +25,7 @@ pub struct Saved {
 /// `specs/Images.antt` says which state an image tells, and in which states a coordinator can be.
 #[derive(Debug, Drop)]
 pub struct Image {
+    /// The configuration that the job was opened with.
     pub config: Config,
     /// The shape that the job was opened with.
     pub first_shape: Shape,
@@ -33,6 +35,7 @@ pub struct Image {
     pub first: u64,
     /// The shape of the records that are triggered next.
     pub shape: Shape,
+    /// What the job is doing.
     pub mode: Mode,
     /// The greatest moment seen.
     pub latest: u64,

@@ -28,11 +28,18 @@ pub enum ScriptRefusal {
 /// How the record of an `all` line stands after its calls.
 #[derive(Clone, Copy, Debug, PartialEq, Eq)]
 pub enum AllEnd {
-    /// One of the calls completed it: `dropped` other records went, and `released` files wait for
-    /// deletion.
-    Completed { dropped: u32, released: u64 },
-    /// None of the calls completed it; of a record that is still pending, so many subtasks are missing.
-    Pending { missing: u64 },
+    /// One of the calls completed it.
+    Completed {
+        /// How many other records were dropped.
+        dropped: u32,
+        /// How many files were released, which wait for deletion now.
+        released: u64,
+    },
+    /// None of the calls completed it.
+    Pending {
+        /// How many subtasks are missing, if the record is still pending, and 0 otherwise.
+        missing: u64,
+    },
 }
 
 /// What a line of a script came to.
@@ -44,10 +51,13 @@ pub enum Outcome {
     Refused(ScriptRefusal),
     /// The call of the line was made. The answer may be a refusal of the coordinator.
     Answered(Answer),
-    /// The calls of an `all` line were made, of which so many were accepted and refused.
+    /// The calls of an `all` line were made.
     Acknowledged {
+        /// How many of them were accepted.
         accepted: u64,
+        /// How many were refused.
         refused: u64,
+        /// How the record stands after them.
         end: AllEnd,
     },
 }

@@ -4,6 +4,9 @@ use super::tables::Tables;
 use crate::model::{Call, Entry};
 use std::collections::VecDeque;
 
+/// The place of the call that released a file, where that was cut unread.
+pub const UNKNOWN: u64 = 0;
+
 /// Files that one call released, which wait for deletion.
 #[derive(Clone, Copy, Debug, PartialEq, Eq)]
 pub struct Run {
@@ -28,6 +31,14 @@ impl Outbox {
 
     /// Takes in a call of the log.
     pub fn follow(&mut self, tables: &Tables, call: &Call, entry: &Entry) -> rusqlite::Result<()> {
+        let names_files = match call {
+            Call::Ack { fresh, .. } => !fresh.is_empty(),
+            Call::Take { .. } | Call::Deleted { .. } => true,
+            _ => false,
+        };
+        if names_files || entry.waiting > 0 {
+            tables.place(call, entry)?;
+        }
         match call {
             Call::Ack { fresh, .. } => self.ack(tables, fresh, entry)?,
             Call::Take { .. } => return self.take(tables, entry),
@@ -51,7 +62,7 @@ impl Outbox {
         }
     }
 
-    fn push(&mut self, tables: &Tables, job: i64, released: u64, files: u64) -> rusqlite::Result<()> {
+    pub fn push(&mut self, tables: &Tables, job: i64, released: u64, files: u64) -> rusqlite::Result<()> {
         if files == 0 {
             return Ok(());
         }
@@ -84,6 +95,6 @@ impl Outbox {
             self.runs.pop_front();
             tables.drop_run(job, place)?;
         }
-        Ok(Some(released))
+        Ok((released != UNKNOWN).then_some(released))
     }
 }

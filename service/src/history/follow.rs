@@ -1,9 +1,11 @@
 //! One job's history, as it follows the log.
-use super::files::Outbox;
-use super::records::{Ended, Records};
+use super::files::{Outbox, UNKNOWN};
+use super::records::{Ended, Pending, Records};
 use super::tables::{acks_of, Progress, Tables};
-use crate::model::{parse_line, Entry, Opening};
-use crate::store::Reader;
+use crate::model::{parse_line, Contents, Entry, Image, Opening, SavedRecord};
+use crate::store::{Reader, Which};
+
+use std::collections::BTreeMap;
 
 /// How many entries of a record are looked at when its acknowledgements are read again: each subtask may repeat.
 const MOST_ABOUT: u32 = 100_000;
@@ -12,6 +14,8 @@ pub struct Follower {
     pub job: i64,
     pub name: String,
     pub upto: u64,
+    /// The log's first call, when what was before it was forgotten last.
+    pub first: u64,
     /// The moment of the last entry.
     at: u64,
     records: Records,
@@ -25,8 +29,7 @@ impl Follower {
         let job = opening.number;
         let mut progress = tables.progress(job).map_err(told)?;
         if let Some(read) = &progress {
-            let entry = reader.entry(job, read.upto)?;
-            if entry.is_none_or(|entry| entry.at != read.at) {
+            if !is_of(read, job, reader)? {
                 tables.forget(job).map_err(told)?;
                 progress = None;
             }
@@ -34,13 +37,31 @@ impl Follower {
         let start = || Progress { upto: 0, at: 0, shape: opening.shape.clone() };
         let Progress { upto, at, shape } = progress.unwrap_or_else(start);
         let mut records = Records::new(shape, opening.settings.timeout);
-        for (id, mut pending) in tables.pending(job).map_err(told)? {
-            let entries = reader.about(job, id, MOST_ABOUT)?;
-            acks_of(&entries, upto).for_each(|(subtask, at)| pending.ack(subtask, at));
-            records.pending.insert(id, pending);
-        }
+        records.pending = pending(tables, reader, job, upto)?;
         let outbox = Outbox::of(tables.runs(job).map_err(told)?);
-        Ok(Follower { job, name: opening.name.clone(), upto, at, records, outbox })
+        Ok(Follower { job, name: opening.name.clone(), upto, first: 1, at, records, outbox })
+    }
+
+    /// Goes on from an image, where calls before it can't be read: what they did to files is forgotten, and what became of
+    /// records that were live then is not known.
+    pub fn bridge(&mut self, tables: &Tables, image: &Image) -> Result<(), String> {
+        let contents = image.contents().ok_or_else(|| format!("the image after call {} is none", image.seq))?;
+        self.take_over(tables, image, &contents).map_err(|error| error.to_string())
+    }
+
+    fn take_over(&mut self, tables: &Tables, image: &Image, contents: &Contents) -> rusqlite::Result<()> {
+        tables.begin()?;
+        tables.forget_unread(self.job, image.at, &contents.records)?;
+        self.records = Records::new(image.shape.clone(), self.records.timeout);
+        for record in &contents.records {
+            let pending = tables.saved_record(self.job, record)?;
+            self.records.pending.extend((!record.is_done).then_some((record.id, pending)));
+        }
+        self.outbox = Outbox::default();
+        self.outbox.push(tables, self.job, UNKNOWN, contents.waiting)?;
+        (self.upto, self.at) = (image.seq, image.at);
+        tables.set_progress(self.job, self.upto, self.at, &self.records.shape)?;
+        tables.commit()
     }
 
     /// Takes in a page of the log, in one transaction, and returns which records stopped being pending, and when.
@@ -60,4 +81,31 @@ impl Follower {
         tables.commit()?;
         Ok(ended)
     }
+}
+
+/// Whether tables that are so far are of this log: of one that goes on after it, as far as that can be told.
+fn is_of(read: &Progress, job: i64, reader: &mut dyn Reader) -> Result<bool, String> {
+    if let Some(entry) = reader.entry(job, read.upto)? {
+        return Ok(entry.at == read.at);
+    }
+    let cut_at = reader.image(job, read.upto.saturating_sub(1), Which::Oldest)?;
+    Ok(cut_at.is_some_and(|saved| saved.image.seq > read.upto || saved.image.at == read.at))
+}
+
+/// The records that were pending, with their acknowledgements: those of the log, and of the image before it.
+fn pending(tables: &Tables, reader: &mut dyn Reader, job: i64, upto: u64) -> Result<BTreeMap<u64, Pending>, String> {
+    let mut found: BTreeMap<u64, Pending> =
+        tables.pending(job).map_err(|error| error.to_string())?.into_iter().collect();
+    if found.is_empty() {
+        return Ok(found);
+    }
+    let image = reader.image(job, 0, Which::Oldest)?.filter(|saved| saved.image.seq <= upto);
+    let saved = image.and_then(|saved| saved.image.contents()).map_or(Vec::new(), |contents| contents.records);
+    for (id, pending) in &mut found {
+        let before = saved.iter().filter(|record| record.id == *id).flat_map(|record: &SavedRecord| &record.acked);
+        pending.acked.extend(before);
+        let entries = reader.about(job, *id, MOST_ABOUT)?;
+        acks_of(&entries, upto).for_each(|(subtask, at)| pending.ack(subtask, at));
+    }
+    Ok(found)
 }

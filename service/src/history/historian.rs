@@ -3,7 +3,7 @@ use super::follow::Follower;
 use super::tables::Tables;
 use crate::log;
 use crate::metrics::Metrics;
-use crate::store::Reader;
+use crate::store::{Reader, Which};
 use crate::writer::{Board, JobState, Message, Read, ReadDone};
 use std::collections::HashMap;
 use std::path::PathBuf;
@@ -13,6 +13,8 @@ use std::time::{Duration, Instant};
 use tokio::sync::oneshot;
 
 const PAGE: u32 = 2000;
+/// Into how many parts of a log its calls go from the history.
+const PARTS: u64 = 8;
 /// How often the board is looked at.
 const LOOK: Duration = Duration::from_millis(100);
 /// How long the thread rests after an error.
@@ -55,11 +57,17 @@ impl Historian {
         loop {
             for (number, last) in self.board.lengths() {
                 if !followers.contains_key(&number) {
-                    followers.extend(self.follower(tables, number)?.map(|follower| (number, follower)));
+                    let follower = self.follower(tables, number)?;
+                    follower.iter().for_each(|follower| self.tell(follower));
+                    followers.extend(follower.map(|follower| (number, follower)));
                 }
-                if let Some(follower) = followers.get_mut(&number).filter(|follower| follower.upto < last) {
+                let Some(follower) = followers.get_mut(&number) else {
+                    continue;
+                };
+                if follower.upto < last {
                     self.catch_up(tables, follower)?;
                 }
+                self.forget(tables, follower)?;
             }
             self.sample(tables, &mut samples)?;
             std::thread::sleep(LOOK);
@@ -77,13 +85,51 @@ impl Historian {
     /// One page, so that a long log of one job keeps no other waiting.
     fn catch_up(&mut self, tables: &Tables, follower: &mut Follower) -> Result<(), String> {
         let page = self.reader.log(follower.job, follower.upto, PAGE)?;
+        if page.first().is_none_or(|entry| entry.seq != follower.upto + 1) {
+            return self.bridge(tables, follower);
+        }
         let ended = follower.follow(tables, &page).map_err(|error| error.to_string())?;
         for (at, one) in ended.iter().filter(|(at, _)| *at >= self.since) {
             debug_assert!(*at >= self.since);
             self.metrics.record(&follower.name, &one.kind.to_string(), one.how, one.took as f64 / 1000.0);
         }
-        self.metrics.history(&follower.name, follower.upto);
+        self.tell(follower);
         Ok(())
+    }
+
+    /// The calls that come next were cut: it goes on from an image.
+    fn bridge(&mut self, tables: &Tables, follower: &mut Follower) -> Result<(), String> {
+        let Some(saved) = self.reader.image(follower.job, follower.upto, Which::Oldest)? else {
+            return Ok(());
+        };
+        let (from, upto) = (follower.upto, saved.image.seq);
+        follower.bridge(tables, &saved.image)?;
+        if from > 0 {
+            log::warn(&format!("history job={}: calls {} to {upto} were cut unread", follower.name, from + 1));
+        }
+        self.tell(follower);
+        Ok(())
+    }
+
+    /// Lets go of what the log's cut lets go of, where that is an eighth of what the log has: it looks at all files.
+    fn forget(&self, tables: &Tables, follower: &mut Follower) -> Result<(), String> {
+        let first = self.board.first(&follower.name);
+        let has = follower.upto.saturating_sub(first);
+        if first <= follower.first.saturating_add(has / PARTS) {
+            return Ok(());
+        }
+        follower.first = first;
+        let forget = || {
+            tables.begin()?;
+            tables.forget_deleted(follower.job, first)?;
+            tables.commit()
+        };
+        forget().map_err(|error: rusqlite::Error| error.to_string())
+    }
+
+    fn tell(&self, follower: &Follower) {
+        self.metrics.history(&follower.name, follower.upto);
+        self.board.set_history(&follower.name, follower.upto);
     }
 
     /// Writes how many files and pending records each job has.

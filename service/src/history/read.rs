@@ -1,5 +1,7 @@
 //! Reads of the history.
 use super::tables::bits;
+use crate::model::Entry;
+use crate::store::entry_of;
 use rusqlite::{params, Connection, OpenFlags, OptionalExtension, Params, Row};
 use serde::Serialize;
 use std::path::Path;
@@ -51,6 +53,17 @@ pub struct Sample {
     pub pending: i64,
 }
 
+impl FileRow {
+    fn unknown(file: u64) -> FileRow {
+        FileRow { file: file.to_string(), born: None, released: None, taken: None, deleted: None }
+    }
+
+    /// The places of the calls that it names.
+    pub fn places(&self) -> Vec<u64> {
+        [self.born, self.released, self.taken, self.deleted].into_iter().flatten().collect()
+    }
+}
+
 pub struct HistoryReader(Connection);
 
 impl HistoryReader {
@@ -81,15 +94,26 @@ impl HistoryReader {
         Ok(self.all(&sql, params![job, bits(id)], record_of)?.pop())
     }
 
-    /// Files that were taken and not reported since, the oldest first, and those that were deleted last.
-    pub fn files(&self, job: i64, most: u64) -> Result<(Vec<FileRow>, Vec<FileRow>), String> {
-        let taken = format!(
-            "select {FILE} from file where job = ? and taken is not null and deleted is null order by taken limit ?"
-        );
-        let deleted =
+    /// The files that were deleted last.
+    pub fn deleted(&self, job: i64, most: u64) -> Result<Vec<FileRow>, String> {
+        let sql =
             format!("select {FILE} from file where job = ? and deleted is not null order by deleted desc limit ?");
-        let given = params![job, bits(most)];
-        Ok((self.all(&taken, given, file_of)?, self.all(&deleted, given, file_of)?))
+        self.all(&sql, params![job, bits(most)], file_of)
+    }
+
+    /// What is known of these files, in the order in which they were taken.
+    pub fn of_files(&self, job: i64, files: &[u64]) -> Result<Vec<FileRow>, String> {
+        let known = |file: &u64| Ok(self.file(job, *file)?.unwrap_or_else(|| FileRow::unknown(*file)));
+        let mut rows: Vec<FileRow> = files.iter().map(known).collect::<Result<_, String>>()?;
+        rows.sort_by_key(|row| row.taken);
+        Ok(rows)
+    }
+
+    /// The calls at these places, without their lists of files.
+    pub fn places(&self, job: i64, places: &[u64]) -> Result<Vec<Entry>, String> {
+        let sql = "select job, seq, at, record, line, answer, ended, waiting from place where job = ? and seq = ?";
+        let at = |seq: &u64| self.all(sql, params![job, bits(*seq)], entry_of);
+        Ok(places.iter().map(at).collect::<Result<Vec<_>, String>>()?.concat())
     }
 
     pub fn file(&self, job: i64, file: u64) -> Result<Option<FileRow>, String> {

@@ -1,12 +1,14 @@
 //! The tables of the history, in an SQLite file of their own.
 use super::files::Run;
 use super::records::Pending;
-use crate::model::{parse_line, shape_words, Call, Entry, Kind};
+use crate::model::{parse_line, shape_words, Call, Entry, Kind, SavedRecord};
 use crate::writer::JobState;
 use rusqlite::{params, Connection, OptionalExtension, Params, Row};
 use std::path::Path;
 
 const SCHEMA: &str = include_str!("../../sql/history.sql");
+const PENDING: &str = "select id, kind, shape, started, first_ack, last_ack, slowest from record
+    where job = ? and how = 'pending'";
 const PROGRESS: &str = "select upto, at, shape from progress where job = ?";
 
 /// How far the history of a job is: the last entry that was read, and the job's shape there.
@@ -24,7 +26,8 @@ impl Tables {
         connection.pragma_update(None, "journal_mode", "wal")?;
         connection.pragma_update(None, "synchronous", "normal")?;
         connection.execute_batch(SCHEMA)?;
-        connection.prepare(PROGRESS)?; // fails over the tables of an earlier version
+        connection.prepare(PROGRESS)?; // fails over the tables of an earlier version, as the next line does
+        connection.prepare("select 1 from version where number = 2")?.query_row([], |_| Ok(()))?;
         connection.set_prepared_statement_cache_capacity(32);
         Ok(Tables(connection))
     }
@@ -65,20 +68,71 @@ impl Tables {
 
     /// Forgets a job, so that its history is made anew.
     pub fn forget(&self, job: i64) -> rusqlite::Result<()> {
-        ["progress", "record", "file", "queue"]
+        ["progress", "record", "file", "queue", "place"]
             .iter()
             .try_for_each(|table| self.0.execute(&format!("delete from {table} where job = ?"), [job]).map(|_| ()))
     }
 
-    /// The records that were pending, without their acknowledgements.
+    /// Forgets what is not known where calls were not read: files, and how records ended that are no more at the moment `at`.
+    pub fn forget_unread(&self, job: i64, at: u64, live: &[SavedRecord]) -> rusqlite::Result<()> {
+        ["file", "queue", "place"]
+            .iter()
+            .try_for_each(|table| self.0.execute(&format!("delete from {table} where job = ?"), [job]).map(|_| ()))?;
+        let live = live.iter().map(|record| record.id.to_string()).collect::<Vec<_>>().join(",");
+        let gone = format!("job = ?1 and gone is null and id not in ({live})");
+        self.0.execute(&format!("delete from record where how = 'pending' and {gone}"), [job])?;
+        let sql = format!("update record set gone = ?2, why = 'not known' where {gone}");
+        self.0.execute(&sql, params![job, signed(at)]).map(|_| ())
+    }
+
+    /// A live record of an image, which is added where it is not there; what is known of it while it is pending.
+    pub fn saved_record(&self, job: i64, saved: &SavedRecord) -> rusqlite::Result<Pending> {
+        let mut pending = Pending::new(saved.kind, saved.shape.clone(), saved.started);
+        pending.acked.extend(&saved.acked);
+        let sql = "insert or ignore into record(job, id, kind, shape, started, how, acks) values(?, ?, ?, ?, ?, 'pending', 0)";
+        let (id, shape) = (signed(saved.id), shape_words(&saved.shape));
+        self.run(sql, params![job, id, saved.kind.to_string(), shape, signed(saved.started)])?;
+        let how = if saved.is_done { "completed" } else { "pending" };
+        let sql = "update record set how = ?3, acks = ?4, missing = null where job = ?1 and id = ?2";
+        self.run(sql, params![job, id, how, i64::try_from(saved.acked.len()).unwrap_or(i64::MAX)])?;
+        Ok(pending)
+    }
+
+    /// Keeps what a call says, but for lists of files, since the log may be cut before its files are gone.
+    pub fn place(&self, call: &Call, entry: &Entry) -> rusqlite::Result<()> {
+        let line = match call {
+            Call::Ack { .. } => entry.line.splitn(5, ' ').take(4).collect::<Vec<_>>().join(" "),
+            _ => entry.line.clone(),
+        };
+        let answer = if matches!(call, Call::Take { .. }) { "take" } else { entry.answer.as_str() };
+        let record = entry.record.map(signed);
+        let ([seq, at, waiting], ended) = ([entry.seq, entry.at, entry.waiting].map(signed), &entry.ended);
+        let given = params![entry.job, seq, at, record, line, answer, ended, waiting];
+        self.run("insert or replace into place values(?, ?, ?, ?, ?, ?, ?, ?)", given)
+    }
+
+    /// Forgets files that were deleted before the log's first call, and calls before it that no file names.
+    pub fn forget_deleted(&self, job: i64, first: u64) -> rusqlite::Result<()> {
+        let given = params![job, signed(first)];
+        self.run("delete from file where job = ? and deleted < ?", given)?;
+        let named = ["born", "released", "taken", "deleted"]
+            .map(|place| format!("select {place} from file where job = ?1 and {place} < ?2"))
+            .join(" union ");
+        self.run(&format!("delete from place where job = ?1 and seq < ?2 and seq not in ({named})"), given)
+    }
+
+    /// The records that were pending, without the subtasks that acknowledged.
     pub fn pending(&self, job: i64) -> rusqlite::Result<Vec<(u64, Pending)>> {
-        let mut query =
-            self.0.prepare("select id, kind, shape, started from record where job = ? and how = 'pending'")?;
+        let mut query = self.0.prepare(PENDING)?;
         let rows = query.query_map([job], |row| {
             let (kind, shape): (String, String) = (row.get(1)?, row.get(2)?);
             let kind = if kind == "savepoint" { Kind::Savepoint } else { Kind::Checkpoint };
             let shape = shape.split(' ').filter_map(|word| word.parse().ok()).collect();
-            Ok((unsigned(row.get(0)?), Pending::new(kind, shape, unsigned(row.get(3)?))))
+            let moment = |at: usize| Ok::<_, rusqlite::Error>(row.get::<_, Option<i64>>(at)?.map(unsigned));
+            let mut pending = Pending::new(kind, shape, unsigned(row.get(3)?));
+            (pending.first_ack, pending.last_ack) = (moment(4)?, moment(5)?);
+            pending.slowest = row.get::<_, Option<String>>(6)?.and_then(|text| text.parse().ok());
+            Ok((unsigned(row.get(0)?), pending))
         })?;
         rows.collect()
     }
@@ -129,7 +183,9 @@ impl Tables {
     }
 
     pub fn deleted(&self, job: i64, file: u64, seq: u64) -> rusqlite::Result<()> {
-        self.run("update file set deleted = ?3 where job = ?1 and file = ?2", params![job, bits(file), signed(seq)])
+        let sql =
+            "insert into file(job, file, deleted) values(?, ?, ?) on conflict do update set deleted = excluded.deleted";
+        self.run(sql, params![job, bits(file), signed(seq)])
     }
 
     /// A taken file waits again: which call had released it.

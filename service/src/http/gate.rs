@@ -52,8 +52,9 @@ async fn dispatch(app: &App, route: Route, request: Request<Body>) -> Result<Rep
 fn no_route(none: &NoRoute) -> Reply {
     match none {
         NoRoute::Path => error(404, "there is no such path"),
-        NoRoute::Method => with_header(error(405, "this path has no such method"), ALLOW, "GET, POST"),
-        NoRoute::Part(part) => super::reply::bad_field(part, "has not the form of one"),
+        NoRoute::Method(has) => with_header(error(405, &format!("this path takes {has} alone")), ALLOW, has),
+        NoRoute::Part("job") => super::reply::bad_field("job", super::wire::NO_NAME),
+        NoRoute::Part(part) => super::reply::bad_field(part, "is no whole number from 0 to 2^64 - 1"),
     }
 }
 

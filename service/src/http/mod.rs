@@ -11,6 +11,7 @@ mod wire;
 mod writes;
 
 pub use server::serve;
+pub use wire::is_name;
 
 use crate::auth::Tokens;
 use crate::config::Limits;

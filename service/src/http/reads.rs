@@ -4,7 +4,6 @@ use super::render;
 use super::reply::{error, json_reply, with_type, Reply};
 use super::route::Route;
 use super::{no_job, App};
-use crate::model::Entry;
 use crate::writer::{Read, ReadDone, RecordState};
 use serde_json::{json, Value};
 use std::time::Duration;
@@ -12,8 +11,6 @@ use std::time::Duration;
 const MOST_ROWS: u64 = 1000;
 const MOST_WAIT: u64 = 60;
 const MOST_SAMPLES: u64 = 20_000;
-/// Entries of a record that are looked at for a file's uses.
-const MOST_ABOUT: u32 = 100_000;
 const AFTER: Parameter = Parameter { name: "after", most: u64::MAX, default: 0 };
 
 const fn limit(most: u64, default: u64) -> Parameter {
@@ -117,8 +114,16 @@ fn parts(live: Option<RecordState>) -> Result<RecordParts, Box<Reply>> {
 async fn files(app: &App, job: &str, query: &str) -> Result<Reply, Box<Reply>> {
     let [most] = numbers(query, [limit(MOST_ROWS, 100)])?;
     let number = app.number(job)?;
-    let ((taken, deleted), upto) =
-        app.read_history(move |history| Ok((history.files(number, most)?, history.upto(number)?))).await?;
+    let taken = match app.read(Read::Taken(job.to_string())).await? {
+        ReadDone::Taken(taken) => taken.ok_or_else(|| error(507, "memory ran out"))?,
+        _ => return Err(no_job(job).into()),
+    };
+    let (taken, deleted, upto) = app
+        .read_history(move |history| {
+            Ok((history.of_files(number, &taken)?, history.deleted(number, most)?, history.upto(number)?))
+        })
+        .await?;
+    let taken = &taken[..taken.len().min(rows(most) as usize)];
     Ok(json_reply(200, &json!({"upto": upto, "taken": taken, "deleted": deleted})))
 }
 
@@ -130,33 +135,41 @@ async fn one_file(app: &App, job: String, file: u64, query: &str) -> Result<Repl
         ReadDone::File { uses, live } => (uses, live),
         _ => return Err(no_job(&job).into()),
     };
-    let history = app.read_history(move |history| history.file(number, file)).await?;
-    let places: Vec<u64> =
-        history.iter().flat_map(|row| [row.born, row.released, row.taken, row.deleted]).flatten().collect();
-    let is_used = uses != Some(0);
-    let (by, entries) = app
-        .read_log(move |reader| {
-            let mut by = Vec::new();
-            for id in live.into_iter().filter(|_| is_used) {
-                by.extend(render::uses(&reader.about(number, id, MOST_ABOUT)?, file));
-            }
-            let entries = places.into_iter().map(|seq| reader.entry(number, seq)).collect::<Result<Vec<_>, _>>()?;
-            Ok((by, entries.into_iter().flatten().collect::<Vec<Entry>>()))
+    let live = if uses == Some(0) { Vec::new() } else { live };
+    let by = used_by(app, &job, file, live).await?;
+    let pins = uses.map(|uses| uses.saturating_sub(by.len() as u64));
+    let history = app
+        .read_history(move |history| {
+            let row = history.file(number, file)?;
+            row.map(|row| Ok(render::file_history(&row, &history.places(number, &row.places())?))).transpose()
         })
         .await?;
-    let pins = uses.map(|uses| uses.saturating_sub(by.len() as u64));
-    let history = history.map(|row| render::file_history(&row, &entries));
     Ok(json_reply(
         200,
         &json!({"file": file.to_string(), "uses": uses, "pins": pins, "used_by": by, "history": history}),
     ))
 }
 
+/// The acknowledgements of these live records that name a file. One record is read at a time, so that none keeps the writer
+/// for long; one that ended meanwhile has none.
+async fn used_by(app: &App, job: &str, file: u64, live: Vec<u64>) -> Result<Vec<Value>, Box<Reply>> {
+    let file = file.to_string();
+    let mut by = Vec::new();
+    for id in live {
+        if let ReadDone::Record(record) = app.read(Read::Record { job: job.to_string(), id }).await? {
+            by.extend(render::uses(id, &parts(record)?.metadata, &file));
+        }
+    }
+    Ok(by)
+}
+
 async fn log(app: &App, job: &str, query: &str) -> Result<Reply, Box<Reply>> {
     let [after, most] = numbers(query, [AFTER, limit(MOST_ROWS, 100)])?;
     let number = app.number(job)?;
+    let first = app.board.first(job);
+    let after = after.max(first - 1);
     let page = app.read_log(move |reader| reader.log(number, after, rows(most))).await?;
-    Ok(json_reply(200, &json!({"calls": page.iter().map(render::entry).collect::<Vec<_>>()})))
+    Ok(json_reply(200, &json!({"first": first, "calls": page.iter().map(render::entry).collect::<Vec<_>>()})))
 }
 
 /// The events after a place, once there is one, or after a time.
@@ -174,10 +187,11 @@ async fn events(app: &App, job: &str, query: &str) -> Result<Reply, Box<Reply>> 
     };
     // where the time is over, there are no events
     let _ = tokio::time::timeout(Duration::from_secs(wait), come).await;
-    let page = app.read_log(move |reader| reader.events(number, after, rows(most))).await?;
+    let first = app.board.first(job);
+    let page = app.read_log(move |reader| reader.events(number, after.max(first - 1), rows(most))).await?;
     let upto = page.last().map_or(after, |entry| entry.seq);
     let events: Vec<Value> = page.iter().filter_map(render::event).collect();
-    Ok(json_reply(200, &json!({"upto": upto, "events": events})))
+    Ok(json_reply(200, &json!({"first": first, "upto": upto, "events": events})))
 }
 
 async fn samples(app: &App, job: &str, query: &str) -> Result<Reply, Box<Reply>> {

@@ -40,6 +40,8 @@ pub fn job(state: &JobState) -> Value {
         "files": {"in_use": files.in_use, "waiting": files.waiting, "taken": files.taken},
         "last_completed": state.last_completed,
         "last_event": state.last_event,
+        "first": state.first,
+        "image": state.image.map(|image| json!({"seq": image.seq, "at": image.at, "bytes": image.bytes})),
         "live": state.live.iter().map(live).collect::<Vec<_>>(),
     })
 }
@@ -159,15 +161,9 @@ pub fn metadata(text: &str) -> Option<Value> {
     Some(value)
 }
 
-/// Which of these entries are accepted acknowledgements that name a file: record, subtask, place, and whether it was new.
-pub fn uses(entries: &[Entry], file: u64) -> Vec<Value> {
-    let accepted = entries.iter().filter(|entry| !entry.answer.starts_with("ack late"));
-    let named = accepted.filter_map(|entry| match parse_line(&entry.line)? {
-        (_, Call::Ack { id, subtask, fresh, reused }) if fresh.contains(&file) || reused.contains(&file) => {
-            let how = if fresh.contains(&file) { "fresh" } else { "reused" };
-            Some(json!({"record": id, "subtask": subtask.to_string(), "seq": entry.seq, "as": how}))
-        }
-        _ => None,
-    });
-    named.collect()
+/// Which acknowledgements of a live record, of its metadata, name a file.
+pub fn uses(id: u64, metadata: &Value, file: &str) -> Vec<Value> {
+    let acks = metadata["acks"].as_array().map(Vec::as_slice).unwrap_or_default();
+    let names = |ack: &&Value| ack["files"].as_array().is_some_and(|files| files.iter().any(|one| one == file));
+    acks.iter().filter(names).map(|ack| json!({"record": id, "subtask": ack["subtask"]})).collect()
 }

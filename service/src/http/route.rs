@@ -29,8 +29,8 @@ pub enum Route {
 pub enum NoRoute {
     /// There is no such path.
     Path,
-    /// The path is there, but not with this method.
-    Method,
+    /// The path is there, but with these methods alone.
+    Method(&'static str),
     /// A part of the path has not the form that it needs.
     Part(&'static str),
 }
@@ -59,7 +59,7 @@ impl Route {
     pub fn of(method: &Method, path: &str) -> Result<Route, NoRoute> {
         let is_get = method == Method::GET || method == Method::HEAD;
         if let Some(asset) = page::asset(path) {
-            return if is_get { Ok(Route::Asset(asset)) } else { Err(NoRoute::Method) };
+            return if is_get { Ok(Route::Asset(asset)) } else { Err(NoRoute::Method("GET")) };
         }
         let parts: Vec<&str> = path.split('/').skip(1).collect();
         match (&parts[..], is_get, method == Method::POST) {
@@ -68,7 +68,8 @@ impl Route {
             (["metrics"], true, _) => Ok(Route::Metrics),
             (["v1", "jobs"], true, _) => Ok(Route::Jobs),
             (["v1", "jobs"], _, true) => Ok(Route::NewJob),
-            (["healthz" | "readyz" | "metrics"] | ["v1", "jobs"], ..) => Err(NoRoute::Method),
+            (["healthz" | "readyz" | "metrics"], ..) => Err(NoRoute::Method("GET")),
+            (["v1", "jobs"], ..) => Err(NoRoute::Method("GET, POST")),
             (["v1", "jobs", name, rest @ ..], ..) => Route::of_job(name, rest, method, is_get),
             _ => Err(NoRoute::Path),
         }
@@ -80,7 +81,7 @@ impl Route {
         }
         let name = name.to_string();
         if rest == ["calls"] {
-            return if method == Method::POST { Ok(Route::Calls(name)) } else { Err(NoRoute::Method) };
+            return if method == Method::POST { Ok(Route::Calls(name)) } else { Err(NoRoute::Method("POST")) };
         }
         let route = match rest {
             [] => Route::Job(name),
@@ -96,7 +97,7 @@ impl Route {
         if is_get {
             Ok(route)
         } else {
-            Err(NoRoute::Method)
+            Err(NoRoute::Method("GET"))
         }
     }
 
@@ -187,8 +188,8 @@ mod tests {
         assert_eq!(Route::of(&Method::GET, "/v1/jobs/..%2f/log"), Err(NoRoute::Part("job")));
         assert_eq!(Route::of(&Method::GET, "/v1/jobs/a/records/x"), Err(NoRoute::Part("id")));
         assert_eq!(Route::of(&Method::GET, "/v1/jobs/a/files/+1"), Err(NoRoute::Part("file")));
-        assert_eq!(Route::of(&Method::PUT, "/v1/jobs"), Err(NoRoute::Method));
-        assert_eq!(Route::of(&Method::DELETE, "/v1/jobs/a"), Err(NoRoute::Method));
-        assert_eq!(Route::of(&Method::GET, "/v1/jobs/a/calls"), Err(NoRoute::Method));
+        assert_eq!(Route::of(&Method::PUT, "/v1/jobs"), Err(NoRoute::Method("GET, POST")));
+        assert_eq!(Route::of(&Method::DELETE, "/v1/jobs/a"), Err(NoRoute::Method("GET")));
+        assert_eq!(Route::of(&Method::GET, "/v1/jobs/a/calls"), Err(NoRoute::Method("POST")));
     }
 }

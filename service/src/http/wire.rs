@@ -6,6 +6,8 @@ use serde_json::{Map, Value};
 const GREATEST: u64 = 1 << 53;
 const MOST_TAKEN: u64 = 65_536;
 const LONGEST_NAME: usize = 64;
+pub const NO_NAME: &str = "is no name: 1 to 64 of a-z, A-Z, 0-9, '-', '_' and '.', and a letter or digit first";
+const CALLS: &str = "ack, decline, tick, savepoint, dispose, restore, cancel, take, deleted and undeleted";
 
 /// What is wrong with a request, and where.
 #[derive(Debug, PartialEq, Eq)]
@@ -144,8 +146,7 @@ pub fn new_job(bytes: &[u8]) -> Checked<NewJob> {
     let mut members = body(bytes)?;
     let name = members.text("name")?;
     if !is_name(&name) {
-        let why = "is no name: 1 to 64 of a-z, A-Z, 0-9, '-', '_' and '.', and a letter or digit first";
-        return Err(members.wrong("name", why));
+        return Err(members.wrong("name", NO_NAME));
     }
     let settings = settings(Members::of("settings", members.wanted("settings")?)?)?;
     let shape = members.shape()?.ok_or_else(|| members.wrong("shape", "is missing"))?;
@@ -208,7 +209,7 @@ fn call(mut members: Members) -> Checked<Call> {
         "take" => Call::Take { most: members.number("most", 1, MOST_TAKEN)? },
         "deleted" => Call::Deleted { file: members.file()? },
         "undeleted" => Call::Undeleted { file: members.file()? },
-        _ => return Err(members.wrong("call", &format!("{name:?} is no call"))),
+        _ => return Err(members.wrong("call", &format!("{name:?} is no call: there are {CALLS}"))),
     };
     members.finish()?;
     Ok(call)

@@ -1,14 +1,13 @@
 //! Requests that change something: a new job, and calls.
 use super::reply::{bad_field, body, error, invalid, json_reply, Reply};
 use super::{gate, no_job, wire, App, BODY_UNIT};
-use crate::model::{settings_json, Call};
+use crate::model::{settings_json, sha256, Call};
 use crate::writer::{CallsDone, Created, Key, Message};
 use http_body::{LengthLimitError, Limited};
 use hyper::body::{Bytes, HttpBody};
 use hyper::header::HeaderMap;
 use hyper::{Body, Request};
 use serde_json::json;
-use sha2::{Digest, Sha256};
 use std::sync::Arc;
 use std::time::Duration;
 use tokio::sync::OwnedSemaphorePermit;
@@ -42,7 +41,7 @@ pub async fn calls(app: &App, job: String, request: Request<Body>) -> Result<Rep
     if let Some(call) = calls.iter().find(|call| call.wants_key()).filter(|_| name.is_none()) {
         return Err(key_is_missing(call).into());
     }
-    let key = name.map(|name| Key { name, digest: digest(&bytes) });
+    let key = name.map(|name| Key { name, digest: sha256(&bytes) });
     let at = job.clone();
     let done = app.ask(|reply| Message::Calls { job, calls, key, reply }).await?;
     Ok(match done {
@@ -71,10 +70,6 @@ fn key_name(headers: &HeaderMap) -> Result<Option<String>, Box<Reply>> {
         Ok(name) if (1..=LONGEST_KEY).contains(&name.len()) => Ok(Some(name.to_string())),
         _ => Err(bad_field("Idempotency-Key", &format!("has not 1 to {LONGEST_KEY} characters of ASCII")).into()),
     }
-}
-
-fn digest(bytes: &[u8]) -> String {
-    Sha256::digest(bytes).iter().map(|byte| format!("{byte:02x}")).collect()
 }
 
 /// The whole body, within its limits of bytes and time, and its room, which is taken until the request is answered.

@@ -24,6 +24,21 @@ impl Engine {
         opened.map(Engine).map_err(|fault| NoJob(format!("{fault:?}")))
     }
 
+    /// Opens the coordinator of an image.
+    pub fn of_image(text: &str) -> Result<Engine, Fault> {
+        relkvanu::Coordinator::open_saved(text.as_bytes()).map(Engine).map_err(fault)
+    }
+
+    /// The coordinator's image; `None` where memory ran out.
+    pub fn image(&self) -> Option<String> {
+        self.0.save().ok()
+    }
+
+    /// The files that were taken and not reported, ascending; `None` where memory ran out.
+    pub fn taken(&self) -> Option<Vec<u64>> {
+        self.0.taken_files().ok()
+    }
+
     /// Makes a call at the moment `now`.
     pub fn make(&mut self, call: &Call, now: u64) -> Result<Reply, Fault> {
         let core = &mut self.0;

@@ -1,6 +1,8 @@
 //! One job: its coordinator, its place in the log, and when the timer has to tick it.
 use super::call::Call;
 use super::engine::{Engine, Fault, NoJob};
+use super::image::Image;
+use super::kept::Kept;
 use super::live::{ended, Live};
 use super::outcome::{Outcome, Reply};
 use super::settings::pending_limit;
@@ -39,12 +41,16 @@ pub struct Job {
     pub opening: Opening,
     /// The shape that the job has now.
     pub shape: Vec<u64>,
-    /// How many calls the log has.
+    /// How many calls were made.
     pub seq: u64,
+    /// The moment of the last one.
+    pub at: u64,
     /// When the last checkpoint completed.
     pub last_completed: Option<u64>,
     /// The last call that an engine hears of through the events.
     pub last_event: u64,
+    /// What the database has of the log, where this process leads.
+    pub kept: Kept,
     engine: Engine,
     live: Live,
 }
@@ -52,8 +58,26 @@ pub struct Job {
 impl Job {
     pub fn open(opening: Opening) -> Result<Job, NoJob> {
         let engine = Engine::open(&opening.settings, &opening.shape, opening.started)?;
-        let shape = opening.shape.clone();
-        Ok(Job { opening, shape, seq: 0, last_completed: None, last_event: 0, engine, live: Live::new() })
+        let (shape, at, kept) = (opening.shape.clone(), opening.started, Kept::default());
+        let live = Live::new();
+        Ok(Job { opening, shape, seq: 0, at, last_completed: None, last_event: 0, kept, engine, live })
+    }
+
+    /// Goes on from an image.
+    pub fn resume(&mut self, image: &Image) -> Result<(), Fault> {
+        self.engine = Engine::of_image(&image.text)?;
+        self.live = self.engine.live();
+        self.shape.clone_from(&image.shape);
+        (self.seq, self.at) = (image.seq, image.at);
+        (self.last_completed, self.last_event) = (image.last_completed, image.last_event);
+        Ok(())
+    }
+
+    /// The image of the job as it is now; `None` where memory ran out.
+    pub fn image(&self) -> Option<Image> {
+        let Job { seq, at, last_completed, last_event, .. } = *self;
+        let (job, shape, text) = (self.opening.number, self.shape.clone(), self.engine.image()?);
+        Some(Image { job, seq, at, shape, last_completed, last_event, text })
     }
 
     /// Makes a call. Where it changed something, there is the row that has to be committed before the call is answered.
@@ -68,6 +92,7 @@ impl Job {
             return (Outcome::Made { seq: None, reply }, None);
         }
         self.seq += 1;
+        self.at = self.at.max(now);
         let entry = self.entry(call, now, &reply, waiting);
         (Outcome::Made { seq: Some(self.seq), reply }, Some(entry))
     }
@@ -80,7 +105,7 @@ impl Job {
         Entry {
             job: self.opening.number,
             seq: self.seq,
-            at: now,
+            at: self.at,
             record,
             line: call.line(now),
             answer: reply.text(),

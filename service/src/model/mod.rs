@@ -2,7 +2,9 @@
 mod call;
 mod clock;
 mod engine;
+mod image;
 mod job;
+mod kept;
 mod lines;
 mod live;
 mod outcome;
@@ -10,8 +12,10 @@ mod settings;
 
 pub use call::{Call, Subtask, Target};
 pub use clock::Clock;
-pub use engine::NoJob;
+pub use engine::{Fault, NoJob};
+pub use image::{sha256, Contents, Image, SavedRecord};
 pub use job::{Entry, Job, Opening};
+pub use kept::{Cut, Keeping, Kept, KeptImage};
 pub use lines::parse_line;
 pub use outcome::Outcome;
 pub use relkvanu::{Choice, FileCounts, Kind, Live as LiveRecord, Mode, Settings};

@@ -1,6 +1,9 @@
 //! The log in one SQLite file: a write-ahead log, synced at each commit.
-use super::rows::{Failure, Group, Keyed, LogPage, Reader, Store, Written, COLUMNS, IS_EVENT};
-use crate::model::{config_line, parse_config, Entry, Opening};
+use super::rows::{
+    Failure, Group, Keyed, LogPage, Reader, SavedImage, Store, Unusable, Which, Written, COLUMNS, IMAGE_COLUMNS,
+    IS_EVENT, VERSION,
+};
+use crate::model::{config_line, parse_config, shape_words, Cut, Entry, Image, KeptImage, Opening};
 use rusqlite::{params, Connection, ErrorCode, OpenFlags, OptionalExtension, Row};
 use std::fs::File;
 use std::path::{Path, PathBuf};
@@ -18,16 +21,20 @@ pub struct Lite {
 }
 
 impl Lite {
-    pub fn open(path: &Path) -> Result<Lite, String> {
-        let lock = locked(path)?;
-        let connection = Connection::open(path).map_err(|error| format!("{}: {error}", path.display()))?;
+    /// Opens the database, and makes the tables that are not there.
+    pub fn open(path: &Path) -> Result<Lite, Unusable> {
+        let failed = |error: rusqlite::Error| Unusable::Failed(format!("{}: {error}", path.display()));
+        let lock = locked(path).map_err(Unusable::Failed)?;
+        let connection = Connection::open(path).map_err(failed)?;
+        let found = connection.pragma_query_value(None, "user_version", |row| row.get(0)).map_err(failed)?;
+        Unusable::check(found)?;
         let set = || -> rusqlite::Result<()> {
             connection.busy_timeout(BUSY)?;
             connection.pragma_update(None, "journal_mode", "wal")?;
             connection.pragma_update(None, "synchronous", "full")?;
-            connection.execute_batch(SCHEMA)
+            connection.execute_batch(&format!("begin immediate; {SCHEMA} pragma user_version = {VERSION}; commit"))
         };
-        set().map_err(|error| format!("{}: {error}", path.display()))?;
+        set().map_err(failed)?;
         Ok(Lite { connection, _lock: lock })
     }
 }
@@ -89,39 +96,61 @@ impl Store for Lite {
 /// One transaction. It is rolled back where this returns an error.
 fn write(connection: &mut Connection, group: &Group) -> rusqlite::Result<()> {
     let transaction = connection.transaction()?;
-    {
-        let mut insert = transaction.prepare_cached("insert into job values(?, ?, ?, ?, ?, 1, ?)")?;
-        for job in &group.jobs {
-            let shape = crate::model::shape_words(&job.shape);
-            let line = config_line(&job.settings);
-            insert.execute(params![
-                job.number,
-                job.name,
-                line,
-                shape,
-                signed(job.started),
-                env!("CARGO_PKG_VERSION")
-            ])?;
-        }
-        let mut insert = transaction.prepare_cached("insert into call values(?, ?, ?, ?, ?, ?, ?, ?)")?;
-        for entry in &group.entries {
-            insert.execute(params![
-                entry.job,
-                signed(entry.seq),
-                signed(entry.at),
-                entry.record.map(signed),
-                entry.line,
-                entry.answer,
-                entry.ended,
-                signed(entry.waiting)
-            ])?;
-        }
-        let mut insert = transaction.prepare_cached("insert into request values(?, ?, ?, ?, ?)")?;
-        for request in &group.requests {
-            insert.execute(params![request.job, request.key, signed(request.at), request.digest, request.answers])?;
-        }
-    }
+    write_jobs(&transaction, &group.jobs)?;
+    write_entries(&transaction, &group.entries)?;
+    write_requests(&transaction, &group.requests)?;
+    write_images(&transaction, &group.images)?;
+    drop_images(&transaction, &group.dropped)?;
+    cut(&transaction, &group.cuts)?;
     transaction.commit()
+}
+
+fn write_jobs(within: &Connection, jobs: &[Opening]) -> rusqlite::Result<()> {
+    let mut insert = within.prepare_cached("insert into job values(?, ?, ?, ?, ?, 1, ?)")?;
+    for job in jobs {
+        let (line, shape) = (config_line(&job.settings), shape_words(&job.shape));
+        insert.execute(params![job.number, job.name, line, shape, signed(job.started), env!("CARGO_PKG_VERSION")])?;
+    }
+    Ok(())
+}
+
+fn write_entries(within: &Connection, entries: &[Entry]) -> rusqlite::Result<()> {
+    let mut insert = within.prepare_cached("insert into call values(?, ?, ?, ?, ?, ?, ?, ?)")?;
+    for entry in entries {
+        let numbers = [entry.seq, entry.at, entry.waiting].map(signed);
+        let ([seq, at, waiting], record) = (numbers, entry.record.map(signed));
+        insert.execute(params![entry.job, seq, at, record, entry.line, entry.answer, entry.ended, waiting])?;
+    }
+    Ok(())
+}
+
+fn write_requests(within: &Connection, requests: &[Keyed]) -> rusqlite::Result<()> {
+    let mut insert = within.prepare_cached("insert into request values(?, ?, ?, ?, ?)")?;
+    for request in requests {
+        insert.execute(params![request.job, request.key, signed(request.at), request.digest, request.answers])?;
+    }
+    Ok(())
+}
+
+fn write_images(within: &Connection, images: &[Image]) -> rusqlite::Result<()> {
+    let mut insert = within.prepare_cached("insert into image values(?, ?, ?, ?, ?, ?, ?, ?, ?)")?;
+    for image in images {
+        let numbers = [image.seq, image.at, image.last_event, image.text.len() as u64].map(signed);
+        let ([seq, at, event, bytes], completed) = (numbers, image.last_completed.map(signed));
+        let (digest, shape) = (image.digest(), shape_words(&image.shape));
+        insert.execute(params![image.job, seq, at, digest, shape, completed, event, bytes, image.text])?;
+    }
+    Ok(())
+}
+
+fn drop_images(within: &Connection, places: &[(i64, u64)]) -> rusqlite::Result<()> {
+    let mut delete = within.prepare_cached("delete from image where job = ? and seq = ?")?;
+    places.iter().try_for_each(|(job, seq)| delete.execute(params![job, signed(*seq)]).map(|_| ()))
+}
+
+fn cut(within: &Connection, cuts: &[Cut]) -> rusqlite::Result<()> {
+    let mut delete = within.prepare_cached("delete from call where job = ? and seq > ? and seq <= ?")?;
+    cuts.iter().try_for_each(|cut| delete.execute(params![cut.job, signed(cut.after), signed(cut.upto)]).map(|_| ()))
 }
 
 /// A connection that only reads.
@@ -175,6 +204,29 @@ impl Reader for LiteReader {
         Ok(self.entries("job = ? and seq = ?", &[&job, &signed(seq)])?.pop())
     }
 
+    fn image(&mut self, job: i64, after: u64, which: Which) -> Result<Option<SavedImage>, String> {
+        let sql = format!("select {IMAGE_COLUMNS} from image where job = ? and seq > ? order by seq {}", which.order());
+        let read = || self.0.query_row(&sql, params![job, signed(after)], image_of).optional();
+        read().map_err(|error| error.to_string())
+    }
+
+    fn images(&mut self, job: i64) -> Result<Vec<KeptImage>, String> {
+        let read = || -> rusqlite::Result<Vec<KeptImage>> {
+            let mut query = self.0.prepare_cached("select seq, at, bytes from image where job = ? order by seq")?;
+            let images = query.query_map([job], |row| {
+                Ok(KeptImage { seq: unsigned(row, 0)?, at: unsigned(row, 1)?, bytes: unsigned(row, 2)? })
+            })?;
+            images.collect()
+        };
+        read().map_err(|error| error.to_string())
+    }
+
+    fn first(&mut self, job: i64) -> Result<Option<u64>, String> {
+        let found: rusqlite::Result<Option<i64>> =
+            self.0.query_row("select min(seq) from call where job = ?", [job], |row| row.get(0));
+        found.map(|first| first.and_then(|seq| u64::try_from(seq).ok())).map_err(|error| error.to_string())
+    }
+
     fn leader(&mut self) -> Option<String> {
         None
     }
@@ -194,7 +246,8 @@ fn keyed_of(row: &Row) -> rusqlite::Result<Keyed> {
     Ok(Keyed { job: row.get(0)?, key: row.get(1)?, at: unsigned(row, 2)?, digest: row.get(3)?, answers: row.get(4)? })
 }
 
-fn entry_of(row: &Row) -> rusqlite::Result<Entry> {
+/// An entry of the columns [`COLUMNS`].
+pub fn entry_of(row: &Row) -> rusqlite::Result<Entry> {
     let record: Option<i64> = row.get(3)?;
     Ok(Entry {
         job: row.get(0)?,
@@ -206,6 +259,20 @@ fn entry_of(row: &Row) -> rusqlite::Result<Entry> {
         ended: row.get(6)?,
         waiting: unsigned(row, 7)?,
     })
+}
+
+fn image_of(row: &Row) -> rusqlite::Result<SavedImage> {
+    let (completed, shape): (Option<i64>, String) = (row.get(5)?, row.get(4)?);
+    let image = Image {
+        job: row.get(0)?,
+        seq: unsigned(row, 1)?,
+        at: unsigned(row, 2)?,
+        shape: shape.split(' ').filter_map(|word| word.parse().ok()).collect(),
+        last_completed: completed.and_then(|at| u64::try_from(at).ok()),
+        last_event: unsigned(row, 6)?,
+        text: row.get(7)?,
+    };
+    Ok(SavedImage { image, digest: row.get(3)? })
 }
 
 fn opening_of(row: &Row) -> rusqlite::Result<Opening> {

@@ -5,7 +5,7 @@ mod pg_read;
 mod pq;
 mod rows;
 
-pub use lite::{Lite, LiteReader};
+pub use lite::{entry_of, Lite, LiteReader};
 pub use pg::Pg;
 pub use pg_read::PgReader;
-pub use rows::{Failure, Group, Keyed, Reader, Store};
+pub use rows::{Failure, Group, Keyed, Reader, Store, Unusable, Which};

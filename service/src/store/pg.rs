@@ -1,8 +1,8 @@
 //! The log in PostgreSQL: a lease with an epoch says who writes, and each group is one statement that renews it and is fenced
 //! by it, so that a leader that was stopped holds no lock.
 use super::pq::{Connection, Failed, Parameter, Rows};
-use super::rows::{Failure, Group, Keyed, Store, Written};
-use crate::model::{config_line, shape_words, Entry, Opening};
+use super::rows::{Failure, Group, Keyed, Store, Unusable, Written, VERSION};
+use crate::model::{config_line, shape_words, Cut, Entry, Image, Opening};
 use std::ffi::CStr;
 use std::time::Duration;
 
@@ -23,17 +23,22 @@ pub struct Pg {
 
 impl Pg {
     /// Connects, and makes the tables where they are not there. A database that does not sync what it commits is refused.
-    pub fn open(url: &str, holder: &str, lease: Duration) -> Result<Pg, String> {
+    pub fn open(url: &str, holder: &str, lease: Duration) -> Result<Pg, Unusable> {
+        let told = |failed| Unusable::Failed(told(failed));
         let mut connection = Connection::open(url).map_err(told)?;
         let fsync = connection.run("show fsync").map_err(told)?;
         if cell(&fsync, 0) != Some("on") {
-            return Err("fsync is off in this database, so that it can lose what it committed".to_string());
+            let why = "fsync is off in this database, so that it can lose what it committed";
+            return Err(Unusable::Failed(why.to_string()));
         }
+        Unusable::check(version(&mut connection).map_err(told)?)?;
         connection
             .run("set synchronous_commit = on; set statement_timeout = '10s'; set client_min_messages = warning")
             .map_err(told)?;
         // two that start at once take turns
-        connection.run(&format!("begin; select pg_advisory_xact_lock(7203146); {SCHEMA}; commit")).map_err(told)?;
+        let version = format!("insert into schema_version values(true, {VERSION}) on conflict do nothing");
+        let tables = format!("begin; select pg_advisory_xact_lock(7203146); {SCHEMA}; {version}; commit");
+        connection.run(&tables).map_err(told)?;
         connection.prepare(COMMIT_NAME, COMMIT).map_err(told)?;
         Ok(Pg { connection, holder: holder.to_string(), lease, epoch: 0 })
     }
@@ -43,6 +48,9 @@ impl Pg {
         given.extend(job_columns(&group.jobs));
         given.extend(call_columns(&group.entries));
         given.extend(request_columns(&group.requests));
+        given.extend(image_columns(&group.images));
+        given.extend(dropped_columns(&group.dropped));
+        given.extend(cut_columns(&group.cuts));
         self.connection.run_prepared(COMMIT_NAME, &given)
     }
 
@@ -62,8 +70,8 @@ impl Store for Pg {
 
     fn commit(&mut self, group: &Group) -> Written {
         let rows = self.write(group).map_err(failure)?;
-        let wanted = [1, group.jobs.len(), group.entries.len(), group.requests.len()];
-        let written = (0..4).map(|column| cell(&rows, column).and_then(|text| text.parse().ok()));
+        let wanted = [1, group.jobs.len(), group.entries.len(), group.requests.len(), group.images.len()];
+        let written = (0..wanted.len()).map(|column| cell(&rows, column).and_then(|text| text.parse().ok()));
         if written.eq(wanted.into_iter().map(Some)) {
             return Ok(());
         }
@@ -103,6 +111,16 @@ impl Store for Pg {
         // where this fails the lease ends by itself
         let _ = self.connection.query(sql, &[&self.epoch.to_string()]);
     }
+}
+
+/// The version of the tables; 0 where there are none, or those of a program that did not say it.
+fn version(connection: &mut Connection) -> Result<i64, Failed> {
+    let there = connection.run("select 1 where to_regclass('schema_version') is not null")?;
+    if there.is_empty() {
+        return Ok(0);
+    }
+    let found = connection.run("select number from schema_version")?;
+    Ok(cell(&found, 0).and_then(|number| number.parse().ok()).unwrap_or(0))
 }
 
 fn told(failed: Failed) -> String {
@@ -159,5 +177,34 @@ fn request_columns(requests: &[Keyed]) -> [Parameter; 5] {
         Parameter::numbers(requests.iter().map(|request| number(request.at))),
         Parameter::texts(requests.iter().map(|request| Some(request.digest.clone()))),
         Parameter::texts(requests.iter().map(|request| Some(request.answers.clone()))),
+    ]
+}
+
+fn image_columns(images: &[Image]) -> [Parameter; 9] {
+    [
+        Parameter::numbers(images.iter().map(|image| Some(image.job))),
+        Parameter::numbers(images.iter().map(|image| number(image.seq))),
+        Parameter::numbers(images.iter().map(|image| number(image.at))),
+        Parameter::texts(images.iter().map(|image| Some(image.digest()))),
+        Parameter::texts(images.iter().map(|image| Some(shape_words(&image.shape)))),
+        Parameter::numbers(images.iter().map(|image| image.last_completed.and_then(number))),
+        Parameter::numbers(images.iter().map(|image| number(image.last_event))),
+        Parameter::numbers(images.iter().map(|image| number(image.text.len() as u64))),
+        Parameter::texts(images.iter().map(|image| Some(image.text.clone()))),
+    ]
+}
+
+fn dropped_columns(places: &[(i64, u64)]) -> [Parameter; 2] {
+    [
+        Parameter::numbers(places.iter().map(|(job, _)| Some(*job))),
+        Parameter::numbers(places.iter().map(|(_, seq)| number(*seq))),
+    ]
+}
+
+fn cut_columns(cuts: &[Cut]) -> [Parameter; 3] {
+    [
+        Parameter::numbers(cuts.iter().map(|cut| Some(cut.job))),
+        Parameter::numbers(cuts.iter().map(|cut| number(cut.after))),
+        Parameter::numbers(cuts.iter().map(|cut| number(cut.upto))),
     ]
 }

@@ -1,7 +1,7 @@
 //! Reads of the log in PostgreSQL. A connection that was lost is made again once.
 use super::pq::{Connection, Failed, Rows};
-use super::rows::{LogPage, Reader, COLUMNS, IS_EVENT};
-use crate::model::{parse_config, Entry, Opening};
+use super::rows::{LogPage, Reader, SavedImage, Which, COLUMNS, IMAGE_COLUMNS, IS_EVENT};
+use crate::model::{parse_config, Entry, Image, KeptImage, Opening};
 
 pub struct PgReader {
     url: String,
@@ -63,6 +63,24 @@ impl Reader for PgReader {
         Ok(self.entries("job = $1::bigint and seq = $2::bigint", &[&job.to_string(), &signed(seq)])?.pop())
     }
 
+    fn image(&mut self, job: i64, after: u64, which: Which) -> Result<Option<SavedImage>, String> {
+        let rest = format!("where job = $1::bigint and seq > $2::bigint order by seq {}", which.order());
+        let given = [job.to_string(), signed(after)];
+        let rows = self.query(&format!("select {IMAGE_COLUMNS} from image {rest}"), &[&given[0], &given[1]])?;
+        rows.first().map(|row| image_of(row).ok_or_else(|| "a row of image has an empty cell".to_string())).transpose()
+    }
+
+    fn images(&mut self, job: i64) -> Result<Vec<KeptImage>, String> {
+        let sql = "select seq, at, bytes from image where job = $1::bigint order by seq";
+        let rows = self.query(sql, &[&job.to_string()])?;
+        rows.iter().map(|row| kept_of(row).ok_or_else(|| format!("a row of image is {row:?}"))).collect()
+    }
+
+    fn first(&mut self, job: i64) -> Result<Option<u64>, String> {
+        let rows = self.query("select min(seq) from call where job = $1::bigint", &[&job.to_string()])?;
+        Ok(rows.first().and_then(|row| row.first()?.as_ref()?.parse().ok()))
+    }
+
     fn leader(&mut self) -> Option<String> {
         let rows = self.query("select holder from leader where until > clock_timestamp()", &[]).ok()?;
         rows.into_iter().next()?.into_iter().next()?
@@ -88,6 +106,30 @@ fn entry_of(row: &[Option<String>]) -> Option<Entry> {
         ended: ended.clone(),
         waiting: waiting.as_ref()?.parse().ok()?,
     })
+}
+
+fn image_of(row: &[Option<String>]) -> Option<SavedImage> {
+    let [job, seq, at, digest, shape, completed, event, text] = row else {
+        return None;
+    };
+    let image = Image {
+        job: job.as_ref()?.parse().ok()?,
+        seq: seq.as_ref()?.parse().ok()?,
+        at: at.as_ref()?.parse().ok()?,
+        shape: shape.as_ref()?.split(' ').filter_map(|word| word.parse().ok()).collect(),
+        last_completed: completed.as_ref().and_then(|at| at.parse().ok()),
+        last_event: event.as_ref()?.parse().ok()?,
+        text: text.clone()?,
+    };
+    Some(SavedImage { image, digest: digest.clone()? })
+}
+
+fn kept_of(row: &[Option<String>]) -> Option<KeptImage> {
+    let [seq, at, bytes] = row else {
+        return None;
+    };
+    let number = |cell: &Option<String>| cell.as_ref()?.parse().ok();
+    Some(KeptImage { seq: number(seq)?, at: number(at)?, bytes: number(bytes)? })
 }
 
 fn opening_of(row: &[Option<String>]) -> Option<Opening> {

@@ -1,5 +1,6 @@
 //! What a database of the service does: commits groups, and reads the log.
-use crate::model::{Entry, Opening};
+use crate::model::{Cut, Entry, Image, KeptImage, Opening};
+use std::fmt;
 use std::time::Duration;
 
 /// What one transaction commits, in this order.
@@ -8,11 +9,16 @@ pub struct Group {
     pub jobs: Vec<Opening>,
     pub entries: Vec<Entry>,
     pub requests: Vec<Keyed>,
+    pub images: Vec<Image>,
+    /// Images that go: their jobs and places.
+    pub dropped: Vec<(i64, u64)>,
+    pub cuts: Vec<Cut>,
 }
 
 impl Group {
     pub fn is_empty(&self) -> bool {
-        self.jobs.is_empty() && self.entries.is_empty() && self.requests.is_empty()
+        let has_calls = !(self.jobs.is_empty() && self.entries.is_empty() && self.requests.is_empty());
+        !has_calls && self.images.is_empty() && self.dropped.is_empty() && self.cuts.is_empty()
     }
 }
 
@@ -26,6 +32,45 @@ pub struct Keyed {
     pub digest: String,
     /// The body of the answer.
     pub answers: String,
+}
+
+/// An image as the database has it, with the digest that it was written with.
+#[derive(Clone, Debug, PartialEq, Eq)]
+pub struct SavedImage {
+    pub image: Image,
+    pub digest: String,
+}
+
+/// The version of the tables.
+pub const VERSION: i64 = 1;
+
+/// Why a database can't be used.
+pub enum Unusable {
+    /// A newer program made its tables: no further start of this one can read them.
+    Newer(i64),
+    Failed(String),
+}
+
+impl Unusable {
+    /// Refuses tables of a newer version.
+    pub fn check(found: i64) -> Result<(), Unusable> {
+        match found {
+            _ if found > VERSION => Err(Unusable::Newer(found)),
+            _ => Ok(()),
+        }
+    }
+}
+
+impl fmt::Display for Unusable {
+    fn fmt(&self, f: &mut fmt::Formatter<'_>) -> fmt::Result {
+        match self {
+            Unusable::Newer(found) => write!(
+                f,
+                "the tables of the database have version {found}, and this program knows those up to {VERSION}: run the program that made them, or a newer one"
+            ),
+            Unusable::Failed(why) => write!(f, "{why}"),
+        }
+    }
 }
 
 /// Why a group was not committed.
@@ -73,6 +118,26 @@ pub const IS_EVENT: &str =
 /// The columns of an [`Entry`].
 pub const COLUMNS: &str = "job, seq, at, record, line, answer, ended, waiting";
 
+/// The columns of a [`SavedImage`].
+pub const IMAGE_COLUMNS: &str = "job, seq, at, digest, shape, completed, event, text";
+
+/// Which image of a job.
+#[derive(Clone, Copy, Debug, PartialEq, Eq)]
+pub enum Which {
+    Newest,
+    Oldest,
+}
+
+impl Which {
+    /// The order of places that has it first, and it alone.
+    pub fn order(self) -> &'static str {
+        match self {
+            Which::Newest => "desc limit 1",
+            Which::Oldest => "limit 1",
+        }
+    }
+}
+
 /// A part of a log, in order.
 pub type LogPage = Vec<Entry>;
 
@@ -91,6 +156,15 @@ pub trait Reader: Send {
 
     /// The entry at a place.
     fn entry(&mut self, job: i64, seq: u64) -> Result<Option<Entry>, String>;
+
+    /// An image after a place.
+    fn image(&mut self, job: i64, after: u64, which: Which) -> Result<Option<SavedImage>, String>;
+
+    /// The images of a job, in order.
+    fn images(&mut self, job: i64) -> Result<Vec<KeptImage>, String>;
+
+    /// The first call that the log has.
+    fn first(&mut self, job: i64) -> Result<Option<u64>, String>;
 
     /// Who leads, where it is known.
     fn leader(&mut self) -> Option<String>;

@@ -1,6 +1,6 @@
 //! All jobs of the service, brought up to date with the log.
-use crate::model::{parse_line, Entry, Job, NoJob, Opening, Outcome};
-use crate::store::Reader;
+use crate::model::{parse_line, Entry, Fault, Job, Keeping, Kept, NoJob, Opening, Outcome};
+use crate::store::{Reader, Which};
 use std::collections::HashMap;
 use std::fmt;
 
@@ -24,6 +24,8 @@ pub enum StartError {
     Differs { job: String, seq: u64, line: String, logged: String, answered: String },
     /// A call of the log is missing, or can't be read as one.
     Damaged { job: String, seq: u64, why: String },
+    /// An image says something else than it was written with, or the library refuses it.
+    BadImage { job: String, seq: u64, why: String },
     /// Memory ran out: a later start may find some.
     NoMemory { job: String, seq: u64 },
     /// A job can't be opened.
@@ -39,6 +41,10 @@ impl fmt::Display for StartError {
                 "job {job}, call {seq} ({line:?}): the log says {logged:?}, and this program answers {answered:?}"
             ),
             StartError::Damaged { job, seq, why } => write!(f, "job {job}, call {seq}: {why}"),
+            StartError::BadImage { job, seq, why } => write!(
+                f,
+                "job {job}, the image after call {seq}: {why}; without its row in the table image the start goes from the image before it"
+            ),
             StartError::NoMemory { job, seq } => write!(f, "job {job}, call {seq}: memory ran out"),
             StartError::NotOpened { job, why } => write!(f, "job {job} can't be opened: {why}"),
         }
@@ -100,19 +106,54 @@ impl Jobs {
 
     fn catch_up_job(&mut self, place: usize, reader: &mut dyn Reader, beat: &dyn Fn()) -> Result<u64, StartError> {
         let job = &mut self.jobs[place];
-        let first = job.seq;
+        let mut made = 0;
+        if job.seq == 0 {
+            resume(job, reader)?;
+        }
         loop {
             beat();
             let page = reader.log(job.opening.number, job.seq, PAGE).map_err(StartError::Unread)?;
-            if page.is_empty() {
-                return Ok(job.seq - first);
+            let follows = page.first().is_some_and(|entry| entry.seq == job.seq + 1);
+            // a standby may have been slower than the leader's cuts
+            if !follows && resume(job, reader)? {
+                continue;
             }
-            for entry in &page {
-                repeat(job, entry)?;
-                self.last_moment = self.last_moment.max(entry.at);
+            page.iter().try_for_each(|entry| repeat(job, entry))?;
+            made += page.len() as u64;
+            self.last_moment = self.last_moment.max(job.at);
+            if page.is_empty() {
+                return Ok(made);
             }
         }
     }
+
+    /// Learns what the database has of each job's log.
+    pub fn take_stock(&mut self, reader: &mut dyn Reader, keeping: Keeping) -> Result<(), StartError> {
+        for job in &mut self.jobs {
+            let number = job.opening.number;
+            let images = reader.images(number).map_err(StartError::Unread)?;
+            let first = reader.first(number).map_err(StartError::Unread)?;
+            job.kept = Kept::of(images, first, keeping);
+        }
+        Ok(())
+    }
+}
+
+/// Goes on from a job's last image, where that is after the calls that the job has. Returns whether there is one.
+fn resume(job: &mut Job, reader: &mut dyn Reader) -> Result<bool, StartError> {
+    let newest = reader.image(job.opening.number, job.seq, Which::Newest).map_err(StartError::Unread)?;
+    let Some(saved) = newest else {
+        return Ok(false);
+    };
+    let (name, seq) = (job.opening.name.clone(), saved.image.seq);
+    let bad = |why: &str| StartError::BadImage { job: name.clone(), seq, why: why.to_string() };
+    if saved.image.digest() != saved.digest {
+        return Err(bad("its digest is not that of what it says, so it is damaged"));
+    }
+    job.resume(&saved.image).map(|()| true).map_err(|fault| match fault {
+        Fault::Memory => StartError::NoMemory { job: name.clone(), seq },
+        Fault::Refused { name: refusal, .. } => bad(&format!("the library refuses it: {refusal}")),
+    })
 }
 
 /// Makes a call of the log again, and compares its answer.
@@ -124,7 +165,10 @@ fn repeat(job: &mut Job, entry: &Entry) -> Result<(), StartError> {
     }
     let (now, call) = parse_line(&entry.line).ok_or_else(|| damaged(format!("{:?} is no call", entry.line)))?;
     let answered = match job.call(&call, now) {
-        (Outcome::Made { reply, .. }, _) if reply.text() == entry.answer => return Ok(()),
+        (Outcome::Made { reply, .. }, _) if reply.text() == entry.answer => {
+            job.at = entry.at;
+            return Ok(());
+        }
         (Outcome::Made { reply, .. }, _) => reply.text(),
         (Outcome::NoMemory, _) => return Err(StartError::NoMemory { job: name.clone(), seq: entry.seq }),
         (other, _) => other.json().to_string(),

@@ -46,8 +46,16 @@ pub enum Created {
 pub enum Read {
     Jobs,
     Job(String),
-    Record { job: String, id: u64 },
-    File { job: String, file: u64 },
+    Record {
+        job: String,
+        id: u64,
+    },
+    File {
+        job: String,
+        file: u64,
+    },
+    /// The files that were taken and not reported.
+    Taken(String),
 }
 
 #[derive(Debug)]
@@ -61,6 +69,8 @@ pub enum ReadDone {
         uses: Option<u64>,
         live: Vec<u64>,
     },
+    /// Ascending; `None` where memory ran out.
+    Taken(Option<Vec<u64>>),
     NoJob,
 }
 
@@ -77,6 +87,10 @@ struct Watched {
     number: i64,
     /// How many calls were committed.
     length: AtomicU64,
+    /// The first call that the log has.
+    first: AtomicU64,
+    /// How far the history has read.
+    read: AtomicU64,
     last_event: watch::Sender<u64>,
 }
 
@@ -130,11 +144,17 @@ impl Board {
     pub fn publish(&self, job: &Job) {
         if let Some(watched) = self.read().get(&job.opening.name) {
             watched.length.store(job.seq, Ordering::SeqCst);
+            watched.first.store(job.kept.first(), Ordering::SeqCst);
             watched.last_event.send_if_modified(|last| std::mem::replace(last, job.last_event) != job.last_event);
             return;
         }
-        let length = AtomicU64::new(job.seq);
-        let watched = Watched { number: job.opening.number, length, last_event: watch::channel(job.last_event).0 };
+        let watched = Watched {
+            number: job.opening.number,
+            length: AtomicU64::new(job.seq),
+            first: AtomicU64::new(job.kept.first()),
+            read: AtomicU64::new(0),
+            last_event: watch::channel(job.last_event).0,
+        };
         let mut jobs = self.jobs.write().unwrap_or_else(|poisoned| poisoned.into_inner());
         jobs.insert(job.opening.name.clone(), watched);
     }
@@ -147,6 +167,23 @@ impl Board {
     /// Each job's number, and how many calls of it were committed.
     pub fn lengths(&self) -> Vec<(i64, u64)> {
         self.read().values().map(|watched| (watched.number, watched.length.load(Ordering::SeqCst))).collect()
+    }
+
+    /// The first call that a job's log has.
+    pub fn first(&self, job: &str) -> u64 {
+        self.read().get(job).map_or(1, |watched| watched.first.load(Ordering::SeqCst))
+    }
+
+    /// The history has read a job's log up to here.
+    pub fn set_history(&self, job: &str, upto: u64) {
+        if let Some(watched) = self.read().get(job) {
+            watched.read.store(upto, Ordering::SeqCst);
+        }
+    }
+
+    /// How far the history has read a job's log.
+    pub fn history(&self, job: &str) -> u64 {
+        self.read().get(job).map_or(0, |watched| watched.read.load(Ordering::SeqCst))
     }
 
     /// The place of a job's last event, as it changes.

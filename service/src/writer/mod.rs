@@ -1,5 +1,6 @@
 //! The writer: one thread that owns all jobs, makes their calls, commits them in groups, and then answers.
 mod jobs;
+mod keeper;
 mod message;
 mod round;
 mod state;
@@ -11,8 +12,9 @@ pub use state::{JobState, RecordState};
 
 use crate::log;
 use crate::metrics::Metrics;
-use crate::model::{Call, Clock, Outcome};
+use crate::model::{Call, Clock, Keeping, Outcome};
 use crate::store::{Failure, Group, Store};
+use keeper::Keeper;
 use round::Round;
 use std::sync::mpsc::{Receiver, RecvTimeoutError};
 use std::sync::Arc;
@@ -39,17 +41,27 @@ pub struct Writer {
     timer: Timer,
     board: Arc<Board>,
     metrics: Arc<Metrics>,
+    keeper: Keeper,
+    /// The next round, with what it writes beside calls.
+    next: Round,
     forgot: Instant,
     committed: Instant,
 }
 
 impl Writer {
     /// A writer over jobs that are as the log says.
-    pub fn new(store: Box<dyn Store>, jobs: Jobs, board: Arc<Board>, metrics: Arc<Metrics>) -> Writer {
+    pub fn new(
+        store: Box<dyn Store>,
+        jobs: Jobs,
+        board: Arc<Board>,
+        metrics: Arc<Metrics>,
+        keeping: Keeping,
+    ) -> Writer {
         let clock = Clock::starting_after(jobs.last_moment());
+        let (timer, keeper, next) = (Timer::default(), Keeper::new(keeping, jobs.len()), Round::default());
         let now = Instant::now();
         let mut writer =
-            Writer { store, jobs, clock, timer: Timer::default(), board, metrics, forgot: now, committed: now };
+            Writer { store, jobs, clock, timer, board, metrics, keeper, next, forgot: now, committed: now };
         for place in 0..writer.jobs.len() {
             writer.publish(place);
         }
@@ -59,12 +71,12 @@ impl Writer {
     /// Works until a message says to stop.
     pub fn run(mut self, inbox: &Receiver<Message>) {
         loop {
-            let mut round = Round::default();
             let mut next = match inbox.recv_timeout(self.patience()) {
                 Ok(message) => Some(message),
                 Err(RecvTimeoutError::Timeout) => None,
                 Err(RecvTimeoutError::Disconnected) => return,
             };
+            let mut round = std::mem::take(&mut self.next);
             while let Some(message) = next {
                 self.take_in(&mut round, message);
                 let is_full = round.group.entries.len() >= MOST_CALLS || round.stop;
@@ -72,19 +84,21 @@ impl Writer {
             }
             self.tick_due(&mut round);
             self.commit(&round.group);
-            let stop = round.stop;
+            let (stop, added) = (round.stop, round.group.entries.len());
+            self.keeper.called(&round.touched);
             self.answer(round);
             if stop {
                 self.store.release();
                 return;
             }
+            self.next = self.keeper.work(&mut self.jobs, &self.board, &self.metrics, added);
         }
     }
 
     /// How long to wait for a message: until a job has to be ticked, or the lease to be renewed.
     fn patience(&self) -> Duration {
         let beat = self.store.beat().saturating_sub(self.committed.elapsed());
-        let beat = beat.max(Duration::from_millis(1));
+        let beat = if self.next.group.is_empty() { beat.max(Duration::from_millis(1)) } else { Duration::ZERO };
         match self.timer.next() {
             None => beat,
             Some(moment) => beat.min(Duration::from_millis(moment.saturating_sub(self.clock.now()))),

@@ -1,7 +1,7 @@
 //! What a job is at, as reads tell it between two commits.
 use super::jobs::Jobs;
 use super::message::{Read, ReadDone};
-use crate::model::{Choice, FileCounts, Job, Kind, LiveRecord, Mode, Opening};
+use crate::model::{Choice, FileCounts, Job, KeptImage, Kind, LiveRecord, Mode, Opening};
 
 #[derive(Debug)]
 pub struct JobState {
@@ -17,6 +17,9 @@ pub struct JobState {
     pub files: FileCounts,
     pub last_completed: Option<u64>,
     pub last_event: u64,
+    /// The first call that the log has, and the last image.
+    pub first: u64,
+    pub image: Option<KeptImage>,
     pub pending_checkpoints: usize,
     pub pending_savepoints: usize,
     /// The live records in rising number, each with how many subtasks are missing.
@@ -35,6 +38,7 @@ pub fn read(jobs: &mut Jobs, read: Read, now: u64) -> ReadDone {
         Read::Jobs => ReadDone::Jobs(jobs.all().map(|job| state(job, now)).collect()),
         Read::Job(name) => of(jobs, &name, |job| ReadDone::Job(Box::new(state(job, now)))),
         Read::Record { job, id } => of(jobs, &job, |job| ReadDone::Record(record(job, id))),
+        Read::Taken(name) => of(jobs, &name, |job| ReadDone::Taken(job.engine().taken())),
         Read::File { job, file } => of(jobs, &job, |job| ReadDone::File {
             uses: job.engine().uses(file),
             live: job.live().keys().copied().collect(),
@@ -73,6 +77,8 @@ fn state(job: &mut Job, now: u64) -> JobState {
         files,
         last_completed: job.last_completed,
         last_event: job.last_event,
+        first: job.kept.first(),
+        image: job.kept.last(),
         pending_checkpoints: checkpoints,
         pending_savepoints: savepoints,
         live,

@@ -1,8 +1,8 @@
 //! The coordinator of one job, for one thread at a time.
 use crate::answer::{self, Answer, Choice, FileCounts, Live, Mode, Standing};
-use crate::fault::{done, text, Fault};
+use crate::fault::{done, text, text_in, Fault};
 use relkvanu_sys as sys;
-use std::cell::UnsafeCell;
+use std::cell::{Cell, UnsafeCell};
 use std::collections::hash_map::RandomState;
 use std::hash::BuildHasher;
 use std::num::NonZeroU64;
@@ -53,6 +53,8 @@ impl From<&Settings> for sys::relkvanu_settings {
 #[derive(Debug)]
 pub struct Coordinator {
     handle: UnsafeCell<sys::relkvanu>,
+    /// Bytes that the next image probably fits: a buffer that is too short costs a second image.
+    image_room: Cell<usize>,
 }
 
 // SAFETY: a handle may move between threads, as the header says; the library's check proves it. The memory behind it
@@ -117,6 +119,7 @@ impl Coordinator {
             handle: UnsafeCell::new(sys::relkvanu {
                 state: std::ptr::null_mut(),
             }),
+            image_room: Cell::new(256),
         };
         // the system's random source, which std keeps for its own maps
         let words = RandomState::new();
@@ -236,7 +239,8 @@ impl Coordinator {
     }
 }
 
-/// Reads. None changes anything. Only [`show`](Self::show) and [`count`](Self::count) can fail.
+/// Reads. None changes anything. [`show`](Self::show), [`save`](Self::save), [`pins_of`](Self::pins_of) and
+/// [`taken_files`](Self::taken_files) may run out of memory, and `show` may be refused. No other fails.
 impl Coordinator {
     /// The handle for a read. A read takes the state out and puts it back, so the handle has to be writable, though
     /// nothing changes.
@@ -256,9 +260,11 @@ impl Coordinator {
     /// The image of the coordinator, as JSON (`docs/IMAGE.md`): all of its state.
     pub fn save(&self) -> Result<String, Fault> {
         // SAFETY: as in `show`.
-        text(|image| unsafe {
+        let image = text_in(self.image_room.get(), |image| unsafe {
             sys::relkvanu_save(self.read_handle(), image.as_mut_ptr(), image.len())
-        })
+        })?;
+        self.image_room.set(image.len() + image.len() / 4);
+        Ok(image)
     }
 
     /// The number of uses of a file.

@@ -174,7 +174,15 @@ pub(crate) fn done(told: sys::relkvanu_answer) -> Result<sys::relkvanu_answer, F
 
 /// The text that is written into a buffer, which is made longer until it is long enough.
 pub(crate) fn text(write: impl Fn(&mut [u8]) -> sys::relkvanu_answer) -> Result<String, Fault> {
-    let mut bytes = vec![0; 256];
+    text_in(256, write)
+}
+
+/// The same, if the text probably fits so many bytes.
+pub(crate) fn text_in(
+    room: usize,
+    write: impl Fn(&mut [u8]) -> sys::relkvanu_answer,
+) -> Result<String, Fault> {
+    let mut bytes = vec![0; room];
     loop {
         let told = write(&mut bytes);
         if told.code == sys::RELKVANU_TOO_SHORT {

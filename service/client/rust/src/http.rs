@@ -64,7 +64,10 @@ impl Requests {
             return Err(bad(&"there is none"));
         }
         for url in &urls {
-            url.parse::<Uri>().map_err(|error| bad(&format!("{url}: {error}")))?;
+            let uri = url.parse::<Uri>().map_err(|error| bad(&format!("{url}: {error}")))?;
+            if uri.scheme_str() != Some("http") || uri.host().is_none() {
+                return Err(bad(&format!("{url}: is no address such as http://127.0.0.1:7780")));
+            }
         }
         let token = token.map(|token| HeaderValue::from_str(&format!("Bearer {token}")).map_err(|error| bad(&error)));
         Ok(Requests { client: Client::new(), urls, current: AtomicUsize::new(0), token: token.transpose()? })

@@ -1,0 +1,212 @@
+"""What the lines of a log say by docs/RULES.md: a model of the coordinator with sets and lists, which shares nothing with the library. It
+reads the lines itself, and answers the calls that the driver makes."""
+from collections import Counter
+from dataclasses import dataclass, field
+from typing import Any, Callable, Dict, List, Optional, Sequence, Set, Tuple
+
+from relkvanu import (
+    AckCompleted, AckLate, AckPending, Cancelled, Chosen, Coordinator, DeclineAborted, DeclineFailed, DeclineLate, Deleted, Failed,
+    FileCounts, HeldAtOnce, HeldInterval, HeldPause, Kind, Live, Mode, Reply, RestoredCheckpoint, RestoredFresh, Standing, Taken,
+    Triggered, Undeleted,
+)
+
+
+@dataclass
+class Record:
+    """A checkpoint: the job has no savepoints."""
+
+    shape: Tuple[int, ...]
+    started: int
+    pins: Set[int]
+    acks: Dict[str, List[int]] = field(default_factory=dict)  # by the subtask, as a line says it
+
+    def is_done(self) -> bool:
+        return len(self.acks) == sum(self.shape)
+
+    def files(self) -> "Counter[int]":
+        """How often it uses each file."""
+        return Counter(self.pins) + Counter(file for files in self.acks.values() for file in files)
+
+
+class Bookkeeping:
+    def __init__(self) -> None:
+        self.records: Dict[int, Record] = {}  # the live ones, in the order of their numbers
+        self.next, self.failures, self.mode = 1, 0, Mode.RUNNING
+        self.completed: Optional[int] = None
+        self.waiting: List[int] = []
+        self.taken: Set[int] = set()
+        self.shape: Tuple[int, ...] = ()
+        self.latest = self.due = 0
+
+    def follow(self, line: bytes) -> Optional[Reply]:
+        """Does what a line says, and answers what its call has to answer."""
+        name, *words = line.decode().split(" ")
+        return getattr(self, "on_" + name)(*words) if name != "#" else None
+
+    def uses(self) -> "Counter[int]":
+        return sum((record.files() for record in self.records.values()), Counter())
+
+    def pending(self) -> List[int]:
+        return [id for id, record in self.records.items() if not record.is_done()]
+
+    def done(self) -> List[int]:
+        return [id for id, record in self.records.items() if record.is_done()]
+
+    def seen(self, now: str) -> int:
+        self.latest = max(self.latest, int(now))
+        return self.latest
+
+    def released(self, change: Callable[[], object]) -> int:
+        """Makes a change. The files that were used before it and are not after it are handed out: how many."""
+        before = set(self.uses())
+        change()
+        files = sorted(before - set(self.uses()))
+        self.waiting += files
+        return len(files)
+
+    def drop(self, ids: Sequence[int]) -> None:
+        for id in ids:
+            del self.records[id]
+
+    def on_config(self, interval: str, pause: str, at_once: str, timeout: str, tolerable: str, retained: str, on_cancel: str) -> None:
+        self.wait, self.pause, self.timeout = max(int(interval), int(pause)), int(pause), int(timeout)
+        self.at_once = 1 if self.pause else int(at_once)
+        self.tolerable, self.retained, self.keep = int(tolerable), int(retained), on_cancel == "keep"
+
+    def on_job(self, *shape: str) -> None:
+        self.shape = tuple(map(int, shape))
+
+    def on_start(self, now: str) -> None:
+        self.due = self.seen(now) + self.wait
+
+    def on_tick(self, now: str) -> Reply:
+        moment = self.seen(now)
+        expired = [id for id in self.pending() if self.records[id].started + self.timeout <= moment]
+        self.failures += len(expired)
+        is_failed = bool(expired) and self.failures > self.tolerable
+        self.released(lambda: self.drop(self.pending() if is_failed else expired))
+        if is_failed:
+            self.mode = Mode.FAILED
+            return Failed(len(expired))
+        if moment < self.due:
+            return HeldInterval(len(expired))
+        if len(self.pending()) >= self.at_once:
+            return HeldAtOnce(len(expired))
+        if self.completed is not None and moment < self.completed + self.pause:
+            return HeldPause(len(expired))
+        return Triggered(len(expired), self.trigger(moment))
+
+    def trigger(self, moment: int) -> int:
+        pins = set(self.records[max(self.done())].files()) if self.done() else set()
+        self.records[self.next] = Record(self.shape, moment, pins)
+        self.due = moment + self.wait
+        self.next += 1
+        return self.next - 1
+
+    def on_ack(self, now: str, id: str, subtask: str, *files: str) -> Reply:
+        moment, number = self.seen(now), int(id)
+        if number not in self.pending():
+            unknown = sorted({int(file[1:]) for file in files if file[0] == "+"} - self.known())
+            self.waiting += unknown
+            return AckLate(len(unknown))
+        record = self.records[number]
+        record.acks[subtask] = sorted(int(file[1:]) for file in files)
+        if not record.is_done():
+            return AckPending(sum(record.shape) - len(record.acks))
+        self.failures, self.completed = 0, moment
+        before = len(self.records)
+        released = self.released(lambda: self.complete(number))
+        return AckCompleted(before - len(self.records), released)
+
+    def complete(self, id: int) -> None:
+        self.records[id].pins = set()
+        done = self.done()
+        too_many = done[: max(len(done) - self.retained, 0)]
+        self.drop([other for other in self.pending() if other < id] + too_many)
+
+    def on_decline(self, now: str, id: str, subtask: str) -> Reply:
+        self.seen(now)
+        if int(id) not in self.pending():
+            return DeclineLate()
+        self.failures += 1
+        is_failed = self.failures > self.tolerable
+        released = self.released(lambda: self.drop(self.pending() if is_failed else [int(id)]))
+        self.mode = Mode.FAILED if is_failed else self.mode
+        return DeclineFailed(released) if is_failed else DeclineAborted(released)
+
+    def on_restore(self, now: str, target: str, *shape: str) -> Reply:
+        assert target == "latest", target
+        self.due = self.seen(now) + self.wait
+        released = self.released(lambda: self.drop(self.pending()))
+        self.mode, self.failures, self.completed = Mode.RUNNING, 0, None
+        self.shape = tuple(map(int, shape)) or self.shape
+        return RestoredCheckpoint(max(self.done()), released) if self.done() else RestoredFresh(released)
+
+    def on_cancel(self, now: str) -> Reply:
+        self.seen(now)
+        self.mode = Mode.CANCELLED
+        dropped = self.pending() if self.keep else list(self.records)
+        return Cancelled(len(dropped), self.released(lambda: self.drop(dropped)))
+
+    def on_take(self, most: str) -> Reply:
+        files, self.waiting = self.waiting[: int(most)], self.waiting[int(most) :]
+        self.taken.update(files)
+        return Taken(tuple(files))
+
+    def on_deleted(self, file: str) -> Reply:
+        self.taken.remove(int(file))
+        return Deleted(int(file))
+
+    def on_undeleted(self, file: str) -> Reply:
+        self.taken.remove(int(file))
+        self.waiting.append(int(file))
+        return Undeleted(int(file))
+
+    def known(self) -> Set[int]:
+        return set(self.uses()).union(self.waiting, self.taken)
+
+    def standing(self, id: int) -> Standing:
+        if not 0 < id < self.next:
+            return Standing.NEVER if id == 0 else Standing.NOT_YET
+        if id in self.records:
+            return Standing.DONE if self.records[id].is_done() else Standing.PENDING
+        return Standing.ENDED
+
+
+def check(books: Bookkeeping, core: Coordinator) -> None:
+    """Each read of the coordinator says what the books say."""
+    uses = books.uses()
+    same(core.mode(), books.mode, "the mode")
+    same(core.due(), books.due if books.completed is None else max(books.due, books.completed + books.pause), "due")
+    expiries = [books.records[id].started + books.timeout for id in books.pending()]
+    same(core.oldest_expiry(), min(expiries, default=None), "the oldest expiry")
+    same(core.choice(), Chosen(max(books.done()), Kind.CHECKPOINT) if books.done() else None, "the choice")
+    same([core.standing(id) for id in range(books.next + 2)], [books.standing(id) for id in range(books.next + 2)], "the standings")
+    same(live(core), [Live(id, Kind.CHECKPOINT, record.is_done()) for id, record in books.records.items()], "the live records")
+    for id, record in books.records.items():
+        check_record(core, id, record)
+    same([core.waiting_file(place) for place in range(len(books.waiting) + 1)], books.waiting + [None], "the waiting files")
+    same(core.taken_files(), tuple(sorted(books.taken)), "the taken files")
+    same(core.file_counts(), FileCounts(len(uses), len(books.waiting), len(books.taken)), "the counts")
+    same({file: uses[file] for file in uses}, {file: core.count(file).uses for file in uses}, "the uses")
+
+
+def check_record(core: Coordinator, id: int, record: Record) -> None:
+    same(core.pins_of(id), tuple(sorted(record.pins)), f"the pins of {id}")
+    same(core.missing(id), None if record.is_done() else sum(record.shape) - len(record.acks), f"what {id} misses")
+    for vertex, tasks in enumerate(record.shape):
+        for index in range(tasks):
+            files = record.acks.get(f"{vertex}.{index}")
+            same(core.files_of(id, vertex, index), None if files is None else tuple(files), f"the files of {id} {vertex}.{index}")
+
+
+def live(core: Coordinator) -> List[Live]:
+    records, next = [], 0
+    while (record := core.live_from(next)) is not None:
+        records.append(record)
+        next = record.id + 1
+    return records
+
+
+def same(told: Any, wanted: Any, what: str) -> None:
+    assert told == wanted, f"{what}: {told}, and by the lines {wanted}"

@@ -1,0 +1,213 @@
+"""The coordinator as a library in the driver's process, which ticks it, and logs its calls.
+
+Each call that changed something is a line of a script (docs/SCRIPT.md), which is written and synced before the caller is told. The
+library writes the lines and makes the calls that they say. A driver that opens the log of one that was killed has the very state that
+this one had told of, or that of one call more.
+
+After some completed checkpoints the log is cut: a new one begins with an image of the coordinator. The comments of a log say what the
+driver has to know and the coordinator does not: the end of the file numbers that may have been given.
+"""
+import contextlib
+import os
+import pathlib
+import sys
+import threading
+import time
+from typing import Any, Dict, Iterable, Iterator, List, Optional, Sequence, Set, Tuple
+
+import bookkeeping
+from cluster import wait_for
+from log import Log, whole_log
+from relkvanu import AckCompleted, Coordinator, OutOfMemory, Refused, Reply, Settings, Taken, Triggered, lines
+
+Subtask = Tuple[int, int]
+IMAGE, FILES = b"# image ", b"# files "
+COMPLETED_OF_A_LOG = 3
+FILES_AT_ONCE = 1000
+
+
+def now() -> int:
+    """Milliseconds of the clock that goes on while the process is down."""
+    return time.time_ns() // 1_000_000
+
+
+@contextlib.contextmanager
+def or_end() -> Iterator[None]:
+    """Ends the process if the log can't be written: the coordinator knows of a call that the log may lack."""
+    try:
+        yield
+    except OSError as fault:
+        print("the log can't be written:", fault, file=sys.stderr, flush=True)
+        os._exit(1)
+
+
+class Logged:
+    def __init__(self, log: Log, settings: Dict[str, int], shape: Sequence[int]) -> None:
+        """Makes the calls of the log again, or begins one."""
+        self.log = log
+        self.lock = threading.Lock()  # of the log: its order is that of the calls
+        self.files_end = 1  # above all files that a driver may have given a number
+        self.made: List[Tuple[bytes, Optional[Reply]]] = []  # the lines of calls that this driver has made, the log's first, and their answers
+        core, opening = None, []
+        for line in log.lines():
+            if line.startswith(IMAGE):
+                core = Coordinator.open_saved(line[len(IMAGE) :].decode())
+            elif line.startswith(FILES):
+                self.files_end = int(line[len(FILES) :])
+            elif core is None:
+                opening.append(lines.line_says(line))
+                core = opened(opening)
+            else:
+                self.made.append((line, made(core, line, 1 << 16)))
+        self.completed = sum(isinstance(reply, AckCompleted) for _, reply in self.made)  # since the log was cut
+        self.core = core or self.begun(Settings(**settings), shape)
+
+    def begun(self, settings: Settings, shape: Sequence[int]) -> Coordinator:
+        start = now()
+        core = Coordinator(settings, shape, start)
+        with or_end():
+            self.log.replace(lines.opening_lines(settings, shape, start).encode())
+        return core
+
+    def call(self, line: str, most: int = 1) -> Any:
+        """Makes the call that a line says, logs it, and then tells what it answered. One that was refused has changed nothing, and
+        is not logged."""
+        with self.lock:
+            reply = made(self.core, line.encode(), most)
+            with or_end():
+                self.log.append(line.encode())
+            self.made.append((line.encode(), reply))
+            self.completed += isinstance(reply, AckCompleted)
+            if self.completed >= COMPLETED_OF_A_LOG:
+                self.cut()
+        return reply
+
+    def cut(self) -> None:
+        """Begins the log anew, or goes on with it where there is no memory for an image."""
+        with contextlib.suppress(OutOfMemory), or_end():
+            self.log.replace(IMAGE + self.core.save().encode() + b"\n" + FILES + b"%d\n" % self.files_end)
+            self.completed = 0
+
+    def reserve(self, end: int) -> None:
+        """No later driver gives a file a number below this one."""
+        with self.lock:
+            if end > self.files_end:
+                self.files_end = end + FILES_AT_ONCE
+                with or_end():
+                    self.log.append(FILES + b"%d" % self.files_end)
+
+    def ack(self, id: int, subtask: Subtask, fresh: Sequence[int], reused: Sequence[int]) -> Reply:
+        reply: Reply = self.call(lines.ack_line(now(), id, *subtask, fresh, reused))
+        return reply
+
+    def decline(self, id: int, subtask: Subtask) -> Reply:
+        reply: Reply = self.call(lines.decline_line(now(), id, *subtask))
+        return reply
+
+    def restore(self, shape: Sequence[int]) -> Reply:
+        reply: Reply = self.call(lines.restore_line(now(), None, shape))
+        return reply
+
+    def cancel(self) -> None:
+        self.call(lines.cancel_line(now()))
+
+    def take(self, most: int) -> Taken:
+        if self.core.waiting_file(0) is None:  # it would change nothing
+            return Taken(())
+        taken: Taken = self.call(lines.take_line(most), most)
+        return taken
+
+    def deleted(self, file: int) -> None:
+        self.call(lines.deleted_line(file))
+
+    def undeleted(self, file: int) -> None:
+        self.call(lines.undeleted_line(file))
+
+    # Reads: they change nothing, so they are not logged.
+
+    def files(self, id: int) -> Dict[Subtask, Tuple[int, ...]]:
+        """The files of a live record, by subtask."""
+        return self.core.show(id).files
+
+    def used(self, files: Iterable[int]) -> Set[int]:
+        """Which of these files are in use."""
+        return {file for file in files if self.core.count(file).uses}
+
+    def recover(self, storage: pathlib.Path) -> None:
+        """Does what the driver before this one, whose tasks have ended, left undone: the files that it fetched are reported, and those
+        that nobody knows are deleted."""
+        names = {int(path.name) for path in storage.iterdir()}
+        for file in self.core.taken_files():
+            report = self.undeleted if file in names else self.deleted
+            report(file)
+        for file in names - self.used(names) - set(self.waiting()):
+            (storage / str(file)).unlink()
+
+    def waiting(self) -> Iterator[int]:
+        """The files that wait for deletion."""
+        place = 0
+        while (file := self.core.waiting_file(place)) is not None:
+            yield file
+            place += 1
+
+    def settle(self, storage: pathlib.Path) -> None:
+        """Waits until the discarder has deleted all that it may, before any task writes. Then the folder has the files in use and no
+        other."""
+        wait_for(lambda: self.core.file_counts().waiting + self.core.file_counts().taken == 0)
+        used = set(self.check(storage).uses())
+        names = {int(path.name) for path in storage.iterdir()}
+        assert names == used, (names - used, used - names)
+
+    def check(self, storage: pathlib.Path) -> bookkeeping.Bookkeeping:
+        """Compares the coordinator, and what it has answered, with what all lines say from the first on. The files in use are there."""
+        with self.lock:
+            books = bookkeeping.Bookkeeping()
+            answers = [(line, books.follow(line)) for line in whole_log(self.log.path, self.log.kept)]
+            calls = [(line, reply) for line, reply in answers if reply is not None]
+            assert calls[len(calls) - len(self.made) :] == self.made, "an answer is not what the lines say"
+            bookkeeping.check(books, self.core)
+        missing = [file for file in books.uses() if not (storage / str(file)).exists()]
+        assert not missing, f"files in use are missing: {missing}"
+        return books
+
+    def run(self, job: Any) -> None:
+        """Ticks when something can happen, and has barriers sent where a checkpoint is triggered, until the job is over."""
+        ticked: Optional[Reply] = None
+        calls = 0
+        while not job.is_over.is_set():
+            with job.lock:
+                channels = job.channels
+                # a call since the last tick may have moved what that one had to wait for
+                moment = self.core.next_tick(ticked if self.core.calls() == calls + 1 else None)
+                if is_due := bool(channels) and moment is not None and moment <= now():
+                    calls = self.core.calls()
+                    ticked = self.tick(job)
+            if is_due and isinstance(ticked, Triggered):
+                job.send_barriers(ticked.id, channels)
+            time.sleep(0.01)
+
+    def tick(self, job: Any) -> Optional[Reply]:
+        try:
+            reply: Reply = job.called(self.call, lines.tick_line(now()))
+        except Refused as refusal:  # a decline has failed the job since
+            assert refusal.name == "NotRunning", refusal
+            return None
+        return reply
+
+
+def opened(says: Sequence[lines.Line]) -> Optional[Coordinator]:
+    """The coordinator that the lines config, job and start open, once all three are there."""
+    if len(says) < 3:
+        return None
+    settings, job, start = says
+    assert isinstance(settings, Settings) and isinstance(job, lines.Job) and isinstance(start, lines.Start)
+    return Coordinator(settings, job.shape, start.now)
+
+
+def made(core: Coordinator, line: bytes, most: int) -> Optional[Reply]:
+    """Makes the call of a line. One that finds no memory is made again before any other."""
+    while True:
+        try:
+            return core.line(line, most)
+        except OutOfMemory:
+            time.sleep(0.1)

@@ -1,0 +1,238 @@
+"""Images of jobs: a start goes from the last one, the log is cut behind it, and nothing that was promised goes with it. Ones that are
+damaged, and databases of other versions."""
+import glob
+import hashlib
+import os
+import re
+import signal
+import sqlite3
+import subprocess
+import threading
+
+from harness import PROGRAM, Archive, PgArchive, Server, check_log, folder, served, until
+from postgres import postgres
+from relkvanu_service import Service, ack, deleted, dispose, savepoint, take
+from writers import check_kept
+
+KEEPING = ["--image-calls", "20", "--keep-calls", "30"]
+SETTINGS = {"interval": 1 << 40}
+
+
+def worked(job, rounds, first=1):
+    """Savepoints with three files each, of which the last two stay; of those that go one file stays taken. Six calls a round."""
+    for number in range(first, first + rounds):
+        job.calls([savepoint(), ack(number, "0.0", [number * 10, number * 10 + 1]), ack(number, "0.1", [number * 10 + 2])])
+        if number > 2:
+            job.call(dispose(number - 2))
+            files = job.take(3)
+            job.calls([deleted(file) for file in files[:2]])
+
+
+def seen(job, files):
+    """What a job is at and what the history says of it, but for the time that it is."""
+    state = {name: value for name, value in job.state().items() if name != "now"}
+    return state, job.files(1000), job.records(), [job.record(it["id"]) for it in state["live"]], [job.file(file) for file in files]
+
+
+def read_and_cut(job, least):
+    until(lambda: (it := job.state())["first"] > least and job.files()["upto"] == it["seq"])
+
+
+def test_a_start_goes_from_the_last_image():
+    with served(args=KEEPING) as server:
+        archive, job = Archive(server.database), Service(server.url).open("orders", SETTINGS, [2])
+        path, body, key = "/v1/jobs/orders/calls", {"calls": [{"call": "savepoint"}]}, [("Idempotency-Key", "early")]
+        early = server.request("POST", path, body, headers=key)
+        job.calls([ack(1, "0.0", [10, 11]), ack(1, "0.1", [12])])
+        worked(job, 40, 2)
+        job.calls([savepoint(), ack(42, "0.0", [420])])  # stays pending
+        read_and_cut(job, 150)
+        # written, deleted, taken, in use; the first was deleted before the log's first call
+        files = [10, 350, 391, 392, 402, 412, 420]
+        before = seen(job, files)
+        assert before[4][0]["history"] is None and before[4][1]["history"]["why"] == "savepoint 35 was disposed of", before[4]
+        for _ in range(2):
+            server.kill()
+            server.start()
+            until(lambda: job.files()["upto"] == job.state()["seq"])
+            assert seen(job, files) == before
+            assert server.replayed()[-1] <= 30 and before[0]["seq"] > 200, (server.replayed(), before[0])
+        assert server.request("POST", path, body, headers=key)[2] == early[2]
+        first, events = before[0]["first"], server.get("/v1/jobs/orders/events?after=0")[2]
+        assert events["first"] == first and events["events"][0]["seq"] >= first, (first, events["events"][:1])
+        job.call(ack(42, "0.1"))
+        until(lambda: job.record(42)["history"]["how"] == "completed" and job.record(42)["history"]["acks"] == 2)
+        whole = check_kept(archive.log("orders"), list(job.log()), job.state()["first"])
+        check_log(job.state(), [2], whole)
+        return f"{server.replayed()[-1]} of {len(whole)} calls made again, {first - 1} cut; a key from before the cut is answered"
+
+
+def digest(row):
+    """The digest of an image, by its columns."""
+    job, seq, at, shape, completed, event, text = row
+    completed = "None" if completed is None else f"Some({completed})"
+    return hashlib.sha256(f"{job} {seq} {at} {shape} {completed} {event} {text}".encode()).hexdigest()
+
+
+def refused(server, text):
+    server.start(ready=False)
+    status = server.process.wait(20)
+    assert status == 78 and text in server.log(), (status, text, server.log()[-600:])
+
+
+def test_an_image_that_is_damaged_stops_the_start():
+    with served(args=KEEPING) as server:
+        job = Service(server.url).open("orders", SETTINGS, [2])
+        worked(job, 20)
+        read_and_cut(job, 30)
+        before = seen(job, [200])
+        server.stop()
+        base = sqlite3.connect(server.database, isolation_level=None)
+        columns = "job, seq, at, shape, completed, event, text"
+        row = base.execute(f"select {columns} from image order by seq desc limit 1").fetchone()
+        seq, text = row[1], row[6]
+        named = f"job orders, the image after call {seq}: "
+        base.execute("update image set text = ? where seq = ?", (re.sub("[1-8]", lambda digit: str(int(digit[0]) + 1), text, count=1), seq))
+        refused(server, named + "its digest is not that of what it says")
+        base.execute("update image set text = ?, event = event + 1 where seq = ?", (text, seq))
+        refused(server, named + "its digest is not that of what it says")
+        for other in ("{}", text[:-1], text.replace('"shape":[2]', '"shape":[1]')):
+            base.execute("update image set text = ?, event = ?, digest = ? where seq = ?", (other, row[5], digest((*row[:6], other)), seq))
+            refused(server, named + "the library refuses it: BadImage")
+        # by the remedy that the message names
+        base.execute("delete from image where seq = ?", (seq,))
+        server.start()
+        until(lambda: job.files()["upto"] == job.state()["seq"])
+        after = seen(job, [200])
+        assert after[0]["image"] is not None and after[1:] == before[1:], (before, after)
+        job.calls([savepoint(), ack(21, "0.0")])
+        image = job.state()["image"]["seq"]
+        server.stop()
+        # calls after the image are made again, and compared
+        place, was = base.execute("select seq, answer from call where seq > ? and answer like 'ack pending%' order by seq limit 1", (image,)).fetchone()
+        base.execute("update call set answer = 'ack pending 7' where seq = ?", (place,))
+        refused(server, f'job orders, call {place} ')
+        base.execute("update call set answer = ? where seq = ?", (was, place))
+        base.execute("delete from call where seq = ?", (place - 1,))
+        refused(server, f"call {place - 1} is missing")
+        return "3 that say something else, 3 that the library refuses, the one before it, an answer and a gap after it"
+
+
+def test_databases_of_other_versions():
+    with served(args=["--image-calls", "0"]) as server:
+        job = Service(server.url).open("orders", SETTINGS, [2])
+        worked(job, 20)
+        before = seen(job, [])[0]
+        server.stop()
+        base = sqlite3.connect(server.database, isolation_level=None)
+        base.executescript("drop table image; pragma user_version = 0;")
+        server.args = KEEPING
+        server.start()
+        assert server.replayed()[-1] == before["seq"]
+        until(lambda: base.execute("select count(*) from image").fetchone()[0] == 1 and job.state()["image"])
+        server.stop()
+        base.executescript("pragma user_version = 99;")
+        refused(server, "the tables of the database have version 99, and this program knows those up to 1")
+        return "one without images, and a newer one"
+
+
+def test_a_history_that_is_lost_after_a_cut():
+    with served(args=KEEPING) as server:
+        job = Service(server.url).open("orders", SETTINGS, [2])
+        worked(job, 20)
+        job.calls([savepoint(), ack(21, "0.1", [210]), dispose(20)])  # three files wait, record 21 is pending
+        read_and_cut(job, 30)
+        state, taken = job.state(), job.files(1000)["taken"]
+        assert len(taken) == 18 and state["files"]["waiting"] == 3, (taken, state)
+        server.stop()
+        for path in glob.glob(f"{server.folder}/history*"):
+            os.remove(path)
+        server.start()
+        until(lambda: job.files()["upto"] == state["seq"])
+        assert sorted(row["file"] for row in job.files(1000)["taken"]) == sorted(row["file"] for row in taken)
+        record = job.record(21)
+        assert record["missing"] == ["0.0"] and record["history"]["acks"] == 1, record
+        assert job.file(192)["uses"] == 1 and job.file(192)["used_by"] == [{"record": 19, "subtask": "0.1"}], job.file(192)
+        files = job.take(3)
+        job.calls([deleted(int(taken[0]["file"])), deleted(files[0])])
+        until(lambda: job.files()["upto"] == job.state()["seq"])
+        assert job.file(files[0])["history"]["why"] == "savepoint 20 was disposed of", job.file(files[0])
+        assert job.file(int(taken[0]["file"]))["history"]["deleted"]["answer"].startswith("deleted ")
+        return "what is taken, waits and is missing is known again"
+
+
+def test_a_backup_while_images_are_made():
+    with served(args=KEEPING) as server:
+        archive, job = Archive(server.database), Service(server.url).open("orders", SETTINGS, [2])
+        working = threading.Thread(target=worked, args=(job, 150))
+        working.start()
+        until(lambda: job.state()["first"] > 100)
+        copy = f"{server.folder}/copy.db"
+        subprocess.run(["sqlite3", server.database, f".backup {copy}"], check=True)
+        working.join()
+        whole = archive.log("orders")
+        with folder() as at:
+            restored = Server(at, database=copy, args=KEEPING).start()
+            try:
+                job = Service(restored.url).job("orders")
+                log = list(job.log())
+                state = job.state()
+                with sqlite3.connect(copy) as base:
+                    all_of_it = [seq for (seq,) in base.execute("select seq from archive union all select seq from call order by seq")]
+                assert state["first"] > 100 and all_of_it == list(range(1, state["seq"] + 1)), (state, all_of_it[:3])
+                check_log(state, [2], check_kept(whole[: state["seq"]], log, state["first"]))
+                assert restored.replayed()[-1] < 60, restored.replayed()
+            finally:
+                restored.stop()
+        return f"{state['seq']} of {len(whole)} calls in the copy, {state['first'] - 1} of them cut"
+
+
+def test_postgresql_of_other_versions():
+    with postgres() as database, folder() as at:
+        server = Server(at, database.url, ["--image-calls", "0"]).start()
+        job = Service(server.url).open("orders", SETTINGS, [2])
+        worked(job, 10)
+        server.stop()
+        server.args = KEEPING
+        database.sql("update schema_version set number = 99")
+        refused(server, "the tables of the database have version 99")
+        database.sql("drop table schema_version; drop table image")
+        server.start()
+        until(lambda: job.state()["image"])
+        server.stop()
+        assert database.sql("select number from schema_version") == "1" and database.sql("select count(*) from image") == "1"
+        return "one without images, and a newer one"
+
+
+def test_a_standby_that_is_slower_than_the_cuts():
+    with postgres() as database, folder() as at:
+        with open(f"{at}/service.toml", "w", encoding="utf-8") as it:
+            it.write("lease_seconds = 1\nimage_calls = 20\nkeep_calls = 0\n")
+        servers = [Server(at, database.url, ["--config", f"{at}/service.toml"]) for _ in range(2)]
+        leader, standby = servers[0].start(), servers[1].start(ready=False)
+        archive, job = PgArchive(database), Service(leader.url).open("orders", SETTINGS, [2])
+        worked(job, 2)
+        until(lambda: "follows jobs=" in standby.log())
+        standby.process.send_signal(signal.SIGSTOP)
+        worked(job, 30, 3)
+        read_and_cut(job, 100)
+        before = {name: value for name, value in job.state().items() if name not in ("now", "first", "image")}
+        standby.process.send_signal(signal.SIGCONT)
+        leader.kill()
+        standby.wait_ready()
+        job = Service(standby.url).job("orders")
+        after = {name: value for name, value in job.state().items() if name not in ("now", "first", "image")}
+        assert after == before, (before, after)
+        worked(job, 3, 33)
+        until(lambda: job.files()["upto"] == job.state()["seq"])
+        whole = check_kept(archive.log("orders"), list(job.log()), job.state()["first"])
+        check_log(job.state(), [2], whole)
+        standby.stop()
+        return f"{len(whole)} calls; it went on from an image"
+
+
+def test_bad_settings_are_named():
+    for words, name in [(["--image-calls", "1000000001"], "image_calls"), (["--keep-calls", "1000000000001"], "keep_calls")]:
+        told = subprocess.run([PROGRAM, "serve", *words], stderr=subprocess.PIPE, text=True, timeout=20, check=False)
+        assert told.returncode == 78 and f"{name}: " in told.stderr, told
+    return "2 settings"
