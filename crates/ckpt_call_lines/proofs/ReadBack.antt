@@ -1,5 +1,6 @@
 -- The line of each call is read as that call.
-use Rattle.std.proofs.Common.{◌≡◌, ℕ, ◌<◌, Bool, true, false, List, [], ◌∷◌, ◌++◌, Option, Ok, refl, sym, ap, subst, ◌∙◌, arith, append_assoc}
+use Rattle.std.proofs.Common.{◌≡◌, ℕ, ◌<◌, Bool, true, false, ◌&&◌, ltb, length, List, [], ◌∷◌, ◌++◌, Option, Ok, refl, sym, ap, subst, ◌∙◌, arith, append_assoc}
+use Rattle.std.specs.List.{list_all}
 use Rattle.std.specs.Prelude.{All, map, flat_map, codes, decimal}
 use Rattle.ckpt_ids.specs.declared.subtask.SubtaskId.{SubtaskId}
 use Rattle.ckpt_ids.specs.declared.call.Target.TheVariants as target
@@ -29,45 +30,17 @@ put_together text parts read same is = subst (λ (t : List ℕ). IsReadAs read t
 one : (word : List ℕ) (n : ℕ) → IsPlain word → Fits n → IsWritten (word ++ 32 ∷ decimal n) (word ∷ decimal n ∷ [])
 one word n plain fits = next word (decimal n) (decimal n ∷ []) plain (last (decimal n) (plain_number n fits))
 
-pub tick : (now : ℕ) → Fits now → IsReadAs (line.Tick now) (codes "tick" ++ 32 ∷ decimal now)
-unfolding line_of keyword_of row number_line ended
-tick now fits = read_as _ (codes "tick" ∷ decimal now ∷ []) _ (one (codes "tick") now (plain_by (codes "tick") refl) fits) (rw (number_place-decimal now [] fits) refl)
+number_read : (line : ℕ → Line) (n : ℕ) → Fits n → number_line line (decimal n ∷ []) ≡ Ok (line n)
+unfolding number_line ended
+number_read line n fits = rw (number_place-decimal n [] fits) refl
 
-pub savepoint : (now : ℕ) → Fits now → IsReadAs (line.Savepoint now) (codes "savepoint" ++ 32 ∷ decimal now)
-unfolding line_of keyword_of row number_line ended
-savepoint now fits = read_as _ (codes "savepoint" ∷ decimal now ∷ []) _ (one (codes "savepoint") now (plain_by (codes "savepoint") refl) fits) (rw (number_place-decimal now [] fits) refl)
-
-pub dispose : (id : ℕ) → Fits id → IsReadAs (line.Dispose id) (codes "dispose" ++ 32 ∷ decimal id)
-unfolding line_of keyword_of row number_line ended
-dispose id fits = read_as _ (codes "dispose" ∷ decimal id ∷ []) _ (one (codes "dispose") id (plain_by (codes "dispose") refl) fits) (rw (number_place-decimal id [] fits) refl)
-
-pub cancel : (now : ℕ) → Fits now → IsReadAs (line.Cancel now) (codes "cancel" ++ 32 ∷ decimal now)
-unfolding line_of keyword_of row number_line ended
-cancel now fits = read_as _ (codes "cancel" ∷ decimal now ∷ []) _ (one (codes "cancel") now (plain_by (codes "cancel") refl) fits) (rw (number_place-decimal now [] fits) refl)
-
-pub take : (most : ℕ) → Fits most → IsReadAs (line.Take most) (codes "take" ++ 32 ∷ decimal most)
-unfolding line_of keyword_of row number_line ended
-take most fits = read_as _ (codes "take" ∷ decimal most ∷ []) _ (one (codes "take") most (plain_by (codes "take") refl) fits) (rw (number_place-decimal most [] fits) refl)
-
-pub deleted : (file : ℕ) → Fits file → IsReadAs (line.Deleted file) (codes "deleted" ++ 32 ∷ decimal file)
-unfolding line_of keyword_of row number_line ended
-deleted file fits = read_as _ (codes "deleted" ∷ decimal file ∷ []) _ (one (codes "deleted") file (plain_by (codes "deleted") refl) fits) (rw (number_place-decimal file [] fits) refl)
-
-pub undeleted : (file : ℕ) → Fits file → IsReadAs (line.Undeleted file) (codes "undeleted" ++ 32 ∷ decimal file)
-unfolding line_of keyword_of row number_line ended
-undeleted file fits = read_as _ (codes "undeleted" ∷ decimal file ∷ []) _ (one (codes "undeleted") file (plain_by (codes "undeleted") refl) fits) (rw (number_place-decimal file [] fits) refl)
-
-pub show : (id : ℕ) → Fits id → IsReadAs (line.Show id) (codes "show" ++ 32 ∷ decimal id)
-unfolding line_of keyword_of row number_line ended
-show id fits = read_as _ (codes "show" ∷ decimal id ∷ []) _ (one (codes "show") id (plain_by (codes "show") refl) fits) (rw (number_place-decimal id [] fits) refl)
-
-pub count : (file : ℕ) → Fits file → IsReadAs (line.Count file) (codes "count" ++ 32 ∷ decimal file)
-unfolding line_of keyword_of row number_line ended
-count file fits = read_as _ (codes "count" ∷ decimal file ∷ []) _ (one (codes "count") file (plain_by (codes "count") refl) fits) (rw (number_place-decimal file [] fits) refl)
+-- such a line is read as its keyword says
+numbered : (word : List ℕ) (line : ℕ → Line) (n : ℕ) → (list_all (λ b. ltb 32 b) word && ltb 0 (length word)) ≡ true → Fits n → line_of (word ∷ decimal n ∷ []) ≡ number_line line (decimal n ∷ []) → IsReadAs (line n) (word ++ 32 ∷ decimal n)
+numbered word line n plain fits is = read_as _ _ _ (one word n (plain_by word plain) fits) (is ∙ number_read line n fits)
 
 pub start : (now : ℕ) → Fits now → IsReadAs (line.Start now) (start_text now)
-unfolding line_of keyword_of row number_line ended start_text
-start now fits = read_as _ (codes "start" ∷ decimal now ∷ []) _ (one (codes "start") now (plain_by (codes "start") refl) fits) (rw (number_place-decimal now [] fits) refl)
+unfolding line_of keyword_of row start_text
+start now fits = numbered (codes "start") line.Start now refl fits refl
 
 -- two numbers between the first word and the rest
 two : (word : List ℕ) (m n : ℕ) (rest : List ℕ) (words : List (List ℕ)) → IsPlain word → Fits m → Fits n → IsWritten rest words
@@ -227,20 +200,20 @@ unfolding call_text
 savepoint_parts now id shape = parts_4 (codes "restore") (spaced now) (spaced id) (flat_map spaced (parallelisms shape))
 
 pub reads : (c : Call) → FitsCall c → IsReadAs (line_of_call c) (call_text c)
-unfolding call_text
-reads (call.Tick now) fits = tick now fits
-reads (call.Savepoint now) fits = savepoint now fits
+unfolding call_text line_of keyword_of row
+reads (call.Tick now) fits = numbered (codes "tick") line.Tick now refl fits refl
+reads (call.Savepoint now) fits = numbered (codes "savepoint") line.Savepoint now refl fits refl
 reads (call.Ack now id s fresh reused) fits =
     put_together _ _ _ (ack_parts now id s fresh reused)
     (ack now id s fresh reused fits.0 fits.1 fits.2 (from_all Fits fresh fits.3.0) (from_all Fits reused fits.4.0) fits.3.1 fits.4.1)
 reads (call.Decline now id s) fits = put_together _ _ _ (decline_parts now id s) (decline now id s fits.0 fits.1 fits.2)
-reads (call.Dispose id) fits = dispose id fits
+reads (call.Dispose id) fits = numbered (codes "dispose") line.Dispose id refl fits refl
 reads (call.Restore now target.Latest shape) fits = put_together _ _ _ (latest_parts now shape) (restore_latest now (parallelisms shape) fits.0 (from_all Fits (parallelisms shape) fits.2))
 reads (call.Restore now (target.Savepoint id) shape) fits =
     put_together _ _ _ (savepoint_parts now id shape) (restore_savepoint now id (parallelisms shape) fits.0 fits.1 (from_all Fits (parallelisms shape) fits.2))
-reads (call.Cancel now) fits = cancel now fits
-reads (call.Take most) fits = take most fits
-reads (call.Deleted file) fits = deleted file fits
-reads (call.Undeleted file) fits = undeleted file fits
-reads (call.Show id) fits = show id fits
-reads (call.Count file) fits = count file fits
+reads (call.Cancel now) fits = numbered (codes "cancel") line.Cancel now refl fits refl
+reads (call.Take most) fits = numbered (codes "take") line.Take most refl fits refl
+reads (call.Deleted file) fits = numbered (codes "deleted") line.Deleted file refl fits refl
+reads (call.Undeleted file) fits = numbered (codes "undeleted") line.Undeleted file refl fits refl
+reads (call.Show id) fits = numbered (codes "show") line.Show id refl fits refl
+reads (call.Count file) fits = numbered (codes "count") line.Count file refl fits refl

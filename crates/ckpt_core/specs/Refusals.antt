@@ -8,6 +8,7 @@ use Rattle.ckpt_ids.specs.declared.call.Call.{Call}
 use Rattle.ckpt_ids.specs.declared.call.Call.TheVariants.{Tick, Savepoint, Ack, Decline, Dispose, Restore, Cancel, Deleted, Undeleted, Show}
 use Rattle.ckpt_ids.specs.declared.reply.Refusal.{Refusal}
 use Rattle.ckpt_ids.specs.declared.reply.Refusal.TheVariants.{MomentTooLarge, NotRunning, TooManyFiles, RepeatedFile, UnknownCheckpoint, UnknownSubtask, AlreadyAcknowledged, NameTaken, FileGone, NoSuchSavepoint, InUse, TooManySavepoints, NotTaken, NoSuchRecord, IdsUsedUp}
+pub use Rattle.ckpt_ids.specs.Ordered.{has_repeats}
 use Rattle.ckpt_ids.specs.Records.{Record, uses, is_present, has_acknowledged}
 use Rattle.ckpt_ids.specs.Shapes.{is_subtask}
 use Rattle.ckpt_core.specs.declared.mode.Mode.{Mode}
@@ -41,10 +42,6 @@ abbrev pub is_cancelled : Mode → Bool
 is_cancelled Running = false
 is_cancelled Failed = false
 is_cancelled Cancelled = true
-
-abbrev pub has_repeats : List ℕ → Bool
-has_repeats [] = false
-has_repeats (x ∷ xs) = list_any (λ y. x == y) xs || has_repeats xs
 
 -- the record of this number, where it is pending
 abbrev pub pending_of : List Record → ℕ → Option Record

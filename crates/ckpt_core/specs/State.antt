@@ -13,6 +13,7 @@ use Rattle.ckpt_core.specs.declared.mode.Mode.TheVariants.{Running}
 use Rattle.ckpt_ids.specs.Records.{Record, uses, is_present, released}
 use Rattle.ckpt_ids.specs.Ascending.{ascending_set}
 use Rattle.ckpt_rules.specs.Trigger.{gap}
+pub use Rattle.ckpt_store.specs.Storing.{choice_from}
 
 -- What a coordinator was opened with, which no call changes
 pub record Opening : Type 0 where
@@ -107,11 +108,6 @@ is_surplus m r = is_done_checkpoint r && nat_le m.opening.config.retained (count
 abbrev pub last_checkpoint : List Record → Option ℕ
 last_checkpoint [] = None
 last_checkpoint (r ∷ rs) = elim (last_checkpoint rs) [ Some id ↦ Some id | None ↦ if is_done_checkpoint r then Some r.id else None ]
-
-abbrev pub choice_from : Option ℕ → Option ℕ → Choice
-choice_from (Some id) base = choice.Checkpoint id
-choice_from None (Some id) = choice.Savepoint id
-choice_from None None = choice.Fresh
 
 -- What the job would restart from.
 -- Source: Checkpoints: the latest completed checkpoint; Savepoints: intermediate ones are not used for recovery.

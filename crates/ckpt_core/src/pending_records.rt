@@ -4,8 +4,8 @@ ghost use Rattle.std.specs.List.{list_any};
 ghost use Rattle.ckpt_core.specs.Inside.PendingRecords.{Expects, acked, retracted};
 ghost use Rattle.ckpt_core.specs.Inside.RecordFacts.{IsIn, IsInOrder, IsPending, Record, has_acknowledged, id_before, is_checkpoint};
 ghost use Rattle.ckpt_core.specs.Reads.{has_come, live_of};
-ghost use Rattle.ckpt_store.specs.Places.{IsPlaceOf};
-ghost use Rattle.ckpt_store.specs.Storing.{has_id};
+ghost use Rattle.ckpt_ids.specs.Places.{LiesAt};
+ghost use Rattle.ckpt_store.specs.Storing.{has_id, id_of};
 
 use crate::queries::{Live, live_pending};
 use ckpt_ids::{CheckpointId, Files, Kind, SubtaskId};
@@ -227,7 +227,7 @@ impl PendingRecords {
 /// others are searched by halves.
 fn place_of(records: &VecDeque<Pending>, id: CheckpointId) -> Option<usize>
     requires { IsInOrder id_before records.now.items }
-    ensures found { IfSome result (λ place. (place < length records.now.items) × IsPlaceOf id records.now.items place) }
+    ensures found { IfSome result (LiesAt id_of id records.now.items) }
     ensures absent { IfNone result (list_any (has_id id) records.now.items ≡ false) }
 {
     match records.back() {

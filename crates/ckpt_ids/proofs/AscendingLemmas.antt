@@ -2,10 +2,10 @@
 use Rattle.std.proofs.Common.{◌≡◌, ℕ, zero, suc, ◌+◌, ◌<◌, ◌≤◌, Bool, true, false, cond, ltb, leb, eqb, List, [], ◌∷◌, ◌++◌, length, get_or, refl, sym, ap, subst, ◌∙◌, inl, inr, ⊎_elim, arith}
 use Rattle.std.specs.List.Sorted.{IsPermutation, IsNonDecreasingBy, IsSorted}
 use Rattle.std.specs.Ordering.{nat_cmp}
-use Rattle.std.proofs.lemmas.Bool.{cases_Bool, ltb-true, ltb-false, leb-true, lt-ltb, le-ltb, le-leb, eq-eqb}
+use Rattle.std.proofs.lemmas.Bool.{cases_Bool, cases_lt, ltb-true, ltb-false, leb-true, lt-ltb, le-ltb, le-leb, eq-eqb}
 use Rattle.std.proofs.lemmas.List.Sorted.{IsNonDecreasingBy-from_sort, sum_by-IsPermutation}
-use Rattle.ckpt_ids.specs.Ordered.{IsIn, put, IsStrictOrder}
-use Rattle.ckpt_ids.specs.Ascending.{IsAscending, ascending}
+use Rattle.ckpt_ids.specs.Ordered.{AreDistinct, IsIn, put, IsStrictOrder}
+use Rattle.ckpt_ids.specs.Ascending.{IsAscending, IsAscendingSet, ascending}
 use Rattle.ckpt_ids.specs.Counting.{times}
 use Rattle.ckpt_ids.proofs.CountLemmas.{count_by-append, count_by-cons, count_by_yes, IsIn-from_times}
 use Rattle.ckpt_ids.proofs.OrderedLemmas.{ComesBefore-at, ComesBefore-from, IsIn-get_or, IsIn-place, IsIn-put_cases}
@@ -115,3 +115,13 @@ ascending_at (x ∷ xs) a zero zero le lt = omega arith
 ascending_at (x ∷ xs) a zero (suc j) le lt = leb-true x (get_or xs j 0) (ComesBefore-at leb x (get_or xs j 0) xs a.0 (IsIn-get_or xs j 0 (omega arith)))
 ascending_at (x ∷ xs) a (suc i) zero le lt = absurd (omega arith)
 ascending_at (x ∷ xs) a (suc i) (suc j) le lt = ascending_at xs a.1 i j (omega arith) (omega arith)
+
+-- ascending numbers of which none stands twice rise
+pub set-from_distinct : (xs : List ℕ) → IsAscending xs → AreDistinct xs → IsAscendingSet xs
+set-from_distinct [] a d = tt
+set-from_distinct (x ∷ xs) a d =
+    let above : (y : ℕ) → IsIn y xs → ltb x y ≡ true = λ y k.
+    let up : x ≤ y = leb-true x y (ComesBefore-at leb x y xs a.0 k) in
+    let P : ℕ → Type 0 = λ z. IsIn z xs in
+    ⊎_elim (λ (l : x < y). lt-ltb x y l) (λ (g : y ≤ x). let same : y ≡ x = omega arith in absurd (d.0 (subst P same k))) (cases_lt x y) in
+    (ComesBefore-from ltb x xs above, set-from_distinct xs a.1 d.1)

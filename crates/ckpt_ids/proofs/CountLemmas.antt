@@ -1,10 +1,10 @@
 -- How many elements of a list pass a test.
-use Rattle.std.proofs.Common.{◌≡◌, ℕ, suc, ◌+◌, ◌<◌, Bool, true, false, cond, eqb, List, [], ◌∷◌, ◌++◌, filter, map, refl, sym, ap, subst, ◌∙◌, inl, inr, ⊎_elim, arith}
+use Rattle.std.proofs.Common.{◌≡◌, ℕ, suc, ◌+◌, ◌<◌, ◌≤◌, Bool, true, false, cond, eqb, List, [], ◌∷◌, ◌++◌, filter, map, refl, sym, ap, subst, ◌∙◌, inl, inr, ⊎_elim, arith}
 use Rattle.std.specs.Prelude.{count_by}
-use Rattle.std.proofs.lemmas.Bool.{cases_Bool, cond_both, cond-true, cond-false, eqb-true, eq-eqb}
+use Rattle.std.proofs.lemmas.Bool.{cases_Bool, cases_lt, cond_both, cond-true, cond-false, eqb-true, eq-eqb}
 use Rattle.std.proofs.lemmas.List.Sums.{sum_by-append, sum_by-cons}
 use Rattle.ckpt_ids.specs.Counting.{times}
-use Rattle.ckpt_ids.specs.Ordered.{IsIn, put, in_order}
+use Rattle.ckpt_ids.specs.Ordered.{AreDistinct, IsIn, put, in_order}
 
 -- one more element in front
 pub count_by-cons : {X : Type 0} (p : X → Bool) (x : X) (xs : List X) → count_by p (x ∷ xs) ≡ cond (p x) 1 0 + count_by p xs
@@ -83,6 +83,24 @@ IsIn-from_times f xs h =
     let q = IsIn-from_counted (λ x. eqb x f) xs h in
     let P : ℕ → Type 0 = λ x. IsIn x xs in
     subst P (eqb-true q.0 f q.2) q.1
+
+-- numbers of which none stands twice
+pub times_at_most_once : (f : ℕ) (xs : List ℕ) → AreDistinct xs → times f xs ≤ 1
+times_at_most_once f [] d = omega arith
+times_at_most_once f (x ∷ xs) d =
+    let here : eqb x f ≡ true → times f (x ∷ xs) ≤ 1 = λ (e : eqb x f ≡ true).
+    let P : ℕ → Type 0 = λ y. IsIn y xs in
+    let later : 0 < times f xs → ⊥ = λ (h : 0 < times f xs). d.0 (subst P (sym (eqb-true x f e)) (IsIn-from_times f xs h)) in
+    ⊎_elim (λ (h : 0 < times f xs). absurd (later h)) (λ (h : times f xs ≤ 0). omega (arith, count_by_yes (λ y. eqb y f) x xs e)) (cases_lt 0 (times f xs)) in
+    ⊎_elim here (λ (e : eqb x f ≡ false). omega (arith, times_at_most_once f xs d.1, count_by_no (λ y. eqb y f) x xs e)) (cases_Bool (eqb x f))
+
+-- and the other way round
+pub AreDistinct-from_times : (xs : List ℕ) → ((f : ℕ) → times f xs ≤ 1) → AreDistinct xs
+AreDistinct-from_times [] h = tt
+AreDistinct-from_times (x ∷ xs) h = (
+  λ k. absurd (omega (arith, h x, count_by_yes (λ y. eqb y x) x xs (eq-eqb x x refl), times-from_IsIn x xs k)),
+  AreDistinct-from_times xs (λ f. omega (arith, h f, count_by-cons (λ y. eqb y f) x xs)),
+)
 
 -- a filter that is told by the number keeps all of a number or none
 pub times-filter : (p : ℕ → Bool) (z : ℕ) (xs : List ℕ) → times z (filter p xs) ≡ cond (p z) (times z xs) 0

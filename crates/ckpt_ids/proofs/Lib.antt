@@ -3,6 +3,7 @@ pub mod ComparisonLemmas
 pub mod CountLemmas
 pub mod OrderLemmas
 pub mod OrderedLemmas
+pub mod PlaceLemmas
 pub mod ResultLemmas
 pub mod SetLemmas
 pub mod ShapeLemmas

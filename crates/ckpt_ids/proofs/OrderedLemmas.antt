@@ -1,7 +1,7 @@
 -- What holds of lists in order. The principle: two lists in a strict order that have the same elements are equal.
-use Rattle.std.proofs.Common.{◌≡◌, ℕ, zero, suc, length, get_or, ◌<◌, Bool, true, false, cond, List, [], ◌∷◌, ◌++◌, map, refl, sym, ap, subst, ◌∙◌, ◌⊎◌, inl, inr, ⊎_elim, arith}
+use Rattle.std.proofs.Common.{◌≡◌, ℕ, zero, suc, length, get_or, ◌<◌, Bool, true, false, cond, List, [], ◌∷◌, ◌++◌, map, refl, sym, ap, subst, ◌∙◌, ◌⊎◌, inl, inr, ⊎_elim, arith, ◌||◌, ◌&&◌}
 use Rattle.std.specs.List.{filter, list_any, flat_map}
-use Rattle.std.proofs.lemmas.Bool.{cases_Bool, both_ways, cond-true, or_cases, or_left, or_right}
+use Rattle.std.proofs.lemmas.Bool.{cases_Bool, both_ways, cond-false, cond-true, or_cases, or_left, or_right}
 use Rattle.ckpt_ids.specs.Ordered.{IsIn, AreDistinct, ComesBefore, IsInOrder, put, put_once, in_order, in_order_once, IsStrictOrder}
 
 -- membership
@@ -78,6 +78,19 @@ pub filter-all : {X : Type 0} (p : X → Bool) (xs : List X) → ((x : X) → Is
 filter-all p [] e = refl
 filter-all p (x ∷ xs) e = cond-true (p x) (x ∷ filter p xs) (filter p xs) (e x (inl refl)) ∙ ap (λ ys. x ∷ ys) (filter-all p xs (λ y h. e y (inr h)))
 
+-- and one that keeps none
+pub filter-none : {X : Type 0} (p : X → Bool) (xs : List X) → ((x : X) → IsIn x xs → p x ≡ false) → filter p xs ≡ []
+filter-none p [] e = refl
+filter-none p (x ∷ xs) e = cond-false (p x) (x ∷ filter p xs) (filter p xs) (e x (inl refl)) ∙ filter-none p xs (λ y h. e y (inr h))
+
+-- one filter after the other
+pub filter-filter : {X : Type 0} (p q : X → Bool) (xs : List X) → filter p (filter q xs) ≡ filter (λ x. q x && p x) xs
+filter-filter p q [] = refl
+filter-filter {X} p q (x ∷ xs) =
+    let rest : filter p (filter q xs) ≡ filter (λ y. q y && p y) xs = filter-filter p q xs in
+    let P : Bool → Type 0 = λ b. filter p (cond b (x ∷ filter q xs) (filter q xs)) ≡ cond (b && p x) (x ∷ filter (λ y. q y && p y) xs) (filter (λ y. q y && p y) xs) in
+    ⊎_elim (λ (e : q x ≡ true). subst P (sym e) (ap (λ ys. cond (p x) (x ∷ ys) ys) rest)) (λ (e : q x ≡ false). subst P (sym e) rest) (cases_Bool (q x))
+
 -- two tests that agree on the elements keep the same
 pub filter-same : {X : Type 0} (p q : X → Bool) (xs : List X) → ((x : X) → IsIn x xs → p x ≡ q x) → filter p xs ≡ filter q xs
 filter-same p q [] e = refl
@@ -98,6 +111,10 @@ IsIn-from_list_any {X} p (y ∷ xs) h =
     let here : p y ≡ true → Found = λ (e : p y ≡ true). (y, inl refl, e) in
     let later : list_any p xs ≡ true → Found = λ (k : list_any p xs ≡ true). let q = IsIn-from_list_any p xs k in (q.0, inr q.1, q.2) in
     ⊎_elim here later (or_cases (p y) (list_any p xs) h)
+
+pub list_any-none : {X : Type 0} (p : X → Bool) (xs : List X) → ((x : X) → IsIn x xs → p x ≡ false) → list_any p xs ≡ false
+list_any-none p [] f = refl
+list_any-none p (x ∷ xs) f = ap (λ b. b || list_any p xs) (f x (inl refl)) ∙ list_any-none p xs (λ y h. f y (inr h))
 
 -- order
 
@@ -194,18 +211,26 @@ IsIn-put_cases {X} before x z (y ∷ xs) h =
     let here : before y x ≡ false → Q = λ (e : before y x ≡ false). let k : IsIn z (x ∷ y ∷ xs) = subst P e h in k in
     ⊎_elim later here (cases_Bool (before y x))
 
--- x, which is not there, comes before all that do not come before it
-pub IsInOrder-put : {X : Type 0} {before : X → X → Bool} (o : IsStrictOrder before) (x : X) (xs : List X) → (IsIn x xs → ⊥) → IsInOrder before xs → IsInOrder before (put before x xs)
-IsInOrder-put o x [] new a = (tt, tt)
-IsInOrder-put {X} {before} o x (y ∷ xs) new a =
+-- where x comes before each that does not come before it
+pub IsInOrder-put_between : {X : Type 0} (before : X → X → Bool) → ((x y z : X) → before x y ≡ true → before y z ≡ true → before x z ≡ true) → (x : X) (xs : List X) → ((y : X) → IsIn y xs → before y x ≡ false → before x y ≡ true) → IsInOrder before xs → IsInOrder before (put before x xs)
+IsInOrder-put_between before transitive x [] turns a = (tt, tt)
+IsInOrder-put_between {X} before transitive x (y ∷ xs) turns a =
     let P : Bool → Type 0 = λ b. IsInOrder before (cond b (y ∷ put before x xs) (x ∷ y ∷ xs)) in
     let later : before y x ≡ true → P (before y x) = λ (e : before y x ≡ true).
     let first : (z : X) → IsIn z (put before x xs) → before y z ≡ true = λ z h. ⊎_elim (λ (k : z ≡ x). ap (before y) k ∙ e) (λ (k : IsIn z xs). ComesBefore-at before y z xs a.0 k) (IsIn-put_cases before x z xs h) in
-    subst P (sym e) (ComesBefore-from before y (put before x xs) first, IsInOrder-put o x xs (λ h. new (inr h)) a.1) in
+    subst P (sym e) (ComesBefore-from before y (put before x xs) first, IsInOrder-put_between before transitive x xs (λ z h. turns z (inr h)) a.1) in
     let here : before y x ≡ false → P (before y x) = λ (e : before y x ≡ false).
-    let xy : before x y ≡ true = ⊎_elim (λ (t : before x y ≡ true). t) (λ (t : before x y ≡ false). absurd (new (inl (o.total x y t e)))) (cases_Bool (before x y)) in
-    subst P (sym e) ((xy, ComesBefore-from before x xs (λ z h. o.transitive x y z xy (ComesBefore-at before y z xs a.0 h))), a) in
+    let xy : before x y ≡ true = turns y (inl refl) e in
+    subst P (sym e) ((xy, ComesBefore-from before x xs (λ z h. transitive x y z xy (ComesBefore-at before y z xs a.0 h))), a) in
     ⊎_elim later here (cases_Bool (before y x))
+
+-- and where x is not there
+pub IsInOrder-put : {X : Type 0} {before : X → X → Bool} (o : IsStrictOrder before) (x : X) (xs : List X) → (IsIn x xs → ⊥) → IsInOrder before xs → IsInOrder before (put before x xs)
+IsInOrder-put {X} {before} o x xs new a =
+    let turns : (y : X) → IsIn y xs → before y x ≡ false → before x y ≡ true = λ y h e.
+    let P : X → Type 0 = λ z. IsIn z xs in
+    ⊎_elim (λ (t : before x y ≡ true). t) (λ (t : before x y ≡ false). absurd (new (subst P (sym (o.total x y t e)) h))) (cases_Bool (before x y)) in
+    IsInOrder-put_between before o.transitive x xs turns a
 
 -- the same, each once
 

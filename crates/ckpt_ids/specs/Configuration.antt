@@ -1,7 +1,7 @@
 -- What a job is configured with.
 -- Source: the Flink documentation, "Configuration", execution.checkpointing.* and state.checkpoints.num-retained.
 use Rattle.std.specs.Prelude.{ℕ, ◌≤◌, Bool, nat_le, ◌&&◌}
-use Rattle.ckpt_ids.specs.declared.limits.TheConstants.{LONGEST_DURATION, MOST_AT_ONCE, MOST_RETAINED, MOST_TOLERABLE}
+use Rattle.ckpt_ids.specs.declared.limits.TheConstants.{LEAST_INTERVAL, LONGEST_DURATION, MOST_AT_ONCE, MOST_RETAINED, MOST_TOLERABLE}
 
 pub record Configuration : Type 0 where
   -- milliseconds between two triggers
@@ -25,7 +25,7 @@ configured interval pause at_once timeout tolerable retained keep_on_cancel =
 
 -- the limits are this project's own
 pub record IsWithinLimits (c : Configuration) : Type 0 where
-  pub interval_from : 10 ≤ c.interval
+  pub interval_from : LEAST_INTERVAL ≤ c.interval
   pub interval_to : c.interval ≤ LONGEST_DURATION
   pub pause_to : c.pause ≤ LONGEST_DURATION
   pub at_once_from : 1 ≤ c.at_once
@@ -39,7 +39,7 @@ pub record IsWithinLimits (c : Configuration) : Type 0 where
 -- the same, as a test
 abbrev pub is_within_limits : Configuration → Bool
 is_within_limits c =
-    nat_le 10 c.interval && nat_le c.interval LONGEST_DURATION && nat_le c.pause LONGEST_DURATION
+    nat_le LEAST_INTERVAL c.interval && nat_le c.interval LONGEST_DURATION && nat_le c.pause LONGEST_DURATION
     && nat_le 1 c.at_once && nat_le c.at_once MOST_AT_ONCE
     && nat_le 1 c.timeout && nat_le c.timeout LONGEST_DURATION
     && nat_le c.tolerable MOST_TOLERABLE

@@ -3,6 +3,7 @@ pub mod Ascending
 pub mod Configuration
 pub mod Counting
 pub mod Ordered
+pub mod Places
 pub mod Records
 pub mod RefusalTexts
 pub mod Shapes

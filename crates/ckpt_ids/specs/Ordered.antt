@@ -1,5 +1,6 @@
 -- Lists in order. `before` is the order, as a test.
-use Rattle.std.specs.Prelude.{◌≡◌, Bool, true, false, List, [], ◌∷◌, if◌then◌else◌, ◌⊎◌}
+use Rattle.std.specs.Prelude.{◌≡◌, ℕ, Bool, true, false, ◌||◌, ◌==◌, List, [], ◌∷◌, if◌then◌else◌, ◌⊎◌}
+use Rattle.std.specs.List.{list_any}
 
 -- x is one of the elements
 abbrev pub IsIn : {X : Type 0} → X → List X → Type 0
@@ -10,6 +11,11 @@ IsIn x (y ∷ ys) = (x ≡ y) ⊎ IsIn x ys
 abbrev pub AreDistinct : {X : Type 0} → List X → Type 0
 AreDistinct [] = Unit {0}
 AreDistinct (x ∷ xs) = (IsIn x xs → ⊥) × AreDistinct xs
+
+-- the opposite, as a test on numbers: one stands twice
+abbrev pub has_repeats : List ℕ → Bool
+has_repeats [] = false
+has_repeats (x ∷ xs) = list_any (λ y. x == y) xs || has_repeats xs
 
 -- x comes before each element
 abbrev pub ComesBefore : {X : Type 0} → (X → X → Bool) → X → List X → Type 0

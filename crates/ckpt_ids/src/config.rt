@@ -3,7 +3,9 @@
 ghost use Rattle.std.specs.Prelude.{◌≡◌, ◌^◌, ◌≤◌, ◌↔◌, Bool, true, false, IsErr, IsTrue, OnOk, IfOk};
 ghost use Rattle.ckpt_ids.specs.Configuration.{Configuration, IsWithinLimits, configured, is_within_limits};
 
-use crate::limits::{LONGEST_DURATION, MOST_AT_ONCE, MOST_RETAINED, MOST_TOLERABLE};
+use crate::limits::{
+    LEAST_INTERVAL, LONGEST_DURATION, MOST_AT_ONCE, MOST_RETAINED, MOST_TOLERABLE,
+};
 use std::marker::Model;
 use thiserror::Error;
 
@@ -73,7 +75,7 @@ impl Config {
         ensures refused { IsErr result ↔ (is_within_limits (configured interval pause at_once timeout tolerable retained keep_on_cancel) ≡ false) }
         ensures value { IfOk result (λ config. config ≡ configured interval pause at_once timeout tolerable retained keep_on_cancel) }
     {
-        let good = 10 <= interval
+        let good = LEAST_INTERVAL <= interval
             && interval <= LONGEST_DURATION
             && pause <= LONGEST_DURATION
             && 1 <= at_once

@@ -25,8 +25,8 @@ pub use config::{BadConfig, Config};
 pub use files::Files;
 pub use handed::Handed;
 pub use limits::{
-    LONGEST_DURATION, MOMENTS_END, MOST_AT_ONCE, MOST_FILES, MOST_RETAINED, MOST_SAVEPOINTS,
-    MOST_SUBTASKS, MOST_TOLERABLE, MOST_VERTICES, NUMBERS_END,
+    LEAST_INTERVAL, LONGEST_DURATION, MOMENTS_END, MOST_AT_ONCE, MOST_FILES, MOST_RETAINED,
+    MOST_SAVEPOINTS, MOST_SUBTASKS, MOST_TOLERABLE, MOST_VERTICES, NUMBERS_END,
 };
 pub use numbers::{CheckpointId, FileId, Kind};
 pub use reply::{Answer, Choice, Refusal, Reply, TickEnd};

@@ -12,6 +12,9 @@ pub const MOST_FILES: usize = 4096;
 /// The most savepoints, pending and done ones together.
 pub const MOST_SAVEPOINTS: usize = 1000;
 
+/// The shortest interval, in milliseconds.
+pub const LEAST_INTERVAL: u64 = 10;
+
 /// The longest interval, pause and timeout, in milliseconds.
 pub const LONGEST_DURATION: u64 = 1 << 40;
 

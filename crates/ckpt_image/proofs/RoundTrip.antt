@@ -5,7 +5,7 @@ use Rattle.std.specs.Option.{option_map}
 use Rattle.std.proofs.lemmas.Bool.{le-leb, lt-ltb}
 use Rattle.std.proofs.lemmas.List.Sums.{list_all-from_AllPass}
 use Rattle.ckpt_ids.specs.declared.ack.Acked.{Acked}
-use Rattle.ckpt_ids.specs.declared.limits.TheConstants.{LONGEST_DURATION, MOST_AT_ONCE, MOST_RETAINED, MOST_SUBTASKS, MOST_TOLERABLE, MOST_VERTICES}
+use Rattle.ckpt_ids.specs.declared.limits.TheConstants.{LEAST_INTERVAL, LONGEST_DURATION, MOST_AT_ONCE, MOST_RETAINED, MOST_SUBTASKS, MOST_TOLERABLE, MOST_VERTICES}
 use Rattle.ckpt_ids.specs.declared.numbers.Kind.{Kind}
 use Rattle.ckpt_ids.specs.declared.numbers.Kind.TheVariants.{Checkpoint, Savepoint}
 use Rattle.ckpt_ids.specs.Acknowledged.{AreInSubtaskOrder}
@@ -78,7 +78,7 @@ shape_holds shape s =
 limits_hold : (c : Configuration) → IsWithinLimits c → is_within_limits c ≡ true
 limits_hold c l =
     rw (
-      le-leb 10 c.interval l.interval_from,
+      le-leb LEAST_INTERVAL c.interval l.interval_from,
       le-leb c.interval LONGEST_DURATION l.interval_to,
       le-leb c.pause LONGEST_DURATION l.pause_to,
       le-leb 1 c.at_once l.at_once_from,

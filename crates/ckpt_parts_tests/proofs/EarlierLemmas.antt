@@ -11,8 +11,8 @@ use Rattle.ckpt_ids.specs.Records.{Use, Holder, count, is_present, use_before}
 use Rattle.ckpt_ids.proofs.OrderedLemmas.{IsIn-append_cases, IsIn-from_map, IsIn-from_in_order_once, IsIn-from_filter}
 use Rattle.ckpt_parts_tests.specs.Earlier.{AreBefore, IsFirst, IsPinnable, IsUsable}
 use Rattle.ckpt_registry.specs.Uses.{triples, is_owned, is_ended, without, after_end}
-use Rattle.ckpt_ids.proofs.CountLemmas.{count_by-append, IsIn-from_times}
-use Rattle.ckpt_registry.proofs.RegistryLemmas.{IsAscendingSet-from_once}
+use Rattle.ckpt_ids.proofs.CountLemmas.{AreDistinct-from_times, count_by-append, IsIn-from_times}
+use Rattle.ckpt_ids.proofs.AscendingLemmas.{set-from_distinct}
 use Rattle.ckpt_ids.specs.Counting.{times}
 
 list_all_at : (p : ℕ → Bool) (xs : List ℕ) → list_all p xs ≡ true → (x : ℕ) → IsIn x xs → p x ≡ true
@@ -26,7 +26,7 @@ IsUsable-from_tests us fresh reused a b c d = record {
   absent = λ f h. not-true (is_present us f) (list_all_at (λ x. not (is_present us x)) fresh a f h);
   present = λ f h. (and_parts (is_present us f) (ltb (count us f) (2 ^ 32 - 1)) (list_all_at (λ x. is_present us x && ltb (count us x) (2 ^ 32 - 1)) reused b f h)).0;
   below = λ f h. ltb-true (count us f) (2 ^ 32 - 1) (and_parts (is_present us f) (ltb (count us f) (2 ^ 32 - 1)) (list_all_at (λ x. is_present us x && ltb (count us x) (2 ^ 32 - 1)) reused b f h)).1;
-  each_once = λ f. once f;
+  each_once = AreDistinct-from_times (fresh ++ reused) once;
 }
   where
     once : (f : ℕ) → times f (fresh ++ reused) ≤ 1
@@ -79,7 +79,7 @@ AreBefore-after_end us ends owners id before u h = before u (IsIn-from_filter (�
 
 pub IsPinnable-from_tests : (us : List Use) (files : List ℕ) → IsAscending files → list_all (λ f. is_present us f && ltb (count us f) (2 ^ 32 - 1)) files ≡ true → list_all (λ f. eqb (times f files) 1 && eqb (times f []) 0) files ≡ true → IsPinnable us files
 IsPinnable-from_tests us files up b c = record {
-  ascending = IsAscendingSet-from_once files up once;
+  ascending = set-from_distinct files up (AreDistinct-from_times files once);
   present = λ f h. (and_parts (is_present us f) (ltb (count us f) (2 ^ 32 - 1)) (list_all_at (λ x. is_present us x && ltb (count us x) (2 ^ 32 - 1)) files b f h)).0;
   below = λ f h. ltb-true (count us f) (2 ^ 32 - 1) (and_parts (is_present us f) (ltb (count us f) (2 ^ 32 - 1)) (list_all_at (λ x. is_present us x && ltb (count us x) (2 ^ 32 - 1)) files b f h)).1;
 }

@@ -10,7 +10,7 @@ use Rattle.ckpt_ids.specs.Acknowledged.{acknowledges_before, AreInSubtaskOrder, 
 use Rattle.ckpt_ids.specs.Shapes.{IsShape, subtasks, is_subtask, same_subtask}
 use Rattle.ckpt_ids.specs.Records.{Record, missing, has_acknowledged}
 use Rattle.ckpt_ids.proofs.OrderLemmas.{subtasks_in_order, same_subtask-Decides}
-use Rattle.ckpt_ids.proofs.OrderedLemmas.{ComesBefore-at, ComesBefore-from, IsIn-put_cases, IsIn-from_filter, IsInOrder-filter, IsIn-from_list_any, list_any-from_IsIn}
+use Rattle.ckpt_ids.proofs.OrderedLemmas.{IsIn-put_cases, IsIn-from_filter, IsInOrder-filter, IsInOrder-put_between, IsIn-from_list_any, list_any-from_IsIn}
 use Rattle.ckpt_ids.proofs.ShapeLemmas.{length-subtasks_from}
 use Rattle.ckpt_pending.specs.Acknowledging.{pending_record, without_ack, IsPending, IsDone, IsCounted}
 use Rattle.ckpt_pending.proofs.AckLemmas.{acked, missing-put, missing-without, without_put}
@@ -21,19 +21,6 @@ IsCounted-new id kind shape started count h e = record {
   pending = record { not_done = refl; no_pins = refl; has_shape = h; in_order = tt; expected = λ a k. absurd k };
   counted = e ∙ sym (count_by_all (λ s. true) (subtasks shape) (λ s. refl));
 }
-
--- where x comes before each that does not come before it
-pub IsInOrder-put_between : {X : Type 0} (before : X → X → Bool) → ((x y z : X) → before x y ≡ true → before y z ≡ true → before x z ≡ true) → (x : X) (xs : List X) → ((y : X) → IsIn y xs → before y x ≡ false → before x y ≡ true) → IsInOrder before xs → IsInOrder before (put before x xs)
-IsInOrder-put_between before transitive x [] turns a = (tt, tt)
-IsInOrder-put_between {X} before transitive x (y ∷ xs) turns a =
-    let P : Bool → Type 0 = λ b. IsInOrder before (cond b (y ∷ put before x xs) (x ∷ y ∷ xs)) in
-    let later : before y x ≡ true → P (before y x) = λ (e : before y x ≡ true).
-    let first : (z : X) → IsIn z (put before x xs) → before y z ≡ true = λ z h. ⊎_elim (λ (k : z ≡ x). ap (before y) k ∙ e) (λ (k : IsIn z xs). ComesBefore-at before y z xs a.0 k) (IsIn-put_cases before x z xs h) in
-    subst P (sym e) (ComesBefore-from before y (put before x xs) first, IsInOrder-put_between before transitive x xs (λ z h. turns z (inr h)) a.1) in
-    let here : before y x ≡ false → P (before y x) = λ (e : before y x ≡ false).
-    let xy : before x y ≡ true = turns y (inl refl) e in
-    subst P (sym e) ((xy, ComesBefore-from before x xs (λ z h. transitive x y z xy (ComesBefore-at before y z xs a.0 h))), a) in
-    ⊎_elim later here (cases_Bool (before y x))
 
 other_subtask : (s : SubtaskId) (a : Acked) (acks : List Acked) → acked acks s ≡ false → IsIn a acks → s ≡ a.subtask → ⊥
 other_subtask s a acks h k e = both_ways (acked acks s) h (list_any-from_IsIn (λ (b : Acked). same_subtask s b.subtask) a acks k ((same_subtask-Decides s a.subtask).1 e))

@@ -1,13 +1,11 @@
 -- Records that take acknowledgements, and records that have all of them.
-use Rattle.std.specs.Prelude.{◌≡◌, ℕ, ◌<◌, ◌≤◌, true, false, not, List, [], filter, find, length, Option}
+use Rattle.std.specs.Prelude.{◌≡◌, ℕ, true, false, not, List, [], filter, find, Option}
 use Rattle.std.specs.Option.{option_map}
-use Rattle.std.specs.List.{HoldsAt}
-use Rattle.std.specs.List.Sorted.{IsPartitionPoint}
 use Rattle.ckpt_ids.specs.declared.subtask.SubtaskId.{SubtaskId}
 use Rattle.ckpt_ids.specs.declared.numbers.Kind.{Kind}
 use Rattle.ckpt_ids.specs.declared.ack.Acked.{Acked}
 use Rattle.ckpt_ids.specs.Ordered.{IsIn}
-use Rattle.ckpt_ids.specs.Acknowledged.{AreInSubtaskOrder, is_before}
+use Rattle.ckpt_ids.specs.Acknowledged.{AreInSubtaskOrder}
 use Rattle.ckpt_ids.specs.Records.{Record, has_acknowledged, missing, IsFull}
 use Rattle.ckpt_ids.specs.Shapes.{IsShape, is_subtask, same_subtask}
 
@@ -15,13 +13,9 @@ use Rattle.ckpt_ids.specs.Shapes.{IsShape, is_subtask, same_subtask}
 abbrev pub pending_record : ℕ → Kind → List ℕ → ℕ → List Acked → Record
 pending_record id kind shape started acks = record { id = id; kind = kind; done = false; shape = shape; started = started; acks = acks; pins = [] }
 
--- the acknowledgement of the subtask lies at this place
-abbrev pub LiesAt : SubtaskId → List Acked → ℕ → Type 0
-LiesAt s acks place = (place < length acks) × HoldsAt (λ a. a.subtask ≡ s) acks place
-
--- no acknowledgement is of the subtask, and one of it belongs at this place
-abbrev pub BelongsAt : SubtaskId → List Acked → ℕ → Type 0
-BelongsAt s acks place = (place ≤ length acks) × IsPartitionPoint (λ a. is_before a.subtask s ≡ true) (λ a. is_before s a.subtask ≡ true) acks place
+-- what an acknowledgement is searched by
+abbrev pub subtask_of : Acked → SubtaskId
+subtask_of a = a.subtask
 
 -- the record without the acknowledgement of a subtask
 abbrev pub without_ack : SubtaskId → Record → Record

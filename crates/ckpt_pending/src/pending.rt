@@ -2,11 +2,12 @@
 
 ghost use Rattle.std.specs.Prelude.{◌≡◌, ◌+◌, ◌↔◌, ◌<◌, ◌≤◌, Bool, true, false, not, [], filter, length, Ok, Err, IfOk, IfErr, OnOk, OnErr, IsOk, IsErr, option_copied};
 ghost use Rattle.std.specs.List.{flat_map, insert};
-ghost use Rattle.ckpt_ids.specs.Acknowledged.{AreInSubtaskOrder, put_ack};
+ghost use Rattle.ckpt_ids.specs.Acknowledged.{AreInSubtaskOrder, is_before, put_ack};
 ghost use Rattle.ckpt_ids.specs.Ascending.{ascending_set};
+ghost use Rattle.ckpt_ids.specs.Places.{BelongsAt, LiesAt};
 ghost use Rattle.ckpt_ids.specs.Records.{Record, acknowledged, has_acknowledged, missing, metadata_of};
 ghost use Rattle.ckpt_ids.specs.Shapes.{is_subtask, same_subtask};
-ghost use Rattle.ckpt_pending.specs.Acknowledging.{BelongsAt, HasAlready, IsPending, LiesAt, files_from, without_ack};
+ghost use Rattle.ckpt_pending.specs.Acknowledging.{HasAlready, IsPending, files_from, subtask_of, without_ack};
 
 use crate::done::Done;
 use ckpt_ids::{Acked, Acks, CheckpointId, FileId, Files, Kind, Metadata, Shape, SubtaskId};
@@ -232,8 +233,8 @@ impl Pending {
 /// last one is checked before a binary search.
 fn place_of(acks: &VecDeque<Acked>, subtask: SubtaskId) -> Result<usize, usize>
     requires { AreInSubtaskOrder acks.now.items }
-    ensures found { IfOk result (λ place. LiesAt subtask acks.now.items place) }
-    ensures absent { IfErr result (λ place. BelongsAt subtask acks.now.items place) }
+    ensures found { IfOk result (LiesAt subtask_of subtask acks.now.items) }
+    ensures absent { IfErr result (BelongsAt is_before subtask_of subtask acks.now.items) }
 {
     match acks.back() {
         Some(last) if last.subtask < subtask => Err(acks.len()),

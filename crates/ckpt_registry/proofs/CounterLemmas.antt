@@ -10,7 +10,7 @@ use Rattle.std.specs.Map.{lookup, keys_of, values_of}
 use Rattle.std.proofs.lemmas.List.Quantifiers.{position-Some}
 use Rattle.indexmap.specs.IndexMap.{get, keys, values}
 use Rattle.ckpt_registry.proofs.ListLemmas.{one_if, one_if-true, one_if-false}
-use Rattle.ckpt_registry.specs.Counters.{Counts, counter, counted_once, AreInRange}
+use Rattle.ckpt_registry.specs.Counters.{Counts, Released, counter, counted_once, AreInRange, AreLowered, AreReleased, HasRoom}
 use Rattle.ckpt_ids.specs.Counting.{times}
 
 -- n has w at k, and else what m has
@@ -78,14 +78,14 @@ AreInRange-gone m n k s r = λ f x h.
     ⊎_elim at off (cases_eq k f)
 
 -- one use less
-pub counter-lowered : (m n : Counts) (k v : ℕ) (w : Option ℕ) → Sets m n k w → counter m k ≡ v → unwrap_or w 0 + 1 ≡ v → (f : ℕ) → counter n f + one_if (eqb f k) ≡ counter m f
+pub counter-lowered : (m n : Counts) (k v : ℕ) (w : Option ℕ) → Sets m n k w → counter m k ≡ v → unwrap_or w 0 + 1 ≡ v → (f : ℕ) → counter n f + one_if (eqb k f) ≡ counter m f
 counter-lowered m n k v w s had less f =
-    let at : k ≡ f → counter n f + one_if (eqb f k) ≡ counter m f = λ (e : k ≡ f).
-    let one : one_if (eqb f k) ≡ 1 = one_if-true (eqb f k) (eq-eqb f k (sym e)) in
+    let at : k ≡ f → counter n f + one_if (eqb k f) ≡ counter m f = λ (e : k ≡ f).
+    let one : one_if (eqb k f) ≡ 1 = one_if-true (eqb k f) (eq-eqb k f e) in
     let now : counter n f ≡ unwrap_or w 0 = counter-set_at m n k w s f e in
     let was : counter m k ≡ counter m f = ap (counter m) e in omega arith in
-    let off : (k ≡ f → ⊥) → counter n f + one_if (eqb f k) ≡ counter m f = λ (ne : k ≡ f → ⊥).
-    let none : one_if (eqb f k) ≡ 0 = one_if-false (eqb f k) (ne_eqb f k (λ e. ne (sym e))) in
+    let off : (k ≡ f → ⊥) → counter n f + one_if (eqb k f) ≡ counter m f = λ (ne : k ≡ f → ⊥).
+    let none : one_if (eqb k f) ≡ 0 = one_if-false (eqb k f) (ne_eqb k f ne) in
     let same : counter n f ≡ counter m f = counter-set_off m n k w s f ne in omega arith in
     ⊎_elim at off (cases_eq k f)
 
@@ -201,3 +201,31 @@ pub length_more : {E : Type 0} (r : Result (Option ℕ) E) (l n : ℕ) → IsOk 
 length_more (Ok None) l n ok len = omega (arith, len)
 length_more (Ok (Some v)) l n ok len = omega (arith, len)
 length_more (Err e) l n ok len = absurd (false≢true ok)
+
+-- releases one after the other
+
+pub AreReleased-none : (m : Counts) (out : Released) → AreReleased m out m out
+AreReleased-none m out = record { each = λ f. refl; len = refl; capacity = refl }
+
+pub AreReleased-then : (m n k : Counts) (out more most : Released) → AreReleased m out n more → AreReleased n more k most → AreReleased m out k most
+AreReleased-then m n k out more most a b = record {
+  each = λ f. omega (arith, a.each f, b.each f);
+  len = omega (arith, a.len, b.len);
+  capacity = b.capacity ∙ a.capacity;
+}
+
+pub HasRoom-released : (m n : Counts) (out more : Released) → HasRoom m out → AreReleased m out n more → HasRoom n more
+HasRoom-released m n out more room a = omega (arith, room, a.len, a.capacity)
+
+pub AreLowered-none : (m : Counts) (out : Released) → AreInRange m → AreLowered (λ f. 0) m out m out
+AreLowered-none m out range = record { lowered = λ f. omega arith; released = AreReleased-none m out; range = range }
+
+pub AreLowered-then : (first later all : ℕ → ℕ) (m n k : Counts) (out more most : Released) → ((f : ℕ) → first f + later f ≡ all f) → AreLowered first m out n more → AreLowered later n more k most → AreLowered all m out k most
+AreLowered-then first later all m n k out more most both a b = record {
+  lowered = λ f. omega (arith, both f, a.lowered f, b.lowered f);
+  released = AreReleased-then m n k out more most a.released b.released;
+  range = b.range;
+}
+
+pub AreLowered-same : (less all : ℕ → ℕ) (m n : Counts) (out more : Released) → ((f : ℕ) → less f ≡ all f) → AreLowered less m out n more → AreLowered all m out n more
+AreLowered-same less all m n out more same a = record { lowered = λ f. omega (arith, same f, a.lowered f); released = a.released; range = a.range }

@@ -12,12 +12,12 @@ use Rattle.ckpt_ids.specs.Ordered.{IsIn}
 use Rattle.ckpt_ids.specs.Ascending.{IsAscendingSet}
 use Rattle.ckpt_ids.specs.Records.{Use, Subtask, count}
 use Rattle.ckpt_ids.proofs.CountLemmas.{count_by-append, count_by-map, times-append}
-use Rattle.ckpt_ids.proofs.OrderedLemmas.{IsIn-from_flat_map, IsIn-from_map, IsInOrder-filter, filter-all, filter-same}
+use Rattle.ckpt_ids.proofs.OrderedLemmas.{IsIn-from_flat_map, IsIn-from_map, IsInOrder-filter, filter-all, filter-same, filter-none, filter-filter}
 use Rattle.ckpt_registry.specs.declared.holdings.Holding.{Holding}
 use Rattle.ckpt_registry.specs.declared.holdings.Part.{Part}
 use Rattle.ckpt_registry.specs.Holdings.{Acknowledged, AreRising, Extends, files_in, files_of, parts_of, uses_by, uses_in}
 use Rattle.ckpt_registry.specs.Uses.{triples, is_owned, without, without_record}
-use Rattle.ckpt_registry.proofs.ListLemmas.{count_by-filter, count_by-filter_le, filter-none, filter-filter}
+use Rattle.ckpt_registry.proofs.ListLemmas.{count_by-filter, count_by-filter_le}
 
 abbrev pub number : Holding → ℕ
 number h = h.id

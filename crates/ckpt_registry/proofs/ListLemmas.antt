@@ -5,9 +5,8 @@ use Rattle.std.proofs.lemmas.Bool.{cases_Bool, cases_lt, both_ways, cond-true, c
 use Rattle.ckpt_ids.specs.Ordered.{IsIn, put_once, in_order_once, IsStrictOrder, AreDistinct}
 use Rattle.ckpt_ids.specs.Ascending.{IsAscendingSet, ascending_set}
 use Rattle.ckpt_ids.specs.Counting.{times}
-use Rattle.ckpt_registry.specs.Uses.{IsEachOnce}
 use Rattle.ckpt_ids.proofs.AscendingLemmas.{numbers_in_order}
-use Rattle.ckpt_ids.proofs.CountLemmas.{count_by-cons, count_by-append, times-from_IsIn, IsIn-from_times}
+use Rattle.ckpt_ids.proofs.CountLemmas.{count_by-cons, count_by-append, times-from_IsIn, times_at_most_once, IsIn-from_times}
 use Rattle.ckpt_ids.proofs.OrderedLemmas.{IsIn-append_left, IsIn-append_right, IsIn-append_cases, IsIn-filter, IsIn-from_filter, IsInOrder-filter, IsInOrder-in_order_once, IsIn-in_order_once, IsIn-from_in_order_once, ComesBefore-at, same_from_members, AreDistinct-append, AreDistinct-from_order}
 
 -- a test as a number
@@ -44,19 +43,6 @@ module _ {X : Type 0} where
       let kept : Goal true = omega (arith, rest, count_by-cons p x (filter q xs), count_by-cons p x xs) in
       let gone : Goal false = omega (arith, rest, count_by-cons p x xs) in
       ⊎_elim (λ (e : q x ≡ true). subst Goal (sym e) kept) (λ (e : q x ≡ false). subst Goal (sym e) gone) (cases_Bool (q x))
-
-  pub filter-none : (q : X → Bool) (xs : List X) → ((x : X) → IsIn x xs → q x ≡ false) → filter q xs ≡ []
-  filter-none q [] h = refl
-  filter-none q (x ∷ xs) h = cond-false (q x) (x ∷ filter q xs) (filter q xs) (h x (inl refl)) ∙ filter-none q xs (λ y k. h y (inr k))
-
-  pub filter-filter : (p q : X → Bool) (xs : List X) → filter p (filter q xs) ≡ filter (λ x. q x && p x) xs
-  filter-filter p q [] = refl
-  filter-filter p q (x ∷ xs) =
-      let rest : filter p (filter q xs) ≡ filter (λ y. q y && p y) xs = filter-filter p q xs in
-      let Goal : Bool → Type 0 = λ b. filter p (cond b (x ∷ filter q xs) (filter q xs)) ≡ cond (b && p x) (x ∷ filter (λ y. q y && p y) xs) (filter (λ y. q y && p y) xs) in
-      let kept : q x ≡ true → Goal (q x) = λ (e : q x ≡ true). subst Goal (sym e) (ap (λ ys. cond (p x) (x ∷ ys) ys) rest) in
-      let gone : q x ≡ false → Goal (q x) = λ (e : q x ≡ false). subst Goal (sym e) rest in
-      ⊎_elim kept gone (cases_Bool (q x))
 
 module _ {X : Type 0} {before : X → X → Bool} (o : IsStrictOrder before) where
   count_by-put_once : (p : X → Bool) (x : X) (xs : List X) → (IsIn x xs → ⊥) → count_by p (put_once before x xs) ≡ one_if (p x) + count_by p xs
@@ -157,32 +143,10 @@ pub count_by-filtered : {X : Type 0} {before : X → X → Bool} (o : IsStrictOr
 count_by-filtered {X} {before} o q xs once p =
     count_by-filter p q xs ∙ once (λ x. q x && p x) ∙ sym (count_by-filter p q (in_order_once before xs)) ∙ ap (count_by p) (sym (in_order_once-filter o q xs))
 
--- numbers and how often they stand
-
-pub AreDistinct-from_times : (xs : List ℕ) → IsEachOnce xs → AreDistinct xs
-AreDistinct-from_times [] h = tt
-AreDistinct-from_times (x ∷ xs) h =
-    let one : one_if (eqb x x) ≡ 1 = one_if-true (eqb x x) (eq-eqb x x refl) in (
-      λ k. absurd (omega (arith, h x, count_by-cons (λ z. eqb z x) x xs, times-from_IsIn x xs k)),
-      AreDistinct-from_times xs (λ y. omega (arith, h y, count_by-cons (λ z. eqb z y) x xs)),
-    )
-
-pub IsEachOnce-from_ascending : (xs : List ℕ) → IsAscendingSet xs → IsEachOnce xs
-IsEachOnce-from_ascending [] a = λ y. omega arith
-IsEachOnce-from_ascending (x ∷ xs) a = λ y.
-    let rest : times y xs ≤ 1 = IsEachOnce-from_ascending xs a.1 y in
-    let here : eqb x y ≡ true → times y (x ∷ xs) ≤ 1 = λ (e : eqb x y ≡ true).
-    let one : one_if (eqb x y) ≡ 1 = one_if-true (eqb x y) e in
-    let none : 0 < times y xs → ⊥ = λ (k : 0 < times y xs). let below : x < y = ltb-true x y (ComesBefore-at ltb x y xs a.0 (IsIn-from_times y xs k)) in let same : x ≡ y = eqb-true x y e in absurd (omega arith) in
-    ⊎_elim (λ (k : 0 < times y xs). absurd (none k)) (λ (k : times y xs ≤ 0). omega (arith, count_by-cons (λ z. eqb z y) x xs)) (cases_lt 0 (times y xs)) in
-    let there : eqb x y ≡ false → times y (x ∷ xs) ≤ 1 = λ (e : eqb x y ≡ false).
-    let none : one_if (eqb x y) ≡ 0 = one_if-false (eqb x y) e in omega (arith, count_by-cons (λ z. eqb z y) x xs) in
-    ⊎_elim here there (cases_Bool (eqb x y))
-
 -- a number of a list stands once in its ascending set
 pub times-ascending_set : (f : ℕ) (xs : List ℕ) → times f (ascending_set xs) ≡ one_if (ltb 0 (times f xs))
 times-ascending_set f xs =
-    let once : times f (ascending_set xs) ≤ 1 = IsEachOnce-from_ascending (ascending_set xs) (IsInOrder-in_order_once numbers_in_order xs) f in
+    let once : times f (ascending_set xs) ≤ 1 = times_at_most_once f (ascending_set xs) (AreDistinct-from_order numbers_in_order (ascending_set xs) (IsInOrder-in_order_once numbers_in_order xs)) in
     let some : 0 < times f xs → times f (ascending_set xs) ≡ one_if (ltb 0 (times f xs)) = λ (h : 0 < times f xs).
     let stands : 0 < times f (ascending_set xs) = times-from_IsIn f (ascending_set xs) (IsIn-in_order_once numbers_in_order f xs (IsIn-from_times f xs h)) in
     let one : one_if (ltb 0 (times f xs)) ≡ 1 = one_if-true (ltb 0 (times f xs)) (lt-ltb 0 (times f xs) h) in omega arith in

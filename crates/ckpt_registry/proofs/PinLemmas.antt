@@ -11,7 +11,7 @@ use Rattle.ckpt_ids.specs.Counting.{times}
 use Rattle.ckpt_ids.specs.Ordered.{IsIn}
 use Rattle.ckpt_ids.specs.Records.{Use, Pin, Subtask, count, same_holder}
 use Rattle.ckpt_ids.proofs.CountLemmas.{count_by-append, count_by-map, times-append}
-use Rattle.ckpt_ids.proofs.OrderedLemmas.{IsIn-from_filter, IsIn-from_flat_map, IsIn-from_map, IsIn-append_cases, filter-all}
+use Rattle.ckpt_ids.proofs.OrderedLemmas.{IsIn-from_filter, IsIn-from_flat_map, IsIn-from_map, IsIn-append_cases, filter-all, filter-none}
 use Rattle.ckpt_registry.specs.declared.holdings.Holding.{Holding}
 use Rattle.ckpt_registry.specs.declared.holdings.Part.{Part}
 use Rattle.ckpt_registry.specs.declared.pins.Pinner.{Pinner}
@@ -19,7 +19,7 @@ use Rattle.ckpt_registry.specs.Holdings.{Acknowledged, Extends, files_in, files_
 use Rattle.ckpt_registry.specs.Pins.{AreKept, AreSettled, IsKept, IsSettled, IsTaken, each_file, is_named, own_in, parts_pinned, pinned_by, pins_in, pins_of_records, pins_on}
 use Rattle.ckpt_registry.specs.Uses.{is_owned, triples, without}
 use Rattle.ckpt_registry.proofs.HoldingLemmas.{count-parts_of}
-use Rattle.ckpt_registry.proofs.ListLemmas.{filter-none, one_if, times-ascending_set}
+use Rattle.ckpt_registry.proofs.ListLemmas.{one_if, times-ascending_set}
 use Rattle.ckpt_registry.proofs.PartLemmas.{times_of_take}
 
 -- how often pins name a file

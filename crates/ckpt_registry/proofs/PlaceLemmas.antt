@@ -1,60 +1,43 @@
 -- What a search by halves finds in the row of what each record holds, and what a change at that place leaves.
-use Rattle.std.proofs.Common.{◌≡◌, ℕ, zero, suc, ◌-◌, ◌<◌, ◌≤◌, Bool, true, false, not, cond, eqb, ltb, length, get_or, take, drop, set, List, [], ◌∷◌, ◌++◌, refl, sym, ap, subst, ◌∙◌, ⊎_elim, arith, ◌⊎◌, inl, inr, Result, Ok, Err, IfOk, IfErr}
+use Rattle.std.proofs.Common.{◌≡◌, ℕ, suc, ◌-◌, ◌<◌, ◌≤◌, Bool, true, false, not, eqb, ltb, length, get_or, take, drop, set, List, [], ◌∷◌, ◌++◌, sym, ap, subst, ◌∙◌, ⊎_elim, arith, ◌⊎◌, inl, Result, Ok, Err, IfErr}
 use Rattle.std.specs.List.{filter, insert, remove}
 use Rattle.std.specs.List.Sorted.{IsBinarySearchResult, IsPartitionPoint, IsSearchInRange}
 use Rattle.std.specs.Ordering.{nat_cmp}
-use Rattle.std.proofs.lemmas.Bool.{cond-true, cond-false, le-ltb, cases_lt, eq-eqb, ne_eqb, ltb-true, lt-ltb}
-use Rattle.std.proofs.lemmas.Bool.Decides.{nat_tests}
-use Rattle.std.proofs.lemmas.List.{append-nil, get_or_read_under, map-append, set-get_or, set_split}
-use Rattle.std.specs.declared.cmp.Ordering.TheVariants.{Less, Greater}
-use Rattle.std.proofs.lemmas.List.Elements.{filter-append}
-use Rattle.ckpt_ids.specs.Ordered.{AreDistinct, IsIn, put}
+use Rattle.std.proofs.lemmas.Bool.{cases_Bool, cases_lt, eq-eqb, le-ltb, lt-ltb, ltb-true, ne_eqb}
+use Rattle.std.proofs.lemmas.List.{append-nil, map-append, set-get_or, set_split}
+use Rattle.ckpt_ids.specs.Ordered.{AreDistinct, IsIn, IsInOrder, put}
 use Rattle.ckpt_ids.specs.Ascending.{IsAscendingSet}
+use Rattle.ckpt_ids.specs.Places as ids
 use Rattle.ckpt_ids.proofs.AscendingLemmas.{numbers_in_order}
-use Rattle.ckpt_ids.proofs.ComparisonLemmas.{equal_numbers, index_rises}
-use Rattle.ckpt_ids.proofs.OrderedLemmas.{AreDistinct-apart, AreDistinct-from_order, AreDistinct-right, ComesBefore-at, IsIn-from_map, IsIn-get_or, IsIn-map, IsIn-place, IsInOrder-put, filter-all}
+use Rattle.ckpt_ids.proofs.ComparisonLemmas.{numbers_searched}
+use Rattle.ckpt_ids.proofs.OrderedLemmas.{AreDistinct-apart, AreDistinct-from_order, AreDistinct-right, IsIn-map, IsIn-place, IsInOrder-map, IsInOrder-put_between, filter-none}
+use Rattle.ckpt_ids.proofs.PlaceLemmas.{IsInOrder-of_keys, get_or_any, insert-put}
+use Rattle.ckpt_ids.proofs.PlaceLemmas as rows
 use Rattle.ckpt_registry.specs.declared.holdings.Holding.{Holding}
 use Rattle.ckpt_registry.specs.Holdings.{AreRising, BelongsAt, LiesAt}
-use Rattle.ckpt_registry.proofs.ListLemmas.{filter-none}
 use Rattle.ckpt_registry.proofs.HoldingLemmas.{number, numbers, has_id, parts_in}
+
+-- the row by number
+
+by_number : (hs : List Holding) → AreRising hs → IsInOrder (λ g h. ltb g.id h.id) hs
+by_number hs a = IsInOrder-of_keys ltb number hs a
 
 -- what a search answers
 
-rising_at : (hs : List Holding) (i j : ℕ) (d : Holding) → AreRising hs → i ≤ j → j < length hs → (get_or hs i d).id ≤ (get_or hs j d).id
-rising_at [] i j d a h k = absurd (omega arith)
-rising_at (x ∷ hs) zero zero d a h k = omega arith
-rising_at (x ∷ hs) zero (suc j) d a h k =
-    let below : x.id < (get_or hs j d).id = ltb-true x.id (get_or hs j d).id (ComesBefore-at ltb x.id (get_or hs j d).id (numbers hs) a.0 (IsIn-map number (get_or hs j d) hs (IsIn-get_or hs j d (omega arith)))) in
-    omega arith
-rising_at (x ∷ hs) (suc i) zero d a h k = absurd (omega arith)
-rising_at (x ∷ hs) (suc i) (suc j) d a h k = rising_at hs i j d a.1 (omega arith) (omega arith)
-
-less_number : (a b : ℕ) → nat_cmp a b ≡ Less → a < b
-less_number a b h = grind (arith, nat_tests)
-
-greater_number : (a b : ℕ) → nat_cmp a b ≡ Greater → b < a
-greater_number a b h = grind (arith, nat_tests)
-
-pub search_found : (id : ℕ) (hs : List Holding) (r : Result ℕ ℕ) → IsSearchInRange r (length hs) → IsBinarySearchResult (λ h. nat_cmp h.id id) hs r → IfOk r (LiesAt hs id)
-search_found id hs (Ok place) within at = (within, λ d. equal_numbers (get_or hs place d).id id (at d))
-search_found id hs (Err place) within at = tt
+pub belongs : (id : ℕ) (hs : List Holding) (place : ℕ) → ids.BelongsAt ltb number id hs place → BelongsAt hs id place
+belongs id hs place h = (h.0, (λ k d l m. ltb-true (get_or hs k d).id id (h.1.0 k d l m), λ k d l m. ltb-true id (get_or hs k d).id (h.1.1 k d l m)))
 
 pub search_absent : (id : ℕ) (hs : List Holding) (r : Result ℕ ℕ) → AreRising hs → IsSearchInRange r (length hs) → IsBinarySearchResult (λ h. nat_cmp h.id id) hs r → IfErr r (BelongsAt hs id)
 search_absent id hs (Ok place) a within at = tt
-search_absent id hs (Err place) a within at =
-    let parted = at (λ i j d h k. index_rises (get_or hs i d).id (get_or hs j d).id id (rising_at hs i j d a h k)) in
-    (within, (λ k d h l. less_number (get_or hs k d).id id (parted.0 k d h l), λ k d h l. greater_number (get_or hs k d).id id (parted.1 k d h l)))
+search_absent id hs (Err place) a within at = belongs id hs place (rows.search_absent number numbers_in_order numbers_searched id hs (Err place) (by_number hs a) within at)
 
--- each number below, as where the last is
-pub all_below : (id : ℕ) (hs : List Holding) (n : ℕ) (last : Holding) → AreRising hs → n ≡ length hs → last ≡ get_or hs (n - 1) last → last.id < id → (k : ℕ) (d : Holding) → k < n → (get_or hs k d).id < id
-all_below id hs n last a all at below = λ k d h.
-    let same : last.id ≡ (get_or hs (n - 1) d).id = ap number (get_or_read_under hs (n - 1) n last d at (omega arith) all) in
-    let up : (get_or hs k d).id ≤ (get_or hs (n - 1) d).id = rising_at hs k (n - 1) d a (omega arith) (omega arith) in
-    omega arith
+-- each number below, as where the last is: then a record belongs at the end
+pub after_last : (id : ℕ) (hs : List Holding) (n : ℕ) (last : Holding) → AreRising hs → n ≡ length hs → last ≡ get_or hs (n - 1) last → last.id < id → BelongsAt hs id n
+after_last id hs n last a all at below =
+    belongs id hs n (rows.end_belongs number numbers_in_order id hs n all (rows.all_before number numbers_in_order id hs n last (by_number hs a) all at (lt-ltb last.id id below)))
 
--- then a record belongs at the end
-pub end_point : (id : ℕ) (hs : List Holding) (n : ℕ) → n ≡ length hs → ((k : ℕ) (d : Holding) → k < n → (get_or hs k d).id < id) → BelongsAt hs id n
-end_point id hs n all below = (omega arith, (λ k d l m. below k d m, λ k d l m. absurd (omega arith)))
+pub first_of_all : (id : ℕ) (hs : List Holding) (n : ℕ) → n ≡ length hs → ((k : ℕ) → k < n → ⊥) → BelongsAt hs id n
+first_of_all id hs n all none = belongs id hs n (rows.end_belongs number numbers_in_order id hs n all (λ k d h. absurd (none k h)))
 
 -- Where a record was found. The others have other numbers.
 
@@ -72,20 +55,15 @@ module _ (id place : ℕ) (hs : List Holding) (h : Holding) (within : place < le
       (λ (k : IsIn x (drop (suc place) hs)). (AreDistinct-right (numbers (take place hs)) (h.id ∷ numbers (drop (suc place) hs)) apart).0 (subst (λ n. IsIn n (numbers (drop (suc place) hs))) same (IsIn-map number x (drop (suc place) hs) k)))
       side
 
+  lies : h.id ≡ id → LiesAt hs id place
+  lies own = (within, λ d. ap number (get_or_any hs place d h within ∙ sym is) ∙ own)
+
   pub parts_found : AreRising hs → h.id ≡ id → parts_in (filter (has_id id) hs) ≡ h.parts.items
   parts_found a own =
-      let none_before : filter (has_id id) (take place hs) ≡ [] = filter-none (has_id id) (take place hs) (λ x k. ne_eqb x.id id (apart_at a own x (inl k))) in
-      let none_after : filter (has_id id) (drop (suc place) hs) ≡ [] = filter-none (has_id id) (drop (suc place) hs) (λ x k. ne_eqb x.id id (apart_at a own x (inr k))) in
-      let here : filter (has_id id) (h ∷ drop (suc place) hs) ≡ h ∷ [] = cond-true (eqb h.id id) _ _ (eq-eqb h.id id own) ∙ ap (λ xs. h ∷ xs) none_after in
-      ap parts_in (ap (filter (has_id id)) split_at ∙ filter-append (has_id id) (take place hs) (h ∷ drop (suc place) hs) ∙ ap (λ xs. xs ++ filter (has_id id) (h ∷ drop (suc place) hs)) none_before ∙ here) ∙ append-nil h.parts.items
+      ap parts_in (rows.filter_lies number numbers_in_order id (has_id id) (λ x e. eq-eqb x.id id e) (λ x ne. ne_eqb x.id id ne) hs place h (by_number hs a) (lies own) ∙ ap (λ x. x ∷ []) (sym is)) ∙ append-nil h.parts.items
 
   pub remove_found : AreRising hs → h.id ≡ id → remove hs place ≡ filter (λ (x : Holding). not (eqb x.id id)) hs
-  remove_found a own =
-      let stays : Holding → Bool = λ x. not (eqb x.id id) in
-      let before : filter stays (take place hs) ≡ take place hs = filter-all stays (take place hs) (λ x k. ap not (ne_eqb x.id id (apart_at a own x (inl k)))) in
-      let after : filter stays (drop (suc place) hs) ≡ drop (suc place) hs = filter-all stays (drop (suc place) hs) (λ x k. ap not (ne_eqb x.id id (apart_at a own x (inr k)))) in
-      let here : filter stays (h ∷ drop (suc place) hs) ≡ drop (suc place) hs = cond-false (stays h) _ _ (ap not (eq-eqb h.id id own)) ∙ after in
-      sym (ap (filter stays) split_at ∙ filter-append stays (take place hs) (h ∷ drop (suc place) hs) ∙ ap (λ xs. xs ++ filter stays (h ∷ drop (suc place) hs)) before ∙ ap (λ xs. take place hs ++ xs) here)
+  remove_found a own = rows.remove_lies number numbers_in_order id (has_id id) (λ x e. eq-eqb x.id id e) (λ x ne. ne_eqb x.id id ne) hs place (by_number hs a) (lies own)
 
   pub rising_same : (w : Holding) → AreRising hs → w.id ≡ h.id → AreRising (take place hs ++ w ∷ drop (suc place) hs)
   rising_same w a same =
@@ -104,22 +82,11 @@ module _ (id place : ℕ) (hs : List Holding) (parted : IsPartitionPoint (λ h. 
   pub none_found : filter (has_id id) hs ≡ []
   none_found = filter-none (has_id id) hs (λ x k. ne_eqb x.id id (apart_from x k))
 
-pub numbers-insert : (x : Holding) (hs : List Holding) (place : ℕ) → place ≤ length hs → IsPartitionPoint (λ h. h.id < x.id) (λ h. x.id < h.id) hs place → numbers (insert hs place x) ≡ put ltb x.id (numbers hs)
-numbers-insert x [] zero within parted = refl
-numbers-insert x [] (suc place) within parted = absurd (omega arith)
-numbers-insert x (h ∷ hs) zero within parted =
-    let P : Bool → Type 0 = λ b. x.id ∷ h.id ∷ numbers hs ≡ cond b (h.id ∷ put ltb x.id (numbers hs)) (x.id ∷ h.id ∷ numbers hs) in
-    let above : x.id < h.id = parted.1 0 h (omega arith) (omega arith) in
-    let here : ltb h.id x.id ≡ false = le-ltb h.id x.id (omega arith) in
-    subst P (sym here) refl
-numbers-insert x (h ∷ hs) (suc place) within parted =
-    let P : Bool → Type 0 = λ b. h.id ∷ numbers (insert hs place x) ≡ cond b (h.id ∷ put ltb x.id (numbers hs)) (x.id ∷ h.id ∷ numbers hs) in
-    let below : h.id < x.id = parted.0 0 h (omega arith) (omega arith) in
-    let here : ltb h.id x.id ≡ true = lt-ltb h.id x.id below in
-    let rest : IsPartitionPoint (λ h. h.id < x.id) (λ h. x.id < h.id) hs place = (λ k d l m. parted.0 (suc k) d (omega arith) (omega arith), λ k d l m. parted.1 (suc k) d (omega arith) (omega arith)) in
-    subst P (sym here) (ap (λ ks. h.id ∷ ks) (numbers-insert x hs place (omega arith) rest))
-
 pub rising_insert : (x : Holding) (hs : List Holding) (place : ℕ) → AreRising hs → place ≤ length hs → IsPartitionPoint (λ h. h.id < x.id) (λ h. x.id < h.id) hs place → AreRising (insert hs place x)
 rising_insert x hs place a within parted =
-    let new : IsIn x.id (numbers hs) → ⊥ = λ (k : IsIn x.id (numbers hs)). let q = IsIn-from_map number x.id hs k in apart_from x.id place hs parted q.0 q.1 (sym q.2) in
-    subst (λ ks. IsAscendingSet ks) (sym (numbers-insert x hs place within parted)) (IsInOrder-put numbers_in_order x.id (numbers hs) new a)
+    let before : Holding → Holding → Bool = λ g h. ltb g.id h.id in
+    let put_there : insert hs place x ≡ put before x hs = insert-put before x hs place within (λ k d l m. lt-ltb (get_or hs k d).id x.id (parted.0 k d l m), λ k d l m. le-ltb (get_or hs k d).id x.id (omega (arith, parted.1 k d l m))) in
+    let turns : (h : Holding) → IsIn h hs → before h x ≡ false → before x h ≡ true = λ h k e.
+    ⊎_elim (λ (t : before x h ≡ true). t) (λ (t : before x h ≡ false). absurd (apart_from x.id place hs parted h k (numbers_in_order.total h.id x.id e t))) (cases_Bool (before x h)) in
+    let rises : IsInOrder before (put before x hs) = IsInOrder-put_between before (λ g h i. numbers_in_order.transitive g.id h.id i.id) x hs turns (by_number hs a) in
+    subst AreRising (sym put_there) (IsInOrder-map before ltb number (put before x hs) (λ g h e. e) rises)

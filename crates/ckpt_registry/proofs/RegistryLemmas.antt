@@ -15,8 +15,8 @@ use Rattle.ckpt_ids.specs.Ordered.{IsIn, IsInOrder, in_order_once, AreDistinct}
 use Rattle.ckpt_ids.specs.Ascending.{IsAscending, IsAscendingSet, ascending_set}
 use Rattle.ckpt_ids.specs.declared.subtask.SubtaskId.{SubtaskId}
 use Rattle.ckpt_ids.specs.Records.{Use, Holder, Subtask, Pin, count, is_present, released, same_holder, use_before}
-use Rattle.ckpt_ids.proofs.OrderedLemmas.{IsIn-append_left, IsIn-append_cases, IsIn-map, IsIn-from_map, IsIn-filter, IsIn-from_filter, IsIn-in_order_once, IsIn-from_in_order_once, IsInOrder-in_order_once, IsInOrder-filter, ComesBefore-at, ComesBefore-from, same_from_members, filter-same}
-use Rattle.ckpt_ids.proofs.AscendingLemmas.{numbers_in_order, IsAscending-from_sorted}
+use Rattle.ckpt_ids.proofs.OrderedLemmas.{IsIn-append_left, IsIn-append_cases, IsIn-map, IsIn-from_map, IsIn-filter, IsIn-from_filter, IsIn-in_order_once, AreDistinct-from_order, IsIn-from_in_order_once, IsInOrder-in_order_once, IsInOrder-filter, same_from_members, filter-same, filter-filter}
+use Rattle.ckpt_ids.proofs.AscendingLemmas.{numbers_in_order, IsAscending-from_sorted, set-from_distinct}
 use Rattle.ckpt_ids.proofs.OrderLemmas.{uses_in_order}
 use Rattle.ckpt_registry.specs.Counters.{Counts, counter, counted_once, AreInRange}
 use Rattle.ckpt_registry.specs.declared.pins.Pinner.{Pinner}
@@ -28,22 +28,9 @@ use Rattle.ckpt_registry.proofs.PinLemmas.{pins_in-extended, pins_in-holder, pin
 use Rattle.ckpt_registry.proofs.SoundLemmas.{AreCounted-acknowledged, AreCounted-pushed, count-stored, is_present-stored}
 use Rattle.ckpt_registry.proofs.HoldingLemmas.{count-used_by}
 use Rattle.ckpt_registry.proofs.CounterLemmas.{get-from_counter, counted_once-above, counted_once-zero, counted_once-le, above_from_counted_once, zero_from_counted_once}
-use Rattle.ckpt_ids.proofs.CountLemmas.{count_by-cons, count_by-append, count_by-map, counted-from_IsIn, IsIn-from_counted, times-from_IsIn, IsIn-from_times}
-use Rattle.ckpt_registry.proofs.ListLemmas.{AreDistinct-from_times, IsEachOnce-from_ascending, one_if, count_by-in_order_once, in_order_once-filter, count_by-added, in_order_once-added, count_by-filtered, filter-filter}
+use Rattle.ckpt_ids.proofs.CountLemmas.{count_by-cons, count_by-append, count_by-map, counted-from_IsIn, IsIn-from_counted, times-from_IsIn, times_at_most_once, AreDistinct-from_times, IsIn-from_times}
+use Rattle.ckpt_registry.proofs.ListLemmas.{one_if, count_by-in_order_once, in_order_once-filter, count_by-added, in_order_once-added, count_by-filtered}
 use Rattle.ckpt_ids.specs.Counting.{times}
-
--- numbers and how often they stand
-
-pub IsAscendingSet-from_once : (xs : List ℕ) → IsAscending xs → IsEachOnce xs → IsAscendingSet xs
-IsAscendingSet-from_once [] a h = tt
-IsAscendingSet-from_once (x ∷ xs) a h =
-    let apart = AreDistinct-from_times (x ∷ xs) h in
-    let above : (y : ℕ) → IsIn y xs → ltb x y ≡ true = λ y k.
-    let up : x ≤ y = leb-true x y (ComesBefore-at leb x y xs a.0 k) in
-    let P : ℕ → Type 0 = λ z. IsIn z xs in
-    let other : x ≡ y → ⊥ = λ (e : x ≡ y). apart.0 (subst P (sym e) k) in
-    lt-ltb x y (⊎_elim (λ (e : x ≡ y). absurd (other e)) (λ (ne : x ≡ y → ⊥). ⊎_elim (λ (l : x < y). l) (λ (g : y ≤ x). absurd (ne (omega arith))) (cases_lt x y)) (cases_eq x y)) in
-    (ComesBefore-from ltb x xs above, IsAscendingSet-from_once xs a.1 (λ y. omega (arith, h y, count_by-cons (λ z. eqb z y) x xs)))
 
 -- files and their uses
 
@@ -149,7 +136,7 @@ module _ (a : Acknowledged) (p : List Pinner) (b : Acknowledged) (q : List Pinne
   pub StandsOnce-added : StandsOnce (stored a p) → IsEachOnce files → HasNoUse (in_use a p) id holder → StandsOnce (stored b q)
   StandsOnce-added once each unused =
       count_by-added uses_in_order (stored a p) (stored b q) (triples id holder files) adds once
-      (AreDistinct-triples id holder files (AreDistinct-from_times files each))
+      (AreDistinct-triples id holder files each)
       (λ u h k. let same = triples-holder id holder files u k in unused u h same.0 same.1)
 
 -- nothing is added where there is no file
@@ -203,7 +190,7 @@ pub released-from_counts : (xs : List ℕ) (m n : Counts) (us vs : List Use) →
 released-from_counts xs m n us vs up moved before after =
     let files : List ℕ = map file_of us in
     let gone : ℕ → Bool = λ f. not (is_present vs f) in
-    let once : IsEachOnce xs = λ f. omega (arith, moved f, counted_once-le m f) in
+    let once : AreDistinct xs = AreDistinct-from_times xs (λ f. omega (arith, moved f, counted_once-le m f)) in
     let forth : (z : ℕ) → IsIn z xs → IsIn z (released us vs) = λ z h.
     let stands : 0 < times z xs = times-from_IsIn z xs h in
     let was : 0 < counter m z = above_from_counted_once m z (omega (arith, moved z)) in
@@ -217,7 +204,7 @@ released-from_counts xs m n us vs up moved before after =
     let had : counted_once m z ≡ 1 = counted_once-above m z was in
     let has : counted_once n z ≡ 0 = counted_once-zero n z (omega (arith, is)) in
     IsIn-from_times z xs (omega (arith, moved z)) in
-    same_from_members numbers_in_order xs (released us vs) (IsAscendingSet-from_once xs up once) (IsInOrder-filter ltb gone (ascending_set files) (IsInOrder-in_order_once numbers_in_order files)) forth back
+    same_from_members numbers_in_order xs (released us vs) (set-from_distinct xs up once) (IsInOrder-filter ltb gone (ascending_set files) (IsInOrder-in_order_once numbers_in_order files)) forth back
 
 pub released-sorted : (xs ys start : List ℕ) (m n : Counts) (us vs : List Use) → IsPermutation xs ys → IsSorted nat_cmp ys → start ≡ [] → ((f : ℕ) → times f xs + counted_once n f ≡ times f start + counted_once m f) → ((f : ℕ) → ltb 0 (counter m f) ≡ is_present us f)
     → ((f : ℕ) → ltb 0 (counter n f) ≡ is_present vs f) → ys ≡ released us vs
@@ -247,8 +234,8 @@ pub below_more : (us : List Use) (fresh reused : List ℕ) → ((f : ℕ) → co
 below_more us fresh reused below once absent small f =
     let some : 0 < times f (fresh ++ reused) → count us f + times f (fresh ++ reused) < 2 ^ 32 = λ (h : 0 < times f (fresh ++ reused)).
     ⊎_elim
-    (λ (k : IsIn f fresh). omega (arith, once f, ltb-false 0 (count us f) (absent f k)))
-    (λ (k : IsIn f reused). omega (arith, once f, small f k))
+    (λ (k : IsIn f fresh). omega (arith, times_at_most_once f (fresh ++ reused) once, ltb-false 0 (count us f) (absent f k)))
+    (λ (k : IsIn f reused). omega (arith, times_at_most_once f (fresh ++ reused) once, small f k))
     (IsIn-append_cases f fresh reused (IsIn-from_times f (fresh ++ reused) h)) in
     ⊎_elim some (λ (h : times f (fresh ++ reused) ≤ 0). omega (arith, h, below f)) (cases_lt 0 (times f (fresh ++ reused)))
 
@@ -313,4 +300,4 @@ files_by-in_use a p id =
     (λ z h. IsIn-in_order_once numbers_in_order z named (back z (IsIn-from_in_order_once ltb z files h)))
 
 pub IsEachOnce-files_by : (id : ℕ) (us : List Use) → IsEachOnce (files_by id us)
-IsEachOnce-files_by id us = IsEachOnce-from_ascending (files_by id us) (IsInOrder-in_order_once numbers_in_order (map file_of (filter (λ u. eqb u.id id && not (same_holder u.holder Pin)) us)))
+IsEachOnce-files_by id us = AreDistinct-from_order numbers_in_order (files_by id us) (IsInOrder-in_order_once numbers_in_order (map file_of (filter (λ u. eqb u.id id && not (same_holder u.holder Pin)) us)))

@@ -1,13 +1,13 @@
 -- What a change of the registry adds to its uses, and what it takes away.
-use Rattle.std.specs.Prelude.{◌≡◌, ℕ, ◌≤◌, Bool, not, ◌&&◌, ◌||◌, ◌==◌, List, map, filter, count_by}
+use Rattle.std.specs.Prelude.{◌≡◌, ℕ, Bool, not, ◌&&◌, ◌||◌, ◌==◌, List, map, filter}
 use Rattle.std.specs.List.{list_any}
 use Rattle.ckpt_ids.specs.Ascending.{ascending_set}
-use Rattle.ckpt_ids.specs.Ordered.{IsIn}
+use Rattle.ckpt_ids.specs.Ordered.{AreDistinct, IsIn}
 use Rattle.ckpt_ids.specs.Records.{Use, Holder, Pin, same_holder}
 
 -- each number stands once
 abbrev pub IsEachOnce : List ℕ → Type 0
-IsEachOnce xs = (x : ℕ) → count_by (λ y. y == x) xs ≤ 1
+IsEachOnce = AreDistinct
 
 -- the uses of these files by one holder of a record
 abbrev pub triples : ℕ → Holder → List ℕ → List Use

@@ -1,9 +1,8 @@
 //! How often each file is used: one counter for each file in use.
-ghost use Rattle.std.specs.Prelude.{◌≡◌, ℕ, ◌+◌, ◌^◌, ◌<◌, ◌≤◌, ◌==◌, length, if◌then◌else◌, vec_len};
-ghost use Rattle.std.specs.Vec.{vec_capacity};
+ghost use Rattle.std.specs.Prelude.{◌≡◌, ℕ, ◌+◌, ◌^◌, ◌<◌, ◌≤◌, ◌==◌, length, if◌then◌else◌};
 ghost use Rattle.indexmap.specs.IndexMap.{index_map_len, spare};
 ghost use Rattle.ckpt_ids.specs.Ordered.{IsIn};
-ghost use Rattle.ckpt_registry.specs.Counters.{counter, counted_once, AreInRange};
+ghost use Rattle.ckpt_registry.specs.Counters.{counter, AreInRange, AreLowered, HasRoom};
 ghost use Rattle.ckpt_registry.specs.Uses.{IsEachOnce};
 ghost use Rattle.ckpt_ids.specs.Counting.{times};
 
@@ -64,12 +63,8 @@ pub(crate) fn count_each(counts: &mut Counts, files: &[FileId])
 pub(crate) fn lower(counts: &mut Counts, released: &mut Vec<FileId>, file: FileId)
     requires counted { 0 < counter counts.old file }
     requires range { AreInRange counts.old }
-    requires room { index_map_len counts.old + vec_len released.old ≤ vec_capacity released.old }
-    ensures lowered { (f : ℕ) → counter counts.new f + (if f == file then 1 else 0) ≡ counter counts.old f }
-    ensures released { (f : ℕ) → times f released.new.items + counted_once counts.new f ≡ times f released.old.items + counted_once counts.old f }
-    ensures len { index_map_len counts.new + vec_len released.new ≡ index_map_len counts.old + vec_len released.old }
-    ensures capacity { vec_capacity released.new ≡ vec_capacity released.old }
-    ensures range { AreInRange counts.new }
+    requires room { HasRoom counts.old released.old }
+    ensures { AreLowered (λ f. if file == f then 1 else 0) counts.old released.old counts.new released.new }
 {
     let index = counts.get_index_of(&file).unwrap();
     let count = counts[index];

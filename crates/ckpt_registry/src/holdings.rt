@@ -1,8 +1,7 @@
 //! The acknowledgements of each record: a row of records, each with its parts.
-ghost use Rattle.std.specs.Prelude.{◌≡◌, ℕ, ◌+◌, ◌≤◌, ◌==◌, [], filter, nat_lt, not, vec_capacity, vec_len, OnOk, OnErr, IfOk, IfErr, IfNone, IfSome, ◌^◌, length};
-ghost use Rattle.indexmap.specs.IndexMap.{index_map_len};
+ghost use Rattle.std.specs.Prelude.{◌≡◌, ℕ, ◌≤◌, ◌==◌, [], filter, nat_lt, not, OnOk, OnErr, IfOk, IfErr, IfNone, IfSome, ◌^◌, length};
 ghost use Rattle.ckpt_ids.specs.Counting.{times};
-ghost use Rattle.ckpt_registry.specs.Counters.{counter, counted_once, AreInRange};
+ghost use Rattle.ckpt_registry.specs.Counters.{counter, AreInRange, AreLowered, HasRoom};
 ghost use Rattle.ckpt_registry.specs.Holdings.{Adds, AreRising, BelongsAt, Extends, LiesAt, files_in, files_of, parts_of, uses_in, uses_of_ack};
 
 use crate::counters::{Counts, lower};
@@ -72,12 +71,8 @@ pub(crate) fn named(parts: &[Part]) -> Option<usize>
 pub(crate) fn lower_each(counts: &mut Counts, released: &mut Vec<FileId>, files: &[FileId])
     requires counted { (f : ℕ) → times f files.now ≤ counter counts.old f }
     requires range { AreInRange counts.old }
-    requires room { index_map_len counts.old + vec_len released.old ≤ vec_capacity released.old }
-    ensures lowered { (f : ℕ) → counter counts.new f + times f files.now ≡ counter counts.old f }
-    ensures released { (f : ℕ) → times f released.new.items + counted_once counts.new f ≡ times f released.old.items + counted_once counts.old f }
-    ensures len { index_map_len counts.new + vec_len released.new ≡ index_map_len counts.old + vec_len released.old }
-    ensures capacity { vec_capacity released.new ≡ vec_capacity released.old }
-    ensures range { AreInRange counts.new }
+    requires room { HasRoom counts.old released.old }
+    ensures { AreLowered (λ f. times f files.now) counts.old released.old counts.new released.new }
 {
     for file in files {
         lower(counts, released, *file);
@@ -88,12 +83,8 @@ pub(crate) fn lower_each(counts: &mut Counts, released: &mut Vec<FileId>, files:
 pub(crate) fn lower_parts(counts: &mut Counts, released: &mut Vec<FileId>, parts: &[Part])
     requires counted { (f : ℕ) → times f (files_in parts.now) ≤ counter counts.old f }
     requires range { AreInRange counts.old }
-    requires room { index_map_len counts.old + vec_len released.old ≤ vec_capacity released.old }
-    ensures lowered { (f : ℕ) → counter counts.new f + times f (files_in parts.now) ≡ counter counts.old f }
-    ensures released { (f : ℕ) → times f released.new.items + counted_once counts.new f ≡ times f released.old.items + counted_once counts.old f }
-    ensures len { index_map_len counts.new + vec_len released.new ≡ index_map_len counts.old + vec_len released.old }
-    ensures capacity { vec_capacity released.new ≡ vec_capacity released.old }
-    ensures range { AreInRange counts.new }
+    requires room { HasRoom counts.old released.old }
+    ensures { AreLowered (λ f. times f (files_in parts.now)) counts.old released.old counts.new released.new }
 {
     for part in parts {
         lower_each(counts, released, part.fresh.as_slice());

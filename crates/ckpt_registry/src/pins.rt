@@ -5,7 +5,7 @@ ghost use Rattle.std.specs.Vec.{vec_capacity};
 ghost use Rattle.indexmap.specs.IndexMap.{index_map_len};
 ghost use Rattle.ckpt_ids.specs.Counting.{times};
 ghost use Rattle.ckpt_ids.specs.Ordered.{IsIn};
-ghost use Rattle.ckpt_registry.specs.Counters.{counter, counted_once, AreInRange};
+ghost use Rattle.ckpt_registry.specs.Counters.{counter, AreInRange, AreLowered, HasRoom};
 ghost use Rattle.ckpt_registry.specs.Holdings.{AreRising, files_in, parts_of};
 ghost use Rattle.ckpt_registry.specs.Pins.{AreKept, AreSettled, IsKept, IsLook, IsTaken, each_file, is_named, named_by, own_in, parts_pinned, pins_of_records, pins_on};
 
@@ -196,13 +196,9 @@ pub(crate) fn unpin(
 )
     requires counted { (f : ℕ) → times f (own_in pinned.old.items) ≤ counter counts.old f }
     requires range { AreInRange counts.old }
-    requires room { index_map_len counts.old + vec_len released.old ≤ vec_capacity released.old }
+    requires room { HasRoom counts.old released.old }
     ensures kept { pinned.new.items ≡ filter (λ one. not (is_named owners.now one.id)) pinned.old.items }
-    ensures lowered { (f : ℕ) → counter counts.new f + times f (own_in pinned.old.items) ≡ counter counts.old f + times f (own_in pinned.new.items) }
-    ensures released { (f : ℕ) → times f released.new.items + counted_once counts.new f ≡ times f released.old.items + counted_once counts.old f }
-    ensures len { index_map_len counts.new + vec_len released.new ≡ index_map_len counts.old + vec_len released.old }
-    ensures capacity { vec_capacity released.new ≡ vec_capacity released.old }
-    ensures range { AreInRange counts.new }
+    ensures lowered { AreLowered (λ f. times f (own_in (filter (λ one. is_named owners.now one.id) pinned.old.items))) counts.old released.old counts.new released.new }
 {
     for one in pinned.iter() {
         if owners.contains(&one.id) {

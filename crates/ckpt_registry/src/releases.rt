@@ -1,8 +1,6 @@
 //! Removes the uses and the pins of dropped records.
-ghost use Rattle.std.specs.Prelude.{◌≡◌, ℕ, ◌+◌, ◌≤◌, [], vec_capacity, vec_len};
-ghost use Rattle.indexmap.specs.IndexMap.{index_map_len};
-ghost use Rattle.ckpt_ids.specs.Counting.{times};
-ghost use Rattle.ckpt_registry.specs.Counters.{counted_once};
+ghost use Rattle.std.specs.Prelude.{◌≡◌, []};
+ghost use Rattle.ckpt_registry.specs.Counters.{AreReleased, HasRoom};
 ghost use Rattle.ckpt_registry.specs.Holdings.{uses_in};
 ghost use Rattle.ckpt_registry.specs.Pins.{pins_in};
 ghost use Rattle.ckpt_registry.specs.Sound.{AreCounted};
@@ -24,14 +22,12 @@ fn drop_uses(
     id: CheckpointId,
 )
     requires counted { AreCounted acknowledged.old pinned.old.items counts.old }
-    requires room { index_map_len counts.old + vec_len released.old ≤ vec_capacity released.old }
+    requires room { HasRoom counts.old released.old }
     requires spare { spare.old.items ≡ [] }
     ensures counted { AreCounted acknowledged.new pinned.new.items counts.new }
     ensures uses { uses_in acknowledged.new.items ≡ without_record id (uses_in acknowledged.old.items) }
     ensures pins { pins_in acknowledged.new pinned.new.items ≡ pins_in acknowledged.old pinned.old.items }
-    ensures released { (f : ℕ) → times f released.new.items + counted_once counts.new f ≡ times f released.old.items + counted_once counts.old f }
-    ensures len { index_map_len counts.new + vec_len released.new ≡ index_map_len counts.old + vec_len released.old }
-    ensures capacity { vec_capacity released.new ≡ vec_capacity released.old }
+    ensures released { AreReleased counts.old released.old counts.new released.new }
     ensures spare { spare.new.items ≡ [] }
 {
     if let Some(mut parts) = remove(acknowledged, id) {
@@ -53,14 +49,12 @@ pub(crate) fn release_each(
     owners: &[CheckpointId],
 )
     requires counted { AreCounted acknowledged.old pinned.old.items counts.old }
-    requires room { index_map_len counts.old + vec_len released.old ≤ vec_capacity released.old }
+    requires room { HasRoom counts.old released.old }
     requires spare { spare.old.items ≡ [] }
     ensures counted { AreCounted acknowledged.new pinned.new.items counts.new }
     ensures uses { uses_in acknowledged.new.items ≡ without owners.now (uses_in acknowledged.old.items) }
     ensures pins { pins_in acknowledged.new pinned.new.items ≡ without owners.now (pins_in acknowledged.old pinned.old.items) }
-    ensures released { (f : ℕ) → times f released.new.items + counted_once counts.new f ≡ times f released.old.items + counted_once counts.old f }
-    ensures len { index_map_len counts.new + vec_len released.new ≡ index_map_len counts.old + vec_len released.old }
-    ensures capacity { vec_capacity released.new ≡ vec_capacity released.old }
+    ensures released { AreReleased counts.old released.old counts.new released.new }
     ensures spare { spare.new.items ≡ [] }
 {
     unpin(pinned, counts, released, owners);

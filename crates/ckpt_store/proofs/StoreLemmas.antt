@@ -7,15 +7,15 @@ use Rattle.std.proofs.lemmas.List.Filters.{length-filter_both}
 use Rattle.ckpt_ids.specs.declared.numbers.Kind.{Kind}
 use Rattle.ckpt_ids.specs.declared.numbers.Kind.TheVariants as kind
 use Rattle.ckpt_ids.specs.Ordered.{IsIn, put}
+use Rattle.ckpt_ids.specs.Places.{LiesAt}
 use Rattle.ckpt_ids.specs.Records.{Record}
-use Rattle.ckpt_ids.proofs.OrderedLemmas.{IsIn-append_cases, IsIn-put_cases, IsIn-from_filter, IsInOrder-append, IsInOrder-filter, list_any-from_IsIn}
+use Rattle.ckpt_ids.proofs.OrderedLemmas.{IsIn-append_cases, IsIn-put_cases, IsIn-from_filter, IsInOrder-append, IsInOrder-filter, IsInOrder-put_between, list_any-from_IsIn}
+use Rattle.ckpt_ids.proofs.PlaceLemmas.{find-none, some_at}
 use Rattle.ckpt_ids.proofs.AscendingLemmas.{numbers_in_order}
 use Rattle.ckpt_pending.specs.Acknowledging.{IsDone}
 use Rattle.ckpt_pending.proofs.AckLemmas.{list_any-put, list_any-filter, list_any_same}
-use Rattle.ckpt_pending.proofs.PendingLemmas.{IsInOrder-put_between}
-use Rattle.ckpt_store.specs.Storing.{Stored, IsStored, by_id, AreRising, AreDone, IsAbove, has_id, has_savepoint, record_of}
-use Rattle.ckpt_store.specs.Places.{IsPlaceOf}
-use Rattle.ckpt_store.proofs.RowLemmas.{find-place, find_none, place_some}
+use Rattle.ckpt_store.specs.Storing.{Stored, IsStored, by_id, AreRising, AreDone, IsAbove, has_id, id_of, has_savepoint, record_of}
+use Rattle.ckpt_store.proofs.RowLemmas.{find-place}
 
 -- rows
 
@@ -151,9 +151,9 @@ IsStored-dispose s id spare h unused =
 
 -- what is found
 
-pub record_of_place : (s : Stored) (id place : ℕ) → AreRising s.checkpoints → IsPlaceOf id s.checkpoints place → slice_get s.checkpoints place ≡ record_of s id
+pub record_of_place : (s : Stored) (id place : ℕ) → AreRising s.checkpoints → LiesAt id_of id s.checkpoints place → slice_get s.checkpoints place ≡ record_of s id
 record_of_place s id place a h =
-    let q = place_some id s.checkpoints place h in
+    let q = some_at s.checkpoints place h.0 in
     let P : Option Record → Type 0 = λ o. o ≡ elim o [ Some r ↦ Some r | None ↦ find (has_id id) s.savepoints ] in
     let Q : Option Record → Type 0 = λ o. slice_get s.checkpoints place ≡ elim o [ Some r ↦ Some r | None ↦ find (has_id id) s.savepoints ] in
     let at : P (slice_get s.checkpoints place) = subst P (sym q.1) refl in
@@ -162,4 +162,4 @@ record_of_place s id place a h =
 pub record_of_later : (s : Stored) (id : ℕ) → list_any (has_id id) s.checkpoints ≡ false → find (has_id id) s.savepoints ≡ record_of s id
 record_of_later s id h =
     let Q : Option Record → Type 0 = λ o. find (has_id id) s.savepoints ≡ elim o [ Some r ↦ Some r | None ↦ find (has_id id) s.savepoints ] in
-    subst Q (sym (find_none (has_id id) s.checkpoints h)) refl
+    subst Q (sym (find-none (has_id id) s.checkpoints h)) refl

@@ -42,6 +42,10 @@ by_id r s = nat_lt r.id s.id
 abbrev pub AreRising : List Record → Type 0
 AreRising = IsInOrder by_id
 
+-- what a record is searched by
+abbrev pub id_of : Record → ℕ
+id_of r = r.id
+
 abbrev pub has_id : ℕ → Record → Bool
 has_id id r = r.id == id
 

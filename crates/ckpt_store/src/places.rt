@@ -1,11 +1,11 @@
 //! Where a record lies in a row, or would lie.
 
-ghost use Rattle.std.specs.Prelude.{◌≡◌, ◌<◌, ◌≤◌, ◌+◌, true, false, nat_lt, length, IfOk, OnOk, OnErr};
+ghost use Rattle.std.specs.Prelude.{◌≡◌, ◌≤◌, ◌+◌, true, false, nat_lt, length, IfOk, OnOk, OnErr};
 ghost use Rattle.std.specs.List.{list_any};
 ghost use Rattle.std.specs.List.Sorted.{IsPartitionPoint};
 ghost use Rattle.std.specs.VecDeque.{deque_len, deque_capacity};
-ghost use Rattle.ckpt_store.specs.Places.{IsPlaceOf};
-ghost use Rattle.ckpt_store.specs.Storing.{AreRising, has_id};
+ghost use Rattle.ckpt_ids.specs.Places.{LiesAt};
+ghost use Rattle.ckpt_store.specs.Storing.{AreRising, has_id, id_of};
 
 use ckpt_ids::CheckpointId;
 use ckpt_pending::Done;
@@ -19,7 +19,7 @@ const FIRST_ROOM: usize = 4;
 /// the last or the first, so these two are checked before a binary search.
 pub(crate) fn place_of(queue: &VecDeque<Done>, id: CheckpointId) -> Result<usize, usize>
     requires { AreRising queue.now.items }
-    ensures found { IfOk result (λ place. (place < length queue.now.items) × IsPlaceOf id queue.now.items place) }
+    ensures found { IfOk result (LiesAt id_of id queue.now.items) }
     ensures absent { OnErr result (list_any (has_id id) queue.now.items ≡ false) }
 {
     if let Some(last) = queue.back() {

@@ -10,22 +10,9 @@ use Rattle.ckpt_ids.specs.Records.{Record, missing, has_acknowledged, IsFull, ac
 use Rattle.ckpt_ids.specs.Shapes.{IsShape, subtasks, is_subtask, same_subtask}
 use Rattle.ckpt_ids.proofs.AscendingLemmas.{numbers_in_order}
 use Rattle.ckpt_ids.proofs.OrderLemmas.{subtasks_in_order, same_subtask-Decides}
-use Rattle.ckpt_ids.proofs.OrderedLemmas.{ComesBefore-at, ComesBefore-from, IsIn-put_cases, IsInOrder-put, IsIn-from_in_order, IsInOrder-map, IsIn-map, IsIn-from_map, IsIn-from_list_any, list_any-from_IsIn, same_from_members}
+use Rattle.ckpt_ids.proofs.OrderedLemmas.{ComesBefore-at, ComesBefore-from, IsIn-put_cases, IsInOrder-put, IsInOrder-put_between, IsIn-from_in_order, IsInOrder-map, IsIn-map, IsIn-from_map, IsIn-from_list_any, list_any-from_IsIn, same_from_members}
 use Rattle.ckpt_core.specs.Soundness.{IsRecord}
 use Rattle.ckpt_pending.proofs.SubtaskLemmas.{IsInOrder-subtasks, IsIn-subtasks, none_counted}
-
--- put in its place among those that are all before it or behind it
-pub IsInOrder-put_apart : {X : Type 0} (before : X → X → Bool) (x : X) (xs : List X) → ((a b c : X) → before a b ≡ true → before b c ≡ true → before a c ≡ true) → ((y : X) → IsIn y xs → before y x ≡ false → before x y ≡ true) → IsInOrder before xs → IsInOrder before (put before x xs)
-IsInOrder-put_apart before x [] chain apart a = (tt, tt)
-IsInOrder-put_apart {X} before x (y ∷ xs) chain apart a =
-    let P : Bool → Type 0 = λ b. IsInOrder before (cond b (y ∷ put before x xs) (x ∷ y ∷ xs)) in
-    let behind : before y x ≡ true → P (before y x) = λ (e : before y x ≡ true).
-    let first : (z : X) → IsIn z (put before x xs) → before y z ≡ true = λ z h. ⊎_elim (λ (k : z ≡ x). ap (before y) k ∙ e) (λ (k : IsIn z xs). ComesBefore-at before y z xs a.0 k) (IsIn-put_cases before x z xs h) in
-    subst P (sym e) (ComesBefore-from before y (put before x xs) first, IsInOrder-put_apart before x xs chain (λ z h. apart z (inr h)) a.1) in
-    let here : before y x ≡ false → P (before y x) = λ (e : before y x ≡ false).
-    let xy : before x y ≡ true = apart y (inl refl) e in
-    subst P (sym e) ((xy, ComesBefore-from before x xs (λ z h. chain x y z xy (ComesBefore-at before y z xs a.0 h))), a) in
-    ⊎_elim behind here (cases_Bool (before y x))
 
 -- a subtask that has not acknowledged is that of no acknowledgement
 pub new_subtask : (r : Record) (s : SubtaskId) (a : Acked) → has_acknowledged r s ≡ false → IsIn a r.acks → s ≡ a.subtask → ⊥
@@ -34,8 +21,9 @@ new_subtask r s a none h e = both_ways (has_acknowledged r s) none (list_any-fro
 -- one acknowledgement more, of a new subtask, in its place
 pub in_order-acknowledged : (r : Record) (a : Acked) → has_acknowledged r a.subtask ≡ false → AreInSubtaskOrder r.acks → AreInSubtaskOrder (put_ack a r.acks)
 in_order-acknowledged r a none order =
-    IsInOrder-put_apart acknowledges_before a r.acks
+    IsInOrder-put_between acknowledges_before
     (λ x y z h k. subtasks_in_order.transitive x.subtask y.subtask z.subtask h k)
+    a r.acks
     (λ y h e. ⊎_elim (λ (t : is_before a.subtask y.subtask ≡ true). t) (λ (t : is_before a.subtask y.subtask ≡ false). absurd (new_subtask r a.subtask y none h (subtasks_in_order.total a.subtask y.subtask t e))) (cases_Bool (is_before a.subtask y.subtask)))
     order
 

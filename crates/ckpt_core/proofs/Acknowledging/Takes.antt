@@ -33,7 +33,6 @@ use Rattle.ckpt_core.proofs.Triggering.TriggerParts.{live_records}
 use Rattle.ckpt_core.proofs.Using.Order.{holds, from_holds, use_of_record}
 use Rattle.ckpt_core.proofs.Reordering.ExchangeLemmas.{has_its_own}
 use Rattle.ckpt_core.proofs.Using.CountBound.{count-records}
-use Rattle.ckpt_core.proofs.Histories.Balances.{times_at_most_once}
 
 -- the record of this number, with its pins
 pub found_pending : (p : Parts) (id : ℕ) → IsSound (state_of p) → ((r : Record) → IsIn r p.pending → IsPending r) → IsStored p.store → pending_of (state_of p).records id ≡ option_map (with_pins p.registry) (find (has_number id) p.pending)
@@ -106,7 +105,7 @@ can_take p now id subtask fresh reused r sound accepted pending stored e =
           (a.of_subtask (with_pins p.registry s) g, a.first (with_pins p.registry s) g);
       fresh_absent = λ f h. present f ∙ (or_parts (is_present (uses (records_in p)) f) (in_outbox (state_of p) f) (k.unknown f h)).0;
       reused_present = λ f h. present f ∙ k.present f h;
-      each_once = λ f. times_at_most_once f (fresh ++ reused) k.once;
+      each_once = k.once;
       below = λ f h. count_limit p f sound;
       unused = no_use p q id subtask sound k.there its k.first;
     }

@@ -7,14 +7,14 @@ use Rattle.std.proofs.lemmas.Bool.{cases_Bool, eqb-true, eqb-false, eq-eqb, ne_e
 use Rattle.ckpt_ids.specs.declared.ack.Acked.{Acked}
 use Rattle.ckpt_ids.specs.Ordered.{IsIn, in_order}
 use Rattle.ckpt_ids.specs.Records.{Record, Use, Subtask, Pin, uses, uses_of}
-use Rattle.ckpt_ids.proofs.OrderedLemmas.{IsIn-append_cases, IsIn-append_left, IsIn-append_right, IsIn-map, IsIn-from_map, IsIn-from_flat_map, IsIn-filter, IsIn-from_filter, filter-all, filter-same}
+use Rattle.ckpt_ids.proofs.OrderedLemmas.{IsIn-append_cases, IsIn-append_left, IsIn-append_right, IsIn-map, IsIn-from_map, IsIn-from_flat_map, IsIn-filter, IsIn-from_filter, filter-all, filter-same, filter-none, filter-filter}
 use Rattle.ckpt_core.specs.Soundness.{id_before}
 use Rattle.ckpt_core.specs.State.{unpinned}
 use Rattle.ckpt_core.specs.Steps.{replaced}
 use Rattle.ckpt_core.specs.Inside.Grouped.{is_pin, pins, with_pins, grouped, records_of}
 use Rattle.ckpt_core.proofs.Records.Counts.{map_same}
 use Rattle.ckpt_core.proofs.Records.Grouped.{AreApart, in_order-filter, in_order-map, in_order_same, apart-filter, apart-map, apart-append, apart_left, apart_between}
-use Rattle.ckpt_core.proofs.Records.GroupMoves.{filter_none, filter-map, map-map, filter-filter, with_pins_kept}
+use Rattle.ckpt_core.proofs.Records.GroupMoves.{filter-map, map-map, with_pins_kept}
 use Rattle.ckpt_core.proofs.Acknowledging.Moves.{with_instead, id-with_instead, with_instead-other, with_instead-same, replaced_members, in_replaced, still_in_replaced}
 use Rattle.ckpt_core.proofs.Using.Order.{holds, from_holds, use_of_record, uses-filter}
 
@@ -119,7 +119,7 @@ unpinned_uses q d e acks none =
     let no_pin : is_pin u.holder ≡ false = ap is_pin (from_holds q.id (Subtask k.0.subtask) k.0.files u k.2).1 in
     not_from_false (pins d.id u) (and_right (eqb u.id d.id) (is_pin u.holder) no_pin)) in
     let gone : filter np (holds q.id Pin q.pins) ≡ [] =
-    filter_none np (holds q.id Pin q.pins) (λ u h.
+    filter-none np (holds q.id Pin q.pins) (λ u h.
     let k = from_holds q.id Pin q.pins u h in
     not_from_true (pins d.id u) (and_from (eqb u.id d.id) (is_pin u.holder) (eq-eqb u.id d.id (k.0 ∙ e)) (ap is_pin k.1))) in
     let left : filter np (uses_of q) ≡ flat_map of_ack q.acks ++ [] = filter-append np (flat_map of_ack q.acks) (holds q.id Pin q.pins) ∙ ap (λ a. a ++ filter np (holds q.id Pin q.pins)) held ∙ ap (λ b. flat_map of_ack q.acks ++ b) gone in

@@ -9,7 +9,7 @@ use Rattle.std.proofs.lemmas.Bool.{cases_Bool, eqb-true, ne_eqb, or_left, or_rig
 use Rattle.std.proofs.lemmas.List.{map-append}
 use Rattle.ckpt_ids.specs.Ordered.{IsIn}
 use Rattle.ckpt_ids.specs.Records.{Record, released}
-use Rattle.ckpt_ids.proofs.OrderedLemmas.{IsIn-append_left, IsIn-append_right, IsIn-append_cases, IsIn-map, IsIn-from_map, IsIn-from_in_order, IsIn-from_list_any, filter-all, filter-same}
+use Rattle.ckpt_ids.proofs.OrderedLemmas.{IsIn-append_left, IsIn-append_right, IsIn-append_cases, IsIn-map, IsIn-from_map, IsIn-from_in_order, IsIn-from_list_any, filter-all, filter-same, filter-none}
 use Rattle.ckpt_registry.specs.Uses.{without}
 use Rattle.ckpt_store.specs.Storing.{has_savepoint, has_id}
 use Rattle.ckpt_core.specs.declared.parts.Parts.{Parts}
@@ -20,7 +20,6 @@ use Rattle.ckpt_core.specs.State.{is_pending, is_checkpoint, is_done_checkpoint}
 use Rattle.ckpt_core.proofs.Records.Counts.{IsIn-from_find}
 use Rattle.ckpt_core.proofs.Records.Grouped.{AreApart, apart_between, apart_right}
 use Rattle.ckpt_core.proofs.Records.GroupLookups.{is_checkpoint-kind, is_savepoint-kind}
-use Rattle.ckpt_core.proofs.Records.GroupMoves.{filter_none}
 use Rattle.ckpt_core.proofs.Records.Lookups.{AreGroups}
 use Rattle.ckpt_core.proofs.Ending.Drops.{left, staying, stays, numbers, apart_in, noted-from_IsIn, IsIn-from_noted, drops_from, drops_same}
 
@@ -65,7 +64,7 @@ noted_are_others p sound groups r h =
     (IsIn-append_cases r of_pending of_done (IsIn-from_in_order id_before r (grouped p.registry p.pending p.store.checkpoints p.store.savepoints) h))
 
 none_stays : (ids : List ℕ) (rs : List Record) → ((r : Record) → IsIn r rs → is_noted ids r ≡ true) → staying ids rs ≡ []
-none_stays ids rs noted = filter_none (λ r. stays ids r.id) rs (λ r h. ap not (noted r h))
+none_stays ids rs noted = filter-none (λ r. stays ids r.id) rs (λ r h. ap not (noted r h))
 
 -- what handing out makes of parts
 abbrev pub handed : Parts → Vec ℕ Global → Parts

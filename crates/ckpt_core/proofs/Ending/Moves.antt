@@ -212,18 +212,13 @@ not_many b t n says e =
 
 -- the choice
 
-pub same_choice : (last base : Option ℕ) → choice_from last base ≡ storing.choice_from last base
-same_choice (Some id) base = refl
-same_choice None (Some id) = refl
-same_choice None None = refl
-
 pub choice_is : (p : Parts) → IsInOrder id_before (records_in p) → AreGroups p.pending p.store.checkpoints p.store.savepoints → IsStored p.store → storing.choice_of p.store ≡ choice_of (state_of p)
 unfolding state_of choice_of
 choice_is p order groups stored =
     let last : last_checkpoint (records_in p) ≡ storing.greatest p.store.checkpoints =
     last_checkpoint-groups p.registry p.pending p.store.checkpoints p.store.savepoints (apart-from_in_order (grouped p.registry p.pending p.store.checkpoints p.store.savepoints) order) groups stored.checkpoints_rise
     ∙ last_id-greatest p.store.checkpoints in
-    sym (ap (λ o. choice_from o p.store.base) last ∙ same_choice (storing.greatest p.store.checkpoints) p.store.base)
+    sym (ap (λ o. choice_from o p.store.base) last)
 
 -- rolling back
 

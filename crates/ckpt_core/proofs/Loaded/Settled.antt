@@ -3,10 +3,10 @@ use Rattle.std.proofs.Common.{ℕ, ◌≤◌, Bool, true, false, cond, ltb, List
 use Rattle.ckpt_ids.specs.Ascending.{ascending}
 use Rattle.ckpt_ids.specs.Ordered.{IsIn, AreDistinct}
 use Rattle.ckpt_ids.proofs.AscendingLemmas.{IsAscending-ascending, ascending_already, times-ascending}
+use Rattle.ckpt_ids.proofs.CountLemmas.{AreDistinct-from_times}
 use Rattle.ckpt_ids.proofs.OrderedLemmas.{AreDistinct-append, AreDistinct-apart, AreDistinct-left, AreDistinct-right, IsIn-append_left, IsIn-append_right, IsIn-append_cases, IsIn-from_in_order}
 use Rattle.ckpt_outbox.specs.Queues.{is_in}
 use Rattle.ckpt_outbox.proofs.TakenLemmas.{times-distinct}
-use Rattle.ckpt_registry.proofs.ListLemmas.{AreDistinct-from_times}
 use Rattle.ckpt_core.specs.State.{State}
 use Rattle.ckpt_core.specs.Images.{AreAlike, CanHold, settled}
 use Rattle.ckpt_core.proofs.Records.Lists.{IsSoundOutbox, outbox_of}

@@ -9,12 +9,11 @@ use Rattle.std.proofs.lemmas.Bool.{cases_Bool, both_ways, eqb-true, and_parts, a
 use Rattle.ckpt_ids.specs.declared.numbers.Kind.TheVariants as kind
 use Rattle.ckpt_ids.specs.Ordered.{IsIn, IsInOrder, in_order}
 use Rattle.ckpt_ids.specs.Records.{Record, Use}
-use Rattle.ckpt_ids.proofs.OrderedLemmas.{IsIn-append_cases, IsIn-append_right, IsIn-from_map, IsIn-in_order, IsIn-from_in_order, list_any-from_IsIn, IsIn-from_list_any, filter-all}
+use Rattle.ckpt_ids.proofs.OrderedLemmas.{IsIn-append_cases, IsIn-append_right, IsIn-from_map, IsIn-in_order, IsIn-from_in_order, list_any-from_IsIn, IsIn-from_list_any, filter-all, filter-none}
 use Rattle.ckpt_core.specs.Soundness.{id_before}
 use Rattle.ckpt_core.specs.State.{is_pending, is_checkpoint, is_done_checkpoint, last_checkpoint}
 use Rattle.ckpt_core.specs.Inside.Grouped.{with_pins, grouped, records_of}
 use Rattle.ckpt_core.proofs.Records.Grouped.{AreApart, in_order-from_apart, apart_left, apart_right, same_records, in_order-filter}
-use Rattle.ckpt_core.proofs.Records.GroupMoves.{filter_none}
 use Rattle.ckpt_core.proofs.Records.Lookups.{AreGroups, has_number, find-records_of, find-map, count_by-records_of, count_all, count_same}
 use Rattle.ckpt_ids.proofs.CountLemmas.{count_by-none}
 
@@ -141,11 +140,11 @@ pub last_checkpoint-groups : (us : List Use) (pending checkpoints savepoints : L
 last_checkpoint-groups us pending checkpoints savepoints apart groups order =
     let g : List Record = grouped us pending checkpoints savepoints in
     let p : Record → Bool = is_done_checkpoint in
-    let first : filter p (map (with_pins us) pending) ≡ [] = filter_none p (map (with_pins us) pending) (λ r h.
+    let first : filter p (map (with_pins us) pending) ≡ [] = filter-none p (map (with_pins us) pending) (λ r h.
     let q = IsIn-from_map (with_pins us) r pending h in
     and_left r.done (is_checkpoint r) (ap (λ w. w.done) q.2 ∙ groups.not_done q.0 q.1)) in
     let second : filter p checkpoints ≡ checkpoints = filter-all p checkpoints (λ r h. and_from r.done (is_checkpoint r) (groups.checkpoints_done r h).0 (is_checkpoint-kind r (groups.checkpoints_done r h).1)) in
-    let third : filter p savepoints ≡ [] = filter_none p savepoints (λ r h. and_right r.done (is_checkpoint r) (is_savepoint-kind r (groups.savepoints_done r h).1)) in
+    let third : filter p savepoints ≡ [] = filter-none p savepoints (λ r h. and_right r.done (is_checkpoint r) (is_savepoint-kind r (groups.savepoints_done r h).1)) in
     let whole : filter p g ≡ checkpoints =
     filter-append p (map (with_pins us) pending) (checkpoints ++ savepoints)
     ∙ ap (λ a. a ++ filter p (checkpoints ++ savepoints)) first

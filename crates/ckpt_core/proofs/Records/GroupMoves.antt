@@ -8,7 +8,7 @@ use Rattle.std.proofs.lemmas.Bool.{cases_Bool, both_ways, eqb-true, eq-eqb, ne_e
 use Rattle.ckpt_ids.specs.Ascending.{IsAscendingSet}
 use Rattle.ckpt_ids.specs.Ordered.{IsIn, IsInOrder, in_order, in_order_once}
 use Rattle.ckpt_ids.specs.Records.{Record, Use, Subtask, Pin, use_before, uses, uses_of}
-use Rattle.ckpt_ids.proofs.OrderedLemmas.{IsIn-append_left, IsIn-map, IsIn-from_filter, IsInOrder-append}
+use Rattle.ckpt_ids.proofs.OrderedLemmas.{IsIn-append_left, IsIn-map, IsIn-from_filter, IsInOrder-append, filter-none}
 use Rattle.ckpt_core.specs.Soundness.{id_before}
 use Rattle.ckpt_core.specs.Inside.Grouped.{is_pin, pins, pins_of, with_pins, grouped, records_of}
 use Rattle.ckpt_core.proofs.Records.Counts.{map_same}
@@ -28,17 +28,6 @@ filter_implied {X} p q (x ∷ xs) implies =
     let fails : p x ≡ false = ⊎_elim (λ (t : p x ≡ true). absurd (both_ways (q x) e (implies x (inl refl) t))) (λ (t : p x ≡ false). t) (cases_Bool (p x)) in
     subst P (sym e) (rest ∙ ap (λ b. cond b (x ∷ filter p xs) (filter p xs)) (sym fails)) in
     ⊎_elim here gone (cases_Bool (q x))
-
-pub filter_none : {X : Type 0} (p : X → Bool) (xs : List X) → ((x : X) → IsIn x xs → p x ≡ false) → filter p xs ≡ []
-filter_none p [] fails = refl
-filter_none p (x ∷ xs) fails = ap (λ b. cond b (x ∷ filter p xs) (filter p xs)) (fails x (inl refl)) ∙ filter_none p xs (λ y h. fails y (inr h))
-
-pub filter-filter : {X : Type 0} (p q : X → Bool) (xs : List X) → filter p (filter q xs) ≡ filter (λ x. q x && p x) xs
-filter-filter p q [] = refl
-filter-filter {X} p q (x ∷ xs) =
-    let rest : filter p (filter q xs) ≡ filter (λ y. q y && p y) xs = filter-filter p q xs in
-    let P : Bool → Type 0 = λ b. filter p (cond b (x ∷ filter q xs) (filter q xs)) ≡ cond (b && p x) (x ∷ filter (λ y. q y && p y) xs) (filter (λ y. q y && p y) xs) in
-    ⊎_elim (λ (e : q x ≡ true). subst P (sym e) (ap (λ ys. cond (p x) (x ∷ ys) ys) rest)) (λ (e : q x ≡ false). subst P (sym e) rest) (cases_Bool (q x))
 
 pub filter-map : {X Y : Type 0} (p : Y → Bool) (f : X → Y) (xs : List X) → filter p (map f xs) ≡ map f (filter (λ x. p (f x)) xs)
 filter-map p f [] = refl
@@ -82,7 +71,7 @@ pins_of-append us vs id =
     ap (λ ws. map (λ u. u.file) ws) (filter-append (pins id) us vs) ∙ map-append (λ (u : Use). u.file) (filter (pins id) us) (filter (pins id) vs)
 
 pub pins_of-none : (us : List Use) (id : ℕ) → ((u : Use) → IsIn u us → pins id u ≡ false) → pins_of us id ≡ []
-pins_of-none us id fails = ap (λ ws. map (λ u. u.file) ws) (filter_none (pins id) us fails)
+pins_of-none us id fails = ap (λ ws. map (λ u. u.file) ws) (filter-none (pins id) us fails)
 
 pub pins_of-holds : (id : ℕ) (files : List ℕ) → pins_of (holds id Pin files) id ≡ files
 pins_of-holds id [] = refl

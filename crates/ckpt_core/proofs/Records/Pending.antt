@@ -10,28 +10,26 @@ use Rattle.std.proofs.lemmas.List.Sums.{sum_by-remove}
 use Rattle.std.proofs.lemmas.Option.{slice_get-get_or}
 use Rattle.ckpt_ids.specs.declared.subtask.SubtaskId.{SubtaskId}
 use Rattle.ckpt_ids.specs.Ordered.{IsIn, IsInOrder}
+use Rattle.ckpt_ids.specs.Places.{LiesAt}
 use Rattle.ckpt_ids.specs.Records.{Record, has_acknowledged, acknowledged}
 use Rattle.ckpt_ids.proofs.CountLemmas.{count_by-cons, count_by-append, count_by-map}
-use Rattle.ckpt_ids.proofs.OrderedLemmas.{IsIn-from_map, IsIn-from_filter, IsIn-append_cases, IsInOrder-append, IsInOrder-filter, IsInOrder-map, ComesBefore-at, filter-same}
+use Rattle.ckpt_ids.proofs.OrderedLemmas.{IsIn-from_map, IsIn-from_filter, IsIn-append_cases, IsInOrder-append, IsInOrder-filter, IsInOrder-map, ComesBefore-at, filter-same, filter-filter}
+use Rattle.ckpt_ids.proofs.AscendingLemmas.{numbers_in_order}
+use Rattle.ckpt_ids.proofs.PlaceLemmas.{find-none, first_differs}
 use Rattle.ckpt_pending.specs.Acknowledging.{IsPending, without_ack}
 use Rattle.ckpt_pending.proofs.PendingLemmas.{without-with_ack}
 use Rattle.ckpt_pending.proofs.SubtaskLemmas.{count_by_same}
-use Rattle.ckpt_store.specs.Places.{IsPlaceOf}
-use Rattle.ckpt_store.specs.Storing.{has_id}
-use Rattle.ckpt_store.proofs.RowLemmas.{place_member, find-place, find_none, remove-place}
+use Rattle.ckpt_store.specs.Storing.{has_id, id_of}
+use Rattle.ckpt_store.proofs.RowLemmas.{find-place, remove-place}
 use Rattle.ckpt_core.specs.State.{is_checkpoint}
 use Rattle.ckpt_core.specs.Soundness.{id_before}
 use Rattle.ckpt_core.specs.Inside.PendingRecords.{acked, retracted, AreKept}
 use Rattle.ckpt_core.proofs.Records.Counts.{map_itself}
-use Rattle.ckpt_core.proofs.Records.GroupMoves.{filter-filter, map-map}
+use Rattle.ckpt_core.proofs.Records.GroupMoves.{map-map}
 
 -- the record of this number changed
 abbrev pub changed : ℕ → (Record → Record) → List Record → List Record
 changed id f rs = map (λ r. cond (has_id id r) (f r) r) rs
-
--- the record at this place has this number
-abbrev pub IsAt : ℕ → List Record → ℕ → Type 0
-IsAt id rs place = (place < length rs) × IsPlaceOf id rs place
 
 -- a test as a number
 pub from_bool-cond : (b : Bool) → from_bool b ≡ cond b 1 0
@@ -63,15 +61,15 @@ pub place_there : (id : ℕ) (answer : Option ℕ) (rs : List Record) → IsSome
 place_there id (Some place) rs there absent = refl
 place_there id None rs there absent =
     let P : Option Record → Type 0 = λ o. IsSome o in
-    absurd (both_ways false refl (subst P (find_none (has_id id) rs absent) there))
+    absurd (both_ways false refl (subst P (find-none (has_id id) rs absent) there))
 
-pub at_place : (id place : ℕ) (answer : Option ℕ) (rs : List Record) → answer ≡ Some place → IfSome answer (IsAt id rs) → IsAt id rs place
-at_place id place answer rs e found = let P : Option ℕ → Type 0 = λ o. IfSome o (IsAt id rs) in subst P e found
+pub at_place : (id place : ℕ) (answer : Option ℕ) (rs : List Record) → answer ≡ Some place → IfSome answer (LiesAt id_of id rs) → LiesAt id_of id rs place
+at_place id place answer rs e found = let P : Option ℕ → Type 0 = λ o. IfSome o (LiesAt id_of id rs) in subst P e found
 
 -- what stands at the place of a number is what is found
-pub found_at : (id place : ℕ) (r : Record) (rs : List Record) → IsInOrder id_before rs → IsAt id rs place → r ≡ get_or rs place r → find (has_id id) rs ≡ Some r
+pub found_at : (id place : ℕ) (r : Record) (rs : List Record) → IsInOrder id_before rs → LiesAt id_of id rs place → r ≡ get_or rs place r → find (has_id id) rs ≡ Some r
 found_at id place r rs order at is =
-    sym (find-place id rs place order at.1) ∙ slice_get-get_or rs place r at.0 ∙ ap (λ q. Some q) (sym is)
+    sym (find-place id rs place order at) ∙ slice_get-get_or rs place r at.0 ∙ ap (λ q. Some q) (sym is)
 
 -- one more
 
@@ -90,20 +88,19 @@ AreKept-added p rs n kept pending newest =
 
 -- one changed
 
-pub set-place : (id : ℕ) (f : Record → Record) (r w : Record) (rs : List Record) (place : ℕ) → IsInOrder id_before rs → IsPlaceOf id rs place → r ≡ get_or rs place r → w ≡ f r → slice_set rs place w ≡ changed id f rs
-set-place id f r w [] place order at is new = absurd at
+pub set-place : (id : ℕ) (f : Record → Record) (r w : Record) (rs : List Record) (place : ℕ) → IsInOrder id_before rs → LiesAt id_of id rs place → r ≡ get_or rs place r → w ≡ f r → slice_set rs place w ≡ changed id f rs
+set-place id f r w [] place order at is new = let within : place < 0 = at.0 in absurd (omega arith)
 set-place id f r w (s ∷ rs) zero order at is new =
-    let here : has_id id s ≡ true = eq-eqb s.id id at in
+    let here : has_id id s ≡ true = eq-eqb s.id id (at.1 s) in
     let kept : changed id f rs ≡ rs = map_itself (λ q. cond (has_id id q) (f q) q) rs (λ q h. ap (λ b. cond b (f q) q) (others id s rs order here q h)) in
     ap (λ q. q ∷ rs) (new ∙ ap f is) ∙ ap (λ qs. f s ∷ qs) (sym kept) ∙ ap (λ b. cond b (f s) s ∷ changed id f rs) (sym here)
 set-place id f r w (s ∷ rs) (suc place) order at is new =
-    let q = place_member id rs place at in
-    let below : s.id < q.0.id = ltb-true s.id q.0.id (ComesBefore-at id_before s q.0 rs order.0 q.1) in
-    let same : q.0.id ≡ id = q.2 in
-    let other : has_id id s ≡ false = ne_eqb s.id id (λ e. omega arith) in
-    ap (λ qs. s ∷ qs) (set-place id f r w rs place order.1 at is new) ∙ ap (λ b. cond b (f s) s ∷ changed id f rs) (sym other)
+    let within : suc place < length (s ∷ rs) = at.0 in
+    let later : LiesAt id_of id rs place = (omega arith, λ d. at.1 d) in
+    let other : has_id id s ≡ false = ne_eqb s.id id (first_differs id_of numbers_in_order id s rs place order.0 later) in
+    ap (λ qs. s ∷ qs) (set-place id f r w rs place order.1 later is new) ∙ ap (λ b. cond b (f s) s ∷ changed id f rs) (sym other)
 
-pub AreKept-changed : (id place : ℕ) (f : Record → Record) (r w : Record) (rs : List Record) (n : ℕ) → AreKept rs n → IsAt id rs place → r ≡ get_or rs place r → w ≡ f r → ((s : Record) → (f s).id ≡ s.id) → ((s : Record) → is_checkpoint (f s) ≡ is_checkpoint s) → ((s : Record) → find (has_id id) rs ≡ Some s → IsPending (f s)) → AreKept (slice_set rs place w) n
+pub AreKept-changed : (id place : ℕ) (f : Record → Record) (r w : Record) (rs : List Record) (n : ℕ) → AreKept rs n → LiesAt id_of id rs place → r ≡ get_or rs place r → w ≡ f r → ((s : Record) → (f s).id ≡ s.id) → ((s : Record) → is_checkpoint (f s) ≡ is_checkpoint s) → ((s : Record) → find (has_id id) rs ≡ Some s → IsPending (f s)) → AreKept (slice_set rs place w) n
 AreKept-changed id place f r w rs n kept at is new same kind pending =
     let one : Record → Record = λ s. cond (has_id id s) (f s) s in
     let number : (s : Record) → (one s).id ≡ s.id = λ s.
@@ -121,7 +118,7 @@ AreKept-changed id place f r w rs n kept at is new same kind pending =
     (cases_Bool (has_id id q.0)) in
     subst IsPending (sym q.2) it in
     let P : List Record → Type 0 = λ qs. AreKept qs n in
-    subst P (sym (set-place id f r w rs place kept.in_order at.1 is new)) (record {
+    subst P (sym (set-place id f r w rs place kept.in_order at is new)) (record {
       in_order = IsInOrder-map id_before id_before one rs (λ q s h. ap (λ k. ltb k (one s).id) (number q) ∙ ap (ltb q.id) (number s) ∙ h) kept.in_order;
       pending = each;
       counted = kept.counted ∙ sym (count_by-map is_checkpoint one rs ∙ count_by_same is_checkpoint (λ s. is_checkpoint (one s)) rs (λ s h. sort s));
@@ -134,10 +131,10 @@ count-removed place r rs within is =
     let one : Record → ℕ = λ s. cond (is_checkpoint s) 1 0 in
     ap (λ s. count_by is_checkpoint (remove rs place) + one s) is ∙ sum_by-remove one rs place r within
 
-pub AreKept-removed : (id place m : ℕ) (r : Record) (rs : List Record) (n : ℕ) → AreKept rs n → IsAt id rs place → r ≡ get_or rs place r → m + cond (is_checkpoint r) 1 0 ≡ n → AreKept (remove rs place) m
+pub AreKept-removed : (id place m : ℕ) (r : Record) (rs : List Record) (n : ℕ) → AreKept rs n → LiesAt id_of id rs place → r ≡ get_or rs place r → m + cond (is_checkpoint r) 1 0 ≡ n → AreKept (remove rs place) m
 AreKept-removed id place m r rs n kept at is count =
     let keep : Record → Bool = λ s. not (has_id id s) in
-    let left : remove rs place ≡ filter keep rs = remove-place id rs place kept.in_order at.1 in
+    let left : remove rs place ≡ filter keep rs = remove-place id rs place kept.in_order at in
     let Each : List Record → Type 0 = λ qs. (s : Record) → IsIn s qs → IsPending s in
     record {
       in_order = subst (IsInOrder id_before) (sym left) (IsInOrder-filter id_before keep rs kept.in_order);

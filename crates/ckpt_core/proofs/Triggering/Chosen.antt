@@ -9,9 +9,8 @@ use Rattle.ckpt_ids.specs.declared.reply.Choice.TheVariants as choice
 use Rattle.ckpt_ids.specs.Ascending.{ascending_set}
 use Rattle.ckpt_ids.specs.Ordered.{IsIn, IsInOrder}
 use Rattle.ckpt_ids.specs.Records.{Record, Use, Pin, Subtask, same_holder, uses, uses_of}
-use Rattle.ckpt_ids.proofs.OrderedLemmas.{ComesBefore-at, IsIn-append_cases, IsIn-from_flat_map, IsIn-from_map, filter-all}
+use Rattle.ckpt_ids.proofs.OrderedLemmas.{ComesBefore-at, IsIn-append_cases, IsIn-from_flat_map, IsIn-from_map, filter-all, filter-none, filter-filter}
 use Rattle.ckpt_registry.specs.Uses.{files_by}
-use Rattle.ckpt_registry.proofs.ListLemmas.{filter-filter, filter-none}
 use Rattle.ckpt_core.specs.declared.parts.Parts.{Parts}
 use Rattle.ckpt_core.specs.Inside.Parts.{AreTied, state_of}
 use Rattle.ckpt_core.specs.Inside.Starting.{files_chosen}

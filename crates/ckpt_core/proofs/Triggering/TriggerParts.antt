@@ -14,7 +14,7 @@ use Rattle.ckpt_ids.specs.declared.reply.Choice.TheVariants as choice
 use Rattle.ckpt_ids.specs.Ascending.{ascending_set}
 use Rattle.ckpt_ids.specs.Ordered.{IsIn, IsInOrder, in_order_once}
 use Rattle.ckpt_ids.specs.Records.{Record, Use, Pin, use_before, uses, uses_of}
-use Rattle.ckpt_ids.proofs.OrderedLemmas.{IsIn-append_cases, IsIn-append_left, IsIn-map, IsIn-from_map, IsIn-flat_map, IsIn-from_flat_map, IsIn-in_order, IsIn-in_order_once, IsIn-from_in_order_once, IsInOrder-in_order_once, same_from_members, filter-all}
+use Rattle.ckpt_ids.proofs.OrderedLemmas.{IsIn-append_cases, IsIn-append_left, IsIn-map, IsIn-from_map, IsIn-flat_map, IsIn-from_flat_map, IsIn-in_order, IsIn-in_order_once, IsIn-from_in_order_once, IsInOrder-in_order_once, same_from_members, filter-all, filter-none}
 use Rattle.ckpt_ids.proofs.AscendingLemmas.{numbers_in_order}
 use Rattle.ckpt_core.specs.declared.parts.Parts.{Parts}
 use Rattle.ckpt_ids.specs.Configuration.{Configuration, IsWithinLimits}
@@ -27,7 +27,7 @@ use Rattle.ckpt_core.specs.Inside.Parts.{state_of, records_in, present_in, AreTi
 use Rattle.ckpt_ids.proofs.CountLemmas.{count_by-cons}
 use Rattle.ckpt_core.proofs.Records.Counts.{IsIn-from_find}
 use Rattle.ckpt_core.proofs.Using.Order.{holds, from_holds, use_of_record}
-use Rattle.ckpt_core.proofs.Records.GroupMoves.{filter_none, trigger_groups, trigger_uses, uses_of-triggered}
+use Rattle.ckpt_core.proofs.Records.GroupMoves.{trigger_groups, trigger_uses, uses_of-triggered}
 use Rattle.ckpt_core.proofs.Soundness.Triggers.{ascending-pins}
 
 -- every use is of a record with an earlier number
@@ -142,7 +142,7 @@ trigger_undone p sound x e =
     let other : Record → Bool = λ r. not (eqb r.id p.next) in
     filter-append other p.pending (x ∷ [])
     ∙ ap (λ rs. rs ++ filter other (x ∷ [])) (filter-all other p.pending (λ r h. let lt : r.id < p.next = older_pending p sound r h in not_from_false (eqb r.id p.next) (ne_eqb r.id p.next (λ k. omega arith))))
-    ∙ ap (λ rs. p.pending ++ rs) (filter_none other (x ∷ []) (λ r h. ⊎_elim (λ (k : r ≡ x). not_from_true (eqb r.id p.next) (eq-eqb r.id p.next (ap (λ w. w.id) k ∙ e))) (λ (k : IsIn r []). absurd k) h))
+    ∙ ap (λ rs. p.pending ++ rs) (filter-none other (x ∷ []) (λ r h. ⊎_elim (λ (k : r ≡ x). not_from_true (eqb r.id p.next) (eq-eqb r.id p.next (ap (λ w. w.id) k ∙ e))) (λ (k : IsIn r []). absurd k) h))
     ∙ append-nil p.pending
 
 -- how many records live

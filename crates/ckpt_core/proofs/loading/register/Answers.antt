@@ -6,9 +6,9 @@ use Rattle.ckpt_ids.specs.Acknowledged.{AreInSubtaskOrder}
 use Rattle.ckpt_ids.specs.Ascending.{IsAscendingSet}
 use Rattle.ckpt_ids.specs.Ordered.{IsIn, in_order_once}
 use Rattle.ckpt_ids.specs.Records.{Use, Subtask, Pin, count, use_before}
-use Rattle.ckpt_ids.proofs.OrderedLemmas.{IsIn-get_or}
+use Rattle.ckpt_ids.proofs.AscendingLemmas.{numbers_in_order}
+use Rattle.ckpt_ids.proofs.OrderedLemmas.{AreDistinct-from_order, IsIn-get_or}
 use Rattle.ckpt_registry.specs.Uses.{HasNoUse}
-use Rattle.ckpt_registry.proofs.ListLemmas.{IsEachOnce-from_ascending}
 use Rattle.ckpt_core.specs.Inside.Loading.{uses_of_acks, uses_held}
 use Rattle.ckpt_core.proofs.Using.Order.{holds}
 use Rattle.ckpt_core.proofs.Loaded.Uses.{ack_registered, count_front, in_front, pins_registered, pins_unused, subtask_unused, take_in_order}
@@ -29,7 +29,7 @@ pub hold_files-requires-clause-each_once : goal.hold_files-requires-clause-each_
 hold_files-requires-clause-each_once c =
     let P : List Acked → Type 0 = λ xs. IsIn c.acked-item.result xs in
     let a : Acked = c.acked-item.result in
-    IsEachOnce-from_ascending a.files (c.requires.files a (subst P c.as_slice-acked-items.ensures.acks (one_of c.as_slice-acked-items.result.now c.loop-acked.acked-index a c.loop-acked-test.true c.acked-item.is)))
+    AreDistinct-from_order numbers_in_order a.files (c.requires.files a (subst P c.as_slice-acked-items.ensures.acks (one_of c.as_slice-acked-items.result.now c.loop-acked.acked-index a c.loop-acked-test.true c.acked-item.is)))
 
 pub hold_files-requires-clause-below : goal.hold_files-requires-clause-below
 hold_files-requires-clause-below c = λ f h.

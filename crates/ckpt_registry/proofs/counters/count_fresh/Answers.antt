@@ -6,6 +6,7 @@ use Rattle.ckpt_registry.specs.Counters.{counter}
 use Rattle.ckpt_registry.proofs.CounterLemmas.{Sets, OnOk-at, counter_more, AreInRange-set, get-none, times_before, length_fresh}
 use Rattle.ckpt_registry.proofs.counters.count_fresh.Goals as goal
 use Rattle.ckpt_ids.specs.Counting.{times}
+use Rattle.ckpt_ids.proofs.CountLemmas.{times_at_most_once}
 
 pub loop-file-preserved : goal.loop-file-preserved
 loop-file-preserved c =
@@ -19,7 +20,7 @@ loop-file-preserved c =
     let ok : IsOk c.insert.result = c.insert.ensures.succeeds (omega (arith, before.room)) in
     let sets : Sets m n file (Some 1) = (OnOk-at c.insert.result _ ok c.insert.ensures.updates).0 in
     let among : IsIn file files = let P : ℕ → Type 0 = λ x. IsIn x files in subst P (sym c.file-item.is) (IsIn-get_or files i file within) in
-    let first : times file (take i files) ≡ 0 = times_before files i file (c.requires.each_once file) within c.file-item.is in
+    let first : times file (take i files) ≡ 0 = times_before files i file (times_at_most_once file files c.requires.each_once) within c.file-item.is in
     let none : counter m file ≡ 0 = omega (arith, before.counted file, c.requires.absent file among) in
     record {
       counted = counter_more c.args.counts.now m n files i file 1 sets (omega arith) within c.file-item.is before.counted;

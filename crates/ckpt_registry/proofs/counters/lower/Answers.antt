@@ -1,4 +1,4 @@
-use Rattle.std.proofs.Common.{◌≡◌, ℕ, ◌+◌, ◌-◌, Option, Some, None, IfSome, if◌then◌else◌, nat_eq, unwrap_or, sym, ap, subst, ◌∙◌, refl, arith}
+use Rattle.std.proofs.Common.{◌≡◌, ℕ, ◌+◌, ◌-◌, ◌<◌, Option, Some, None, IfSome, if◌then◌else◌, nat_eq, unwrap_or, sym, ap, subst, ◌∙◌, refl, arith, rules}
 use Rattle.std.proofs.lemmas.Cmp.{nat_eq_equiv}
 use Rattle.std.specs.List.{slice_get}
 use Rattle.std.specs.Option.{is_some}
@@ -25,33 +25,26 @@ gone_at m n k v r e gone = let P : Option (ℕ × ℕ) → Type 0 = λ o. IfSome
 left : (c : goal.After-counts-1) → slice_get c.args.counts.now.entries c.unwrap-index.result ≡ Some (c.args.file, c.index-count.result.now)
 left c = entry_found c.args.counts.now c.unwrap-index.result c.args.file c.index-count.result.now (sym c.get_index_of.ensures.index ∙ c.unwrap-index.ensures) c.index-count.ensures
 
-pub returns-then-count-gt1-clause-lowered : goal.returns-then-count-gt1-clause-lowered
-returns-then-count-gt1-clause-lowered c =
+pub returns-then-count-gt1 : goal.returns-then-count-gt1
+returns-then-count-gt1 c =
     let m : Counts = c.args.counts.now in
     let i : ℕ = c.unwrap-index.result in
     let v : ℕ = c.index-count.result.now in
+    let file : ℕ = c.args.file in
+    let n : Counts = with_value_at m i (v - 1) in
     let unique : IsUnique nat_eq m = c.get_index_of.ensures.unique in
-    counter-lowered m (with_value_at m i (v - 1)) c.args.file v (Some (v - 1)) (set_at m i c.args.file v unique (left c) (v - 1)) (sym (counter_at m i c.args.file v unique (left c))) (omega (arith, c.if-count-gt1.true))
-
-pub returns-then-count-gt1-clause-released : goal.returns-then-count-gt1-clause-released
-returns-then-count-gt1-clause-released c = λ f.
-    let m : Counts = c.args.counts.now in
-    let i : ℕ = c.unwrap-index.result in
-    let v : ℕ = c.index-count.result.now in
-    let unique : IsUnique nat_eq m = c.get_index_of.ensures.unique in
-    omega (arith, counted_once-kept m (with_value_at m i (v - 1)) c.args.file v (v - 1) (set_at m i c.args.file v unique (left c) (v - 1)) (sym (counter_at m i c.args.file v unique (left c))) (omega (arith, c.if-count-gt1.true)) (omega (arith, c.if-count-gt1.true)) f)
-
-pub returns-then-count-gt1-clause-len : goal.returns-then-count-gt1-clause-len
-returns-then-count-gt1-clause-len c = omega (arith, index_map_len-with_value_at c.args.counts.now c.unwrap-index.result (c.index-count.result.now - 1))
-
-pub returns-then-count-gt1-clause-range : goal.returns-then-count-gt1-clause-range
-returns-then-count-gt1-clause-range c =
-    let m : Counts = c.args.counts.now in
-    let i : ℕ = c.unwrap-index.result in
-    let v : ℕ = c.index-count.result.now in
-    let unique : IsUnique nat_eq m = c.get_index_of.ensures.unique in
-    let had : v ≡ counter m c.args.file = counter_at m i c.args.file v unique (left c) in
-    AreInRange-set m (with_value_at m i (v - 1)) c.args.file (v - 1) (set_at m i c.args.file v unique (left c) (v - 1)) c.requires.range (omega (arith, c.if-count-gt1.true)) (omega (arith, AreInRange-below m c.requires.range c.args.file))
+    let sets : Sets m n file (Some (v - 1)) = set_at m i file v unique (left c) (v - 1) in
+    let had : v ≡ counter m file = counter_at m i file v unique (left c) in
+    let more : 0 < v - 1 = omega (arith, c.if-count-gt1.true) in
+    record {
+      lowered = counter-lowered m n file v (Some (v - 1)) sets (sym had) (omega (arith, more));
+      released = record {
+        each = λ f. omega (arith, counted_once-kept m n file v (v - 1) sets (sym had) (omega (arith, more)) more f);
+        len = omega (arith, index_map_len-with_value_at m i (v - 1));
+        capacity = refl;
+      };
+      range = AreInRange-set m n file (v - 1) sets c.requires.range more (omega (arith, had, AreInRange-below m c.requires.range file));
+    }
 
 -- where it had one use, and has no counter any more
 
@@ -61,20 +54,20 @@ last c = entry_found c.args.counts.now c.unwrap-index.result c.args.file c.index
 went : (c : goal.After-push_reserved) → Sets c.args.counts.now c.swap_remove_index.new.self c.args.file None
 went c = gone_at c.args.counts.now c.swap_remove_index.new.self c.args.file c.index-count.result.now c.swap_remove_index.result (c.swap_remove_index.ensures.entry ∙ last c) c.swap_remove_index.ensures.updates
 
-pub returns-clause-lowered : goal.returns-clause-lowered
-returns-clause-lowered c =
+pub returns : goal.returns
+returns c =
     let m : Counts = c.args.counts.now in
-    let had : c.index-count.result.now ≡ counter m c.args.file = counter_at m c.unwrap-index.result c.args.file c.index-count.result.now c.get_index_of.ensures.unique (last c) in
-    counter-lowered m c.swap_remove_index.new.self c.args.file (counter m c.args.file) None (went c) refl (omega (arith, c.requires.counted, c.if-count-gt1.false))
-
-pub returns-clause-released : goal.returns-clause-released
-returns-clause-released c = rw c.push_reserved.ensures.items (times-released c.args.counts.now c.swap_remove_index.new.self c.args.file c.args.released.now.items (went c) c.requires.counted)
-
-pub returns-clause-len : goal.returns-clause-len
-returns-clause-len c =
-    let P : Option (ℕ × ℕ) → Type 0 = λ o. index_map_len c.swap_remove_index.new.self + (if is_some o then 1 else 0) ≡ index_map_len c.args.counts.now in
-    let fewer : P (Some (c.args.file, c.index-count.result.now)) = subst P (c.swap_remove_index.ensures.entry ∙ last c) c.swap_remove_index.ensures.len in
-    omega (arith, c.push_reserved.ensures.len)
-
-pub returns-clause-range : goal.returns-clause-range
-returns-clause-range c = AreInRange-gone c.args.counts.now c.swap_remove_index.new.self c.args.file (went c) c.requires.range
+    let n : Counts = c.swap_remove_index.new.self in
+    let file : ℕ = c.args.file in
+    let had : c.index-count.result.now ≡ counter m file = counter_at m c.unwrap-index.result file c.index-count.result.now c.get_index_of.ensures.unique (last c) in
+    let P : Option (ℕ × ℕ) → Type 0 = λ o. index_map_len n + (if is_some o then 1 else 0) ≡ index_map_len m in
+    let fewer : P (Some (file, c.index-count.result.now)) = subst P (c.swap_remove_index.ensures.entry ∙ last c) c.swap_remove_index.ensures.len in
+    record {
+      lowered = counter-lowered m n file (counter m file) None (went c) refl (omega (arith, had, c.requires.counted, c.if-count-gt1.false));
+      released = record {
+        each = rw c.push_reserved.ensures.items (times-released m n file c.args.released.now.items (went c) c.requires.counted);
+        len = omega (arith, fewer, c.push_reserved.ensures.len);
+        capacity = search rules;
+      };
+      range = AreInRange-gone m n file (went c) c.requires.range;
+    }

@@ -1,18 +1,10 @@
-use Rattle.std.proofs.Common.{◌≡◌, ℕ, ◌+◌, take, vec_len}
+use Rattle.std.proofs.Common.{take}
 use Rattle.std.specs.List.{filter}
-use Rattle.std.specs.Vec.{vec_capacity}
-use Rattle.indexmap.specs.IndexMap.{index_map_len}
 use Rattle.ckpt_ids.specs.Counting.{times}
-use Rattle.ckpt_registry.specs.Counters.{counter, counted_once, AreInRange}
+use Rattle.ckpt_registry.specs.Counters.{AreLowered}
 use Rattle.ckpt_registry.specs.Pins.{own_in}
 use Rattle.ckpt_registry.proofs.PinLemmas.{goes}
 use Rattle.ckpt_registry.proofs.pins.unpin.Given as goal
 
 abbrev pub invariant-loop-one : goal.invariant-loop-one
-invariant-loop-one l = record {
-  lowered : (f : ℕ) → counter l.counts f + times f (own_in (filter (goes l.owners) (take l.one-index l.one-items))) ≡ counter l.fn.counts f;
-  released : (f : ℕ) → times f l.released.items + counted_once l.counts f ≡ times f l.fn.released.items + counted_once l.fn.counts f;
-  len : index_map_len l.counts + vec_len l.released ≡ index_map_len l.fn.counts + vec_len l.fn.released;
-  capacity : vec_capacity l.released ≡ vec_capacity l.fn.released;
-  range : AreInRange l.counts;
-}
+invariant-loop-one l = AreLowered (λ f. times f (own_in (filter (goes l.owners) (take l.one-index l.one-items)))) l.fn.counts l.fn.released l.counts l.released

@@ -6,6 +6,7 @@ use Rattle.ckpt_registry.specs.declared.pins.Pinner.{Pinner}
 use Rattle.ckpt_registry.specs.Counters.{counter, counted_once}
 use Rattle.ckpt_registry.specs.Holdings.{Acknowledged, files_in, parts_of}
 use Rattle.ckpt_registry.specs.Pins.{AreSettled, IsKept, pins_on}
+use Rattle.ckpt_registry.proofs.CounterLemmas.{AreReleased-none}
 use Rattle.ckpt_registry.proofs.HoldingLemmas.{AreRising-gone, count-gone, count-parts_of, parts_of-gone, uses_in-gone}
 use Rattle.ckpt_registry.proofs.PinLemmas.{pins_on-le}
 use Rattle.ckpt_registry.proofs.SoundLemmas.{AreCounted-gone, AreCounted-unchanged, count-stored, counted_once-settled, pins_in-gone}
@@ -72,13 +73,22 @@ returns-in-Some-clause-pins c =
     pins_in-gone m n id p q c.args.counts.now c.lower_parts.new.counts c.requires.counted (parts_of-gone m n id c.remove.ensures.gone) (subst P is c.settle.ensures.settled)
 
 pub returns-in-Some-clause-released : goal.returns-in-Some-clause-released
-returns-in-Some-clause-released c = λ f.
+returns-in-Some-clause-released c =
     let m : Acknowledged = c.args.acknowledged.now in
     let p : List Pinner = c.args.pinned.now.items in
+    let e = c.lower_parts.ensures.released in
     let is : c.deref.result.now ≡ parts_of m c.args.id = c.deref.ensures.value ∙ c.in-Some.ensures.parts in
-    let raised : pins_on c.args.id c.deref.result.now f p ≡ pins_on c.args.id (parts_of m c.args.id) f p = ap (λ ps. pins_on c.args.id ps f p) is in
-    let same : counted_once c.settle.new.counts f ≡ counted_once c.args.counts.now f = counted_once-settled m p c.args.counts.now c.settle.new.counts c.args.id f c.requires.counted (c.settle.ensures.counted f ∙ ap (λ k. counter c.args.counts.now f + k) raised) in
-    omega (arith, same, c.lower_parts.ensures.released f)
+    record {
+      each = λ f.
+          let raised : pins_on c.args.id c.deref.result.now f p ≡ pins_on c.args.id (parts_of m c.args.id) f p = ap (λ ps. pins_on c.args.id ps f p) is in
+          let same : counted_once c.settle.new.counts f ≡ counted_once c.args.counts.now f = counted_once-settled m p c.args.counts.now c.settle.new.counts c.args.id f c.requires.counted (c.settle.ensures.counted f ∙ ap (λ k. counter c.args.counts.now f + k) raised) in
+          omega (arith, same, e.each f);
+      len = omega (arith, c.settle.ensures.len, e.len);
+      capacity = e.capacity;
+    }
+
+pub returns-in_default-clause-released : goal.returns-in_default-clause-released
+returns-in_default-clause-released c = AreReleased-none c.args.counts.now c.args.released.now
 
 pub returns-in_default-clause-counted : goal.returns-in_default-clause-counted
 returns-in_default-clause-counted c =

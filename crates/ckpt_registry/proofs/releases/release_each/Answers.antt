@@ -1,6 +1,7 @@
 use Rattle.std.proofs.Common.{ℕ, ◌<◌, length, sym, ap, ◌∙◌, arith}
 use Rattle.ckpt_registry.specs.Holdings.{uses_in}
 use Rattle.ckpt_registry.specs.Pins.{pins_in}
+use Rattle.ckpt_registry.proofs.CounterLemmas.{AreReleased-then, HasRoom-released}
 use Rattle.ckpt_registry.proofs.HoldingLemmas.{without_more, without-none}
 use Rattle.ckpt_registry.proofs.PinLemmas.{pins_in-filter}
 use Rattle.ckpt_registry.proofs.SoundLemmas.{AreCounted-unpinned}
@@ -11,14 +12,15 @@ loop-owner-init c =
     let m = c.args.acknowledged.now in
     let e = c.unpin.ensures in
     record {
-      counted = AreCounted-unpinned m c.args.pinned.now.items c.unpin.new.pinned.items c.args.owners.now c.args.counts.now c.unpin.new.counts c.requires.counted e.kept e.lowered e.range;
+      counted = AreCounted-unpinned m c.args.pinned.now.items c.unpin.new.pinned.items c.args.owners.now c.args.counts.now c.unpin.new.counts c.requires.counted e.kept e.lowered.lowered e.lowered.range;
       uses = sym (without-none (uses_in m.items));
       pins = ap (pins_in m) e.kept ∙ pins_in-filter m c.args.owners.now c.args.pinned.now.items;
-      released = e.released;
-      len = e.len;
-      capacity = e.capacity;
+      released = e.lowered.released;
       spare = c.requires.spare;
     }
+
+pub drop_uses-requires-clause-room : goal.drop_uses-requires-clause-room
+drop_uses-requires-clause-room c = HasRoom-released c.args.counts.now c.loop-owner.counts c.args.released.now c.loop-owner.released c.requires.room c.loop-owner.invariant.released
 
 pub loop-owner-preserved : goal.loop-owner-preserved
 loop-owner-preserved c =
@@ -32,8 +34,6 @@ loop-owner-preserved c =
       counted = e.counted;
       uses = e.uses ∙ without_more owners i owner _ _ within c.owner-item.is before.uses;
       pins = e.pins ∙ before.pins;
-      released = λ f. omega (arith, before.released f, e.released f);
-      len = omega (arith, before.len, e.len);
-      capacity = e.capacity ∙ before.capacity;
+      released = AreReleased-then c.args.counts.now c.loop-owner.counts c.drop_uses.new.counts c.args.released.now c.loop-owner.released c.drop_uses.new.released before.released e.released;
       spare = e.spare;
     }

@@ -1,7 +1,11 @@
-use Rattle.std.proofs.Common.{◌≡◌, ◌<◌, ◌∙◌, ℕ, ltb, length, get_or, rules}
+use Rattle.std.proofs.Common.{◌≡◌, ◌<◌, ◌∙◌, ℕ, ltb, true, false, length, get_or, rules}
+use Rattle.std.proofs.lemmas.Bool.{lt-ltb}
 use Rattle.std.proofs.lemmas.List.Sorted.{IsPartitionPoint-from_clause}
 use Rattle.ckpt_ids.specs.Records.{Record}
-use Rattle.ckpt_store.proofs.RowLemmas.{all_below, end_partition, partitioned}
+use Rattle.ckpt_ids.proofs.AscendingLemmas.{numbers_in_order}
+use Rattle.ckpt_ids.proofs.PlaceLemmas.{all_before, end_point}
+use Rattle.ckpt_store.specs.Storing.{id_of}
+use Rattle.ckpt_store.proofs.RowLemmas.{partitioned}
 use Rattle.ckpt_store.proofs.places.place_for.Goals as goal
 use Rattle.ckpt_store.proofs.places.place_for.Goals.{in_default-via-in-Some+else-le, in_default-via-in_default}
 
@@ -12,9 +16,11 @@ returns-in-Some-clause-parted c =
 pub returns-in_default-clause-parted : goal.returns-in_default-clause-parted
 returns-in_default-clause-parted c =
     let all : c.len.result ≡ length c.args.queue.now.items = c.len.ensures ∙ c.args.queue.now.ok.0 in
-    let below : (k : ℕ) (d : Record) → k < c.len.result → (get_or c.args.queue.now.items k d).id < c.args.id =
+    let below : (k : ℕ) (d : Record) → k < c.len.result → ltb (get_or c.args.queue.now.items k d).id c.args.id ≡ true =
     elim c.in_default.branch [
-      | in_default-via-in-Some+else-le w ↦ all_below c.args.id c.args.queue.now.items c.len.result w.in-Some.last.now c.requires all (rw c.len.ensures w.in-Some.ensures.lookup) (search rules)
+      | in_default-via-in-Some+else-le w ↦
+          let under : w.in-Some.last.now.id < c.args.id = search rules in
+          all_before id_of numbers_in_order c.args.id c.args.queue.now.items c.len.result w.in-Some.last.now c.requires all (rw c.len.ensures w.in-Some.ensures.lookup) (lt-ltb w.in-Some.last.now.id c.args.id under)
       | in_default-via-in_default w ↦ λ k d h. absurd (search rules)
     ] in
-    end_partition c.args.id c.args.queue.now.items c.len.result all below
+    end_point (λ (r : Record). ltb r.id c.args.id ≡ true) (λ (r : Record). ltb r.id c.args.id ≡ false) c.args.queue.now.items c.len.result all below

@@ -5,7 +5,9 @@ use Rattle.ckpt_pending.specs.Acknowledging.{IsPending}
 use Rattle.ckpt_pending.proofs.PendingLemmas.{IsPending-put}
 use Rattle.ckpt_store.specs.Storing.{has_id}
 use Rattle.ckpt_core.proofs.Records.Counts.{IsIn-from_find}
-use Rattle.ckpt_core.proofs.Records.Pending.{AreKept-changed, IsAt, at_place, changed, place_there, set-place}
+use Rattle.ckpt_ids.specs.Places.{LiesAt}
+use Rattle.ckpt_store.specs.Storing.{id_of}
+use Rattle.ckpt_core.proofs.Records.Pending.{AreKept-changed, at_place, changed, place_there, set-place}
 use Rattle.ckpt_core.proofs.pending_records.PendingRecords.ack.Goals as goal
 use Rattle.ckpt_core.proofs.pending_records.PendingRecords.ack.Goals.{in-Ok, in-Err}
 
@@ -27,7 +29,7 @@ invariant_of-self c =
     let held : Record = c.index_mut.result.now in
     let new : Record = c.ack.new.self in
     let ack : Record → Record = λ r. acknowledged r c.args.subtask c.args.files in
-    let at : IsAt id rs place = at_place id place c.place_of.result rs c.unwrap-place.ensures c.place_of.ensures.found in
+    let at : LiesAt id_of id rs place = at_place id place c.place_of.result rs c.unwrap-place.ensures c.place_of.ensures.found in
     let one : (r : Record) → find (has_id id) rs ≡ Some r → IsPending r = λ r e. c.self.invariant.pending r (IsIn-from_find (has_id id) r rs e).0 in
     let expected : (r : Record) → find (has_id id) rs ≡ Some r → IsPending (ack r) = λ r e.
     let facts = c.requires.expected r (ap (find (has_id id)) (sym c.self.view_is) ∙ e) in
@@ -45,7 +47,7 @@ returns-clause-ok c =
     let held : Record = c.index_mut.result.now in
     let new : Record = c.ack.new.self in
     let ack : Record → Record = λ r. acknowledged r c.args.subtask c.args.files in
-    let at : IsAt id rs place = at_place id place c.place_of.result rs c.unwrap-place.ensures c.place_of.ensures.found in
+    let at : LiesAt id_of id rs place = at_place id place c.place_of.result rs c.unwrap-place.ensures c.place_of.ensures.found in
     let done : new ≡ ack held → slice_set rs place new ≡ changed id ack c.args.self.now = λ (e : new ≡ ack held).
-    set-place id ack held new rs place c.self.invariant.in_order at.1 c.index_mut.ensures.value e ∙ ap (changed id ack) c.self.view_is in
+    set-place id ack held new rs place c.self.invariant.in_order at c.index_mut.ensures.value e ∙ ap (changed id ack) c.self.view_is in
     elim c.match-ack.branch [ in-Ok w ↦ rw w.result-is (done w.in-Ok.ensures.ok) | in-Err w ↦ rw w.result-is tt ]

@@ -3,14 +3,15 @@ use Rattle.std.specs.List.{remove}
 use Rattle.ckpt_ids.specs.Records.{Record}
 use Rattle.ckpt_pending.proofs.AckLemmas.{filter_all}
 use Rattle.ckpt_store.specs.Storing.{has_id}
-use Rattle.ckpt_store.proofs.RowLemmas.{find_none, remove-place}
+use Rattle.ckpt_ids.proofs.PlaceLemmas.{find-none}
+use Rattle.ckpt_store.proofs.RowLemmas.{remove-place}
 use Rattle.ckpt_core.specs.State.{is_checkpoint}
 use Rattle.ckpt_core.proofs.Records.Pending.{AreKept-removed, count-removed, found_at, from_bool-cond}
 use Rattle.ckpt_core.proofs.pending_records.PendingRecords.remove.Goals as goal
 
 pub returns-in_err-place-clause-value : goal.returns-in_err-place-clause-value
 returns-in_err-place-clause-value c =
-    c.from_residual.ensures ∙ sym (find_none (has_id c.args.id) c.self.inside.records.items c.in_err-place.ensures.absent) ∙ ap (find (has_id c.args.id)) c.self.view_is
+    c.from_residual.ensures ∙ sym (find-none (has_id c.args.id) c.self.inside.records.items c.in_err-place.ensures.absent) ∙ ap (find (has_id c.args.id)) c.self.view_is
 
 pub returns-in_err-place-clause-rest : goal.returns-in_err-place-clause-rest
 returns-in_err-place-clause-rest c = rw (← c.self.view_is) (sym (filter_all (has_id c.args.id) c.self.inside.records.items c.in_err-place.ensures.absent))
@@ -34,4 +35,4 @@ returns-clause-value c =
 pub returns-clause-rest : goal.returns-clause-rest
 returns-clause-rest c =
     let left = rw c.unwrap-removed.ensures at c.remove.ensures.items in
-    left ∙ remove-place c.args.id c.self.inside.records.items c.in_ok-place.place c.self.invariant.in_order c.in_ok-place.ensures.found.1 ∙ ap (filter (λ r. not (has_id c.args.id r))) c.self.view_is
+    left ∙ remove-place c.args.id c.self.inside.records.items c.in_ok-place.place c.self.invariant.in_order c.in_ok-place.ensures.found ∙ ap (filter (λ r. not (has_id c.args.id r))) c.self.view_is

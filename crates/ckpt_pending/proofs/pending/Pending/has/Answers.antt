@@ -3,12 +3,14 @@ use Rattle.std.specs.Result.{is_ok}
 use Rattle.ckpt_ids.specs.declared.subtask.SubtaskId.{SubtaskId}
 use Rattle.ckpt_ids.specs.declared.ack.Acked.{Acked}
 use Rattle.ckpt_ids.specs.Records.{has_acknowledged}
-use Rattle.ckpt_pending.specs.Acknowledging.{BelongsAt, LiesAt}
+use Rattle.ckpt_ids.specs.Acknowledged.{is_before}
+use Rattle.ckpt_ids.specs.Places.{BelongsAt, LiesAt}
+use Rattle.ckpt_pending.specs.Acknowledging.{subtask_of}
 use Rattle.ckpt_pending.proofs.AckLemmas.{acked}
 use Rattle.ckpt_pending.proofs.PlaceLemmas.{acked_at, acked_nowhere}
 use Rattle.ckpt_pending.proofs.pending.Pending.has.Goals as goal
 
-found : (s : SubtaskId) (acks : List Acked) (r : Result ℕ ℕ) → IfOk r (LiesAt s acks) → IfErr r (BelongsAt s acks) → is_ok r ≡ acked acks s
+found : (s : SubtaskId) (acks : List Acked) (r : Result ℕ ℕ) → IfOk r (LiesAt subtask_of s acks) → IfErr r (BelongsAt is_before subtask_of s acks) → is_ok r ≡ acked acks s
 found s acks (Ok place) h k = sym (acked_at s acks place h)
 found s acks (Err place) h k = sym (acked_nowhere s acks place k)
 

@@ -2,11 +2,12 @@ use Rattle.std.proofs.Common.{◌≡◌, ◌∙◌, ℕ, ◌+◌, ◌<◌, ◌�
 use Rattle.std.specs.List.{filter, remove}
 use Rattle.std.proofs.lemmas.Bool.{both_ways}
 use Rattle.ckpt_ids.specs.declared.subtask.SubtaskId.{SubtaskId}
-use Rattle.ckpt_ids.specs.Acknowledged.{AreInSubtaskOrder}
+use Rattle.ckpt_ids.specs.Acknowledged.{AreInSubtaskOrder, is_before}
+use Rattle.ckpt_ids.specs.Places.{BelongsAt, LiesAt}
 use Rattle.ckpt_ids.specs.Shapes.{same_subtask}
 use Rattle.ckpt_ids.specs.declared.ack.Acked.{Acked}
 use Rattle.ckpt_ids.specs.Records.{Record, missing, has_acknowledged}
-use Rattle.ckpt_pending.specs.Acknowledging.{pending_record, without_ack, BelongsAt, IsCounted, LiesAt}
+use Rattle.ckpt_pending.specs.Acknowledging.{pending_record, subtask_of, without_ack, IsCounted}
 use Rattle.ckpt_pending.proofs.AckLemmas.{acked}
 use Rattle.ckpt_pending.proofs.PendingLemmas.{IsCounted-without, missing-without_ack, missing_bound}
 use Rattle.ckpt_pending.proofs.PlaceLemmas.{acked_nowhere, remove_at}
@@ -16,14 +17,14 @@ on_some : {X : Type 0} (r : Option X) (P : Type 0) → IsSome r → OnSome r P �
 on_some None P h k = absurd (cc h)
 on_some (Some x) P h k = k
 
-there : (s : SubtaskId) (acks : List Acked) (r : Result ℕ ℕ) → acked acks s ≡ true → IfErr r (BelongsAt s acks) → IsOk r
+there : (s : SubtaskId) (acks : List Acked) (r : Result ℕ ℕ) → acked acks s ≡ true → IfErr r (BelongsAt is_before subtask_of s acks) → IsOk r
 there s acks (Ok place) h k = refl
 there s acks (Err place) h k = absurd (both_ways (acked acks s) (acked_nowhere s acks place k) h)
 
-removed : (s : SubtaskId) (acks left : List Acked) (place : ℕ) (found : Result ℕ ℕ) (r : Option Acked) → AreInSubtaskOrder acks → found ≡ Ok place → IfOk found (LiesAt s acks) → (IsSome r ↔ (place < length acks)) → OnSome r (left ≡ remove acks place) → left ≡ filter (λ a. not (same_subtask s a.subtask)) acks
+removed : (s : SubtaskId) (acks left : List Acked) (place : ℕ) (found : Result ℕ ℕ) (r : Option Acked) → AreInSubtaskOrder acks → found ≡ Ok place → IfOk found (LiesAt subtask_of s acks) → (IsSome r ↔ (place < length acks)) → OnSome r (left ≡ remove acks place) → left ≡ filter (λ a. not (same_subtask s a.subtask)) acks
 removed s acks left place found r a e lies some is =
-    let P : Result ℕ ℕ → Type 0 = λ q. IfOk q (LiesAt s acks) in
-    let at : LiesAt s acks place = subst P e lies in
+    let P : Result ℕ ℕ → Type 0 = λ q. IfOk q (LiesAt subtask_of s acks) in
+    let at : LiesAt subtask_of s acks place = subst P e lies in
     on_some r _ (some.1 at.0) is ∙ remove_at s acks place a at
 
 pub unwrap-place-requires : goal.unwrap-place-requires

@@ -6,6 +6,7 @@ use Rattle.ckpt_ids.specs.Ascending.{ascending}
 use Rattle.ckpt_ids.specs.Counting.{times}
 use Rattle.ckpt_ids.specs.Ordered.{IsIn, in_order_once}
 use Rattle.ckpt_ids.specs.Records.{Use, Subtask, count, use_before}
+use Rattle.ckpt_ids.proofs.CountLemmas.{times_at_most_once}
 use Rattle.ckpt_ids.proofs.ResultLemmas.{on_each_error}
 use Rattle.ckpt_registry.specs.declared.pins.Pinner.{Pinner}
 use Rattle.ckpt_registry.specs.Counters.{counter}
@@ -31,7 +32,7 @@ count_each-requires-clause-fits c = λ f h.
       small,
       named,
       same,
-      c.requires.each_once f,
+      times_at_most_once f c.args.files.now c.requires.each_once,
       counter-unchanged r.counts c.reserve.new.self c.in_ok-reserve.ensures.entries f,
       count-in_use r.acknowledged r.pinned.items r.counts (vec_capacity r.released) c.self.invariant.0 f,
     )

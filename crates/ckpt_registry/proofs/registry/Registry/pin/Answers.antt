@@ -10,7 +10,9 @@ use Rattle.ckpt_registry.specs.Holdings.{Acknowledged, parts_of}
 use Rattle.ckpt_registry.specs.Pins.{IsKept}
 use Rattle.ckpt_registry.specs.Sound.{IsSound, in_use}
 use Rattle.ckpt_registry.specs.Uses.{HasNoUse, IsEachOnce, triples}
-use Rattle.ckpt_registry.proofs.ListLemmas.{IsEachOnce-from_ascending}
+use Rattle.ckpt_ids.proofs.AscendingLemmas.{numbers_in_order}
+use Rattle.ckpt_ids.proofs.CountLemmas.{times_at_most_once}
+use Rattle.ckpt_ids.proofs.OrderedLemmas.{AreDistinct-from_order}
 use Rattle.ckpt_registry.proofs.RegistryLemmas.{IsSound-pinned, below-in_use, below_more, count-in_use, in_use-none, in_use-pinned, is_present-in_use}
 use Rattle.ckpt_registry.proofs.registry.Registry.pin.Goals as goal
 
@@ -35,7 +37,7 @@ count_reused-requires-clause-fits c = λ f h.
     let small = c.requires.below f (subst P c.as_slice-files.ensures.files h) in
     let once : times f c.as_slice-files.result.now ≡ times f c.args.files.now = ap (times f) c.as_slice-files.ensures.files in
     let same : count (in_use r.acknowledged r.pinned.items) f ≡ count c.args.self.now f = ap (λ (us : List Use). count us f) c.self.view_is in
-    omega (arith, small, once, same, IsEachOnce-from_ascending c.args.files.now c.requires.ascending f, count-in_use r.acknowledged r.pinned.items r.counts (vec_capacity r.released) c.self.invariant.0 f)
+    omega (arith, small, once, same, times_at_most_once f c.args.files.now (AreDistinct-from_order numbers_in_order c.args.files.now c.requires.ascending), count-in_use r.acknowledged r.pinned.items r.counts (vec_capacity r.released) c.self.invariant.0 f)
 
 pub invariant_of-self-2 : goal.invariant_of-self-2
 invariant_of-self-2 c =
@@ -46,7 +48,7 @@ invariant_of-self-2 c =
     let room = vec_capacity r.released in
     let one : Pinner = record { id = c.args.id; chosen = c.args.id; parts = 0; files = c.in_ok-own.own } in
     let own : c.in_ok-own.own.items ≡ files = c.in_ok-own.ensures.items ∙ c.as_slice-files.ensures.files in
-    let each : IsEachOnce files = IsEachOnce-from_ascending files c.requires.ascending in
+    let each : IsEachOnce files = AreDistinct-from_order numbers_in_order files c.requires.ascending in
     let H : List Use → Type 0 = λ us. HasNoUse us c.args.id Pin in
     let Q : List Use → Type 0 = λ us. (f : ℕ) → count us f + times f files < 2 ^ 32 in
     let B : List Use → Type 0 = λ us. (f : ℕ) → count us f < 2 ^ 32 in

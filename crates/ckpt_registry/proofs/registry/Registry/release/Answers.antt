@@ -15,7 +15,7 @@ invariant_of-self c =
     let e = c.release_each.ensures in
     let after = c.release_each.new in
     let owners = c.args.owners.now in
-    let fits : index_map_len after.counts ≤ vec_capacity c.sort.new.files = omega (arith, c.self.invariant.0.has_room, e.len, e.capacity, c.sort.ensures.capacity, c.clear.ensures.len, c.clear.ensures.capacity) in (
+    let fits : index_map_len after.counts ≤ vec_capacity c.sort.new.files = omega (arith, c.self.invariant.0.has_room, e.released.len, e.released.capacity, c.sort.ensures.capacity, c.clear.ensures.len, c.clear.ensures.capacity) in (
       IsSound-filtered r.acknowledged r.pinned.items after.acknowledged after.pinned.items r.counts after.counts (vec_capacity r.released) (vec_capacity c.sort.new.files) (λ u. not (is_owned owners u)) c.self.invariant.0 e.counted
           (stored-without r.acknowledged r.pinned.items after.acknowledged after.pinned.items owners e.uses e.pins) fits,
       e.spare,
@@ -31,7 +31,7 @@ returns c =
     let owners = c.args.owners.now in
     let uses : List Use = c.args.self.now in
     let room = vec_capacity c.sort.new.files in
-    let fits : index_map_len after.counts ≤ vec_capacity c.sort.new.files = omega (arith, c.self.invariant.0.has_room, e.len, e.capacity, c.sort.ensures.capacity, c.clear.ensures.len, c.clear.ensures.capacity) in
+    let fits : index_map_len after.counts ≤ vec_capacity c.sort.new.files = omega (arith, c.self.invariant.0.has_room, e.released.len, e.released.capacity, c.sort.ensures.capacity, c.clear.ensures.len, c.clear.ensures.capacity) in
     let kept = stored-without r.acknowledged p after.acknowledged q owners e.uses e.pins in
     let sound : IsSound after.acknowledged q after.counts room = IsSound-filtered r.acknowledged p after.acknowledged q r.counts after.counts (vec_capacity r.released) room (λ u. not (is_owned owners u)) c.self.invariant.0 e.counted kept fits in
     let view : in_use after.acknowledged q ≡ without owners uses = in_use-filtered r.acknowledged p after.acknowledged q (λ u. not (is_owned owners u)) kept ∙ ap (without owners) c.self.view_is in
@@ -40,6 +40,6 @@ returns c =
       (refl, λ _. tt, view),
       record {
         after = tt;
-        files = c.as_slice.ensures.value ∙ released-sorted _ _ _ r.counts after.counts uses (without owners uses) c.sort.ensures.permutation c.sort.ensures.sorted c.clear.ensures.items e.released had has;
+        files = c.as_slice.ensures.value ∙ released-sorted _ _ _ r.counts after.counts uses (without owners uses) c.sort.ensures.permutation c.sort.ensures.sorted c.clear.ensures.items e.released.each had has;
       },
     )

@@ -2,7 +2,7 @@ use Rattle.std.proofs.Common.{◌≡◌, ℕ, ◌+◌, ◌<◌, ◌≤◌, ◌++
 use Rattle.std.specs.Vec.{vec_capacity}
 use Rattle.std.proofs.lemmas.Bool.{ltb-true, ltb-false}
 use Rattle.indexmap.specs.IndexMap.{index_map_len}
-use Rattle.ckpt_ids.specs.Ordered.{IsIn, in_order_once}
+use Rattle.ckpt_ids.specs.Ordered.{AreDistinct, IsIn, in_order_once}
 use Rattle.ckpt_ids.specs.Records.{Use, Subtask, count, is_present, use_before}
 use Rattle.ckpt_registry.specs.Counters.{counter}
 use Rattle.ckpt_registry.specs.Holdings.{uses_in}
@@ -17,12 +17,11 @@ use Rattle.ckpt_registry.proofs.PinLemmas.{pins_in-extended}
 use Rattle.ckpt_registry.proofs.SoundLemmas.{AreCounted-kept}
 use Rattle.ckpt_registry.proofs.registry.Registry.use_files.Goals as goal
 use Rattle.ckpt_ids.specs.Counting.{times}
-use Rattle.ckpt_ids.proofs.CountLemmas.{times-append}
+use Rattle.ckpt_ids.proofs.CountLemmas.{times-append, times_at_most_once}
+use Rattle.ckpt_ids.proofs.OrderedLemmas.{AreDistinct-left}
 
 pub count_fresh-requires-clause-each_once : goal.count_fresh-requires-clause-each_once
-count_fresh-requires-clause-each_once c = λ f.
-    let same : times f c.as_slice-fresh.result.now ≡ times f c.args.fresh.now = ap (times f) c.as_slice-fresh.ensures.files in
-    omega (arith, c.requires.each_once f, times-append f c.args.fresh.now c.args.reused.now)
+count_fresh-requires-clause-each_once c = subst AreDistinct (sym c.as_slice-fresh.ensures.files) (AreDistinct-left c.args.fresh.now c.args.reused.now c.requires.each_once)
 
 pub count_fresh-requires-clause-absent : goal.count_fresh-requires-clause-absent
 count_fresh-requires-clause-absent c = λ f h.
@@ -54,7 +53,7 @@ count_reused-requires-clause-fits c = λ f h.
       same,
       fresh,
       reused,
-      c.requires.each_once f,
+      times_at_most_once f (c.args.fresh.now ++ c.args.reused.now) c.requires.each_once,
       times-append f c.args.fresh.now c.args.reused.now,
       c.count_fresh.ensures.counted f,
       counter-unchanged r.counts c.reserve.new.self c.in_ok-reserve.ensures.entries f,

@@ -3,7 +3,7 @@ use Rattle.std.specs.VecDeque.{deque_len, deque_capacity}
 use Rattle.ckpt_ids.specs.Ordered.{put}
 use Rattle.ckpt_ids.specs.Records.{Record}
 use Rattle.ckpt_store.specs.Storing.{by_id, has_savepoint}
-use Rattle.ckpt_store.proofs.RowLemmas.{insert-partition}
+use Rattle.ckpt_ids.proofs.PlaceLemmas.{insert-put}
 use Rattle.ckpt_store.proofs.StoreLemmas.{IsStored-add}
 use Rattle.ckpt_store.proofs.store.Store.add_savepoint.Goals as goal
 
@@ -19,7 +19,7 @@ invariant_of-self c =
     let one : 1 ≤ c.args.self.now.spare = c.requires.room in
     let room : deque_len c.self.inside.savepoints < deque_capacity c.self.inside.savepoints = omega arith in
     let full : deque_capacity c.self.inside.savepoints ≤ deque_len c.self.inside.savepoints → ⊥ = λ no. omega arith in
-    let put : c.insert.new.self.items ≡ put by_id c.args.done row = on_ok c.insert.result c.insert.ensures.items c.insert.ensures.full full ∙ insert-partition c.args.done row c.place_for-place.result c.place_for-place.ensures.bound (rw (← c.id.ensures.value) c.place_for-place.ensures.parted) in
+    let put : c.insert.new.self.items ≡ put by_id c.args.done row = on_ok c.insert.result c.insert.ensures.items c.insert.ensures.full full ∙ insert-put by_id c.args.done row c.place_for-place.result c.place_for-place.ensures.bound (rw (← c.id.ensures.value) c.place_for-place.ensures.parted) in
     let count : length row ≡ length c.args.self.now.savepoints = ap (λ s. length s.savepoints) c.self.view_is in
     let few : length row + 1 < 2 ^ 32 = omega (arith, c.requires.few) in
     rw put (IsStored-add _ c.args.done _ c.self.invariant c.id.ensures.done c.requires.savepoint (ap (λ s. has_savepoint s c.args.done.id) c.self.view_is ∙ c.requires.new) few)
@@ -31,5 +31,5 @@ returns-clause-value c =
     let one : 1 ≤ c.args.self.now.spare = c.requires.room in
     let room : deque_len c.self.inside.savepoints < deque_capacity c.self.inside.savepoints = omega arith in
     let full : deque_capacity c.self.inside.savepoints ≤ deque_len c.self.inside.savepoints → ⊥ = λ no. omega arith in
-    let put : c.insert.new.self.items ≡ put by_id c.args.done row = on_ok c.insert.result c.insert.ensures.items c.insert.ensures.full full ∙ insert-partition c.args.done row c.place_for-place.result c.place_for-place.ensures.bound (rw (← c.id.ensures.value) c.place_for-place.ensures.parted) in
+    let put : c.insert.new.self.items ≡ put by_id c.args.done row = on_ok c.insert.result c.insert.ensures.items c.insert.ensures.full full ∙ insert-put by_id c.args.done row c.place_for-place.result c.place_for-place.ensures.bound (rw (← c.id.ensures.value) c.place_for-place.ensures.parted) in
     rw (← c.self.view_is, put) refl

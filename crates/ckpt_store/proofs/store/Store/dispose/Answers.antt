@@ -3,7 +3,6 @@ use Rattle.std.specs.List.{remove}
 use Rattle.std.specs.VecDeque.{deque_len}
 use Rattle.std.proofs.lemmas.Bool.{both_ways, eq-eqb}
 use Rattle.ckpt_store.specs.Storing.{has_savepoint}
-use Rattle.ckpt_store.specs.Places.{IsPlaceOf}
 use Rattle.ckpt_store.proofs.RowLemmas.{has_place, remove-place}
 use Rattle.ckpt_store.proofs.StoreLemmas.{IsStored-dispose}
 use Rattle.ckpt_store.proofs.store.Store.dispose.Goals as goal
@@ -25,21 +24,18 @@ returns-in_default-clause-in_use c =
 
 pub invariant_of-self : goal.invariant_of-self
 invariant_of-self c =
-    let placed : IsPlaceOf c.args.id c.self.inside.savepoints.items c.in-Ok.place = c.in-Ok.ensures.found.1 in
     let unused : c.self.inside.base ≡ Some c.args.id → ⊥ = λ e. both_ways c.eq.result c.if-eq.false (c.eq.ensures ∙ rw e (eq-eqb c.args.id c.args.id refl)) in
     let within : c.in-Ok.place < deque_len c.self.inside.savepoints = rw c.self.inside.savepoints.ok.0 c.in-Ok.ensures.found.0 in
     let removed : c.remove.new.self.items ≡ remove c.self.inside.savepoints.items c.in-Ok.place = on_some c.remove.result c.remove.ensures.items (c.remove.ensures.variant.1 within) in
-    rw (removed, remove-place c.args.id c.self.inside.savepoints.items c.in-Ok.place c.self.invariant.savepoints_rise placed) (IsStored-dispose _ c.args.id _ c.self.invariant unused)
+    rw (removed, remove-place c.args.id c.self.inside.savepoints.items c.in-Ok.place c.self.invariant.savepoints_rise c.in-Ok.ensures.found) (IsStored-dispose _ c.args.id _ c.self.invariant unused)
 
 pub returns-clause-absent : goal.returns-clause-absent
 returns-clause-absent c =
-    let placed : IsPlaceOf c.args.id c.self.inside.savepoints.items c.in-Ok.place = c.in-Ok.ensures.found.1 in
-    let has : has_savepoint c.args.self.now c.args.id ≡ true = ap (λ s. has_savepoint s c.args.id) (sym c.self.view_is) ∙ has_place c.args.id c.self.inside.savepoints.items c.in-Ok.place placed in
+    let has : has_savepoint c.args.self.now c.args.id ≡ true = ap (λ s. has_savepoint s c.args.id) (sym c.self.view_is) ∙ has_place c.args.id c.self.inside.savepoints.items c.in-Ok.place c.in-Ok.ensures.found in
     (λ e. absurd (cc), λ h. absurd (both_ways (has_savepoint c.args.self.now c.args.id) h has))
 
 pub returns-clause-ok : goal.returns-clause-ok
 returns-clause-ok c =
-    let placed : IsPlaceOf c.args.id c.self.inside.savepoints.items c.in-Ok.place = c.in-Ok.ensures.found.1 in
     let within : c.in-Ok.place < deque_len c.self.inside.savepoints = rw c.self.inside.savepoints.ok.0 c.in-Ok.ensures.found.0 in
     let removed : c.remove.new.self.items ≡ remove c.self.inside.savepoints.items c.in-Ok.place = on_some c.remove.result c.remove.ensures.items (c.remove.ensures.variant.1 within) in
-    rw (← c.self.view_is, removed, remove-place c.args.id c.self.inside.savepoints.items c.in-Ok.place c.self.invariant.savepoints_rise placed) refl
+    rw (← c.self.view_is, removed, remove-place c.args.id c.self.inside.savepoints.items c.in-Ok.place c.self.invariant.savepoints_rise c.in-Ok.ensures.found) refl

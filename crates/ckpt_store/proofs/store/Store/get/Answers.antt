@@ -3,8 +3,8 @@ use Rattle.std.specs.Prelude.{slice_get}
 use Rattle.std.specs.List.{list_any}
 use Rattle.std.specs.Option.{option_copied}
 use Rattle.ckpt_store.specs.Storing.{Stored, has_id, record_of}
-use Rattle.ckpt_store.specs.Places.{IsPlaceOf}
-use Rattle.ckpt_store.proofs.RowLemmas.{find-place, find_none, copied_from_get}
+use Rattle.ckpt_ids.proofs.PlaceLemmas.{find-none}
+use Rattle.ckpt_store.proofs.RowLemmas.{find-place, copied_from_get}
 use Rattle.ckpt_store.proofs.StoreLemmas.{record_of_place, record_of_later}
 use Rattle.ckpt_store.proofs.store.Store.get.Goals as goal
 
@@ -13,19 +13,18 @@ returns-in-Ok-clause-value c =
     let s : Stored = record { retained = c.self.inside.retained; checkpoints = c.self.inside.checkpoints.items; savepoints = c.self.inside.savepoints.items; base = c.self.inside.base; spare = 0 } in
     let same : record_of s c.args.id ≡ record_of c.args.self.now c.args.id = ap (λ q. record_of q c.args.id) c.self.view_is in
     let got : option_copied c.get.result ≡ slice_get c.self.inside.checkpoints.items c.in-Ok.place = copied_from_get c.get.result c.self.inside.checkpoints.items c.in-Ok.place c.get.ensures.item.0 c.get.ensures.lookup in
-    got ∙ record_of_place s c.args.id c.in-Ok.place c.self.invariant.checkpoints_rise c.in-Ok.ensures.found.1 ∙ same
+    got ∙ record_of_place s c.args.id c.in-Ok.place c.self.invariant.checkpoints_rise c.in-Ok.ensures.found ∙ same
 
 pub returns-in-Ok-place_of-clause-value : goal.returns-in-Ok-place_of-clause-value
 returns-in-Ok-place_of-clause-value c =
     let s : Stored = record { retained = c.self.inside.retained; checkpoints = c.self.inside.checkpoints.items; savepoints = c.self.inside.savepoints.items; base = c.self.inside.base; spare = 0 } in
     let same : record_of s c.args.id ≡ record_of c.args.self.now c.args.id = ap (λ q. record_of q c.args.id) c.self.view_is in
     let got : option_copied c.get-in-Ok-place_of.result ≡ slice_get c.self.inside.savepoints.items c.in-Ok-place_of.place = copied_from_get c.get-in-Ok-place_of.result c.self.inside.savepoints.items c.in-Ok-place_of.place c.get-in-Ok-place_of.ensures.item.0 c.get-in-Ok-place_of.ensures.lookup in
-    let placed : IsPlaceOf c.args.id c.self.inside.savepoints.items c.in-Ok-place_of.place = c.in-Ok-place_of.ensures.found.1 in
-    got ∙ find-place c.args.id c.self.inside.savepoints.items c.in-Ok-place_of.place c.self.invariant.savepoints_rise placed ∙ record_of_later s c.args.id c.in_default.ensures.absent ∙ same
+    got ∙ find-place c.args.id c.self.inside.savepoints.items c.in-Ok-place_of.place c.self.invariant.savepoints_rise c.in-Ok-place_of.ensures.found ∙ record_of_later s c.args.id c.in_default.ensures.absent ∙ same
 
 pub returns-in-Err-clause-value : goal.returns-in-Err-clause-value
 returns-in-Err-clause-value c =
     let s : Stored = record { retained = c.self.inside.retained; checkpoints = c.self.inside.checkpoints.items; savepoints = c.self.inside.savepoints.items; base = c.self.inside.base; spare = 0 } in
     let same : record_of s c.args.id ≡ record_of c.args.self.now c.args.id = ap (λ q. record_of q c.args.id) c.self.view_is in
     let absent : list_any (has_id c.args.id) c.self.inside.savepoints.items ≡ false = c.in-Err.ensures.absent in
-    sym (find_none (has_id c.args.id) c.self.inside.savepoints.items absent) ∙ record_of_later s c.args.id c.in_default.ensures.absent ∙ same
+    sym (find-none (has_id c.args.id) c.self.inside.savepoints.items absent) ∙ record_of_later s c.args.id c.in_default.ensures.absent ∙ same
