@@ -17,10 +17,14 @@ fn joined(alloc: Global, fresh: &Files, reused: &Files) -> Result<Files, AllocEr
     requires { length fresh.now + length reused.now ≤ MOST_FILES }
     ensures { IfOk result (λ files. files ≡ ascending (fresh.now ++ reused.now)) }
 {
+    let written = fresh.as_slice();
+    if reused.is_empty() {
+        return fresh.copy();
+    }
     let mut files = Vec::with_capacity(alloc, fresh.len() + reused.len())?;
     // Files that were there before mostly have the smaller numbers, so this order leaves the least to sort.
     files.extend_from_slice(reused.as_slice())?;
-    files.extend_from_slice(fresh.as_slice())?;
+    files.extend_from_slice(written)?;
     Ok(Files::of(files))
 }
 

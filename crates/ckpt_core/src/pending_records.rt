@@ -126,6 +126,10 @@ impl PendingRecords {
     pub(crate) fn remove_all(&mut self, ids: &[CheckpointId])
         ensures { self.new ≡ filter (λ r. not (list_any (λ i. r.id == i) ids.now)) self.old }
     {
+        // Mostly a checkpoint completes as the last that is pending.
+        if self.records.is_empty() {
+            return;
+        }
         for id in ids {
             self.remove(*id);
         }
