@@ -1,5 +1,6 @@
 -- What private functions say of the parts; no promise of a public function rests on believing it.
 pub mod Completing
+pub mod Expiring
 pub mod FileFacts
 pub mod Grouped
 pub mod Loading

@@ -104,7 +104,9 @@ handed_by m call = drop (length m.waiting) (step m call).0.waiting
 
 -- each time that a file is registered it is handed out once, or is present still
 abbrev pub Balance : Opening → List Call → Type 0
-Balance o calls = (f : ℕ) → times f (along registered_by (opened o) calls) ≡ times f (along handed_by (opened o) calls) + one_if (is_present (uses (replay (opened o) calls).records) f)
+Balance o calls =
+    let m : State = replay (opened o) calls in
+    (f : ℕ) → times f (along registered_by (opened o) calls) ≡ times f (along handed_by (opened o) calls) + one_if (is_present (uses m.records) f)
 
 -- the files of accepted Deleted calls
 abbrev pub deleted_as : Answer → List ℕ
@@ -127,15 +129,22 @@ NoneAgain gone m (call ∷ calls) = ShareNone gone (new_by m call) × NoneAgain 
 
 -- where no deleted file is reported as new again, a file was handed out exactly when it was registered and no live record uses it
 abbrev pub Handed : Opening → List Call → Type 0
-Handed o calls = NoneAgain [] (opened o) calls → (f : ℕ) → IsIn f (along handed_by (opened o) calls) ↔ (IsIn f (along registered_by (opened o) calls) × (count (uses (replay (opened o) calls).records) f ≡ 0))
+Handed o calls =
+    let m : State = replay (opened o) calls in
+    NoneAgain [] (opened o) calls
+    → (f : ℕ) → IsIn f (along handed_by (opened o) calls) ↔ (IsIn f (along registered_by (opened o) calls) × (count (uses m.records) f ≡ 0))
 
 -- a registered file that no live record uses waits for deletion, or was fetched for it, or was deleted
 abbrev pub Accounted : Opening → List Call → Type 0
-Accounted o calls = (f : ℕ) → IsIn f (along registered_by (opened o) calls) → count (uses (replay (opened o) calls).records) f ≡ 0 → in_outbox (replay (opened o) calls) f ≡ false → IsIn f (along deleted_by (opened o) calls)
+Accounted o calls =
+    let m : State = replay (opened o) calls in
+    (f : ℕ) → IsIn f (along registered_by (opened o) calls) → count (uses m.records) f ≡ 0 → in_outbox m f ≡ false → IsIn f (along deleted_by (opened o) calls)
 
 -- a file once handed out is used by no live record, then or later, where no deleted file is reported as new again
 abbrev pub UsedNoMore : Opening → List Call → List Call → Type 0
-UsedNoMore o before calls = NoneAgain [] (opened o) (before ++ calls) → (f : ℕ) → IsIn f (along handed_by (opened o) before) → count (uses (replay (opened o) (before ++ calls)).records) f ≡ 0
+UsedNoMore o before calls =
+    let m : State = replay (opened o) (before ++ calls) in
+    NoneAgain [] (opened o) (before ++ calls) → (f : ℕ) → IsIn f (along handed_by (opened o) before) → count (uses m.records) f ≡ 0
 
 -- each file is in at most one of present, waiting and taken, and there once
 abbrev pub Outbox : Opening → List Call → Type 0
@@ -150,7 +159,9 @@ accepted_by id m call = []
 
 -- a live record's acknowledgements are exactly the accepted ones of its number, by subtask; a done one has one of each subtask
 abbrev pub Acknowledgements : Opening → List Call → Type 0
-Acknowledgements o calls = (r : Record) → IsIn r (replay (opened o) calls).records → (r.acks ≡ in_order acknowledges_before (along (accepted_by r.id) (opened o) calls)) × (r.done ≡ true → IsFull r)
+Acknowledgements o calls =
+    let m : State = replay (opened o) calls in
+    (r : Record) → IsIn r m.records → (r.acks ≡ in_order acknowledges_before (along (accepted_by r.id) (opened o) calls)) × (r.done ≡ true → IsFull r)
 
 -- the number that a call gives
 abbrev pub given_as : Answer → List ℕ

@@ -1,24 +1,14 @@
 //! The end of records: their uses are released, and the files that nothing uses are handed out.
-ghost use Rattle.std.specs.Prelude.{◌≡◌, ◌-◌, ◌≤◌, ◌++◌, ◌||◌, ◌==◌, ◌≢◌, ◌+◌, ℕ, [], true, false, find, length, map, Some, IsSome, vec_capacity, vec_len};
+ghost use Rattle.std.specs.Prelude.{◌≡◌, ◌-◌, ◌≤◌, ◌++◌, ◌||◌, ◌==◌, ◌≢◌, ◌+◌, [], true, false, find, length, map, Some, IsSome, vec_capacity, vec_len};
 ghost use Rattle.ckpt_core.specs.Inside.FileFacts.{after_end, is_known, is_present, released, without};
 ghost use Rattle.ckpt_core.specs.Inside.Moving.{releasing, without_checkpoints};
 ghost use Rattle.ckpt_core.specs.Inside.Parts.{AreInUseAlone, AreSound, AreTied, Drops, NotesPendingOnly, is_noted, present_in, records_in};
-ghost use Rattle.ckpt_core.specs.Inside.RecordFacts.{IsIn, IsInOrder, IsPending, IsStored, Record, has_savepoint, id_before, is_done_checkpoint, is_pending};
+ghost use Rattle.ckpt_core.specs.Inside.RecordFacts.{IsInOrder, has_savepoint, id_before, is_done_checkpoint, is_pending};
 
 use crate::parts::Parts;
 use ckpt_ids::CheckpointId;
 
 impl Parts {
-    /// Changes nothing: its contract tells that pending records are beside the store, and done ones
-    /// in it.
-    pub(crate) fn recall_groups(&self)
-        ensures pending { (r : Record) → IsIn r self.now.pending → IsPending r }
-        ensures stored { IsStored self.now.store }
-    {
-        self.pending.recall();
-        let _ = self.store.savepoints();
-    }
-
     /// Releases the uses of the records whose numbers were noted, hands out the files that no
     /// record uses any more, and answers how many these are. Takes no memory.
     #[inline(never)]

@@ -22,6 +22,7 @@ mod parts;
 mod pending_records;
 pub mod queries;
 mod reads;
+mod recall;
 pub mod recovery;
 mod refusals;
 mod reopening;

@@ -86,8 +86,7 @@ impl Parts {
         ensures rest { OnOk result (self.new ≡ with_pending self.old self.new) }
         ensures noted { OnOk result (self.new.ended.items ≡ self.old.ended.items) }
     {
-        // Tells that the uses stand in order.
-        let _ = self.registry.present();
+        self.recall_uses();
         self.make_room()?;
         register(&mut self.registry, pending.id(), acks, pins)?;
         self.pending.add(pending)?;
@@ -110,8 +109,7 @@ impl Parts {
         ensures rest { OnOk result (self.new ≡ with_done self.old self.new) }
         ensures noted { OnOk result (self.new.ended.items ≡ self.old.ended.items) }
     {
-        // Tells that the uses stand in order.
-        let _ = self.registry.present();
+        self.recall_uses();
         self.make_room()?;
         self.store.reserve()?;
         let none = Files::of(Vec::new(self.alloc));
@@ -135,8 +133,7 @@ impl Parts {
         ensures rest { OnOk result (self.new ≡ with_done self.old self.new) }
         ensures noted { OnOk result (self.new.ended.items ≡ self.old.ended.items) }
     {
-        // Tells that the uses stand in order.
-        let _ = self.registry.present();
+        self.recall_uses();
         self.make_room()?;
         self.store.reserve()?;
         let none = Files::of(Vec::new(self.alloc));
@@ -206,8 +203,7 @@ impl Parts {
         ensures yes { IsTrue result → HasRoom (opening_of self.now.opened) (records_in self.now) (record_in saved.now) }
         ensures no { result ≡ false → HasRoom (opening_of self.now.opened) (records_in self.now) (record_in saved.now) → ⊥ }
     {
-        // what the pending records ensure: they are not done
-        self.pending.recall();
+        self.recall_groups();
         let checkpoints = self.store.checkpoints();
         let pending = self.pending.checkpoints();
         let savepoints = self.pending.savepoints() + self.store.savepoints() as usize;
@@ -297,9 +293,8 @@ impl Parts {
     {
         // Tells that the configuration is within its limits.
         let _ = self.opened.config.retained();
-        // what the store and the pending records ensure, which ties their records to the state
-        let _ = self.store.base();
-        self.pending.recall();
+        self.recall_groups();
+        // Tells that the record is done.
         let _ = done.id();
         match saved.metadata.kind {
             Kind::Checkpoint => self.load_checkpoint(done, &saved.metadata.acks),

@@ -13,12 +13,14 @@ use crate::parts::Parts;
 use ckpt_ids::{CheckpointId, Choice, Kind};
 use ckpt_pending::{Done, Pending};
 
-/// A live record: its number, whether it is a checkpoint or a savepoint, and whether it is done or
-/// pending.
+/// A live record in short.
 #[derive(Clone, Copy, Debug, PartialEq, Eq)]
 pub struct Live {
+    /// Its number.
     pub id: CheckpointId,
+    /// Whether it is a checkpoint or a savepoint.
     pub kind: Kind,
+    /// Whether it is done; otherwise it is pending.
     pub done: bool,
 }
 
@@ -113,10 +115,7 @@ impl Parts {
         requires { AreSound self.now }
         ensures { IsNextExpiry (state_of self.now) result }
     {
-        // what the store ensures: its records are done
-        let _ = self.store.base();
-        // what the pending records ensure: they are not done
-        self.pending.recall();
+        self.recall_groups();
         let timeout = self.opened.config.timeout();
         let started = self.pending.least_started()?;
         Some(started + timeout)

@@ -289,8 +289,7 @@ impl Parts {
         requires { AreSound self.now }
         ensures { pending_of (records_in self.now) id ≡ option_map (with_pins self.now.registry) (option_copied result) }
     {
-        // tells that all stored records are done
-        let _ = self.store.base();
+        self.recall_groups();
         self.pending.get(id)
     }
 
@@ -299,10 +298,7 @@ impl Parts {
         requires { AreSound self.now }
         ensures { result ≡ is_done_savepoint (state_of self.now) id }
     {
-        // tells that no pending record is done
-        self.pending.recall();
-        // tells that all stored records are done
-        let _ = self.store.base();
+        self.recall_groups();
         self.store.has_savepoint(id)
     }
 
@@ -311,8 +307,7 @@ impl Parts {
         requires { AreSound self.now }
         ensures { result ≡ savepoints (state_of self.now) }
     {
-        // tells that no pending record is done
-        self.pending.recall();
+        self.recall_groups();
         self.pending.savepoints() + self.store.savepoints() as usize
     }
 }

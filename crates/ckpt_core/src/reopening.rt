@@ -93,7 +93,6 @@ impl Parts {
         ensures there { OnOk result (HasBase (state_of self.old) base) }
         ensures damaged { result ≡ Err ImageFault.Damaged → HasBase (state_of self.old) base → ⊥ }
     {
-        // what the store and the pending records ensure, which ties their records to the state
         self.recall_groups();
         let Some(id) = base else {
             return Ok(());
@@ -110,7 +109,6 @@ impl Parts {
         ensures yes { IsTrue result → self.now.mode ≢ Running → (r : Record) → IsIn r (records_in self.now) → r.done ≡ true }
         ensures no { result ≡ false → (self.now.mode ≢ Running → (r : Record) → IsIn r (records_in self.now) → r.done ≡ true) → ⊥ }
     {
-        // what the store and the pending records ensure, which ties their records to the state
         self.recall_groups();
         match self.mode {
             Mode::Running => true,

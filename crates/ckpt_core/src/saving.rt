@@ -27,7 +27,6 @@ impl Parts {
         requires { AreSound self.now }
         ensures { IfOk result (λ pins. (r : Record) → IsIn r (records_in self.now) → r.id ≡ id → r.done ≡ done → pins ≡ r.pins) }
     {
-        // what the store and the pending records ensure, which ties their records to the state
         self.recall_groups();
         if done {
             return Ok(Files::of(Vec::new(self.alloc)));

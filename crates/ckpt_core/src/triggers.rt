@@ -1,17 +1,18 @@
 //! Calls that trigger records: ticks, which let old ones expire first, and savepoints.
-ghost use Rattle.std.specs.Prelude.{◌≡◌, ℕ, ◌<◌, ◌^◌, ◌≤◌, ◌+◌, ◌-◌, [], length, OnOk, unwrap_or, IfOk, OnErr, true, vec_capacity};
+ghost use Rattle.std.specs.Prelude.{◌≡◌, ℕ, ◌<◌, ◌^◌, ◌≤◌, ◌+◌, ◌-◌, [], length, OnOk, unwrap_or, IfOk, OnErr, true, false, vec_capacity};
 ghost use Rattle.ckpt_ids.specs.declared.call.Call.TheVariants as call;
 ghost use Rattle.ckpt_ids.specs.declared.reply.Answer.TheVariants as answer;
 ghost use Rattle.ckpt_ids.specs.declared.reply.Reply.TheVariants as reply;
 ghost use Rattle.ckpt_core.specs.declared.mode.Mode.TheVariants.{Running};
 ghost use Rattle.ckpt_core.specs.Coordinator.{IsSound, answer_wants, may_want_memory};
+ghost use Rattle.ckpt_core.specs.Inside.Expiring.{IsExpiry};
 ghost use Rattle.ckpt_core.specs.Inside.Parts.{Answers, AreSound, AreTied, IsAccepted, Stays, records_in, state_of};
 ghost use Rattle.ckpt_core.specs.Inside.Starting.{Go, HasNoUse, IsIn, IsInOrder, NUMBERS_END, Pin, Starts, count, files_chosen, held_at, pinned, tick, triggered, use_before};
 
 use crate::parts::Parts;
 use ckpt_ids::{CheckpointId, Choice, Kind, Reply, Shape, TickEnd};
 use ckpt_pending::Pending;
-use ckpt_rules::Hold;
+use ckpt_rules::{Failures, Hold};
 use std::alloc::AllocError;
 
 /// What a tick has done. It is smaller than a reply, which is made of it once, where it is answered.
@@ -19,6 +20,19 @@ pub(crate) struct Ticked {
     /// How many records expired.
     pub(crate) expired: u32,
     pub(crate) end: TickEnd,
+}
+
+/// What the records that are too old at a tick come to. Their numbers are noted.
+#[derive(Drop)]
+pub(crate) struct Expiry {
+    /// How many they are.
+    expired: u32,
+    /// How many checkpoints stay pending without them.
+    left: u32,
+    /// The failures, with the checkpoints among them.
+    failures: Failures,
+    /// Whether a checkpoint is among them, and more have failed in a row than the job tolerates.
+    intolerable: bool,
 }
 
 impl Parts {
@@ -63,8 +77,7 @@ impl Parts {
         ensures tied { AreTied self.new }
         ensures noted { self.new.ended.items ≡ self.old.ended.items }
     {
-        // Tells that the uses stand in order.
-        let _ = self.registry.present();
+        self.recall_uses();
         let choice = self.choice();
         let id = CheckpointId(self.next);
         let started = self.clock.read(0);
@@ -156,26 +169,77 @@ impl Parts {
         ensures tied { AreTied self.new }
         ensures none_ended { self.new.ended.items ≡ [] }
     {
+        let expiry = self.note_expired();
+        if expiry.intolerable {
+            return Ok(self.fail_expired(expiry));
+        }
+        self.start_and_drop(expiry)
+    }
+
+    /// Notes the numbers of the records that have expired, and says what they come to.
+    fn note_expired(&mut self) -> Expiry
+        requires sound { AreSound self.old }
+        requires running { self.old.mode ≡ Running }
+        ensures parts { self.new ≡ record self.old { ended = self.new.ended } }
+        ensures tied { AreTied self.new }
+        ensures expired { IsExpiry self.new result }
+    {
         self.recall_groups();
         let moment = self.clock.read(0);
         let timeout = self.opened.config.timeout();
         let late = self.pending.note_expired(moment, timeout, &mut self.ended) as u32;
-        let expired = self.ended.len() as u32;
         let mut failures = self.failures;
-        let intolerable = failures.add(late);
-        if late > 0 && intolerable {
-            self.ended.clear();
-            self.fail_over();
-            self.failures = failures;
-            let end = TickEnd::Failed;
-            return Ok(Ticked { expired, end });
+        let are_many = failures.add(late);
+        let expired = self.ended.len() as u32;
+        let left = self.pending.checkpoints() as u32 - late;
+        let intolerable = late > 0 && are_many;
+        Expiry {
+            expired,
+            left,
+            failures,
+            intolerable,
         }
-        let pending = self.pending.checkpoints() as u32 - late;
-        match self.start_or_hold(pending) {
+    }
+
+    /// More checkpoints have failed in a row than the job tolerates: it fails over.
+    fn fail_expired(&mut self, expiry: Expiry) -> Ticked
+        requires tied { AreTied self.old }
+        requires sound { IsSound (state_of self.old) }
+        requires expired { IsExpiry self.old expiry }
+        requires intolerable { expiry.intolerable ≡ true }
+        ensures tick { tick (state_of self.old) ≡ (state_of self.new, answer.Done (reply.Ticked result.expired result.end)) }
+        ensures tied { AreTied self.new }
+        ensures none_ended { self.new.ended.items ≡ [] }
+    {
+        self.ended.clear();
+        self.fail_over();
+        self.failures = expiry.failures;
+        Ticked {
+            expired: expiry.expired,
+            end: TickEnd::Failed,
+        }
+    }
+
+    /// Triggers a checkpoint where nothing holds it back, and then drops what has expired. Where
+    /// memory runs out nothing has changed.
+    fn start_and_drop(&mut self, expiry: Expiry) -> Result<Ticked, AllocError>
+        requires tied { AreTied self.old }
+        requires sound { IsSound (state_of self.old) }
+        requires next { self.old.next < NUMBERS_END }
+        requires expired { IsExpiry self.old expiry }
+        requires tolerable { expiry.intolerable ≡ false }
+        ensures ok { IfOk result (λ ticked. tick (state_of self.old) ≡ (state_of self.new, answer.Done (reply.Ticked ticked.expired ticked.end))) }
+        ensures err { OnErr result (state_of self.new ≡ state_of self.old) }
+        ensures memory { OnErr result (answer_wants (call.Tick 0) (tick (state_of self.old)).1 ≡ true) }
+        ensures tied { AreTied self.new }
+        ensures none_ended { self.new.ended.items ≡ [] }
+    {
+        match self.start_or_hold(expiry.left) {
             Ok(end) => {
                 self.recall_groups();
                 self.drop_noted();
-                self.failures = failures;
+                self.failures = expiry.failures;
+                let expired = expiry.expired;
                 Ok(Ticked { expired, end })
             }
             Err(error) => {

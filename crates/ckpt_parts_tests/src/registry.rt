@@ -98,7 +98,7 @@ fn pins(registry: &mut Registry, id: u64, files: &Files) -> bool
     requires pinnable { IsPinnable registry.old files.now }
     ensures { MatchBool result (AreBefore registry.new (id + 1)) (registry.new ≡ registry.old) }
 {
-    registry.pin(CheckpointId(id), files).is_ok()
+    registry.pin_files(CheckpointId(id), files).is_ok()
 }
 
 // The acknowledgement of the only subtask of a record, which is the latest so far. If memory runs

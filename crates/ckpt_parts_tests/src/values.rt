@@ -22,10 +22,13 @@ fn has_three(shape: &Shape) -> bool {
         vertex: 0,
         index: 1,
     };
+    let parallelisms: [u32; 2] = [1, 2];
     shape.size() == 3
         && shape.vertices() == 2
         && shape.parallelism(1) == Some(2)
         && shape.parallelism(2).is_none()
+        && shape.as_slice() == parallelisms.as_slice()
+        && shape.iter().eq(parallelisms.iter())
         && shape.nth(2) == Some(last)
         && shape.nth(3).is_none()
         && shape.contains(last)
@@ -50,6 +53,9 @@ fn refused_memory_changes_no_shape(rt: HostRuntime) -> Result<(), Fail> {
     assert!(rt; has_three(&shape));
     let copy = shape.copy().or_else(|_| shape.copy())?;
     assert!(rt; copy == shape);
+    for parallelism in &copy {
+        assert!(rt; shape.as_slice().contains(parallelism));
+    }
     Ok(())
 }
 

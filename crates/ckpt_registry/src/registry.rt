@@ -23,7 +23,7 @@ use std::marker::Model;
 /// The time of a call grows with what it names:
 ///
 /// - `contains` is one look-up.
-/// - `use_files` and `pin` visit their k files.
+/// - `use_files`, `hold_files` and `pin_files` visit their k files.
 /// - `pin_record` visits the subtasks of the record that it pins, and the records that pin another.
 ///   If 64 others are pinned as a whole, it also sorts and counts the files of the record.
 /// - `release` and `end` visit what the named records use, and each record that pins another. A
@@ -136,34 +136,6 @@ impl Registry {
         Ok(())
     }
 
-    /// Pins files: one use for each, which keeps them present until the record ends or is dropped.
-    /// Fails only if memory runs out, and then adds none.
-    ///
-    /// Conditions: each file is named once and present, and the record has no pins yet.
-    pub fn pin(&mut self, id: CheckpointId, files: &Files) -> Result<(), AllocError>
-        requires ascending { IsAscendingSet files.now }
-        requires present { (f : ℕ) → IsIn f files.now → is_present self.old f ≡ true }
-        requires below { (f : ℕ) → IsIn f files.now → count self.old f < 2 ^ 32 - 1 }
-        requires unpinned { HasNoUse self.old id Pin }
-        ensures ok { OnOk result (self.new ≡ in_order_once use_before (self.old ++ triples id Pin files.now)) }
-        ensures err { OnErr result (self.new ≡ self.old) }
-    {
-        let alloc = *self.released.allocator();
-        if files.is_empty() {
-            return Ok(());
-        }
-        let files = files.as_slice();
-        let own = Vec::from_slice(alloc, files)?;
-        self.pinned.push(Pinner {
-            id,
-            chosen: id,
-            parts: 0,
-            files: own,
-        })?;
-        count_reused(&mut self.counts, files);
-        Ok(())
-    }
-
     /// Adds the uses of the acknowledgement of one subtask, whether its files are present or not.
     /// It serves to fill a registry again. Otherwise it is as [`Registry::use_files`].
     pub fn hold_files(
@@ -224,8 +196,8 @@ impl Registry {
 
     /// Pins the files of a live record, as it is now: one use for each. That keeps them present
     /// until record `id` ends or is dropped, even if the other record is dropped first. Does the
-    /// same as [`Registry::pin`] with these files, and visits none of them, unless 64 other records
-    /// are pinned so. Fails only if memory runs out, and then adds none.
+    /// same as [`Registry::pin_files`] with these files, and visits none of them, unless 64 other
+    /// records are pinned so. Fails only if memory runs out, and then adds none.
     ///
     /// Condition: record `id` has no pins yet. The other record may have no use.
     pub fn pin_record(&mut self, id: CheckpointId, chosen: CheckpointId) -> Result<(), AllocError>

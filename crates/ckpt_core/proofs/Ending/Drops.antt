@@ -29,9 +29,6 @@ use Rattle.ckpt_ids.proofs.CountLemmas.{counted-from_IsIn, IsIn-from_counted}
 
 -- what is present after and what is released were both present before
 
-files_of_uses : List Use → List ℕ
-files_of_uses us = map (λ u. u.file) us
-
 pub present_after : (before after : List Use) → ((u : Use) → IsIn u after → IsIn u before) → present_in after + length (released before after) ≤ present_in before
 present_after before after fewer =
     let file : Use → ℕ = λ u. u.file in

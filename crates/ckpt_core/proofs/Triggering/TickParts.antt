@@ -1,10 +1,11 @@
 -- What a tick does to the parts is what it does to the state.
-use Rattle.std.proofs.Common.{◌≡◌, ℕ, ◌+◌, ◌<◌, ◌≤◌, Bool, true, false, not, ◌&&◌, leb, List, [], ◌++◌, map, max, length, refl, sym, ap, ◌∙◌, ◌⊎◌, inl, inr, ⊎_elim, arith, None, Result, Ok, Err, OnErr}
+use Rattle.std.proofs.Common.{◌≡◌, ℕ, ◌+◌, ◌<◌, ◌≤◌, Bool, true, false, not, ◌&&◌, leb, ltb, List, [], ◌++◌, map, max, length, refl, sym, ap, ◌∙◌, ⊎_elim, arith, None, Result, Ok, Err, OnErr}
 use Rattle.std.specs.Prelude.{count_by}
 use Rattle.std.specs.List.{filter}
 use Rattle.std.specs.declared.vec.Vec.{Vec}
 use Rattle.std.specs.declared.alloc.Global.{Global}
 use Rattle.std.proofs.lemmas.Bool.{cases_Bool, both_ways, and_parts, false_from_ne_true}
+use Rattle.std.proofs.lemmas.List.{length-map}
 use Rattle.std.proofs.lemmas.List.Sums.{length-filter}
 use Rattle.std.proofs.lemmas.List.Filters.{length-filter_both}
 use Rattle.ckpt_ids.specs.declared.numbers.Kind.TheVariants as kind
@@ -26,10 +27,12 @@ use Rattle.ckpt_rules.specs.Moments.{Moments}
 use Rattle.ckpt_rules.specs.Trigger as trigger
 use Rattle.ckpt_rules.specs.Trigger.{gap}
 use Rattle.ckpt_core.specs.declared.parts.Parts.{Parts}
+use Rattle.ckpt_core.specs.declared.triggers.Expiry.{Expiry}
 use Rattle.ckpt_core.specs.Inside.Grouped.{with_pins, grouped}
 use Rattle.ckpt_core.specs.Memory.{answer_wants, may_want_memory}
 use Rattle.ckpt_core.specs.Inside.Parts.{Answers, AreSound, AreTied, IsAccepted, is_noted, records_in, state_of}
 use Rattle.ckpt_core.specs.Soundness.{IsSound, id_before}
+use Rattle.ckpt_core.specs.Inside.Expiring.{IsExpiry, is_late, late_in}
 use Rattle.ckpt_core.specs.Inside.Starting.{Starts, held_at}
 use Rattle.ckpt_core.specs.State.{State, drop, is_checkpoint, is_expired}
 use Rattle.ckpt_core.specs.Steps.{Stepped, effect, start_or_hold, tick, triggered, failed_over, dropped_by}
@@ -42,7 +45,7 @@ use Rattle.ckpt_core.proofs.Records.Lookups.{AreGroups, count_by-records_of, cou
 use Rattle.ckpt_core.proofs.Records.GroupLookups.{pending_checkpoints-groups}
 use Rattle.ckpt_core.proofs.Ending.Drops.{apart_in, numbers, noted-from_IsIn, IsIn-from_noted}
 use Rattle.ckpt_core.proofs.Soundness.Triggers.{new_record}
-use Rattle.ckpt_core.proofs.Triggering.TickStates.{is_late, started, starts_as, starts_done, starts_unused, stepped, tick_fails, tick_goes, tick_starts, ticked}
+use Rattle.ckpt_core.proofs.Triggering.TickStates.{started, starts_as, starts_done, starts_unused, stepped, tick_fails, tick_goes, tick_starts, ticked}
 use Rattle.ckpt_ids.proofs.CountLemmas.{count_by-none}
 use Rattle.ckpt_core.proofs.Answering.StepCases.{step_accepted}
 
@@ -189,14 +192,14 @@ noted_are_expired p timeout moment sound groups t m =
     (λ r d. ap (λ b. not b && leb (r.started + p.opened.config.timeout) p.clock.latest) d ∙ old_same p timeout moment t m r)
 
 -- the next record's number is not among the noted ones
-pub next_not_noted : (p : Parts) (q : Record → Bool) → IsSound (state_of p) → is_noted (numbers (filter q p.pending)) (new_record (state_of p) kind.Checkpoint) ≡ false
+next_not_noted : (p : Parts) (q : Record → Bool) → IsSound (state_of p) → (r : Record) → r.id ≡ p.next → is_noted (numbers (filter q p.pending)) r ≡ false
 unfolding state_of
-next_not_noted p q sound = false_from_ne_true (is_noted (numbers (filter q p.pending)) (new_record (state_of p) kind.Checkpoint)) (λ n.
-    let w = IsIn-from_noted (new_record (state_of p) kind.Checkpoint) (filter q p.pending) n in
+next_not_noted p q sound r next = false_from_ne_true (is_noted (numbers (filter q p.pending)) r) (λ n.
+    let w = IsIn-from_noted r (filter q p.pending) n in
     let v = IsIn-from_filter q w.0 p.pending w.1 in
     let here : IsIn (with_pins p.registry w.0) (grouped p.registry p.pending p.store.checkpoints p.store.savepoints) = IsIn-append_left (with_pins p.registry w.0) (map (with_pins p.registry) p.pending) (p.store.checkpoints ++ p.store.savepoints) (IsIn-map (with_pins p.registry) w.0 p.pending v.0) in
     let lt : w.0.id < p.next = sound.below_next (with_pins p.registry w.0) (IsIn-in_order id_before (with_pins p.registry w.0) (grouped p.registry p.pending p.store.checkpoints p.store.savepoints) here) in
-    let same : p.next ≡ w.0.id = w.2 in
+    let same : p.next ≡ w.0.id = sym next ∙ w.2 in
     omega (arith, same, lt))
 
 -- after the start
@@ -257,67 +260,63 @@ pub few_failures : (p : Parts) → AreSound p → p.mode ≡ Running → p.failu
 unfolding state_of
 few_failures p sound running = omega (arith, sound.sound.failures running, sound.sound.config.tolerable_to)
 
--- too many checkpoints were late
-pub expiry_fails : (p f : Parts) (ended : Vec ℕ Global) (failures : FailureCount) (timeout moment late expired : ℕ) → AreSound p → AreGroups p.pending p.store.checkpoints p.store.savepoints → timeout ≡ p.opened.config.timeout → moment ≡ max 0 p.clock.latest →
-    late ≡ count_by (λ r. is_old timeout moment r && is_checkpoint r) p.pending → expired ≡ length (filter (is_old timeout moment) p.pending) → failures ≡ record p.failures { number = p.failures.number + late } → 0 < late → failures.tolerable < failures.number →
-    state_of f ≡ failed_over (state_of (record p { ended = ended })) → tick (state_of p) ≡ stepped (state_of (record f { failures = failures })) (ticked expired ends.Failed)
+-- what is noted and counted is what has expired
+pub expiry_is : (p : Parts) (ended : Vec ℕ Global) (e : Expiry) (timeout moment late : ℕ) → AreSound p → AreGroups p.pending p.store.checkpoints p.store.savepoints → timeout ≡ p.opened.config.timeout → moment ≡ max 0 p.clock.latest →
+    ended.items ≡ numbers (filter (is_old timeout moment) p.pending) → late ≡ count_by (λ r. is_old timeout moment r && is_checkpoint r) p.pending → e.expired ≡ length ended.items → e.left + late ≡ count_by is_checkpoint p.pending →
+    e.failures ≡ record p.failures { number = p.failures.number + late } → e.intolerable ≡ (ltb 0 late && ltb e.failures.tolerable e.failures.number) → IsExpiry (record p { ended = ended }) e
 unfolding state_of
-expiry_fails p f ended failures timeout moment late expired sound groups t m l e counted some many after =
-    let number : failures.number ≡ p.failures.number + late = ap (λ (x : FailureCount). x.number) counted in
-    let tolerable : failures.tolerable ≡ p.opened.config.tolerable = ap (λ (x : FailureCount). x.tolerable) counted ∙ sound.tied.tolerable in
-    tick_fails (state_of p) late failures.number expired (l ∙ sym (late_counted p timeout moment groups t m)) number (e ∙ sym (expired_counted p timeout moment groups t m)) some (omega (arith, tolerable, many))
-    ∙ ap {B = Stepped} (λ (s : State). stepped (record s { failures = failures.number }) (ticked expired ends.Failed)) (sym after)
+expiry_is p ended e timeout moment late sound groups t m items l count left failures intolerable =
+    let all : late ≡ late_in (state_of p) = l ∙ sym (late_counted p timeout moment groups t m) in
+    let config : e.failures.tolerable ≡ p.opened.config.tolerable = ap (λ (x : FailureCount). x.tolerable) failures ∙ sound.tied.tolerable in
+    record {
+      expired = count ∙ ap length items ∙ length-map (filter (is_old timeout moment) p.pending) (λ r. r.id) ∙ sym (expired_counted p timeout moment groups t m);
+      left = ap (λ n. e.left + n) (sym all) ∙ left ∙ sym (pending_checkpoints-groups p.registry p.pending p.store.checkpoints p.store.savepoints groups);
+      failures = failures ∙ ap (λ n. record p.failures { number = p.failures.number + n }) all;
+      intolerable = intolerable ∙ ap (λ n. ltb 0 n && ltb e.failures.tolerable e.failures.number) all ∙ ap (λ n. ltb 0 (late_in (state_of p)) && ltb n e.failures.number) config;
+      noted = λ r h. noted_are_expired p timeout moment sound.sound groups t m r h ∙ ap (λ ids. is_noted ids r) (sym items);
+      not_next = λ r next. ap (λ ids. is_noted ids r) items ∙ next_not_noted p (is_old timeout moment) sound.sound r next;
+    }
+
+number_is : (p : Parts) (e : Expiry) → IsExpiry p e → e.failures.number ≡ p.failures.number + late_in (state_of p)
+number_is p e is = ap (λ (x : FailureCount). x.number) is.failures
+
+-- too many checkpoints were late
+pub expiry_fails : (p f : Parts) (ended : Vec ℕ Global) (e : Expiry) → IsExpiry p e → e.intolerable ≡ true → state_of f ≡ failed_over (state_of (record p { ended = ended })) → tick (state_of p) ≡ stepped (state_of (record f { failures = e.failures })) (ticked e.expired ends.Failed)
+unfolding state_of
+expiry_fails p f ended e is many after =
+    tick_fails (state_of p) e.failures.number e.expired (number_is p e is) is.expired (sym is.intolerable ∙ many)
+    ∙ ap {B = Stepped} (λ (s : State). stepped (record s { failures = e.failures.number }) (ticked e.expired ends.Failed)) (sym after)
 
 -- what is left goes on
-goes : (p : Parts) (failures : FailureCount) (timeout moment late expired pending : ℕ) → AreSound p → AreGroups p.pending p.store.checkpoints p.store.savepoints → timeout ≡ p.opened.config.timeout → moment ≡ max 0 p.clock.latest →
-    late ≡ count_by (λ r. is_old timeout moment r && is_checkpoint r) p.pending → expired ≡ length (filter (is_old timeout moment) p.pending) → failures ≡ record p.failures { number = p.failures.number + late } → pending + late ≡ count_by is_checkpoint p.pending →
-    (late ≡ 0) ⊎ (failures.number ≤ failures.tolerable) → tick (state_of p) ≡ start_or_hold (drop (record (state_of p) { failures = failures.number }) (is_expired (state_of p) p.clock.latest) None) expired (held_at (state_of p) pending)
+expiry_leaves : (p : Parts) (e : Expiry) → IsExpiry p e → e.intolerable ≡ false → tick (state_of p) ≡ start_or_hold (drop (record (state_of p) { failures = e.failures.number }) (is_expired (state_of p) p.clock.latest) None) e.expired (held_at (state_of p) e.left)
 unfolding state_of
-goes p failures timeout moment late expired pending sound groups t m l e counted rest few =
-    let number : failures.number ≡ p.failures.number + late = ap (λ (x : FailureCount). x.number) counted in
-    let tolerable : failures.tolerable ≡ p.opened.config.tolerable = ap (λ (x : FailureCount). x.tolerable) counted ∙ sound.tied.tolerable in
-    tick_goes (state_of p) late failures.number expired pending (l ∙ sym (late_counted p timeout moment groups t m)) number (e ∙ sym (expired_counted p timeout moment groups t m))
-    (rest ∙ sym (pending_checkpoints-groups p.registry p.pending p.store.checkpoints p.store.savepoints groups))
-    (⊎_elim (λ (z : late ≡ 0). inl z) (λ (h : failures.number ≤ failures.tolerable). inr (omega (arith, tolerable, h))) few)
+expiry_leaves p e is few = tick_goes (state_of p) e.failures.number e.expired e.left (number_is p e is) is.expired is.left (sym is.intolerable ∙ few)
 
-pub expiry_wants : (p : Parts) (failures : FailureCount) (timeout moment late expired pending : ℕ) → AreSound p → AreGroups p.pending p.store.checkpoints p.store.savepoints → timeout ≡ p.opened.config.timeout → moment ≡ max 0 p.clock.latest →
-    late ≡ count_by (λ r. is_old timeout moment r && is_checkpoint r) p.pending → expired ≡ length (filter (is_old timeout moment) p.pending) → failures ≡ record p.failures { number = p.failures.number + late } → pending + late ≡ count_by is_checkpoint p.pending →
-    (late ≡ 0) ⊎ (failures.number ≤ failures.tolerable) → held_at (state_of p) pending ≡ hold.Go → answer_wants (call.Tick 0) (tick (state_of p)).1 ≡ true
+pub expiry_wants : (p : Parts) (e : Expiry) → IsExpiry p e → e.intolerable ≡ false → held_at (state_of p) e.left ≡ hold.Go → answer_wants (call.Tick 0) (tick (state_of p)).1 ≡ true
 unfolding start_or_hold
-expiry_wants p failures timeout moment late expired pending sound groups t m l e counted rest few go =
-    let after : State = drop (record (state_of p) { failures = failures.number }) (is_expired (state_of p) p.clock.latest) None in
-    ap (λ (s : Stepped). answer_wants (call.Tick 0) s.1) (goes p failures timeout moment late expired pending sound groups t m l e counted rest few ∙ ap (start_or_hold after expired) go)
+expiry_wants p e is few go =
+    let after : State = drop (record (state_of p) { failures = e.failures.number }) (is_expired (state_of p) p.clock.latest) None in
+    ap (λ (s : Stepped). answer_wants (call.Tick 0) s.1) (expiry_leaves p e is few ∙ ap (start_or_hold after e.expired) go)
 
-pub expiry_goes : (p s q : Parts) (ended : Vec ℕ Global) (failures : FailureCount) (timeout moment late expired pending : ℕ) (end : TickEnd) → AreSound p → AreGroups p.pending p.store.checkpoints p.store.savepoints → timeout ≡ p.opened.config.timeout → moment ≡ max 0 p.clock.latest →
-    late ≡ count_by (λ r. is_old timeout moment r && is_checkpoint r) p.pending → expired ≡ length (filter (is_old timeout moment) p.pending) → failures ≡ record p.failures { number = p.failures.number + late } → pending + late ≡ count_by is_checkpoint p.pending →
-    (late ≡ 0) ⊎ (failures.number ≤ failures.tolerable) → Starts (state_of (record p { ended = ended })) pending (state_of s) end → s.ended.items ≡ numbers (filter (is_old timeout moment) p.pending) → state_of q ≡ drop (state_of s) (is_noted s.ended.items) None →
-    tick (state_of p) ≡ stepped (state_of (record q { failures = failures })) (ticked expired end)
+pub expiry_goes : (p s q : Parts) (e : Expiry) (end : TickEnd) → IsSound (state_of p) → IsExpiry p e → e.intolerable ≡ false → Starts (state_of p) e.left (state_of s) end → s.ended.items ≡ p.ended.items → state_of q ≡ drop (state_of s) (is_noted s.ended.items) None →
+    tick (state_of p) ≡ stepped (state_of (record q { failures = e.failures })) (ticked e.expired end)
 unfolding state_of
-expiry_goes p s q ended failures timeout moment late expired pending end sound groups t m l e counted rest few starts noted after =
-    let ids : List ℕ = numbers (filter (is_old timeout moment) p.pending) in
-    let number : failures.number ≡ p.failures.number + late = ap (λ (x : FailureCount). x.number) counted in
-    let tolerable : failures.tolerable ≡ p.opened.config.tolerable = ap (λ (x : FailureCount). x.tolerable) counted ∙ sound.tied.tolerable in
-    tick_starts (state_of p) (state_of s) late failures.number expired pending (is_noted ids) end sound.sound (l ∙ sym (late_counted p timeout moment groups t m)) number (e ∙ sym (expired_counted p timeout moment groups t m))
-    (rest ∙ sym (pending_checkpoints-groups p.registry p.pending p.store.checkpoints p.store.savepoints groups))
-    (⊎_elim (λ (z : late ≡ 0). inl z) (λ (h : failures.number ≤ failures.tolerable). inr (omega (arith, tolerable, h))) few)
-    (noted_are_expired p timeout moment sound.sound groups t m)
-    (next_not_noted p (is_old timeout moment) sound.sound)
-    starts
-    ∙ ap {B = Stepped} (λ (k : State). stepped (record k { failures = failures.number }) (ticked expired end)) (ap (λ xs. drop (state_of s) (is_noted xs) None) (sym noted) ∙ sym after)
+expiry_goes p s q e end sound is few starts noted after =
+    tick_starts (state_of p) (state_of s) e.failures.number e.expired e.left (is_noted p.ended.items) end sound (number_is p e is) is.expired is.left (sym is.intolerable ∙ few) is.noted (is.not_next (new_record (state_of p) kind.Checkpoint) refl) starts
+    ∙ ap {B = Stepped} (λ (k : State). stepped (record k { failures = e.failures.number }) (ticked e.expired end)) (ap (λ xs. drop (state_of s) (is_noted xs) None) (sym noted) ∙ sym after)
 
 -- the configuration stays
 
-counted_tolerable : (p : Parts) (failures : FailureCount) (late : ℕ) → AreTied p → failures ≡ record p.failures { number = p.failures.number + late } → failures.tolerable ≡ p.opened.config.tolerable
-counted_tolerable p failures late tied counted = ap (λ (x : FailureCount). x.tolerable) counted ∙ tied.tolerable
+tolerable_is : (p : Parts) (e : Expiry) → AreTied p → IsExpiry p e → e.failures.tolerable ≡ p.opened.config.tolerable
+tolerable_is p e tied is = ap (λ (x : FailureCount). x.tolerable) is.failures ∙ tied.tolerable
 
-pub failed_tolerable : (p f : Parts) (ended : Vec ℕ Global) (failures : FailureCount) (late : ℕ) → AreTied p → failures ≡ record p.failures { number = p.failures.number + late } → state_of f ≡ failed_over (state_of (record p { ended = ended })) → failures.tolerable ≡ f.opened.config.tolerable
+pub failed_tolerable : (p f : Parts) (ended : Vec ℕ Global) (e : Expiry) → AreTied p → IsExpiry p e → state_of f ≡ failed_over (state_of (record p { ended = ended })) → e.failures.tolerable ≡ f.opened.config.tolerable
 unfolding state_of failed_over drop
-failed_tolerable p f ended failures late tied counted after = counted_tolerable p failures late tied counted ∙ ap (λ (m : State). m.opening.config.tolerable) (sym after)
+failed_tolerable p f ended e tied is after = tolerable_is p e tied is ∙ ap (λ (m : State). m.opening.config.tolerable) (sym after)
 
-pub started_tolerable : (p s q : Parts) (ended : Vec ℕ Global) (failures : FailureCount) (late pending : ℕ) (end : TickEnd) → AreTied p → failures ≡ record p.failures { number = p.failures.number + late } → Starts (state_of (record p { ended = ended })) pending (state_of s) end →
-    state_of q ≡ drop (state_of s) (is_noted s.ended.items) None → failures.tolerable ≡ q.opened.config.tolerable
+pub started_tolerable : (p s q : Parts) (e : Expiry) (end : TickEnd) → AreTied p → IsExpiry p e → Starts (state_of p) e.left (state_of s) end → state_of q ≡ drop (state_of s) (is_noted s.ended.items) None → e.failures.tolerable ≡ q.opened.config.tolerable
 unfolding state_of drop triggered
-started_tolerable p s q ended failures late pending end tied counted starts after =
+started_tolerable p s q e end tied is starts after =
     let started_config : s.opened.config.tolerable ≡ p.opened.config.tolerable =
-    ⊎_elim (λ (e : state_of s ≡ state_of p). ap (λ (m : State). m.opening.config.tolerable) e) (λ (e : state_of s ≡ started (state_of p)). ap (λ (m : State). m.opening.config.tolerable) e) (starts_as (state_of p) pending (state_of s) end starts) in
-    counted_tolerable p failures late tied counted ∙ sym started_config ∙ ap (λ (m : State). m.opening.config.tolerable) (sym after)
+    ⊎_elim (λ (k : state_of s ≡ state_of p). ap (λ (m : State). m.opening.config.tolerable) k) (λ (k : state_of s ≡ started (state_of p)). ap (λ (m : State). m.opening.config.tolerable) k) (starts_as (state_of p) e.left (state_of s) end starts) in
+    tolerable_is p e tied is ∙ sym started_config ∙ ap (λ (m : State). m.opening.config.tolerable) (sym after)

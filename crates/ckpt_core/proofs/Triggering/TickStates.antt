@@ -1,8 +1,8 @@
 -- What a tick does to a state: a checkpoint is started first, and what has expired is dropped after.
-use Rattle.std.proofs.Common.{◌≡◌, ℕ, ◌+◌, ◌<◌, ◌≤◌, Bool, true, false, not, ◌&&◌, cond, ltb, leb, List, [], ◌∷◌, ◌++◌, map, refl, sym, ap, subst, ◌∙◌, ◌⊎◌, inl, inr, ⊎_elim, arith, None}
+use Rattle.std.proofs.Common.{◌≡◌, ℕ, ◌+◌, ◌<◌, Bool, true, false, not, ◌&&◌, cond, ltb, leb, List, [], ◌∷◌, ◌++◌, map, refl, sym, ap, subst, ◌∙◌, ◌⊎◌, inl, inr, ⊎_elim, arith, None}
 use Rattle.std.specs.Prelude.{count_by}
 use Rattle.std.specs.List.{filter}
-use Rattle.std.proofs.lemmas.Bool.{cases_Bool, both_ways, and_parts, and_right, not_from_false, ltb-true, lt-ltb, false_from_ne_true, and_from}
+use Rattle.std.proofs.lemmas.Bool.{cases_Bool, both_ways, and_parts, and_right, not_from_false, lt-ltb, false_from_ne_true, and_from}
 use Rattle.std.proofs.lemmas.List.{map-append}
 use Rattle.std.proofs.lemmas.List.Elements.{filter-append}
 use Rattle.ckpt_ids.specs.declared.numbers.Kind.TheVariants as kind
@@ -20,6 +20,7 @@ use Rattle.ckpt_rules.specs.declared.hold.Hold.TheVariants as hold
 use Rattle.ckpt_rules.specs.Trigger.{gap}
 use Rattle.ckpt_core.specs.State.{State, is_checkpoint, is_pending, is_expired, drop, kept, unpinned, pins_now, in_outbox}
 use Rattle.ckpt_core.specs.Soundness.{IsSound, id_before}
+use Rattle.ckpt_core.specs.Inside.Expiring.{is_late, late_in}
 use Rattle.ckpt_core.specs.Inside.Starting.{Starts, held_at}
 use Rattle.ckpt_core.specs.Steps.{Stepped, triggered, start_or_hold, after_expiry, tick, failed_over, pending_checkpoints, dropped_by}
 use Rattle.ckpt_registry.proofs.ListLemmas.{count_by-filter}
@@ -234,9 +235,6 @@ split {X} p q (x ∷ xs) within =
 abbrev pub pending_checkpoint : Record → Bool
 pending_checkpoint r = is_pending r && is_checkpoint r
 
-abbrev pub is_late : State → Record → Bool
-is_late m r = is_expired m m.latest r && is_checkpoint r
-
 -- so many checkpoints are left pending once the expired records are dropped
 pub pending_left : (m : State) (failures : ℕ) → pending_checkpoints (drop (record m { failures = failures }) (is_expired m m.latest) None) + count_by (is_late m) m.records ≡ pending_checkpoints m
 unfolding drop
@@ -263,45 +261,37 @@ pending_left m failures =
 
 -- the whole tick
 
-tick_if : (m : State) (b : Bool) → (ltb 0 (count_by (is_late m) m.records) && ltb m.opening.config.tolerable (m.failures + count_by (is_late m) m.records)) ≡ b →
-    tick m ≡ cond b (stepped (failed_over (record m { failures = m.failures + count_by (is_late m) m.records })) (ticked (dropped_by m (is_expired m m.latest)) ends.Failed))
-    (after_expiry (drop (record m { failures = m.failures + count_by (is_late m) m.records }) (is_expired m m.latest) None) (dropped_by m (is_expired m m.latest)))
+tick_if : (m : State) (b : Bool) → (ltb 0 (late_in m) && ltb m.opening.config.tolerable (m.failures + late_in m)) ≡ b →
+    tick m ≡ cond b (stepped (failed_over (record m { failures = m.failures + late_in m })) (ticked (dropped_by m (is_expired m m.latest)) ends.Failed))
+    (after_expiry (drop (record m { failures = m.failures + late_in m }) (is_expired m m.latest) None) (dropped_by m (is_expired m m.latest)))
 unfolding tick
-tick_if m b e = ap (λ c. cond c (stepped (failed_over (record m { failures = m.failures + count_by (is_late m) m.records })) (ticked (dropped_by m (is_expired m m.latest)) ends.Failed))
-    (after_expiry (drop (record m { failures = m.failures + count_by (is_late m) m.records }) (is_expired m m.latest) None) (dropped_by m (is_expired m m.latest)))) e
+tick_if m b e = ap (λ c. cond c (stepped (failed_over (record m { failures = m.failures + late_in m })) (ticked (dropped_by m (is_expired m m.latest)) ends.Failed))
+    (after_expiry (drop (record m { failures = m.failures + late_in m }) (is_expired m m.latest) None) (dropped_by m (is_expired m m.latest)))) e
 
 -- too many have failed
-pub tick_fails : (m : State) (late failures expired : ℕ) → late ≡ count_by (is_late m) m.records → failures ≡ m.failures + late → expired ≡ dropped_by m (is_expired m m.latest) → 0 < late → m.opening.config.tolerable < failures →
+pub tick_fails : (m : State) (failures expired : ℕ) → failures ≡ m.failures + late_in m → expired ≡ dropped_by m (is_expired m m.latest) → (ltb 0 (late_in m) && ltb m.opening.config.tolerable failures) ≡ true →
     tick m ≡ (record (failed_over m) { failures = failures }, ticked expired ends.Failed)
 unfolding failed_over drop
-tick_fails m late failures expired l f e some many =
-    let all : failures ≡ m.failures + count_by (is_late m) m.records = f ∙ ap (λ n. m.failures + n) l in
-    tick_if m true (and_from (ltb 0 (count_by (is_late m) m.records)) (ltb m.opening.config.tolerable (m.failures + count_by (is_late m) m.records)) (ap (ltb 0) (sym l) ∙ lt-ltb 0 late some) (ap (ltb m.opening.config.tolerable) (sym all) ∙ lt-ltb m.opening.config.tolerable failures many))
-    ∙ ap (λ n. stepped (record (failed_over m) { failures = n }) (ticked (dropped_by m (is_expired m m.latest)) ends.Failed)) (sym all)
+tick_fails m failures expired f e many =
+    tick_if m true (ap (λ n. ltb 0 (late_in m) && ltb m.opening.config.tolerable n) (sym f) ∙ many)
+    ∙ ap (λ n. stepped (record (failed_over m) { failures = n }) (ticked (dropped_by m (is_expired m m.latest)) ends.Failed)) (sym f)
     ∙ ap (λ n. stepped (record (failed_over m) { failures = failures }) (ticked n ends.Failed)) (sym e)
 
 -- few have failed
-pub tick_goes : (m : State) (late failures expired pending : ℕ) → late ≡ count_by (is_late m) m.records → failures ≡ m.failures + late → expired ≡ dropped_by m (is_expired m m.latest) → pending + late ≡ pending_checkpoints m →
-    (late ≡ 0) ⊎ (failures ≤ m.opening.config.tolerable) → tick m ≡ start_or_hold (drop (record m { failures = failures }) (is_expired m m.latest) None) expired (held_at m pending)
+pub tick_goes : (m : State) (failures expired pending : ℕ) → failures ≡ m.failures + late_in m → expired ≡ dropped_by m (is_expired m m.latest) → pending + late_in m ≡ pending_checkpoints m →
+    (ltb 0 (late_in m) && ltb m.opening.config.tolerable failures) ≡ false → tick m ≡ start_or_hold (drop (record m { failures = failures }) (is_expired m m.latest) None) expired (held_at m pending)
 unfolding after_expiry drop
-tick_goes m late failures expired pending l f e p few =
-    let all : failures ≡ m.failures + count_by (is_late m) m.records = f ∙ ap (λ n. m.failures + n) l in
-    let test : (ltb 0 (count_by (is_late m) m.records) && ltb m.opening.config.tolerable (m.failures + count_by (is_late m) m.records)) ≡ false =
-    ap (λ n. ltb 0 n && ltb m.opening.config.tolerable (m.failures + count_by (is_late m) m.records)) (sym l) ∙ ap (λ n. ltb 0 late && ltb m.opening.config.tolerable n) (sym all) ∙ not_both late failures m.opening.config.tolerable few in
-    let left : pending_checkpoints (drop (record m { failures = failures }) (is_expired m m.latest) None) ≡ pending = let total = pending_left m failures in omega (arith, total, l, p) in
-    tick_if m false test
-    ∙ ap (λ n. after_expiry (drop (record m { failures = n }) (is_expired m m.latest) None) (dropped_by m (is_expired m m.latest))) (sym all)
+tick_goes m failures expired pending f e p few =
+    let left : pending_checkpoints (drop (record m { failures = failures }) (is_expired m m.latest) None) ≡ pending = let total = pending_left m failures in omega (arith, total, p) in
+    tick_if m false (ap (λ n. ltb 0 (late_in m) && ltb m.opening.config.tolerable n) (sym f) ∙ few)
+    ∙ ap (λ n. after_expiry (drop (record m { failures = n }) (is_expired m m.latest) None) (dropped_by m (is_expired m m.latest))) (sym f)
     ∙ ap (after_expiry (drop (record m { failures = failures }) (is_expired m m.latest) None)) (sym e)
     ∙ ap (λ n. start_or_hold (drop (record m { failures = failures }) (is_expired m m.latest) None) expired (held_at m n)) left
-  where
-    not_both : (late failures tolerable : ℕ) → (late ≡ 0) ⊎ (failures ≤ tolerable) → (ltb 0 late && ltb tolerable failures) ≡ false
-    not_both late failures tolerable (inl e) = ap (λ n. ltb 0 n && ltb tolerable failures) e
-    not_both late failures tolerable (inr h) = false_from_ne_true (ltb 0 late && ltb tolerable failures) (λ k. let lt = ltb-true tolerable failures (and_parts (ltb 0 late) (ltb tolerable failures) k).1 in omega arith)
 
--- with what the start left
-pub tick_starts : (m after : State) (late failures expired pending : ℕ) (b : Record → Bool) (end : TickEnd) → IsSound m → late ≡ count_by (is_late m) m.records → failures ≡ m.failures + late → expired ≡ dropped_by m (is_expired m m.latest) →
-    pending + late ≡ pending_checkpoints m → (late ≡ 0) ⊎ (failures ≤ m.opening.config.tolerable) → ((r : Record) → IsIn r m.records → is_expired m m.latest r ≡ b r) → b (new_record m kind.Checkpoint) ≡ false → Starts m pending after end →
+-- the same where the checkpoint is started before the drop
+pub tick_starts : (m after : State) (failures expired pending : ℕ) (b : Record → Bool) (end : TickEnd) → IsSound m → failures ≡ m.failures + late_in m → expired ≡ dropped_by m (is_expired m m.latest) → pending + late_in m ≡ pending_checkpoints m →
+    (ltb 0 (late_in m) && ltb m.opening.config.tolerable failures) ≡ false → ((r : Record) → IsIn r m.records → is_expired m m.latest r ≡ b r) → b (new_record m kind.Checkpoint) ≡ false → Starts m pending after end →
     tick m ≡ (record (drop after b None) { failures = failures }, ticked expired end)
-tick_starts m after late failures expired pending b end s l f e p few agree stays starts =
+tick_starts m after failures expired pending b end s f e p few agree stays starts =
     let spared : (r : Record) → IsIn r m.records → r.done ≡ true → b r ≡ false = λ r h d. sym (agree r h) ∙ ap (λ x. not x && leb (r.started + m.opening.config.timeout) m.latest) d in
-    tick_goes m late failures expired pending l f e p few ∙ start_then_drop m (held_at m pending) failures expired (is_expired m m.latest) b after end s agree spared stays (starts expired)
+    tick_goes m failures expired pending f e p few ∙ start_then_drop m (held_at m pending) failures expired (is_expired m m.latest) b after end s agree spared stays (starts expired)

@@ -43,7 +43,7 @@ returns-clause-ok c =
     let p = c.args.self.now in
     let files : List ℕ = files_chosen c.choice-choice.result p.registry in
     ap (λ (q : Parts). state_of (record q { next = q.next + 1 })) c.in_default.ensures.ok
-    ∙ triggered_state p c.args.kind files c.new.result c.add.new.self (pinned p p.next files).registry c.requires.tied c.requires.sound c.present.ensures.in_order (files_chosen-pins p c.requires.tied c.requires.sound c.choice-choice.result c.choice-choice.ensures)
+    ∙ triggered_state p c.args.kind files c.new.result c.add.new.self (pinned p p.next files).registry c.requires.tied c.requires.sound c.recall_uses.ensures (files_chosen-pins p c.requires.tied c.requires.sound c.choice-choice.result c.choice-choice.ensures)
     (made_record p c.args.kind c.args.shape c.read-started.result c.new.result c.new.ensures c.requires.shape c.read-started.ensures.value)
     c.in_ok-add.ensures.ok refl
 
@@ -53,6 +53,6 @@ returns-clause-tied c =
     let files : List ℕ = files_chosen c.choice-choice.result p.registry in
     let P : Parts → Type 0 = λ q. AreTied q in
     subst P (sym (ap (λ (q : Parts). record q { next = q.next + 1 }) c.in_default.ensures.ok))
-    (triggered_tied p c.args.kind files c.new.result c.add.new.self (pinned p p.next files).registry c.requires.tied c.requires.sound c.present.ensures.in_order (files_chosen-pins p c.requires.tied c.requires.sound c.choice-choice.result c.choice-choice.ensures)
+    (triggered_tied p c.args.kind files c.new.result c.add.new.self (pinned p p.next files).registry c.requires.tied c.requires.sound c.recall_uses.ensures (files_chosen-pins p c.requires.tied c.requires.sound c.choice-choice.result c.choice-choice.ensures)
     (made_record p c.args.kind c.args.shape c.read-started.result c.new.result c.new.ensures c.requires.shape c.read-started.ensures.value)
     c.in_ok-add.ensures.ok refl c.requires.room)

@@ -3,4 +3,4 @@ use Rattle.ckpt_core.proofs.Answering.RefusalLookups.{done_savepoint-parts}
 use Rattle.ckpt_core.proofs.parts.Parts.has_savepoint.Goals as goal
 
 pub returns : goal.returns
-returns c = c.has_savepoint.ensures ∙ sym (done_savepoint-parts c.args.self.now c.args.id c.recall.ensures.pending c.base.ensures.stored)
+returns c = c.has_savepoint.ensures ∙ sym (done_savepoint-parts c.args.self.now c.args.id c.recall_groups.ensures.pending c.recall_groups.ensures.stored)

@@ -27,7 +27,7 @@ load_checkpoint-requires-clause-fewer c =
     let x : Record = c.args.done in
     let its : x.kind ≡ kind.Checkpoint = ap (λ (r : Record). r.kind) c.requires.done ∙ c.in-Checkpoint.is in
     let yes : (x.done && is_checkpoint x) ≡ true = ap (λ b. b && is_checkpoint x) c.id.ensures.done.is_done ∙ is_checkpoint-kind x its in
-    let counted = done_checkpoints-groups p.registry p.pending p.store.checkpoints p.store.savepoints (groups_of p c.recall.ensures.pending c.base.ensures.stored) in
+    let counted = done_checkpoints-groups p.registry p.pending p.store.checkpoints p.store.savepoints (groups_of p c.recall_groups.ensures.pending c.recall_groups.ensures.stored) in
     omega (arith, counted, c.requires.joins.retained yes, c.requires.tied.retained)
 
 pub load_checkpoint-requires-clause-files : goal.load_checkpoint-requires-clause-files
@@ -46,7 +46,7 @@ load_checkpoint-requires-clause-below c = few_uses (records_in c.args.self.now +
 pub load_savepoint-requires-clause-fewer : goal.load_savepoint-requires-clause-fewer
 load_savepoint-requires-clause-fewer c =
     let p : Parts = c.args.self.now in
-    let counted = savepoints-groups p.registry p.pending p.store.checkpoints p.store.savepoints (groups_of p c.recall.ensures.pending c.base.ensures.stored) in
+    let counted = savepoints-groups p.registry p.pending p.store.checkpoints p.store.savepoints (groups_of p c.recall_groups.ensures.pending c.recall_groups.ensures.stored) in
     omega (arith, counted, c.requires.sound.savepoints_to)
 
 pub load_savepoint-requires-clause-files : goal.load_savepoint-requires-clause-files

@@ -10,7 +10,7 @@ returns-in_err-started c =
     let p = c.args.self.now in
     let told : TellsLeast p.pending None = c.in_err-started.ensures in
     let P : Option ℕ → Type 0 = λ o. IsNextExpiry (state_of p) o in
-    subst P (sym c.from_residual.ensures) (next_expiry p None c.recall.ensures.pending c.base.ensures.stored told)
+    subst P (sym c.from_residual.ensures) (next_expiry p None c.recall_groups.ensures.pending c.recall_groups.ensures.stored told)
 
 pub overflow_add-result : goal.overflow_add-result
 overflow_add-result c =
@@ -27,4 +27,4 @@ returns c =
     let p = c.args.self.now in
     let told : TellsLeast p.pending (Some c.in_ok-started.started) = c.in_ok-started.ensures in
     let P : ℕ → Type 0 = λ timeout. IsNextExpiry (state_of p) (Some (c.in_ok-started.started + timeout)) in
-    subst P (sym c.timeout-timeout.ensures.value) (next_expiry p (Some c.in_ok-started.started) c.recall.ensures.pending c.base.ensures.stored told)
+    subst P (sym c.timeout-timeout.ensures.value) (next_expiry p (Some c.in_ok-started.started) c.recall_groups.ensures.pending c.recall_groups.ensures.stored told)

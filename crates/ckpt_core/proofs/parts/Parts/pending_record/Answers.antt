@@ -2,4 +2,4 @@ use Rattle.ckpt_core.proofs.Answering.RefusalLookups.{pending_of-parts}
 use Rattle.ckpt_core.proofs.parts.Parts.pending_record.Goals as goal
 
 pub returns : goal.returns
-returns c = pending_of-parts c.args.self.now c.args.id _ c.requires c.get.ensures.pending c.base.ensures.stored c.get.ensures.value
+returns c = pending_of-parts c.args.self.now c.args.id _ c.requires c.get.ensures.pending c.recall_groups.ensures.stored c.get.ensures.value
