@@ -1,3 +1,4 @@
+-- The lemmas that the proofs use.
 pub mod Acknowledging
 pub mod Answering
 pub mod Completing

@@ -1,4 +1,4 @@
--- How it is told why a call has changed nothing.
+-- The texts of the reasons why a call has changed nothing.
 use Rattle.std.specs.Prelude.{ℕ, List, ◌++◌, codes}
 use Rattle.ckpt_ids.specs.RefusalTexts.{refusal_text}
 use Rattle.ckpt_core.specs.declared.coordinator.CoreFault.{CoreFault}

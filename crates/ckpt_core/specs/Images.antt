@@ -1,4 +1,4 @@
--- What an image tells of a state: all but the order of the files that were fetched, which no call tells.
+-- What an image has of a state: everything but the order in which files were fetched, which no call returns.
 use Rattle.std.specs.Prelude.{◌≡◌, List, ◌++◌, map}
 use Rattle.ckpt_ids.specs.declared.call.Call.{Call}
 use Rattle.ckpt_ids.specs.Ascending.{ascending}
@@ -14,7 +14,7 @@ use Rattle.ckpt_core.specs.Soundness.{IsSound}
 abbrev pub record_in : Saved → Record
 record_in s = record { id = s.metadata.id; kind = s.metadata.kind; done = s.metadata.done; shape = s.metadata.shape; started = s.metadata.started; acks = s.metadata.acks; pins = s.pins }
 
--- the state that an image tells
+-- the state of an image
 abbrev pub state_in : Image → State
 state_in i = record {
   opening = record { config = i.config; shape = i.first_shape; start = i.start; first = i.first };
@@ -39,7 +39,7 @@ settled m = record m { taken = ascending m.taken }
 abbrev pub AreAlike : State → State → Type 0
 AreAlike m n = settled m ≡ settled n
 
--- both answer these calls the same, and are alike after them
+-- both answer these calls in the same way, and are alike after them
 pub record GoesOnAs (m n : State) (calls : List Call) : Type 0 where
   pub answers : answers m calls ≡ answers n calls
   pub state : AreAlike (replay m calls) (replay n calls)
@@ -49,7 +49,8 @@ pub record CanHold (m : State) : Type 0 where
   pub sound : IsSound m
   pub clock : IsInRange (record { latest = m.latest; due = m.due; completed = m.completed })
 
--- What a log tells is told by its first calls, their image, and the calls after it: the answers of all, and a state that is alike.
+-- The image after the first calls of a log, and the calls after it, give what the whole log gives: the same answers,
+-- and a state that is alike.
 pub record IsCut (m : State) (before after : List Call) : Type 0 where
   pub answers : answers m (before ++ after) ≡ answers m before ++ answers (settled (replay m before)) after
   pub state : AreAlike (replay m (before ++ after)) (replay (settled (replay m before)) after)

@@ -1,4 +1,4 @@
--- The missing acknowledgements of one record, made by several seats: in whatever order the seats take their turns.
+-- Several seats make the missing acknowledgements of one record, in every order of their turns.
 use Rattle.std.specs.Prelude.{◌≡◌, ℕ, ◌≤◌, Bool, true, false, ◌==◌, List, [], ◌∷◌, map, filter, count_by, Option, Some, None}
 use Rattle.std.specs.Option.{option_or, is_some}
 use Rattle.ckpt_ids.specs.declared.subtask.SubtaskId.{SubtaskId}
@@ -42,11 +42,11 @@ abbrev pub AreApart : List NewFile → Type 0
 AreApart [] = Unit {0}
 AreApart (n ∷ rest) = ((o : NewFile) → IsIn o rest → (n.subtask ≡ o.subtask → ⊥) × (n.file ≡ o.file → ⊥)) × AreApart rest
 
--- each is of a subtask of the record that has not acknowledged
+-- each comes from a subtask of the record that has not acknowledged
 abbrev pub AreMissing : Record → List NewFile → Type 0
 AreMissing r news = (n : NewFile) → IsIn n news → (is_subtask r.shape n.subtask ≡ true) × (has_acknowledged r n.subtask ≡ false)
 
--- how many records an acknowledgement dropped and how many files it released, where it completed its record
+-- how many records an acknowledgement dropped and how many files it released, if it completed its record
 abbrev pub completed_by : Answer → Option (ℕ × ℕ)
 completed_by (Done (AckCompleted dropped released)) = Some (dropped, released)
 completed_by answer = None
@@ -61,14 +61,14 @@ is_completing a = is_some (completed_by a)
 -- from this state both lists of calls come to the same
 pub record SameOutcome (m : State) (given made : List Call) : Type 0 where
   pub state : replay m given ≡ replay m made
-  -- as many are accepted, as many refused, and so on for whatever is asked of an answer
+  -- as many are accepted, as many refused, and so on for every test of an answer
   pub as_often : (asked : Answer → Bool) → count_by asked (answers m given) ≡ count_by asked (answers m made)
   pub completed : first_completed (answers m given) ≡ first_completed (answers m made)
   -- at most one of them completes the record
   pub once : count_by is_completing (answers m given) ≤ 1
 
--- Acknowledgements at one moment, of different missing subtasks of one pending record, each with one new file, no two files the
--- same: in whatever order the seats take their turns, as long as each makes its own calls in the order given.
+-- Acknowledgements at one moment, of different missing subtasks of one pending record, each with one new file, no two
+-- files the same. The seats may take their turns in any order, as long as each makes its own calls in the given order.
 -- Source: Carbone et al. 2015: the order in which the tasks acknowledge does not matter.
 abbrev pub AnyOrder : State → ℕ → ℕ → Record → List NewFile → SeatedCalls → SeatedCalls → Type 0
 AnyOrder m now id r news given made =

@@ -50,11 +50,11 @@ pub record Part : Type 0 where
 abbrev pub ack_of : ℕ → ℕ → Part → Call
 ack_of now id p = Ack now id p.subtask p.fresh p.reused
 
--- Two acknowledgements of different subtasks of one record, one right after the other, at one moment, of which neither
--- reuses a fresh file of the other: where the first leaves the record pending and the second is accepted for it, they are
--- accepted in the other order too, with the same answers in turn and the same state after. (That the first reuses no fresh
--- file of the second needs no premise: that file would be in use, and the second refused.)
--- Source: Carbone et al. 2015: the order in which the tasks acknowledge does not matter.
+-- Two acknowledgements of different subtasks of one record, one directly after the other, at one moment. Neither reuses
+-- a fresh file of the other. If the first leaves the record pending and the second is accepted for it, they are
+-- accepted in the other order too, with the same answers in turn and the same state after them. (That the first reuses
+-- no fresh file of the second needs no premise: that file would be in use, and the second refused.) Source: Carbone et
+-- al. 2015: the order in which the tasks acknowledge does not matter.
 abbrev pub Exchange : State → ℕ → ℕ → Part → Part → Type 0
 Exchange m now id p q =
     (p.subtask ≡ q.subtask → ⊥)
@@ -127,7 +127,8 @@ abbrev pub NoneAgain : List ℕ → State → List Call → Type 0
 NoneAgain gone m [] = ⊤
 NoneAgain gone m (call ∷ calls) = ShareNone gone (new_by m call) × NoneAgain (gone ++ deleted_by m call) (step m call).0 calls
 
--- where no deleted file is reported as new again, a file was handed out exactly when it was registered and no live record uses it
+-- if no deleted file is reported as new again, a file was handed out exactly if it was registered and no live record
+-- uses it
 abbrev pub Handed : Opening → List Call → Type 0
 Handed o calls =
     let m : State = replay (opened o) calls in
@@ -140,7 +141,7 @@ Accounted o calls =
     let m : State = replay (opened o) calls in
     (f : ℕ) → IsIn f (along registered_by (opened o) calls) → count (uses m.records) f ≡ 0 → in_outbox m f ≡ false → IsIn f (along deleted_by (opened o) calls)
 
--- a file once handed out is used by no live record, then or later, where no deleted file is reported as new again
+-- no live record uses a file that was handed out, neither then nor later, if no deleted file is reported as new again
 abbrev pub UsedNoMore : Opening → List Call → List Call → Type 0
 UsedNoMore o before calls =
     let m : State = replay (opened o) (before ++ calls) in
@@ -185,7 +186,8 @@ abbrev pub IsNeverDisposed : ℕ → State → List Call → Type 0
 IsNeverDisposed id m [] = ⊤
 IsNeverDisposed id m (call ∷ calls) = (is_disposed_by id m call ≡ false) × IsNeverDisposed id (step m call).0 calls
 
--- a done savepoint stays, unchanged, until an accepted Dispose of its number; `before` are the calls up to where it is there
+-- a done savepoint stays, unchanged, until an accepted Dispose of its number; `before` are the calls after which it is
+-- there
 abbrev pub Savepoints : Opening → List Call → List Call → Type 0
 Savepoints o before calls =
     let m : State = replay (opened o) before in
@@ -214,6 +216,6 @@ Pinned o before call calls =
     → refusal (replay (step m call).0 calls) (Ack now id subtask fresh reused) ≡ Some (FileGone f)
     → ⊥
 
--- whatever call triggers the record
+-- for every call that triggers the record
 abbrev pub PinsStay : Type 0
 PinsStay = (o : Opening) (before : List Call) (call : Call) (calls : List Call) → CanOpen o → AreCalls before → IsCall call → AreCalls calls → Pinned o before call calls

@@ -1,3 +1,4 @@
+-- The definitions that contracts cite.
 pub mod Coordinator
 pub mod FaultTexts
 pub mod Histories

@@ -1,4 +1,4 @@
--- Which calls may want memory. All others, and each refused call, are answered without.
+-- The calls that may run out of memory. All others, and each refused call, take no memory.
 use Rattle.std.specs.Prelude.{Bool, true, false, nat_lt, is_some}
 use Rattle.ckpt_ids.specs.declared.call.Call.{Call}
 use Rattle.ckpt_ids.specs.declared.call.Call.TheVariants.{Tick, Savepoint, Ack, Restore, Take, Show}
@@ -15,12 +15,12 @@ abbrev pub is_trigger : TickEnd → Bool
 is_trigger (Triggered id) = true
 is_trigger end = false
 
--- a tick only where it triggers
+-- a tick only if it triggers
 abbrev pub tick_wants : Reply → Bool
 tick_wants (Ticked expired end) = is_trigger end
 tick_wants reply = false
 
--- a late acknowledgement only where it hands files out
+-- a late acknowledgement only if it hands files out
 abbrev pub ack_wants : Reply → Bool
 ack_wants (AckLate handed) = nat_lt 0 handed
 ack_wants reply = true
@@ -38,6 +38,6 @@ abbrev pub answer_wants : Call → Answer → Bool
 answer_wants call (Done reply) = wants call reply
 answer_wants call (Refused why) = false
 
--- whether the call may want memory in this state
+-- whether the call may run out of memory in this state
 abbrev pub may_want_memory : State → Call → Bool
 may_want_memory m call = answer_wants call (step m call).1

@@ -1,4 +1,4 @@
--- What a coordinator tells without a call.
+-- The reads of a coordinator.
 use Rattle.std.specs.Prelude.{◌≡◌, ℕ, ◌<◌, ◌≤◌, max, Bool, true, false, nat_lt, nat_le, if◌then◌else◌, List, [], Option, Some, None}
 use Rattle.std.specs.List.{list_any}
 use Rattle.ckpt_ids.specs.declared.call.Call.TheVariants.{Tick}
@@ -56,7 +56,7 @@ IsNextExpiry m moment = (now : ℕ) → list_any (is_expired m now) m.records �
 abbrev pub live_of : Record → Live
 live_of r = record { id = r.id; kind = r.kind; done = r.done }
 
--- the one with the lower number, where there are two
+-- the one with the lower number, if there are two
 abbrev pub sooner : Option Live → Option Live → Option Live
 sooner None b = b
 sooner (Some a) None = Some a
@@ -74,7 +74,7 @@ standing_without m id = if nat_lt id m.opening.first then stands.Never else (if 
 abbrev pub standing : State → ℕ → Standing
 standing m id = elim (record_of m id) [ Some r ↦ standing_of r | None ↦ standing_without m id ]
 
--- the files that a record, where there is one, holds beside those of its acknowledgements
+-- the pins of a record, if there is one
 abbrev pub pins_in : Option Record → List ℕ
 pins_in None = []
 pins_in (Some r) = r.pins

@@ -43,7 +43,7 @@ is_cancelled Running = false
 is_cancelled Failed = false
 is_cancelled Cancelled = true
 
--- the record of this number, where it is pending
+-- the record with this number, if it is pending
 abbrev pub pending_of : List Record → ℕ → Option Record
 pending_of records id = find (λ r. is_pending r && (r.id == id)) records
 

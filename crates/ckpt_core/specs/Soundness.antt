@@ -1,4 +1,4 @@
--- What holds of a coordinator's state at each moment: of the opening, and after each call.
+-- What always holds for a coordinator's state: after the opening, and after each call.
 use Rattle.std.specs.Prelude.{◌≡◌, ◌≢◌, ℕ, ◌<◌, ◌≤◌, Bool, true, false, ◌&&◌, nat_lt, [], ◌++◌, count_by, Some, IfSome, ⊤}
 use Rattle.ckpt_ids.specs.declared.limits.TheConstants.{MOMENTS_END, MOST_SAVEPOINTS, NUMBERS_END}
 use Rattle.ckpt_ids.specs.declared.ack.Acked.{Acked}
@@ -19,7 +19,7 @@ use Rattle.ckpt_core.specs.Steps.{pending_checkpoints}
 abbrev pub id_before : Record → Record → Bool
 id_before r s = nat_lt r.id s.id
 
--- the acknowledgements of a record are of its own subtasks, each at most once, and name each file once
+-- the acknowledgements of a record come from its own subtasks, each at most once, and name each file once
 pub record IsRecord (r : Record) : Type 0 where
   pub shape : IsShape r.shape
   pub acks_in_order : AreInSubtaskOrder r.acks
@@ -59,7 +59,7 @@ pub record IsSound (m : State) : Type 0 where
   pub unused : (f : ℕ) → in_outbox m f ≡ true → is_present (uses m.records) f ≡ false
   pub apart : AreDistinct (m.waiting ++ m.taken)
 
--- a call that can be made: the shape of a restore, where it brings one, is the shape of a job
+-- a call that can be made: if a restore has a shape, it is a valid shape
 abbrev pub IsCall : Call → Type 0
 IsCall (Restore now target shape) = IfSome shape IsShape
 IsCall call = ⊤

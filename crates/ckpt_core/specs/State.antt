@@ -78,7 +78,7 @@ abbrev pub unpinned : Option ℕ → Record → Record
 unpinned None r = r
 unpinned (Some ended) r = if r.id == ended then record r { pins = [] } else r
 
--- without the records that pass the test, and without the pins of the record that ended, where one did
+-- without the records that pass the test, and without the pins of the record that ended, if one did
 abbrev pub kept : (Record → Bool) → Option ℕ → List Record → List Record
 kept dropped ended records = map (unpinned ended) (filter (λ r. not (dropped r)) records)
 

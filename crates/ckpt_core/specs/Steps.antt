@@ -142,7 +142,7 @@ cancel m = (
   Done (reply.Cancelled (dropped_by m (cancelled m)) (length (released_by m (cancelled m) None))),
 )
 
--- the outbox hands files to whoever deletes them
+-- the outbox hands files to a caller that deletes them
 unfoldable pub take_files : State → ℕ → Stepped
 take_files m n = (record m { waiting = prelude.drop n m.waiting; taken = m.taken ++ take n m.waiting }, Done (reply.Taken (take n m.waiting)))
 

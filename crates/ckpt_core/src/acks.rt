@@ -54,7 +54,7 @@ impl Parts {
     {
         // what the store ensures, which ties its records to the state
         let _ = self.store.base();
-        // each answer stands last, where it needs no place beside the result
+        // each answer is the last expression, so it needs no place beside the result
         match self.pending.get(id) {
             None => self.ack_late(now, id, subtask, fresh, reused),
             Some(record) => {
@@ -90,7 +90,7 @@ impl Parts {
         Ok(Reply::AckPending(missing - 1))
     }
 
-    /// Makes room in the outbox for the files that are in use and so many more.
+    /// Makes room in the outbox for the files that are in use and this many more.
     pub(crate) fn make_room_for_files(&mut self, more: usize) -> Result<(), AllocError>
         ensures ok { OnOk result (self.new ≡ with_room self.old more) }
         ensures err { OnErr result (self.new ≡ self.old) }
@@ -101,8 +101,8 @@ impl Parts {
         self.outbox.reserve(files)
     }
 
-    /// Takes an acknowledgement into its pending record, and its files into the registry. Fails
-    /// only for want of memory, and then changes nothing.
+    /// Adds an acknowledgement to its pending record, and its files to the registry. Fails only if
+    /// memory runs out, and then changes nothing.
     pub(crate) fn take_ack(
         &mut self,
         now: u64,

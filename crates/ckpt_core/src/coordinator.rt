@@ -29,7 +29,7 @@ pub enum OpenFault {
 /// Why a call has changed nothing.
 #[derive(Clone, Copy, Debug, PartialEq, Eq)]
 pub enum CoreFault {
-    /// The coordinator refuses the call as it stands.
+    /// The coordinator refuses the call in its current state.
     Refused(Refusal),
     /// The call is lawful, and memory ran out.
     Memory,
@@ -65,12 +65,12 @@ impl From<AllocError> for CoreFault {
 
 /// The checkpoint coordinator of one job, for one thread.
 ///
-/// It triggers checkpoints and savepoints, collects the acknowledgements of a job's subtasks,
-/// keeps what is completed, and hands out the files that no record uses any more.
+/// It triggers checkpoints and savepoints, collects the acknowledgements of a job's subtasks, keeps
+/// the completed records, and hands out the files that no record uses any more.
 ///
-/// What each call does is defined in `specs/Steps.antt`, and when it is refused in
-/// `specs/Refusals.antt`; `specs/Soundness.antt` lists what holds of a coordinator at each moment.
-/// Source: the Flink documentation, "Checkpoints", "Savepoints" and "Checkpointing".
+/// `specs/Steps.antt` defines what each call does, and `specs/Refusals.antt` when it is refused.
+/// `specs/Soundness.antt` lists what always holds for a coordinator. Source: the Flink
+/// documentation, "Checkpoints", "Savepoints" and "Checkpointing".
 #[derive(Debug)]
 pub struct Core {
     pub(crate) parts: Parts,
@@ -94,14 +94,14 @@ impl Model for Core {
 }
 
 impl Core {
-    /// Opens the coordinator of a job, which runs from the moment `now` on, in milliseconds. Its
-    /// first record will have the number `first`.
+    /// Opens the coordinator of a job that starts at the moment `now`, in milliseconds. Its first
+    /// record will have the number `first`.
     ///
-    /// Answers [`OpenFault::MomentTooLarge`] exactly where `now` is above 2^62 - 1, and else
-    /// [`OpenFault::BadFirst`] exactly where `first` is outside 1 to 2^62 - 1. Takes no memory.
+    /// Returns [`OpenFault::MomentTooLarge`] exactly if `now` is above 2^62 - 1. Otherwise returns
+    /// [`OpenFault::BadFirst`] exactly if `first` is outside 1 to 2^62 - 1. Takes no memory.
     ///
-    /// Anybody can know how it hashes the files' numbers, and choose numbers that make its calls
-    /// slow. Where they come from somebody who may want that, take [`Core::keyed`].
+    /// Anybody can know how it hashes file numbers, and choose numbers that make its calls slow. If
+    /// file numbers come from outside, use [`Core::keyed`].
     pub fn new(
         alloc: Global,
         config: Config,
@@ -138,14 +138,14 @@ impl Core {
         Ok(Core { parts })
     }
 
-    /// Makes a call, and answers what it gave. Moments are in milliseconds.
+    /// Makes a call, and returns its reply. Moments are in milliseconds.
     ///
-    /// Answers [`CoreFault::Refused`] exactly where the table of `specs/Refusals.antt` has a row
-    /// for the call, with the first such row, and else [`CoreFault::Memory`] where memory runs
-    /// out. After an error nothing has changed, and the moment of the call is not kept.
+    /// Returns [`CoreFault::Refused`] exactly if the table of `specs/Refusals.antt` has a row for
+    /// the call, with the first such row. Otherwise returns [`CoreFault::Memory`] only if memory
+    /// runs out. After an error nothing has changed, and the moment of the call is not kept.
     ///
-    /// Memory is taken only by a tick that triggers, a savepoint, an acknowledgement (a late one
-    /// only where it hands files out), a restore with a shape, a take and a show.
+    /// Only these take memory: a tick that triggers, a savepoint, an acknowledgement (a late one
+    /// only if it hands files out), a restore with a shape, a take and a show.
     pub fn apply(&mut self, call: &Call) -> Result<Reply, CoreFault>
         ensures done { IfOk result (λ reply. step self.old call.now ≡ (self.new, Done reply)) }
         ensures refused { (why : Refusal) → (result ≡ Err (CoreFault.Refused why)) ↔ (refusal self.old call.now ≡ Some why) }
@@ -166,7 +166,7 @@ impl Core {
     }
 }
 
-/// Does nothing: its contract tells that the shape of a restore is the shape of a job.
+/// Does nothing. Its contract says that the shape of a restore is a valid shape.
 fn recall_shape(call: &Call)
     ensures { IsCall call.now }
 {
@@ -180,10 +180,10 @@ fn recall_shape(call: &Call)
 }
 
 impl Parts {
-    /// Makes an accepted call that is no report. Fails only for want of memory.
+    /// Makes an accepted call that is no report. Fails only if memory runs out.
     ///
-    /// What makes the call stands apart for each kind, since a function clears the locals of all
-    /// that is inlined into it.
+    /// Each kind of call has a function of its own, because a function clears the locals of
+    /// everything that is inlined into it.
     fn answer(&mut self, call: &Call) -> Result<Reply, AllocError>
         requires sound { AreSound self.old }
         requires accepted { IsAccepted self.old call.now }
@@ -216,8 +216,8 @@ impl Parts {
         }
     }
 
-    /// Makes a call that takes no memory and is no report. It stands apart, so that `answer` keeps no
-    /// reply of these calls beside its result.
+    /// Makes a call that takes no memory and is no report. It is a function of its own, so that
+    /// `answer` keeps no reply of these calls beside its result.
     #[inline(never)]
     fn answer_in_place(&mut self, call: &Call) -> Reply
         requires sound { AreSound self.old }

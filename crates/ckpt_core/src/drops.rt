@@ -9,8 +9,8 @@ use crate::parts::Parts;
 use ckpt_ids::CheckpointId;
 
 impl Parts {
-    /// Releases the uses of the records whose numbers were noted, hands out the files that no
-    /// record uses any more, and answers how many these are. Takes no memory.
+    /// Releases the uses of the noted records, hands out the files that no record uses any more,
+    /// and returns how many these are. Takes no memory.
     #[inline(never)]
     pub(crate) fn hand_out(&mut self) -> u64
         requires unknown { AreInUseAlone self.old }
@@ -27,7 +27,7 @@ impl Parts {
         count
     }
 
-    /// The same, where the record `id` ends too and gives up its pins.
+    /// The same, if the record `id` ends too and gives up its pins.
     pub(crate) fn hand_out_after(&mut self, id: CheckpointId) -> u64
         requires unknown { AreInUseAlone self.old }
         requires room { present_in self.old.registry ≤ self.old.outbox.spare }
@@ -43,8 +43,7 @@ impl Parts {
         count
     }
 
-    /// Drops the pending records whose numbers were noted, and answers how many files were
-    /// released. Takes no memory.
+    /// Drops the noted pending records, and returns how many files were released. Takes no memory.
     #[inline(always)]
     pub(crate) fn drop_noted(&mut self) -> u64
         requires tied { AreTied self.old }
@@ -61,7 +60,7 @@ impl Parts {
         self.hand_out()
     }
 
-    /// Drops all pending records, and answers how many files were released. Takes no memory.
+    /// Drops all pending records, and returns how many files were released. Takes no memory.
     pub(crate) fn drop_all_pending(&mut self) -> u64
         requires { AreSound self.old }
         ensures { Drops self.old self.new is_pending result }
@@ -71,7 +70,7 @@ impl Parts {
         self.drop_noted()
     }
 
-    /// Drops the pending record `id`, and answers how many files were released. Takes no memory.
+    /// Drops the pending record `id`, and returns how many files were released. Takes no memory.
     pub(crate) fn drop_pending(&mut self, id: CheckpointId) -> u64
         requires sound { AreSound self.old }
         requires there { IsSome (find (λ r. r.id == id) self.old.pending) }
@@ -81,7 +80,7 @@ impl Parts {
         self.drop_noted()
     }
 
-    /// Drops all pending records and all completed checkpoints, and answers how many files were
+    /// Drops all pending records and all completed checkpoints, and returns how many files were
     /// released. Takes no memory.
     pub(crate) fn drop_all_but_savepoints(&mut self) -> u64
         requires { AreSound self.old }
@@ -106,7 +105,7 @@ impl Parts {
         }
     }
 
-    /// Drops a completed savepoint that is not the base, and answers how many files were released.
+    /// Drops a completed savepoint that is not the base, and returns how many files were released.
     /// Takes no memory.
     pub(crate) fn drop_savepoint(&mut self, id: CheckpointId) -> u64
         requires sound { AreSound self.old }

@@ -14,8 +14,8 @@ use ckpt_ids::{CheckpointId, Choice, Kind, Reply, Shape, SubtaskId, Target};
 use std::alloc::AllocError;
 
 impl Parts {
-    /// The job fails over: all pending records are dropped, and nothing more is triggered until it
-    /// is restored. Answers how many files were released.
+    /// The job fails over: all pending records are dropped, and nothing is triggered until the job
+    /// is restored. Returns how many files were released.
     #[inline(never)]
     pub(crate) fn fail_over(&mut self) -> u64
         requires { AreSound self.old }
@@ -84,8 +84,8 @@ impl Parts {
         }
     }
 
-    /// Drops what comes after the target, which becomes the base where it is a savepoint. Answers
-    /// how many files were released.
+    /// Drops the records after the target. If the target is a savepoint, it becomes the base.
+    /// Returns how many files were released.
     fn roll_back(&mut self, target: Target) -> u64
         requires sound { AreSound self.old }
         requires there { (id : ℕ) → target ≡ Savepoint id → is_done_savepoint (state_of self.old) id ≡ true }
@@ -156,8 +156,8 @@ impl Parts {
         Reply::Cancelled { dropped, released }
     }
 
-    /// Drops what a cancelled job does not keep. Answers how many records these were, and how many
-    /// files were released.
+    /// Drops the records that a cancelled job does not keep. Returns how many they were, and how
+    /// many files were released.
     fn drop_cancelled(&mut self) -> (u32, u64)
         requires { AreSound self.old }
         ensures drops { Drops self.old self.new (cancelled (state_of self.old)) result.1 }

@@ -22,7 +22,7 @@ pub struct Saved {
 
 /// The state of a coordinator as plain data. Moments are in milliseconds.
 ///
-/// `specs/Images.antt` says which state an image tells, and in which states a coordinator can be.
+/// `specs/Images.antt` defines the state of an image, and the states in which a coordinator can be.
 #[derive(Debug, Drop)]
 pub struct Image {
     /// The configuration that the job was opened with.
@@ -41,7 +41,7 @@ pub struct Image {
     pub latest: u64,
     /// The moment from which the interval no longer holds a checkpoint back.
     pub due: u64,
-    /// The moment of the last completed checkpoint since the job was started, where there was one.
+    /// The moment of the last completed checkpoint since the job was started, if there was one.
     pub completed: Option<u64>,
     /// How many checkpoints have failed in a row.
     pub failures: u32,
@@ -80,8 +80,8 @@ impl From<AllocError> for ImageFault {
 }
 
 impl Core {
-    /// The state as an image, with the files that were fetched in ascending order: no call tells
-    /// their own order. Fails only for want of memory.
+    /// The state as an image. The files that were fetched are in ascending order, because no call
+    /// returns the order in which they were fetched. Fails only if memory runs out.
     pub fn image(&self) -> Result<Image, AllocError>
         ensures value { IfOk result (λ image. state_in image ≡ settled self.now) }
         ensures good { IfOk result (λ image. CanHold (state_in image)) }
@@ -89,11 +89,11 @@ impl Core {
         self.parts.image()
     }
 
-    /// The coordinator whose state the image tells, which hashes the files' numbers under a secret
-    /// as [`Core::keyed`] does.
+    /// A coordinator in the state of the image. It hashes file numbers under a secret, as that of
+    /// [`Core::keyed`] does.
     ///
-    /// Answers [`ImageFault::Damaged`] only where no coordinator can be in that state, and
-    /// [`ImageFault::Memory`] where memory runs out.
+    /// Returns [`ImageFault::Damaged`] only if no coordinator can be in that state, and
+    /// [`ImageFault::Memory`] if memory runs out.
     pub fn from_image(alloc: Global, image: &Image, secret: Secret) -> Result<Core, ImageFault>
         ensures value { IfOk result (λ core. core ≡ state_in image.now) }
         ensures sound { OnOk result (CanHold (state_in image.now)) }

@@ -34,8 +34,7 @@ impl Parts {
         Ok(Reply::AckLate(unknown.len() as u64))
     }
 
-    /// Those of these files that are not known. Fails only where there are such, and memory runs
-    /// out.
+    /// The unknown ones among these files. Fails only if there are any and memory runs out.
     fn unknown_files(&self, files: &Files) -> Result<Vec<FileId>, AllocError>
         ensures ok { IfOk result (λ unknown. unknown.items ≡ filter (λ f. not (is_known_in self.now f)) files.now) }
         ensures memory { OnErr result (0 < count_by (λ f. not (is_known_in self.now f)) files.now) }
@@ -49,8 +48,8 @@ impl Parts {
         Ok(unknown)
     }
 
-    /// Hands out these files, which are in no use. Fails only where there are such, and memory
-    /// runs out, and then changes nothing.
+    /// Hands out these files, which are not in use. Fails only if there are any and memory runs
+    /// out, and then changes nothing.
     fn put_unknown(&mut self, files: &[FileId]) -> Result<(), AllocError>
         requires distinct { AreDistinct files.now }
         requires unknown { (f : ℕ) → is_in f files.now ≡ true → is_known self.old.outbox f ≡ false }

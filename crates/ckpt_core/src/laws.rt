@@ -16,10 +16,9 @@ pub fn swap()
     ensures { (m : State) (now id : ℕ) (p q : Part) → IsSound m → Exchange m now id p q }
 {}
 
-/// Acknowledgements of different missing subtasks of one record, each with one new file of its
-/// own, made by several seats: in whatever order the seats take their turns, they leave the same
-/// state, as many are accepted and as many refused, and the one that completes the record, if any,
-/// is answered the same.
+/// Several seats acknowledge different missing subtasks of one record, each with one new file of
+/// its own. Every order of their turns leaves the same state and the same numbers of accepted and
+/// refused calls. If one completes the record, its answer is the same too.
 pub fn any_order()
     ensures { (m : State) (now id : ℕ) (r : Record) (news : List NewFile) (given made : SeatedCalls) → IsSound m → AnyOrder m now id r news given made }
 {}
@@ -68,12 +67,12 @@ pub fn pinned()
     ensures { PinsStay }
 {}
 
-/// What holds of a coordinator at each moment holds after every list of calls.
+/// What always holds for a coordinator holds after every list of calls.
 pub fn sound()
     ensures { (o : Opening) (calls : List Call) → CanOpen o → AreCalls calls → IsSound (replay (opened o) calls) }
 {}
 
-/// A file once handed out is used by no live record, then or later, where no deleted file is
+/// No live record uses a file that was handed out, neither then nor later, if no deleted file is
 /// reported as new again.
 pub fn used_no_more()
     ensures { (o : Opening) (before calls : List Call) → CanOpen o → AreCalls (before ++ calls) → UsedNoMore o before calls }
@@ -97,9 +96,8 @@ pub fn resumes()
     ensures { (m n : State) (calls : List Call) → AreAlike m n → GoesOnAs m n calls }
 {}
 
-/// A log may be cut at each place: the calls before it lead to a state, and the coordinator that is
-/// made of its image answers the calls after it as the one that made all calls did, and is alike
-/// after them.
+/// A log may be cut at each place. A coordinator that is made from the image there answers the
+/// calls after it as the first one does, and is alike after them.
 pub fn cutting()
     ensures { (m : State) (before after : List Call) → IsCut m before after }
 {}

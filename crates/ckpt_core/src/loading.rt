@@ -1,4 +1,4 @@
-//! A coordinator made again of what an image tells.
+//! Makes a coordinator from an image.
 
 ghost use Rattle.std.specs.Prelude.{◌≡◌, ◌↔◌, ℕ, ◌<◌, ◌≤◌, ◌^◌, ◌-◌, ◌+◌, [], ◌∷◌, ◌++◌, false, map, length, Err, None, IfOk, OnOk, IsTrue};
 ghost use Rattle.ckpt_ids.specs.declared.ack.Acked.{Acked};
@@ -23,7 +23,8 @@ use ckpt_registry::Registry;
 use ckpt_rules::limit_of;
 use std::alloc::{AllocError, Global};
 
-/// Adds the uses of a record that is newer than all that have some. Fails only for want of memory.
+/// Adds the uses of a record that is newer than all records with uses. Fails only if memory runs
+/// out.
 pub(crate) fn register(
     registry: &mut Registry,
     id: CheckpointId,
@@ -67,7 +68,7 @@ pub(crate) fn acknowledged(alloc: Global, metadata: &Metadata) -> Result<Pending
 
 impl Parts {
     /// Adds a pending record that is newer than all others, with the files that it pins. Fails only
-    /// for want of memory.
+    /// if memory runs out.
     pub(crate) fn load_pending(
         &mut self,
         pending: Pending,
@@ -93,7 +94,7 @@ impl Parts {
         self.make_room_for_files(0)
     }
 
-    /// Adds a done checkpoint that is newer than all other records. Fails only for want of memory.
+    /// Adds a done checkpoint that is newer than all other records. Fails only if memory runs out.
     pub(crate) fn load_checkpoint(&mut self, done: Done, acks: &Acks) -> Result<(), AllocError>
         requires tied { AreTied self.old }
         requires newest { (r : Record) → IsIn r (records_in self.old) → r.id < done.id }
@@ -118,7 +119,7 @@ impl Parts {
         self.make_room_for_files(0)
     }
 
-    /// Adds a done savepoint that is newer than all other records. Fails only for want of memory.
+    /// Adds a done savepoint that is newer than all other records. Fails only if memory runs out.
     pub(crate) fn load_savepoint(&mut self, done: Done, acks: &Acks) -> Result<(), AllocError>
         requires tied { AreTied self.old }
         requires newest { (r : Record) → IsIn r (records_in self.old) → r.id < done.id }
@@ -178,8 +179,8 @@ fn is_before(moment: u64, end: u64) -> bool
 }
 
 impl Parts {
-    /// Whether a record may stand behind those that are there, by its number, its moment and the
-    /// limits on how many there are.
+    /// Whether a record may follow those that are there, by its number, its moment and the limits
+    /// on their numbers.
     fn may_join(&self, saved: &Saved) -> bool
         requires { HaveSoundRecords self.now }
         ensures yes { IsTrue result → IsRecord (record_in saved.now) → JoinsParts self.now (record_in saved.now) }
@@ -256,7 +257,7 @@ impl Parts {
     {
         // Tells that the configuration is within its limits.
         let _ = self.opened.config.retained();
-        // Tells that the acknowledgements are of the record's subtasks.
+        // The contract of this call says that the acknowledgements come from the record's subtasks.
         let _ = pending.missing();
         match pending.finish() {
             Ok(done) => {
@@ -280,7 +281,7 @@ impl Parts {
         Ok(())
     }
 
-    /// Adds a done record. Fails only for want of memory.
+    /// Adds a done record. Fails only if memory runs out.
     fn load_done(&mut self, done: Done, saved: &Saved) -> Result<(), AllocError>
         requires tied { AreTied self.old }
         requires sound { HaveSoundRecords self.old }
@@ -320,7 +321,7 @@ impl Parts {
     }
 }
 
-/// A list of sound records stays sound with one more exactly where the tests of the next record hold.
+/// A list of sound records with one more is sound exactly if the tests of the next record hold.
 pub(crate) fn joining()
     ensures joined { JoinedAreSound }
     ensures tested { LastJoins }

@@ -17,7 +17,8 @@ use std::marker::Model;
 /// The records that wait for acknowledgements.
 #[derive(Debug, Drop)]
 pub(crate) struct PendingRecords {
-    // in rising number: a new record goes last, and each other is found by halves
+    // in ascending order of their numbers: a new record is the last, and a binary search finds each
+    // other one
     records: VecDeque<Pending>,
     // of these records, how many are checkpoints
     checkpoints: usize,
@@ -46,7 +47,7 @@ impl PendingRecords {
         }
     }
 
-    /// Does nothing: its contract tells what holds of the records.
+    /// Does nothing. Its contract says what holds for the records.
     pub(crate) fn recall(&self)
         ensures in_order { IsInOrder id_before self.now }
         ensures pending { (r : Record) → IsIn r self.now → IsPending r }
@@ -64,8 +65,8 @@ impl PendingRecords {
         self.records.get(place)
     }
 
-    /// Adds a record with a greater number than all others. Fails only for want of memory, and
-    /// then adds none.
+    /// Adds a record with a greater number than all others. Fails only if memory runs out, and then
+    /// adds none.
     pub(crate) fn add(&mut self, pending: Pending) -> Result<(), AllocError>
         requires newest { (r : Record) → IsIn r self.old → r.id < pending.id }
         ensures ok { OnOk result (self.new ≡ self.old ++ pending ∷ []) }
@@ -79,8 +80,8 @@ impl PendingRecords {
         Ok(())
     }
 
-    /// Takes the acknowledgement of a subtask, with all files of its part, into the record of this
-    /// number, which waits for it. Fails only for want of memory, and then changes nothing.
+    /// Adds the acknowledgement of a subtask, with all files of its part, to the record with this
+    /// number, which lacks it. Fails only if memory runs out, and then changes nothing.
     pub(crate) fn ack(
         &mut self,
         id: CheckpointId,
@@ -122,7 +123,7 @@ impl PendingRecords {
         Some(removed)
     }
 
-    /// Takes out the records of these numbers, where there are such. Takes no memory.
+    /// Removes the records with these numbers, if there are any. Takes no memory.
     pub(crate) fn remove_all(&mut self, ids: &[CheckpointId])
         ensures { self.new ≡ filter (λ r. not (list_any (λ i. r.id == i) ids.now)) self.old }
     {
@@ -156,7 +157,7 @@ impl PendingRecords {
         self.records.len() - self.checkpoints
     }
 
-    /// The first record from this number on. It is searched by halves.
+    /// The first record from this number on. Makes a binary search.
     pub(crate) fn first_from(&self, id: CheckpointId) -> Option<Live>
         ensures value { result ≡ option_map live_of (find (λ r. nat_le id r.id) self.now) }
         ensures in_order { IsInOrder id_before self.now }
@@ -189,8 +190,7 @@ impl PendingRecords {
     }
 
     /// Notes the numbers of the records that started `timeout` milliseconds before `moment` or
-    /// earlier, in room that is there, and answers how many of these are checkpoints. Takes no
-    /// memory.
+    /// earlier, in reserved room. Returns how many of these are checkpoints. Takes no memory.
     pub(crate) fn note_expired(
         &self,
         moment: u64,
@@ -227,8 +227,8 @@ impl PendingRecords {
     }
 }
 
-/// Where the record of this number is. Mostly that is the last, so that it is looked at before the
-/// others are searched by halves.
+/// The place of the record with this number. Mostly that is the last one, so it is checked before a
+/// binary search.
 fn place_of(records: &VecDeque<Pending>, id: CheckpointId) -> Option<usize>
     requires { IsInOrder id_before records.now.items }
     ensures found { IfSome result (LiesAt id_of id records.now.items) }
@@ -242,7 +242,7 @@ fn place_of(records: &VecDeque<Pending>, id: CheckpointId) -> Option<usize>
     }
 }
 
-/// The earlier of two moments, where there are two.
+/// The earlier of two moments, if there are two.
 fn earlier(least: Option<u64>, moment: u64) -> u64
     ensures { (t : ℕ) → nat_le result t ≡ (has_come least t || nat_le moment t) }
 {

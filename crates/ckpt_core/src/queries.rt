@@ -1,4 +1,4 @@
-//! What a coordinator tells without a call. None of it takes memory or changes anything.
+//! The reads of a coordinator. They take no memory and change nothing.
 
 ghost use Rattle.std.specs.Prelude.{◌≡◌, length, find, nat_le, option_map, slice_get};
 ghost use Rattle.ckpt_ids.specs.Records.{missing, uses};
@@ -25,7 +25,7 @@ pub struct Live {
 }
 
 impl Core {
-    /// What the job is doing. It also tells a caller that the coordinator is sound.
+    /// What the job is doing. The contract also says that the coordinator is sound.
     #[tactic(auto, unfolding(crate::specs::Inside::Parts::state_of))]
     pub fn mode(&self) -> Mode
         ensures value { result ≡ self.now.mode }
@@ -35,8 +35,8 @@ impl Core {
     }
 
     /// The moment from which neither the interval nor the pause holds a checkpoint back, in
-    /// milliseconds: no tick before it triggers one. So this is when to tick next. A tick from then
-    /// on triggers one unless it is refused, fails the job over, or finds as many pending as may be.
+    /// milliseconds. No tick before it triggers one. A tick at it or later triggers one, unless it
+    /// is refused, fails the job over, or finds as many pending as may be.
     pub fn due(&self) -> u64
         ensures value { result ≡ next_due self.now }
         ensures before { NoneTriggersBefore self.now result }
@@ -45,8 +45,8 @@ impl Core {
         self.parts.due()
     }
 
-    /// The moment at which the first of the pending records expires, in milliseconds, or `None`
-    /// where none is pending. Looks at each pending record.
+    /// The moment at which the first of the pending records expires, in milliseconds, or `None` if
+    /// none is pending. Visits each pending record.
     pub fn oldest_expiry(&self) -> Option<u64>
         ensures { IsNextExpiry self.now result }
     {
@@ -60,8 +60,8 @@ impl Core {
         self.parts.choice()
     }
 
-    /// The live record at this place, where they stand in rising number, or `None` past the last.
-    /// Takes a search by halves for each place before it, and looks at the pending records.
+    /// The live record at this place, in ascending order of their numbers, or `None` past the last.
+    /// Makes a binary search for each place before it, and visits the pending records.
     #[tactic(auto, unfolding(crate::specs::Inside::Parts::state_of))]
     pub fn live(&self, place: usize) -> Option<Live>
         ensures { result ≡ option_map live_of (slice_get self.now.records place) }
@@ -92,8 +92,8 @@ impl Core {
         self.parts.outbox.taken()
     }
 
-    /// How many subtasks of this pending record have not acknowledged, or `None` where no record
-    /// of this number is pending.
+    /// How many subtasks of this pending record have not acknowledged, or `None` if no record with
+    /// this number is pending.
     #[tactic(auto, unfolding(crate::specs::Inside::Parts::state_of))]
     pub fn missing(&self, id: CheckpointId) -> Option<u32>
         ensures { result ≡ option_map missing (pending_of self.now.records id) }
@@ -175,7 +175,7 @@ impl Parts {
     }
 }
 
-/// The one with the lower number, where there are two.
+/// The one with the lower number, if there are two.
 fn sooner(left: Option<Live>, right: Option<Live>) -> Option<Live>
     ensures { result ≡ sooner left right }
 {

@@ -23,7 +23,7 @@ impl Parts {
         Ok(Reply::Taken(self.outbox.take(most)?))
     }
 
-    /// A fetched file is deleted. Refuses exactly where the file is not taken.
+    /// A fetched file is deleted. Refuses exactly if the file is not taken.
     #[inline(never)]
     pub(crate) fn deleted(&mut self, file: FileId) -> Result<Reply, Refusal>
         requires { AreSound self.old }
@@ -37,7 +37,7 @@ impl Parts {
         }
     }
 
-    /// A fetched file could not be deleted. Refuses exactly where the file is not taken.
+    /// A fetched file could not be deleted. Refuses exactly if the file is not taken.
     #[inline(never)]
     pub(crate) fn undeleted(&mut self, file: FileId) -> Result<Reply, Refusal>
         requires { AreSound self.old }

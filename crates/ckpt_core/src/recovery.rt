@@ -24,7 +24,7 @@ pub enum Standing {
     Pending,
     /// The live record of this number has all acknowledgements.
     Done,
-    /// A record had this number, and it is live no more: it failed, or was dropped.
+    /// A record had this number, and is no longer live: it failed, or was dropped.
     Ended,
     /// No record has had the number so far: it is the next record's, or above it.
     NotYet,
@@ -34,8 +34,8 @@ pub enum Standing {
 }
 
 impl Core {
-    /// The first live record whose number is at least this one, or `None` where there is none. It
-    /// is searched by halves.
+    /// The first live record whose number is at least this one, or `None` if there is none. Makes a
+    /// binary search.
     #[tactic(auto, unfolding(crate::specs::Inside::Parts::state_of))]
     pub fn live_from(&self, id: CheckpointId) -> Option<Live>
         ensures { result ≡ option_map live_of (find (λ r. nat_le id r.id) self.now.records) }
@@ -43,25 +43,26 @@ impl Core {
         self.parts.first_from(id)
     }
 
-    /// What this number is. Any number has an answer. It is searched by halves.
+    /// Whether the record with this number is pending, done or ended, or no record has had the
+    /// number. Makes a binary search.
     pub fn standing(&self, id: CheckpointId) -> Standing
         ensures { result ≡ standing self.now id }
     {
         self.parts.standing(id)
     }
 
-    /// The files that this subtask acknowledged in the live record of this number, in ascending
-    /// order, each once. `None` where no live record has the number, or the subtask has not
-    /// acknowledged in it. Both are searched by halves.
+    /// The files that this subtask acknowledged in the live record with this number, in ascending
+    /// order, each once. `None` if no live record has the number, or if the subtask has not
+    /// acknowledged in it. Makes a binary search for each.
     pub fn files_of(&self, id: CheckpointId, subtask: SubtaskId) -> Option<&[FileId]>
         ensures { option_copied result ≡ option_and_then (λ r. files_from r subtask) (record_of self.now id) }
     {
         self.parts.files_of(id, subtask)
     }
 
-    /// The files that the pending record of this number holds beside those of its acknowledgements,
-    /// in ascending order, each once: those of the choice at its trigger. Empty where no record of
-    /// this number is pending. Fails only for want of memory.
+    /// The files that the pending record with this number pins, in ascending order, each once:
+    /// those of the choice at its trigger. Empty if no record with this number is pending. Fails
+    /// only if memory runs out.
     #[tactic(auto, unfolding(crate::specs::Inside::Parts::state_of))]
     pub fn pins_of(&self, id: CheckpointId) -> Result<Files, AllocError>
         ensures { IfOk result (λ files. files ≡ pins_in (pending_of self.now.records id)) }
@@ -69,8 +70,8 @@ impl Core {
         self.parts.pins_of_pending(id)
     }
 
-    /// The file at this place among those that wait for deletion, where the next to be fetched is
-    /// the first, or `None` past the last. Takes constant time.
+    /// The file at this place among those that wait for deletion, or `None` past the last. The
+    /// first is fetched next. Takes constant time.
     #[tactic(auto, unfolding(crate::specs::Inside::Parts::state_of))]
     pub fn waiting_file(&self, place: usize) -> Option<FileId>
         ensures { result ≡ slice_get self.now.waiting place }
@@ -78,8 +79,8 @@ impl Core {
         self.parts.outbox.waiting_file(place)
     }
 
-    /// The files that were fetched for deletion and are not yet reported, in ascending order. Looks
-    /// at each file of the outbox. Fails only for want of memory.
+    /// The files that were fetched for deletion and are not yet reported, in ascending order.
+    /// Visits each file of the outbox. Fails only if memory runs out.
     #[tactic(auto, unfolding(crate::specs::Inside::Parts::state_of))]
     pub fn taken_files(&self) -> Result<Files, AllocError>
         ensures { IfOk result (λ files. files ≡ ascending self.now.taken) }

@@ -16,7 +16,7 @@ use ckpt_ids::{
 };
 use ckpt_pending::Pending;
 
-/// An `Err` with the refusal where the test holds.
+/// An `Err` with the refusal if the test holds.
 fn refuse_if(test: bool, why: Refusal) -> Result<(), Refusal>
     ensures { result_err result ≡ refuse_if test why }
 {
@@ -38,9 +38,9 @@ fn test_subtask(pending: &Pending, subtask: SubtaskId) -> Result<(), Refusal>
 
 /// Tests the number of an acknowledgement's files, and that each is named once.
 ///
-/// Answers [`Refusal::TooManyFiles`] exactly where there are more than [`MOST_FILES`], and else
-/// [`Refusal::RepeatedFile`] exactly where a file stands twice. A call that acknowledges with such
-/// files is refused so by every coordinator.
+/// Returns [`Refusal::TooManyFiles`] exactly if there are more than [`MOST_FILES`]. Otherwise
+/// returns [`Refusal::RepeatedFile`] exactly if a file is named twice. Every coordinator refuses an
+/// acknowledgement with such files this way.
 pub fn test_files(fresh: &Files, reused: &Files) -> Result<(), Refusal>
     ensures { result_err result ≡ files_refusal fresh.now reused.now }
 {
@@ -58,7 +58,7 @@ fn has_repeats(fresh: &Files, reused: &Files) -> bool
     repeats(fresh) || repeats(reused) || share(fresh, reused)
 }
 
-/// Whether a file stands twice. In ascending files it then stands beside itself.
+/// Whether a file is named twice. In ascending order its two places are neighbours.
 pub(crate) fn repeats(files: &[FileId]) -> bool
     requires { IsAscending files.now }
     ensures { result ≡ has_repeats files.now }
@@ -74,7 +74,7 @@ fn share(fresh: &[FileId], reused: &[FileId]) -> bool
     reused.iter().any(|file| is_among(*file, fresh))
 }
 
-/// Whether the file is one of these. Searches by halves.
+/// Whether the file is one of these. Makes a binary search.
 fn is_among(file: FileId, files: &[FileId]) -> bool
     requires { IsAscending files.now }
     ensures { result ≡ list_any (λ f. file == f) files.now }

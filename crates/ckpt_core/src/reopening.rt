@@ -49,8 +49,8 @@ fn has_sound_numbers(image: &Image) -> bool
 }
 
 impl Parts {
-    /// The parts that an image tells, whose moments, numbers and failures are within their limits,
-    /// but for its records, its base and its files. Fails only for want of memory.
+    /// The parts of an image without its records, its base and its files. Its moments, numbers and
+    /// failures are within their limits. Fails only if memory runs out.
     pub(crate) fn begun(alloc: Global, image: &Image, secret: Secret) -> Result<Parts, AllocError>
         requires { HasSoundNumbers (state_in image.now) }
         ensures state { IfOk result (λ parts. state_of parts ≡ emptied (state_in image.now)) }
@@ -116,7 +116,7 @@ impl Parts {
         }
     }
 
-    /// Puts files to the end of waiting, in places that are reserved, where each is known nowhere.
+    /// Adds files at the end of waiting, in reserved room, if none of them is known.
     pub(crate) fn put_back(&mut self, files: &[FileId]) -> Result<(), ImageFault>
         requires room { length files.now ≤ self.old.outbox.spare }
         ensures parts { OnOk result (self.new ≡ with_more_waiting self.old files.now) }
@@ -130,7 +130,7 @@ impl Parts {
             }
             self.outbox.put(&[*file]);
         }
-        // Tells that no file stands twice.
+        // The contract of this call says that no file is there twice.
         let _ = self.outbox.knows(FileId(0));
         Ok(())
     }
@@ -156,7 +156,7 @@ impl Parts {
         Ok(())
     }
 
-    /// The parts that an image tells.
+    /// The parts of an image.
     pub(crate) fn of_image(
         alloc: Global,
         image: &Image,

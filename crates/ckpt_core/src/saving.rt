@@ -22,7 +22,7 @@ fn number_after(id: CheckpointId) -> CheckpointId
 }
 
 impl Parts {
-    /// The files that a live record pins. Fails only for want of memory.
+    /// The files that a live record pins. Fails only if memory runs out.
     fn pins_of(&self, id: CheckpointId, done: bool) -> Result<Files, AllocError>
         requires { AreSound self.now }
         ensures { IfOk result (λ pins. (r : Record) → IsIn r (records_in self.now) → r.id ≡ id → r.done ≡ done → pins ≡ r.pins) }
@@ -34,7 +34,7 @@ impl Parts {
         self.registry.pins(id)
     }
 
-    /// What is saved of a live record. Fails only for want of memory.
+    /// The image of a live record. Fails only if memory runs out.
     fn save(&self, id: CheckpointId, done: bool) -> Result<Saved, AllocError>
         requires sound { AreSound self.now }
         requires there { IsSome (record_of (state_of self.now) id) }
@@ -45,7 +45,8 @@ impl Parts {
         Ok(Saved { metadata, pins })
     }
 
-    /// What is saved of all live records, in rising number. Fails only for want of memory.
+    /// The images of all live records, in ascending order of their numbers. Fails only if memory
+    /// runs out.
     fn saved(&self) -> Result<Vec<Saved>, AllocError>
         requires { AreSound self.now }
         ensures { IfOk result (λ saved. map record_in saved.items ≡ records_in self.now) }
@@ -61,7 +62,7 @@ impl Parts {
         Ok(saved)
     }
 
-    /// The state as an image. Fails only for want of memory.
+    /// The state as an image. Fails only if memory runs out.
     pub(crate) fn image(&self) -> Result<Image, AllocError>
         requires { AreSound self.now }
         ensures value { IfOk result (λ image. state_in image ≡ settled (state_of self.now)) }

@@ -15,7 +15,7 @@ use ckpt_pending::Pending;
 use ckpt_rules::{Failures, Hold};
 use std::alloc::AllocError;
 
-/// What a tick has done. It is smaller than a reply, which is made of it once, where it is answered.
+/// What a tick has done. It is smaller than a reply, which is made from it once, at the end.
 pub(crate) struct Ticked {
     /// How many records expired.
     pub(crate) expired: u32,
@@ -91,7 +91,7 @@ impl Parts {
         Ok(id)
     }
 
-    /// Pins the files of the record that is chosen, where one is. Visits none of them.
+    /// Pins the files of the choice, if it is a record. Visits none of them.
     fn pin(&mut self, id: CheckpointId, choice: Choice) -> Result<(), AllocError>
         requires below { (f : ℕ) → IsIn f (files_chosen choice self.old.registry) → count self.old.registry f < 2 ^ 32 - 1 }
         requires unpinned { HasNoUse self.old.registry id Pin }
@@ -140,8 +140,8 @@ impl Parts {
         }
     }
 
-    /// Time has passed: what is too old expires, and a checkpoint is triggered where nothing holds
-    /// it back. Only a trigger takes memory, and where there is none nothing has changed.
+    /// Time has passed: records that are too old expire, and a checkpoint is triggered if nothing
+    /// holds it back. Only a trigger takes memory. If memory runs out, nothing has changed.
     pub(crate) fn tick(&mut self, now: u64) -> Result<Ticked, AllocError>
         requires sound { AreSound self.old }
         requires accepted { IsAccepted self.old (call.Tick now) }
@@ -249,7 +249,7 @@ impl Parts {
         }
     }
 
-    /// Triggers a checkpoint where nothing holds it back, while so many are pending.
+    /// Triggers a checkpoint if nothing holds it back while this many are pending.
     fn start_or_hold(&mut self, pending: u32) -> Result<TickEnd, AllocError>
         requires tied { AreTied self.old }
         requires sound { IsSound (state_of self.old) }

@@ -2,7 +2,7 @@
 use Rattle.std.specs.Prelude.{ℕ, ◌+◌, Bool, List, [], ◌∷◌, ◌++◌, if◌then◌else◌}
 use Rattle.ckpt_outbox.specs.Queues.{without}
 
--- What so many changes left.
+-- The state after this many changes.
 pub record Changed : Type 0 where
   pub files : List ℕ
   pub changes : ℕ

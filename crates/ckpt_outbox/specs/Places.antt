@@ -1,10 +1,10 @@
--- How the index of an outbox tells where a file is. Only proofs and the type's invariant read this.
+-- How the index of an outbox gives the place of a file. Only proofs and the type's invariant read this.
 use Rattle.std.specs.Prelude.{◌≡◌, ℕ, ◌+◌, ◌≤◌, ◌<◌, ◌%◌, ◌^◌, Bool, false, List, ◌++◌, length, get_or, if◌then◌else◌, Option, Some, is_some, nat_eq}
 use Rattle.std.specs.HashMap as hash
 use Rattle.std.specs.HashMap.{HashMap, spare}
 use Rattle.ckpt_outbox.specs.Queues.{AreDistinct, is_in}
 
--- the ticket of the file at this place of waiting, where the first has the ticket `front`
+-- the ticket of the file at this place of waiting, if the first has the ticket `front`
 abbrev pub ticket : ℕ → ℕ → ℕ
 ticket front place = (front + place) % 2 ^ 64
 
@@ -18,7 +18,7 @@ is_apart tickets waiting file = if is_in file waiting then false else is_some (t
 
 -- what is true of the fields of an outbox
 pub record IsSound {S : Type 0} (waiting : List ℕ) (front : ℕ) (capacity : ℕ) (taken : List ℕ) (index : HashMap ℕ ℕ S) (room : ℕ) : Type 0 where
-  -- no file stands twice in the two queues
+  -- no file is in the two queues twice
   pub distinct : AreDistinct (waiting ++ taken)
   -- waiting has room for all of taken, and for what has its place reserved
   pub place_room : length waiting + length taken + room ≤ capacity

@@ -80,8 +80,8 @@ impl Outbox {
         Outbox::keyed(alloc, Secret::fixed())
     }
 
-    /// An empty outbox that hashes the files' numbers under a secret. So whoever chooses the
-    /// numbers can't make look-ups slow. Takes no memory.
+    /// An empty outbox that hashes file numbers under a secret. So nobody who chooses the numbers
+    /// can make look-ups slow. Takes no memory.
     pub fn keyed(alloc: Global, secret: Secret) -> Outbox
         ensures { result ≡ record { waiting = []; taken = []; spare = 0 } }
     {
@@ -203,8 +203,8 @@ impl Outbox {
         Ok(())
     }
 
-    /// The file at this place among those that wait, where the next to be fetched is the first, or
-    /// `None` past the last. Takes constant time.
+    /// The file at this place among those that wait, or `None` past the last. The first is fetched
+    /// next. Takes constant time.
     pub fn waiting_file(&self, place: usize) -> Option<FileId>
         ensures { result ≡ slice_get self.now.waiting place }
     {

@@ -1,3 +1,4 @@
+-- The lemmas that the proofs use.
 pub mod AckLemmas
 pub mod FileLemmas
 pub mod FullLemmas

@@ -21,7 +21,7 @@ subtask_of a = a.subtask
 abbrev pub without_ack : SubtaskId → Record → Record
 without_ack s r = record r { acks = filter (λ a. not (same_subtask s a.subtask)) r.acks }
 
--- the files that a subtask acknowledged in the record, where it has acknowledged
+-- the files that a subtask acknowledged in the record, if it has acknowledged
 abbrev pub files_from : Record → SubtaskId → Option (List ℕ)
 files_from r s = option_map (λ a. a.files) (find (λ a. same_subtask s a.subtask) r.acks)
 
@@ -29,13 +29,13 @@ files_from r s = option_map (λ a. a.files) (find (λ a. same_subtask s a.subtas
 abbrev pub HasAlready : Record → SubtaskId → Type 0
 HasAlready r subtask = (is_subtask r.shape subtask ≡ true) × (has_acknowledged r subtask ≡ true)
 
--- what holds of each record that waits for acknowledgements
+-- what holds for each record that waits for acknowledgements
 pub record IsPending (r : Record) : Type 0 where
   pub not_done : r.done ≡ false
   pub no_pins : r.pins ≡ []
   pub has_shape : IsShape r.shape
   pub in_order : AreInSubtaskOrder r.acks
-  -- each acknowledgement is of a subtask of the shape
+  -- each acknowledgement comes from a subtask of the shape
   pub expected : (a : Acked) → IsIn a r.acks → is_subtask r.shape a.subtask ≡ true
 
 -- such a record, with the number of subtasks that have not acknowledged
@@ -43,7 +43,7 @@ pub record IsCounted (r : Record) (count : ℕ) : Type 0 where
   pub pending : IsPending r
   pub counted : count ≡ missing r
 
--- what holds of each record that has all of its acknowledgements
+-- what holds for each record that has all of its acknowledgements
 pub record IsDone (r : Record) : Type 0 where
   pub is_done : r.done ≡ true
   pub no_pins : r.pins ≡ []

@@ -64,8 +64,8 @@ impl Done {
         Ok(metadata)
     }
 
-    /// The files that this subtask acknowledged, in ascending order, or `None` where the record's
-    /// shape has no such subtask. It is searched by halves.
+    /// The files that this subtask acknowledged, in ascending order, or `None` if the record's
+    /// shape has no such subtask. Makes a binary search.
     pub fn files_of(&self, subtask: SubtaskId) -> Option<&[FileId]>
         ensures { option_copied result ≡ files_from self.now subtask }
     {

@@ -140,8 +140,8 @@ impl Pending {
         place_of(&self.acks, subtask).is_ok()
     }
 
-    /// The files that this subtask acknowledged, in ascending order, or `None` where it has not
-    /// acknowledged. It is searched by halves.
+    /// The files that this subtask acknowledged, in ascending order, or `None` if it has not
+    /// acknowledged. Makes a binary search.
     pub fn files_of(&self, subtask: SubtaskId) -> Option<&[FileId]>
         ensures { option_copied result ≡ files_from self.now subtask }
     {

@@ -1,3 +1,4 @@
+-- The lemmas that the proofs use.
 pub mod CounterLemmas
 pub mod HoldingLemmas
 pub mod ListLemmas

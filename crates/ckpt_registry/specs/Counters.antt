@@ -14,7 +14,7 @@ Counts = IndexMap ℕ ℕ Secret
 abbrev pub counter : Counts → ℕ → ℕ
 counter m f = unwrap_or (get nat_eq m f) 0
 
--- 1 where the file is counted, 0 elsewhere
+-- 1 if the file is counted, otherwise 0
 abbrev pub counted_once : Counts → ℕ → ℕ
 counted_once m f = if nat_lt 0 (counter m f) then 1 else 0
 

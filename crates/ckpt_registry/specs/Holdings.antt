@@ -1,4 +1,4 @@
--- The uses that the row of what each record holds stands for.
+-- The uses that the row of each record's holdings stands for.
 use Rattle.std.specs.Prelude.{ℕ, ◌+◌, ◌<◌, ◌≤◌, ◌==◌, Bool, List, ◌++◌, count_by, filter, length, map, ◌≡◌}
 use Rattle.std.specs.List.{HoldsAt, flat_map}
 use Rattle.std.specs.List.Sorted.{IsPartitionPoint}
@@ -31,7 +31,7 @@ BelongsAt held id place = (place ≤ length held) × IsPartitionPoint (λ h. h.i
 abbrev pub files_of : Part → List ℕ
 files_of part = part.fresh ++ part.reused
 
--- the files of a record; one that several subtasks use stands for each
+-- the files of a record; a file that several subtasks use is there once for each
 abbrev pub files_in : List Part → List ℕ
 files_in parts = flat_map files_of parts
 

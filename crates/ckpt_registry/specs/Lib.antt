@@ -1,3 +1,4 @@
+-- The definitions that contracts cite.
 pub mod Counters
 pub mod Ends
 pub mod Holdings

@@ -27,7 +27,7 @@ pinned_by m one = each_file (parts_pinned m one) ++ one.files.items
 abbrev pub IsLook : Acknowledged → ℕ → Look → Type 0
 IsLook m f look = look.found ≡ nat_lt 0 (times f (files_in (take look.parts (parts_of m look.chosen))))
 
--- what a record pins; a file of several parts stands for each
+-- the pins of a record; a file of several parts is there once for each
 abbrev pub named_by : Acknowledged → ℕ → List Pinner → List ℕ
 named_by m id pinned = flat_map (λ one. files_in (parts_pinned m one) ++ one.files.items) (filter (λ one. one.id == id) pinned)
 

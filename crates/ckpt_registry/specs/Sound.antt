@@ -17,7 +17,7 @@ stored acknowledged pinned = uses_in acknowledged.items ++ pins_in acknowledged 
 abbrev pub in_use : Acknowledged → List Pinner → List Use
 in_use acknowledged pinned = in_order_once use_before (stored acknowledged pinned)
 
--- each use stands once, so that putting them in order loses none
+-- each use is there once, so that putting them in order loses none
 abbrev pub StandsOnce : List Use → Type 0
 StandsOnce us = (p : Use → Bool) → count_by p us ≡ count_by p (in_order_once use_before us)
 

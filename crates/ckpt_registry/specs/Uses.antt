@@ -5,7 +5,7 @@ use Rattle.ckpt_ids.specs.Ascending.{ascending_set}
 use Rattle.ckpt_ids.specs.Ordered.{AreDistinct, IsIn}
 use Rattle.ckpt_ids.specs.Records.{Use, Holder, Pin, same_holder}
 
--- each number stands once
+-- each number is there once
 abbrev pub IsEachOnce : List ℕ → Type 0
 IsEachOnce = AreDistinct
 

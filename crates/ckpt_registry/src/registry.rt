@@ -82,8 +82,8 @@ impl Registry {
         Registry::keyed(alloc, Secret::fixed())
     }
 
-    /// A registry without uses that hashes the files' numbers under a secret. So whoever chooses
-    /// the numbers can't make look-ups slow. Takes no memory.
+    /// A registry without uses that hashes file numbers under a secret. So nobody who chooses the
+    /// numbers can make look-ups slow. Takes no memory.
     pub fn keyed(alloc: Global, secret: Secret) -> Registry
         ensures { result ≡ [] }
     {

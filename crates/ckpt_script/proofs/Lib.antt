@@ -1,3 +1,4 @@
+-- The lemmas that the proofs use.
 pub mod CauseLemmas
 pub mod KnownLemmas
 pub mod LineLemmas

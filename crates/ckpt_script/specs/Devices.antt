@@ -5,7 +5,7 @@ use Rattle.ckpt_script.specs.declared.fault.RunFault.{RunFault}
 use Rattle.ckpt_script.specs.declared.fault.RunFault.TheVariants.{Read, Write, TooManyLines, Memory}
 use Rattle.ckpt_script.specs.declared.limits.TheConstants.{MOST_LINES}
 
--- a source is asked so often at most
+-- a source is called at most this often
 abbrev pub most_reads : ℕ
 most_reads = 4294967296
 
@@ -30,7 +30,7 @@ asked_again asked (Ok count) =
     record { times = asked.times + 1; failures = asked.failures; ends = asked.ends + (if count == 0 then 1 else 0); bytes = asked.bytes + count }
 asked_again asked (Err why) = record { times = asked.times + 1; failures = asked.failures + 1; ends = asked.ends; bytes = asked.bytes }
 
--- A source that may be asked: not too often yet, and neither after a failure nor after its end.
+-- A source that may be called: not too often yet, not after a failure, and not after its end.
 pub record MayBeAsked (asked : Asked) : Type 0 where
   pub few : asked.times < most_reads
   pub none_failed : asked.failures ≡ 0
@@ -47,15 +47,15 @@ pub record IsCounted (asked : Asked) (ahead : Unread) : Type 0 where
 abbrev pub used : Asked → Unread → ℕ
 used asked ahead = asked.bytes - length ahead.bytes
 
--- a run ends by `Read` where its source failed or was asked too often, and by `TooManyLines` where it gave more bytes than lines are run:
--- each of these took a byte at least
+-- a run ends with `Read` if its source failed or was called too often, and with `TooManyLines` if it gave more bytes
+-- than lines are run: each of these took a byte at least
 abbrev pub SourceCauses : Asked → RunFault → Type 0
 SourceCauses asked Read = (asked.failures ≡ 1) ⊎ ((asked.failures ≡ 0) × (asked.times ≡ most_reads))
 SourceCauses asked Write = ⊤
 SourceCauses asked TooManyLines = (asked.failures ≡ 0) × (MOST_LINES < asked.bytes)
 SourceCauses asked Memory = asked.failures ≡ 0
 
--- and by `Write` where its sink failed
+-- and with `Write` if its sink failed
 abbrev pub SinkCauses : ℕ → RunFault → Type 0
 SinkCauses failures Read = failures ≡ 0
 SinkCauses failures Write = failures ≡ 1

@@ -1,14 +1,14 @@
--- What a reader has left, and what a writer was given, where that is known.
+-- What a reader has left and what a writer was given, if that is known.
 use Rattle.std.specs.Prelude.{◌≡◌, ℕ, List, ◌++◌, ⊤, Option, None, Some}
 use Rattle.std.specs.Io.KnownBytes.{Appends}
 
--- the two lists are known where the first is, and the fact holds of them
+-- the two lists are known if the first is, and the fact holds for them
 abbrev pub WhereKnown : Option (List ℕ) → Option (List ℕ) → (List ℕ → List ℕ → Type 0) → Type 0
 WhereKnown None after P = ⊤
 WhereKnown (Some bytes) None P = ⊥
 WhereKnown (Some bytes) (Some rest) P = P bytes rest
 
--- a front of all these bytes was written between these two moments
+-- a prefix of all these bytes was written between these two moments
 abbrev pub IsCut : Option (List ℕ) → Option (List ℕ) → List ℕ → Type 0
 IsCut before after all = (written rest : List ℕ) × Appends before after written × (written ++ rest ≡ all)
 
@@ -18,6 +18,6 @@ pub record Passes (before after : Option (List ℕ)) (waiting text left : List �
   pub appended : Appends before after written
   pub in_turn : written ++ left ≡ waiting ++ text
 
--- The same, whatever waits still.
+-- The same, for any output that still waits.
 abbrev pub PassesFront : Option (List ℕ) → Option (List ℕ) → List ℕ → List ℕ → Type 0
 PassesFront before after waiting text = (left : List ℕ) × Passes before after waiting text left

@@ -1,3 +1,4 @@
+-- The definitions that contracts cite.
 pub mod Devices
 pub mod Known
 pub mod Lines

@@ -6,12 +6,12 @@ use Rattle.ckpt_lines.specs.declared.limits.TheConstants.{LONGEST_LINE}
 abbrev pub newline : ℕ
 newline = 10
 
--- the byte goes in front of the first line
+-- the byte goes to the start of the first line
 abbrev pub onto_first : ℕ → List (List ℕ) → List (List ℕ)
 onto_first b [] = (b ∷ []) ∷ []
 onto_first b (line ∷ lines) = (b ∷ line) ∷ lines
 
--- a newline ends a line, and bytes after the last newline are a line where there is one
+-- a newline ends a line, and if there are bytes after the last newline they are a line
 abbrev pub lines_of : List ℕ → List (List ℕ)
 lines_of [] = []
 lines_of (b ∷ bytes) = if b == newline then [] ∷ lines_of bytes else onto_first b (lines_of bytes)
@@ -38,12 +38,13 @@ pub record TakesPart (bytes rest part : List ℕ) : Type 0 where
   pub one_line : has_newline part ≡ false
   pub split : bytes ≡ part ++ rest
 
--- where the first newline stands
+-- the place of the first newline
 abbrev pub FindsNewline : List ℕ → Option ℕ → Type 0
 FindsNewline bytes None = has_newline bytes ≡ false
 FindsNewline bytes (Some place) = (place < length bytes) × (has_newline (take place bytes) ≡ false) × (bytes ≡ take place bytes ++ newline ∷ drop (place + 1) bytes)
 
--- Of what was read, a part of a line went to the line, up to a newline where there is one, which is dropped; nothing else was left.
+-- A part of what was read went to the line: everything up to a newline, which is dropped, or all of it if there is no
+-- newline.
 pub record Moves (bytes rest line after : List ℕ) (ends : Bool) : Type 0 where
   pub part : List ℕ
   pub one_line : has_newline part ≡ false
@@ -51,10 +52,10 @@ pub record Moves (bytes rest line after : List ℕ) (ends : Bool) : Type 0 where
   pub bytes_before : bytes ≡ part ++ (if ends then newline ∷ rest else rest)
   pub none_left : ends ≡ false → rest ≡ []
 
--- a line was read, and its front is held
+-- a line was read, and a prefix of it is held
 abbrev pub HoldsLine : Bool → List ℕ → List ℕ → List ℕ → Type 0
 HoldsLine is_ended bytes rest front = (line : List ℕ) × TakesLine is_ended bytes rest line × (front ≡ take held line)
 
--- a part of a line was read, and its front is held
+-- a part of a line was read, and a prefix of it is held
 abbrev pub HoldsPart : List ℕ → List ℕ → List ℕ → Type 0
 HoldsPart bytes rest front = (part : List ℕ) × TakesPart bytes rest part × (front ≡ take held part)

@@ -5,7 +5,7 @@ use Rattle.ckpt_script.specs.Known.{WhereKnown}
 use Rattle.ckpt_script.specs.Lines.{held, HoldsLine, HoldsPart}
 use Rattle.ckpt_script.specs.Unread.{Unread}
 
--- what is read ahead and what the source has left, where that is known
+-- what is read ahead and what the source has left, if that is known
 abbrev pub all_left : Unread → Option (List ℕ) → Option (List ℕ)
 all_left ahead left = prepend_known ahead.bytes left
 

@@ -69,10 +69,10 @@ impl Ahead {
         self.start >= self.end
     }
 
-    /// Asks the source for more, unless something is left or the end of the script has come. What
-    /// was printed is written and flushed first, so whoever waits for an answer has it.
+    /// Reads more from the source, unless bytes are left or the script has ended. First the output
+    /// so far is written and flushed, so a caller that waits for an answer has it.
     ///
-    /// A source that failed is not asked again, nor one that has said that nothing is left.
+    /// A source that failed, or that said that nothing is left, is not read again.
     pub(crate) fn fill<S: Source, K: Sink>(
         &mut self,
         source: &mut S,
@@ -141,9 +141,9 @@ impl Ahead {
         }
     }
 
-    /// Finds the next line. Answers where its newline stands, if it lies whole in what was read.
-    /// Else the line is read up to its newline or to the end of the script: its front is held, and
-    /// of one that is too long the rest is dropped.
+    /// Finds the next line. Returns the place of its newline, if all of the line was read ahead.
+    /// Otherwise it reads the line up to its newline or to the end of the script. It holds a prefix
+    /// of the line. If the line is too long, it drops the rest.
     pub(crate) fn find_line<S: Source, K: Sink>(
         &mut self,
         source: &mut S,
@@ -185,7 +185,7 @@ impl Ahead {
         Ok(None)
     }
 
-    /// Where the newline stands that ends the next line, if all of that line was read.
+    /// The place of the newline that ends the next line, if all of that line was read.
     pub(crate) fn newline(&self) -> Option<usize>
         ensures { FindsNewline self.now.bytes result }
     {
@@ -208,8 +208,8 @@ impl Ahead {
         self.start = self.start + newline + 1;
     }
 
-    /// Moves bytes that were read to the line, up to a newline, which is dropped. Answers whether
-    /// it came.
+    /// Moves bytes that were read to the line, up to a newline, which is dropped. Returns whether
+    /// the newline was there.
     fn move_to(&mut self, line: &mut Vec<u8>) -> Result<bool, AllocError>
         requires held { length line.old.items ≤ held }
         ensures moved { IfOk result (Moves self.old.bytes self.new.bytes line.old.items line.new.items) }
@@ -233,7 +233,7 @@ impl Ahead {
     }
 }
 
-/// Where the first newline stands.
+/// The place of the first newline.
 fn newline_place(bytes: &[u8]) -> Option<usize>
     ensures { FindsNewline bytes.now result }
 {

@@ -8,13 +8,13 @@ pub enum RunFault {
     /// The reader failed, or was asked 2^32 times. Each line that was read whole has been run.
     #[error("read")]
     Read,
-    /// The writer failed, or took nothing. What was written is the front of the output.
+    /// The writer failed, or took nothing. A prefix of the output was written.
     #[error("write")]
     Write,
     /// Line 1,000,001 began. The lines before it have been run.
     #[error("too many lines")]
     TooManyLines,
-    /// Memory ran out. What was written is the front of the output.
+    /// Memory ran out. A prefix of the output was written.
     #[error("memory")]
     Memory,
 }

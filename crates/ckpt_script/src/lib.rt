@@ -1,9 +1,9 @@
-//! Scripts of a job's calls: their lines are read, obeyed, and what they say is written.
+//! Runs scripts of a job's calls: reads their lines, makes their calls, and writes what they print.
 //!
-//! [`run`] runs a script from a reader to a writer, and [`run_between`] from a source to a sink,
-//! which count what they were asked (`specs/Devices.antt`). What it writes is defined in
-//! `specs/Outputs.antt`, by the readings of the lines (crate `ckpt_lines`), and what each line does
-//! and prints (crate `ckpt_session`). Where somebody else writes the script, [`run_keyed`] and
+//! [`run`] runs a script from a reader to a writer. [`run_between`] runs it from a source to a
+//! sink, which count their calls (`specs/Devices.antt`). `specs/Outputs.antt` defines what is
+//! written, by the readings of the lines (crate `ckpt_lines`), and by what each line does and
+//! prints (crate `ckpt_session`). If the script comes from outside, [`run_keyed`] and
 //! [`run_between_keyed`] do the same under a secret.
 #![tactic(auto)]
 

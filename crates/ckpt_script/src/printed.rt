@@ -38,7 +38,7 @@ impl Printed {
         })
     }
 
-    /// Writes what waits where that is more than may wait until the next line.
+    /// Writes the waiting output if it is more than may wait until the next line.
     pub(crate) fn settle<K: Sink>(&mut self, sink: &mut K) -> Result<(), RunFault>
         requires going_on { K.failures sink.old ≡ 0 }
         ensures ok { OnOk result (Passes (K.contents sink.old) (K.contents sink.new) self.old [] self.new) }

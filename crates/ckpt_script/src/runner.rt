@@ -32,7 +32,7 @@ pub(crate) struct Runner {
 }
 
 impl Runner {
-    /// What the line means whose newline stands here, or the one that is held.
+    /// The meaning of the line whose newline is here, or of the held line.
     fn meaning(&self, newline: Option<usize>) -> Result<Line, LineFault>
         requires { IsAhead self.now.ahead newline }
         ensures line { IfOk result (λ read. reading_next self.now newline ≡ Ok read) }
@@ -44,7 +44,7 @@ impl Runner {
         }
     }
 
-    /// Obeys the line whose newline stands here, or the one that is held, and prints what it says.
+    /// Runs the line whose newline is here, or the held line, and prints what it prints.
     fn obey<K: Sink, T: Team>(
         &mut self,
         newline: Option<usize>,
@@ -83,7 +83,7 @@ impl Runner {
         Ok(())
     }
 
-    /// Reads the next line and obeys it. Answers whether there was one.
+    /// Reads the next line and runs it. Returns whether there was one.
     fn next<S: Source, K: Sink, T: Team>(
         &mut self,
         source: &mut S,

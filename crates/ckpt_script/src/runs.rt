@@ -73,19 +73,19 @@ pub fn run_between_keyed<S: Source, K: Sink, T: Team>(
 /// Runs a script: reads its lines, makes their calls, and writes what they print.
 ///
 /// A script has at most [`MOST_LINES`] lines of at most [`LONGEST_LINE`](ckpt_lines::LONGEST_LINE)
-/// bytes. A read that gives no bytes is its end. No read or write that failed is tried again, and a
-/// write that takes nothing has failed.
-/// Before the reader is asked for more, what was printed is written and flushed.
+/// bytes. A read that returns no bytes is its end. No read or write that failed is tried again, and
+/// a write that takes nothing has failed. Before the reader is called again, the output so far is
+/// written and flushed.
 ///
-/// Answers [`RunFault::Read`] where the reader failed or was asked 2^32 times, and each line that
-/// was read whole has been run; [`RunFault::TooManyLines`] where a further line began, and the lines
-/// before it have been run; [`RunFault::Write`] where the writer failed and [`RunFault::Memory`]
-/// where memory ran out, and what was written is the front of the output.
+/// Returns [`RunFault::Read`] if the reader failed or was called 2^32 times: then each line that
+/// was read whole has been run. Returns [`RunFault::TooManyLines`] if one line more began: then the
+/// lines before it have been run. Returns [`RunFault::Write`] if the writer failed, and
+/// [`RunFault::Memory`] if memory ran out: then a prefix of the output was written.
 ///
-/// The team makes the calls of an `all` line. What is written is the same for every team.
+/// The team makes the calls of an `all` line. The output is the same for every team.
 ///
-/// `docs/SCRIPT.md` of the repository says what a script is, and what its lines print. Where somebody
-/// else writes the script, take [`run_keyed`].
+/// `docs/SCRIPT.md` of the repository says what a script is, and what its lines print. If the
+/// script comes from outside, use [`run_keyed`].
 pub fn run<R: Read, W: Write, T: Team>(
     alloc: Global,
     reader: &mut R,

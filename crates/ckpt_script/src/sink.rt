@@ -6,11 +6,11 @@ use crate::source::DeviceFailed;
 
 /// Where the output of a script goes. It serves one run.
 pub trait Sink {
-    // The bytes that it holds, where they are known.
+    // The bytes that it has, if they are known.
     ghost contents: { Self → Option (List ℕ) };
     // How often it failed.
     ghost failures: { Self → ℕ };
-    // Which device it is, where it holds a reference to one: no write changes that.
+    // Which device it is, if it holds a reference to one. No write changes that.
     ghost device: { Self → ℕ } = { λ _. 0 };
 
     /// Takes some of the bytes, at least one.

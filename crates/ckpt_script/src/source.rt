@@ -12,12 +12,12 @@ pub struct DeviceFailed;
 
 /// Where a script comes from. It serves one run.
 pub trait Source {
-    // The bytes that it has left, where they are known.
+    // The bytes that are left, if they are known.
     ghost remaining: { Self → Option (List ℕ) };
     // How often it was asked, how often it failed, how often it said that nothing is left, and how
     // many bytes it gave.
     ghost asked: { Self → Asked };
-    // Which device it is, where it holds a reference to one: no read changes that.
+    // Which device it is, if it holds a reference to one. No read changes that.
     ghost device: { Self → ℕ } = { λ _. 0 };
 
     /// Reads once. No bytes are the end of the script.

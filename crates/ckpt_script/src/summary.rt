@@ -1,5 +1,5 @@
-//! What a run tells at its end.
-/// What a run has come across.
+//! The result of a run.
+/// What a run has counted.
 #[derive(Clone, Copy, Debug, PartialEq, Eq)]
 pub struct Summary {
     /// The lines that were read, at most 1,000,000.

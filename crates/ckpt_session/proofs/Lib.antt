@@ -1,3 +1,4 @@
+-- The lemmas that the proofs use.
 pub mod AckLists
 pub mod AckSearch
 pub mod BookLemmas

@@ -26,12 +26,12 @@ use Rattle.ckpt_session.specs.declared.outcome.Outcome.{Outcome}
 use Rattle.ckpt_session.specs.declared.outcome.Outcome.TheVariants.{Refused, Acknowledged}
 use Rattle.ckpt_session.specs.declared.outcome.ScriptRefusal.TheVariants.{BadThreads, NotPending, FilesUsedUp}
 
--- the metadata, where the answer shows a pending record
+-- the metadata, if the answer shows a pending record
 unfoldable pub shown_pending : Answer → Option Metadata
 shown_pending (Done (Shown m)) = if m.done then None else Some m
 shown_pending answer = None
 
--- the metadata of the record with this number, where it is pending
+-- the metadata of the record with this number, if it is pending
 abbrev pub pending_metadata : State → ℕ → Option Metadata
 pending_metadata m id = option_map metadata_of (pending_of m.records id)
 
@@ -56,7 +56,7 @@ abbrev pub end_of : State → ℕ → Option (ℕ × ℕ) → AllEnd
 end_of m id (Some (dropped, released)) = Completed dropped released
 end_of m id None = Pending (missing_now m id)
 
--- what so many accepted and refused calls, and the completion, come to
+-- the outcome of this many accepted and refused calls, and of the completion
 unfoldable pub told : State → AllLine → ℕ → ℕ → Option (ℕ × ℕ) → Outcome
 told m line accepted refused completed = Acknowledged accepted refused (end_of m line.id completed)
 

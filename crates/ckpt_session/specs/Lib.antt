@@ -1,3 +1,4 @@
+-- The definitions that contracts cite.
 pub mod AllLines
 pub mod ScriptTexts
 pub mod Sessions

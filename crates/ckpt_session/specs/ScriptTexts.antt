@@ -25,7 +25,7 @@ refusal_name refusal.FilesUsedUp = codes "FilesUsedUp"
 unfoldable pub refusal_bytes : ScriptRefusal → List ℕ
 refusal_bytes why = codes "refused " ++ refusal_name why ++ codes "\n"
 
--- how the record of an `all` line stands, with a newline at its end
+-- the state of the record of an `all` line, with a newline at its end
 unfoldable pub all_end_bytes : AllEnd → List ℕ
 all_end_bytes (Completed dropped released) = codes " completed" ++ spaced dropped ++ spaced released ++ codes "\n"
 all_end_bytes (Pending missing) = codes " pending" ++ spaced missing ++ codes "\n"

@@ -21,7 +21,7 @@ use Rattle.ckpt_session.specs.declared.all.AllLine.{AllLine}
 use Rattle.ckpt_session.specs.ScriptTexts.{outcome_bytes, fault_bytes}
 use Rattle.ckpt_session.specs.AllLines.{Obeyed, all_obeyed}
 
--- what a script has told so far
+-- what a script has set so far
 pub record Scene : Type 0 where
   -- of the last accepted `config`
   pub config : Option Configuration
@@ -46,7 +46,7 @@ before_start scene done = if is_some scene.core then refused scene Started else 
 abbrev pub after_start : Scene → Done → Done
 after_start scene done = if is_some scene.core then done else refused scene NotStarted
 
--- the configuration, where its values are within their limits
+-- the configuration, if its values are within the limits
 abbrev pub limited : Configuration → Option Configuration
 limited config = if is_within_limits config then Some config else None
 
@@ -66,7 +66,7 @@ unfoldable pub started : Scene → ℕ → Option Configuration → Option (List
 started scene now (Some config) (Some shape) = opened_with scene (record { config = config; shape = shape; start = now; first = 1 })
 started scene now config shape = refused scene NotReady
 
--- a `start` with what has been told so far
+-- a `start` after what has been set so far
 abbrev pub started_so_far : Scene → ℕ → Done
 started_so_far scene now = before_start scene (started scene now scene.config scene.shape)
 

@@ -30,9 +30,9 @@ pub(crate) struct AllLine {
 }
 
 impl AllLine {
-    /// Obeys the line over a book, and gives it back with what the line came to.
+    /// Runs the line over a book, and returns the book and the line's outcome.
     ///
-    /// Fails only for want of memory, and then the book is given up.
+    /// Fails only if memory runs out, and then the book is lost.
     #[tactic(auto, unfolding(crate::specs::AllLines::all_obeyed, crate::specs::AllLines::all_of))]
     pub(crate) fn obey<T: Team>(
         &self,
@@ -69,7 +69,8 @@ impl AllLine {
         if u64::MAX - self.first < last {
             return Ok((book, Outcome::Refused(ScriptRefusal::FilesUsedUp)));
         }
-        // Tells that the state is sound: then the calls come to the same in whatever order.
+        // The contract of this read says that the state is sound. Then the calls have the same
+        // outcome in every order.
         let _ = book.core();
         let calls = self.calls(alloc, &missing)?;
         let mut made = team.make(book, calls, self.threads as u32)?;
@@ -128,7 +129,7 @@ impl AllLine {
     }
 }
 
-/// The metadata of the record with this number, where it is pending. Asks for it by a call.
+/// The metadata of the record with this number, if it is pending. Asks for it by a call.
 fn pending_metadata(book: &mut Book, id: CheckpointId) -> Result<Option<Metadata>, AllocError>
     ensures state { OnOk result (state_of_book book.new ≡ state_of_book book.old) }
     ensures value { IfOk result (λ metadata. metadata ≡ pending_metadata (state_of_book book.old) id) }
@@ -141,7 +142,7 @@ fn pending_metadata(book: &mut Book, id: CheckpointId) -> Result<Option<Metadata
     }
 }
 
-/// The metadata, where the answer shows a pending record.
+/// The metadata, if the answer shows a pending record.
 #[tactic(auto, unfolding(crate::specs::AllLines::shown_pending))]
 fn pending(answer: Answer) -> Option<Metadata>
     ensures { result ≡ shown_pending answer }
@@ -152,7 +153,7 @@ fn pending(answer: Answer) -> Option<Metadata>
     }
 }
 
-/// How many subtasks of the record are missing, where it is pending.
+/// How many subtasks of the record are missing, if it is pending.
 fn missing_now(alloc: Global, book: &mut Book, id: CheckpointId) -> Result<u64, AllocError>
     ensures state { OnOk result (state_of_book book.new ≡ state_of_book book.old) }
     ensures value { IfOk result (λ missing. missing ≡ missing_now (state_of_book book.old) id) }
@@ -179,7 +180,7 @@ fn missing_subtasks(alloc: Global, metadata: &Metadata) -> Result<Vec<SubtaskId>
     Ok(missing)
 }
 
-/// Whether the subtask has acknowledged. Searches by halves.
+/// Whether the subtask has acknowledged. Makes a binary search.
 fn has_acknowledged(acks: &Acks, subtask: SubtaskId) -> bool
     ensures { result ≡ list_any (λ a. same_subtask subtask a.subtask) acks.now }
 {

@@ -11,7 +11,8 @@ use ckpt_ids::{Answer, Call, Config, Shape};
 use ckpt_locked::{Book, MOST_SEATS};
 use std::alloc::Global;
 
-/// The seat of the calls that lines make: one that no lock gives, nor a thread of an `all` line.
+/// The seat of the calls that lines make. No lock gives this seat, and no thread of an `all` line
+/// has it.
 const LINE_SEAT: u32 = MOST_SEATS;
 
 /// The number of the first record of a job.
@@ -31,9 +32,9 @@ pub(crate) fn open(
     Book::keyed(alloc, config, shape, now, FIRST, secret)
 }
 
-/// Makes a call with the seat of the lines, and answers what it is by the definition of a step.
+/// Makes a call with the seat of the lines, and returns its answer.
 ///
-/// Gives the call back only for want of memory.
+/// Returns the call only if memory runs out.
 #[inline(always)]
 pub(crate) fn call(book: &mut Book, call: Call) -> Result<Answer, Call>
     ensures entered { OnOk result (book.new ≡ entered book.old LINE_SEAT call) }

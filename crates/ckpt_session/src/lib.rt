@@ -1,8 +1,8 @@
 //! What each line of a script does, and what it prints.
 //!
-//! [`Session`] obeys the lines of a script one after the other. What a line does is an [`Outcome`], and
-//! the text that it prints tells that outcome. Both are defined in `specs/Sessions.antt`, by the
-//! coordinator's answers and their texts (crate `ckpt_texts`).
+//! [`Session`] runs the lines of a script one after the other. What a line does is an [`Outcome`],
+//! which has a text that the line prints. `specs/Sessions.antt` defines both, by the coordinator's
+//! answers and their texts (crate `ckpt_texts`).
 #![tactic(auto)]
 
 mod all;

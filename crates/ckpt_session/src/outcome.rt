@@ -25,7 +25,7 @@ pub enum ScriptRefusal {
     FilesUsedUp,
 }
 
-/// How the record of an `all` line stands after its calls.
+/// The state of the record of an `all` line after its calls.
 #[derive(Clone, Copy, Debug, PartialEq, Eq)]
 pub enum AllEnd {
     /// One of the calls completed it.

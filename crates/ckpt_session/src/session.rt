@@ -18,10 +18,10 @@ use ckpt_workers::Team;
 use std::alloc::{AllocError, Global};
 use std::marker::Model;
 
-/// A script that is being run: what its lines have told so far, and the book of its calls once it
+/// A script that is being run: what its lines have set so far, and the book of its calls once it
 /// has started.
 ///
-/// What each line does and prints is defined in `specs/Sessions.antt`.
+/// `specs/Sessions.antt` defines what each line does and prints.
 pub struct Session {
     config: Option<Config>,
     shape: Option<Shape>,
@@ -77,12 +77,11 @@ impl Session {
         self.book.as_ref()
     }
 
-    /// Obeys the line with this number, and answers what it prints: one text with its newline, or
-    /// nothing. A line with a fault changes nothing, nor does one that the script refuses.
+    /// Runs the line with this number, and returns what it prints: one text with its newline, or
+    /// nothing. A line with a fault, or one that the script refuses, changes nothing.
     ///
-    /// Fails only for want of memory, also where the line could not be read for it, and then the
-    /// coordinator is given up: the session is as it was before its `start`, with the configuration
-    /// and the shape.
+    /// Fails only if memory runs out, also while the line is read. Then the coordinator is lost:
+    /// the session is as it was before its `start`, with the configuration and the shape.
     pub fn say<T: Team>(
         &mut self,
         number: u64,
@@ -98,10 +97,10 @@ impl Session {
         Ok(text)
     }
 
-    /// As [`Session::say`], and appends what the line prints to the text: where that is written to
-    /// a device in parts, no text is made for each line.
+    /// Does as [`Session::say`], but appends the printed text to `text`. So no text is made for
+    /// each line if the output is written in parts.
     ///
-    /// Where it fails, a part of what the line prints may stand at the end of the text.
+    /// If it fails, a part of what the line prints may be at the end of the text.
     #[tactic(auto, unfolding(crate::specs::Sessions::said))]
     pub fn say_onto<T: Team>(
         &mut self,
@@ -126,9 +125,9 @@ impl Session {
         told
     }
 
-    /// Obeys a line, and answers what it came to, for a caller that prints nothing.
+    /// Runs a line, and returns its outcome, for a caller that prints nothing.
     ///
-    /// Fails only for want of memory, and then the coordinator is given up as by [`Session::say`].
+    /// Fails only if memory runs out. Then the coordinator is lost, as in [`Session::say`].
     pub fn obey<T: Team>(&mut self, line: Line, team: &mut T) -> Result<Outcome, AllocError>
         ensures done { IfOk result (λ outcome. (self.new, outcome) ≡ done_by self.old line) }
         ensures given_up { OnErr result (self.new ≡ record self.old { core = None }) }
@@ -140,7 +139,8 @@ impl Session {
         outcome
     }
 
-    /// Gives the coordinator up. It stands apart, since a local of its size is long to clear.
+    /// Drops the coordinator. It is a function of its own, because a local of its size takes long
+    /// to clear.
     #[inline(never)]
     fn give_up(&mut self)
         ensures { self.new ≡ record self.old { core = None } }

@@ -7,8 +7,8 @@ use ckpt_lines::LineFault;
 use ckpt_texts::write_answer;
 use std::alloc::{AllocError, Global};
 
-/// Appends what is printed of an outcome: one text with its newline, or nothing. Fails only for want
-/// of memory.
+/// Appends the printed text of an outcome: one text with its newline, or nothing. Fails only if
+/// memory runs out.
 #[tactic(auto, unfolding(crate::specs::ScriptTexts::outcome_bytes))]
 pub(crate) fn write_outcome(
     alloc: Global,
@@ -33,7 +33,7 @@ pub(crate) fn write_outcome(
     }
 }
 
-/// Appends how the record of an `all` line stands, with a newline. Fails only for want of memory.
+/// Appends the state of the record of an `all` line, with a newline. Fails only if memory runs out.
 #[tactic(auto, unfolding(crate::specs::ScriptTexts::all_end_bytes))]
 fn write_all_end(text: &mut String, end: AllEnd) -> Result<(), AllocError>
     ensures { OnOk result (string_bytes text.new ≡ string_bytes text.old ++ all_end_bytes end) }
@@ -46,7 +46,7 @@ fn write_all_end(text: &mut String, end: AllEnd) -> Result<(), AllocError>
     }
 }
 
-/// Appends the text of a refusal, with its newline. Fails only for want of memory.
+/// Appends the text of a refusal, with its newline. Fails only if memory runs out.
 #[tactic(auto, unfolding(crate::specs::ScriptTexts::refusal_bytes))]
 fn write_refusal(text: &mut String, why: ScriptRefusal) -> Result<(), AllocError>
     ensures { OnOk result (string_bytes text.new ≡ string_bytes text.old ++ refusal_bytes why) }
@@ -54,8 +54,8 @@ fn write_refusal(text: &mut String, why: ScriptRefusal) -> Result<(), AllocError
     write!(text, "refused {}\n", refusal_name(why))
 }
 
-/// Appends the text of the fault of the line with this number, with its newline. Fails only for want
-/// of memory.
+/// Appends the text of the fault of the line with this number, with its newline. Fails only if
+/// memory runs out.
 #[tactic(auto, unfolding(crate::specs::ScriptTexts::fault_bytes))]
 pub(crate) fn write_fault(text: &mut String, number: u64, why: LineFault) -> Result<(), AllocError>
     ensures { OnOk result (string_bytes text.new ≡ string_bytes text.old ++ fault_bytes number why) }

@@ -1,2 +1,3 @@
+-- The lemmas that the proofs use.
 pub mod RowLemmas
 pub mod StoreLemmas

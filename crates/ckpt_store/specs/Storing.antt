@@ -60,7 +60,7 @@ AreDone kind records = (r : Record) → IsIn r records → IsDone r × (r.kind �
 abbrev pub IsAbove : List Record → ℕ → Type 0
 IsAbove records id = (r : Record) → IsIn r records → r.id < id
 
--- what holds of each store
+-- what holds for each store
 pub record IsStored (s : Stored) : Type 0 where
   pub retained_from : 1 ≤ s.retained
   pub retained_to : s.retained < 2 ^ 32
@@ -72,7 +72,7 @@ pub record IsStored (s : Stored) : Type 0 where
   pub savepoints_fit : length s.savepoints < 2 ^ 32
   pub base_is_savepoint : IfSome s.base (λ id. has_savepoint s id ≡ true)
 
--- without the first, where there are more than so many
+-- without the first, if there are more than this many
 abbrev pub retained_of : ℕ → List Record → List Record
 retained_of count records = if nat_lt count (length records) then drop 1 records else records
 
@@ -81,15 +81,15 @@ abbrev pub lowest : List Record → Option ℕ
 lowest [] = None
 lowest (r ∷ records) = Some r.id
 
--- the number of the first, where there are more than so many
+-- the number of the first, if there are more than this many
 abbrev pub past_retained : ℕ → List Record → Option ℕ
 past_retained count records = if nat_lt count (length records) then lowest records else None
 
--- the store once this checkpoint is complete, with room for so many more records
+-- the store once this checkpoint is complete, with room for this many more records
 abbrev pub completing : Stored → Record → ℕ → Stored
 completing s done spare = record s { checkpoints = retained_of s.retained (s.checkpoints ++ done ∷ []); base = None; spare = spare }
 
--- the number of the last, which is the greatest where they rise
+-- the number of the last, which is the greatest if they are in ascending order
 abbrev pub greatest : List Record → Option ℕ
 greatest records = option_map (λ r. r.id) (slice_get records (length records - 1))
 
@@ -98,9 +98,9 @@ choice_from (Some id) base = choice.Checkpoint id
 choice_from None (Some id) = choice.Savepoint id
 choice_from None None = choice.Fresh
 
--- What the job would restart from: the greatest checkpoint, else the base, else nothing.
--- Source: the Flink documentation, "Checkpoints": after a failure the job restarts from the latest completed
--- checkpoint; the base is this project's own rule.
+-- What the job would restart from: the greatest checkpoint, otherwise the base, otherwise nothing. Source: the Flink
+-- documentation, "Checkpoints": after a failure the job restarts from the latest completed checkpoint; the base is this
+-- project's own rule.
 abbrev pub choice_of : Stored → Choice
 choice_of s = choice_from (greatest s.checkpoints) s.base
 

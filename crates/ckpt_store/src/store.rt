@@ -170,8 +170,8 @@ impl Store {
         self.checkpoints.len() as u32
     }
 
-    /// What the job would restart from: the completed checkpoint with the greatest number, else the
-    /// base, else nothing. Takes constant time.
+    /// What the job would restart from: the completed checkpoint with the greatest number,
+    /// otherwise the base, otherwise nothing. Takes constant time.
     pub fn choice(&self) -> Choice
         ensures value { result ≡ choice_of self.now }
         ensures stored { IsStored self.now }
@@ -237,7 +237,8 @@ impl Store {
         self.savepoints.get(place)
     }
 
-    /// The completed checkpoint with this number, else the completed savepoint. Uses binary search.
+    /// The completed checkpoint with this number, otherwise the completed savepoint. Makes a binary
+    /// search.
     pub fn get(&self, id: CheckpointId) -> Option<&Done>
         ensures value { option_copied result ≡ record_of self.now id }
         ensures stored { IsStored self.now }

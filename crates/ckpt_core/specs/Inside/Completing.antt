@@ -4,18 +4,18 @@ use Rattle.ckpt_ids.specs.Records.{Record, missing}
 use Rattle.ckpt_store.specs.Storing.{Stored, past_retained}
 use Rattle.ckpt_core.specs.State.{is_checkpoint}
 
--- the pending record of this number lacks so many acknowledgements
+-- the pending record with this number lacks this many acknowledgements
 pub record IsMissing (pending : List Record) (id count : ℕ) : Type 0 where
   pub lacking : Record
   pub found : find (λ r. r.id == id) pending ≡ Some lacking
   pub counted : missing lacking ≡ count
 
--- the number, where there is one
+-- the number, if there is one
 abbrev pub number_in : Option ℕ → List ℕ
 number_in None = []
 number_in (Some id) = id ∷ []
 
--- the number of the completed checkpoint that is past the number retained, where there is one
+-- the number of the completed checkpoint that is one too many, if there is one
 abbrev pub surplus : Stored → Record → List ℕ
 surplus store done = number_in (past_retained store.retained (store.checkpoints ++ done ∷ []))
 

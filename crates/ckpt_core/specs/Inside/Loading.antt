@@ -49,11 +49,11 @@ emptied m = record m { base = None; records = []; waiting = []; taken = [] }
 abbrev pub HasBase : State → Option ℕ → Type 0
 HasBase m base = (id : ℕ) → base ≡ Some id → is_done_savepoint m id ≡ true
 
--- each acknowledgement is of a subtask of this shape
+-- each acknowledgement comes from a subtask of this shape
 abbrev pub AreOfShape : List ℕ → List Acked → Type 0
 AreOfShape shape acks = (a : Acked) → IsIn a acks → is_subtask shape a.subtask ≡ true
 
--- none of these files is in use, and none stands twice
+-- none of these files is in use, and none is there twice
 pub record AreFilesApart (us : List Use) (files : List ℕ) : Type 0 where
   pub unused : (f : ℕ) → IsIn f files → is_present us f ≡ false
   pub apart : AreDistinct files
@@ -62,7 +62,7 @@ pub record AreFilesApart (us : List Use) (files : List ℕ) : Type 0 where
 abbrev pub with_more_waiting : Parts → List ℕ → Parts
 with_more_waiting p files = record p { outbox = record p.outbox { waiting = p.outbox.waiting ++ files; spare = p.outbox.spare - length files } }
 
--- with these, none of the files that wait or were fetched is in use, and none stands twice
+-- none of these files, and of those that wait or were fetched, is in use, and none is there twice
 abbrev pub MayWait : Parts → List ℕ → Type 0
 MayWait p files = AreFilesApart p.registry ((p.outbox.waiting ++ files) ++ p.outbox.taken)
 
@@ -70,6 +70,6 @@ MayWait p files = AreFilesApart p.registry ((p.outbox.waiting ++ files) ++ p.out
 abbrev pub HaveSoundRecords : Parts → Type 0
 HaveSoundRecords p = AreSoundRecords (opening_of p.opened) p.next (records_in p)
 
--- a record may stand behind those of the parts
+-- a record may follow those of the parts
 abbrev pub JoinsParts : Parts → Record → Type 0
 JoinsParts p r = Joins (opening_of p.opened) p.next (records_in p) r

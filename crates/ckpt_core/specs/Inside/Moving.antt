@@ -12,7 +12,7 @@ use Rattle.ckpt_core.specs.declared.parts.Parts.{Parts}
 use Rattle.ckpt_core.specs.Inside.Parts.{is_noted, present_in}
 use Rattle.ckpt_core.specs.Inside.PendingRecords.{acked}
 
--- the outbox has room for the files in use and so many more
+-- the outbox has room for the files in use and this many more
 abbrev pub with_room : Parts → ℕ → Parts
 with_room p more = record p { outbox = record p.outbox { spare = max (present_in p.registry + more) p.outbox.spare } }
 
@@ -24,7 +24,7 @@ taken_in p now id s fresh reused = record p {
   registry = in_order_once use_before (p.registry ++ triples id (Subtask s) (fresh ++ reused));
 }
 
--- these files wait too, and so many more have their place
+-- these files wait too, and there is room for this many more
 abbrev pub with_waiting : Parts → List ℕ → ℕ → Parts
 with_waiting p files spare = record p { outbox = record p.outbox { waiting = p.outbox.waiting ++ files; spare = spare } }
 

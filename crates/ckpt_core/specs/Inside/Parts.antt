@@ -92,7 +92,7 @@ pub record Stays (old new : Parts) : Type 0 where
   pub tied : AreTied new
   pub none_ended : new.ended.items ≡ []
 
--- the records that pass the test were dropped, and so many files released
+-- the records that pass the test were dropped, and this many files released
 pub record Drops (old new : Parts) (dropped : Record → Bool) (count : ℕ) : Type 0 where
   pub state_is : state_of new ≡ drop (state_of old) dropped None
   pub count_is : count ≡ length (released_by (state_of old) dropped None)

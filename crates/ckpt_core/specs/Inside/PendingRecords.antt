@@ -20,7 +20,7 @@ Expects r subtask = (is_subtask r.shape subtask ≡ true) × (has_acknowledged r
 abbrev pub retracted : ℕ → SubtaskId → List Record → List Record
 retracted id subtask rs = map (λ r. if r.id == id then without_ack subtask r else r) rs
 
--- what holds of the pending records, and of the counter beside them
+-- what holds for the pending records, and for the counter beside them
 pub record AreKept (records : List Record) (checkpoints : ℕ) : Type 0 where
   pub in_order : IsInOrder id_before records
   pub pending : (r : Record) → IsIn r records → IsPending r

@@ -1,4 +1,4 @@
--- What holds of a coordinator's records as a list, and what is tested of one more.
+-- What holds for a coordinator's records as a list, and the tests of one more.
 use Rattle.std.specs.Prelude.{◌≡◌, ℕ, ◌<◌, ◌≤◌, ◌^◌, Bool, true, not, ◌&&◌, List, [], ◌∷◌, ◌++◌, count_by}
 use Rattle.ckpt_ids.specs.declared.ack.Acked.{Acked}
 use Rattle.ckpt_ids.specs.Ascending.{IsAscendingSet}

@@ -21,11 +21,11 @@ use Rattle.ckpt_core.specs.State.{State}
 use Rattle.ckpt_core.specs.Steps.{start_or_hold}
 pub use Rattle.ckpt_core.specs.Steps.{tick, triggered}
 
--- what holds a checkpoint back while so many are pending
+-- what holds a checkpoint back while this many are pending
 abbrev pub held_at : State → ℕ → Hold
 held_at m pending = hold m.opening.config m.due m.completed m.latest pending
 
--- a checkpoint was started, or held back, while so many were pending
+-- a checkpoint was started, or held back, while this many were pending
 abbrev pub Starts : State → ℕ → State → TickEnd → Type 0
 Starts m pending after end = (expired : ℕ) → start_or_hold m expired (held_at m pending) ≡ (after, Done (Ticked expired end))
 

@@ -1,3 +1,4 @@
+-- Answers the goals of `accounted`.
 use Rattle.ckpt_core.proofs.Histories.Balance.{accounted}
 use Rattle.ckpt_core.proofs.laws.accounted.Goals as goal
 

@@ -1,3 +1,4 @@
+-- Answers the goals of `acknowledgements`.
 use Rattle.ckpt_core.proofs.Histories.Acknowledgements.{acknowledgements}
 use Rattle.ckpt_core.proofs.laws.acknowledgements.Goals as goal
 

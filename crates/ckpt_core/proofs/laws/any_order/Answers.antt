@@ -1,3 +1,4 @@
+-- Answers the goals of `any_order`.
 use Rattle.ckpt_core.proofs.Reordering.Interleavings.{any_order}
 use Rattle.ckpt_core.proofs.laws.any_order.Goals as goal
 

@@ -1,3 +1,4 @@
+-- Answers the goals of `balance`.
 use Rattle.ckpt_core.proofs.Histories.Balance.{balance}
 use Rattle.ckpt_core.proofs.laws.balance.Goals as goal
 

@@ -1,3 +1,4 @@
+-- Answers the goals of `choice`.
 use Rattle.ckpt_core.proofs.Histories.Choice.{choice_is_live}
 use Rattle.ckpt_core.proofs.Soundness.Histories.{replay_is_sound}
 use Rattle.ckpt_core.proofs.laws.choice.Goals as goal

@@ -1,3 +1,4 @@
+-- Answers the goals of `cutting`.
 use Rattle.std.proofs.Common.{List, ◌++◌, sym, ap, subst, ◌∙◌}
 use Rattle.ckpt_ids.specs.declared.reply.Answer.{Answer}
 use Rattle.ckpt_core.specs.State.{State}

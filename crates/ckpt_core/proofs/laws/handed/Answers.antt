@@ -1,3 +1,4 @@
+-- Answers the goals of `handed`.
 use Rattle.ckpt_core.proofs.Histories.Balance.{handed}
 use Rattle.ckpt_core.proofs.laws.handed.Goals as goal
 

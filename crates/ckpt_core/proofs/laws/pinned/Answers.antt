@@ -1,3 +1,4 @@
+-- Answers the goals of `pinned`.
 use Rattle.ckpt_core.proofs.Histories.Pinned.{pinned}
 use Rattle.ckpt_core.proofs.laws.pinned.Goals as goal
 

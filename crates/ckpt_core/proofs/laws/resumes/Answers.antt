@@ -1,3 +1,4 @@
+-- Answers the goals of `resumes`.
 use Rattle.ckpt_core.proofs.Loaded.Alike.{go_on_alike}
 use Rattle.ckpt_core.proofs.laws.resumes.Goals as goal
 

@@ -1,3 +1,4 @@
+-- Answers the goals of `savepoints`.
 use Rattle.ckpt_core.proofs.Histories.Savepoints.{savepoints_stay}
 use Rattle.ckpt_core.proofs.laws.savepoints.Goals as goal
 

@@ -1,3 +1,4 @@
+-- Answers the goals of `settling`.
 use Rattle.ckpt_core.proofs.Loaded.Settled.{settled_alike, settled_can_hold}
 use Rattle.ckpt_core.proofs.laws.settling.Goals as goal
 

@@ -1,3 +1,4 @@
+-- Answers the goals of `sound`.
 use Rattle.ckpt_core.proofs.Soundness.Histories.{replay_is_sound}
 use Rattle.ckpt_core.proofs.laws.sound.Goals as goal
 

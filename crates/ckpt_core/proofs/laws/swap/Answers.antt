@@ -1,3 +1,4 @@
+-- Answers the goals of `swap`.
 use Rattle.ckpt_core.proofs.Reordering.Exchange.{exchange}
 use Rattle.ckpt_core.proofs.laws.swap.Goals as goal
 

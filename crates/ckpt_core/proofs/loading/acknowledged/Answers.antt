@@ -1,3 +1,4 @@
+-- Answers the goals of `acknowledged`.
 use Rattle.std.proofs.Common.{◌≡◌, ℕ, ◌+◌, [], ◌∷◌, ◌++◌, List, true, false, cond, take, refl, sym, ap, subst, ◌∙◌, inl, inr, Err}
 use Rattle.std.proofs.lemmas.List.{take_more}
 use Rattle.std.proofs.lemmas.Bool.{both_ways}

@@ -1,3 +1,4 @@
+-- The loop invariants of `acknowledged`.
 use Rattle.std.proofs.Common.{◌≡◌, take}
 use Rattle.ckpt_pending.specs.Acknowledging.{pending_record}
 use Rattle.ckpt_core.proofs.loading.acknowledged.Given as goal

@@ -1,3 +1,4 @@
+-- The loop invariants of `names_each_once`.
 use Rattle.std.proofs.Common.{take}
 use Rattle.ckpt_ids.specs.declared.ack.Acked.{Acked}
 use Rattle.ckpt_ids.specs.Ascending.{IsAscendingSet}

@@ -1,3 +1,4 @@
+-- Answers the goals of `rises`.
 use Rattle.std.proofs.Common.{◌≡◌, ℕ, Bool, true, false, not, List, sym, ap, subst, ◌∙◌}
 use Rattle.ckpt_ids.specs.Ascending.{IsAscending, IsAscendingSet}
 use Rattle.ckpt_ids.proofs.AscendingLemmas.{numbers_in_order, set-from_distinct}

@@ -1,3 +1,4 @@
+-- Answers the goals of `place_of`.
 use Rattle.std.proofs.Common.{◌∙◌, rules, Result, Ok, Err, IfOk, OnErr, IfSome, IfNone}
 use Rattle.std.specs.Result.{result_ok}
 use Rattle.std.proofs.lemmas.List.Sorted.{answers_always}

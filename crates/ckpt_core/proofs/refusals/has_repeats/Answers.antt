@@ -1,3 +1,4 @@
+-- Answers the goals of `has_repeats`.
 use Rattle.std.proofs.Common.{◌≡◌, ◌||◌, ◌∙◌, ◌++◌, sym}
 use Rattle.ckpt_core.specs.Refusals.{has_repeats}
 use Rattle.ckpt_core.proofs.Answering.RefusalRepeats.{repeats_within, repeats_across, or_first, or_second}

@@ -1,3 +1,4 @@
+-- Answers the goals of `repeats`.
 use Rattle.std.proofs.Common.{rules, nat_lt}
 use Rattle.std.proofs.lemmas.List.Sorted.{answers_always}
 use Rattle.ckpt_core.proofs.Answering.RefusalRepeats.{repeats-from_adjacent}

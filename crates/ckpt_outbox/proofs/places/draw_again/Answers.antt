@@ -1,3 +1,4 @@
+-- Answers the goals of `draw_again`.
 use Rattle.std.proofs.Common.{◌∙◌, get_or, nat_eq, sym}
 use Rattle.std.proofs.lemmas.Map.Steps.{set_value_same}
 use Rattle.std.specs.HashMap as hash

@@ -1,3 +1,4 @@
+-- Answers the goals of `is_taken`.
 use Rattle.std.proofs.Common.{get_or, nat_eq}
 use Rattle.std.specs.HashMap as hash
 use Rattle.ckpt_outbox.specs.Places.{ticket}

@@ -1,3 +1,4 @@
+-- Answers the goals of `taken_in`.
 use Rattle.std.proofs.Common.{◌≡◌, ◌++◌, ◌∷◌, ◌∙◌, ℕ, Bool, List, [], true, false, cond, filter, nat_eq, sym, ap, refl}
 use Rattle.std.specs.HashMap as hash
 use Rattle.std.proofs.lemmas.List.{append-nil, append_assoc}

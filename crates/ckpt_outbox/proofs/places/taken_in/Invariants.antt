@@ -1,3 +1,4 @@
+-- The loop invariants of `taken_in`.
 use Rattle.std.proofs.Common.{◌≡◌, ◌++◌, filter, nat_eq}
 use Rattle.std.specs.HashMap as hash
 use Rattle.ckpt_outbox.specs.Places.{is_apart}

@@ -1,3 +1,4 @@
+-- The loop invariants of `waiting_in`.
 use Rattle.std.proofs.Common.{◌≡◌, ◌++◌}
 use Rattle.std.specs.VecDeque.Iter.{deque_iter_rest}
 use Rattle.ckpt_outbox.proofs.places.waiting_in.Given as goal

@@ -1,3 +1,4 @@
+-- The loop invariants of `copies`.
 use Rattle.std.proofs.Common.{◌≡◌, ◌++◌}
 use Rattle.std.specs.VecDeque.Iter.{deque_iter_rest}
 use Rattle.ckpt_pending.proofs.pending.copies.Given as goal

@@ -1,3 +1,4 @@
+-- Answers the goals of `place_of`.
 use Rattle.std.proofs.Common.{rules, sym, List, length, true, ◌≡◌, ◌∙◌}
 use Rattle.std.proofs.lemmas.List.Sorted.{answers_always}
 use Rattle.ckpt_ids.specs.Acknowledged.{is_before}

@@ -1,3 +1,4 @@
+-- Answers the goals of `count_fresh`.
 use Rattle.std.proofs.Common.{◌≡◌, ℕ, ◌<◌, length, take, Some, sym, subst, arith}
 use Rattle.std.specs.Result.{IsOk}
 use Rattle.ckpt_ids.specs.Ordered.{IsIn}

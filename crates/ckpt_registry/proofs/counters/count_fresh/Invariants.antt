@@ -1,3 +1,4 @@
+-- The loop invariants of `count_fresh`.
 use Rattle.std.proofs.Common.{◌≡◌, ℕ, ◌+◌, ◌≤◌, length, take}
 use Rattle.indexmap.specs.IndexMap.{index_map_len, spare}
 use Rattle.ckpt_registry.specs.Counters.{counter, AreInRange}

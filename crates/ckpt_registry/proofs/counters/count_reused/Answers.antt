@@ -1,3 +1,4 @@
+-- Answers the goals of `count_reused`.
 use Rattle.std.proofs.Common.{◌≡◌, ℕ, ◌+◌, ◌<◌, ◌^◌, List, length, get_or, Some, Option, unwrap_or, sym, ap, subst, ◌∙◌, arith, rules}
 use Rattle.std.specs.Option.{is_some}
 use Rattle.ckpt_ids.specs.Ordered.{IsIn}

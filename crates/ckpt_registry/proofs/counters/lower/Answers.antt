@@ -1,3 +1,4 @@
+-- Answers the goals of `lower`.
 use Rattle.std.proofs.Common.{◌≡◌, ℕ, ◌+◌, ◌-◌, ◌<◌, Option, Some, None, IfSome, if◌then◌else◌, nat_eq, unwrap_or, sym, ap, subst, ◌∙◌, refl, arith, rules}
 use Rattle.std.proofs.lemmas.Cmp.{nat_eq_equiv}
 use Rattle.std.specs.List.{slice_get}

@@ -1,3 +1,4 @@
+-- Answers the goals of `has`.
 use Rattle.std.proofs.Common.{◌<◌, sym, ◌∙◌, arith}
 use Rattle.std.proofs.lemmas.Bool.{ltb-true, lt-ltb}
 use Rattle.ckpt_ids.specs.Counting.{times}

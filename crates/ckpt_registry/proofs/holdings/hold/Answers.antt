@@ -1,3 +1,4 @@
+-- Answers the goals of `hold`.
 use Rattle.std.proofs.Common.{◌≡◌, ℕ, ◌+◌, ◌<◌, Bool, List, [], ◌∷◌, ◌++◌, length, get_or, suc, take, drop, ◌⊎◌, refl, sym, ap, subst, ◌∙◌, ⊎_elim, count_by}
 use Rattle.std.specs.List.Sorted.{IsPartitionPoint}
 use Rattle.std.specs.VecDeque.{deque_with_item}

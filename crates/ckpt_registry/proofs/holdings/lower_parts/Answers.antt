@@ -1,3 +1,4 @@
+-- Answers the goals of `lower_parts`.
 use Rattle.std.proofs.Common.{◌≡◌, ◌+◌, ℕ, take, ap, arith}
 use Rattle.ckpt_ids.specs.Counting.{times}
 use Rattle.ckpt_ids.proofs.CountLemmas.{times-append}

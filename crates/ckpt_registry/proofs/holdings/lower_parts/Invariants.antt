@@ -1,3 +1,4 @@
+-- The loop invariants of `lower_parts`.
 use Rattle.std.proofs.Common.{take}
 use Rattle.ckpt_ids.specs.Counting.{times}
 use Rattle.ckpt_registry.specs.Counters.{AreLowered}

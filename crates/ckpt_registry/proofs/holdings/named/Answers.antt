@@ -1,3 +1,4 @@
+-- Answers the goals of `named`.
 use Rattle.std.proofs.Common.{rules, ℕ, ◌+◌, ◌≤◌, ◌^◌, length, List, arith, length-append}
 use Rattle.ckpt_registry.specs.declared.holdings.Part.{Part}
 use Rattle.ckpt_registry.specs.Holdings.{files_in, files_of}

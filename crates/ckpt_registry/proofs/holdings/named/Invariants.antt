@@ -1,3 +1,4 @@
+-- The loop invariants of `named`.
 use Rattle.std.proofs.Common.{◌≡◌, take, length}
 use Rattle.ckpt_registry.specs.Holdings.{files_in}
 use Rattle.ckpt_registry.proofs.holdings.named.Given as goal

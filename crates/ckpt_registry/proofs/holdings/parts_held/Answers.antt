@@ -1,3 +1,4 @@
+-- Answers the goals of `parts_held`.
 use Rattle.std.proofs.Common.{ap, sym, ◌∙◌}
 use Rattle.ckpt_registry.proofs.HoldingLemmas.{number, parts_in}
 use Rattle.ckpt_registry.proofs.PlaceLemmas.{none_found, parts_found}

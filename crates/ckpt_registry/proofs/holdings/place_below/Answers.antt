@@ -1,3 +1,4 @@
+-- Answers the goals of `place_below`.
 use Rattle.std.proofs.Common.{rules}
 use Rattle.std.proofs.lemmas.List.Sorted.{answers_always}
 use Rattle.ckpt_ids.proofs.AscendingLemmas.{numbers_in_order}

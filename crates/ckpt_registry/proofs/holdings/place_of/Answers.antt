@@ -1,3 +1,4 @@
+-- Answers the goals of `place_of`.
 use Rattle.std.proofs.Common.{◌≡◌, ◌∙◌, List, length, rules}
 use Rattle.ckpt_registry.specs.declared.holdings.Holding.{Holding}
 use Rattle.ckpt_registry.proofs.PlaceLemmas.{after_last, first_of_all}

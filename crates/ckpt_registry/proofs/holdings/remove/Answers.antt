@@ -1,3 +1,4 @@
+-- Answers the goals of `remove`.
 use Rattle.std.proofs.Common.{eqb, not, ap, sym, ◌∙◌}
 use Rattle.std.proofs.lemmas.Bool.{ne_eqb}
 use Rattle.ckpt_ids.proofs.OrderedLemmas.{filter-all}

@@ -1,3 +1,4 @@
+-- The loop invariants of `add_files`.
 use Rattle.std.proofs.Common.{◌≡◌, ◌++◌, take}
 use Rattle.ckpt_registry.specs.Holdings.{files_in}
 use Rattle.ckpt_registry.proofs.pins.add_files.Given as goal

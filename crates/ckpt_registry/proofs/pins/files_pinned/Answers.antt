@@ -1,3 +1,4 @@
+-- Answers the goals of `files_pinned`.
 use Rattle.std.proofs.Common.{◌≡◌, ◌≤◌, List, length, sym, ap, subst, arith}
 use Rattle.std.proofs.lemmas.List.{length-take}
 use Rattle.ckpt_ids.specs.Ordered.{IsIn}

@@ -1,3 +1,4 @@
+-- Answers the goals of `fill`.
 use Rattle.std.proofs.Common.{◌≡◌, ℕ, ◌+◌, List, ◌++◌, length, take, ap, sym, ◌∙◌, arith, append_assoc, length-append}
 use Rattle.ckpt_registry.specs.Holdings.{files_in, files_of}
 use Rattle.ckpt_registry.proofs.PartLemmas.{flat_map_more, length_more_of, length_of_take}

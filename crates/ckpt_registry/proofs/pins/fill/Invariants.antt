@@ -1,3 +1,4 @@
+-- The loop invariants of `fill`.
 use Rattle.std.proofs.Common.{◌≡◌, ◌+◌, ◌≤◌, ◌++◌, take, length, vec_len}
 use Rattle.std.specs.Vec.{vec_capacity}
 use Rattle.ckpt_registry.specs.Holdings.{files_in}

@@ -1,3 +1,4 @@
+-- Answers the goals of `pins_of`.
 use Rattle.std.proofs.Common.{◌≡◌, ℕ, ◌+◌, ◌<◌, ◌^◌, ap, sym, subst, ◌∙◌, arith, rules, ltb, get_or}
 use Rattle.std.proofs.lemmas.List.Sums.{sum_by_more, sum_by-take-le}
 use Rattle.ckpt_ids.specs.Counting.{times}

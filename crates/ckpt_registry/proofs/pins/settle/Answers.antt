@@ -1,3 +1,4 @@
+-- Answers the goals of `settle`.
 use Rattle.std.proofs.Common.{◌≡◌, ℕ, ◌+◌, ◌<◌, ◌≤◌, List, ◌++◌, cond, eqb, length, get_or, take, drop, set, ap, sym, subst, ◌∙◌, refl, inl, inr, arith, length-append}
 use Rattle.std.proofs.lemmas.Bool.{eqb-true, eqb-false, cond-true}
 use Rattle.std.proofs.lemmas.List.{append-nil, take_all, drop_all, set-get_or}

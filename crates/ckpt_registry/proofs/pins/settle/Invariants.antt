@@ -1,3 +1,4 @@
+-- The loop invariants of `settle`.
 use Rattle.std.proofs.Common.{◌≡◌, ℕ, ◌+◌, take, drop, length}
 use Rattle.indexmap.specs.IndexMap.{index_map_len}
 use Rattle.ckpt_registry.specs.Counters.{counter, AreInRange}

@@ -1,3 +1,4 @@
+-- Answers the goals of `unpin`.
 use Rattle.std.proofs.Common.{◌≡◌, ℕ, ◌+◌, not, cond, List, take, ap, sym, subst, ◌∙◌, arith, rules}
 use Rattle.std.specs.List.{filter}
 use Rattle.std.proofs.lemmas.Bool.{cond-true, cond-false}

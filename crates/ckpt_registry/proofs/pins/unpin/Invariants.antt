@@ -1,3 +1,4 @@
+-- The loop invariants of `unpin`.
 use Rattle.std.proofs.Common.{take}
 use Rattle.std.specs.List.{filter}
 use Rattle.ckpt_ids.specs.Counting.{times}

@@ -1,3 +1,4 @@
+-- Answers the goals of `drop_uses`.
 use Rattle.std.proofs.Common.{◌≡◌, ℕ, ◌+◌, List, sym, ap, subst, ◌∙◌, arith}
 use Rattle.ckpt_ids.specs.Counting.{times}
 use Rattle.ckpt_ids.proofs.CountLemmas.{times-from_IsIn}

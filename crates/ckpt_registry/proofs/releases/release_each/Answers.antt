@@ -1,3 +1,4 @@
+-- Answers the goals of `release_each`.
 use Rattle.std.proofs.Common.{ℕ, ◌<◌, length, sym, ap, ◌∙◌, arith}
 use Rattle.ckpt_registry.specs.Holdings.{uses_in}
 use Rattle.ckpt_registry.specs.Pins.{pins_in}

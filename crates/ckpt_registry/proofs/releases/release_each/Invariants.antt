@@ -1,3 +1,4 @@
+-- The loop invariants of `release_each`.
 use Rattle.std.proofs.Common.{◌≡◌, [], take}
 use Rattle.ckpt_registry.specs.Counters.{AreReleased}
 use Rattle.ckpt_registry.specs.Holdings.{uses_in}

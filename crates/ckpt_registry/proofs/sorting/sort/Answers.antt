@@ -1,3 +1,4 @@
+-- Answers the goals of `sort`.
 use Rattle.std.proofs.Common.{◌≡◌, ℕ, ◌+◌, ◌<◌, ◌≤◌, List, true, false, get_or, sym, ap, subst, ⊎_elim, arith, Equal, Greater}
 use Rattle.std.specs.List.Sorted.{IsNonDecreasing, IsSorted}
 use Rattle.std.specs.Ordering.{nat_cmp, is_lt}

@@ -1,3 +1,4 @@
+-- Answers the goals of `hold`.
 use Rattle.std.proofs.Common.{◌≡◌, ℕ, ◌-◌, List, length, min, ◌∙◌, arith, cond}
 use Rattle.std.specs.Prelude.{Result, Ok, Err, OnOk, is_ok}
 use Rattle.ckpt_script.specs.Lines.{held}

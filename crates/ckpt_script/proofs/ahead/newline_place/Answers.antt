@@ -1,3 +1,4 @@
+-- Answers the goals of `newline_place`.
 use Rattle.std.proofs.Common.{ℕ, List, length, Option, None, Some, arith, add-one}
 use Rattle.std.proofs.lemmas.List.{take_all}
 use Rattle.memchr.specs.Find.{IsFirstByte, is_byte}

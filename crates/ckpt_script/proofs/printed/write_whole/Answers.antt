@@ -1,3 +1,4 @@
+-- Answers the goals of `write_whole`.
 use Rattle.std.proofs.Common.{arith, drop, length-drop, refl, take, ◌∙◌}
 use Rattle.std.proofs.lemmas.List.{take-append-drop}
 use Rattle.ckpt_script.proofs.PassesLemmas.{Appends-trans, Appends-as, Appends-kept}

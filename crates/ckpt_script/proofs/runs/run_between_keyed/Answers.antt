@@ -1,3 +1,4 @@
+-- Answers the goals of `run_between_keyed`.
 use Rattle.std.proofs.Common.{ap, sym, subst}
 use Rattle.std.specs.Prelude.{Err}
 use Rattle.ckpt_script.specs.declared.fault.RunFault.{RunFault}

@@ -1,3 +1,4 @@
+-- Answers the goals of `has_acknowledged`.
 use Rattle.std.proofs.Common.{◌∙◌, rules, tests}
 use Rattle.std.specs.List.Sorted.{IsBinarySearchResult}
 use Rattle.std.proofs.lemmas.Fn.{always_returns_same}

@@ -1,3 +1,4 @@
+-- Answers the goals of `missing_subtasks`.
 use Rattle.std.proofs.Common.{◌≡◌, ℕ, ◌+◌, ◌<◌, Bool, true, false, cond, length, get_or, take, List, [], ◌∷◌, ◌++◌, sym, ap, ◌∙◌, arith, append-nil}
 use Rattle.std.specs.Prelude.{not, filter, slice_get, Some}
 use Rattle.std.proofs.lemmas.List.Elements.{filter_more}

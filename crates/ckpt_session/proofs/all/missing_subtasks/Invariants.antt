@@ -1,3 +1,4 @@
+-- The loop invariants of `missing_subtasks`.
 use Rattle.std.proofs.Common.{◌≡◌, take}
 use Rattle.std.specs.Prelude.{not, filter}
 use Rattle.ckpt_ids.specs.Shapes.{subtasks}

@@ -1,3 +1,4 @@
+-- Answers the goals of `pending_metadata`.
 use Rattle.std.proofs.Common.{ap, subst, ◌∙◌}
 use Rattle.ckpt_core.specs.Soundness.{IsSound}
 use Rattle.ckpt_locked.specs.Books.{state_of_book}

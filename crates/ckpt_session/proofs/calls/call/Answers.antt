@@ -1,3 +1,4 @@
+-- Answers the goals of `call`.
 use Rattle.std.proofs.Common.{◌≡◌, ◌∙◌, ap}
 use Rattle.std.proofs.lemmas.Result.{IfOk-weaker, on_ok_weaker}
 use Rattle.ckpt_ids.specs.declared.reply.Answer.{Answer}

@@ -1,3 +1,4 @@
+-- Answers the goals of `open`.
 use Rattle.std.proofs.Common.{ap}
 use Rattle.std.proofs.lemmas.Result.{IfOk-weaker}
 use Rattle.ckpt_locked.specs.Books.{History}

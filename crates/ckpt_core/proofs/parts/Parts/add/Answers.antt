@@ -1,3 +1,4 @@
+-- Answers the goals of `Parts::add`.
 use Rattle.std.proofs.Common.{◌≡◌, ℕ, ◌+◌, ◌<◌, not, eqb, List, [], ◌∷◌, ◌++◌, refl, sym, ap, subst, ◌∙◌, arith}
 use Rattle.std.specs.List.{filter}
 use Rattle.ckpt_ids.specs.Records.{Record}

@@ -1,3 +1,4 @@
+-- Answers the goals of `Parts::begun`.
 use Rattle.std.proofs.Common.{◌≡◌, ℕ, ◌+◌, List, [], refl, ap, ◌∙◌, arith}
 use Rattle.ckpt_ids.specs.Records.{Record}
 use Rattle.ckpt_outbox.specs.Queues.{Queues}

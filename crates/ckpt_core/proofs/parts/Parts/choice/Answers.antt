@@ -1,3 +1,4 @@
+-- Answers the goals of `Parts::choice`.
 use Rattle.std.proofs.Common.{◌∙◌}
 use Rattle.ckpt_core.proofs.Ending.Drops.{groups_of}
 use Rattle.ckpt_core.proofs.Ending.Moves.{choice_is}

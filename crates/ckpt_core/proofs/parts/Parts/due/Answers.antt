@@ -1,3 +1,4 @@
+-- Answers the goals of `Parts::due`.
 use Rattle.std.proofs.Common.{◌≡◌, sym, subst}
 use Rattle.ckpt_core.specs.Inside.Parts.{state_of}
 use Rattle.ckpt_core.specs.Reads.{NoneIsEarlyFrom, NoneTriggersBefore, next_due}

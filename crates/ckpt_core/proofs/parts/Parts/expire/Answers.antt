@@ -1,3 +1,4 @@
+-- Answers the goals of `Parts::expire`.
 use Rattle.std.proofs.Common.{◌≡◌, true, sym, ap, subst, ◌∙◌}
 use Rattle.std.specs.Prelude.{IfOk, OnErr}
 use Rattle.ckpt_ids.specs.declared.call.Call.TheVariants as call

@@ -1,3 +1,4 @@
+-- Answers the goals of `Parts::fail_expired`.
 use Rattle.ckpt_core.specs.Inside.Parts.{state_of}
 use Rattle.ckpt_core.proofs.Ending.Drops.{noted_tied}
 use Rattle.ckpt_core.proofs.Triggering.TickParts.{expiry_fails, failed_tolerable, tied_failures}

@@ -1,3 +1,4 @@
+-- Answers the goals of `Parts::has_room_for`.
 use Rattle.std.proofs.Common.{rules, ◌≡◌, ◌+◌, ◌<◌, not, eqb, sym, ap, ◌∙◌, arith}
 use Rattle.std.proofs.lemmas.Bool.{both_ways, ltb-true, ltb-false, and_from}
 use Rattle.ckpt_ids.specs.Records.{Record}

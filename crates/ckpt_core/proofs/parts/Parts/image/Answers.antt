@@ -1,3 +1,4 @@
+-- Answers the goals of `Parts::image`.
 use Rattle.std.proofs.Common.{ℕ, List, refl, sym, ap, subst, ◌∙◌}
 use Rattle.ckpt_core.specs.Images.{CanHold}
 use Rattle.ckpt_core.specs.Inside.Parts.{state_of}

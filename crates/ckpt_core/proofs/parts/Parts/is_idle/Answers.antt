@@ -1,3 +1,4 @@
+-- Answers the goals of `Parts::is_idle`.
 use Rattle.std.proofs.Common.{◌≡◌, eqb, length, sym, ap, ◌∙◌}
 use Rattle.std.proofs.lemmas.Bool.{both_ways, eqb-true}
 use Rattle.ckpt_core.specs.declared.parts.Parts.{Parts}

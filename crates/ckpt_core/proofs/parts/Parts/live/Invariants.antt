@@ -1,3 +1,4 @@
+-- The loop invariants of `Parts::live`.
 use Rattle.std.proofs.Common.{◌≡◌, nat_lt}
 use Rattle.std.specs.Prelude.{count_by}
 use Rattle.ckpt_core.specs.Inside.Parts.{records_in}

@@ -1,3 +1,4 @@
+-- Answers the goals of `Parts::load`.
 use Rattle.ckpt_core.proofs.parts.Parts.load.Goals as goal
 
 pub returns-then-not-may_join-clause-damaged : goal.returns-then-not-may_join-clause-damaged

@@ -1,3 +1,4 @@
+-- Answers the goals of `Parts::load_acknowledged`.
 use Rattle.std.proofs.Common.{◌≡◌, ◌<◌, List, [], ◌∷◌, ◌++◌, refl, sym, ap, subst, ◌∙◌, arith}
 use Rattle.ckpt_ids.specs.Records.{Record, count, uses}
 use Rattle.ckpt_core.specs.declared.image.Saved.{Saved}

@@ -1,3 +1,4 @@
+-- The loop invariants of `Parts::load_all`.
 use Rattle.std.proofs.Common.{◌≡◌, map, take}
 use Rattle.ckpt_core.specs.Images.{record_in}
 use Rattle.ckpt_core.specs.Inside.Parts.{AreTied, opening_of, state_of}

@@ -1,3 +1,4 @@
+-- Answers the goals of `Parts::load_base`.
 use Rattle.std.proofs.Common.{rules, ◌≡◌, ℕ, true, sym, ap, subst, ◌∙◌, Option, Some, None}
 use Rattle.std.proofs.lemmas.Bool.{both_ways}
 use Rattle.ckpt_store.specs.Storing.{has_savepoint}

@@ -1,3 +1,4 @@
+-- Answers the goals of `Parts::load_done`.
 use Rattle.std.proofs.Common.{◌≡◌, true, ◌&&◌, [], ◌∷◌, ◌++◌, OnOk, Result, Ok, Err, ap, subst, ◌∙◌, arith}
 use Rattle.ckpt_ids.specs.declared.ack.Acked.{Acked}
 use Rattle.ckpt_ids.specs.declared.numbers.Kind.TheVariants as kind

@@ -1,3 +1,4 @@
+-- Answers the goals of `Parts::load_files`.
 use Rattle.std.proofs.Common.{rules, ◌≡◌, ℕ, ◌≤◌, false, Err, List, [], ◌++◌, length, take, drop, sym, ap, subst, ◌∙◌, ⊎_elim, arith}
 use Rattle.std.proofs.lemmas.List.{append-nil, drop_all, take_all}
 use Rattle.ckpt_ids.specs.Ordered.{AreDistinct, IsIn}

@@ -1,3 +1,4 @@
+-- Answers the goals of `Parts::load_savepoint`.
 use Rattle.std.proofs.Common.{◌≡◌, false, eqb, ℕ, ◌+◌, ◌<◌, ◌≤◌, ◌^◌, ◌-◌, max, [], ◌∷◌, ◌++◌, List, length, map, refl, sym, ap, subst, ◌∙◌, arith}
 use Rattle.std.proofs.lemmas.Result.{on_ok_weaker}
 use Rattle.std.specs.Vec.{vec_capacity}

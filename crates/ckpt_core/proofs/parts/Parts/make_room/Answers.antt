@@ -1,3 +1,4 @@
+-- Answers the goals of `Parts::make_room`.
 use Rattle.std.proofs.Common.{arith}
 use Rattle.std.proofs.lemmas.Result.{on_ok_weaker}
 use Rattle.ckpt_core.proofs.Records.Lookups.{length-records_of}

@@ -1,3 +1,4 @@
+-- Answers the goals of `Parts::may_join`.
 use Rattle.std.proofs.Common.{◌∙◌, sym, List}
 use Rattle.std.proofs.lemmas.Bool.{both_ways}
 use Rattle.ckpt_ids.specs.Records.{Record}

@@ -1,3 +1,4 @@
+-- Answers the goals of `Parts::note_expired`.
 use Rattle.std.proofs.Common.{◌≡◌, ℕ, ◌+◌, ◌-◌, ◌<◌, ◌&&◌, ◌++◌, Bool, true, false, ltb, length, ap, sym, ◌∙◌, ⊎_elim, arith}
 use Rattle.std.specs.Prelude.{count_by, IsTrue, ◌↔◌}
 use Rattle.std.specs.List.{filter}

@@ -1,3 +1,4 @@
+-- Answers the goals of `Parts::of_image`.
 use Rattle.std.proofs.Common.{rules, ◌≡◌, true, Err, List, [], ◌++◌, map, sym, ap, subst, ◌∙◌}
 use Rattle.ckpt_ids.specs.Records.{Use, uses}
 use Rattle.ckpt_core.specs.declared.image.ImageFault.TheVariants.{Damaged}

@@ -1,3 +1,4 @@
+-- Answers the goals of `Parts::pin`.
 use Rattle.std.proofs.Common.{◌≡◌, List, [], ◌++◌, sym, ap, subst, ◌∙◌}
 use Rattle.std.proofs.lemmas.List.{append-nil}
 use Rattle.ckpt_ids.specs.declared.reply.Choice.{Choice}

@@ -1,3 +1,4 @@
+-- Answers the goals of `Parts::pins_of`.
 use Rattle.std.proofs.Common.{◌≡◌, ℕ, List, sym, ap, ◌∙◌}
 use Rattle.std.proofs.lemmas.Result.{IfOk-weaker}
 use Rattle.ckpt_ids.specs.Ascending.{ascending}

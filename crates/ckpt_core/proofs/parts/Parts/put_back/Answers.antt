@@ -1,3 +1,4 @@
+-- Answers the goals of `Parts::put_back`.
 use Rattle.std.proofs.Common.{◌≡◌, ℕ, ◌+◌, Bool, true, false, ◌||◌, List, [], ◌∷◌, ◌++◌, take, refl, sym, ap, subst, ◌∙◌, inl, inr, ⊎_elim}
 use Rattle.std.proofs.lemmas.List.{take_all, take_more}
 use Rattle.ckpt_ids.specs.Ordered.{IsIn}

@@ -1,3 +1,4 @@
+-- The loop invariants of `Parts::put_back`.
 use Rattle.std.proofs.Common.{◌≡◌, ℕ, false, take}
 use Rattle.ckpt_ids.specs.Ordered.{IsIn}
 use Rattle.ckpt_ids.specs.Records.{is_present}

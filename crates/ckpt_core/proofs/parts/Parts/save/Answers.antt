@@ -1,3 +1,4 @@
+-- Answers the goals of `Parts::save`.
 use Rattle.std.proofs.Common.{sym}
 use Rattle.ckpt_core.specs.declared.parts.Parts.{Parts}
 use Rattle.ckpt_core.specs.Inside.Parts.{state_of}

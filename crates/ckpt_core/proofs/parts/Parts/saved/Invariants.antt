@@ -1,3 +1,4 @@
+-- The loop invariants of `Parts::saved`.
 use Rattle.std.proofs.Common.{◌≡◌, ◌-◌, ◌≤◌, ◌^◌, map, nat_lt, take}
 use Rattle.std.specs.Prelude.{count_by}
 use Rattle.ckpt_core.specs.Images.{record_in}

@@ -1,3 +1,4 @@
+-- Answers the goals of `Parts::savepoint`.
 use Rattle.ckpt_core.specs.Inside.Parts.{state_of}
 use Rattle.ckpt_core.specs.Soundness.{IsSound}
 use Rattle.std.proofs.Common.{sym, subst, ◌∙◌}

@@ -1,3 +1,4 @@
+-- Answers the goals of `Parts::savepoints`.
 use Rattle.std.proofs.Common.{arith}
 use Rattle.ckpt_core.proofs.Answering.RefusalLookups.{savepoints-parts}
 use Rattle.ckpt_core.proofs.parts.Parts.savepoints.Goals as goal

@@ -1,3 +1,4 @@
+-- Answers the goals of `Parts::start_and_drop`.
 use Rattle.std.proofs.Common.{ap, ◌∙◌}
 use Rattle.ckpt_core.specs.Inside.Parts.{is_noted, state_of}
 use Rattle.ckpt_core.proofs.Ending.Drops.{groups_of}

@@ -1,3 +1,4 @@
+-- Answers the goals of `Parts::start_or_hold`.
 use Rattle.ckpt_rules.specs.declared.hold.Hold.TheVariants as hold
 use Rattle.ckpt_core.specs.Inside.Parts.{state_of}
 use Rattle.std.proofs.Common.{ap}

@@ -1,3 +1,4 @@
+-- Answers the goals of `Parts::test`.
 use Rattle.std.proofs.Common.{rules}
 use Rattle.ckpt_core.specs.Refusals.{refusal}
 use Rattle.ckpt_core.proofs.parts.Parts.test.Goals as goal

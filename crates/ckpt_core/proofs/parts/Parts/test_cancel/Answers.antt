@@ -1,3 +1,4 @@
+-- Answers the goals of `Parts::test_cancel`.
 use Rattle.std.proofs.Common.{rules}
 use Rattle.ckpt_core.specs.Inside.Parts.{state_of}
 use Rattle.ckpt_core.specs.Refusals.{refusal}

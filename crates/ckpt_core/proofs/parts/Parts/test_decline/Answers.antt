@@ -1,3 +1,4 @@
+-- Answers the goals of `Parts::test_decline`.
 use Rattle.std.proofs.Common.{rules, ◌∙◌, ap, refl, sym, Option}
 use Rattle.ckpt_ids.specs.Records.{Record}
 use Rattle.ckpt_core.specs.Inside.Parts.{state_of}

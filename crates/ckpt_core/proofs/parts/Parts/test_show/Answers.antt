@@ -1,3 +1,4 @@
+-- Answers the goals of `Parts::test_show`.
 use Rattle.std.proofs.Common.{◌≡◌, ◌&&◌, ◌∙◌, ap, eqb, refl, sym, Bool}
 use Rattle.std.specs.Prelude.{find}
 use Rattle.std.specs.Option.{is_none}

@@ -1,3 +1,4 @@
+-- Answers the goals of `Parts::tick`.
 use Rattle.ckpt_core.specs.Inside.Parts.{Answers, state_of}
 use Rattle.ckpt_core.specs.Soundness.{IsSound}
 use Rattle.std.proofs.Common.{sym, subst}

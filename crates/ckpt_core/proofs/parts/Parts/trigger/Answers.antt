@@ -1,3 +1,4 @@
+-- Answers the goals of `Parts::trigger`.
 use Rattle.std.proofs.Common.{◌∙◌, sym, ap, subst, arith}
 use Rattle.std.proofs.lemmas.Result.{on_ok_weaker, on_err_weaker}
 use Rattle.ckpt_core.specs.Soundness.{IsSound}

@@ -1,3 +1,4 @@
+-- Answers the goals of `PendingRecords::ack`.
 use Rattle.std.proofs.Common.{◌≡◌, ◌∙◌, ℕ, List, Some, Result, Ok, Err, OnOk, OnErr, IsSome, find, refl, sym, ap, subst}
 use Rattle.std.specs.List.{slice_set}
 use Rattle.ckpt_ids.specs.Records.{Record, acknowledged}

@@ -1,3 +1,4 @@
+-- Answers the goals of `PendingRecords::add`.
 use Rattle.std.proofs.Common.{◌≡◌, ◌∙◌, ◌<◌, Bool, cond, List, ℕ, ap, subst, sym}
 use Rattle.ckpt_ids.specs.Ordered.{IsIn}
 use Rattle.ckpt_ids.specs.Records.{Record}

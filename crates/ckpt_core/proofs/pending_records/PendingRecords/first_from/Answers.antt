@@ -1,3 +1,4 @@
+-- Answers the goals of `PendingRecords::first_from`.
 use Rattle.std.proofs.Common.{◌≡◌, ◌∙◌, ap, sym, ltb, leb, rules, List, Some, true, false, find}
 use Rattle.std.specs.List.Sorted.{IsPartitionPoint}
 use Rattle.std.specs.Option.{option_copied, option_map}

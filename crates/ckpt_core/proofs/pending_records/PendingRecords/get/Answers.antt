@@ -1,3 +1,4 @@
+-- Answers the goals of `PendingRecords::get`.
 use Rattle.std.proofs.Common.{◌≡◌, ◌∙◌, ap, sym, List, find}
 use Rattle.std.specs.Prelude.{slice_get}
 use Rattle.std.specs.Option.{option_copied}

@@ -1,3 +1,4 @@
+-- The loop invariants of `PendingRecords::least_started`.
 use Rattle.std.proofs.Common.{◌≡◌, ℕ, ◌||◌, nat_le}
 use Rattle.std.specs.List.{list_any}
 use Rattle.ckpt_core.specs.Reads.{has_come}

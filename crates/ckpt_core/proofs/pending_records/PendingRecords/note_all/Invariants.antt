@@ -1,3 +1,4 @@
+-- The loop invariants of `PendingRecords::note_all`.
 use Rattle.std.proofs.Common.{◌≡◌, ◌+◌, ◌≤◌, ◌++◌, length, map, vec_len}
 use Rattle.std.specs.Vec.{vec_capacity}
 use Rattle.std.specs.VecDeque.Iter.{deque_iter_rest}

@@ -1,3 +1,4 @@
+-- The loop invariants of `PendingRecords::note_expired`.
 use Rattle.std.proofs.Common.{◌≡◌, ◌+◌, ◌≤◌, ◌<◌, ◌^◌, ◌&&◌, ◌++◌, nat_le, length, map, filter, count_by, vec_len}
 use Rattle.std.specs.Vec.{vec_capacity}
 use Rattle.ckpt_core.specs.State.{is_checkpoint}

@@ -1,3 +1,4 @@
+-- The loop invariants of `PendingRecords::note_subsumed`.
 use Rattle.std.proofs.Common.{◌≡◌, ◌+◌, ◌≤◌, ◌&&◌, ◌++◌, nat_lt, length, map, filter, vec_len}
 use Rattle.std.specs.Vec.{vec_capacity}
 use Rattle.ckpt_core.specs.State.{is_checkpoint}

@@ -1,3 +1,4 @@
+-- Answers the goals of `PendingRecords::recall`.
 use Rattle.ckpt_core.proofs.pending_records.PendingRecords.recall.Goals as goal
 
 pub returns-clause-pending : goal.returns-clause-pending

@@ -1,3 +1,4 @@
+-- Answers the goals of `PendingRecords::remove`.
 use Rattle.std.proofs.Common.{◌≡◌, ◌∙◌, ◌+◌, ◌-◌, not, Bool, ℕ, cond, List, get_or, ap, sym, find, filter, arith}
 use Rattle.std.specs.List.{remove}
 use Rattle.ckpt_ids.specs.Records.{Record}

@@ -1,3 +1,4 @@
+-- Answers the goals of `PendingRecords::retract`.
 use Rattle.std.proofs.Common.{◌≡◌, ◌∙◌, List, Some, IsSome, find, refl, sym, ap, subst}
 use Rattle.ckpt_ids.specs.Records.{Record}
 use Rattle.ckpt_pending.specs.Acknowledging.{without_ack}

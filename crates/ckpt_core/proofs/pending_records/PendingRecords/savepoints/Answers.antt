@@ -1,3 +1,4 @@
+-- Answers the goals of `PendingRecords::savepoints`.
 use Rattle.std.proofs.Common.{arith}
 use Rattle.ckpt_core.specs.State.{is_checkpoint}
 use Rattle.ckpt_core.proofs.Records.Pending.{count_by-others}

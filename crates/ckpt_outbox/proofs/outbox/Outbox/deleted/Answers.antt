@@ -1,3 +1,4 @@
+-- Answers the goals of `Outbox::deleted`.
 use Rattle.std.proofs.Common.{◌≡◌, ◌∙◌, ◌+◌, ℕ, List, ◌++◌, None, is_some, cond, true, false, length, nat_eq, refl, sym, ap, arith}
 use Rattle.std.proofs.lemmas.Bool.{both_ways}
 use Rattle.std.specs.HashMap as hash

@@ -1,3 +1,4 @@
+-- Answers the goals of `Outbox::is_taken`.
 use Rattle.std.proofs.Common.{◌∙◌, ap, nat_eq}
 use Rattle.std.specs.HashMap as hash
 use Rattle.ckpt_outbox.specs.Queues.{is_taken}

@@ -1,3 +1,4 @@
+-- The loop invariants of `Outbox::put`.
 use Rattle.std.proofs.Common.{◌≡◌, ◌-◌, ◌++◌, take}
 use Rattle.ckpt_outbox.proofs.outbox.Outbox.put.Given as goal
 

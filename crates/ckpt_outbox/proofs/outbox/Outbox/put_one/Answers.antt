@@ -1,3 +1,4 @@
+-- Answers the goals of `Outbox::put_one`.
 use Rattle.std.proofs.Common.{◌≡◌, ◌∙◌, ◌+◌, ℕ, List, [], ◌∷◌, ◌++◌, Some, is_some, cond, true, false, length, length-append, nat_eq, sym, ap, arith}
 use Rattle.std.specs.HashMap as hash
 use Rattle.ckpt_outbox.specs.Queues.{is_in, is_known}

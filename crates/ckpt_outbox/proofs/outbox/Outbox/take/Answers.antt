@@ -1,3 +1,4 @@
+-- Answers the goals of `Outbox::take`.
 use Rattle.std.proofs.Common.{◌≡◌, ◌∙◌, ◌+◌, ◌<◌, ℕ, List, [], ◌∷◌, ◌++◌, take, drop, min, length, get_or, append_assoc, sym, ap, arith}
 use Rattle.std.proofs.lemmas.List.{length-drop, take_more, drop_more, take_min, drop_min}
 use Rattle.ckpt_outbox.specs.Queues.{Queues}

@@ -1,3 +1,4 @@
+-- Answers the goals of `Outbox::take_one`.
 use Rattle.std.proofs.Common.{◌≡◌, ◌∙◌, ◌+◌, ℕ, List, [], ◌∷◌, ◌++◌, length, length-append, nat_eq, sym, ap, subst, arith}
 use Rattle.std.specs.HashMap as hash
 use Rattle.ckpt_outbox.specs.Queues.{AreDistinct, is_in}

@@ -1,3 +1,4 @@
+-- Answers the goals of `Outbox::taken_files`.
 use Rattle.std.proofs.Common.{◌∙◌, ap, nat_eq}
 use Rattle.std.specs.HashMap as hash
 use Rattle.ckpt_ids.specs.Ascending.{ascending}

@@ -1,3 +1,4 @@
+-- Answers the goals of `Outbox::undeleted`.
 use Rattle.std.proofs.Common.{◌≡◌, ◌∙◌, ◌+◌, ℕ, List, [], ◌∷◌, ◌++◌, Some, is_some, get_or, cond, true, false, length, length-append, nat_eq, refl, sym, ap, arith}
 use Rattle.std.proofs.lemmas.Bool.{both_ways}
 use Rattle.std.specs.HashMap as hash

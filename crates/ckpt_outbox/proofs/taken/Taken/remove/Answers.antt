@@ -1,3 +1,4 @@
+-- Answers the goals of `Taken::remove`.
 use Rattle.std.proofs.Common.{◌≡◌, ◌∙◌, ℕ, false, List, length, ap, arith}
 use Rattle.std.specs.Option.{option_map_or}
 use Rattle.ckpt_outbox.specs.Changes.{Changed, changed, unchanged}

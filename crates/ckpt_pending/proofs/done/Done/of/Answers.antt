@@ -1,3 +1,4 @@
+-- Answers the goals of `Done::of`.
 use Rattle.ckpt_pending.proofs.PendingLemmas.{IsDone-from_pending}
 use Rattle.ckpt_pending.proofs.done.Done.of.Goals as goal
 

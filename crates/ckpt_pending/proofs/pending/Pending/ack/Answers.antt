@@ -1,3 +1,4 @@
+-- Answers the goals of `Pending::ack`.
 use Rattle.std.proofs.Common.{◌≡◌, ◌∙◌, ◌+◌, ◌-◌, true, false, sym, ap, subst, refl, List, arith}
 use Rattle.std.proofs.lemmas.Bool.{both_ways}
 use Rattle.ckpt_ids.specs.declared.ack.Acked.{Acked}

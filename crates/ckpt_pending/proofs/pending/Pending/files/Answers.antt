@@ -1,3 +1,4 @@
+-- Answers the goals of `Pending::files`.
 use Rattle.std.proofs.Common.{◌≡◌, ◌∙◌, ap}
 use Rattle.std.specs.List.{flat_map}
 use Rattle.ckpt_ids.specs.Ascending.{ascending_set}

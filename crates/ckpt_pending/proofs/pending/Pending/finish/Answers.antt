@@ -1,3 +1,4 @@
+-- Answers the goals of `Pending::finish`.
 use Rattle.std.proofs.Common.{◌≡◌, ◌∙◌, sym, ap, arith}
 use Rattle.ckpt_ids.specs.Records.{missing}
 use Rattle.ckpt_pending.proofs.pending.Pending.finish.Goals as goal

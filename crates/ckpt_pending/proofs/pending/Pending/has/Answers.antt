@@ -1,3 +1,4 @@
+-- Answers the goals of `Pending::has`.
 use Rattle.std.proofs.Common.{◌≡◌, ◌∙◌, ℕ, List, Result, Ok, Err, IfOk, IfErr, sym, ap}
 use Rattle.std.specs.Result.{is_ok}
 use Rattle.ckpt_ids.specs.declared.subtask.SubtaskId.{SubtaskId}

@@ -1,3 +1,4 @@
+-- Answers the goals of `Pending::new`.
 use Rattle.std.proofs.Common.{sym, subst, List}
 use Rattle.ckpt_ids.specs.declared.ack.Acked.{Acked}
 use Rattle.ckpt_pending.specs.Acknowledging.{pending_record, IsCounted}

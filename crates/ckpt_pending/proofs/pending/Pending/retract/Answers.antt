@@ -1,3 +1,4 @@
+-- Answers the goals of `Pending::retract`.
 use Rattle.std.proofs.Common.{◌≡◌, ◌∙◌, ℕ, ◌+◌, ◌<◌, ◌≤◌, ◌↔◌, true, not, refl, sym, ap, subst, List, length, Option, Some, None, IsSome, OnSome, Result, Ok, Err, IfOk, IfErr, IsOk, arith, rules}
 use Rattle.std.specs.List.{filter, remove}
 use Rattle.std.proofs.lemmas.Bool.{both_ways}

@@ -1,3 +1,4 @@
+-- Answers the goals of `Part::has`.
 use Rattle.std.proofs.Common.{◌≡◌, ℕ, ◌<◌, List, ltb, sym, ap, subst, ◌∙◌, arith}
 use Rattle.std.specs.List.Sorted.{IsBinarySearchResult}
 use Rattle.std.specs.Ordering.{nat_cmp}

@@ -1,3 +1,4 @@
+-- Answers the goals of `Pinner::take`.
 use Rattle.std.proofs.Common.{◌≡◌, ℕ, ◌+◌, ◌++◌, List, [], eqb, ltb, ap, subst, ◌∙◌, refl, arith, take}
 use Rattle.std.specs.List.Sorted.{IsPermutation, IsSorted}
 use Rattle.std.specs.List.Retain.{IsFiltered, DiffersFromLast}

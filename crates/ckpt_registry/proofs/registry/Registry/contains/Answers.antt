@@ -1,3 +1,4 @@
+-- Answers the goals of `Registry::contains`.
 use Rattle.std.proofs.Common.{List, ap, ◌∙◌}
 use Rattle.std.specs.Vec.{vec_capacity}
 use Rattle.ckpt_ids.specs.Records.{Use, is_present}

@@ -1,3 +1,4 @@
+-- Answers the goals of `Registry::count`.
 use Rattle.std.proofs.Common.{◌≡◌, ℕ, ◌+◌, ◌<◌, ◌^◌, Option, List, unwrap_or, ap, subst, ◌∙◌, arith, rules}
 use Rattle.std.specs.Vec.{vec_capacity}
 use Rattle.ckpt_ids.specs.Ordered.{IsInOrder}

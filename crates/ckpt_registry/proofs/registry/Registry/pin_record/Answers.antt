@@ -1,3 +1,4 @@
+-- Answers the goals of `Registry::pin_record`.
 use Rattle.std.proofs.lemmas.Bool.{eqb-true}
 use Rattle.std.proofs.Common.{eqb, true, refl, ◌≡◌, ℕ, ◌+◌, ◌<◌, ◌^◌, ◌-◌, ◌++◌, List, [], ◌∷◌, length, take, sym, ap, subst, ◌∙◌, arith}
 use Rattle.std.specs.Vec.{vec_capacity}

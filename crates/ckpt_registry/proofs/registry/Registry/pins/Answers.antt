@@ -1,3 +1,4 @@
+-- Answers the goals of `Registry::pins`.
 use Rattle.std.proofs.Common.{List, ℕ, ap, subst, ◌∙◌}
 use Rattle.std.specs.List.Sorted.{IsPermutation}
 use Rattle.ckpt_registry.specs.Pins.{named_by}

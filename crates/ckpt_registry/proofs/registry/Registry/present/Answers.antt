@@ -1,3 +1,4 @@
+-- Answers the goals of `Registry::present`.
 use Rattle.std.proofs.Common.{◌≡◌, List, map, length, ap, subst, ◌∙◌, arith}
 use Rattle.std.specs.Vec.{vec_capacity}
 use Rattle.ckpt_ids.specs.Ascending.{ascending_set}

@@ -1,3 +1,4 @@
+-- Answers the goals of `Registry::release`.
 use Rattle.std.proofs.Common.{◌≡◌, ℕ, ◌≤◌, List, not, ltb, refl, ap, ◌∙◌, arith}
 use Rattle.std.specs.Vec.{vec_capacity}
 use Rattle.indexmap.specs.IndexMap.{index_map_len}

@@ -1,3 +1,4 @@
+-- Answers the goals of `Ahead::fill`.
 use Rattle.std.proofs.Common.{[]}
 use Rattle.ckpt_script.proofs.PassesLemmas.{passes_part, on_err}
 use Rattle.ckpt_script.proofs.ahead.Ahead.fill.Goals as goal

@@ -1,3 +1,4 @@
+-- Answers the goals of `Ahead::find_line`.
 use Rattle.std.proofs.Common.{◌≡◌, ◌≢◌, Bool, true, false, [], subst, sym, ◌∙◌, arith, rules}
 use Rattle.std.specs.Io.KnownBytes.{prepend_known}
 use Rattle.ckpt_script.specs.Lines.{Moves, HoldsLine, HoldsPart}

@@ -1,3 +1,4 @@
+-- The loop invariants of `Ahead::find_line`.
 use Rattle.std.proofs.Common.{◌≡◌, ◌≢◌, ◌<◌, ◌≤◌, [], true, false, length}
 use Rattle.std.specs.Io.KnownBytes.{IsAtEnd, prepend_known}
 use Rattle.ckpt_script.specs.Devices.{IsCounted, used}

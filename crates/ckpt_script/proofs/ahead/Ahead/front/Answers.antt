@@ -1,3 +1,4 @@
+-- Answers the goals of `Ahead::front`.
 use Rattle.std.proofs.Common.{◌≡◌, ◌≤◌, ◌∙◌, ℕ, List, length, take, min, ap, sym, subst, arith}
 use Rattle.std.specs.List.{slice_range}
 use Rattle.ckpt_script.specs.Lines.{held}

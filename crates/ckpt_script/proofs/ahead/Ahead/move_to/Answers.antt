@@ -1,3 +1,4 @@
+-- Answers the goals of `Ahead::move_to`.
 use Rattle.std.proofs.Common.{◌≡◌, ℕ, ◌+◌, ◌-◌, ◌<◌, ◌≤◌, ◌++◌, ◌∷◌, [], List, length, take, drop, true, false, None, Some, ap, sym, ◌∙◌, refl, arith, append-nil}
 use Rattle.std.specs.List.{slice_range}
 use Rattle.std.proofs.lemmas.List.{length-take}

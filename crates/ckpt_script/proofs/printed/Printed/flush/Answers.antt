@@ -1,3 +1,4 @@
+-- Answers the goals of `Printed::flush`.
 use Rattle.std.proofs.Common.{[], refl, append-nil}
 use Rattle.ckpt_script.proofs.PassesLemmas.{Appends-kept}
 use Rattle.ckpt_script.proofs.printed.Printed.flush.Goals as goal

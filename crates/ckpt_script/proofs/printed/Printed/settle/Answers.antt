@@ -1,3 +1,4 @@
+-- Answers the goals of `Printed::settle`.
 use Rattle.std.proofs.Common.{[]}
 use Rattle.ckpt_script.proofs.PassesLemmas.{passes_part, on_err_map}
 use Rattle.ckpt_script.proofs.printed.Printed.settle.Goals as goal

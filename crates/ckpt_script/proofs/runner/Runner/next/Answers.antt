@@ -1,3 +1,4 @@
+-- Answers the goals of `Runner::next`.
 use Rattle.std.proofs.Common.{◌≤◌, refl, sym, subst, arith}
 use Rattle.std.specs.Io.KnownBytes.{prepend_known}
 use Rattle.ckpt_script.specs.Devices.{IsCounted, used}

@@ -1,3 +1,4 @@
+-- Answers the goals of `Runner::obey`.
 use Rattle.std.proofs.Common.{◌≡◌, ℕ, List, [], ◌++◌, subst, arith}
 use Rattle.std.proofs.lemmas.Grind.{common_steps}
 use Rattle.std.specs.Prelude.{string_bytes}

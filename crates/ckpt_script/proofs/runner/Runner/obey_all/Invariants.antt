@@ -1,3 +1,4 @@
+-- The loop invariants of `Runner::obey_all`.
 use Rattle.std.proofs.Common.{◌≡◌, ◌-◌, ◌≤◌, true}
 use Rattle.std.specs.Io.KnownBytes.{IsAtEnd}
 use Rattle.ckpt_script.specs.Devices.{IsCounted, used}

@@ -1,3 +1,4 @@
+-- Answers the goals of `Runner::stop`.
 use Rattle.std.proofs.Common.{sym, subst, ◌∙◌}
 use Rattle.std.specs.Prelude.{Err}
 use Rattle.ckpt_script.specs.Outputs.{Ran}

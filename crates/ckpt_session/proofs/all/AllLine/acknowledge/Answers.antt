@@ -1,3 +1,4 @@
+-- Answers the goals of `AllLine::acknowledge`.
 use Rattle.std.proofs.Common.{List, ap, subst, ◌∙◌, arith}
 use Rattle.ckpt_ids.specs.declared.call.Call.{Call}
 use Rattle.ckpt_core.specs.Soundness.{IsSound}

@@ -1,3 +1,4 @@
+-- Answers the goals of `AllLine::calls`.
 use Rattle.std.proofs.Common.{◌≡◌, ℕ, ◌+◌, get_or, [], ◌∷◌, ◌++◌, refl, sym, ap, ◌∙◌, arith}
 use Rattle.ckpt_ids.specs.declared.call.Call.{Call}
 use Rattle.ckpt_ids.specs.declared.subtask.SubtaskId.{SubtaskId}

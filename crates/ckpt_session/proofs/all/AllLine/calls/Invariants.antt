@@ -1,3 +1,4 @@
+-- The loop invariants of `AllLine::calls`.
 use Rattle.std.proofs.Common.{◌≡◌, take}
 use Rattle.ckpt_session.specs.AllLines.{acks_for}
 use Rattle.ckpt_session.proofs.all.AllLine.calls.Given as goal

@@ -1,4 +1,4 @@
--- docs/DECISIONS.md (Tests, wrong bodies and the gate) says why this is written out, which the check finds itself.
+-- The check finds this answer by itself. Written here, it makes the check refuse a wrong body much sooner.
 use Rattle.std.proofs.Common.{rules}
 use Rattle.ckpt_session.proofs.session.Session.say.Goals as goal
 

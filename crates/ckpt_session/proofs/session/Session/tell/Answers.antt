@@ -1,3 +1,4 @@
+-- Answers the goals of `Session::tell`.
 use Rattle.std.proofs.Common.{◌≡◌, true, sym, ap, subst, ◌∙◌}
 use Rattle.std.specs.Prelude.{IfOk}
 use Rattle.ckpt_lines.specs.Meanings.{meaning}

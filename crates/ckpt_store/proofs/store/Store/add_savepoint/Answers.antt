@@ -1,3 +1,4 @@
+-- Answers the goals of `Store::add_savepoint`.
 use Rattle.std.proofs.Common.{◌≡◌, ◌∙◌, ◌≤◌, ◌<◌, ◌-◌, ◌+◌, ◌^◌, Result, Ok, Err, OnOk, OnErr, min, length, refl, ap, arith, List}
 use Rattle.std.specs.VecDeque.{deque_len, deque_capacity}
 use Rattle.ckpt_ids.specs.Ordered.{put}

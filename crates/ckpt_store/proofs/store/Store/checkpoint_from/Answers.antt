@@ -1,3 +1,4 @@
+-- Answers the goals of `Store::checkpoint_from`.
 use Rattle.std.proofs.Common.{◌≡◌, ◌∙◌, ap, ltb, leb, rules, List, true, false}
 use Rattle.std.specs.Prelude.{slice_get}
 use Rattle.std.specs.List.{find}

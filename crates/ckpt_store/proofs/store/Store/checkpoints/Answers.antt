@@ -1,3 +1,4 @@
+-- Answers the goals of `Store::checkpoints`.
 use Rattle.std.proofs.Common.{◌≤◌, ◌<◌, ◌≡◌, ◌^◌, length, arith, rules}
 use Rattle.ckpt_store.proofs.store.Store.checkpoints.Goals as goal
 

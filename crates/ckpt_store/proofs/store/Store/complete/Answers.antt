@@ -1,3 +1,4 @@
+-- Answers the goals of `Store::complete`.
 use Rattle.std.proofs.Common.{◌≡◌, ◌∙◌, ◌≤◌, drop, length, sym, ap, subst, arith, None}
 use Rattle.ckpt_store.specs.Storing.{Stored, IsStored, IsAbove}
 use Rattle.ckpt_store.proofs.StoreLemmas.{IsStored-spare, IsStored-complete, AreRising-drop, IsIn-from_drop, length-drop_one}

@@ -1,3 +1,4 @@
+-- Answers the goals of `Store::dispose`.
 use Rattle.std.proofs.Common.{◌≡◌, ◌∙◌, ◌<◌, true, false, sym, ap, Option, Some, None, IsSome, OnSome, refl}
 use Rattle.std.specs.List.{remove}
 use Rattle.std.specs.VecDeque.{deque_len}

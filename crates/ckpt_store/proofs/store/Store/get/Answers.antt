@@ -1,3 +1,4 @@
+-- Answers the goals of `Store::get`.
 use Rattle.std.proofs.Common.{◌≡◌, ◌∙◌, sym, ap, false}
 use Rattle.std.specs.Prelude.{slice_get}
 use Rattle.std.specs.List.{list_any}

@@ -1,3 +1,4 @@
+-- Answers the goals of `Store::has_savepoint`.
 use Rattle.std.proofs.Common.{◌≡◌, ◌∙◌, ℕ, List, Result, Ok, Err, IfOk, OnErr, false, sym, ap}
 use Rattle.std.specs.Result.{is_ok}
 use Rattle.std.specs.List.{list_any}

@@ -1,3 +1,4 @@
+-- Answers the goals of `Store::pop_lowest`.
 use Rattle.ckpt_store.proofs.StoreLemmas.{IsStored-drop}
 use Rattle.ckpt_store.proofs.store.Store.pop_lowest.Goals as goal
 

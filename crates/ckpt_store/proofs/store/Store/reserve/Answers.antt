@@ -1,3 +1,4 @@
+-- Answers the goals of `Store::reserve`.
 use Rattle.ckpt_store.proofs.StoreLemmas.{IsStored-spare}
 use Rattle.ckpt_store.proofs.store.Store.reserve.Goals as goal
 
