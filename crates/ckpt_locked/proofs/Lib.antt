@@ -3,7 +3,6 @@ pub mod Crossings
 pub mod Keeps
 pub mod LockCalls
 pub mod Moves
-pub mod OpeningKept
 pub mod Openings
 pub mod Replays
 pub mod SeatLists
