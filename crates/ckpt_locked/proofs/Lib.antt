@@ -4,7 +4,6 @@ pub mod Crossings
 pub mod Keeps
 pub mod LockCalls
 pub mod Moves
-pub mod OpeningKept
 pub mod Openings
 pub mod Replays
 pub mod SeatLists

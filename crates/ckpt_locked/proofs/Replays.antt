@@ -10,9 +10,9 @@ use Rattle.ckpt_core.specs.Refusals.{refusal}
 use Rattle.ckpt_core.specs.Soundness.{IsCall}
 use Rattle.ckpt_core.specs.State.{State, Opening, opened}
 use Rattle.ckpt_core.specs.Steps.{effect, step}
+use Rattle.ckpt_core.proofs.Stepping.Walk.{step_is}
 use Rattle.ckpt_locked.specs.declared.book.Entry.{Entry}
 use Rattle.ckpt_locked.specs.Books.{History, IsKept, calls_of, counted, history_of, state_of_book, answer_to, entered}
-use Rattle.ckpt_locked.proofs.OpeningKept.{step_keeps_opening}
 
 replay-push : (m : State) (calls : List Call) (call : Call) → replay m (calls ++ call ∷ []) ≡ (step (replay m calls) call).0
 replay-push m [] call = refl
@@ -35,7 +35,7 @@ unfolding state_of_book
 kept_step core entries entry keep kept call =
     let after : State = (step core entry.call).0 in
     let more : List Entry = entries ++ entry ∷ [] in
-    let same_opening : core.opening ≡ after.opening = sym (step_keeps_opening core entry.call) in
+    let same_opening : core.opening ≡ after.opening = sym (step_is core entry.call).opening in
     let same_calls : calls_of entries ++ entry.call ∷ [] ≡ calls_of more = sym (calls_of-push entries entry) in
     record {
       history = record {
@@ -66,7 +66,7 @@ kept_keeping core entries keep most kept = record {
 -- the model of the two is one entry longer
 pub history_entered : (core after : State) (entries more : List Entry) (keep seat : ℕ) (call : Call) (answer : Answer) → step core call ≡ (after, answer) → more ≡ entries ++ record { seat = seat; call = call } ∷ [] → history_of after more keep ≡ entered (history_of core entries keep) seat call
 history_entered core after entries more keep seat call answer e is_more =
-    let same_opening : after.opening ≡ core.opening = sym (ap (λ s. s.0.opening) e) ∙ step_keeps_opening core call in
+    let same_opening : after.opening ≡ core.opening = sym (ap (λ s. s.0.opening) e) ∙ (step_is core call).opening in
     let of_opening : Opening → History = λ o. record { opening = o; entries = more; keep = keep } in
     let of_entries : List Entry → History = λ xs. record { opening = core.opening; entries = xs; keep = keep } in
     ap of_opening same_opening ∙ ap of_entries is_more
