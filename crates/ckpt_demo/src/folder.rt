@@ -2,15 +2,13 @@
 ghost use Rattle.std.specs.Prelude.{◌≡◌};
 
 use crate::ground::Ground;
+use crate::lines::tell_files;
 use crate::settings::{DemoFault, Dice};
 use ckpt_ids::FileId;
 use ckpt_workers::{Storage, StorageFault};
 use std::alloc::{AllocError, Global};
 use std::fs;
 use std::sync::Wait;
-
-/// How many files are named in a line.
-const MOST_NAMED: usize = 10;
 
 /// The path of a file.
 pub(crate) fn path_of(alloc: Global, folder: &str, file: FileId) -> Result<String, AllocError> {
@@ -20,8 +18,8 @@ pub(crate) fn path_of(alloc: Global, folder: &str, file: FileId) -> Result<Strin
 /// The numbers that the names in a folder are, in rising order. Other names are passed over.
 pub(crate) fn listed(rt: &HostRuntime, folder: &str) -> Result<Vec<u64>, DemoFault> {
     let mut numbers = Vec::new(rt.alloc());
-    for entry in fs::read_dir(rt, folder).map_err(|_| DemoFault::Files)? {
-        let entry = entry.map_err(|_| DemoFault::Files)?;
+    for entry in fs::read_dir(rt, folder).or(Err(DemoFault::Files))? {
+        let entry = entry.or(Err(DemoFault::Files))?;
         if let Ok(number) = entry.file_name().parse::<u64>() {
             numbers.push(number)?;
         }
@@ -32,7 +30,7 @@ pub(crate) fn listed(rt: &HostRuntime, folder: &str) -> Result<Vec<u64>, DemoFau
 
 /// Makes the folder where there is none, and tells which files it has: the coordinator will not know them.
 pub(crate) fn strangers(rt: &HostRuntime, folder: &str) -> Result<Vec<u64>, DemoFault> {
-    fs::create_dir_all(rt, folder).map_err(|_| DemoFault::Files)?;
+    fs::create_dir_all(rt, folder).or(Err(DemoFault::Files))?;
     let numbers = listed(rt, folder)?;
     tell_files(
         rt,
@@ -40,20 +38,6 @@ pub(crate) fn strangers(rt: &HostRuntime, folder: &str) -> Result<Vec<u64>, Demo
         numbers.as_slice(),
     );
     Ok(numbers)
-}
-
-/// Tells how many files there are of a sort, and names the first ones. Where standard error fails, the run goes on.
-pub(crate) fn tell_files(rt: &HostRuntime, sort: &str, numbers: &[u64]) {
-    let _ = eprint!(rt; "{sort}: {}", numbers.len());
-    for number in numbers.iter().take(MOST_NAMED) {
-        let _ = eprint!(rt; " {number}");
-    }
-    let more = if numbers.len() > MOST_NAMED {
-        " .."
-    } else {
-        ""
-    };
-    let _ = eprintln!(rt; "{more}");
 }
 
 /// Deletes files of the folder, and fails now and then.
