@@ -1,5 +1,6 @@
-//! The checks after a run, and their output.
-use crate::folder::{listed, tell_files};
+//! What is checked after a run, and told.
+use crate::folder::listed;
+use crate::lines::{tell_files, tell_line};
 use crate::replay::{Counts, Place, Replay, answer};
 use crate::roles::OTHERS;
 use crate::script::write_script;
@@ -15,9 +16,11 @@ use std::io;
 const CHECKER: u32 = MOST_SEATS;
 
 fn sum(calls: &[u64]) -> u64 {
-    calls
-        .iter()
-        .fold(0, |sum, calls| sum.saturating_add(*calls))
+    let mut sum = 0u64;
+    for calls in calls {
+        sum = sum.saturating_add(*calls);
+    }
+    sum
 }
 
 /// Prints how many calls each role made. If standard error fails, the checks go on.
@@ -31,23 +34,32 @@ fn tell_calls(rt: &HostRuntime, calls: &[u64]) {
 }
 
 fn tell_records(rt: &HostRuntime, counts: Counts) {
-    let _ = eprintln!(rt;
-        "records: {} completed, {} dropped, {} expired, {} declined; {} late acknowledgements",
-        counts.completed, counts.dropped, counts.expired, counts.declined, counts.late
-    );
+    let parts = [
+        ("records: ", counts.completed),
+        (" completed, ", counts.dropped),
+        (" dropped, ", counts.expired),
+        (" expired, ", counts.declined),
+        (" declined; ", counts.late),
+    ];
+    tell_line(rt, &parts, " late acknowledgements");
 }
 
-fn tell_counts(rt: &HostRuntime, replay: &Replay, written: u64) {
-    let (counts, core) = (replay.counts, &replay.core);
-    let _ = eprintln!(rt;
-        "files: {written} written, {} deleted, {} deletions failed",
-        counts.deleted, counts.failed
-    );
-    let (used, waiting) = (core.files_in_use(), core.files_waiting());
-    let _ = eprintln!(rt;
-        "files left: {used} in use, {waiting} waiting, {} taken",
-        core.files_taken()
-    );
+fn tell_deletions(rt: &HostRuntime, counts: Counts, written: u64) {
+    let parts = [
+        ("files: ", written),
+        (" written, ", counts.deleted),
+        (" deleted, ", counts.failed),
+    ];
+    tell_line(rt, &parts, " deletions failed");
+}
+
+fn tell_files_left(rt: &HostRuntime, core: &Core) {
+    let parts = [
+        ("files left: ", core.files_in_use()),
+        (" in use, ", core.files_waiting()),
+        (" waiting, ", core.files_taken()),
+    ];
+    tell_line(rt, &parts, " taken");
 }
 
 /// Whether both coordinators answer a call in the same way. The book enters its call.
@@ -98,27 +110,18 @@ fn are_files_same(book: &mut Book, replay: &mut Replay) -> Result<bool, DemoFaul
     is_same(book, &mut replay.core, Call::Take { most: u64::MAX })
 }
 
-/// The files of refused acknowledgements.
-fn refused(alloc: Global, replay: &Replay) -> Result<Vec<u64>, AllocError> {
-    let mut files = Vec::new(alloc);
-    for (file, place) in replay.places.iter() {
-        if *place == Place::Refused {
-            files.push(*file)?;
-        }
-    }
-    Ok(files)
-}
-
-/// The files that the folder should have: those that the coordinator knows, those of refused
-/// acknowledgements, and those that were there before.
-fn expected(alloc: Global, replay: &Replay, before: &[u64]) -> Result<Vec<u64>, AllocError> {
+/// The files that the folder should have, in rising order: those that it had before, those that the coordinator
+/// knows, and those of refused acknowledgements.
+fn expected(
+    alloc: Global,
+    before: &[u64],
+    known: &[u64],
+    refused: &[u64],
+) -> Result<Vec<u64>, AllocError> {
     let mut files = Vec::new(alloc);
     files.extend_from_slice(before)?;
-    for (file, place) in replay.places.iter() {
-        if *place != Place::Deleted {
-            files.push(*file)?;
-        }
-    }
+    files.extend_from_slice(known)?;
+    files.extend_from_slice(refused)?;
     files.sort_unstable();
     Ok(files)
 }
@@ -144,39 +147,26 @@ fn compare(rt: &HostRuntime, there: &[u64], expected: &[u64]) -> Result<bool, Al
     Ok(missing.is_empty() && more.is_empty())
 }
 
-/// Prints the files of refused acknowledgements.
-fn tell_refused(rt: &HostRuntime, replay: &Replay) -> Result<(), AllocError> {
-    let files = refused(rt.alloc(), replay)?;
-    tell_files(rt, "files of refused acknowledgements", files.as_slice());
-    Ok(())
-}
-
-/// Whether the folder has the files that it should have. Prints the others, and those of refused
-/// acknowledgements.
+/// Whether the folder has the files that it should have. Names the others, and those of refused acknowledgements.
 fn is_folder_right(
     rt: &HostRuntime,
     folder: &str,
     replay: &Replay,
     before: &[u64],
 ) -> Result<bool, DemoFault> {
-    tell_refused(rt, replay)?;
+    let refused = replay.files_at(rt.alloc(), Place::Refused)?;
+    tell_files(rt, "files of refused acknowledgements", refused.as_slice());
+    let known = replay.files_at(rt.alloc(), Place::Known)?;
+    let expected = expected(rt.alloc(), before, known.as_slice(), refused.as_slice())?;
     let there = listed(rt, folder)?;
-    let expected = expected(rt.alloc(), replay, before)?;
     let same = compare(rt, there.as_slice(), expected.as_slice())?;
-    Ok(same && is_count_right(replay))
+    Ok(same && known.len() as u64 == count_files(&replay.core))
 }
 
-/// Whether the coordinator counts as many files as were registered and not reported as deleted.
-fn is_count_right(replay: &Replay) -> bool {
-    let mut known = 0u64;
-    for (_, place) in replay.places.iter() {
-        if *place == Place::Known {
-            known = known.saturating_add(1);
-        }
-    }
-    let core = &replay.core;
+/// How many files the coordinator counts.
+fn count_files(core: &Core) -> u64 {
     let away = core.files_waiting().saturating_add(core.files_taken());
-    known == core.files_in_use().saturating_add(away)
+    core.files_in_use().saturating_add(away)
 }
 
 /// Whether the replay gives the coordinator of the book. Writes the script, which ends with a
@@ -198,12 +188,15 @@ fn word(holds: bool) -> &'static str {
 }
 
 fn tell_verdicts(rt: &HostRuntime, listed: bool, folder: bool, same: bool) -> io::Result<()> {
-    println!(rt; "each call is in the list: {}", word(listed))?;
-    println!(rt;
-        "the folder has the files that it should have: {}",
-        word(folder)
-    )?;
-    println!(rt; "a replay of the list is the coordinator: {}", word(same))
+    let verdicts = [
+        ("each call is in the list", listed),
+        ("the folder has the files that it should have", folder),
+        ("a replay of the list is the coordinator", same),
+    ];
+    for (what, holds) in &verdicts {
+        println!(rt; "{what}: {}", word(*holds))?;
+    }
+    Ok(())
 }
 
 /// Checks the run against its replay. Returns whether all checks pass.
@@ -215,11 +208,12 @@ fn judge(
 ) -> Result<bool, DemoFault> {
     tell_calls(rt, ended.calls.as_slice());
     tell_records(rt, replay.counts);
-    tell_counts(rt, replay, ended.written);
+    tell_deletions(rt, replay.counts, ended.written);
+    tell_files_left(rt, &replay.core);
     let listed = sum(ended.calls.as_slice()) == ended.book.len();
     let folder = is_folder_right(rt, ended.settings.folder.as_str(), replay, before)?;
     let same = is_replay_same(rt, ended, replay)?;
-    tell_verdicts(rt, listed, folder, same).map_err(|_| DemoFault::Output)?;
+    tell_verdicts(rt, listed, folder, same).or(Err(DemoFault::Output))?;
     Ok(listed && folder && same)
 }
 

@@ -2,6 +2,7 @@
 ghost use Rattle.std.specs.Prelude.{◌≡◌};
 
 use crate::ground::Ground;
+use crate::lines::tell_line;
 use crate::settings::Settings;
 use ckpt_ids::{Call, CheckpointId, FileId, Metadata, Reply, Shape, Target};
 use ckpt_locked::Pass;
@@ -196,12 +197,15 @@ fn count<R: Wait>(
     pass
 }
 
-/// Prints a line of progress. If standard error fails, the run goes on.
+/// Prints a line of progress.
 fn tell_progress(ground: &Ground, known: u64, used: u64, pending: u64) {
-    let (done, waiting) = (ground.board.completed(), known.saturating_sub(used));
-    let _ = eprintln!(&ground.host;
-        "checkpoints {done} done, {pending} pending; files {used} in use, {waiting} waiting"
-    );
+    let parts = [
+        ("checkpoints ", ground.board.completed()),
+        (" done, ", pending),
+        (" pending; files ", used),
+        (" in use, ", known.saturating_sub(used)),
+    ];
+    tell_line(&ground.host, &parts, " waiting");
 }
 
 /// Conducts the run to its end, which is the cancel of the job.

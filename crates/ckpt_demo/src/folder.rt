@@ -2,15 +2,13 @@
 ghost use Rattle.std.specs.Prelude.{◌≡◌};
 
 use crate::ground::Ground;
+use crate::lines::tell_files;
 use crate::settings::{DemoFault, Dice};
 use ckpt_ids::FileId;
 use ckpt_workers::{Storage, StorageFault};
 use std::alloc::{AllocError, Global};
 use std::fs;
 use std::sync::Wait;
-
-/// The most files that a line names.
-const MOST_NAMED: usize = 10;
 
 /// The path of a file.
 pub(crate) fn path_of(alloc: Global, folder: &str, file: FileId) -> Result<String, AllocError> {
@@ -20,8 +18,8 @@ pub(crate) fn path_of(alloc: Global, folder: &str, file: FileId) -> Result<Strin
 /// The numbers that are names in a folder, in ascending order. Skips other names.
 pub(crate) fn listed(rt: &HostRuntime, folder: &str) -> Result<Vec<u64>, DemoFault> {
     let mut numbers = Vec::new(rt.alloc());
-    for entry in fs::read_dir(rt, folder).map_err(|_| DemoFault::Files)? {
-        let entry = entry.map_err(|_| DemoFault::Files)?;
+    for entry in fs::read_dir(rt, folder).or(Err(DemoFault::Files))? {
+        let entry = entry.or(Err(DemoFault::Files))?;
         if let Ok(number) = entry.file_name().parse::<u64>() {
             numbers.push(number)?;
         }
@@ -33,7 +31,7 @@ pub(crate) fn listed(rt: &HostRuntime, folder: &str) -> Result<Vec<u64>, DemoFau
 /// Makes the folder if there is none, and returns the files in it. The coordinator does not know
 /// these.
 pub(crate) fn strangers(rt: &HostRuntime, folder: &str) -> Result<Vec<u64>, DemoFault> {
-    fs::create_dir_all(rt, folder).map_err(|_| DemoFault::Files)?;
+    fs::create_dir_all(rt, folder).or(Err(DemoFault::Files))?;
     let numbers = listed(rt, folder)?;
     tell_files(
         rt,
@@ -43,22 +41,7 @@ pub(crate) fn strangers(rt: &HostRuntime, folder: &str) -> Result<Vec<u64>, Demo
     Ok(numbers)
 }
 
-/// Prints how many files of a kind there are, and names the first ones. If standard error fails,
-/// the run goes on.
-pub(crate) fn tell_files(rt: &HostRuntime, sort: &str, numbers: &[u64]) {
-    let _ = eprint!(rt; "{sort}: {}", numbers.len());
-    for number in numbers.iter().take(MOST_NAMED) {
-        let _ = eprint!(rt; " {number}");
-    }
-    let more = if numbers.len() > MOST_NAMED {
-        " .."
-    } else {
-        ""
-    };
-    let _ = eprintln!(rt; "{more}");
-}
-
-/// Deletes files of the folder. A share of the deletions fails.
+/// Deletes files of the folder, and fails now and then.
 #[derive(Drop)]
 pub(crate) struct Disk<'a, R: Wait> {
     rt: &'a R,

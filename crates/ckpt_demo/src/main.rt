@@ -15,6 +15,7 @@ mod conductor;
 mod discarder;
 mod folder;
 mod ground;
+mod lines;
 mod replay;
 mod roles;
 mod script;
@@ -38,7 +39,7 @@ const NO_RUN: u8 = 2;
 fn read_settings(rt: &HostRuntime) -> Result<Settings, DemoFault> {
     let mut text = Vec::new(rt.alloc());
     let mut reader = rt.reader();
-    reader.read_to_end(&mut text).map_err(|_| DemoFault::Input)?;
+    reader.read_to_end(&mut text).or(Err(DemoFault::Input))?;
     Settings::read(rt.alloc(), &text)
 }
 

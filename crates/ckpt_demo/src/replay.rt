@@ -3,7 +3,7 @@ use crate::settings::{DemoFault, Settings};
 use ckpt_core::{Core, CoreFault};
 use ckpt_ids::{Answer, Call, Files, Reply};
 use ckpt_locked::Book;
-use std::alloc::Global;
+use std::alloc::{AllocError, Global};
 use std::collections::BTreeMap;
 
 /// Where a file should be.
@@ -51,7 +51,7 @@ impl Replay {
         let shape = settings.shape(alloc, settings.counters)?;
         let core = Core::new(alloc, settings.config()?, shape, 0, 1);
         Ok(Replay {
-            core: core.map_err(|_| DemoFault::Limits)?,
+            core: core.or(Err(DemoFault::Limits))?,
             places: BTreeMap::new(alloc),
             counts: Counts::none(),
         })
@@ -66,6 +66,17 @@ impl Replay {
             }
         }
         Ok(replay)
+    }
+
+    /// The files that are at this place, in rising order.
+    pub(crate) fn files_at(&self, alloc: Global, wanted: Place) -> Result<Vec<u64>, AllocError> {
+        let mut files = Vec::new(alloc);
+        for (file, place) in self.places.iter() {
+            if *place == wanted {
+                files.push(*file)?;
+            }
+        }
+        Ok(files)
     }
 
     fn make(&mut self, call: &Call) -> Result<(), DemoFault> {

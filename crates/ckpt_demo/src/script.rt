@@ -51,5 +51,5 @@ pub(crate) fn write_script(
     book: &Book,
 ) -> Result<(), DemoFault> {
     let text = script(rt.alloc(), settings, book)?;
-    fs::write(rt, settings.script.as_str(), text.as_str()).map_err(|_| DemoFault::Files)
+    fs::write(rt, settings.script.as_str(), text.as_str()).or(Err(DemoFault::Files))
 }

@@ -60,7 +60,7 @@ impl Settings {
     /// setting that no line names has its default.
     pub(crate) fn read(alloc: Global, text: &[u8]) -> Result<Settings, DemoFault> {
         let mut settings = Settings::usual(alloc)?;
-        let text = str::from_utf8(text).map_err(|_| DemoFault::Input)?;
+        let text = str::from_utf8(text).or(Err(DemoFault::Input))?;
         for (place, line) in text.lines().enumerate() {
             if !line.is_empty() && !line.starts_with("#") {
                 let set = settings.set(alloc, line)?;
@@ -138,12 +138,12 @@ impl Settings {
             self.retained,
             false,
         )
-        .map_err(|_| DemoFault::Limits)
+        .or(Err(DemoFault::Limits))
     }
 
     /// The shape of a job with this many counters.
     pub(crate) fn shape(&self, alloc: Global, counters: u64) -> Result<Shape, DemoFault> {
-        Shape::new(alloc, &[self.sources, counters]).map_err(|_| DemoFault::Limits)
+        Shape::new(alloc, &[self.sources, counters]).or(Err(DemoFault::Limits))
     }
 }
 

@@ -148,8 +148,14 @@ fn look_up<R: Wait>(rt: &R, ground: &Ground, pass: Pass, id: CheckpointId) -> (P
 {
     let place = pass.seat();
     let (pass, metadata) = ground.show(rt, pass, id);
-    let subtask = metadata.and_then(|metadata| metadata.shape.nth(place));
-    (pass, subtask.map(|subtask| Demand { id, subtask }))
+    let subtask = match metadata {
+        Some(metadata) => metadata.shape.nth(place),
+        None => None,
+    };
+    match subtask {
+        Some(subtask) => (pass, Some(Demand { id, subtask })),
+        None => (pass, None),
+    }
 }
 
 /// Takes part in each new record, until the run has ended.

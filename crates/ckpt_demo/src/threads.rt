@@ -55,7 +55,7 @@ pub(crate) struct Ended {
 fn open(alloc: Global, settings: &Settings) -> Result<Book, DemoFault> {
     let config = settings.config()?;
     let shape = settings.shape(alloc, settings.counters)?;
-    Book::new(alloc, config, shape, 0, 1).map_err(|_| DemoFault::Limits)
+    Book::new(alloc, config, shape, 0, 1).or(Err(DemoFault::Limits))
 }
 
 /// Runs the job to its end: joins every thread, and closes the lock.
