@@ -1,4 +1,4 @@
-//! What is checked after a run, and told.
+//! The checks after a run, and their output.
 use crate::folder::listed;
 use crate::lines::{tell_files, tell_line};
 use crate::replay::{Counts, Place, Replay, answer};
@@ -110,8 +110,8 @@ fn are_files_same(book: &mut Book, replay: &mut Replay) -> Result<bool, DemoFaul
     is_same(book, &mut replay.core, Call::Take { most: u64::MAX })
 }
 
-/// The files that the folder should have, in rising order: those that it had before, those that the coordinator
-/// knows, and those of refused acknowledgements.
+/// The files that the folder should have, in ascending order: those that were there before, those that the
+/// coordinator knows, and those of refused acknowledgements.
 fn expected(
     alloc: Global,
     before: &[u64],
@@ -147,7 +147,8 @@ fn compare(rt: &HostRuntime, there: &[u64], expected: &[u64]) -> Result<bool, Al
     Ok(missing.is_empty() && more.is_empty())
 }
 
-/// Whether the folder has the files that it should have. Names the others, and those of refused acknowledgements.
+/// Whether the folder has the files that it should have. Prints the others, and those of refused
+/// acknowledgements.
 fn is_folder_right(
     rt: &HostRuntime,
     folder: &str,
@@ -163,7 +164,7 @@ fn is_folder_right(
     Ok(same && known.len() as u64 == count_files(&replay.core))
 }
 
-/// How many files the coordinator counts.
+/// The number of files that the coordinator counts.
 fn count_files(core: &Core) -> u64 {
     let away = core.files_waiting().saturating_add(core.files_taken());
     core.files_in_use().saturating_add(away)

@@ -197,7 +197,7 @@ fn count<R: Wait>(
     pass
 }
 
-/// Prints a line of progress.
+/// Prints a line of progress. If standard error fails, the run goes on.
 fn tell_progress(ground: &Ground, known: u64, used: u64, pending: u64) {
     let parts = [
         ("checkpoints ", ground.board.completed()),

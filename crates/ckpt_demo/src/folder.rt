@@ -41,7 +41,7 @@ pub(crate) fn strangers(rt: &HostRuntime, folder: &str) -> Result<Vec<u64>, Demo
     Ok(numbers)
 }
 
-/// Deletes files of the folder, and fails now and then.
+/// Deletes files of the folder. A share of the deletions fails.
 #[derive(Drop)]
 pub(crate) struct Disk<'a, R: Wait> {
     rt: &'a R,

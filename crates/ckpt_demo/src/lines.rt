@@ -1,9 +1,9 @@
-//! Lines on standard error. Where it fails, the run goes on.
+//! Lines on standard error. If it fails, the run goes on.
 
-/// How many files are named in a line.
+/// The most files that a line names.
 const MOST_NAMED: usize = 10;
 
-/// Tells texts with a number after each, and what ends the line.
+/// Prints a line of texts, each followed by its number, and the end of the line.
 pub(crate) fn tell_line(rt: &HostRuntime, parts: &[(&str, u64)], end: &str) {
     for (text, number) in parts {
         let _ = eprint!(rt; "{text}{number}");
@@ -11,7 +11,7 @@ pub(crate) fn tell_line(rt: &HostRuntime, parts: &[(&str, u64)], end: &str) {
     let _ = eprintln!(rt; "{end}");
 }
 
-/// Tells how many files there are of a sort, and names the first ones.
+/// Prints how many files of a kind there are, and names the first ones.
 pub(crate) fn tell_files(rt: &HostRuntime, sort: &str, numbers: &[u64]) {
     let _ = eprint!(rt; "{sort}: {}", numbers.len());
     for number in numbers.iter().take(MOST_NAMED) {

@@ -68,7 +68,7 @@ impl Replay {
         Ok(replay)
     }
 
-    /// The files that are at this place, in rising order.
+    /// The files that are at this place, in ascending order.
     pub(crate) fn files_at(&self, alloc: Global, wanted: Place) -> Result<Vec<u64>, AllocError> {
         let mut files = Vec::new(alloc);
         for (file, place) in self.places.iter() {
