@@ -28,7 +28,7 @@ def commands():
     """The commands of docs/SERVICE.md that install the unit, make a backup, and restore it."""
     with open(f"{TOP}/docs/SERVICE.md", encoding="utf-8") as it:
         text = it.read()
-    places = {"install": "**systemd.**", "backup": "**SQLite**, while", "restore": "Restore, where"}
+    places = {"install": "**systemd.**", "backup": "**SQLite**, while", "restore": "To restore it, "}
     return {name: text.partition(place)[2].split("```")[1] for name, place in places.items()}
 
 
