@@ -1,148 +1,117 @@
-//! Rows that go on with a coordinator that was saved and made again, and images of states that no
-//! coordinator can be in.
-use crate::job::Job;
+//! Images of states that no coordinator can be in. Expected values are worked out from
+//! docs/RULES.md.
+//!
+//! `embed/c/images.c` saves coordinators at random places of lists of calls, and goes on with them.
 use ckpt_core::{Core, Image, ImageFault, Mode, Secret};
-use ckpt_ids::{CheckpointId, FileId, Files, Handed};
+use ckpt_ids::{Call, CheckpointId, Config, FileId, Files, Handed, Shape, SubtaskId};
 use std::alloc::{AllocError, Global};
 use std::process::Abort;
 use std::test::Fail;
 
-#[test]
-fn goes_on_after_each_line_of_a_row_that_pins_the_choice(rt: HostRuntime) -> Result<(), Fail> {
-    let mut job = Job::open_from(rt.alloc(), 2, 1)?;
-    let row = "tick 1000 -> tick expired 0 triggered 1
-ack 1000 1 0.0 +11 -> ack pending 1
-ack 1000 1 0.1 +12 -> ack completed 0 0
-tick 2000 -> tick expired 0 triggered 2
-savepoint 2000 -> savepoint triggered 3
-ack 2100 3 0.0 +13 =11 -> ack pending 1
-decline 2100 3 0.0 -> decline aborted 1
-ack 2200 3 0.1 +14 -> ack late 1
-take 1 -> take 13
-deleted 13 -> deleted 13
-take 9 -> take 14
-count 11 -> count 11 2";
-    assert_eq!(rt; job.first_other_reopened(row)?, None);
-    Ok(())
+fn one(alloc: Global, file: FileId) -> Result<Vec<FileId>, AllocError> {
+    let mut files = Vec::with_capacity(alloc, 1)?;
+    files.push(file)?;
+    Ok(files)
 }
 
-#[test]
-fn goes_on_after_each_line_of_a_row_with_a_new_shape(rt: HostRuntime) -> Result<(), Fail> {
-    let mut job = Job::open_from(rt.alloc(), 1, 1)?;
-    let row = "tick 1000 -> tick expired 0 triggered 1
-ack 1000 1 0.0 +11 -> ack completed 0 0
-tick 2000 -> tick expired 0 triggered 2
-restore 2300 latest 1 2 -> restored checkpoint 1 0
-tick 3300 -> tick expired 0 triggered 3
-ack 3300 3 1.1 +12 =11 -> ack pending 2";
-    assert_eq!(rt; job.first_other_reopened(row)?, None);
-    Ok(())
-}
-
-/// The image of a job with checkpoint 1 done, checkpoint 2 pending, savepoint 3 aborted, and its
-/// file 13 waiting.
+/// The image of a job of one subtask: checkpoint 1 is done and has the file 11, and checkpoint 2 is
+/// pending.
 fn saved(alloc: Global) -> Result<Image, Fail> {
-    let mut job = Job::open_from(alloc, 1, 1)?;
-    let row = "tick 1000 -> tick expired 0 triggered 1
-ack 1000 1 0.0 +11 -> ack completed 0 0
-tick 2000 -> tick expired 0 triggered 2
-savepoint 2000 -> savepoint triggered 3
-decline 2100 3 0.0 -> decline aborted 0
-ack 2200 3 0.0 +13 -> ack late 1";
-    job.first_other(row)?;
-    Ok(job.image()?)
+    let config = Config::new(1000, 0, 1, 600_000, 0, 1, false)?;
+    let shape = Shape::new(alloc, &[1])?;
+    let mut core = Core::new(alloc, config, shape, 0, 1)?;
+    core.apply(&Call::Tick { now: 1000 })?;
+    core.apply(&Call::Ack {
+        now: 1000,
+        id: CheckpointId(1),
+        subtask: SubtaskId {
+            vertex: 0,
+            index: 0,
+        },
+        fresh: Files::of(one(alloc, FileId(11))?),
+        reused: Files::of(Vec::new(alloc)),
+    })?;
+    core.apply(&Call::Tick { now: 2000 })?;
+    Ok(core.image()?)
 }
 
-/// Whether the image is refused as damaged. If memory runs out, tries once more.
-fn is_damaged(alloc: Global, image: &Image) -> bool {
-    let mut opened = Core::from_image(alloc, image, Secret::fixed());
-    if let Err(ImageFault::Memory) = &opened {
-        opened = Core::from_image(alloc, image, Secret::fixed());
+/// What is wrong with an image.
+#[derive(Clone, Copy)]
+enum Wrong {
+    /// The first number is one that no record can have.
+    First,
+    /// The next number is that of a record.
+    Next,
+    /// No clock has this moment.
+    Moment,
+    /// A record is pending, and the job has ended.
+    Ended,
+    /// The base is no savepoint.
+    Base,
+    /// A record is done, and not full.
+    Done,
+    /// The records are in falling order.
+    Order,
+    /// A file in use waits.
+    InUse,
+    /// A file waits and was taken.
+    Taken,
+}
+
+const ALL: [Wrong; 9] = [
+    Wrong::First,
+    Wrong::Next,
+    Wrong::Moment,
+    Wrong::Ended,
+    Wrong::Base,
+    Wrong::Done,
+    Wrong::Order,
+    Wrong::InUse,
+    Wrong::Taken,
+];
+
+/// The image with this mistake.
+fn spoiled(alloc: Global, mut image: Image, wrong: Wrong) -> Result<Image, AllocError> {
+    match wrong {
+        Wrong::First => image.first = 0,
+        Wrong::Next => image.next = 2,
+        Wrong::Moment => image.latest = 1 << 62,
+        Wrong::Ended => image.mode = Mode::Cancelled,
+        Wrong::Base => image.base = Some(CheckpointId(1)),
+        Wrong::Done => complete(&mut image),
+        Wrong::Order => image.records.reverse(),
+        Wrong::InUse => image.waiting = Handed::of(one(alloc, FileId(11))?),
+        Wrong::Taken => {
+            image.waiting = Handed::of(one(alloc, FileId(13))?);
+            image.taken = Files::of(one(alloc, FileId(13))?);
+        }
     }
-    match opened {
-        Ok(_) => false,
-        Err(fault) => fault == ImageFault::Damaged,
-    }
+    Ok(image)
 }
 
-#[test]
-fn refuses_a_first_number_that_no_record_can_have(rt: HostRuntime) -> Result<(), Fail> {
-    let mut image = saved(rt.alloc())?;
-    image.first = 0;
-    assert!(rt; is_damaged(rt.alloc(), &image));
-    Ok(())
-}
-
-#[test]
-fn refuses_a_next_number_that_a_record_has(rt: HostRuntime) -> Result<(), Fail> {
-    let mut image = saved(rt.alloc())?;
-    image.next = 2;
-    assert!(rt; is_damaged(rt.alloc(), &image));
-    Ok(())
-}
-
-#[test]
-fn refuses_a_moment_that_no_clock_has(rt: HostRuntime) -> Result<(), Fail> {
-    let mut image = saved(rt.alloc())?;
-    image.latest = 1 << 62;
-    assert!(rt; is_damaged(rt.alloc(), &image));
-    Ok(())
-}
-
-#[test]
-fn refuses_a_pending_record_of_a_job_that_has_ended(rt: HostRuntime) -> Result<(), Fail> {
-    let mut image = saved(rt.alloc())?;
-    image.mode = Mode::Cancelled;
-    assert!(rt; is_damaged(rt.alloc(), &image));
-    Ok(())
-}
-
-#[test]
-fn refuses_a_base_that_is_no_savepoint(rt: HostRuntime) -> Result<(), Fail> {
-    let mut image = saved(rt.alloc())?;
-    image.base = Some(CheckpointId(1));
-    assert!(rt; is_damaged(rt.alloc(), &image));
-    Ok(())
-}
-
-#[test]
-fn refuses_a_record_that_is_done_and_not_full(rt: HostRuntime) -> Result<(), Fail> {
-    let mut image = saved(rt.alloc())?;
+/// Notes the last record as done.
+fn complete(image: &mut Image) {
     if let Some(record) = image.records.last_mut() {
         record.metadata.done = true;
     }
-    assert!(rt; is_damaged(rt.alloc(), &image));
-    Ok(())
+}
+
+fn fault(alloc: Global, image: &Image) -> Option<ImageFault> {
+    Core::from_image(alloc, image, Secret::fixed()).err()
 }
 
 #[test]
-fn refuses_records_in_falling_order(rt: HostRuntime) -> Result<(), Fail> {
-    let mut image = saved(rt.alloc())?;
-    image.records.reverse();
-    assert!(rt; is_damaged(rt.alloc(), &image));
-    Ok(())
-}
-
-/// Files in a buffer of their own. If memory runs out, tries once more.
-fn files(alloc: Global, numbers: &[FileId]) -> Result<Vec<FileId>, AllocError> {
-    match Vec::from_slice(alloc, numbers) {
-        Ok(files) => Ok(files),
-        Err(_) => Vec::from_slice(alloc, numbers),
+fn refuses_a_state_that_no_coordinator_can_be_in(rt: HostRuntime) -> Result<(), Fail> {
+    let alloc = rt.alloc();
+    assert_eq!(rt; fault(alloc, &saved(alloc)?), None);
+    for wrong in ALL {
+        let image = spoiled(alloc, saved(alloc)?, wrong)?;
+        assert_eq!(rt;
+            fault(alloc, &image),
+            Some(ImageFault::Damaged),
+            "{}",
+            wrong as u32
+        );
     }
-}
-
-#[test]
-fn refuses_a_file_in_use_that_waits(rt: HostRuntime) -> Result<(), Fail> {
-    let mut image = saved(rt.alloc())?;
-    image.waiting = Handed::of(files(rt.alloc(), &[FileId(11)])?);
-    assert!(rt; is_damaged(rt.alloc(), &image));
-    Ok(())
-}
-
-#[test]
-fn refuses_a_file_that_waits_and_was_taken(rt: HostRuntime) -> Result<(), Fail> {
-    let mut image = saved(rt.alloc())?;
-    image.taken = Files::of(files(rt.alloc(), &[FileId(13)])?);
-    assert!(rt; is_damaged(rt.alloc(), &image));
     Ok(())
 }

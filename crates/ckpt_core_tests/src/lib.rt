@@ -1,4 +1,5 @@
-//! Tests of the coordinator: rows of calls of [`ckpt_core::Core`] with their answers.
+//! Tests of the coordinator: what no row of `examples/rows` and no test of `embed` shows of
+//! [`ckpt_core::Core`], and the lines that docs/EMBEDDING.md shows.
 //!
 //! `docs/DECISIONS.md` says why these tests are not in the crate that they test.
 #![tactic(auto)]
@@ -10,12 +11,4 @@ mod full_size;
 #[cfg(test)]
 mod images;
 #[cfg(test)]
-mod job;
-#[cfg(test)]
 mod limits;
-#[cfg(test)]
-mod queries;
-#[cfg(test)]
-mod reads;
-#[cfg(test)]
-mod refused_memory;

@@ -1,19 +1,14 @@
-//! Tests of the crates below the coordinator: its values, records, registry, outbox and store.
+//! Tests of the crates below the coordinator: its values, hashing, and the functions that the
+//! coordinator does not call.
 //!
-//! The programs run the clock and the count of failures: each of their calls decides what a row of
-//! `examples/rows` prints. `docs/DECISIONS.md` says why these tests are not in the crates that they
-//! test.
+//! The programs run all others: each call of a row in `examples/rows` runs through the records, the
+//! registry, the outbox and the store. `tests/hostile` and `embed/c/rows.c` try them with many files
+//! and without memory. `docs/DECISIONS.md` says why these tests are not in the crates that they test.
 #![tactic(auto)]
 
 #[cfg(test)]
-mod outbox;
-#[cfg(test)]
-mod pending;
-#[cfg(test)]
-mod registry;
+mod parts;
 #[cfg(test)]
 mod secrets;
-#[cfg(test)]
-mod store;
 #[cfg(test)]
 mod values;

@@ -1,10 +1,10 @@
-//! Tests of scripts: what [`ckpt_script::run`] writes over readers and writers of several kinds.
+//! Tests of scripts: what [`ckpt_script::run`] does over readers and writers that fail, and the seats
+//! of its calls.
 //!
-//! `docs/DECISIONS.md` says why these tests are not in the crate that they test.
+//! `examples/rows` have what each line prints. `docs/DECISIONS.md` says why these tests are not in
+//! the crate that they test.
 #![tactic(auto)]
 
-#[cfg(test)]
-mod lines;
 #[cfg(test)]
 mod runs;
 #[cfg(test)]
