@@ -43,7 +43,7 @@ missing_now m id = option_map_or missing (pending_metadata m id) 0
 abbrev pub new_files : AllLine → List SubtaskId → List NewFile
 new_files line missing = map (λ p. record { subtask = p.1; file = line.first + p.0 }) (enumerate_from 0 missing)
 
--- the calls for these subtasks
+-- the acknowledgements of these subtasks
 unfoldable pub acks_for : AllLine → List SubtaskId → List Call
 acks_for line missing = map (ack_with line.moment line.id) (new_files line missing)
 

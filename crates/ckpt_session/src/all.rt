@@ -8,12 +8,15 @@ ghost use Rattle.ckpt_locked.specs.Books.{state_of_book};
 ghost use Rattle.ckpt_texts.specs.MetadataTexts.{missing_subtasks};
 ghost use Rattle.ckpt_session.specs.AllLines.{ack_with, missing_now, pending_metadata, shown_pending, acks_for, end_of, told_of, all_of, all_obeyed};
 
-use crate::calls::call;
 use crate::outcome::{AllEnd, Outcome, ScriptRefusal};
 use ckpt_ids::{Acks, Answer, Call, CheckpointId, FileId, Files, Metadata, Reply, SubtaskId};
 use ckpt_locked::{Book, MOST_SEATS};
 use ckpt_workers::{Made, Team};
 use std::alloc::{AllocError, Global};
+
+/// The seat of the calls that a line makes itself. No lock gives this seat, and no thread of an
+/// `all` line has it.
+pub(crate) const LINE_SEAT: u32 = MOST_SEATS;
 
 /// How many threads an `all` line may have: each has a seat.
 const MOST_THREADS: u64 = MOST_SEATS as u64;
@@ -72,30 +75,30 @@ impl AllLine {
         // The contract of this read says that the state is sound. Then the calls have the same
         // outcome in every order.
         let _ = book.core();
-        let calls = self.calls(alloc, &missing)?;
-        let mut made = team.make(book, calls, self.threads as u32)?;
+        let acks = self.acks(alloc, &missing)?;
+        let mut made = team.make(book, acks, self.threads as u32)?;
         let outcome = self.tell(alloc, &mut made)?;
         Ok((made.book, outcome))
     }
 
-    /// The calls, in the order of the subtasks.
-    fn calls(&self, alloc: Global, missing: &[SubtaskId]) -> Result<Vec<Call>, AllocError>
+    /// The acknowledgements of these subtasks, in their order.
+    fn acks(&self, alloc: Global, missing: &[SubtaskId]) -> Result<Vec<Call>, AllocError>
         requires files { self.now.first + length missing.now ≤ 2 ^ 64 }
-        ensures { IfOk result (λ calls. calls.items ≡ acks_for self.now missing.now) }
+        ensures { IfOk result (λ acks. acks.items ≡ acks_for self.now missing.now) }
     {
-        let mut calls = Vec::new(alloc);
+        let mut acks = Vec::new(alloc);
         let mut place = 0;
         for subtask in missing {
-            calls.push(self.ack(alloc, place, *subtask)?)?;
+            acks.push(self.ack(alloc, place, *subtask)?)?;
             place += 1;
         }
-        Ok(calls)
+        Ok(acks)
     }
 
-    /// The call of this place.
+    /// The acknowledgement of the subtask at this place.
     fn ack(&self, alloc: Global, place: u64, subtask: SubtaskId) -> Result<Call, AllocError>
         requires file { self.now.first + place < 2 ^ 64 }
-        ensures { IfOk result (λ call. call ≡ ack_with self.now.moment self.now.id (record { subtask = subtask; file = self.now.first + place })) }
+        ensures { IfOk result (λ ack. ack ≡ ack_with self.now.moment self.now.id (record { subtask = subtask; file = self.now.first + place })) }
     {
         let mut fresh = Vec::with_capacity(alloc, 1)?;
         fresh.push(FileId(self.first + place))?;
@@ -136,7 +139,7 @@ fn pending_metadata(book: &mut Book, id: CheckpointId) -> Result<Option<Metadata
 {
     // Tells that the state is sound, in which a number has one record.
     let _ = book.core();
-    match call(book, Call::Show { id }) {
+    match book.apply(LINE_SEAT, Call::Show { id }) {
         Ok(answer) => Ok(pending(answer)),
         Err(_) => Err(AllocError),
     }

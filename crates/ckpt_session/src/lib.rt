@@ -6,7 +6,6 @@
 #![tactic(auto)]
 
 mod all;
-mod calls;
 mod outcome;
 mod session;
 mod texts;

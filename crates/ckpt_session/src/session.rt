@@ -6,8 +6,7 @@ ghost use Rattle.ckpt_lines.specs.Meanings.{meaning};
 ghost use Rattle.ckpt_session.specs.ScriptTexts.{outcome_bytes};
 ghost use Rattle.ckpt_session.specs.Sessions.{opening_scene, before_start, after_start, refused, configured, shaped, started_so_far, called, all_called, obeyed, done_by, said};
 
-use crate::all::AllLine;
-use crate::calls::{call, open};
+use crate::all::{AllLine, LINE_SEAT};
 use crate::outcome::{Outcome, ScriptRefusal};
 use crate::texts::{write_fault, write_outcome};
 use ckpt_core::Secret;
@@ -17,6 +16,9 @@ use ckpt_locked::Book;
 use ckpt_workers::Team;
 use std::alloc::{AllocError, Global};
 use std::marker::Model;
+
+/// The number of the first record of a job.
+const FIRST: u64 = 1;
 
 /// A script that is being run: what its lines have set so far, and the book of its calls once it
 /// has started.
@@ -189,7 +191,7 @@ impl Session {
         ensures told { OnErr result ((self.new.config ≡ self.old.config) × (self.new.shape ≡ self.old.shape)) }
     {
         match meaning {
-            Meaning::Call(made) => self.answer(made),
+            Meaning::Call(call) => self.answer(call),
             Meaning::Skip => Ok(Outcome::Silent),
             Meaning::Config {
                 interval,
@@ -290,7 +292,7 @@ impl Session {
         let (Some(config), Some(shape)) = (self.config, &self.shape) else {
             return Ok(Outcome::Refused(ScriptRefusal::NotReady));
         };
-        match open(self.alloc, config, shape.copy()?, now, self.secret) {
+        match Book::keyed(self.alloc, config, shape.copy()?, now, FIRST, self.secret) {
             Ok(book) => {
                 self.book = Some(book);
                 Ok(Outcome::Silent)
@@ -302,13 +304,13 @@ impl Session {
     /// Makes a call with the seat of the lines.
     #[tactic(auto, unfolding(crate::specs::Sessions::called))]
     #[inline(always)]
-    fn answer(&mut self, made: Call) -> Result<Outcome, AllocError>
-        ensures done { IfOk result (λ outcome. (self.new, outcome) ≡ called self.old self.old.core made) }
+    fn answer(&mut self, call: Call) -> Result<Outcome, AllocError>
+        ensures done { IfOk result (λ outcome. (self.new, outcome) ≡ called self.old self.old.core call) }
         ensures told { OnErr result ((self.new.config ≡ self.old.config) × (self.new.shape ≡ self.old.shape)) }
     {
         match &mut self.book {
             None => Ok(Outcome::Refused(ScriptRefusal::NotStarted)),
-            Some(book) => match call(book, made) {
+            Some(book) => match book.apply(LINE_SEAT, call) {
                 Ok(answer) => Ok(Outcome::Answered(answer)),
                 Err(_) => Err(AllocError),
             },

@@ -14,5 +14,5 @@ returns g c =
     let missing = c.in_ok-missing.missing.items in
     let made = c.in_ok-made.made in
     let work = team_as_in_order c.args.book line c.args.metadata.now missing made (subst IsSound c.core.ensures.replay c.core.ensures.sound) c.requires.pending c.in_ok-missing.ensures c.requires.threads.0
-    (subst (λ (calls : List Call). IsTeamwork c.args.book calls line.threads made) (c.in_ok-calls.ensures ∙ ap (acks_for line) c.deref.ensures.value) c.in_ok-made.ensures.made) in
+    (subst (λ (calls : List Call). IsTeamwork c.args.book calls line.threads made) (c.in_ok-acks.ensures ∙ ap (acks_for line) c.deref.ensures.value) c.in_ok-made.ensures.made) in
     acknowledged_is (state_of_book c.args.book) (state_of_book c.tell.new.made.book) line c.args.metadata.now missing made _ c.in_ok-missing.ensures (omega arith) work c.in_ok-outcome.ensures.state c.in_ok-outcome.ensures.outcome

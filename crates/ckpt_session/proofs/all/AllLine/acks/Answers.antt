@@ -1,13 +1,13 @@
--- Answers the goals of `AllLine::calls`.
+-- Answers the goals of `AllLine::acks`.
 use Rattle.std.proofs.Common.{◌≡◌, ℕ, ◌+◌, get_or, [], ◌∷◌, ◌++◌, refl, sym, ap, ◌∙◌, arith}
 use Rattle.ckpt_ids.specs.declared.call.Call.{Call}
 use Rattle.ckpt_ids.specs.declared.subtask.SubtaskId.{SubtaskId}
 use Rattle.ckpt_core.specs.Interleavings.{ack_with}
 use Rattle.ckpt_session.proofs.AckLists.{acks_for-none, acks_for-more}
-use Rattle.ckpt_session.proofs.all.AllLine.calls.Goals as goal
+use Rattle.ckpt_session.proofs.all.AllLine.acks.Goals as goal
 
 pub loop-subtask-init : goal.loop-subtask-init
-loop-subtask-init c = (refl, c.new-calls.ensures.items ∙ sym (acks_for-none c.args.self.now))
+loop-subtask-init c = (refl, c.new-acks.ensures.items ∙ sym (acks_for-none c.args.self.now))
 
 pub loop-subtask-preserved : goal.loop-subtask-preserved
 loop-subtask-preserved c =
@@ -19,6 +19,6 @@ loop-subtask-preserved c =
     let ack : ℕ → Call = λ place. ack_with line.moment line.id (record { subtask = get_or missing i zero; file = line.first + place }) in (
       omega arith,
       c.in_ok-push.ensures.items
-          ∙ ap (λ (call : Call). c.loop-subtask.calls.items ++ call ∷ []) (c.in_ok-ack.ensures ∙ ap ack at)
-          ∙ acks_for-more line missing i zero c.loop-subtask.calls.items (omega arith) c.loop-subtask.invariant.1,
+          ∙ ap (λ (call : Call). c.loop-subtask.acks.items ++ call ∷ []) (c.in_ok-ack.ensures ∙ ap ack at)
+          ∙ acks_for-more line missing i zero c.loop-subtask.acks.items (omega arith) c.loop-subtask.invariant.1,
     )

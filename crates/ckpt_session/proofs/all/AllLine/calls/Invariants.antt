@@ -1,8 +1,0 @@
--- The loop invariants of `AllLine::calls`.
-use Rattle.std.proofs.Common.{◌≡◌, take}
-use Rattle.ckpt_session.specs.AllLines.{acks_for}
-use Rattle.ckpt_session.proofs.all.AllLine.calls.Given as goal
-
-abbrev pub invariant-loop-subtask : goal.invariant-loop-subtask
-invariant-loop-subtask l =
-    (l.place ≡ l.subtask-index) × (l.calls.items ≡ acks_for l.self (take l.subtask-index l.missing))
