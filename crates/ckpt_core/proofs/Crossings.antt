@@ -15,7 +15,7 @@ use Rattle.ckpt_core.specs.contracts.coordinator.Core.TheInside as InCore
 use Rattle.ckpt_core.specs.contracts.parts.Parts as Parts
 use Rattle.ckpt_core.specs.contracts.pending_records.PendingRecords as PendingRecords
 
--- a struct crosses where its fields do
+-- a struct crosses if its fields do
 pub declared_send : (T : Declared) → AllSend (fields T) → IsSend (row T)
 declared_send T s = recorded_send (Struct (shape T)) T.D T.to T.to_one (struct_send (shape T) s)
 

@@ -54,7 +54,7 @@ start_or_hold m expired Pause = (m, Done (reply.Ticked expired end.HeldPause))
 start_or_hold m expired Go =
     (record (triggered m kind.Checkpoint) { due = m.latest + gap m.opening.config }, Done (reply.Ticked expired (end.Triggered m.next)))
 
--- Expiry comes first, then the next checkpoint where nothing holds it back. m has the moment already, and the failures
+-- Expiry comes first, then the next checkpoint if nothing holds it back. m has the moment already, and the failures
 unfoldable pub after_expiry : State → ℕ → Stepped
 after_expiry m expired = start_or_hold m expired (hold m.opening.config m.due m.completed m.latest (pending_checkpoints m))
 

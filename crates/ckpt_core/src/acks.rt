@@ -17,6 +17,7 @@ fn joined(alloc: Global, fresh: &Files, reused: &Files) -> Result<Files, AllocEr
     requires { length fresh.now + length reused.now ≤ MOST_FILES }
     ensures { IfOk result (λ files. files ≡ ascending (fresh.now ++ reused.now)) }
 {
+    // The contract of a slice says that the files are in ascending order, so a copy is too.
     let written = fresh.as_slice();
     if reused.is_empty() {
         return fresh.copy();

@@ -28,7 +28,7 @@ pub fn balance()
     ensures { (o : Opening) (calls : List Call) → CanOpen o → AreCalls calls → Balance o calls }
 {}
 
-/// Where no deleted file is reported as new again, a file was handed out exactly when it was
+/// If no deleted file is reported as new again, a file was handed out exactly when it was
 /// registered and no live record uses it.
 pub fn handed()
     ensures { (o : Opening) (calls : List Call) → CanOpen o → AreCalls calls → Handed o calls }

@@ -255,7 +255,7 @@ impl Parts {
         ensures joins { OnOk result (JoinsParts self.old (record_in saved.now)) }
         ensures damaged { result ≡ Err ImageFault.Damaged → IsRecord (record_in saved.now) → ⊥ }
     {
-        // Tells that the configuration is within its limits.
+        // The contract of this call says that the configuration is within its limits.
         let _ = self.opened.config.retained();
         // The contract of this call says that the acknowledgements come from the record's subtasks.
         let _ = pending.missing();
@@ -267,7 +267,7 @@ impl Parts {
                 if !saved.pins.is_empty() {
                     return Err(ImageFault::Damaged);
                 }
-                // Tells that each subtask has acknowledged.
+                // The contract of this call says that each subtask has acknowledged.
                 let _ = done.id();
                 self.load_done(done, saved)?;
             }
@@ -292,10 +292,10 @@ impl Parts {
         ensures tied { OnOk result (AreTied self.new) }
         ensures noted { OnOk result (self.new.ended.items ≡ self.old.ended.items) }
     {
-        // Tells that the configuration is within its limits.
+        // The contract of this call says that the configuration is within its limits.
         let _ = self.opened.config.retained();
         self.recall_groups();
-        // Tells that the record is done.
+        // The contract of this call says that the record is done.
         let _ = done.id();
         match saved.metadata.kind {
             Kind::Checkpoint => self.load_checkpoint(done, &saved.metadata.acks),

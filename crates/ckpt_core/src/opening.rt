@@ -33,7 +33,7 @@ impl Parts {
         ensures sound { AreSound result }
         ensures state { state_of result ≡ opened (record { config = config; shape = shape; start = start; first = first }) }
     {
-        // Tells that the shape is within its limits.
+        // The contract of this call says that the shape is within its limits.
         let _ = shape.size();
         Parts {
             alloc,

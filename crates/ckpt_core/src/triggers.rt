@@ -47,7 +47,7 @@ impl Parts {
     }
 
     /// Triggers a record of this kind, with the next number, at the greatest moment seen. It pins
-    /// the files of the choice. Where memory runs out nothing has changed.
+    /// the files of the choice. If memory runs out, nothing has changed.
     #[inline(never)]
     fn trigger(&mut self, kind: Kind) -> Result<CheckpointId, AllocError>
         requires tied { AreTied self.old }
@@ -189,10 +189,10 @@ impl Parts {
         let timeout = self.opened.config.timeout();
         let late = self.pending.note_expired(moment, timeout, &mut self.ended) as u32;
         let mut failures = self.failures;
-        let are_many = failures.add(late);
+        let are_too_many = failures.add(late);
         let expired = self.ended.len() as u32;
         let left = self.pending.checkpoints() as u32 - late;
-        let intolerable = late > 0 && are_many;
+        let intolerable = late > 0 && are_too_many;
         Expiry {
             expired,
             left,
@@ -220,8 +220,8 @@ impl Parts {
         }
     }
 
-    /// Triggers a checkpoint where nothing holds it back, and then drops what has expired. Where
-    /// memory runs out nothing has changed.
+    /// Triggers a checkpoint if nothing holds it back, and then drops what has expired. If memory
+    /// runs out, nothing has changed.
     fn start_and_drop(&mut self, expiry: Expiry) -> Result<Ticked, AllocError>
         requires tied { AreTied self.old }
         requires sound { IsSound (state_of self.old) }

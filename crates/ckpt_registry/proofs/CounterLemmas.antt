@@ -101,7 +101,7 @@ counted_once-same m n f e = ap (λ c. one_if (ltb 0 c)) e
 pub times_push : (f x : ℕ) (xs : List ℕ) → times f (xs ++ x ∷ []) ≡ times f xs + one_if (eqb x f)
 times_push f x xs = sum_by_push (λ y. one_if (eqb y f)) xs x
 
--- a file whose count only falls stays where it is
+-- a file whose count only falls keeps its place
 pub counted_once-kept : (m n : Counts) (k v w : ℕ) → Sets m n k (Some w) → counter m k ≡ v → 0 < v → 0 < w → (f : ℕ) → counted_once n f ≡ counted_once m f
 counted_once-kept m n k v w s had above still f =
     let at : k ≡ f → counted_once n f ≡ counted_once m f = λ (e : k ≡ f).
@@ -158,7 +158,7 @@ times_before xs i k once within at =
     let one : one_if (eqb (get_or xs i k) k) ≡ 1 = one_if-true (eqb (get_or xs i k) k) (eq-eqb (get_or xs i k) k (sym at)) in
     omega (arith, times_more k xs i k within, sum_by-take-le (λ y. cond (eqb y k) 1 0) xs (i + 1))
 
--- an entry more where there was none
+-- one more entry if there was none
 pub length_fresh : {E : Type 0} (r : Result (Option ℕ) E) (o : Option ℕ) (l n : ℕ) → IsOk r → o ≡ None → IfOk r (λ old. old ≡ o) → IfOk r (λ old. n ≡ l + (if is_some old then 0 else 1)) → n ≡ l + 1
 length_fresh (Ok old) o l n ok none was len = len ∙ ap (λ p. l + (if is_some p then 0 else 1)) (was ∙ none)
 length_fresh (Err e) o l n ok none was len = absurd (false≢true ok)

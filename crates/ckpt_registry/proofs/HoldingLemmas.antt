@@ -196,6 +196,6 @@ without_more owners i owner us now within at kept =
     let more : take (i + 1) owners ≡ take i owners ++ owner ∷ [] = take_more owners i owner within ∙ ap (λ o. take i owners ++ o ∷ []) (sym at) in
     ap (without_record owner) kept ∙ sym (ap (λ os. without os us) more ∙ without-push (take i owners) owner us)
 
--- all stay where no record goes
+-- all stay if no record goes
 pub without-none : (us : List Use) → without [] us ≡ us
 without-none us = filter-all (stays []) us (λ u k. refl)

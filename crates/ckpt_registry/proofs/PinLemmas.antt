@@ -16,7 +16,7 @@ use Rattle.ckpt_registry.specs.declared.holdings.Holding.{Holding}
 use Rattle.ckpt_registry.specs.declared.holdings.Part.{Part}
 use Rattle.ckpt_registry.specs.declared.pins.Pinner.{Pinner}
 use Rattle.ckpt_registry.specs.Holdings.{Acknowledged, Extends, files_in, files_of, parts_of, uses_by, uses_in}
-use Rattle.ckpt_registry.specs.Pins.{AreKept, AreSettled, IsKept, IsSettled, IsTaken, each_file, is_named, own_in, parts_pinned, pinned_by, pins_in, pins_of_records, pins_on}
+use Rattle.ckpt_registry.specs.Pins.{AreKept, AreSettled, IsKept, IsSettled, IsTaken, each_file, is_named, own_in, own_of, parts_pinned, pinned_by, pins_in, pins_of_records, pins_on}
 use Rattle.ckpt_registry.specs.Uses.{is_owned, triples, without}
 use Rattle.ckpt_registry.proofs.HoldingLemmas.{count-parts_of}
 use Rattle.ckpt_registry.proofs.ListLemmas.{one_if, times-ascending_set}
@@ -126,7 +126,7 @@ pins_in-filter m owners (one ∷ pinned) =
     ⊎_elim gone kept (cases_Bool (goes owners one))
 
 -- the files of those who go, and of those who stay
-pub own_in-parts : (f : ℕ) (owners : List ℕ) (pinned : List Pinner) → times f (own_in (filter (goes owners) pinned)) + times f (own_in (filter (λ one. not (is_named owners one.id)) pinned)) ≡ times f (own_in pinned)
+pub own_in-parts : (f : ℕ) (owners : List ℕ) (pinned : List Pinner) → times f (own_of owners pinned) + times f (own_in (filter (λ one. not (is_named owners one.id)) pinned)) ≡ times f (own_in pinned)
 own_in-parts f owners [] = refl
 own_in-parts f owners (one ∷ pinned) =
     let yes : List Pinner = filter (goes owners) pinned in
@@ -254,8 +254,8 @@ module _ (chosen : ℕ) (parts : List Part) (old now : List Pinner) (i : ℕ) (d
 
 -- the files of those who go, of one pinner more
 
-own_in-goes_push : (f : ℕ) (owners : List ℕ) (pinned : List Pinner) (one : Pinner) → times f (own_in (filter (goes owners) (pinned ++ one ∷ []))) ≡ times f (own_in (filter (goes owners) pinned)) + cond (goes owners one) (times f one.files.items) 0
-own_in-goes_push f owners pinned one =
+own_of-push : (f : ℕ) (owners : List ℕ) (pinned : List Pinner) (one : Pinner) → times f (own_of owners (pinned ++ one ∷ [])) ≡ times f (own_of owners pinned) + cond (goes owners one) (times f one.files.items) 0
+own_of-push f owners pinned one =
     let yes : List Pinner = filter (goes owners) pinned in
     let split : filter (goes owners) (pinned ++ one ∷ []) ≡ yes ++ cond (goes owners one) (one ∷ []) [] = filter-append (goes owners) pinned (one ∷ []) in
     let Goal : Bool → Type 0 = λ b. times f (own_in (yes ++ cond b (one ∷ []) [])) ≡ times f (own_in yes) + cond b (times f one.files.items) 0 in
@@ -264,14 +264,14 @@ own_in-goes_push f owners pinned one =
     let at : Goal (goes owners one) = ⊎_elim (λ (e : goes owners one ≡ true). subst Goal (sym e) gone) (λ (e : goes owners one ≡ false). subst Goal (sym e) kept) (cases_Bool (goes owners one)) in
     ap (λ os. times f (own_in os)) split ∙ at
 
-pub own_in-goes_more : (f : ℕ) (owners : List ℕ) (pinned : List Pinner) (i : ℕ) (one : Pinner) → i < length pinned → one ≡ get_or pinned i one
-    → times f (own_in (filter (goes owners) (take (i + 1) pinned))) ≡ times f (own_in (filter (goes owners) (take i pinned))) + cond (goes owners one) (times f one.files.items) 0
-own_in-goes_more f owners pinned i one within at =
+pub own_of-more : (f : ℕ) (owners : List ℕ) (pinned : List Pinner) (i : ℕ) (one : Pinner) → i < length pinned → one ≡ get_or pinned i one
+    → times f (own_of owners (take (i + 1) pinned)) ≡ times f (own_of owners (take i pinned)) + cond (goes owners one) (times f one.files.items) 0
+own_of-more f owners pinned i one within at =
     let more : take (i + 1) pinned ≡ take i pinned ++ one ∷ [] = take_more pinned i one within ∙ ap (λ o. take i pinned ++ o ∷ []) (sym at) in
-    ap (λ os. times f (own_in (filter (goes owners) os))) more ∙ own_in-goes_push f owners (take i pinned) one
+    ap (λ os. times f (own_of owners os)) more ∙ own_of-push f owners (take i pinned) one
 
-pub own_in-goes_le : (f : ℕ) (owners : List ℕ) (n : ℕ) (pinned : List Pinner) → times f (own_in (filter (goes owners) (take n pinned))) ≤ times f (own_in pinned)
-own_in-goes_le f owners n pinned = omega (arith, own_in-parts f owners (take n pinned), times_of_take (λ (o : Pinner). o.files.items) f n pinned)
+pub own_of-le : (f : ℕ) (owners : List ℕ) (n : ℕ) (pinned : List Pinner) → times f (own_of owners (take n pinned)) ≤ times f (own_in pinned)
+own_of-le f owners n pinned = omega (arith, own_in-parts f owners (take n pinned), times_of_take (λ (o : Pinner). o.files.items) f n pinned)
 
 -- who holds a use
 

@@ -31,7 +31,7 @@ pub search_absent : (id : ℕ) (hs : List Holding) (r : Result ℕ ℕ) → AreR
 search_absent id hs (Ok place) a within at = tt
 search_absent id hs (Err place) a within at = belongs id hs place (rows.search_absent number numbers_in_order numbers_searched id hs (Err place) (by_number hs a) within at)
 
--- each number below, as where the last is: then a record belongs at the end
+-- if each number is below, as the last one is, a record belongs at the end
 pub after_last : (id : ℕ) (hs : List Holding) (n : ℕ) (last : Holding) → AreRising hs → n ≡ length hs → last ≡ get_or hs (n - 1) last → last.id < id → BelongsAt hs id n
 after_last id hs n last a all at below =
     belongs id hs n (rows.end_belongs number numbers_in_order id hs n all (rows.all_before number numbers_in_order id hs n last (by_number hs a) all at (lt-ltb last.id id below)))
@@ -39,7 +39,7 @@ after_last id hs n last a all at below =
 pub first_of_all : (id : ℕ) (hs : List Holding) (n : ℕ) → n ≡ length hs → ((k : ℕ) → k < n → ⊥) → BelongsAt hs id n
 first_of_all id hs n all none = belongs id hs n (rows.end_belongs number numbers_in_order id hs n all (λ k d h. absurd (none k h)))
 
--- Where a record was found. The others have other numbers.
+-- The place at which a record was found. The others have other numbers.
 
 module _ (id place : ℕ) (hs : List Holding) (h : Holding) (within : place < length hs) (is : h ≡ get_or hs place h) where
   pub split_at : hs ≡ take place hs ++ h ∷ drop (suc place) hs
@@ -70,7 +70,7 @@ module _ (id place : ℕ) (hs : List Holding) (h : Holding) (within : place < le
       let P : List ℕ → Type 0 = λ ks. IsAscendingSet ks in
       subst P (ap numbers split_at ∙ map-append number (take place hs) (h ∷ drop (suc place) hs) ∙ ap (λ k. numbers (take place hs) ++ k ∷ numbers (drop (suc place) hs)) (sym same) ∙ sym (map-append number (take place hs) (w ∷ drop (suc place) hs))) a
 
--- where a record belongs that is not there
+-- the place at which a record belongs that is not there
 
 module _ (id place : ℕ) (hs : List Holding) (parted : IsPartitionPoint (λ h. h.id < id) (λ h. id < h.id) hs place) where
   pub apart_from : (x : Holding) → IsIn x hs → x.id ≡ id → ⊥

@@ -1,5 +1,5 @@
 -- How a change of the parts changes the uses that a registry stands for.
-use Rattle.std.proofs.Common.{◌≡◌, ℕ, ◌+◌, ◌-◌, ◌<◌, ◌≤◌, ◌^◌, Bool, true, false, not, eqb, ltb, leb, ◌&&◌, ◌||◌, List, [], ◌∷◌, ◌++◌, map, length, refl, sym, ap, subst, ◌∙◌, inl, inr, ⊎_elim, arith, count_by, Some, unwrap_or}
+use Rattle.std.proofs.Common.{◌≡◌, ℕ, ◌+◌, ◌-◌, ◌<◌, ◌≤◌, ◌^◌, Bool, true, false, not, eqb, ltb, ◌&&◌, ◌||◌, List, [], ◌∷◌, ◌++◌, map, length, refl, sym, ap, subst, ◌∙◌, inl, inr, ⊎_elim, arith, count_by, Some, unwrap_or}
 use Rattle.std.specs.List.{filter, IsDistinct, AllByRecursion}
 use Rattle.std.proofs.lemmas.List.{length-map}
 use Rattle.std.proofs.lemmas.Option.{none-some}
@@ -7,12 +7,12 @@ use Rattle.std.specs.List.Sorted.{IsPermutation, IsSorted}
 use Rattle.std.specs.Ordering.{nat_cmp}
 use Rattle.std.proofs.lemmas.List.Sorted.{sum_by-IsPermutation}
 use Rattle.std.specs.Map.{lookup, keys_of}
-use Rattle.std.proofs.lemmas.Bool.{and_parts, cases_Bool, cases_lt, both_ways, cond-true, cond-false, ltb-true, ltb-false, lt-ltb, le-ltb, leb-true, eq-eqb, eqb-true, eqb-false, cases_eq, not-true}
+use Rattle.std.proofs.lemmas.Bool.{and_parts, cases_Bool, cases_lt, both_ways, cond-true, cond-false, ltb-true, ltb-false, lt-ltb, le-ltb, eq-eqb, eqb-true, eqb-false, not-true}
 use Rattle.std.proofs.lemmas.List.Elements.{filter-append}
 use Rattle.std.proofs.lemmas.Map.Keys.{IsDistinct-head, IsDistinct-tail}
 use Rattle.indexmap.specs.IndexMap.{index_map_len, IsUnique}
 use Rattle.ckpt_ids.specs.Ordered.{IsIn, IsInOrder, in_order_once, AreDistinct}
-use Rattle.ckpt_ids.specs.Ascending.{IsAscending, IsAscendingSet, ascending_set}
+use Rattle.ckpt_ids.specs.Ascending.{IsAscending, ascending_set}
 use Rattle.ckpt_ids.specs.declared.subtask.SubtaskId.{SubtaskId}
 use Rattle.ckpt_ids.specs.Records.{Use, Holder, Subtask, Pin, count, is_present, released, same_holder, use_before}
 use Rattle.ckpt_ids.proofs.OrderedLemmas.{IsIn-append_left, IsIn-append_cases, IsIn-map, IsIn-from_map, IsIn-filter, IsIn-from_filter, IsIn-in_order_once, AreDistinct-from_order, IsIn-from_in_order_once, IsInOrder-in_order_once, IsInOrder-filter, same_from_members, filter-same, filter-filter}
@@ -139,7 +139,7 @@ module _ (a : Acknowledged) (p : List Pinner) (b : Acknowledged) (q : List Pinne
       (AreDistinct-triples id holder files each)
       (λ u h k. let same = triples-holder id holder files u k in unused u h same.0 same.1)
 
--- nothing is added where there is no file
+-- nothing is added if there is no file
 pub in_use-none : (a : Acknowledged) (p : List Pinner) (id : ℕ) (holder : Holder) (files : List ℕ) → files ≡ [] → in_use a p ≡ in_order_once use_before (in_use a p ++ triples id holder files)
 in_use-none a p id holder files none = in_use-added a p a p id holder files (λ t. let no : count_by t (triples id holder files) ≡ 0 = ap (λ fs. count_by t (triples id holder fs)) none in omega (arith, no))
 

@@ -10,13 +10,13 @@ use Rattle.ckpt_registry.specs.declared.holdings.Holding.{Holding}
 use Rattle.ckpt_registry.specs.declared.pins.Pinner.{Pinner}
 use Rattle.ckpt_registry.specs.Counters.{Counts, counter, counted_once, AreInRange}
 use Rattle.ckpt_registry.specs.Holdings.{Acknowledged, AreRising, Extends, files_in, parts_of, uses_in}
-use Rattle.ckpt_registry.specs.Pins.{AreKept, AreSettled, IsKept, is_named, own_in, pinned_by, pins_in, pins_of_records, pins_on}
+use Rattle.ckpt_registry.specs.Pins.{AreKept, AreSettled, IsKept, is_named, own_in, own_of, pinned_by, pins_in, pins_of_records, pins_on}
 use Rattle.ckpt_registry.specs.Sound.{AreCounted, stored}
 use Rattle.ckpt_registry.specs.Uses.{is_owned, triples, without, without_record}
 use Rattle.ckpt_registry.proofs.CounterLemmas.{counted_once-above, counted_once-zero}
 use Rattle.ckpt_registry.proofs.HoldingLemmas.{has_id, parts_in}
 use Rattle.ckpt_registry.proofs.ListLemmas.{count_by-filter_le}
-use Rattle.ckpt_registry.proofs.PinLemmas.{AreKept-extended, AreKept-filter, AreKept-push, AreKept-settled, count-pins_in, count-triples_of, goes, own_in-parts, own_in-push, own_in-settled, pins_in-extended, pins_in-filter, pins_in-push, pins_in-settled, pins_of_records-none, pins_on-le}
+use Rattle.ckpt_registry.proofs.PinLemmas.{AreKept-extended, AreKept-filter, AreKept-push, AreKept-settled, count-pins_in, count-triples_of, own_in-parts, own_in-push, own_in-settled, pins_in-extended, pins_in-filter, pins_in-push, pins_in-settled, pins_of_records-none, pins_on-le}
 
 -- the count of a file: its counter, and the pins of those who pin a live record
 pub count-stored : (m : Acknowledged) (p : List Pinner) (counts : Counts) → AreCounted m p counts → (f : ℕ) → count (stored m p) f ≡ counter counts f + pins_of_records m f p
@@ -35,7 +35,7 @@ is_present-stored m p counts s f =
 
 -- some no longer pin
 pub AreCounted-unpinned : (m : Acknowledged) (p q : List Pinner) (owners : List ℕ) (counts after : Counts) → AreCounted m p counts → q ≡ filter (λ one. not (is_named owners one.id)) p
-    → ((f : ℕ) → counter after f + times f (own_in (filter (goes owners) p)) ≡ counter counts f) → AreInRange after → AreCounted m q after
+    → ((f : ℕ) → counter after f + times f (own_of owners p) ≡ counter counts f) → AreInRange after → AreCounted m q after
 AreCounted-unpinned m p q owners counts after s kept lowered range =
     let pins : pins_in m q ≡ without owners (pins_in m p) = ap (pins_in m) kept ∙ pins_in-filter m owners p in
     let K : List Pinner → Type 0 = λ os. AreKept m os in

@@ -23,7 +23,7 @@ parts_pinned m one = take one.parts (parts_of m one.chosen)
 abbrev pub pinned_by : Acknowledged → Pinner → List ℕ
 pinned_by m one = each_file (parts_pinned m one) ++ one.files.items
 
--- it tells whether the file is in one of the first parts of the record
+-- it says whether the file is in one of the first parts of the record
 abbrev pub IsLook : Acknowledged → ℕ → Look → Type 0
 IsLook m f look = look.found ≡ nat_lt 0 (times f (files_in (take look.parts (parts_of m look.chosen))))
 
@@ -55,6 +55,10 @@ AreKept m pinned = (one : Pinner) → IsIn one pinned → IsKept (parts_of m one
 -- whether this is the number of one of these records
 abbrev pub is_named : List ℕ → ℕ → Bool
 is_named owners id = list_any (λ owner. owner == id) owners
+
+-- the files that these records pinned one by one
+abbrev pub own_of : List ℕ → List Pinner → List ℕ
+own_of owners pinned = own_in (filter (λ one. is_named owners one.id) pinned)
 
 -- how often these pin a file as one of the parts of this record
 abbrev pub pins_on : ℕ → List Part → ℕ → List Pinner → ℕ

@@ -7,7 +7,7 @@ ghost use Rattle.ckpt_ids.specs.Counting.{times};
 ghost use Rattle.ckpt_ids.specs.Ordered.{IsIn};
 ghost use Rattle.ckpt_registry.specs.Counters.{counter, AreInRange, AreLowered, HasRoom};
 ghost use Rattle.ckpt_registry.specs.Holdings.{AreRising, files_in, parts_of};
-ghost use Rattle.ckpt_registry.specs.Pins.{AreKept, AreSettled, IsKept, IsLook, IsTaken, each_file, is_named, named_by, own_in, parts_pinned, pins_of_records, pins_on};
+ghost use Rattle.ckpt_registry.specs.Pins.{AreKept, AreSettled, IsKept, IsLook, IsTaken, each_file, is_named, named_by, own_in, own_of, parts_pinned, pins_of_records, pins_on};
 
 use crate::counters::{Counts, count_reused};
 use crate::holdings::{Acknowledged, Part, has, lower_each, parts_held};
@@ -63,19 +63,19 @@ impl Pinner {
     }
 }
 
-/// How many searches a count makes: one in each record that is pinned as a whole, where consecutive
-/// pins of the same one share a search.
+/// How many searches a count makes: one in each record that is pinned as a whole. Consecutive pins
+/// of the same one share a search.
 fn searches(pinned: &[Pinner]) -> usize {
-    let mut searches: usize = 0;
+    let mut count: usize = 0;
     let mut last = (CheckpointId(0), 0);
     for one in pinned {
         let search = (one.chosen, one.parts);
         if one.parts > 0 && search != last {
-            searches = searches.saturating_add(1);
+            count = count.saturating_add(1);
         }
         last = search;
     }
-    searches
+    count
 }
 
 /// The pins of all files of a live record, which has these parts, in room for the files.
@@ -83,7 +83,7 @@ fn searches(pinned: &[Pinner]) -> usize {
 /// Mostly the record is pinned as a whole, and none of its files is visited. Each record that is
 /// pinned so costs a count a search. So once there are [`MOST_SEARCHES`], the files of a further
 /// one are counted one by one.
-pub(crate) fn pins_all(
+pub(crate) fn pin_all(
     counts: &mut Counts,
     pinned: &[Pinner],
     id: CheckpointId,
@@ -260,7 +260,7 @@ pub(crate) fn unpin(
     requires range { AreInRange counts.old }
     requires room { HasRoom counts.old released.old }
     ensures kept { pinned.new.items ≡ filter (λ one. not (is_named owners.now one.id)) pinned.old.items }
-    ensures lowered { AreLowered (λ f. times f (own_in (filter (λ one. is_named owners.now one.id) pinned.old.items))) counts.old released.old counts.new released.new }
+    ensures lowered { AreLowered (λ f. times f (own_of owners.now pinned.old.items)) counts.old released.old counts.new released.new }
 {
     for one in pinned.iter() {
         if owners.contains(&one.id) {

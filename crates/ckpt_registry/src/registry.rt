@@ -8,7 +8,7 @@ ghost use Rattle.ckpt_registry.specs.Uses.{IsEachOnce, HasNoUse, after_end, file
 
 use crate::counters::{Counts, count_each, count_fresh, count_reused};
 use crate::holdings::{Acknowledged, Part, hold, named, parts_held};
-use crate::pins::{Pinner, files_pinned, pins_all, pins_of, unpin};
+use crate::pins::{Pinner, files_pinned, pin_all, pins_of, unpin};
 use crate::releases::release_each;
 use crate::sorting::sort;
 use ckpt_hash::Secret;
@@ -218,7 +218,7 @@ impl Registry {
         // may take no memory. Until then nothing touches this room.
         let room = Vec::with_capacity(alloc, files)?;
         self.pinned.reserve(1)?;
-        let one = pins_all(&mut self.counts, &self.pinned, id, chosen, parts, room);
+        let one = pin_all(&mut self.counts, &self.pinned, id, chosen, parts, room);
         self.pinned.push_reserved(one);
         Ok(())
     }

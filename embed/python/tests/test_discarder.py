@@ -27,6 +27,17 @@ def wait_for(condition):
         time.sleep(0.001)
 
 
+def denied(file):
+    raise PermissionError
+
+
+def given_up(job, delete):
+    """A discarder that has given up all 20 files."""
+    discarder = Discarder(job, delete, QUICK)
+    wait_for(lambda: len(discarder.told().given_up) == 20)
+    return discarder
+
+
 class Discarding(unittest.TestCase):
     def test_it_deletes_retries_and_gives_up(self):
         tries = []
@@ -47,11 +58,8 @@ class Discarding(unittest.TestCase):
             self.assertEqual(sorted(tries), sorted([*range(1, 21), 1, 1, 2, 2]))
 
     def test_one_that_is_stopped_leaves_no_file_taken(self):
-        def fails(file):
-            raise PermissionError
-
         with cancelled(self) as job:
-            with Discarder(job, fails, Patience(batch=4, attempts=3, first_wait=3600)) as discarder:
+            with Discarder(job, denied, Patience(batch=4, attempts=3, first_wait=3600)) as discarder:
                 wait_for(lambda: discarder.told().failed == 8)
                 self.assertEqual(job.file_counts(), FileCounts(0, 12, 8))
             self.assertEqual(job.file_counts(), FileCounts(0, 20, 0))
@@ -70,12 +78,8 @@ class Discarding(unittest.TestCase):
             threading.excepthook = hook
 
     def test_a_delete_that_fails_for_ever_is_given_up_and_told(self):
-        def fails(file):
-            raise PermissionError
-
         with cancelled(self) as job:
-            discarder = Discarder(job, fails, QUICK)
-            wait_for(lambda: len(discarder.told().given_up) == 20)
+            discarder = given_up(job, denied)
             self.assertEqual(job.file_counts(), FileCounts(0, 0, 20))
             told = discarder.stop()
             self.assertEqual((told.deleted, told.failed, sorted(told.given_up)), (0, 60, [*range(1, 21)]))
@@ -91,8 +95,7 @@ class Discarding(unittest.TestCase):
             no_folder.write_text("")
             with cancelled(self) as job, Discarder(job, lambda file: (gone / str(file)).unlink(), QUICK) as discarder:
                 wait_for(lambda: discarder.told() == Discarded(20, 0, ()))
-            with cancelled(self) as job, Discarder(job, lambda file: (no_folder / str(file)).unlink(), QUICK) as discarder:
-                wait_for(lambda: len(discarder.told().given_up) == 20)
+            with cancelled(self) as job, given_up(job, lambda file: (no_folder / str(file)).unlink()) as discarder:
                 self.assertEqual(discarder.told().deleted, 0)
 
     def test_a_coordinator_that_is_closed_first_ends_the_threads(self):
@@ -118,12 +121,8 @@ class Discarding(unittest.TestCase):
         self.assertEqual(faults, [])
 
     def test_a_file_that_somebody_else_reports(self):
-        def fails(file):
-            raise PermissionError
-
         with cancelled(self) as job:
-            discarder = Discarder(job, fails, QUICK)
-            wait_for(lambda: len(discarder.told().given_up) == 20)
+            discarder = given_up(job, denied)
             job.deleted(1)  # by hand
             discarder.stop()
             self.assertEqual(job.file_counts(), FileCounts(0, 19, 0))

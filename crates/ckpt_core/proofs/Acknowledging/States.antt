@@ -93,7 +93,7 @@ pub record IsTaking (p : Parts) (now id : ℕ) (s : SubtaskId) (fresh reused : L
   pub stored : IsStored p.store
   pub found : find (has_number id) p.pending ≡ Some r
 
--- where other room was made first
+-- if room was made first
 pub roomier_accepted : {p q : Parts} (now id : ℕ) (s : SubtaskId) (fresh reused : List ℕ) → IsRoomier p q → IsAccepted p (Ack now id s fresh reused) → IsAccepted q (Ack now id s fresh reused)
 roomier_accepted {p} {q} now id s fresh reused r accepted = ap (λ m. refusal m (Ack now id s fresh reused)) (roomier_state r) ∙ accepted
 

@@ -20,7 +20,7 @@ use Rattle.ckpt_core.specs.Refusals.{refusal, refuse_if, first_some, is_running,
 abbrev IsNone : {X : Type 0} → Option X → Type 0
 IsNone o = o ≡ None
 
--- where no row holds, the first does not, and none of the others
+-- if no row holds, the first does not, and none of the others does
 first_row : (row : Option Refusal) (rows : List (Option Refusal)) → IsNone (first_some (row ∷ rows)) → IsNone row × IsNone (first_some rows)
 first_row None rows h = (refl, h)
 first_row (Some why) rows h = absurd (cc)
@@ -51,7 +51,7 @@ none_named : (why : ℕ → Refusal) (o : Option ℕ) → IsNone (named why o) �
 none_named why None h = refl
 none_named why (Some f) h = absurd (cc)
 
--- a row that looks at a pending record, where there is one
+-- a row that looks at a pending record, if there is one
 none_pending : (o : Option Record) (x : Option Refusal) → IsNone (where_pending o x) → (r : Record) → o ≡ Some r → IsNone x
 none_pending None x h r e = absurd (cc)
 none_pending (Some q) x h r e = h
@@ -197,7 +197,7 @@ not_repeat : (o : Option Record) (s : SubtaskId) → ((r : Record) → o ≡ Som
 not_repeat None s h = refl
 not_repeat (Some r) s h = refused_not (has_acknowledged r s) AlreadyAcknowledged (h r refl)
 
--- where no file is found, none is named
+-- if no file is found, none is named
 not_named : (o : Option Record) (why : ℕ → Refusal) (x : Option ℕ) → ((r : Record) → o ≡ Some r → IsNone x) → IsNone (where_pending o (named why x))
 not_named None why x h = refl
 not_named (Some r) why x h = ap (named why) (h r refl)

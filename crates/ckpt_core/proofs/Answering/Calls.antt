@@ -42,7 +42,7 @@ sound_after old new call (Err error) c s a h = sound_unchanged old new s h
 
 -- memory
 
--- so its answer tells whether it may want memory
+-- so its answer determines whether it may want memory
 wants_as_effect : (m : State) (call : Call) → refusal m call ≡ None → may_want_memory m call ≡ answer_wants call (effect (at_moment m (moment_of call)) call).1
 wants_as_effect m call e =
     let wanted : Stepped → Bool = λ stepped. answer_wants call stepped.1 in

@@ -74,7 +74,7 @@ first_there false b v x t e f = f
 abbrev rows_of : Option Record → SubtaskId → Option Refusal → Option Refusal → List (Option Refusal) → List (Option Refusal)
 rows_of o subtask taken gone rows = is_foreign o subtask ∷ is_repeat o subtask ∷ where_pending o taken ∷ where_pending o gone ∷ rows
 
--- where the record is pending
+-- if the record is pending
 pub part_rows : (p : Parts) (id : ℕ) (subtask : SubtaskId) (fresh reused : List ℕ) (rows : List (Option Refusal)) (r : Record) (o : Option Refusal) → AreTied p → pending_of (records_in p) id ≡ Some (with_pins p.registry r) →
     o ≡ first_some (is_foreign (Some r) subtask ∷ is_repeat (Some r) subtask ∷ named NameTaken (find (is_known_in p) fresh) ∷ named FileGone (find (λ f. not (is_present p.registry f)) reused) ∷ []) →
     first_some rows ≡ None →
@@ -88,7 +88,7 @@ part_rows p id subtask fresh reused rows r o tied e h none =
     ∙ ap (λ q. first_some (rows_of q subtask taken gone [])) (sym e)
     ∙ rows_only (rows_of (pending_of (records_in p) id) subtask taken gone []) rows none
 
--- where it is not
+-- if it is not
 pub no_part_rows : (o : Option Record) (subtask : SubtaskId) (taken gone : Option Refusal) (rows : List (Option Refusal)) → o ≡ None → first_some rows ≡ None → None ≡ first_some (rows_of o subtask taken gone rows)
 no_part_rows o subtask taken gone rows e none =
     sym none ∙ ap (λ q. first_some (rows_of q subtask taken gone rows)) (sym e)

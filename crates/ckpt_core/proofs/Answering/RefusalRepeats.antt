@@ -22,7 +22,7 @@ test-from_distinct (x ∷ xs) a =
     let first : list_any (λ y. eqb x y) xs ≡ false = false_from_ne_true (list_any (λ y. eqb x y) xs) (λ e. a.0 (IsIn-from_test x xs e)) in
     ap (λ b. b || has_repeats xs) first ∙ test-from_distinct xs a.1
 
--- where each number is below the next, none stands twice
+-- if each number is below the next, none is there twice
 set-from_adjacent : (xs : List ℕ) → ((k d : ℕ) → suc k < length xs → true ≡ ltb (get_or xs k d) (get_or xs (suc k) d)) → IsAscendingSet xs
 set-from_adjacent [] h = tt
 set-from_adjacent (x ∷ []) h = (tt, tt)
@@ -104,7 +104,7 @@ repeats_across xs ys v false is e shared =
     let each = or_parts (has_repeats xs) (has_repeats ys) (sym is ∙ e) in
     sym (no_repeats xs ys each.0 each.1 (sym shared))
 
--- a test that is made where another failed
+-- a test that is made if another failed
 pub or_first : (a b v : Bool) → a ≡ true → v ≡ true → v ≡ (a || b)
 or_first true b v e h = h
 or_first false b v e h = absurd (both_ways false refl e)

@@ -16,7 +16,7 @@ pub row_last : (row : Option Refusal) (rows : List (Option Refusal)) (o : Option
 row_last None rows o h e = h ∙ sym e
 row_last (Some why) rows o h e = h
 
--- where none holds, the first does not
+-- if none holds, the first does not
 pub first_row-none : (row : Option Refusal) (rows : List (Option Refusal)) → first_some (row ∷ rows) ≡ None → row ≡ None
 first_row-none None rows h = refl
 first_row-none (Some why) rows h = absurd (cc)

@@ -1,4 +1,4 @@
--- Reports on files, which are not tested before they are made: the outbox tells whether the file was fetched.
+-- Reports on files, which are not tested before they are made: the outbox itself finds whether the file was fetched.
 use Rattle.std.proofs.Common.{◌≡◌, ℕ, Bool, true, false, not, eqb, [], ◌∷◌, refl, sym, ap, ◌∙◌, Option, Some, None}
 use Rattle.std.specs.Prelude.{if◌then◌else◌}
 use Rattle.std.specs.List.{list_any}

@@ -35,7 +35,7 @@ use Rattle.ckpt_core.specs.Inside.Moving.{checkpoint_completed, savepoint_comple
 use Rattle.ckpt_core.proofs.Soundness.Completions.{completed}
 use Rattle.ckpt_core.proofs.Soundness.Acks.{with_ack}
 
--- the step, where these numbers go
+-- the step, if the records of these numbers are dropped
 last_step : {p : Parts} {now id : ℕ} {s : SubtaskId} {fresh reused : List ℕ} {r : Record} {more_checkpoints more_savepoints : List Record} → IsTaking p now id s fresh reused r → missing r ≡ 1 →
     IsEnding (taken_in p now id s fresh reused).registry (taken_in p now id s fresh reused).pending p.store.checkpoints p.store.savepoints more_checkpoints more_savepoints (with_ack r s fresh reused) (completed r s fresh reused) →
     (gone left : List ℕ) (records : List Record) → ((x : Record) → IsIn x (replaced (records_in p) (completed (with_pins p.registry r) s fresh reused)) → superseded (completing_in p now r s fresh reused) (completed (with_pins p.registry r) s fresh reused) x ≡ is_noted gone x) →

@@ -24,7 +24,7 @@ is_other id r = not (eqb r.id id)
 other-from_test : (id : ℕ) (r : Record) → is_other id r ≡ true → r.id ≡ id → ⊥
 other-from_test id r h = eqb-false r.id id (not-true (eqb r.id id) h)
 
--- what remains of the uses where the record of this number has ended
+-- what remains of the uses after the record of this number has ended
 abbrev pub still_used : (ℕ → Bool) → ℕ → Use → Bool
 still_used keep id u = keep u.id && not (pins id u)
 

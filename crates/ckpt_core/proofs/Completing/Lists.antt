@@ -1,5 +1,5 @@
 -- Which numbers the completion of a checkpoint notes: those of the pending checkpoints before it, and that of the first
--- completed one where there are now too many.
+-- completed one if there are now too many.
 use Rattle.std.proofs.Common.{◌≡◌, ℕ, ◌+◌, ◌<◌, ◌≤◌, Bool, true, false, not, ◌||◌, cond, ltb, leb, eqb, List, [], ◌∷◌, ◌++◌, map, length, drop, refl, sym, ap, ◌∙◌, inl, inr, ⊎_elim, arith, Some, None}
 use Rattle.std.specs.Prelude.{count_by}
 use Rattle.std.specs.List.{filter}
@@ -133,7 +133,7 @@ noted_parts pending store d x = list_any-append (λ i. eqb x.id i) (earlier d.id
 abbrev pub others : ℕ → List Record → List Record
 others id pending = filter (λ r. not (eqb r.id id)) pending
 
--- what is known where a pending record of the number of d completes
+-- what is known if a pending record of the number of d completes
 pub record IsFinishing (us : List Use) (pending : List Record) (store : Stored) (r d : Record) : Type 0 where
   pub apart : AreApart (grouped us pending store.checkpoints store.savepoints)
   pub there : IsIn r pending
@@ -178,7 +178,7 @@ noted_pending {us} {pending} {store} {r} {d} f x h =
     apart_between (map (with_pins us) pending) done f.apart (with_pins us x) y.0 (IsIn-map (with_pins us) x pending h) (IsIn-append_left y.0 store.checkpoints store.savepoints y.1) y.2) in
     noted_parts (others d.id pending) store d x ∙ ap (λ b. first || b) not_past ∙ or_false first ∙ earlier_is us d.id pending done x f.apart h
 
--- of the completed ones, the first where there are too many
+-- of the completed ones, the first if there are too many
 pub noted_row : {us : List Use} {pending : List Record} {store : Stored} {r d : Record} → IsFinishing us pending store r d → (x : Record) → IsIn x (store.checkpoints ++ d ∷ []) → is_noted (superseded (others d.id pending) store d) x ≡ is_past store.retained (store.checkpoints ++ d ∷ []) x
 noted_row {us} {pending} {store} {r} {d} f x h =
     let row : List Record = store.checkpoints ++ d ∷ [] in

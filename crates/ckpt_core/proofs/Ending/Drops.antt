@@ -167,7 +167,7 @@ drops_from p q ids spare n tied apart is none capacity count =
     let Q : ℕ → Type 0 = λ k. Drops p q (is_noted ids) k in
     subst Q (sym count) (subst P (sym is) (left_drops p ids spare q.ended tied apart none room))
 
--- where no done record is noted, those stay as they are
+-- if no done record is noted, those stay as they are
 pub staying_done : (p : Parts) (ids : List ℕ) → ((r : Record) → IsIn r (p.store.checkpoints ++ p.store.savepoints) → is_noted ids r ≡ false) →
     record p.store { checkpoints = staying ids p.store.checkpoints; savepoints = staying ids p.store.savepoints } ≡ p.store
 staying_done p ids none =
@@ -216,7 +216,7 @@ noted_are_pending p sound groups r h =
     (λ (k : IsIn r of_done). done_not_noted p sound r k ∙ sym (not_from_true r.done (done_in groups r k)))
     (IsIn-append_cases r of_pending of_done (IsIn-from_in_order id_before r (grouped p.registry p.pending p.store.checkpoints p.store.savepoints) h))
 
--- numbers that are noted in the room for them change nothing that the state tells
+-- numbers that are noted in the room for them do not change the state
 pub noted_tied : (p : Parts) (ended : Vec ℕ Global) → AreTied p → vec_capacity ended ≡ vec_capacity p.ended → AreTied (record p { ended = ended })
 noted_tied p ended tied capacity = record {
   uses_are = tied.uses_are;
@@ -230,7 +230,7 @@ pub room_to_note : (p : Parts) (n : ℕ) → AreSound p → n ≤ length p.pendi
 room_to_note p n sound few =
     omega (arith, ap length sound.none_ended, sound.tied.room, length-records_of p.registry p.pending p.store.checkpoints p.store.savepoints, few)
 
--- where the numbers of all pending records were noted
+-- if the numbers of all pending records were noted
 pub pending_dropped : (p q : Parts) (ended : Vec ℕ Global) (n : ℕ) → IsSound (state_of p) → AreGroups p.pending p.store.checkpoints p.store.savepoints → ended.items ≡ numbers p.pending →
     Drops (record p { ended = ended }) q (is_noted ended.items) n → Drops p q is_pending n
 unfolding state_of

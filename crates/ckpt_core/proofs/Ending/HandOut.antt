@@ -52,7 +52,7 @@ can_be_put before after q files is room unknown =
     } in
     subst P (sym is) released_can
 
--- where all uses stay no file is released
+-- if all uses stay, no file is released
 pub nothing_released : (us : List Use) → released us us ≡ []
 nothing_released us =
     let file : Use → ℕ = λ u. u.file in

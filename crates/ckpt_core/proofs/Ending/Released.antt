@@ -39,7 +39,7 @@ IsIn-released f u before after h e gone =
     let there : IsIn f (map file before) = subst P e (IsIn-map file u before h) in
     IsIn-filter (λ g. not (is_present after g)) f (ascending_set (map file before)) (IsIn-in_order_once numbers_in_order f (map file before) there) (not_from_false (is_present after f) gone)
 
--- of records: what they held before is released exactly where it is not held after
+-- of records: what they held before is released exactly if it is not held after
 pub held-from_released : (f : ℕ) (before : List Record) (after : List Use) → IsIn f (released (uses before) after) → is_present (uses before) f ≡ true
 held-from_released f before after h =
     let q = before-from_released f (uses before) after h in
@@ -74,6 +74,6 @@ IsIn-from_test f xs h =
 pub test-from_IsIn : (f : ℕ) (xs : List ℕ) → IsIn f xs → list_any (λ g. eqb f g) xs ≡ true
 test-from_IsIn f xs h = list_any-from_IsIn (λ g. eqb f g) f xs h (eq-eqb f f refl)
 
--- and where the test fails
+-- and if the test fails
 pub not_in-from_test : (f : ℕ) (xs : List ℕ) → list_any (λ g. eqb f g) xs ≡ false → IsIn f xs → ⊥
 not_in-from_test f xs e h = both_ways (list_any (λ g. eqb f g) xs) e (test-from_IsIn f xs h)

@@ -45,7 +45,7 @@ none_accepted : (id : ℕ) (m : State) (call : Call) → IsNoAck call → accept
 none_accepted id m (Ack now its_id subtask fresh reused) n = absurd n
 none_accepted id m call n = refl
 
--- where none is added, they stay
+-- if none is added, they stay
 as_before : (so_far : ℕ → List Acked) (id : ℕ) (m : State) (call : Call) → accepted_by id m call ≡ [] → so_far id ≡ and_then so_far m call id
 as_before so_far id m call none = sym (ap (λ xs. so_far id ++ xs) none ∙ append-nil (so_far id))
 

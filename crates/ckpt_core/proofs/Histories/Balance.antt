@@ -13,12 +13,12 @@ use Rattle.ckpt_core.specs.Soundness.{IsSound}
 use Rattle.ckpt_core.specs.Laws.{CanOpen, AreCalls, along, one_if, registered_by, handed_by, deleted_by, new_by, ShareNone, NoneAgain, Balance, Handed, Accounted, UsedNoMore, Outbox}
 use Rattle.ckpt_core.proofs.Ending.Released.{not_in-from_test}
 use Rattle.ckpt_core.proofs.Records.Lists.{outbox_of}
-use Rattle.ckpt_core.proofs.Histories.Balances.{times_none, times_at_most_once}
+use Rattle.ckpt_core.proofs.Histories.Balances.{times_none}
 use Rattle.ckpt_core.proofs.Histories.StepBalances.{step_settled, newly_present}
 use Rattle.ckpt_core.proofs.Soundness.Calls.{step_keeps}
 use Rattle.ckpt_core.proofs.Soundness.Histories.{opening_is_sound, replay_is_sound}
 use Rattle.ckpt_ids.specs.Counting.{times}
-use Rattle.ckpt_ids.proofs.CountLemmas.{times-from_IsIn, IsIn-from_times, times-append}
+use Rattle.ckpt_ids.proofs.CountLemmas.{times-from_IsIn, IsIn-from_times, times-append, times_at_most_once}
 
 -- from any sound state on
 balance_from : (m : State) (calls : List Call) (f : ℕ) → IsSound m → AreCalls calls → times f (along registered_by m calls) + one_if (is_present (uses m.records) f) ≡ times f (along handed_by m calls) + one_if (is_present (uses (replay m calls).records) f)
@@ -62,7 +62,7 @@ traced_along m (call ∷ calls) handed gone s a t f h =
     let rest = traced_along n calls (handed ++ handed_by m call) (gone ++ deleted_by m call) (step_keeps m call a.0 s) a.1 (step_traces m call handed gone s t) f (subst In (sym (append_assoc handed (handed_by m call) (along handed_by n calls))) h) in
     ⊎_elim (λ (k : IsIn f ((replay n calls).waiting ++ (replay n calls).taken)). inl k) (λ (k : IsIn f ((gone ++ deleted_by m call) ++ along deleted_by n calls)). inr (subst In (append_assoc gone (deleted_by m call) (along deleted_by n calls)) k)) rest
 
--- no file deleted so far is present, where none is reported as new again
+-- no file deleted so far is present, if none is reported as new again
 abbrev AreGone : State → List ℕ → Type 0
 AreGone m gone = (f : ℕ) → IsIn f gone → is_present (uses m.records) f ≡ false
 
@@ -110,7 +110,7 @@ accounted o calls c a f h zero_times not_out =
     (λ (k : IsIn f (along deleted_by (opened o) calls)). k)
     (traced_along (opened o) calls [] [] (opening_is_sound o c) a (λ f h. absurd h) f (handed-from_registered o calls f c a h (absent-from_count m f zero_times)))
 
--- where no deleted file is reported as new again, what was handed out is what was registered and is in no use
+-- if no deleted file is reported as new again, what was handed out is what was registered and is in no use
 pub handed : (o : Opening) (calls : List Call) → CanOpen o → AreCalls calls → Handed o calls
 handed o calls c a none f =
     let m : State = replay (opened o) calls in

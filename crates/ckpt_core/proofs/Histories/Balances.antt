@@ -1,10 +1,10 @@
 -- What a change of the records registers, hands out and leaves present, file by file.
-use Rattle.std.proofs.Common.{◌≡◌, ℕ, zero, suc, ◌+◌, ◌≤◌, true, false, eqb, List, [], ◌∷◌, ◌++◌, length, drop, refl, sym, ap, subst, ◌∙◌, ◌⊎◌, inl, inr, ⊎_elim, arith}
-use Rattle.std.proofs.lemmas.Bool.{cases_Bool, both_ways, eqb-true, eq-eqb, ne_eqb}
+use Rattle.std.proofs.Common.{◌≡◌, ℕ, zero, suc, ◌+◌, ◌<◌, ◌≤◌, true, false, List, [], ◌∷◌, ◌++◌, length, drop, refl, sym, ap, ◌∙◌, ◌⊎◌, ⊎_elim, arith}
+use Rattle.std.proofs.lemmas.Bool.{cases_Bool, cases_lt, both_ways}
 use Rattle.ckpt_ids.specs.Ordered.{IsIn, AreDistinct}
 use Rattle.ckpt_ids.specs.Records.{Record, uses, is_present, released}
 use Rattle.ckpt_core.specs.Laws.{one_if}
-use Rattle.ckpt_ids.proofs.CountLemmas.{count_by_yes, count_by_no}
+use Rattle.ckpt_ids.proofs.CountLemmas.{IsIn-from_times, times-from_IsIn, times_at_most_once}
 use Rattle.ckpt_core.proofs.Using.Present.{IsHeld, IsHeld-from_present, present-from_IsHeld, not_held, absent-from_not_held}
 use Rattle.ckpt_core.proofs.Ending.Released.{ascending-released, after-from_released, held-from_released, released-from_held}
 use Rattle.ckpt_ids.specs.Counting.{times}
@@ -15,30 +15,11 @@ use Rattle.ckpt_ids.proofs.AscendingLemmas.{numbers_in_order}
 
 -- a number that is not in a list is there 0 times
 pub times_none : (f : ℕ) (xs : List ℕ) → (IsIn f xs → ⊥) → times f xs ≡ 0
-times_none f [] none = refl
-times_none f (x ∷ xs) none =
-    count_by_no (λ g. eqb g f) x xs (ne_eqb x f (λ e. none (inl (sym e)))) ∙ times_none f xs (λ h. none (inr h))
+times_none f xs none = ⊎_elim (λ (h : 0 < times f xs). absurd (none (IsIn-from_times f xs h))) (λ (h : times f xs ≤ 0). omega arith) (cases_lt 0 (times f xs))
 
 -- one that is in a list with no number twice is there once
 pub times_once : (f : ℕ) (xs : List ℕ) → AreDistinct xs → IsIn f xs → times f xs ≡ 1
-times_once f [] d h = absurd h
-times_once f (x ∷ xs) d (inl e) =
-    let P : ℕ → Type 0 = λ g. IsIn g xs in
-    let rest : times f xs ≡ 0 = times_none f xs (λ h. d.0 (subst P e h)) in
-    omega (arith, count_by_yes (λ g. eqb g f) x xs (eq-eqb x f (sym e)))
-times_once f (x ∷ xs) d (inr h) =
-    let P : ℕ → Type 0 = λ g. IsIn g xs in
-    count_by_no (λ g. eqb g f) x xs (ne_eqb x f (λ e. d.0 (subst P (sym e) h))) ∙ times_once f xs d.1 h
-
--- in a list with no number twice each is there once at most
-pub times_at_most_once : (f : ℕ) (xs : List ℕ) → AreDistinct xs → times f xs ≤ 1
-times_at_most_once f [] d = omega arith
-times_at_most_once f (x ∷ xs) d =
-    let P : ℕ → Type 0 = λ g. IsIn g xs in
-    ⊎_elim
-    (λ (e : eqb x f ≡ true). let rest : times f xs ≡ 0 = times_none f xs (λ h. d.0 (subst P (sym (eqb-true x f e)) h)) in omega (arith, count_by_yes (λ g. eqb g f) x xs e))
-    (λ (e : eqb x f ≡ false). let rest : times f xs ≤ 1 = times_at_most_once f xs d.1 in omega (arith, count_by_no (λ g. eqb g f) x xs e))
-    (cases_Bool (eqb x f))
+times_once f xs d h = omega (arith, times_at_most_once f xs d, times-from_IsIn f xs h)
 
 -- Before, each file that is registered or present: it is handed out or present after, as often.
 pub record IsEven (before after : List Record) (in_ out : List ℕ) : Type 0 where

@@ -69,7 +69,7 @@ dropped_moves m dropped disposed other = record {
   savepoints = λ r h done savepoint. ⊎_elim (λ (e : dropped r ≡ false). inl (not_from_false (dropped r) e)) (λ (e : disposed ≡ Some r.id). inr e) (other r h done savepoint);
 }
 
--- and then one is triggered, where the number and the choice are those of the state before
+-- and then one is triggered, if the number and the choice are those of the state before
 pub triggered_moves : (m k : State) (kind : Kind) (disposed : Option ℕ) → k.next ≡ m.next → pins_now k ≡ pins_now m → IsMoved m disposed k.records → IsMoved m disposed (k.records ++ new_record k kind ∷ [])
 triggered_moves m k kind disposed next pins i =
     let its : Record = new_record k kind in

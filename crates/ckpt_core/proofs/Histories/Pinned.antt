@@ -93,7 +93,7 @@ has_pins_first m call number s e =
           (step_came m call s y h pending);
     }
 
--- where the row that decides is FileGone
+-- if the row that decides is FileGone
 
 -- the row that decides is the first or a later one
 this_or_later : (row : Option Refusal) (rows : List (Option Refusal)) (why : Refusal) → first_some (row ∷ rows) ≡ Some why → (row ≡ Some why) ⊎ (first_some rows ≡ Some why)

@@ -27,7 +27,7 @@ pub record IsTaken (m : State) (q : Record) (a : Acked) (after : List Record) : 
   pub pins : new.done ≡ false → new.pins ≡ q.pins
   pub savepoints : (r : Record) → IsIn r m.records → r.done ≡ true → is_checkpoint r ≡ false → keep r ≡ true
 
--- where a record after it comes from
+-- a record after it is the new one, or one of the others
 pub taken_from : {m : State} {q : Record} {a : Acked} {after : List Record} (i : IsTaken m q a after) → (y : Record) → IsIn y after → (y ≡ i.new) ⊎ ((y.id ≡ q.id → ⊥) × IsIn y m.records)
 taken_from {m} {q} {a} {after} i y h =
     let There : List Record → Type 0 = λ rs. IsIn y rs in

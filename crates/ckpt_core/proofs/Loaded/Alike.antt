@@ -1,4 +1,4 @@
--- No call tells in which order files were fetched.
+-- No answer depends on the order in which files were fetched.
 use Rattle.std.proofs.Common.{◌≡◌, ℕ, ◌+◌, max, Bool, true, false, not, ◌&&◌, ◌||◌, cond, ltb, eqb, List, [], ◌∷◌, ◌++◌, take, refl, sym, ap, subst, ◌∙◌, ⊎_elim}
 use Rattle.std.specs.Prelude.{count_by, find, length, Option, Some, None}
 use Rattle.std.specs.Prelude as prelude

@@ -160,7 +160,7 @@ tied-checkpoint {p} {q} {x} tied newest m =
       room = omega (arith, longer, m.room);
     }
 
--- none goes where there is room for one more
+-- none is dropped if there is room for one more
 pub none_surplus : (n : ℕ) (rs : List Record) (x : Record) → length rs < n → retained_of n (rs ++ x ∷ []) ≡ rs ++ x ∷ []
 none_surplus n rs x fewer =
     let longer : length (rs ++ x ∷ []) ≡ length rs + 1 = length-append rs (x ∷ []) in

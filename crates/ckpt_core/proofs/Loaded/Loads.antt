@@ -32,7 +32,7 @@ none_mapped : (o : Option Record) → option_map live_of o ≡ None → o ≡ No
 none_mapped None e = refl
 none_mapped (Some r) e = absurd (let f : ◌≡◌ {A = Option Live} (Some (live_of r)) None = e in (cc))
 
--- where none is found from a number on, all are below it
+-- if none is found from a number on, all are below it
 pub above_all : (id : ℕ) (rs : List Record) (found : Option Live) → found ≡ option_map live_of (find (is_from id) rs) → found ≡ None → (s : Record) → IsIn s rs → s.id < id
 above_all id rs found e none s h = leb-false id s.id (fails-from_find (is_from id) s rs (none_mapped (find (is_from id) rs) (sym e ∙ none)) h)
 
@@ -40,7 +40,7 @@ some_mapped : (id : ℕ) (rs : List Record) (o : Option Record) (live : Live) �
 some_mapped id rs None live e f = absurd (let g : ◌≡◌ {A = Option Live} (Some live) None = f in (cc))
 some_mapped id rs (Some r) live e f = let k = IsIn-from_find (is_from id) r rs e in (r, k.0, k.1)
 
--- where one is found, not all are
+-- if one is found, not all are
 pub not_above_all : (id : ℕ) (rs : List Record) (found : Option Live) (live : Live) → found ≡ option_map live_of (find (is_from id) rs) → found ≡ Some live → ((s : Record) → IsIn s rs → s.id < id) → ⊥
 not_above_all id rs found live e some above =
     let k = some_mapped id rs (find (is_from id) rs) live refl (sym some ∙ e) in

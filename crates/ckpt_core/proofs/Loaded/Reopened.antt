@@ -1,4 +1,4 @@
--- A coordinator that is made of an image, step by step: what the state tells of the parts, and when it can be held.
+-- A coordinator that is made of an image, step by step: what the state says about the parts, and when it can be held.
 use Rattle.std.proofs.Common.{◌≡◌, ◌≢◌, ℕ, ◌+◌, ◌-◌, ◌<◌, Bool, true, ◌||◌, List, [], ◌∷◌, ◌++◌, length, map, take, drop, get_or, refl, sym, ap, subst, ◌∙◌, inl, ⊎_elim, Option, Some, arith}
 use Rattle.std.proofs.lemmas.Bool.{both_ways}
 use Rattle.std.proofs.lemmas.List.{append_assoc, length-append, take-append-drop, take_more}
@@ -190,7 +190,7 @@ not_all_done p pending some all =
 pub apart_behind : {us : List Use} (xs ys : List ℕ) → AreFilesApart us (xs ++ ys) → AreFilesApart us ys
 apart_behind xs ys a = record { unused = λ f h. a.unused f (IsIn-append_right f xs ys h); apart = AreDistinct-right xs ys a.apart }
 
--- a file that is known where it is put is in use, or stands twice
+-- a file that is already known when it is put there is in use, or is there twice
 pub known_twice : (us : List Use) (waiting files taken : List ℕ) (i f : ℕ) → i < length files → f ≡ get_or files i f → (is_present us f || is_in f ((waiting ++ take i files) ++ taken)) ≡ true → AreFilesApart us ((waiting ++ files) ++ taken) → ⊥
 known_twice us waiting files taken i f within at known a =
     let rest : List ℕ = drop (i + 1) files in
@@ -223,7 +223,7 @@ unfolding state_of
 state_files p q o waiting taken e a b =
     ap state_of e ∙ ap (λ (xs : List ℕ). record (state_of p) { waiting = xs; taken = o.taken }) a ∙ ap (λ (xs : List ℕ). record (state_of p) { waiting = waiting; taken = xs }) b
 
--- the state, step by step, where the image tells m
+-- the state, step by step, for the image of m
 
 pub after_records : (m : State) (p0 p1 : Parts) (slice : List Saved) → state_of p0 ≡ emptied m → state_of p1 ≡ record (state_of p0) { records = map record_in slice } → map record_in slice ≡ m.records → state_of p1 ≡ record (emptied m) { records = m.records }
 after_records m p0 p1 slice e0 e1 same = e1 ∙ ap (λ (s : State). record s { records = map record_in slice }) e0 ∙ ap (λ (rs : List Record). record (emptied m) { records = rs }) same

@@ -85,7 +85,7 @@ saved_next rs n r order e =
     let k : ℕ = count_by (is_below n) rs in
     ap (λ (j : ℕ). take j rs) (one_more n r rs order e) ∙ ap (λ (j : ℕ). take j rs) (add-one k) ∙ take_found rs k r (sym (found_at n rs order) ∙ e)
 
--- where none is found, all are saved
+-- if none is found, all are saved
 pub saved_all : (rs : List Record) (n : ℕ) → IsInOrder id_before rs → None ≡ option_map live_of (find (is_from n) rs) → take (count_by (is_below n) rs) rs ≡ rs
 saved_all rs n order e =
     let k : ℕ = count_by (is_below n) rs in

@@ -20,7 +20,7 @@ use Rattle.ckpt_core.specs.Steps.{Stepped, after_expiry, dropped_by, effect, fai
 use Rattle.ckpt_core.proofs.Answering.StepCases.{step_accepted, step_refused}
 use Rattle.ckpt_core.proofs.Histories.StepViews.{refused_or_not}
 
--- what each hold tells of the moment
+-- what each hold says about the moment
 abbrev Tells : ℕ → ℕ → ℕ → Hold → Type 0
 Tells due ends t Interval = t < due
 Tells due ends t AtOnce = ⊤

@@ -18,7 +18,7 @@ use Rattle.ckpt_core.proofs.Ending.Drops.{groups_of}
 use Rattle.ckpt_core.proofs.Records.GroupLookups.{same_tests}
 use Rattle.ckpt_core.proofs.Records.Lookups.{AreGroups, done_in}
 
--- the moment tells when the first of these records started
+-- the moment is when the first of these records started
 abbrev pub TellsLeast : List Record → Option ℕ → Type 0
 TellsLeast xs o = (t : ℕ) → list_any (λ r. leb r.started t) xs ≡ has_come o t
 

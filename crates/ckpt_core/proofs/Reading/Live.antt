@@ -131,7 +131,7 @@ is_below n r = ltb r.id n
 all_from : (n : ℕ) (x : Record) (xs : List Record) → IsInOrder id_before (x ∷ xs) → n ≤ x.id → (y : Record) → IsIn y xs → n ≤ y.id
 all_from n x xs order low y h = let above : x.id < y.id = ltb-true x.id y.id (ComesBefore-at id_before x y xs order.0 h) in omega arith
 
--- what is found from a number on stands where those below it end
+-- the first record from a number on comes right after those below it
 pub found_at : (n : ℕ) (xs : List Record) → IsInOrder id_before xs → find (is_from n) xs ≡ slice_get xs (count_by (is_below n) xs)
 found_at n [] order = refl
 found_at n (x ∷ xs) order =
@@ -176,7 +176,7 @@ past (y ∷ ys) zero e j h = absurd (cc)
 past (y ∷ ys) (suc k) e zero h = absurd (omega arith)
 past (y ∷ ys) (suc k) e (suc j) h = let l : length ys ≤ j = past ys k e j (omega arith) in omega arith
 
--- where none is found, all are below
+-- if none is found, all are below
 none_above : (n : ℕ) (xs : List Record) → IsInOrder id_before xs → slice_get xs (count_by (is_below n) xs) ≡ None → (place : ℕ) → count_by (is_below n) xs ≤ place → slice_get xs place ≡ None
 none_above n xs order e place h = slice_get_past xs place (past xs (count_by (is_below n) xs) e place h)
 

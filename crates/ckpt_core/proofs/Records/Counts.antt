@@ -15,7 +15,7 @@ count_by_at_most_more p x xs =
     (λ (e : p x ≡ false). omega (arith, count_by_no p x xs e))
     (cases_Bool (p x))
 
--- a test that passes where another does counts no less
+-- a test that passes whenever another does counts no less
 pub count_by-le : {X : Type 0} (p q : X → Bool) (xs : List X) → ((x : X) → IsIn x xs → p x ≡ true → q x ≡ true) → count_by p xs ≤ count_by q xs
 count_by-le p q [] f = omega arith
 count_by-le {X} p q (x ∷ xs) f =
@@ -37,14 +37,14 @@ count_by-changed {X} {Y} t s f keep (x ∷ xs) h =
     let gone : keep x ≡ false → Goal (keep x) = λ (e : keep x ≡ false). let g : Goal false = omega (arith, count_by-cons s x xs) in subst Goal (sym e) g in
     ⊎_elim kept gone (cases_Bool (keep x))
 
--- where an element comes from, that a filter kept and a change made
+-- an element of a list that was filtered and changed comes from one that was kept
 pub IsIn-from_changed : {X Y : Type 0} (f : X → Y) (keep : X → Bool) (y : Y) (xs : List X) → IsIn y (map f (filter keep xs)) → (x : X) × IsIn x xs × (keep x ≡ true) × (y ≡ f x)
 IsIn-from_changed f keep y xs h =
     let q = IsIn-from_map f y (filter keep xs) h in
     let k = IsIn-from_filter keep q.0 xs q.1 in
     (q.0, k.0, k.1, q.2)
 
--- where it goes to
+-- an element that was kept is there, changed
 pub IsIn-changed : {X Y : Type 0} (f : X → Y) (keep : X → Bool) (x : X) (xs : List X) → IsIn x xs → keep x ≡ true → IsIn (f x) (map f (filter keep xs))
 IsIn-changed f keep x xs h k = IsIn-map f x (filter keep xs) (IsIn-filter keep x xs h k)
 
@@ -58,7 +58,7 @@ IsIn-from_find {X} p x (y ∷ xs) h =
     let later : p y ≡ false → Goal = λ (e : p y ≡ false). let k : find p xs ≡ Some x = subst P e h in let q = IsIn-from_find p x xs k in (inr q.0, q.1) in
     ⊎_elim here later (cases_Bool (p y))
 
--- where nothing is found, none passes
+-- if nothing is found, none passes
 pub fails-from_find : {X : Type 0} (p : X → Bool) (x : X) (xs : List X) → find p xs ≡ None → IsIn x xs → p x ≡ false
 fails-from_find p x [] e h = absurd h
 fails-from_find {X} p x (y ∷ xs) e h =
@@ -68,7 +68,7 @@ fails-from_find {X} p x (y ∷ xs) e h =
     ⊎_elim (λ (same : x ≡ y). ap p same ∙ t) (λ (later : IsIn x xs). fails-from_find p x xs k later) h in
     ⊎_elim yes no (cases_Bool (p y))
 
--- where none passes, nothing is found
+-- if none passes, nothing is found
 pub find-none : {X : Type 0} (p : X → Bool) (xs : List X) → ((x : X) → IsIn x xs → p x ≡ false) → find p xs ≡ None
 find-none p [] f = refl
 find-none {X} p (x ∷ xs) f = ap (λ b. cond b (Some x) (find p xs)) (f x (inl refl)) ∙ find-none p xs (λ y h. f y (inr h))

@@ -1,4 +1,4 @@
--- What is held where a record is put in the place of another, and where it has one acknowledgement more.
+-- What is held after a record is put in the place of another, and after it gets one more acknowledgement.
 use Rattle.std.proofs.Common.{◌≡◌, ℕ, List, ◌++◌, map, refl, sym, subst, ◌⊎◌, inl, inr, ⊎_elim, ltb, eqb}
 use Rattle.std.proofs.lemmas.Bool.{cond-true, eq-eqb}
 use Rattle.ckpt_ids.specs.declared.ack.Acked.{Acked}
@@ -27,7 +27,7 @@ held_by_put f rs old new there same h =
     let P : Record → Type 0 = λ r. IsIn r (map (put_in new) rs) in
     (new, subst P (cond-true (eqb old.id new.id) new old (eq-eqb old.id new.id (sym same))) (IsIn-map (put_in new) old rs there), h)
 
--- what was held before is held after, where the record put in holds what the old one held
+-- what was held before is held after, if the record put in holds what the old one held
 pub held_beside_put : (f : ℕ) (rs : List Record) (old new : Record) → IsReplacing (put_in new) old new rs → IsIn old rs → new.id ≡ old.id → (Holds f old → Holds f new) → IsHeld f rs → IsHeld f (map (put_in new) rs)
 held_beside_put f rs old new p there same more h =
     let P : Record → Type 0 = λ r. IsIn r (map (put_in new) rs) in

@@ -59,7 +59,7 @@ outbox_of {m} s = record {
   apart = s.apart;
 }
 
--- a state is sound where its parts are
+-- a state is sound if its parts are
 pub sound_from : (m : State) → IsSoundHead m → AreSoundRecords m.opening m.next m.records → IsSoundOutbox m.records m.waiting m.taken → IsSound m
 sound_from m h r o = record {
   config = h.config;

@@ -56,7 +56,7 @@ find-from_IsIn id q (r ∷ rs) order (inr h) e =
     (λ (t : has_id id r ≡ false). subst P (sym t) (find-from_IsIn id q rs order.1 h e))
     (cases_Bool (has_id id r))
 
--- where a record is found, its place is answered
+-- if there is such a record, its place is found
 pub place_there : (id : ℕ) (answer : Option ℕ) (rs : List Record) → IsSome (find (has_id id) rs) → IfNone answer (list_any (has_id id) rs ≡ false) → IsSome answer
 place_there id (Some place) rs there absent = refl
 place_there id None rs there absent =

@@ -87,7 +87,7 @@ replacing_is_record {change} {old} {new} p each i x h =
     (λ (e : (x.id ≡ old.id → ⊥) × (change x ≡ x)). subst IsRecord (sym e.1) (each x h))
     (p.cases x h)
 
--- a done checkpoint after it was one before, where the record put in is none
+-- a done checkpoint after it was one before, if the record put in is none
 done_checkpoint_before : {change : Record → Record} {old new : Record} {rs : List Record} → IsReplacing change old new rs → is_done_checkpoint new ≡ false → (x : Record) → IsIn x rs → is_done_checkpoint (change x) ≡ true → is_done_checkpoint x ≡ true
 done_checkpoint_before {change} {old} {new} p none x h d =
     ⊎_elim
@@ -103,7 +103,7 @@ replaced_records {o} {next} {rs} {change} q a p pending kind started i none =
     changed_records change q a p.same kept (λ x h _. replacing_is_record p a.each i x h) (omega (arith, a.retained))
     (λ x y h k _ _ t d. a.newer x y h k (pending_checkpoint_before x (change x) (kept x h) t) (done_checkpoint_before p none y k d))
 
--- a record put in that is a done checkpoint keeps it sound, where all pending checkpoints before it are dropped, and enough of the done ones
+-- a record put in that is a done checkpoint keeps it sound, if all pending checkpoints before it are dropped, and enough of the done ones
 pub completed_records : {o : Opening} {next : ℕ} {rs : List Record} {change : Record → Record} {old new : Record} (q : Record → Bool) → AreSoundRecords o next rs → IsReplacing change old new rs → old.done ≡ false → new.done ≡ true → new.kind ≡ old.kind → new.started ≡ old.started → IsRecord new → count_by is_done_checkpoint (map change (filter q rs)) ≤ o.config.retained → ((x : Record) → IsIn x rs → q x ≡ true → change x ≡ x → is_pending_checkpoint x ≡ true → old.id ≤ x.id) → AreSoundRecords o next (map change (filter q rs))
 completed_records {o} {next} {rs} {change} {old} {new} q a p pending done kind started i retained after =
     changed_records change q a p.same (replacing_keeps p pending kind started) (λ x h _. replacing_is_record p a.each i x h) retained newer

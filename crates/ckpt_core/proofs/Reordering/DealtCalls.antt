@@ -52,7 +52,7 @@ below-dealt {X} seats xs some x h =
     let within : (q.0).0 % seats < seats = omega arith in
     subst P (sym (ap (λ (y : ℕ × X). y.0) q.2)) within
 
--- where each seat has what was dealt out to it
+-- if each seat has what was dealt out to it
 pub same_as_dealt : {X : Type 0} (seats : ℕ) (xs : List X) (made : List (ℕ × X)) → 0 < seats → SeatsFrom seats made → ((seat : ℕ) → seat < seats → of_seat seat made ≡ dealt_out seats seat xs) → SameBySeat (dealt seats xs) made
 same_as_dealt {X} seats xs made some below each seat =
     let dealt_there : of_seat seat (dealt seats xs) ≡ dealt_out seats seat xs = of_seat-map (λ (p : ℕ × X). p.0 % seats) (λ (p : ℕ × X). p.1) seat (enumerate_from 0 xs) in

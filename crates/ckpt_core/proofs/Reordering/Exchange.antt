@@ -39,7 +39,7 @@ left_pending n w lacks =
     let c : Record = record w { done = true } in
     cond-false (eqb (missing w) 0) (completed_with (with_records n (replaced n.records c)) c) (with_records n (replaced n.records w), Done (reply.AckPending (missing w))) lacks
 
--- what an answer tells of the call
+-- what follows for the call from its answer
 
 -- an answer AckPending is no refusal
 pending_not_refused : (m : State) (call : Call) (o : Option Refusal) → is_ack_pending (unless_refused m call o).1 ≡ true → o ≡ None

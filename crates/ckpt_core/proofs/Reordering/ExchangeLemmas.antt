@@ -120,7 +120,7 @@ replaced_twice v w (x ∷ rs) same =
     (cases_Bool (eqb x.id w.id)) in
     ap (λ y. y ∷ replaced (replaced rs w) v) here ∙ ap (λ ys. put_in v x ∷ ys) (replaced_twice v w rs same)
 
--- what `find` finds where one alone passes
+-- what `find` finds if only one element passes
 pub find-only : {X : Type 0} (p : X → Bool) (x : X) (xs : List X) → IsIn x xs → p x ≡ true → ((y : X) → IsIn y xs → p y ≡ true → y ≡ x) → find p xs ≡ Some x
 find-only p x [] h t only = absurd h
 find-only {X} p x (y ∷ xs) h t only =

@@ -27,7 +27,7 @@ option_or-swap None p q apart = refl
 option_or-swap (Some x) None q apart = refl
 option_or-swap (Some x) (Some y) q apart = absurd (apart refl refl)
 
--- an answer in the midst, where no other completes beside it
+-- an answer in the middle, if at most one completes
 first-midst : (a : Answer) (front back : List Answer) → count_by is_completing (a ∷ front ++ back) ≤ 1 → first_completed (front ++ a ∷ back) ≡ first_completed (a ∷ front ++ back)
 first-midst a [] back once = refl
 first-midst a (b ∷ front) back once =
@@ -36,7 +36,7 @@ first-midst a (b ∷ front) back once =
     let apart : is_completing b ≡ true → is_completing a ≡ true → ⊥ = λ h k. let no : ⊥ = omega (arith, count_by_yes is_completing a (b ∷ rest) k, count_by_yes is_completing b rest h) in no in
     ap (option_or (completed_by b)) (first-midst a front back fewer) ∙ option_or-swap (completed_by b) (completed_by a) (first_completed rest) apart
 
--- where at most one completes, the order does not matter
+-- if at most one completes, the order does not matter
 first-rearranged : (xs ys : List Answer) → Rearranged xs ys → count_by is_completing xs ≤ 1 → first_completed xs ≡ first_completed ys
 first-rearranged [] ys e once = ap first_completed (sym e)
 first-rearranged (a ∷ xs) ys r once =

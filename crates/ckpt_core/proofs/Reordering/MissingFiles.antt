@@ -31,7 +31,7 @@ find-narrower {X} wide narrow x (y ∷ ys) within found passes =
     (λ (e : wide y ≡ false). cond-false (narrow y) (Some y) (find narrow ys) (not_it e) ∙ later e)
     (cases_Bool (wide y))
 
--- the record of a number, where it is pending
+-- the record of a number, if it is pending
 pub pending_record : (m : State) (id : ℕ) (r : Record) → record_of m id ≡ Some r → r.done ≡ false → pending_of m.records id ≡ Some r
 pending_record m id r found pending =
     let wide : Record → Bool = λ x. eqb x.id id in

@@ -72,7 +72,7 @@ was_given m id r s found =
     let below : r.id < m.next = s.below_next r there.0 in
     or_from (ltb id m.opening.first) (leb m.next id) (le-ltb id m.opening.first (omega arith)) (lt-leb m.next id (omega arith))
 
--- all of them where the moment is too large
+-- all of them if the moment is too large
 pub refused_late : (m : State) (now id : ℕ) (n : NewFile) → leb (2 ^ 62) now ≡ true → refusal m (ack_with now id n) ≡ Some MomentTooLarge
 unfolding refusal
 refused_late m now id n late = sym (row_holds MomentTooLarge (refuse_if (leb (2 ^ 62) now) MomentTooLarge) _ (ap (λ b. refuse_if b MomentTooLarge) (sym late)))
@@ -126,7 +126,7 @@ after_new m now r n = with_records (record m { latest = max now m.latest }) (rep
 lacks_still : (r : Record) (a b : NewFile) → (a.subtask ≡ b.subtask → ⊥) → Lacks r b → Lacks (with_new r a) b
 lacks_still r a b ne l = (l.0, has_not_after r a.subtask b.subtask (ascending ((a.file ∷ []) ++ [])) (λ e. ne (sym e)) l.1)
 
--- the record is pending still where it lacks another subtask
+-- the record is still pending if it lacks another subtask
 abbrev Left : State → ℕ → ℕ → Record → NewFile → Type 0
 Left m now id r a = step m (ack_with now id a) ≡ (after_new m now r a, Done (reply.AckPending (missing (with_new r a))))
 
@@ -172,7 +172,7 @@ first_of_two m now id a b wa wb ne =
     (λ (e : (why : Refusal) × (refusal m call ≡ Some why)). inl (e.0, step_refused m call e.0 e.1))
     (cases_refusal (refusal m call))
 
--- so what holds where it is refused and where it leaves the record pending holds
+-- so a fact holds if it holds for a refusal and for an answer that leaves the record pending
 after_first : (m : State) (now id : ℕ) (a b : NewFile) (wa : Awaits m id a) → Awaits m id b → (a.subtask ≡ b.subtask → ⊥) → (P : Stepped → Type 0) → ((why : Refusal) → P (m, Refused why)) → P (after_new m now wa.r a, Done (reply.AckPending (missing (with_new wa.r a)))) → P (step m (ack_with now id a))
 after_first m now id a b wa wb ne P refused pending =
     ⊎_elim
@@ -190,7 +190,7 @@ awaits_after m now id a b s wa wb ne =
       lacks = lacks_still wa.r a b ne (same_record wa wb);
     })
 
--- a file that is not the first's is known after it where it was before
+-- a file that is not the first's is known after it if it was known before
 pub known_after : (m : State) (now id : ℕ) (a b : NewFile) (f : ℕ) → IsSound m → Awaits m id a → Awaits m id b → (a.subtask ≡ b.subtask → ⊥) → (f ≡ a.file → ⊥) → is_known (step m (ack_with now id a)).0 f ≡ is_known m f
 known_after m now id a b f s wa wb ne other =
     let P : Stepped → Type 0 = λ x. is_known x.0 f ≡ is_known m f in

@@ -82,7 +82,7 @@ of_seat-its seat x xs e = of_seat-cons seat x xs ∙ cond-true (eqb x.0 seat) (x
 pub of_seat-other : {X : Type 0} (seat : ℕ) (x : ℕ × X) (xs : List (ℕ × X)) → eqb x.0 seat ≡ false → of_seat seat (x ∷ xs) ≡ of_seat seat xs
 of_seat-other seat x xs e = of_seat-cons seat x xs ∙ cond-false (eqb x.0 seat) (x.1 ∷ of_seat seat xs) (of_seat seat xs) e
 
--- where a value stands that is a seat's first: without it that seat has the rest, and every other has what it had
+-- the place of a seat's first value: without it that seat has the rest, and every other has what it had
 record IsFirst {X : Type 0} (seat : ℕ) (x : X) (rest : List X) (ys : List (ℕ × X)) : Type 0 where
   front : List (ℕ × X)
   back : List (ℕ × X)
@@ -127,7 +127,7 @@ first_of_seat {X} seat x rest (y ∷ ys) e =
     (λ (at : eqb y.0 seat ≡ false). first_later seat x rest y ys at (later at))
     (cases_Bool (eqb y.0 seat))
 
--- where no seat has anything there is nothing
+-- if no seat has a value, the list is empty
 empty-by_seat : {X : Type 0} (ys : List (ℕ × X)) → SameBySeat [] ys → ys ≡ []
 empty-by_seat [] same = refl
 empty-by_seat {X} (y ∷ ys) same = let e : [] ≡ y.1 ∷ of_seat y.0 ys = same y.0 ∙ of_seat-its y.0 y ys (eq-eqb y.0 y.0 refl) in absurd (cc)

@@ -101,7 +101,7 @@ outbox_acked {m} {q} {subtask} {fresh} {reused} new s a id acks pins =
 pub savepoint_is_other : (id : ℕ) (x q : Record) → q.done ≡ false → is_savepoint id x ≡ true → x ≡ q → ⊥
 savepoint_is_other id x q pending t e = both_ways x.done (ap (λ z. z.done) e ∙ pending) (and_parts x.done (not (is_checkpoint x)) (and_parts (x.done && not (is_checkpoint x)) (eqb x.id id) t).0).0
 
--- a done savepoint stays, where nothing is dropped and a pending record is replaced
+-- a done savepoint stays, if nothing is dropped and a pending record is replaced
 pub savepoint_beside : {change : Record → Record} {old new : Record} {rs : List Record} (id : ℕ) → IsReplacing change old new rs → old.done ≡ false → list_any (is_savepoint id) rs ≡ true → list_any (is_savepoint id) (map change (filter (λ _. true) rs)) ≡ true
 savepoint_beside {change} {old} {new} {rs} id p pending e =
     savepoint_stays change (λ _. true) id rs (λ x h t. (refl, ⊎_elim (λ (c : (x ≡ old) × (change x ≡ new)). absurd (savepoint_is_other id x old pending t c.0)) (λ (c : (x.id ≡ old.id → ⊥) × (change x ≡ x)). c.1) (p.cases x h))) e

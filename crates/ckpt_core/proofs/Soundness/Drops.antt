@@ -79,7 +79,7 @@ moment_is_sound m now s within =
       failures = s.failures;
     }) (records_of s) (outbox_of s)
 
--- no pending record is left where all are dropped
+-- no pending record is left if all are dropped
 pub none_pending_left : (rs : List Record) (dropped : Record → Bool) → ((r : Record) → is_pending r ≡ true → dropped r ≡ true) → (r : Record) → IsIn r (map (λ r. r) (filter (λ r. not (dropped r)) rs)) → r.done ≡ true
 none_pending_left rs dropped all r h =
     let p = IsIn-from_changed (λ (r : Record). r) (λ r. not (dropped r)) r rs h in

@@ -108,7 +108,7 @@ new_record_is m kind s = record {
   unpinned = λ e. absurd (both_ways false refl e);
 }
 
--- the records with it are sound, where there is room for it
+-- the records with it are sound, if there is room for it
 records_triggered : (m : State) (kind : Kind) → IsSound m → count_by is_pending_checkpoint (m.records ++ new_record m kind ∷ []) ≤ limit m.opening.config → count_by (λ r. not (is_checkpoint r)) (m.records ++ new_record m kind ∷ []) ≤ 1000 → AreSoundRecords m.opening (m.next + 1) (m.records ++ new_record m kind ∷ [])
 records_triggered m kind s at_once savepoints_to = appended_records (new_record m kind) (records_of s) s.next_from refl refl (new_record_is m kind s) s.latest at_once savepoints_to
 
@@ -125,7 +125,7 @@ outbox_triggered m kind s =
       apart = o.apart;
     }
 
--- a trigger, where the job runs and there is room
+-- a trigger, if the job runs and there is room
 triggered_is_sound : (m : State) (kind : Kind) (due : ℕ) → IsSound m → m.mode ≡ Running → m.next < 2 ^ 62 → count_by is_pending_checkpoint (m.records ++ new_record m kind ∷ []) ≤ limit m.opening.config → count_by (λ r. not (is_checkpoint r)) (m.records ++ new_record m kind ∷ []) ≤ 1000 → IsSound (record (triggered m kind) { due = due })
 unfolding triggered
 triggered_is_sound m kind due s running room at_once savepoints_to =
@@ -141,7 +141,7 @@ triggered_is_sound m kind due s running room at_once savepoints_to =
       failures = s.failures;
     }) (records_triggered m kind s at_once savepoints_to) (outbox_triggered m kind s)
 
--- a checkpoint, where one more may be pending
+-- a checkpoint, if one more may be pending
 pub checkpoint_is_sound : (m : State) (due : ℕ) → IsSound m → m.mode ≡ Running → m.next < 2 ^ 62 → pending_checkpoints m < limit m.opening.config → IsSound (record (triggered m kind.Checkpoint) { due = due })
 checkpoint_is_sound m due s running room fewer =
     let new : Record = new_record m kind.Checkpoint in
@@ -151,7 +151,7 @@ checkpoint_is_sound m due s running room fewer =
     (omega (arith, count_by-append is_pending_checkpoint m.records (new ∷ []), count_by_yes is_pending_checkpoint new [] refl))
     (omega (arith, count_by-append savepoint m.records (new ∷ []), count_by_no savepoint new [] refl))
 
--- a savepoint, where there is room for one
+-- a savepoint, if there is room for one
 pub savepoint_is_sound : (m : State) → IsSound m → m.mode ≡ Running → m.next < 2 ^ 62 → savepoints m < 1000 → IsSound (triggered m kind.Savepoint)
 unfolding triggered
 savepoint_is_sound m s running room fewer =
@@ -162,7 +162,7 @@ savepoint_is_sound m s running room fewer =
     (omega (arith, count_by-append is_pending_checkpoint m.records (new ∷ []), count_by_no is_pending_checkpoint new [] refl))
     (omega (arith, count_by-append savepoint m.records (new ∷ []), count_by_yes savepoint new [] refl))
 
--- nothing holds a checkpoint back only where fewer are pending than may be
+-- nothing holds a checkpoint back only if fewer are pending than may be
 pub fewer-from_go : (c : Configuration) (due : ℕ) (completed : Option ℕ) (t pending : ℕ) → hold c due completed t pending ≡ Go → pending < limit c
 fewer-from_go c due completed t pending e =
     let inner : Hold = cond (ltb t (pause_ends c completed)) Pause Go in
@@ -178,7 +178,7 @@ fewer-from_go c due completed t pending e =
     (cases_Bool (leb (limit c) pending)) in
     ⊎_elim waits goes (cases_Bool (ltb t due))
 
--- where a tick does not fail over, few enough checkpoints have failed
+-- if a tick does not fail over, few enough checkpoints have failed
 pub few_failures : (late failures tolerable : ℕ) → failures ≤ tolerable → (ltb 0 late && ltb tolerable (failures + late)) ≡ false → failures + late ≤ tolerable
 few_failures late failures tolerable few e =
     ⊎_elim

@@ -101,7 +101,7 @@ savepoint_is : (m : State) (call : Call) → m.mode ≡ Running → m.next < 2 ^
 unfolding triggered
 savepoint_is m call running room fewer = triggered_is m m call kind.Savepoint m.due (unchanged m call) refl (λ _. refl) (λ s. savepoint_is_sound m s running room fewer)
 
--- where a decline does not fail over, few enough checkpoints have failed
+-- if a decline does not fail over, few enough checkpoints have failed
 few_after_decline : (checkpoint : Bool) (failures tolerable : ℕ) → failures ≤ tolerable → (checkpoint && ltb tolerable (cond checkpoint (failures + 1) failures)) ≡ false → cond checkpoint (failures + 1) failures ≤ tolerable
 few_after_decline true failures tolerable few e = ltb-false tolerable (failures + 1) e
 few_after_decline false failures tolerable few e = few

@@ -1,4 +1,4 @@
--- What a record that is triggered pins does not change where no done record is dropped.
+-- What a record that is triggered pins does not change if no done record is dropped.
 use Rattle.std.proofs.Common.{◌≡◌, ℕ, Bool, true, false, cond, eqb, List, [], ◌∷◌, map, refl, sym, ap, subst, ◌∙◌, inl, inr, ⊎_elim}
 use Rattle.std.specs.Prelude.{Option, Some, None}
 use Rattle.std.specs.List.{filter}
@@ -14,7 +14,7 @@ use Rattle.ckpt_core.proofs.Records.Counts.{IsIn-changed, IsIn-from_find}
 use Rattle.ckpt_core.proofs.Records.Lists.{in_order-changed}
 use Rattle.ckpt_core.proofs.Histories.Choice.{found, chosen_is_done}
 
--- the last done checkpoint stays where no done checkpoint is dropped
+-- the last done checkpoint stays if no done checkpoint is dropped
 last_stays : (q : Record → Bool) (rs : List Record) → ((r : Record) → IsIn r rs → r.done ≡ true → q r ≡ true) → last_checkpoint (map (λ r. r) (filter q rs)) ≡ last_checkpoint rs
 last_stays q [] keeps = refl
 last_stays q (r ∷ rs) keeps =
@@ -30,7 +30,7 @@ last_stays q (r ∷ rs) keeps =
     itself None i = refl
     itself (Some j) i = refl
 
--- the record of a choice is the same where its number finds the same
+-- the record of a choice is the same if its number finds the same
 chosen_same : (c : Choice) (m k : State) → ((id : ℕ) → names c ≡ Some id → record_of k id ≡ record_of m id) → chosen c k ≡ chosen c m
 chosen_same (choice.Checkpoint id) m k same = same id refl
 chosen_same (choice.Savepoint id) m k same = same id refl
@@ -43,7 +43,7 @@ pins_same m k base last same =
     let choices : choice_of k ≡ choice_of m = ap (λ o. choice_from o k.base) last ∙ ap (choice_from (last_checkpoint m.records)) base in
     ap (λ c. files_of (chosen c k)) choices ∙ ap files_of (chosen_same (choice_of m) m k same)
 
--- so it stays where no done record is dropped
+-- so it stays if no done record is dropped
 pub pins_stay : (m k : State) (q : Record → Bool) → IsSound m → k.base ≡ m.base → k.records ≡ map (λ r. r) (filter q m.records) → ((r : Record) → IsIn r m.records → r.done ≡ true → q r ≡ true) → pins_now k ≡ pins_now m
 pins_stay m k q s base records keeps =
     let left : List Record = map (λ r. r) (filter q m.records) in

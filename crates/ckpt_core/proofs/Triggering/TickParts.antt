@@ -82,7 +82,7 @@ savepoint_answers p q now id c accepted seen after new tied none = record {
 
 -- a start
 
--- what holds anyway holds where there is an error
+-- what always holds also holds for an error
 pub on_err_from : {T E P : Type 0} (r : Result T E) → P → OnErr r P
 on_err_from (Ok x) h = tt
 on_err_from (Err e) h = h

@@ -98,7 +98,7 @@ released_with_pins m b x s spared is =
     IsIn-released f u.0 before' after' (IsIn-flat_map uses_of r.0 u.0 (m.records ++ x ∷ []) (IsIn-append_left r.0 m.records (x ∷ []) r.1) r.2) (sym u.2) gone_too in
     same_from_members numbers_in_order (released before' after') (released before after) (ascending-released before' after') (ascending-released before after) to back
 
--- a drop after a trigger is a trigger after the drop, where no done record is dropped
+-- a drop after a trigger is a trigger after the drop, if no done record is dropped
 pub drop_triggered : (m : State) (b : Record → Bool) (due : ℕ) → IsSound m → ((r : Record) → IsIn r m.records → r.done ≡ true → b r ≡ false) → b (new_record m kind.Checkpoint) ≡ false →
     drop (record (triggered m kind.Checkpoint) { due = due }) b None ≡ record (triggered (drop m b None) kind.Checkpoint) { due = due }
 unfolding drop triggered
@@ -288,7 +288,7 @@ tick_goes m failures expired pending f e p few =
     ∙ ap (after_expiry (drop (record m { failures = failures }) (is_expired m m.latest) None)) (sym e)
     ∙ ap (λ n. start_or_hold (drop (record m { failures = failures }) (is_expired m m.latest) None) expired (held_at m n)) left
 
--- the same where the checkpoint is started before the drop
+-- the same if the checkpoint is started before the drop
 pub tick_starts : (m after : State) (failures expired pending : ℕ) (b : Record → Bool) (end : TickEnd) → IsSound m → failures ≡ m.failures + late_in m → expired ≡ dropped_by m (is_expired m m.latest) → pending + late_in m ≡ pending_checkpoints m →
     (ltb 0 (late_in m) && ltb m.opening.config.tolerable failures) ≡ false → ((r : Record) → IsIn r m.records → is_expired m m.latest r ≡ b r) → b (new_record m kind.Checkpoint) ≡ false → Starts m pending after end →
     tick m ≡ (record (drop after b None) { failures = failures }, ticked expired end)

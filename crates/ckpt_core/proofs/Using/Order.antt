@@ -81,7 +81,7 @@ record_uses_in_order r order files pins =
 pub record_in_order : (r : Record) → IsRecord r → IsInOrder use_before (uses_of r)
 record_in_order r sound = record_uses_in_order r sound.acks_in_order sound.files sound.pins
 
--- the uses of records in rising number are in strict order where those of each are
+-- the uses of records in ascending order of numbers are in strict order if those of each are
 pub all_uses_in_order : (rs : List Record) → IsInOrder id_before rs → ((r : Record) → IsIn r rs → IsInOrder use_before (uses_of r)) → IsInOrder use_before (uses rs)
 all_uses_in_order [] order each = tt
 all_uses_in_order (r ∷ rs) order each =

@@ -1,4 +1,4 @@
--- A file is present exactly where some record holds it, for an acknowledgement or as a pin.
+-- A file is present exactly if some record holds it, for an acknowledgement or as a pin.
 use Rattle.std.proofs.Common.{◌≡◌, ℕ, ◌<◌, Bool, true, false, eqb, List, map, refl, sym, ap, subst, ◌⊎◌, inl, inr, ⊎_elim}
 use Rattle.std.specs.Prelude.{count_by}
 use Rattle.std.specs.List.{flat_map}

@@ -86,7 +86,7 @@ pub record Answers (old new : Parts) (call : Call) (reply : Reply) : Type 0 wher
   pub tied : AreTied new
   pub none_ended : new.ended.items ≡ []
 
--- nothing that the state tells has changed
+-- the state has not changed
 pub record Stays (old new : Parts) : Type 0 where
   pub state_is : state_of new ≡ state_of old
   pub tied : AreTied new

@@ -1,4 +1,4 @@
--- The start of a checkpoint or savepoint: by a tick, told apart from the expiry that goes with it, and what it pins. The names that
+-- The start of a checkpoint or savepoint: by a tick, without the expiry that goes with it, and what it pins. The names that
 -- this takes are passed on from here.
 use Rattle.std.specs.Prelude.{◌≡◌, ℕ, List, [], ◌++◌}
 pub use Rattle.ckpt_ids.specs.declared.limits.TheConstants.{NUMBERS_END}

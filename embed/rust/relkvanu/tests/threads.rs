@@ -43,6 +43,20 @@ fn wait_for(condition: impl Fn() -> bool) {
     }
 }
 
+fn denied(_: u64) -> io::Result<()> {
+    Err(io::ErrorKind::PermissionDenied.into())
+}
+
+/// A discarder that has given up all 20 files.
+fn given_up(
+    job: &SharedCoordinator,
+    delete: impl Fn(u64) -> io::Result<()> + Send + Sync + 'static,
+) -> Discarder {
+    let discarder = Discarder::start(job.clone(), quick(3), delete).unwrap();
+    wait_for(|| discarder.told().given_up.len() == 20);
+    discarder
+}
+
 fn counts(waiting: u64, taken: u64) -> FileCounts {
     FileCounts {
         in_use: 0,
@@ -72,9 +86,7 @@ fn a_discarder_deletes_retries_and_gives_up() {
 #[test]
 fn a_delete_that_fails_for_ever_is_given_up_and_told() {
     let job = cancelled();
-    let fails = |_| Err(io::ErrorKind::PermissionDenied.into());
-    let discarder = Discarder::start(job.clone(), quick(3), fails).unwrap();
-    wait_for(|| discarder.told().given_up.len() == 20);
+    let discarder = given_up(&job, denied);
     assert_eq!(job.file_counts(), counts(0, 20));
     let mut told = discarder.stop();
     told.given_up.sort();
@@ -96,9 +108,9 @@ fn a_folder_that_is_gone() {
     assert_eq!(discarder.stop().failed, 0);
     let no_folder = std::env::current_exe().unwrap();
     let job = cancelled();
-    let delete = move |file: u64| std::fs::remove_file(no_folder.join(file.to_string()));
-    let discarder = Discarder::start(job.clone(), quick(3), delete).unwrap();
-    wait_for(|| discarder.told().given_up.len() == 20);
+    let discarder = given_up(&job, move |file| {
+        std::fs::remove_file(no_folder.join(file.to_string()))
+    });
     assert_eq!(discarder.stop().deleted, 0);
     assert_eq!(job.file_counts(), counts(20, 0));
 }
@@ -106,9 +118,7 @@ fn a_folder_that_is_gone() {
 #[test]
 fn a_file_that_somebody_else_reports() {
     let job = cancelled();
-    let fails = |_| Err(io::ErrorKind::PermissionDenied.into());
-    let discarder = Discarder::start(job.clone(), quick(3), fails).unwrap();
-    wait_for(|| discarder.told().given_up.len() == 20);
+    let discarder = given_up(&job, denied);
     assert_eq!(job.deleted(1), Ok(Answer::Deleted(1)), "by hand");
     discarder.stop();
     assert_eq!(job.file_counts(), counts(19, 0));
@@ -117,12 +127,11 @@ fn a_file_that_somebody_else_reports() {
 #[test]
 fn a_discarder_that_is_stopped_leaves_no_file_taken() {
     let job = cancelled();
-    let fails = |_| Err(io::ErrorKind::PermissionDenied.into());
     let patience = Patience {
         first_wait: Duration::from_secs(3600),
         ..quick(3)
     };
-    let discarder = Discarder::start(job.clone(), patience, fails).unwrap();
+    let discarder = Discarder::start(job.clone(), patience, denied).unwrap();
     wait_for(|| discarder.told().failed == 8);
     assert_eq!(job.file_counts(), counts(12, 8));
     drop(discarder);

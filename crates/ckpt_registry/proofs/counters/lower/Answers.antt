@@ -21,7 +21,7 @@ module _ (m : Counts) (i k v : ℕ) (unique : IsUnique nat_eq m) (at : slice_get
 gone_at : (m n : Counts) (k v : ℕ) (r : Option (ℕ × ℕ)) → r ≡ Some (k, v) → IfSome r (λ e. Updates nat_eq m n e.0 None) → Sets m n k None
 gone_at m n k v r e gone = let P : Option (ℕ × ℕ) → Type 0 = λ o. IfSome o (λ e. Updates nat_eq m n e.0 None) in (subst P e gone).0
 
--- where a file has other uses
+-- if the file has other uses
 
 left : (c : goal.After-counts-1) → slice_get c.args.counts.now.entries c.unwrap-index.result ≡ Some (c.args.file, c.index-count.result.now)
 left c = entry_found c.args.counts.now c.unwrap-index.result c.args.file c.index-count.result.now (sym c.get_index_of.ensures.index ∙ c.unwrap-index.ensures) c.index-count.ensures
@@ -47,7 +47,7 @@ returns-then-count-gt1 c =
       range = AreInRange-set m n file (v - 1) sets c.requires.range more (omega (arith, had, AreInRange-below m c.requires.range file));
     }
 
--- where it had one use, and has no counter any more
+-- if it had one use, and has no counter any more
 
 last : (c : goal.After-push_reserved) → slice_get c.args.counts.now.entries c.unwrap-index.result ≡ Some (c.args.file, c.index-count.result.now)
 last c = entry_found c.args.counts.now c.unwrap-index.result c.args.file c.index-count.result.now (sym c.get_index_of.ensures.index ∙ c.unwrap-index.ensures) c.index-count.ensures

@@ -1,5 +1,5 @@
 -- Answers the goals of `lower_each`.
-use Rattle.std.proofs.Common.{◌≡◌, ◌+◌, ℕ, cond, eqb, get_or, take, ap, arith}
+use Rattle.std.proofs.Common.{◌≡◌, ◌+◌, ℕ, eqb, get_or, take, ap, arith}
 use Rattle.ckpt_ids.specs.Counting.{times}
 use Rattle.ckpt_registry.proofs.CounterLemmas.{AreLowered-none, AreLowered-then, HasRoom-released, times_more, times_through}
 use Rattle.ckpt_registry.proofs.ListLemmas.{one_if}

@@ -1,14 +1,13 @@
 -- Answers the goals of `unpin`.
 use Rattle.std.proofs.Common.{◌≡◌, ℕ, ◌+◌, not, cond, List, take, ap, sym, subst, ◌∙◌, arith, rules}
-use Rattle.std.specs.List.{filter}
 use Rattle.std.proofs.lemmas.Bool.{cond-true, cond-false}
 use Rattle.std.proofs.lemmas.Fn.{filter_same}
 use Rattle.std.proofs.lemmas.List.{take_all}
 use Rattle.ckpt_ids.specs.Counting.{times}
 use Rattle.ckpt_registry.specs.declared.pins.Pinner.{Pinner}
 use Rattle.ckpt_registry.specs.Counters.{Counts, Released, AreLowered}
-use Rattle.ckpt_registry.specs.Pins.{is_named, own_in}
-use Rattle.ckpt_registry.proofs.PinLemmas.{goes, own_in-goes_more, own_in-goes_le}
+use Rattle.ckpt_registry.specs.Pins.{is_named, own_in, own_of}
+use Rattle.ckpt_registry.proofs.PinLemmas.{goes, own_of-more, own_of-le}
 use Rattle.ckpt_registry.proofs.CounterLemmas.{AreLowered-none, AreLowered-same, AreLowered-then, HasRoom-released}
 use Rattle.ckpt_registry.proofs.pins.unpin.Goals as goal
 use Rattle.ckpt_registry.proofs.pins.unpin.Goals.{then-contains, else-contains}
@@ -22,7 +21,7 @@ lower_each-requires-clause-counted c = λ f.
     let same : times f c.deref.result.now ≡ times f one.files.items = ap (times f) c.deref.ensures.value in
     let all : times f (own_in items) ≡ times f (own_in c.args.pinned.now.items) = ap (λ os. times f (own_in os)) c.deref-one-items.ensures.value in
     let on : cond (goes owners one) (times f one.files.items) 0 ≡ times f one.files.items = cond-true (goes owners one) (times f one.files.items) 0 (sym c.contains.ensures.value ∙ c.if-contains.true) in
-    omega (arith, same, all, on, c.loop-one.invariant.lowered f, c.requires.counted f, own_in-goes_more f owners items i one c.loop-one-test.true c.one-item.is, own_in-goes_le f owners (i + 1) items)
+    omega (arith, same, all, on, c.loop-one.invariant.lowered f, c.requires.counted f, own_of-more f owners items i one c.loop-one-test.true c.one-item.is, own_of-le f owners (i + 1) items)
 
 pub loop-one-init : goal.loop-one-init
 loop-one-init c = AreLowered-none c.args.counts.now c.args.released.now c.requires.range
@@ -41,9 +40,9 @@ loop-one-preserved c =
     let i = c.loop-one.one-index in
     let m : Counts = c.args.counts.now in
     let out : Released = c.args.released.now in
-    let before : ℕ → ℕ = λ f. times f (own_in (filter (goes owners) (take i items))) in
-    let after : ℕ → ℕ = λ f. times f (own_in (filter (goes owners) (take (i + 1) items))) in
-    let more : (f : ℕ) → after f ≡ before f + cond (goes owners one) (times f one.files.items) 0 = λ f. own_in-goes_more f owners items i one c.loop-one-test.true c.one-item.is in
+    let before : ℕ → ℕ = λ f. times f (own_of owners (take i items)) in
+    let after : ℕ → ℕ = λ f. times f (own_of owners (take (i + 1) items)) in
+    let more : (f : ℕ) → after f ≡ before f + cond (goes owners one) (times f one.files.items) 0 = λ f. own_of-more f owners items i one c.loop-one-test.true c.one-item.is in
     let Goal : Counts → Released → Type 0 = λ n last. AreLowered after m out n last in
     elim c.if-contains.branch [
       | then-contains w ↦
@@ -64,6 +63,6 @@ pub returns-clause-lowered : goal.returns-clause-lowered
 returns-clause-lowered c =
     let owners = c.args.owners.now in
     let items : List Pinner = c.deref-one-items.result.now in
-    let whole : (f : ℕ) → times f (own_in (filter (goes owners) (take c.loop-one.one-index items))) ≡ times f (own_in (filter (goes owners) c.args.pinned.now.items)) = λ f.
-    ap (λ os. times f (own_in (filter (goes owners) os))) (take_all c.loop-one.one-index items c.loop-one-test.false ∙ c.deref-one-items.ensures.value) in
+    let whole : (f : ℕ) → times f (own_of owners (take c.loop-one.one-index items)) ≡ times f (own_of owners c.args.pinned.now.items) = λ f.
+    ap (λ os. times f (own_of owners os)) (take_all c.loop-one.one-index items c.loop-one-test.false ∙ c.deref-one-items.ensures.value) in
     AreLowered-same _ _ c.args.counts.now c.loop-one.counts c.args.released.now c.loop-one.released whole c.loop-one.invariant

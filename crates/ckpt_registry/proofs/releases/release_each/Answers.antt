@@ -1,5 +1,5 @@
 -- Answers the goals of `release_each`.
-use Rattle.std.proofs.Common.{ℕ, ◌<◌, length, sym, ap, ◌∙◌, arith}
+use Rattle.std.proofs.Common.{ℕ, ◌<◌, length, sym, ap, ◌∙◌}
 use Rattle.ckpt_registry.specs.Holdings.{uses_in}
 use Rattle.ckpt_registry.specs.Pins.{pins_in}
 use Rattle.ckpt_registry.proofs.CounterLemmas.{AreReleased-then, HasRoom-released}

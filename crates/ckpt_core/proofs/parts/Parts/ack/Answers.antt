@@ -1,4 +1,4 @@
--- The number's pending record, where it is found, is that of the state.
+-- The number's pending record, if it is found, is that of the state.
 use Rattle.std.proofs.Common.{◌<◌, ◌≤◌, sym, arith}
 use Rattle.ckpt_ids.specs.Records.{missing}
 use Rattle.ckpt_ids.proofs.ResultLemmas.{on_each_error}

@@ -1,4 +1,4 @@
--- The unknown files are those of the step, and memory is wanted only where there are such.
+-- The unknown files are those of the step, and memory is wanted only if there are any.
 use Rattle.std.proofs.Common.{◌∙◌, ap, sym, length, arith}
 use Rattle.ckpt_core.proofs.Answering.Accepted.{accepted_ack}
 use Rattle.ckpt_core.specs.Inside.Parts.{state_of}

@@ -16,7 +16,7 @@ use Rattle.ckpt_core.proofs.Ending.Drops.{left, staying, drops_from, staying_don
 use Rattle.ckpt_core.proofs.Records.Grouped.{apart-from_in_order}
 use Rattle.ckpt_core.proofs.parts.Parts.drop_noted.Goals as goal
 
--- where no number is noted all records stay
+-- if no number is noted, all records stay
 kept_all : (rs : List Record) → kept (is_noted []) None rs ≡ rs
 kept_all rs = map_itself (unpinned None) (filter (λ r. not (is_noted [] r)) rs) (λ r h. refl) ∙ filter-all (λ r. not (is_noted [] r)) rs (λ r h. refl)
 

@@ -4,40 +4,35 @@ use Rattle.std.specs.Prelude.{IfOk, OnErr}
 use Rattle.ckpt_ids.specs.declared.call.Call.TheVariants as call
 use Rattle.ckpt_ids.specs.declared.reply.Answer.TheVariants as answer
 use Rattle.ckpt_ids.specs.declared.reply.Reply.TheVariants as reply
-use Rattle.ckpt_core.specs.declared.parts.Parts.{Parts}
 use Rattle.ckpt_core.specs.declared.triggers.Ticked.{Ticked}
 use Rattle.ckpt_core.specs.Inside.Parts.{state_of}
 use Rattle.ckpt_core.specs.Memory.{answer_wants}
 use Rattle.ckpt_core.specs.Soundness.{IsSound}
 use Rattle.ckpt_core.specs.State.{State}
 use Rattle.ckpt_core.specs.Steps.{tick}
+use Rattle.ckpt_core.proofs.Triggering.TriggerParts.{ended_state}
 use Rattle.ckpt_core.proofs.parts.Parts.expire.Goals as goal
 
--- what is noted is no part of the state
-noted_state : (p q : Parts) → q ≡ record p { ended = q.ended } → state_of q ≡ state_of p
-unfolding state_of
-noted_state p q parts = ap state_of parts
-
 pub fail_expired-requires-clause-sound : goal.fail_expired-requires-clause-sound
-fail_expired-requires-clause-sound c = subst IsSound (sym (noted_state c.args.self.now c.note_expired-expiry.new.self c.note_expired-expiry.ensures.parts)) c.requires.sound.sound
+fail_expired-requires-clause-sound c = subst IsSound (sym (ended_state c.args.self.now c.note_expired-expiry.new.self c.note_expired-expiry.ensures.parts)) c.requires.sound.sound
 
 pub returns-then-expiry-clause-ok : goal.returns-then-expiry-clause-ok
-returns-then-expiry-clause-ok c = ap tick (sym (noted_state c.args.self.now c.note_expired-expiry.new.self c.note_expired-expiry.ensures.parts)) ∙ c.fail_expired.ensures.tick
+returns-then-expiry-clause-ok c = ap tick (sym (ended_state c.args.self.now c.note_expired-expiry.new.self c.note_expired-expiry.ensures.parts)) ∙ c.fail_expired.ensures.tick
 
 pub start_and_drop-requires-clause-sound : goal.start_and_drop-requires-clause-sound
-start_and_drop-requires-clause-sound c = subst IsSound (sym (noted_state c.args.self.now c.note_expired-expiry.new.self c.note_expired-expiry.ensures.parts)) c.requires.sound.sound
+start_and_drop-requires-clause-sound c = subst IsSound (sym (ended_state c.args.self.now c.note_expired-expiry.new.self c.note_expired-expiry.ensures.parts)) c.requires.sound.sound
 
 pub returns-clause-ok : goal.returns-clause-ok
 returns-clause-ok c =
     let P : State → Type 0 = λ m. IfOk c.start_and_drop.result (λ (ticked : Ticked). tick m ≡ (state_of c.start_and_drop.new.self, answer.Done (reply.Ticked ticked.expired ticked.end))) in
-    subst P (noted_state c.args.self.now c.note_expired-expiry.new.self c.note_expired-expiry.ensures.parts) c.start_and_drop.ensures.ok
+    subst P (ended_state c.args.self.now c.note_expired-expiry.new.self c.note_expired-expiry.ensures.parts) c.start_and_drop.ensures.ok
 
 pub returns-clause-err : goal.returns-clause-err
 returns-clause-err c =
     let P : State → Type 0 = λ m. OnErr c.start_and_drop.result (state_of c.start_and_drop.new.self ≡ m) in
-    subst P (noted_state c.args.self.now c.note_expired-expiry.new.self c.note_expired-expiry.ensures.parts) c.start_and_drop.ensures.err
+    subst P (ended_state c.args.self.now c.note_expired-expiry.new.self c.note_expired-expiry.ensures.parts) c.start_and_drop.ensures.err
 
 pub returns-clause-memory : goal.returns-clause-memory
 returns-clause-memory c =
     let P : State → Type 0 = λ m. OnErr c.start_and_drop.result (answer_wants (call.Tick 0) (tick m).1 ≡ true) in
-    subst P (noted_state c.args.self.now c.note_expired-expiry.new.self c.note_expired-expiry.ensures.parts) c.start_and_drop.ensures.memory
+    subst P (ended_state c.args.self.now c.note_expired-expiry.new.self c.note_expired-expiry.ensures.parts) c.start_and_drop.ensures.memory

@@ -1,5 +1,5 @@
 -- The files of a pending record, of a stored one, or of none.
-use Rattle.std.proofs.Common.{◌≡◌, ◌∙◌, List, ℕ, Option, Some, None, sym, ap}
+use Rattle.std.proofs.Common.{◌≡◌, ◌∙◌, Some, None, sym, ap}
 use Rattle.std.specs.Prelude.{find}
 use Rattle.std.specs.Option.{option_and_then, option_copied}
 use Rattle.ckpt_ids.specs.Records.{Record}

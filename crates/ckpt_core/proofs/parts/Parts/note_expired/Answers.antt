@@ -19,8 +19,8 @@ overflow_cast-late c =
     let p = c.args.self.now in
     omega (arith, late_at_most p c.timeout-timeout.result c.read-moment.result c.note_expired-late.result c.note_expired-late.ensures.checkpoints, few_checkpoints p c.requires.sound (groups_of p c.recall_groups.ensures.pending c.recall_groups.ensures.stored))
 
-pub add-are_many-requires : goal.add-are_many-requires
-add-are_many-requires c =
+pub add-are_too_many-requires : goal.add-are_too_many-requires
+add-are_too_many-requires c =
     let p = c.args.self.now in
     let groups = groups_of p c.recall_groups.ensures.pending c.recall_groups.ensures.stored in
     omega (arith, late_at_most p c.timeout-timeout.result c.read-moment.result c.note_expired-late.result c.note_expired-late.ensures.checkpoints, few_checkpoints p c.requires.sound groups, few_failures p c.requires.sound c.requires.running)
@@ -41,25 +41,25 @@ overflow_cast-left c =
 pub overflow_sub-left : goal.overflow_sub-left
 overflow_sub-left c = omega (arith, c.checkpoints.ensures, late_at_most c.args.self.now c.timeout-timeout.result c.read-moment.result c.note_expired-late.result c.note_expired-late.ensures.checkpoints)
 
-are_many : (b : Bool) (t n : ℕ) → IsTrue b ↔ (t < n) → b ≡ ltb t n
-are_many b t n says =
+are_too_many : (b : Bool) (t n : ℕ) → IsTrue b ↔ (t < n) → b ≡ ltb t n
+are_too_many b t n says =
     ⊎_elim (λ (h : ltb t n ≡ true). says.1 (ltb-true t n h) ∙ sym h) (λ (h : ltb t n ≡ false). false_from_ne_true b (λ e. both_ways (ltb t n) h (lt-ltb t n (says.0 e))) ∙ sym h) (cases_Bool (ltb t n))
 
 pub returns-clause-expired : goal.returns-clause-expired
 returns-clause-expired c =
     let p = c.args.self.now in
     let late : ℕ = c.note_expired-late.result in
-    let failures = c.add-are_many.new.self in
+    let failures = c.add-are_too_many.new.self in
     let old = is_old c.timeout-timeout.result c.read-moment.result in
     let e : Expiry = record { expired = c.len-expired.result; left = c.checkpoints.result - late; failures = failures; intolerable = c.if-late-gt0.intolerable } in
     let items : c.note_expired-late.new.ended.items ≡ numbers (filter old p.pending) = c.note_expired-late.ensures.items ∙ ap (λ ids. ids ++ numbers (filter old p.pending)) c.requires.sound.none_ended in
     let counted : e.expired ≡ length c.note_expired-late.new.ended.items = omega (arith, c.len-expired.ensures) in
     let at_most = late_at_most p c.timeout-timeout.result c.read-moment.result late c.note_expired-late.ensures.checkpoints in
     let left : e.left + late ≡ count_by is_checkpoint p.pending = omega (arith, at_most, c.checkpoints.ensures) in
-    let many = are_many c.add-are_many.result failures.tolerable failures.number c.add-are_many.ensures.intolerable in
+    let many = are_too_many c.add-are_too_many.result failures.tolerable failures.number c.add-are_too_many.ensures.intolerable in
     let intolerable : e.intolerable ≡ (ltb 0 late && ltb failures.tolerable failures.number) = elim c.if-late-gt0.branch [
       | then-late-gt0 w ↦ w.intolerable-is ∙ many ∙ sym (ap (λ (b : Bool). b && ltb failures.tolerable failures.number) (lt-ltb 0 late (omega (arith, w.if-late-gt0.true))))
       | else-late-gt0 w ↦ let none : late ≡ 0 = omega (arith, w.if-late-gt0.false) in w.intolerable-is ∙ ap (ltb 0) none ∙ sym (ap (λ (n : ℕ). ltb 0 n && ltb failures.tolerable failures.number) none)
     ] in
     expiry_is p c.note_expired-late.new.ended e c.timeout-timeout.result c.read-moment.result late c.requires.sound (groups_of p c.recall_groups.ensures.pending c.recall_groups.ensures.stored)
-    c.timeout-timeout.ensures.value c.read-moment.ensures.value items c.note_expired-late.ensures.checkpoints counted left c.add-are_many.ensures.number intolerable
+    c.timeout-timeout.ensures.value c.read-moment.ensures.value items c.note_expired-late.ensures.checkpoints counted left c.add-are_too_many.ensures.number intolerable

@@ -1,5 +1,5 @@
 -- The number of a pending record, of a stored one, or of none.
-use Rattle.std.proofs.Common.{◌≡◌, ◌∙◌, Option, None, sym}
+use Rattle.std.proofs.Common.{◌≡◌, ◌∙◌, None, sym}
 use Rattle.std.specs.Prelude.{find}
 use Rattle.ckpt_core.proofs.Answering.Reads.{stored_record}
 use Rattle.ckpt_core.proofs.Reading.Live.{live_in_order}

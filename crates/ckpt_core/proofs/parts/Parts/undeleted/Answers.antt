@@ -1,4 +1,4 @@
--- The outbox tells whether the file was fetched.
+-- The outbox itself finds whether the file was fetched.
 use Rattle.std.proofs.Common.{true, false, refl}
 use Rattle.ckpt_outbox.specs.Queues.{is_taken}
 use Rattle.ckpt_core.specs.Inside.Parts.{state_of}

@@ -37,15 +37,15 @@ returns-then-is_empty-clause-ok c =
     let P : List Use → Type 0 = λ us. us ≡ in_order_once use_before (us ++ triples c.args.id Pin named) in
     subst P c.self.view_is (in_use-none a p c.args.id Pin named none)
 
-pub pins_all-one-requires-clause-present : goal.pins_all-one-requires-clause-present
-pins_all-one-requires-clause-present c = λ f h.
+pub pin_all-one-requires-clause-present : goal.pin_all-one-requires-clause-present
+pin_all-one-requires-clause-present c = λ f h.
     let r = c.self.inside in
     let parts : List Part = c.parts_held-parts.result.now in
     let same : times f (files_in parts) ≡ times f (files_in (parts_of r.acknowledged c.args.chosen)) = ap (λ ps. times f (files_in ps)) c.parts_held-parts.ensures in
     omega (arith, same, times-from_IsIn f (files_in parts) h, count-parts_of r.acknowledged c.args.chosen f, c.self.invariant.0.parts.counted f)
 
-pub pins_all-one-requires-clause-fits : goal.pins_all-one-requires-clause-fits
-pins_all-one-requires-clause-fits c = λ f.
+pub pin_all-one-requires-clause-fits : goal.pin_all-one-requires-clause-fits
+pin_all-one-requires-clause-fits c = λ f.
     let r = c.self.inside in
     let a : Acknowledged = r.acknowledged in
     let p : List Pinner = r.pinned.items in
@@ -64,16 +64,16 @@ invariant_of-self-2 c =
     let chosen = c.args.chosen in
     let room = vec_capacity r.released in
     let named : List ℕ = files_by chosen c.args.self.now in
-    let one : Pinner = c.pins_all-one.result in
-    let new = c.pins_all-one.new.counts in
-    let at : parts_of a one.chosen ≡ c.parts_held-parts.result.now = ap (parts_of a) c.pins_all-one.ensures.chosen ∙ sym c.parts_held-parts.ensures in
-    let pins : pinned_by a one ≡ named = ap (λ (ps : List Part). each_file (take one.parts ps) ++ one.files.items) at ∙ c.pins_all-one.ensures.pinned ∙ ap each_file c.parts_held-parts.ensures ∙ sym (files_by-in_use a p chosen) ∙ ap (files_by chosen) c.self.view_is in
+    let one : Pinner = c.pin_all-one.result in
+    let new = c.pin_all-one.new.counts in
+    let at : parts_of a one.chosen ≡ c.parts_held-parts.result.now = ap (parts_of a) c.pin_all-one.ensures.chosen ∙ sym c.parts_held-parts.ensures in
+    let pins : pinned_by a one ≡ named = ap (λ (ps : List Part). each_file (take one.parts ps) ++ one.files.items) at ∙ c.pin_all-one.ensures.pinned ∙ ap each_file c.parts_held-parts.ensures ∙ sym (files_by-in_use a p chosen) ∙ ap (files_by chosen) c.self.view_is in
     let K : List Part → Type 0 = λ ps. IsKept ps one in
     let H : ℕ → Type 0 = λ id. HasNoUse (in_use a p) id Pin in
     let V : List Use → Type 0 = λ us. HasNoUse us c.args.id Pin in
     let P : List Pinner → Type 0 = λ ps. IsSound a ps new room in (
       subst P (sym (c.push_reserved.ensures.items ∙ ap (λ (ps : List Pinner). ps ++ one ∷ []) c.reserve.ensures.items))
-          (IsSound-pinned a p one named pins r.counts new room room c.self.invariant.0 (subst K (sym at) c.pins_all-one.ensures.kept) (IsEachOnce-files_by chosen c.args.self.now) (subst H (sym c.pins_all-one.ensures.id) (subst V (sym c.self.view_is) c.requires.unpinned)) c.pins_all-one.ensures.counted c.pins_all-one.ensures.range (omega (arith, c.self.invariant.0.has_room, c.pins_all-one.ensures.len)) (fits a p c.args.self.now chosen c.self.view_is (below-in_use a p r.counts room c.self.invariant.0) c.requires.below)),
+          (IsSound-pinned a p one named pins r.counts new room room c.self.invariant.0 (subst K (sym at) c.pin_all-one.ensures.kept) (IsEachOnce-files_by chosen c.args.self.now) (subst H (sym c.pin_all-one.ensures.id) (subst V (sym c.self.view_is) c.requires.unpinned)) c.pin_all-one.ensures.counted c.pin_all-one.ensures.range (omega (arith, c.self.invariant.0.has_room, c.pin_all-one.ensures.len)) (fits a p c.args.self.now chosen c.self.view_is (below-in_use a p r.counts room c.self.invariant.0) c.requires.below)),
       c.self.invariant.1,
     )
 
@@ -84,7 +84,7 @@ returns-clause-ok c =
     let p : List Pinner = r.pinned.items in
     let chosen = c.args.chosen in
     let named : List ℕ = files_by chosen c.args.self.now in
-    let one : Pinner = c.pins_all-one.result in
-    let at : parts_of a one.chosen ≡ c.parts_held-parts.result.now = ap (parts_of a) c.pins_all-one.ensures.chosen ∙ sym c.parts_held-parts.ensures in
-    let pins : pinned_by a one ≡ named = ap (λ (ps : List Part). each_file (take one.parts ps) ++ one.files.items) at ∙ c.pins_all-one.ensures.pinned ∙ ap each_file c.parts_held-parts.ensures ∙ sym (files_by-in_use a p chosen) ∙ ap (files_by chosen) c.self.view_is in
-    ap (in_use a) (c.push_reserved.ensures.items ∙ ap (λ (ps : List Pinner). ps ++ one ∷ []) c.reserve.ensures.items) ∙ in_use-pinned a p one named pins ∙ ap (λ (us : List Use). in_order_once use_before (us ++ triples one.id Pin named)) c.self.view_is ∙ ap (λ (id : ℕ). in_order_once use_before (c.args.self.now ++ triples id Pin named)) c.pins_all-one.ensures.id
+    let one : Pinner = c.pin_all-one.result in
+    let at : parts_of a one.chosen ≡ c.parts_held-parts.result.now = ap (parts_of a) c.pin_all-one.ensures.chosen ∙ sym c.parts_held-parts.ensures in
+    let pins : pinned_by a one ≡ named = ap (λ (ps : List Part). each_file (take one.parts ps) ++ one.files.items) at ∙ c.pin_all-one.ensures.pinned ∙ ap each_file c.parts_held-parts.ensures ∙ sym (files_by-in_use a p chosen) ∙ ap (files_by chosen) c.self.view_is in
+    ap (in_use a) (c.push_reserved.ensures.items ∙ ap (λ (ps : List Pinner). ps ++ one ∷ []) c.reserve.ensures.items) ∙ in_use-pinned a p one named pins ∙ ap (λ (us : List Use). in_order_once use_before (us ++ triples one.id Pin named)) c.self.view_is ∙ ap (λ (id : ℕ). in_order_once use_before (c.args.self.now ++ triples id Pin named)) c.pin_all-one.ensures.id
