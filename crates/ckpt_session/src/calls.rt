@@ -13,7 +13,7 @@ use std::alloc::Global;
 
 /// The seat of the calls that lines make. No lock gives this seat, and no thread of an `all` line
 /// has it.
-const LINE_SEAT: u32 = MOST_SEATS;
+pub(crate) const LINE_SEAT: u32 = MOST_SEATS;
 
 /// The number of the first record of a job.
 const FIRST: u64 = 1;

@@ -7,13 +7,14 @@ ghost use Rattle.ckpt_session.specs.ScriptTexts.{outcome_bytes};
 ghost use Rattle.ckpt_session.specs.Sessions.{opening_scene, before_start, after_start, refused, configured, shaped, started_so_far, called, all_called, obeyed, done_by, said};
 
 use crate::all::AllLine;
-use crate::calls::{call, open};
+use crate::calls::{LINE_SEAT, call, open};
 use crate::outcome::{Outcome, ScriptRefusal};
 use crate::texts::{write_fault, write_outcome};
 use ckpt_core::Secret;
 use ckpt_ids::{Call, Config, Shape, ShapeFault};
 use ckpt_lines::{Line, LineFault, Meaning, Numbers};
 use ckpt_locked::Book;
+use ckpt_texts::write_answer;
 use ckpt_workers::Team;
 use std::alloc::{AllocError, Global};
 use std::marker::Model;
@@ -132,7 +133,7 @@ impl Session {
         ensures done { IfOk result (λ outcome. (self.new, outcome) ≡ done_by self.old line) }
         ensures given_up { OnErr result (self.new ≡ record self.old { core = None }) }
     {
-        let outcome = self.follow(line, team);
+        let outcome = self.act(line.meaning(self.alloc), team);
         if outcome.is_err() {
             self.give_up();
         }
@@ -149,6 +150,10 @@ impl Session {
     }
 
     /// Does what a line says, and appends what that prints.
+    ///
+    /// Most lines are calls. Their answer is told where it lies, with no outcome made of it.
+    #[tactic(auto, unfolding(crate::specs::Sessions::obeyed))]
+    #[inline(always)]
     fn tell<T: Team>(
         &mut self,
         text: &mut String,
@@ -159,35 +164,70 @@ impl Session {
         ensures text { OnOk result (string_bytes text.new ≡ string_bytes text.old ++ outcome_bytes (done_by self.old line).1) }
         ensures told { OnErr result ((self.new.config ≡ self.old.config) × (self.new.shape ≡ self.old.shape)) }
     {
-        // The outcome is told where it lies.
-        let outcome = self.follow(line, team);
+        match line.meaning(self.alloc) {
+            Ok(Meaning::Call(made)) => self.tell_answer(text, made),
+            meant => self.tell_outcome(text, meant, team),
+        }
+    }
+
+    /// Makes a call with the seat of the lines, and appends its answer.
+    #[tactic(auto, unfolding(crate::specs::Sessions::called))]
+    #[inline(always)]
+    fn tell_answer(&mut self, text: &mut String, made: Call) -> Result<(), AllocError>
+        ensures scene { OnOk result (self.new ≡ (called self.old self.old.core made).0) }
+        ensures text { OnOk result (string_bytes text.new ≡ string_bytes text.old ++ outcome_bytes (called self.old self.old.core made).1) }
+        ensures told { OnErr result ((self.new.config ≡ self.old.config) × (self.new.shape ≡ self.old.shape)) }
+    {
+        let Some(book) = &mut self.book else {
+            return write_outcome(
+                self.alloc,
+                text,
+                &Outcome::Refused(ScriptRefusal::NotStarted),
+            );
+        };
+        let answer = book.apply(LINE_SEAT, made);
+        match &answer {
+            Ok(answer) => write_answer(self.alloc, text, answer),
+            Err(_) => Err(AllocError),
+        }
+    }
+
+    /// Does what is meant, and appends what that prints.
+    #[inline(never)]
+    fn tell_outcome<T: Team>(
+        &mut self,
+        text: &mut String,
+        meant: Result<Meaning, ShapeFault>,
+        team: &mut T,
+    ) -> Result<(), AllocError>
+        ensures scene { OnOk result (self.new ≡ (obeyed self.old meant).0) }
+        ensures text { OnOk result (string_bytes text.new ≡ string_bytes text.old ++ outcome_bytes (obeyed self.old meant).1) }
+        ensures told { OnErr result ((self.new.config ≡ self.old.config) × (self.new.shape ≡ self.old.shape)) }
+        ensures memory { meant ≡ Err ShapeFault.Memory → is_err result ≡ true }
+    {
+        let outcome = self.act(meant, team);
         match &outcome {
             Ok(outcome) => write_outcome(self.alloc, text, outcome),
             Err(_) => Err(AllocError),
         }
     }
 
-    /// Does what a line says.
-    #[tactic(auto, unfolding(crate::specs::Sessions::obeyed))]
-    #[inline(always)]
-    fn follow<T: Team>(&mut self, line: Line, team: &mut T) -> Result<Outcome, AllocError>
-        ensures done { IfOk result (λ outcome. (self.new, outcome) ≡ done_by self.old line) }
-        ensures told { OnErr result ((self.new.config ≡ self.old.config) × (self.new.shape ≡ self.old.shape)) }
-    {
-        match line.meaning(self.alloc) {
-            Ok(meaning) => self.act(meaning, team),
-            Err(ShapeFault::BadShape) => Ok(self.refuse_shape()),
-            Err(ShapeFault::Memory) => Err(AllocError),
-        }
-    }
-
     /// Does what is meant.
     #[tactic(auto, unfolding(crate::specs::Sessions::obeyed))]
-    #[inline(always)]
-    fn act<T: Team>(&mut self, meaning: Meaning, team: &mut T) -> Result<Outcome, AllocError>
-        ensures done { IfOk result (λ outcome. (self.new, outcome) ≡ obeyed self.old (Ok meaning)) }
+    fn act<T: Team>(
+        &mut self,
+        meant: Result<Meaning, ShapeFault>,
+        team: &mut T,
+    ) -> Result<Outcome, AllocError>
+        ensures done { IfOk result (λ outcome. (self.new, outcome) ≡ obeyed self.old meant) }
         ensures told { OnErr result ((self.new.config ≡ self.old.config) × (self.new.shape ≡ self.old.shape)) }
+        ensures memory { meant ≡ Err ShapeFault.Memory → is_err result ≡ true }
     {
+        let meaning = match meant {
+            Ok(meaning) => meaning,
+            Err(ShapeFault::BadShape) => return Ok(self.refuse_shape()),
+            Err(ShapeFault::Memory) => return Err(AllocError),
+        };
         match meaning {
             Meaning::Call(made) => self.answer(made),
             Meaning::Skip => Ok(Outcome::Silent),
@@ -301,7 +341,6 @@ impl Session {
 
     /// Makes a call with the seat of the lines.
     #[tactic(auto, unfolding(crate::specs::Sessions::called))]
-    #[inline(always)]
     fn answer(&mut self, made: Call) -> Result<Outcome, AllocError>
         ensures done { IfOk result (λ outcome. (self.new, outcome) ≡ called self.old self.old.core made) }
         ensures told { OnErr result ((self.new.config ≡ self.old.config) × (self.new.shape ≡ self.old.shape)) }
