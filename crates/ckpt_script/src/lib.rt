@@ -1,10 +1,9 @@
 //! Runs scripts of a job's calls: reads their lines, makes their calls, and writes what they print.
 //!
-//! [`run`] runs a script from a reader to a writer. [`run_between`] runs it from a source to a
-//! sink, which count their calls (`specs/Devices.antt`). `specs/Outputs.antt` defines what is
-//! written, by the readings of the lines (crate `ckpt_lines`), and by what each line does and
-//! prints (crate `ckpt_session`). If the script comes from outside, [`run_keyed`] and
-//! [`run_between_keyed`] do the same under a secret.
+//! [`run`] runs a script from a reader to a writer. If the script comes from outside, [`run_keyed`]
+//! does the same under a secret. [`run_between_keyed`] runs it from a source to a sink, which count
+//! their calls (`specs/Devices.antt`). `specs/Outputs.antt` defines what is written, by the readings
+//! of the lines (crate `ckpt_lines`), and by what each line does and prints (crate `ckpt_session`).
 #![tactic(auto)]
 
 mod ahead;
@@ -22,7 +21,7 @@ pub use ckpt_lines::{LONGEST_LINE, Line, LineFault, Numbers, parse_line};
 pub use ckpt_session::Secret;
 pub use fault::RunFault;
 pub use limits::{MOST_LINES, MOST_READS};
-pub use runs::{run, run_between, run_between_keyed, run_keyed};
+pub use runs::{run, run_between_keyed, run_keyed};
 pub use sink::Sink;
 pub use source::{DeviceFailed, Source};
 pub use summary::Summary;

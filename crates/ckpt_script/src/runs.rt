@@ -18,31 +18,10 @@ use std::io::{Read, Write};
 /// Runs a script from a source to a sink: reads its lines, makes their calls, and writes what they
 /// print.
 ///
-/// It is [`run`] over devices that count what they were asked. Each fault has its cause:
+/// It is [`run_keyed`] over devices that count what they were asked. Each fault has its cause:
 /// [`RunFault::Read`] that the source failed or was asked 2^32 times, [`RunFault::TooManyLines`] that
 /// it gave more than [`MOST_LINES`] bytes, [`RunFault::Write`] that the sink failed. A device that
 /// failed is not asked again, and the source not after its end.
-pub fn run_between<S: Source, K: Sink, T: Team>(
-    alloc: Global,
-    source: &mut S,
-    sink: &mut K,
-    team: &mut T,
-) -> Result<Summary, RunFault>
-    requires source { S.asked source.old ≡ never_asked }
-    requires sink { K.failures sink.old ≡ 0 }
-    ensures ran { Ran (S.remaining source.old) (S.remaining source.new) (K.contents sink.old) (K.contents sink.new) result }
-    ensures summary { IfOk result (λ summary. (summary.faults ≤ summary.lines) × (summary.lines ≤ MOST_LINES)) }
-    ensures read { OnOk result (IsReadThrough (S.asked source.new)) }
-    ensures written { OnOk result (K.failures sink.new ≡ 0) }
-    ensures cause { IfErr result (IsCaused (S.asked source.new) (K.failures sink.new)) }
-    ensures same_source { S.device source.new ≡ S.device source.old }
-    ensures same_sink { K.device sink.new ≡ K.device sink.old }
-{
-    run_between_keyed(alloc, Secret::fixed(), source, sink, team)
-}
-
-/// As [`run_between`], and the secret keys the maps of files: no choice of file numbers makes a line
-/// slow. It changes nothing that is written or answered.
 pub fn run_between_keyed<S: Source, K: Sink, T: Team>(
     alloc: Global,
     secret: Secret,

@@ -13,6 +13,7 @@ use ckpt_core::Secret;
 use ckpt_ids::{Call, Config, Shape, ShapeFault};
 use ckpt_lines::{Line, LineFault, Meaning, Numbers};
 use ckpt_locked::Book;
+use ckpt_texts::write_answer;
 use ckpt_workers::Team;
 use std::alloc::{AllocError, Global};
 use std::marker::Model;
@@ -79,30 +80,12 @@ impl Session {
         self.book.as_ref()
     }
 
-    /// Runs the line with this number, and returns what it prints: one text with its newline, or
+    /// Runs the line with this number, and appends what it prints: one text with its newline, or
     /// nothing. A line with a fault, or one that the script refuses, changes nothing.
     ///
-    /// Fails only if memory runs out, also while the line is read. Then the coordinator is lost:
-    /// the session is as it was before its `start`, with the configuration and the shape.
-    pub fn say<T: Team>(
-        &mut self,
-        number: u64,
-        line: Result<Line, LineFault>,
-        team: &mut T,
-    ) -> Result<String, AllocError>
-        ensures said { IfOk result (λ text. (self.new, string_bytes text) ≡ said number self.old line) }
-        ensures given_up { OnErr result (self.new ≡ record self.old { core = None }) }
-        ensures memory { line ≡ Err LineFault.Memory → is_err result ≡ true }
-    {
-        let mut text = String::new(self.alloc);
-        self.say_onto(&mut text, number, line, team)?;
-        Ok(text)
-    }
-
-    /// Does as [`Session::say`], but appends the printed text to `text`. So no text is made for
-    /// each line if the output is written in parts.
-    ///
-    /// If it fails, a part of what the line prints may be at the end of the text.
+    /// Fails only if memory runs out, also while the line is read. Then the coordinator is lost: the
+    /// session is as it was before its `start`, with the configuration and the shape. A part of what
+    /// the line prints may be at the end of the text.
     #[tactic(auto, unfolding(crate::specs::Sessions::said))]
     pub fn say_onto<T: Team>(
         &mut self,
@@ -129,12 +112,12 @@ impl Session {
 
     /// Runs a line, and returns its outcome, for a caller that prints nothing.
     ///
-    /// Fails only if memory runs out. Then the coordinator is lost, as in [`Session::say`].
+    /// Fails only if memory runs out. Then the coordinator is lost, as in [`Session::say_onto`].
     pub fn obey<T: Team>(&mut self, line: Line, team: &mut T) -> Result<Outcome, AllocError>
         ensures done { IfOk result (λ outcome. (self.new, outcome) ≡ done_by self.old line) }
         ensures given_up { OnErr result (self.new ≡ record self.old { core = None }) }
     {
-        let outcome = self.follow(line, team);
+        let outcome = self.act(line.meaning(self.alloc), team);
         if outcome.is_err() {
             self.give_up();
         }
@@ -151,6 +134,10 @@ impl Session {
     }
 
     /// Does what a line says, and appends what that prints.
+    ///
+    /// Most lines are calls. Their answer is printed where it lies, with no outcome made of it.
+    #[tactic(auto, unfolding(crate::specs::Sessions::obeyed))]
+    #[inline(always)]
     fn tell<T: Team>(
         &mut self,
         text: &mut String,
@@ -161,35 +148,70 @@ impl Session {
         ensures text { OnOk result (string_bytes text.new ≡ string_bytes text.old ++ outcome_bytes (done_by self.old line).1) }
         ensures told { OnErr result ((self.new.config ≡ self.old.config) × (self.new.shape ≡ self.old.shape)) }
     {
-        // The outcome is told where it lies.
-        let outcome = self.follow(line, team);
+        match line.meaning(self.alloc) {
+            Ok(Meaning::Call(call)) => self.tell_answer(text, call),
+            meant => self.tell_outcome(text, meant, team),
+        }
+    }
+
+    /// Makes a call with the seat of the lines, and appends its answer.
+    #[tactic(auto, unfolding(crate::specs::Sessions::called))]
+    #[inline(always)]
+    fn tell_answer(&mut self, text: &mut String, call: Call) -> Result<(), AllocError>
+        ensures scene { OnOk result (self.new ≡ (called self.old self.old.core call).0) }
+        ensures text { OnOk result (string_bytes text.new ≡ string_bytes text.old ++ outcome_bytes (called self.old self.old.core call).1) }
+        ensures told { OnErr result ((self.new.config ≡ self.old.config) × (self.new.shape ≡ self.old.shape)) }
+    {
+        let Some(book) = &mut self.book else {
+            return write_outcome(
+                self.alloc,
+                text,
+                &Outcome::Refused(ScriptRefusal::NotStarted),
+            );
+        };
+        let answer = book.apply(LINE_SEAT, call);
+        match &answer {
+            Ok(answer) => write_answer(self.alloc, text, answer),
+            Err(_) => Err(AllocError),
+        }
+    }
+
+    /// Does what is meant, and appends what that prints.
+    #[inline(never)]
+    fn tell_outcome<T: Team>(
+        &mut self,
+        text: &mut String,
+        meant: Result<Meaning, ShapeFault>,
+        team: &mut T,
+    ) -> Result<(), AllocError>
+        ensures scene { OnOk result (self.new ≡ (obeyed self.old meant).0) }
+        ensures text { OnOk result (string_bytes text.new ≡ string_bytes text.old ++ outcome_bytes (obeyed self.old meant).1) }
+        ensures told { OnErr result ((self.new.config ≡ self.old.config) × (self.new.shape ≡ self.old.shape)) }
+        ensures memory { meant ≡ Err ShapeFault.Memory → is_err result ≡ true }
+    {
+        let outcome = self.act(meant, team);
         match &outcome {
             Ok(outcome) => write_outcome(self.alloc, text, outcome),
             Err(_) => Err(AllocError),
         }
     }
 
-    /// Does what a line says.
-    #[tactic(auto, unfolding(crate::specs::Sessions::obeyed))]
-    #[inline(always)]
-    fn follow<T: Team>(&mut self, line: Line, team: &mut T) -> Result<Outcome, AllocError>
-        ensures done { IfOk result (λ outcome. (self.new, outcome) ≡ done_by self.old line) }
-        ensures told { OnErr result ((self.new.config ≡ self.old.config) × (self.new.shape ≡ self.old.shape)) }
-    {
-        match line.meaning(self.alloc) {
-            Ok(meaning) => self.act(meaning, team),
-            Err(ShapeFault::BadShape) => Ok(self.refuse_shape()),
-            Err(ShapeFault::Memory) => Err(AllocError),
-        }
-    }
-
     /// Does what is meant.
     #[tactic(auto, unfolding(crate::specs::Sessions::obeyed))]
-    #[inline(always)]
-    fn act<T: Team>(&mut self, meaning: Meaning, team: &mut T) -> Result<Outcome, AllocError>
-        ensures done { IfOk result (λ outcome. (self.new, outcome) ≡ obeyed self.old (Ok meaning)) }
+    fn act<T: Team>(
+        &mut self,
+        meant: Result<Meaning, ShapeFault>,
+        team: &mut T,
+    ) -> Result<Outcome, AllocError>
+        ensures done { IfOk result (λ outcome. (self.new, outcome) ≡ obeyed self.old meant) }
         ensures told { OnErr result ((self.new.config ≡ self.old.config) × (self.new.shape ≡ self.old.shape)) }
+        ensures memory { meant ≡ Err ShapeFault.Memory → is_err result ≡ true }
     {
+        let meaning = match meant {
+            Ok(meaning) => meaning,
+            Err(ShapeFault::BadShape) => return Ok(self.refuse_shape()),
+            Err(ShapeFault::Memory) => return Err(AllocError),
+        };
         match meaning {
             Meaning::Call(call) => self.answer(call),
             Meaning::Skip => Ok(Outcome::Silent),
@@ -303,7 +325,6 @@ impl Session {
 
     /// Makes a call with the seat of the lines.
     #[tactic(auto, unfolding(crate::specs::Sessions::called))]
-    #[inline(always)]
     fn answer(&mut self, call: Call) -> Result<Outcome, AllocError>
         ensures done { IfOk result (λ outcome. (self.new, outcome) ≡ called self.old self.old.core call) }
         ensures told { OnErr result ((self.new.config ≡ self.old.config) × (self.new.shape ≡ self.old.shape)) }

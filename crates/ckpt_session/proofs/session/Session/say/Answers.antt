@@ -1,6 +1,0 @@
--- The check finds this answer by itself. Written here, it makes the check refuse a wrong body much sooner.
-use Rattle.std.proofs.Common.{rules}
-use Rattle.ckpt_session.proofs.session.Session.say.Goals as goal
-
-pub returns : goal.returns
-returns c = search rules
