@@ -1,11 +1,12 @@
 //! Reads the text of an image.
 
-ghost use Rattle.std.specs.Prelude.{◌≡◌, ◌≢◌, Some, None, Err, IfOk, IfErr};
+ghost use Rattle.std.specs.Prelude.{◌≡◌, ◌≢◌, Some, None, Err, IfOk, IfErr, option_and_then};
 ghost use Rattle.ckpt_core.specs.Images.{state_in};
 ghost use Rattle.ckpt_image.specs.Images.{Reads, image_of, image_read};
 ghost use Rattle.ckpt_image.specs.Members.{clock_of, opening_in, opening_of, outbox_of};
 ghost use Rattle.serde_json.specs.Data.{Data};
 ghost use Rattle.serde_json.specs.Errors.{IsMemory};
+ghost use Rattle.serde_json.specs.Find.{get};
 ghost use Rattle.serde_json.specs.Read.{read};
 ghost use Rattle.serde_json.specs.View.{view};
 
@@ -13,7 +14,7 @@ use crate::fault::TextFault;
 use crate::lists::{files, handed, shape};
 use crate::members::{Moments, Opened, Outbox};
 use crate::records::records;
-use crate::values::{config, half_number, member, mode, number, optional, version};
+use crate::values::{config, half_number, member, mode, number_at, optional, version};
 use ckpt_core::Image;
 use ckpt_ids::CheckpointId;
 use serde_json::{Error, Value};
@@ -51,16 +52,16 @@ fn fault_of(error: &Error) -> TextFault
 fn image(alloc: Global, value: &Value) -> Result<Image, TextFault>
     ensures { Reads state_in result (image_of (view value.now)) }
 {
-    let _ = version(member(value, "version")?)?;
-    let base = optional(member(value, "base")?)?.map(|id| CheckpointId(id));
-    let clock = clock(member(value, "clock")?)?;
-    let failures = half_number(member(value, "failures")?)?;
-    let mode = mode(member(value, "mode")?)?;
-    let next = number(member(value, "next")?)?;
-    let opening = opening(alloc, member(value, "opening")?)?;
-    let outbox = outbox(alloc, member(value, "outbox")?)?;
+    let _ = version(value, "version")?;
+    let base = optional(value, "base")?.map(|id| CheckpointId(id));
+    let clock = clock(value, "clock")?;
+    let failures = half_number(value, "failures")?;
+    let mode = mode(value, "mode")?;
+    let next = number_at(value, "next")?;
+    let opening = opening(alloc, value, "opening")?;
+    let outbox = outbox(alloc, value, "outbox")?;
     let records = records(alloc, member(value, "records")?)?;
-    let shape = shape(alloc, member(value, "shape")?)?;
+    let shape = shape(alloc, value, "shape")?;
     Ok(Image {
         config: opening.config,
         first_shape: opening.shape,
@@ -81,12 +82,13 @@ fn image(alloc: Global, value: &Value) -> Result<Image, TextFault>
 }
 
 #[tactic(auto, unfolding(crate::specs::Members::clock_of))]
-fn clock(value: &Value) -> Result<Moments, TextFault>
-    ensures { Reads (λ clock. clock) result (clock_of (view value.now)) }
+fn clock(value: &Value, key: &str) -> Result<Moments, TextFault>
+    ensures { Reads (λ clock. clock) result (option_and_then clock_of (get key.now (view value.now))) }
 {
-    let completed = optional(member(value, "completed")?)?;
-    let due = number(member(value, "due")?)?;
-    let latest = number(member(value, "latest")?)?;
+    let value = member(value, key)?;
+    let completed = optional(value, "completed")?;
+    let due = number_at(value, "due")?;
+    let latest = number_at(value, "latest")?;
     Ok(Moments {
         completed,
         due,
@@ -95,13 +97,14 @@ fn clock(value: &Value) -> Result<Moments, TextFault>
 }
 
 #[tactic(auto, unfolding(crate::specs::Members::opening_of))]
-fn opening(alloc: Global, value: &Value) -> Result<Opened, TextFault>
-    ensures { Reads opening_in result (opening_of (view value.now)) }
+fn opening(alloc: Global, value: &Value, key: &str) -> Result<Opened, TextFault>
+    ensures { Reads opening_in result (option_and_then opening_of (get key.now (view value.now))) }
 {
-    let config = config(member(value, "config")?)?;
-    let first = number(member(value, "first")?)?;
-    let shape = shape(alloc, member(value, "shape")?)?;
-    let start = number(member(value, "start")?)?;
+    let value = member(value, key)?;
+    let config = config(value, "config")?;
+    let first = number_at(value, "first")?;
+    let shape = shape(alloc, value, "shape")?;
+    let start = number_at(value, "start")?;
     Ok(Opened {
         config,
         first,
@@ -111,10 +114,11 @@ fn opening(alloc: Global, value: &Value) -> Result<Opened, TextFault>
 }
 
 #[tactic(auto, unfolding(crate::specs::Members::outbox_of))]
-fn outbox(alloc: Global, value: &Value) -> Result<Outbox, TextFault>
-    ensures { Reads (λ outbox. outbox) result (outbox_of (view value.now)) }
+fn outbox(alloc: Global, value: &Value, key: &str) -> Result<Outbox, TextFault>
+    ensures { Reads (λ outbox. outbox) result (option_and_then outbox_of (get key.now (view value.now))) }
 {
-    let taken = files(alloc, member(value, "taken")?)?;
-    let waiting = handed(alloc, member(value, "waiting")?)?;
+    let value = member(value, key)?;
+    let taken = files(alloc, value, "taken")?;
+    let waiting = handed(alloc, value, "waiting")?;
     Ok(Outbox { taken, waiting })
 }

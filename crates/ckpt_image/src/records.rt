@@ -1,16 +1,17 @@
 //! How the records of an image are read.
 
-ghost use Rattle.std.specs.Prelude.{◌≡◌, IsTrue, map};
+ghost use Rattle.std.specs.Prelude.{◌≡◌, IsTrue, map, option_and_then};
 ghost use Rattle.ckpt_ids.specs.Acknowledged.{AreInSubtaskOrder, is_before};
 ghost use Rattle.ckpt_core.specs.Images.{record_in};
 ghost use Rattle.ckpt_image.specs.Images.{Reads};
 ghost use Rattle.ckpt_image.specs.Members.{ack_of, acks_of, are_in_subtask_order, list_of, saved_of};
+ghost use Rattle.serde_json.specs.Find.{get};
 ghost use Rattle.serde_json.specs.View.{view};
 
 use crate::fault::TextFault;
 use crate::fault::TextFault::NoImage;
 use crate::lists::{files, shape};
-use crate::values::{is_done, kind, member, number, small_number};
+use crate::values::{is_done, kind, member, number_at, small_number};
 use ckpt_core::Saved;
 use ckpt_ids::{Acked, Acks, CheckpointId, Metadata, SubtaskId};
 use serde_json::Value;
@@ -32,13 +33,13 @@ pub(crate) fn records(alloc: Global, value: &Value) -> Result<Vec<Saved>, TextFa
 fn record(alloc: Global, value: &Value) -> Result<Saved, TextFault>
     ensures { Reads record_in result (saved_of (view value.now)) }
 {
-    let acks = acks(alloc, member(value, "acks")?)?;
-    let id = CheckpointId(number(member(value, "id")?)?);
-    let kind = kind(member(value, "kind")?)?;
-    let pins = files(alloc, member(value, "pins")?)?;
-    let shape = shape(alloc, member(value, "shape")?)?;
-    let started = number(member(value, "started")?)?;
-    let done = is_done(member(value, "state")?)?;
+    let acks = acks(alloc, value, "acks")?;
+    let id = CheckpointId(number_at(value, "id")?);
+    let kind = kind(value, "kind")?;
+    let pins = files(alloc, value, "pins")?;
+    let shape = shape(alloc, value, "shape")?;
+    let started = number_at(value, "started")?;
+    let done = is_done(value, "state")?;
     let metadata = Metadata {
         id,
         kind,
@@ -51,10 +52,10 @@ fn record(alloc: Global, value: &Value) -> Result<Saved, TextFault>
 }
 
 #[tactic(auto, unfolding(crate::specs::Members::acks_of))]
-fn acks(alloc: Global, value: &Value) -> Result<Acks, TextFault>
-    ensures { Reads (λ acks. acks) result (acks_of (view value.now)) }
+fn acks(alloc: Global, value: &Value, key: &str) -> Result<Acks, TextFault>
+    ensures { Reads (λ acks. acks) result (option_and_then acks_of (get key.now (view value.now))) }
 {
-    let list = ack_list(alloc, value)?;
+    let list = ack_list(alloc, member(value, key)?)?;
     if are_in_order(&list) {
         Ok(Acks::of(list))
     } else {
@@ -77,9 +78,9 @@ fn ack_list(alloc: Global, value: &Value) -> Result<Vec<Acked>, TextFault>
 fn ack(alloc: Global, value: &Value) -> Result<Acked, TextFault>
     ensures { Reads (λ ack. ack) result (ack_of (view value.now)) }
 {
-    let files = files(alloc, member(value, "files")?)?;
-    let index = small_number(member(value, "index")?)?;
-    let vertex = small_number(member(value, "vertex")?)?;
+    let files = files(alloc, value, "files")?;
+    let index = small_number(value, "index")?;
+    let vertex = small_number(value, "vertex")?;
     let subtask = SubtaskId { vertex, index };
     Ok(Acked { subtask, files })
 }

@@ -1,10 +1,14 @@
-//! Tests of scripts: what [`ckpt_script::run`] does over readers and writers that fail, and the seats
-//! of its calls.
+//! Tests of scripts: how lines are read ([`ckpt_lines`]) and written for calls
+//! ([`ckpt_call_lines`]), what [`ckpt_script::run`] does over readers and writers that fail, and the
+//! seats of its calls.
 //!
-//! `examples/rows` have what each line prints. `docs/DECISIONS.md` says why these tests are not in
-//! the crate that they test.
+//! `examples/rows` compare what each line prints. Their outputs have each reply, and each refusal
+//! but `IdsUsedUp`, which `ckpt_core_tests` has. `docs/DECISIONS.md` says why these tests are not in
+//! the crates that they test.
 #![tactic(auto)]
 
+#[cfg(test)]
+mod lines;
 #[cfg(test)]
 mod runs;
 #[cfg(test)]

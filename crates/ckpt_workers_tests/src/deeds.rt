@@ -2,7 +2,7 @@
 ghost use Rattle.std.specs.Prelude.{◌≡◌, ◌≢◌, [], true, IfOk};
 
 use crate::desk::{Listed, orders};
-use ckpt_ids::{Answer, Call, FileId, Handed, Reply};
+use ckpt_ids::{Answer, Call, Handed};
 use ckpt_locked::Pass;
 use ckpt_workers::{
     Gate, Order, Round, Storage, Tally, TimerTally, discard_round, resume_round, task_worker,
@@ -96,7 +96,7 @@ pub(crate) fn rest_of<R: Wait, G: Gate, S: Storage>(
 }
 
 /// Whether the round left nothing.
-pub(crate) fn is_whole(round: &Round) -> bool {
+fn is_whole(round: &Round) -> bool {
     round.left.is_empty() && !round.gone && !round.memory
 }
 
@@ -131,24 +131,5 @@ pub(crate) fn told<R: Wait, G: Gate>(
     match gate.call(rt, pass, call) {
         Ok(told) => Ok(told),
         Err(_) => Err(Fail::new("no memory")),
-    }
-}
-
-/// Whether these are the files, in order.
-pub(crate) fn are(handed: &Handed, files: &[FileId]) -> bool {
-    let count = handed.len();
-    for place in 0..count {
-        if handed.get(place) != files.get(place).copied() {
-            return false;
-        }
-    }
-    count == files.len()
-}
-
-/// Whether the files were taken.
-pub(crate) fn has_taken(answer: &Answer, files: &[FileId]) -> bool {
-    match answer {
-        Answer::Done(Reply::Taken(taken)) => are(taken, files),
-        _ => false,
     }
 }

@@ -88,7 +88,8 @@ impl<'a> Moments for Listed<'a> {
     }
 }
 
-/// Deletes files by listing them. The try at `fails_at`, counted from 0, fails.
+/// Deletes files by listing them, in a list with room for eight. The try at `fails_at`, counted from
+/// 0, fails.
 #[derive(Drop)]
 pub(crate) struct Disk<'a, R: Abort> {
     rt: &'a R,
@@ -99,14 +100,18 @@ pub(crate) struct Disk<'a, R: Abort> {
 }
 
 impl<'a, R: Abort> Disk<'a, R> {
-    pub(crate) fn new(rt: &'a R, alloc: Global, fails_at: Option<u64>) -> Disk<'a, R> {
-        Disk {
+    pub(crate) fn new(
+        rt: &'a R,
+        alloc: Global,
+        fails_at: Option<u64>,
+    ) -> Result<Disk<'a, R>, AllocError> {
+        Ok(Disk {
             rt,
-            deleted: Vec::new(alloc),
+            deleted: Vec::with_capacity(alloc, 8)?,
             tries: 0,
             failures: 0,
             fails_at,
-        }
+        })
     }
 }
 
@@ -120,7 +125,7 @@ impl<'a, R: Abort> Storage for Disk<'a, R> {
             self.failures = self.failures.checked_add(1).expect(self.rt, "few failures");
             return Err(StorageFault);
         }
-        self.deleted.push(file).expect(self.rt, "memory");
+        self.deleted.push(file).expect(self.rt, "room");
         Ok(())
     }
 }

@@ -201,7 +201,7 @@ fn has_tick_at(book: &Book, place: u64) -> bool {
 #[test]
 fn a_checkpoint_is_taken_by_two_tasks(rt: HostRuntime) -> Result<(), Fail> {
     let alloc = rt.alloc();
-    let mut disk = Disk::new(&rt, alloc, None);
+    let mut disk = Disk::new(&rt, alloc, None)?;
     let book = under_a_lock(&rt, alloc, &mut disk)?;
     assert!(rt; disk.deleted.as_slice() == [FileId(1), FileId(2)].as_slice());
     // Three calls of checkpoint 1 and three of checkpoint 2, a take, and two reports.

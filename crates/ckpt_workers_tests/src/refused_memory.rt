@@ -1,38 +1,26 @@
 //! A round of the discarder with a refused allocation: nothing is lost, and the round is resumed.
-ghost use Rattle.std.specs.Prelude.{◌≡◌};
+ghost use Rattle.std.specs.Prelude.{◌≡◌, IfOk};
 
+use crate::books::{complete, open};
 use crate::deeds::{rest_of, round_of};
-use crate::rounds::lock_with_three_files;
+use crate::desk::{Disk, two};
 use ckpt_ids::FileId;
 use ckpt_locked::{Locked, Pass};
-use ckpt_workers::{Storage, StorageFault};
-use std::alloc::{AllocError, Global};
+use ckpt_workers::Storage;
+use std::alloc::Global;
 use std::process::Abort;
 use std::sync::Wait;
 use std::test::Fail;
 
-/// Deletes files by listing them, in a list that has room.
-#[derive(Drop)]
-struct Disk<'a, R: Abort> {
-    rt: &'a R,
-    deleted: Vec<FileId>,
-}
-
-impl<'a, R: Abort> Storage for Disk<'a, R> {
-    ghost stored = { λ d. record { deleted = d.deleted.items; failures = 0 } };
-
-    fn delete(&mut self, file: FileId) -> Result<(), StorageFault> {
-        self.deleted.push(file).expect(self.rt, "room");
-        Ok(())
-    }
-}
-
-/// A storage with room for eight files.
-fn with_room<R: Abort>(rt: &R, alloc: Global) -> Result<Disk<'_, R>, AllocError> {
-    Ok(Disk {
-        rt,
-        deleted: Vec::with_capacity(alloc, 8)?,
-    })
+/// A lock over a job whose second checkpoint has released the files 1, 2 and 3 of the first one.
+fn lock_with_three_files<R: Wait>(rt: &R, alloc: Global) -> Result<(Locked, Pass), Fail>
+    ensures { IfOk result (λ made. made.1.lock ≡ made.0) }
+{
+    let mut book = open(alloc, 1)?;
+    complete(alloc, &mut book, 1000, 1, &[&[1, 2, 3]])?;
+    complete(alloc, &mut book, 2000, 2, &[&[4]])?;
+    let (lock, pass, _) = two(rt, book)?;
+    Ok((lock, pass))
 }
 
 /// A round of the discarder, which is resumed if it ran out of memory. Returns the number of files
@@ -59,7 +47,7 @@ fn clean<R: Wait + Abort, S: Storage>(
 fn refused_memory_in_a_round(rt: HostRuntime) -> Result<(), Fail> {
     let alloc = rt.alloc();
     let (lock, pass) = lock_with_three_files(&rt, alloc)?;
-    let mut disk = with_room(&rt, alloc)?;
+    let mut disk = Disk::new(&rt, alloc, None)?;
     let (pass, taken) = clean(&rt, alloc, &lock, pass, &mut disk);
     // If the take ran out of memory, the files still wait.
     if taken == 0 {

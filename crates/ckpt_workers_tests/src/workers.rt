@@ -30,7 +30,7 @@ fn three_workers_share_a_lock(rt: HostRuntime) -> Result<(), Fail> {
     ticks(&rt, &lock, timer, &[2000], [1, 0, 0]);
     tasks(&rt, alloc, &lock, task, &[(2000, 2, 0, 12)], [1, 0, 0, 0])?;
 
-    let mut disk = Disk::new(&rt, alloc, Some(0));
+    let mut disk = Disk::new(&rt, alloc, Some(0))?;
     let discarder = discards(&rt, alloc, &lock, discarder, &mut disk, [1, 0, 1]);
     let discarder = discards(&rt, alloc, &lock, discarder, &mut disk, [1, 1, 0]);
     assert!(rt; disk.deleted.as_slice() == [FileId(11)].as_slice());

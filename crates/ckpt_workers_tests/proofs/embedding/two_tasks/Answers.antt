@@ -1,17 +1,9 @@
 -- Answers the goals of `two_tasks`.
-use denote.Param.Send.{IsSend, sendable}
+use denote.Param.Send.{sendable}
 use Rattle.std.proofs.Crossing.{crosses}
 use Rattle.ckpt_locked.proofs.Crossings.{locked_sync, pass_send}
-use Rattle.ckpt_workers.specs.contracts.order.Order as Order
-use Rattle.ckpt_workers_tests.specs.contracts.embedding.Task as Task
+use Rattle.ckpt_workers_tests.proofs.embedding.Sends.{task_send}
 use Rattle.ckpt_workers_tests.proofs.embedding.two_tasks.Goals as goal
-
-order_send : IsSend Order.the_row
-order_send = search (sendable, crosses) depth 80 fits 20000
-
--- a task may go to another thread
-task_send : IsSend Task.the_row
-task_send = search (pass_send, order_send, sendable, crosses) depth 80 fits 20000
 
 pub join-requires-send-F : goal.join-requires-send-F
 join-requires-send-F g c = search (task_send, locked_sync, sendable, crosses) depth 80 fits 20000

@@ -1,0 +1,2 @@
+-- What the proofs of `embedding` share.
+mod Sends
