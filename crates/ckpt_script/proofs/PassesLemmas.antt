@@ -64,6 +64,10 @@ pub on_err_map : {T E : Type 0} (r : Result T E) {P : E → Type 0} {Q : Type 0}
 on_err_map (Ok x) f p = tt
 on_err_map (Err e) f p = f e p
 
+pub if_err_both : {T E : Type 0} (r : Result T E) {P Q R : E → Type 0} → ((e : E) → P e → Q e → R e) → IfErr r P → IfErr r Q → IfErr r R
+if_err_both (Ok x) f p q = tt
+if_err_both (Err e) f p q = f e p q
+
 -- the exit of a `?` that hands an error on
 pub if_err_is : {T E : Type 0} (r : Result T E) (x : E) (P : E → Type 0) → IsErrAnd r (λ y. y ≡ x) → P x → IfErr r P
 if_err_is (Ok z) x P e p = tt

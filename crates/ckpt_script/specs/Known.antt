@@ -21,3 +21,8 @@ pub record Passes (before after : Option (List ℕ)) (waiting text left : List �
 -- The same, for any output that still waits.
 abbrev pub PassesFront : Option (List ℕ) → Option (List ℕ) → List ℕ → List ℕ → Type 0
 PassesFront before after waiting text = (left : List ℕ) × Passes before after waiting text left
+
+-- What waited and then the text were handed to a sink that has not failed; so much waits still.
+pub record Prints (before after : Option (List ℕ)) (waiting text left : List ℕ) (failures : ℕ) : Type 0 where
+  pub passes : Passes before after waiting text left
+  pub going_on : failures ≡ 0

@@ -1,5 +1,6 @@
 -- The definitions that contracts cite.
 pub mod Devices
+pub mod Faults
 pub mod Known
 pub mod Lines
 pub mod Outputs

@@ -1,6 +1,7 @@
 -- What was taken from what is read ahead and from what the source has left.
-use Rattle.std.specs.Prelude.{ℕ, ◌+◌, ◌<◌, List, length, take, drop, Option, None, Some, IfSome}
-use Rattle.std.specs.Io.KnownBytes.{prepend_known}
+use Rattle.std.specs.Prelude.{◌≡◌, ℕ, ◌+◌, ◌<◌, ◌≤◌, true, false, List, [], length, take, drop, Option, None, Some, IfSome}
+use Rattle.std.specs.Io.KnownBytes.{Keeps, IsAtEnd, prepend_known}
+use Rattle.ckpt_script.specs.Devices.{Asked, IsCounted, used}
 use Rattle.ckpt_script.specs.Known.{WhereKnown}
 use Rattle.ckpt_script.specs.Lines.{held, HoldsLine, HoldsPart}
 use Rattle.ckpt_script.specs.Unread.{Unread}
@@ -8,6 +9,26 @@ use Rattle.ckpt_script.specs.Unread.{Unread}
 -- what is read ahead and what the source has left, if that is known
 abbrev pub all_left : Unread → Option (List ℕ) → Option (List ℕ)
 all_left ahead left = prepend_known ahead.bytes left
+
+-- What is known of a source between two reads: nothing is left once it said so, and what it was asked is counted.
+pub record IsFollowed (left : Option (List ℕ)) (asked : Asked) (ahead : Unread) : Type 0 where
+  pub ended : ahead.is_ended ≡ true → IsAtEnd left
+  pub counted : IsCounted asked ahead
+
+-- More may be read ahead: no byte of the script is lost, and its end is not forgotten.
+pub record ReadsOn (old : Unread) (before : Option (List ℕ)) (new : Unread) (after : Option (List ℕ)) : Type 0 where
+  pub kept : Keeps (all_left old before) (all_left new after)
+  pub ended : new.is_ended ≡ true → IsAtEnd after
+  pub stays : new.is_ended ≡ false → old.is_ended ≡ false
+
+-- Bytes are read ahead, unless the script has ended, and none was used.
+pub record IsFilled (old : Unread) (before : Asked) (new : Unread) (after : Asked) : Type 0 where
+  pub filled : new.bytes ≡ [] → new.is_ended ≡ true
+  -- if nothing was ahead, the source was read once
+  pub fewer : old.bytes ≡ [] → old.is_ended ≡ false → new.reads_left + 1 ≡ old.reads_left
+  pub counted : IsCounted after new
+  pub bytes_used : used after new ≡ used before old
+  pub bytes_given : before.bytes ≤ after.bytes
 
 -- a line was read, of which the front is held
 abbrev pub ReadsLine : Unread → Option (List ℕ) → Unread → Option (List ℕ) → List ℕ → Type 0
@@ -32,6 +53,7 @@ abbrev pub line_at : Unread → List ℕ → Option ℕ → List ℕ
 line_at ahead line None = line
 line_at ahead line (Some newline) = take held (take newline ahead.bytes)
 
--- a line was found, in what is read ahead or by reading on
-abbrev pub FindsLine : Unread → Option (List ℕ) → Unread → Option (List ℕ) → List ℕ → Option ℕ → Type 0
-FindsLine old before new after line newline = ReadsLine old before (left_by new newline) after (line_at new line newline)
+-- A line was found, in what is read ahead or by reading on.
+pub record FindsLine (old : Unread) (before : Option (List ℕ)) (new : Unread) (after : Option (List ℕ)) (line : List ℕ) (newline : Option ℕ) : Type 0 where
+  pub ahead : IsAhead new newline
+  pub read : ReadsLine old before (left_by new newline) after (line_at new line newline)

@@ -1,13 +1,15 @@
 -- What a runner keeps between two lines, and how its run ends. `left` is what the source has left, and `shown` what the sink holds.
-use Rattle.std.specs.Prelude.{ℕ, ◌+◌, List, Option, Result, Err, is_err, if◌then◌else◌}
+use Rattle.std.specs.Prelude.{◌≡◌, ℕ, ◌+◌, ◌≤◌, List, Option, Result, Err, is_err, if◌then◌else◌}
 use Rattle.ckpt_lines.specs.declared.fault.LineFault.{LineFault}
 use Rattle.ckpt_lines.specs.declared.line.Line.{Line}
 use Rattle.ckpt_lines.specs.Reading.{reading}
 use Rattle.ckpt_session.specs.Sessions.{Said, said}
 use Rattle.ckpt_script.specs.declared.fault.RunFault.{RunFault}
+use Rattle.ckpt_script.specs.declared.limits.TheConstants.{MOST_LINES}
 use Rattle.ckpt_script.specs.declared.runner.Runner.{Runner}
+use Rattle.ckpt_script.specs.Devices.{Asked, used}
 use Rattle.ckpt_script.specs.Outputs.{Ran}
-use Rattle.ckpt_script.specs.Reads.{all_left, line_at}
+use Rattle.ckpt_script.specs.Reads.{IsFollowed, all_left, line_at}
 use Rattle.ckpt_script.specs.Telling.{IsSoFar, Stopped}
 
 -- what the next line means
@@ -21,6 +23,20 @@ faults_next run newline = run.summary.faults + (if is_err (reading_next run newl
 -- what it does and prints
 abbrev pub said_next : Runner → Option ℕ → Said
 said_next run newline = said (run.summary.lines + 1) run.session (reading_next run newline)
+
+-- The next line was obeyed: it is counted, and the session is as it says.
+pub record Obeys (old : Runner) (newline : Option ℕ) (new : Runner) : Type 0 where
+  pub lines : new.summary.lines ≡ old.summary.lines + 1
+  pub faults : new.summary.faults ≡ faults_next old newline
+  pub scene : new.session ≡ (said_next old newline).0
+
+-- What is so between two lines: the source is followed, the sink has not failed, and each line took a byte at least.
+pub record IsReady (run : Runner) (left : Option (List ℕ)) (asked : Asked) (failures : ℕ) : Type 0 where
+  pub followed : IsFollowed left asked run.ahead
+  pub going_on : failures ≡ 0
+  pub lines : run.summary.lines ≤ MOST_LINES
+  pub bytes_used : run.summary.lines ≤ used asked run.ahead
+  pub faults : run.summary.faults ≤ run.summary.lines
 
 -- of a text, so much has been run and shown
 abbrev pub IsAt : Runner → Option (List ℕ) → Option (List ℕ) → Option (List ℕ) → Option (List ℕ) → Type 0

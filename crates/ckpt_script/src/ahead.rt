@@ -1,10 +1,11 @@
 //! What was read of a script and not used yet, and how the next line is found in it.
 ghost use Rattle.std.specs.Prelude.{◌≡◌, ◌+◌, ◌≢◌, ◌≤◌, ◌<◌, ◌∷◌, ◌++◌, ℕ, List, true, false, [], IsTrue, ◌↔◌, IfOk, OnOk, OnErr, IfErr, length, take, Some};
-ghost use Rattle.std.specs.Io.KnownBytes.{Keeps, IsAtEnd, prepend_known};
+ghost use Rattle.std.specs.Io.KnownBytes.{IsAtEnd};
 ghost use Rattle.ckpt_script.specs.Devices.{IsCounted, IsCaused, used};
-ghost use Rattle.ckpt_script.specs.Known.{Passes, PassesFront};
+ghost use Rattle.ckpt_script.specs.Faults.{FailsBy};
+ghost use Rattle.ckpt_script.specs.Known.{Prints};
 ghost use Rattle.ckpt_script.specs.Lines.{held, FindsNewline, Moves};
-ghost use Rattle.ckpt_script.specs.Reads.{FindsLine, IsAhead, ReadsPart, left_by};
+ghost use Rattle.ckpt_script.specs.Reads.{FindsLine, IsFilled, IsFollowed, ReadsOn, ReadsPart, left_by};
 
 use crate::fault::RunFault;
 use crate::limits::MOST_READS;
@@ -79,25 +80,15 @@ impl Ahead {
         printed: &mut Printed,
         sink: &mut K,
     ) -> Result<(), RunFault>
-        requires ended { self.old.is_ended ≡ true → IsAtEnd (S.remaining source.old) }
-        requires counted { IsCounted (S.asked source.old) self.old }
+        requires followed { IsFollowed (S.remaining source.old) (S.asked source.old) self.old }
         requires going_on { K.failures sink.old ≡ 0 }
-        ensures kept { Keeps (prepend_known self.old.bytes (S.remaining source.old)) (prepend_known self.new.bytes (S.remaining source.new)) }
-        ensures ended { self.new.is_ended ≡ true → IsAtEnd (S.remaining source.new) }
-        ensures filled { OnOk result (self.new.bytes ≡ [] → self.new.is_ended ≡ true) }
-        ensures stays { self.new.is_ended ≡ false → self.old.is_ended ≡ false }
-        ensures fewer { OnOk result (self.old.bytes ≡ [] → self.old.is_ended ≡ false → self.new.reads_left + 1 ≡ self.old.reads_left) }
+        ensures read { ReadsOn self.old (S.remaining source.old) self.new (S.remaining source.new) }
+        ensures filled { OnOk result (IsFilled self.old (S.asked source.old) self.new (S.asked source.new)) }
         ensures at_once { OnOk result (self.old.bytes ≡ [] → self.old.is_ended ≡ false → printed.new ≡ []) }
-        ensures counted { OnOk result (IsCounted (S.asked source.new) self.new) }
-        ensures bytes_used { OnOk result (used (S.asked source.new) self.new ≡ used (S.asked source.old) self.old) }
-        ensures bytes_given { OnOk result ((S.asked source.old).bytes ≤ (S.asked source.new).bytes) }
-        ensures going_on { OnOk result (K.failures sink.new ≡ 0) }
-        ensures shown { OnOk result (Passes (K.contents sink.old) (K.contents sink.new) printed.old [] printed.new) }
-        ensures fault { IfErr result (λ why. (why ≢ RunFault.TooManyLines) × (why ≢ RunFault.Memory)) }
-        ensures unread { IfErr result (λ why. why ≡ RunFault.Read → (self.new.bytes ≡ []) × (self.old.is_ended ≡ false)) }
-        ensures shown_read { IfErr result (λ why. why ≡ RunFault.Read → Passes (K.contents sink.old) (K.contents sink.new) printed.old [] printed.new) }
-        ensures cut { OnErr result (PassesFront (K.contents sink.old) (K.contents sink.new) printed.old []) }
-        ensures cause { IfErr result (IsCaused (S.asked source.new) (K.failures sink.new)) }
+        ensures shown { OnOk result (Prints (K.contents sink.old) (K.contents sink.new) printed.old [] printed.new (K.failures sink.new)) }
+        ensures fault { IfErr result (FailsBy self.old (S.asked source.new) (K.contents sink.old) (K.contents sink.new) printed.old printed.new (K.failures sink.new)) }
+        ensures memory { IfErr result (λ why. why ≢ RunFault.Memory) }
+        ensures unread { OnErr result (self.new.bytes ≡ []) }
         ensures same_source { S.device source.new ≡ S.device source.old }
         ensures same_sink { K.device sink.new ≡ K.device sink.old }
     {
@@ -113,13 +104,8 @@ impl Ahead {
         requires unread { self.old.bytes ≡ [] }
         requires going_on { self.old.is_ended ≡ false }
         requires counted { IsCounted (S.asked source.old) self.old }
-        ensures kept { Keeps (prepend_known [] (S.remaining source.old)) (prepend_known self.new.bytes (S.remaining source.new)) }
-        ensures ended { self.new.is_ended ≡ true → IsAtEnd (S.remaining source.new) }
-        ensures filled { OnOk result (self.new.bytes ≡ [] → self.new.is_ended ≡ true) }
-        ensures fewer { OnOk result (self.new.reads_left + 1 ≡ self.old.reads_left) }
-        ensures counted { OnOk result (IsCounted (S.asked source.new) self.new) }
-        ensures bytes_used { OnOk result (used (S.asked source.new) self.new ≡ (S.asked source.old).bytes) }
-        ensures bytes_given { OnOk result ((S.asked source.old).bytes ≤ (S.asked source.new).bytes) }
+        ensures read { ReadsOn self.old (S.remaining source.old) self.new (S.remaining source.new) }
+        ensures filled { OnOk result (IsFilled self.old (S.asked source.old) self.new (S.asked source.new)) }
         ensures fault { IfErr result (λ why. why ≡ RunFault.Read) }
         ensures unread { OnErr result (self.new.bytes ≡ []) }
         ensures cause { IfErr result (IsCaused (S.asked source.new) 0) }
@@ -151,22 +137,15 @@ impl Ahead {
         printed: &mut Printed,
         sink: &mut K,
     ) -> Result<Option<usize>, RunFault>
-        requires ended { self.old.is_ended ≡ true → IsAtEnd (S.remaining source.old) }
-        requires counted { IsCounted (S.asked source.old) self.old }
+        requires followed { IsFollowed (S.remaining source.old) (S.asked source.old) self.old }
         requires going_on { K.failures sink.old ≡ 0 }
         ensures ended { self.new.is_ended ≡ true → IsAtEnd (S.remaining source.new) }
-        ensures line { IfOk result (FindsLine self.old (S.remaining source.old) self.new (S.remaining source.new) line.new.items) }
-        ensures ahead { IfOk result (IsAhead self.new) }
-        ensures part { IfErr result (λ why. why ≡ RunFault.Read → ReadsPart self.old (S.remaining source.old) (S.remaining source.new) line.new.items) }
-        ensures stays { IfErr result (λ why. why ≡ RunFault.Read → self.old.is_ended ≡ false) }
-        ensures fault { IfErr result (λ why. why ≢ RunFault.TooManyLines) }
         ensures counted { OnOk result (IsCounted (S.asked source.new) self.new) }
-        ensures bytes_used { self.old.bytes ≢ [] → IfOk result (λ newline. used (S.asked source.old) self.old < used (S.asked source.new) (left_by self.new newline)) }
-        ensures going_on { OnOk result (K.failures sink.new ≡ 0) }
-        ensures shown { OnOk result (Passes (K.contents sink.old) (K.contents sink.new) printed.old [] printed.new) }
-        ensures shown_read { IfErr result (λ why. why ≡ RunFault.Read → Passes (K.contents sink.old) (K.contents sink.new) printed.old [] printed.new) }
-        ensures cut { OnErr result (PassesFront (K.contents sink.old) (K.contents sink.new) printed.old []) }
-        ensures cause { IfErr result (IsCaused (S.asked source.new) (K.failures sink.new)) }
+        ensures line { IfOk result (FindsLine self.old (S.remaining source.old) self.new (S.remaining source.new) line.new.items) }
+        ensures bytes_used { self.old.bytes ≢ [] → IfOk result (λ place. used (S.asked source.old) self.old < used (S.asked source.new) (left_by self.new place)) }
+        ensures shown { OnOk result (Prints (K.contents sink.old) (K.contents sink.new) printed.old [] printed.new (K.failures sink.new)) }
+        ensures part { IfErr result (λ why. why ≡ RunFault.Read → ReadsPart self.old (S.remaining source.old) (S.remaining source.new) line.new.items) }
+        ensures fault { IfErr result (FailsBy self.old (S.asked source.new) (K.contents sink.old) (K.contents sink.new) printed.old printed.new (K.failures sink.new)) }
         ensures same_source { S.device source.new ≡ S.device source.old }
         ensures same_sink { K.device sink.new ≡ K.device sink.old }
     {

@@ -1,10 +1,11 @@
 //! A run of a script: reads line after line, obeys it and prints.
 ghost use Rattle.std.specs.Prelude.{◌≡◌, ◌≢◌, ◌≤◌, ◌<◌, ◌+◌, [], Ok, Err, true, false, OnOk, OnErr, IfOk, IfErr};
 ghost use Rattle.std.specs.Io.KnownBytes.{IsAtEnd};
-ghost use Rattle.ckpt_script.specs.Devices.{Asked, IsCounted, IsCaused, SinkCauses, IsReadThrough, used};
-ghost use Rattle.ckpt_script.specs.Known.{Passes, PassesFront};
+ghost use Rattle.ckpt_script.specs.Devices.{Asked, IsCaused, SinkCauses, IsReadThrough};
+ghost use Rattle.ckpt_script.specs.Faults.{FailsToPrint};
+ghost use Rattle.ckpt_script.specs.Known.{Prints};
 ghost use Rattle.ckpt_script.specs.Reads.{IsAhead, left_by};
-ghost use Rattle.ckpt_script.specs.Runs.{reading_next, faults_next, said_next, GoesOn, Stops, EndsBy};
+ghost use Rattle.ckpt_script.specs.Runs.{reading_next, said_next, Obeys, IsReady, GoesOn, Stops, EndsBy};
 ghost use Rattle.ckpt_script.specs.Telling.{keeps_lines};
 ghost use Rattle.ckpt_session.specs.Sessions.{opening_scene};
 
@@ -56,14 +57,9 @@ impl Runner {
         requires faults { self.old.summary.faults ≤ self.old.summary.lines }
         requires going_on { K.failures sink.old ≡ 0 }
         ensures left { self.new.ahead ≡ left_by self.old.ahead newline }
-        ensures lines { OnOk result (self.new.summary.lines ≡ self.old.summary.lines + 1) }
-        ensures faults { OnOk result (self.new.summary.faults ≡ faults_next self.old newline) }
-        ensures scene { OnOk result (self.new.session ≡ (said_next self.old newline).0) }
-        ensures shown { OnOk result (Passes (K.contents sink.old) (K.contents sink.new) self.old.printed (said_next self.old newline).1 self.new.printed) }
-        ensures cut { OnErr result (PassesFront (K.contents sink.old) (K.contents sink.new) self.old.printed (said_next self.old newline).1) }
-        ensures fault { IfErr result (λ why. (why ≢ RunFault.Read) × (why ≢ RunFault.TooManyLines)) }
-        ensures going_on { OnOk result (K.failures sink.new ≡ 0) }
-        ensures cause { IfErr result (SinkCauses (K.failures sink.new)) }
+        ensures obeyed { OnOk result (Obeys self.old newline self.new) }
+        ensures shown { OnOk result (Prints (K.contents sink.old) (K.contents sink.new) self.old.printed (said_next self.old newline).1 self.new.printed (K.failures sink.new)) }
+        ensures fault { IfErr result (FailsToPrint (K.contents sink.old) (K.contents sink.new) self.old.printed (said_next self.old newline).1 (K.failures sink.new)) }
         ensures same_sink { K.device sink.new ≡ K.device sink.old }
     {
         let number = self.summary.lines + 1;
@@ -90,22 +86,13 @@ impl Runner {
         sink: &mut K,
         team: &mut T,
     ) -> Result<bool, RunFault>
-        requires ended { self.old.ahead.is_ended ≡ true → IsAtEnd (S.remaining source.old) }
-        requires counted { IsCounted (S.asked source.old) self.old.ahead }
-        requires going_on { K.failures sink.old ≡ 0 }
-        requires lines { self.old.summary.lines ≤ MOST_LINES }
-        requires bytes_used { self.old.summary.lines ≤ used (S.asked source.old) self.old.ahead }
-        requires faults { self.old.summary.faults ≤ self.old.summary.lines }
+        requires ready { IsReady self.old (S.remaining source.old) (S.asked source.old) (K.failures sink.old) }
+        ensures ready { OnOk result (IsReady self.new (S.remaining source.new) (S.asked source.new) (K.failures sink.new)) }
         ensures ended { self.new.ahead.is_ended ≡ true → IsAtEnd (S.remaining source.new) }
-        ensures lines { OnOk result (self.new.summary.lines ≤ MOST_LINES) }
-        ensures bytes_used { OnOk result (self.new.summary.lines ≤ used (S.asked source.new) self.new.ahead) }
-        ensures faults { OnOk result (self.new.summary.faults ≤ self.new.summary.lines) }
         ensures more { IfOk result (λ more. more ≡ true → self.new.summary.lines ≡ self.old.summary.lines + 1) }
         ensures end { IfOk result (λ more. more ≡ false → (self.new.ahead.bytes ≡ []) × (self.new.ahead.is_ended ≡ true)) }
         ensures so_far { OnOk result (GoesOn self.old (S.remaining source.old) (K.contents sink.old) self.new (S.remaining source.new) (K.contents sink.new)) }
         ensures stopped { IfErr result (Stops self.old (S.remaining source.old) (K.contents sink.old) self.new (S.remaining source.new) (K.contents sink.new)) }
-        ensures counted { OnOk result (IsCounted (S.asked source.new) self.new.ahead) }
-        ensures going_on { OnOk result (K.failures sink.new ≡ 0) }
         ensures cause { IfErr result (IsCaused (S.asked source.new) (K.failures sink.new)) }
         ensures same_source { S.device source.new ≡ S.device source.old }
         ensures same_sink { K.device sink.new ≡ K.device sink.old }
@@ -152,19 +139,12 @@ impl Runner {
         sink: &mut K,
         team: &mut T,
     ) -> Result<(), RunFault>
-        requires ended { self.old.ahead.is_ended ≡ true → IsAtEnd (S.remaining source.old) }
-        requires counted { IsCounted (S.asked source.old) self.old.ahead }
-        requires going_on { K.failures sink.old ≡ 0 }
-        requires lines { self.old.summary.lines ≤ MOST_LINES }
-        requires bytes_used { self.old.summary.lines ≤ used (S.asked source.old) self.old.ahead }
-        requires faults { self.old.summary.faults ≤ self.old.summary.lines }
-        ensures lines { OnOk result (self.new.summary.lines ≤ MOST_LINES) }
-        ensures faults { OnOk result (self.new.summary.faults ≤ self.new.summary.lines) }
+        requires ready { IsReady self.old (S.remaining source.old) (S.asked source.old) (K.failures sink.old) }
+        ensures ready { OnOk result (IsReady self.new (S.remaining source.new) (S.asked source.new) (K.failures sink.new)) }
         ensures end { OnOk result ((self.new.ahead.bytes ≡ []) × IsAtEnd (S.remaining source.new)) }
         ensures so_far { OnOk result (GoesOn self.old (S.remaining source.old) (K.contents sink.old) self.new (S.remaining source.new) (K.contents sink.new)) }
         ensures stopped { IfErr result (Stops self.old (S.remaining source.old) (K.contents sink.old) self.new (S.remaining source.new) (K.contents sink.new)) }
         ensures read { OnOk result (IsReadThrough (S.asked source.new)) }
-        ensures going_on { OnOk result (K.failures sink.new ≡ 0) }
         ensures cause { IfErr result (IsCaused (S.asked source.new) (K.failures sink.new)) }
         ensures same_source { S.device source.new ≡ S.device source.old }
         ensures same_sink { K.device sink.new ≡ K.device sink.old }
