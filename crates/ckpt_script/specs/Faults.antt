@@ -14,7 +14,7 @@ pub record FailsBy (old : Unread) (asked : Asked) (before after : Option (List �
   pub cut : PassesFront before after waiting []
   pub cause : IsCaused asked failures why
 
--- Printing the text ended by this fault, of the sink or for want of memory. A prefix of what waited and of the text was
+-- Printing the text ended by this fault: the sink failed, or memory ran out. A prefix of what waited and of the text was
 -- written.
 pub record FailsToPrint (before after : Option (List ℕ)) (waiting text : List ℕ) (failures : ℕ) (why : RunFault) : Type 0 where
   pub fault : (why ≢ Read) × (why ≢ TooManyLines)
