@@ -31,6 +31,7 @@ fn joined(alloc: Global, fresh: &Files, reused: &Files) -> Result<Files, AllocEr
 
 impl Parts {
     /// Whether a file is in use, waits for deletion or was fetched for it.
+    #[inline(always)]
     pub(crate) fn knows(&self, file: FileId) -> bool
         ensures { result ≡ is_known_in self.now file }
     {

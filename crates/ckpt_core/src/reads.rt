@@ -24,7 +24,7 @@ impl Parts {
     }
 
     /// A fetched file is deleted. Refuses exactly if the file is not taken.
-    #[inline(never)]
+    #[inline(always)]
     pub(crate) fn deleted(&mut self, file: FileId) -> Result<Reply, Refusal>
         requires { AreSound self.old }
         ensures ok { IfOk result (Answers self.old self.new (call.Deleted file)) }
@@ -38,7 +38,7 @@ impl Parts {
     }
 
     /// A fetched file could not be deleted. Refuses exactly if the file is not taken.
-    #[inline(never)]
+    #[inline(always)]
     pub(crate) fn undeleted(&mut self, file: FileId) -> Result<Reply, Refusal>
         requires { AreSound self.old }
         ensures ok { IfOk result (Answers self.old self.new (call.Undeleted file)) }

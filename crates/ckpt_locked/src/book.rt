@@ -109,6 +109,8 @@ impl Book {
     ///
     /// Returns the call if memory runs out, or at 2^64 - 1 entries. Then nothing has changed. An
     /// entry may take memory, so any call may run out of memory, even a refused one.
+    // In its caller's code a call is moved once, into its entry.
+    #[inline(always)]
     pub fn apply(&mut self, seat: u32, call: Call) -> Result<Answer, Call>
         ensures entered { OnOk result (self.new ≡ entered self.old seat call) }
         ensures answer { IfOk result (λ answer. answer ≡ answer_to self.old call) }

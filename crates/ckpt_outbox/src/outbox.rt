@@ -128,6 +128,7 @@ impl Outbox {
     ///
     /// Conditions: [`Outbox::reserve`] made room for them all, no two of them are the same, and
     /// none waits or is taken.
+    #[inline(always)]
     pub fn put(&mut self, files: &[FileId])
         requires room { length files.now ≤ self.old.spare }
         requires distinct { AreDistinct files.now }

@@ -231,6 +231,7 @@ impl Pending {
 
 /// The place of this subtask's acknowledgement, or an `Err` with the place where it belongs. The
 /// last one is checked before a binary search.
+#[inline(always)]
 fn place_of(acks: &VecDeque<Acked>, subtask: SubtaskId) -> Result<usize, usize>
     requires { AreInSubtaskOrder acks.now.items }
     ensures found { IfOk result (LiesAt subtask_of subtask acks.now.items) }

@@ -94,6 +94,7 @@ pub(crate) fn lower_parts(counts: &mut Counts, released: &mut Vec<FileId>, parts
 
 /// The place of a record, or an `Err` with the place where it belongs. Mostly that is at the end,
 /// so the last record is checked first.
+#[inline(always)]
 fn place_of(acknowledged: &Acknowledged, id: CheckpointId) -> Result<usize, usize>
     requires { AreRising acknowledged.now.items }
     ensures found { IfOk result (LiesAt acknowledged.now.items id) }

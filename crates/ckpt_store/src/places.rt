@@ -17,6 +17,7 @@ const FIRST_ROOM: usize = 4;
 
 /// The place of the record with this number, or an `Err` if there is none. Mostly a caller wants
 /// the last or the first, so these two are checked before a binary search.
+#[inline(always)]
 pub(crate) fn place_of(queue: &VecDeque<Done>, id: CheckpointId) -> Result<usize, usize>
     requires { AreRising queue.now.items }
     ensures found { IfOk result (LiesAt id_of id queue.now.items) }
