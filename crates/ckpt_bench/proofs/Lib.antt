@@ -1,3 +1,2 @@
 -- The lemmas that the proofs use.
 pub mod Crossings
-pub mod Firsts

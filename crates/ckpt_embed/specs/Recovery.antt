@@ -25,6 +25,10 @@ list_told list places = if nat_lt places (length list) then too_short (length li
 abbrev pub acked_in : State → ℕ → SubtaskId → Option (List ℕ)
 acked_in m id subtask = option_and_then (λ r. files_from r subtask) (record_of m id)
 
+-- the same, with the subtask as two numbers
+abbrev pub acked_by : State → ℕ → ℕ → ℕ → Option (List ℕ)
+acked_by m id vertex index = acked_in m id (record { vertex = vertex; index = index })
+
 abbrev pub acked_told : Option (List ℕ) → ℕ → Answer
 acked_told (Some list) places = list_told list places
 acked_told None places = done 52 0 0

@@ -5,21 +5,15 @@ use Rattle.ckpt_ids.specs.declared.ack.Acked.{Acked}
 use Rattle.ckpt_ids.specs.Configuration.{Configuration}
 use Rattle.ckpt_ids.specs.Records.{Record}
 use Rattle.ckpt_core.specs.State.{Opening, State}
+use Rattle.ckpt_texts.proofs.NoFloats.{no_floats, numbers}
 use Rattle.ckpt_texts.specs.MetadataTexts.{natural}
 use Rattle.serde_json.specs.Data.{Data, null, boolean, number, string, array, object, Members, member, no_members, depth, items_depth, members_depth}
 use Rattle.serde_json.specs.Read.{max_depth}
 use Rattle.serde_json.specs.View.{items_of}
-use Rattle.serde_json.specs.Written.{has_float, items_have_float}
+use Rattle.serde_json.specs.Written.{has_float}
 use Rattle.ckpt_image.specs.Written.{ack_data, clock_data, config_data, image_data, naturals, opening_data, optional, outbox_data, record_data}
 
 -- ---- no float
-
-no_floats : {X : Type 0} (shown : X → Data) (xs : List X) → ((x : X) → has_float (shown x) ≡ false) → items_have_float (items_of (map shown xs)) ≡ false
-no_floats shown [] h = refl
-no_floats shown (x ∷ xs) h = rw (h x) (no_floats shown xs h)
-
-numbers : (ns : List ℕ) → items_have_float (items_of (map natural ns)) ≡ false
-numbers ns = no_floats natural ns (λ n. refl)
 
 optionals : (o : Option ℕ) → has_float (optional o) ≡ false
 optionals None = refl

@@ -60,7 +60,7 @@ fn put_later(
 {
     put(object, alloc, "version", Value::from(VERSION))?;
     put(object, alloc, "shape", shape_value(alloc, &image.shape)?)?;
-    // Tells that it is a shape.
+    // The contract of this call says that it is a shape.
     let _ = image.shape.vertices();
     put(
         object,
@@ -107,7 +107,7 @@ fn opening_value(alloc: Global, image: &Image) -> Result<Value, AllocError>
 {
     let config = config_value(alloc, &image.config)?;
     let shape = shape_value(alloc, &image.first_shape)?;
-    // Tells that it is a shape.
+    // The contract of this call says that it is a shape.
     let _ = image.first_shape.vertices();
     json!(in alloc; {"config": config, "first": image.first, "shape": shape, "start": image.start})
 }
@@ -171,7 +171,7 @@ fn record_value(alloc: Global, saved: &Saved) -> Result<Value, AllocError>
     // The contract of this read says that they are in ascending order.
     let _ = saved.pins.as_slice();
     let shape = shape_value(alloc, &saved.metadata.shape)?;
-    // Tells that it is a shape.
+    // The contract of this call says that it is a shape.
     let _ = saved.metadata.shape.vertices();
     let id = number_of(saved.metadata.id);
     let kind = kind_name(saved.metadata.kind);

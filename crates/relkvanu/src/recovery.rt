@@ -6,7 +6,7 @@ ghost use Rattle.ckpt_core.specs.Coordinator.{State, pending_of};
 ghost use Rattle.ckpt_core.specs.Reads.{live_of, pins_in, standing};
 ghost use Rattle.ckpt_embed.specs.Calls.{HasNoNumbers, StaysClosed};
 ghost use Rattle.ckpt_embed.specs.Reads.{live_told};
-ghost use Rattle.ckpt_embed.specs.Recovery.{BringsList, IsListTold, acked_in, acked_told, files_acked, standing_told, waiting_told};
+ghost use Rattle.ckpt_embed.specs.Recovery.{BringsList, IsListTold, acked_by, acked_told, files_acked, standing_told, waiting_told};
 
 use ckpt_embed::{Answer, Handle};
 use ckpt_ids::SubtaskId;
@@ -43,8 +43,8 @@ pub extern "C" fn relkvanu_files_of(
     files: &mut [u64],
 ) -> Answer
     ensures closed { StaysClosed handle.old.value handle.new.value result }
-    ensures answered { (m : State) → handle.old.value ≡ Some m → result ≡ acked_told (acked_in m id (record { vertex = vertex; index = index })) (length files.old) }
-    ensures front { (m : State) → handle.old.value ≡ Some m → BringsList (files_acked (acked_in m id (record { vertex = vertex; index = index }))) files.old files.new result }
+    ensures answered { (m : State) → handle.old.value ≡ Some m → result ≡ acked_told (acked_by m id vertex index) (length files.old) }
+    ensures front { (m : State) → handle.old.value ≡ Some m → BringsList (files_acked (acked_by m id vertex index)) files.old files.new result }
     ensures kept { result.code ≢ 0 → files.new ≡ files.old }
     ensures unchanged { handle.new.value ≡ handle.old.value }
 {
