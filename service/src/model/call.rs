@@ -1,5 +1,6 @@
 //! The calls that change a job.
 use std::fmt;
+use std::num::NonZeroU64;
 use std::str::FromStr;
 
 /// A parallel subtask of a job, written `vertex.index`.
@@ -29,11 +30,28 @@ impl FromStr for Subtask {
     }
 }
 
+/// As the library has it.
+impl From<&Subtask> for (u16, u16) {
+    fn from(subtask: &Subtask) -> (u16, u16) {
+        (subtask.vertex, subtask.index)
+    }
+}
+
 /// What a restore begins from.
 #[derive(Clone, Copy, Debug, PartialEq, Eq)]
 pub enum Target {
     Latest,
     Savepoint(u64),
+}
+
+impl Target {
+    /// The savepoint, as the library has it; `None` for the latest record.
+    pub fn savepoint(self) -> Option<NonZeroU64> {
+        match self {
+            Target::Latest => None,
+            Target::Savepoint(id) => NonZeroU64::new(id),
+        }
+    }
 }
 
 /// A call, without the moment that the writer gives it.

@@ -1,9 +1,8 @@
 //! The proved coordinator of one job, through the crate of `embed/rust`.
-use super::call::{Call, Target};
+use super::call::Call;
 use super::live::Live;
 use super::outcome::Reply;
-use relkvanu::{Choice, FileCounts, Mode, Settings};
-use std::num::NonZeroU64;
+use relkvanu::{Choice, FileCounts, Mode, Said, Settings};
 
 /// Why a call changed nothing.
 pub enum Fault {
@@ -45,12 +44,10 @@ impl Engine {
         let made = match call {
             Call::Tick => core.tick(now),
             Call::Savepoint => core.savepoint(now),
-            Call::Ack { id, subtask, fresh, reused } => {
-                core.ack(now, *id, (subtask.vertex, subtask.index), fresh, reused)
-            }
-            Call::Decline { id, subtask } => core.decline(now, *id, (subtask.vertex, subtask.index)),
+            Call::Ack { id, subtask, fresh, reused } => core.ack(now, *id, subtask.into(), fresh, reused),
+            Call::Decline { id, subtask } => core.decline(now, *id, subtask.into()),
             Call::Dispose { id } => core.dispose(*id),
-            Call::Restore { target, shape } => core.restore(now, number(*target), shape.as_deref()),
+            Call::Restore { target, shape } => core.restore(now, target.savepoint(), shape.as_deref()),
             Call::Cancel => core.cancel(now),
             Call::Take { most } => return self.take(*most),
             Call::Deleted { file } => core.deleted(*file),
@@ -65,6 +62,19 @@ impl Engine {
         let mut buffer = vec![0; places];
         let files = self.0.take(&mut buffer).map_err(fault)?;
         Ok(Reply::Taken(files.to_vec()))
+    }
+
+    /// Makes the call of a line, as the library reads it.
+    pub fn make_line(&mut self, line: &str) -> Result<Reply, Fault> {
+        let line = line.as_bytes();
+        match self.0.line(line, &mut []) {
+            // files to take: nothing has changed
+            Err(relkvanu::Fault::TooShort { places }) => {
+                let mut files = vec![0; usize::try_from(places).unwrap_or(0)];
+                reply(self.0.line(line, &mut files))
+            }
+            said => reply(said),
+        }
     }
 
     pub fn mode(&self) -> Mode {
@@ -110,10 +120,12 @@ impl Engine {
     }
 }
 
-fn number(target: Target) -> Option<NonZeroU64> {
-    match target {
-        Target::Latest => None,
-        Target::Savepoint(id) => NonZeroU64::new(id),
+/// What a line answered, where it is one of a call that changes a job.
+fn reply(said: Result<Said<'_>, relkvanu::Fault>) -> Result<Reply, Fault> {
+    match said.map_err(fault)? {
+        Said::Called(answer) => Ok(Reply::Answered(answer)),
+        Said::Taken(files) => Ok(Reply::Taken(files.to_vec())),
+        Said::Skipped | Said::Shown(_) => Err(Fault::Refused { name: "NoCall".to_string(), file: None }),
     }
 }
 

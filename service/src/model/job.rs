@@ -82,36 +82,54 @@ impl Job {
 
     /// Makes a call. Where it changed something, there is the row that has to be committed before the call is answered.
     pub fn call(&mut self, call: &Call, now: u64) -> (Outcome, Option<Entry>) {
+        let line = match call.line(now) {
+            Err(relkvanu::Fault::Memory) => return (Outcome::NoMemory, None),
+            // a call whose line can't be written is refused
+            line => line.unwrap_or_default(),
+        };
         let waiting = self.engine.counts().waiting;
         let reply = match self.engine.make(call, now) {
             Ok(reply) => reply,
-            Err(Fault::Refused { name, file }) => return (Outcome::Refused { name, file }, None),
-            Err(Fault::Memory) => return (Outcome::NoMemory, None),
+            Err(fault) => return (fault.into(), None),
         };
         if reply.changed_nothing() {
             return (Outcome::Made { seq: None, reply }, None);
         }
-        self.seq += 1;
-        self.at = self.at.max(now);
-        let entry = self.entry(call, now, &reply, waiting);
-        (Outcome::Made { seq: Some(self.seq), reply }, Some(entry))
-    }
-
-    /// The row of the call that was just made.
-    fn entry(&mut self, call: &Call, now: u64, reply: &Reply, waiting: u64) -> Entry {
-        let record = record_of(call, reply);
-        let ended = self.follow(record, reply);
-        self.note(call, now, record, reply);
-        Entry {
+        let (record, ended) = self.take_in(call, now, &reply);
+        let entry = Entry {
             job: self.opening.number,
             seq: self.seq,
             at: self.at,
             record,
-            line: call.line(now),
+            line,
             answer: reply.text(),
             ended,
             waiting: self.engine.counts().waiting.saturating_sub(waiting),
+        };
+        (Outcome::Made { seq: Some(self.seq), reply }, Some(entry))
+    }
+
+    /// Makes the call of a line of the log again.
+    pub fn repeat(&mut self, line: &str, call: &Call, now: u64) -> Outcome {
+        let reply = match self.engine.make_line(line) {
+            Ok(reply) => reply,
+            Err(fault) => return fault.into(),
+        };
+        if reply.changed_nothing() {
+            return Outcome::Made { seq: None, reply };
         }
+        self.take_in(call, now, &reply);
+        Outcome::Made { seq: Some(self.seq), reply }
+    }
+
+    /// Takes in what a call answered. Returns the record that the call is about, and those that it ended.
+    fn take_in(&mut self, call: &Call, now: u64, reply: &Reply) -> (Option<u64>, Option<String>) {
+        self.seq += 1;
+        self.at = self.at.max(now);
+        let record = record_of(call, reply);
+        let ended = self.follow(record, reply);
+        self.note(call, now, record, reply);
+        (record, ended)
     }
 
     /// Brings the live records up to date, and tells which ones a call ended. They are read anew where its answer says

@@ -1,45 +1,38 @@
-//! Script lines of calls, as docs/SCRIPT.md has them: what the log holds, and what `ckpt_job` runs.
+//! Script lines of calls, as docs/SCRIPT.md has them: what the log holds, and what `ckpt_job` runs. The library writes
+//! them, and makes their calls again.
 use super::call::{Call, Subtask, Target};
-use std::fmt::Write;
+use relkvanu::Fault;
 
 impl Call {
-    /// The script line of this call at the moment `now`.
-    pub fn line(&self, now: u64) -> String {
+    /// The script line of this call at the moment `now`. The files of an acknowledgement ascend in it.
+    pub fn line(&self, now: u64) -> Result<String, Fault> {
+        self.of_library(now).line()
+    }
+
+    /// The library's call at the moment `now`.
+    fn of_library(&self, now: u64) -> relkvanu::Call<'_> {
+        use relkvanu::Call as C;
         match self {
-            Call::Tick | Call::Savepoint | Call::Cancel => format!("{} {now}", self.name()),
-            Call::Ack { id, subtask, fresh, reused } => {
-                let mut line = format!("ack {now} {id} {subtask}");
-                append(&mut line, " +", fresh);
-                append(&mut line, " =", reused);
-                line
+            Call::Tick => C::Tick { now },
+            Call::Savepoint => C::Savepoint { now },
+            Call::Ack { id, subtask, fresh, reused } => C::Ack { now, id: *id, subtask: subtask.into(), fresh, reused },
+            Call::Decline { id, subtask } => C::Decline { now, id: *id, subtask: subtask.into() },
+            Call::Dispose { id } => C::Dispose { id: *id },
+            Call::Restore { target, shape } => {
+                C::Restore { now, savepoint: target.savepoint(), shape: shape.as_deref() }
             }
-            Call::Decline { id, subtask } => format!("decline {now} {id} {subtask}"),
-            Call::Dispose { id } => format!("dispose {id}"),
-            Call::Restore { target, shape } => restore_line(now, *target, shape.as_deref()),
-            Call::Take { most } => format!("take {most}"),
-            Call::Deleted { file } => format!("deleted {file}"),
-            Call::Undeleted { file } => format!("undeleted {file}"),
+            Call::Cancel => C::Cancel { now },
+            Call::Take { most } => C::Take { most: *most },
+            Call::Deleted { file } => C::Deleted { file: *file },
+            Call::Undeleted { file } => C::Undeleted { file: *file },
         }
     }
 }
 
-/// Appends each number after the sign. Writing to a `String` can't fail.
-fn append(line: &mut String, sign: &str, numbers: &[u64]) {
-    for number in numbers {
-        let _ = write!(line, "{sign}{number}");
-    }
-}
-
-fn restore_line(now: u64, target: Target, shape: Option<&[u64]>) -> String {
-    let mut line = match target {
-        Target::Latest => format!("restore {now} latest"),
-        Target::Savepoint(id) => format!("restore {now} {id}"),
-    };
-    append(&mut line, " ", shape.unwrap_or_default());
-    line
-}
-
 /// Reads a line that [`Call::line`] wrote: its moment, which is 0 for calls without one, and the call.
+///
+/// The library makes the call of a line, and does not tell what the line says: `relkvanu::Line::of` returns `Call` for
+/// each of these. So what the history and the events tell of a row's record, subtask, files and shape is read here.
 pub fn parse_line(line: &str) -> Option<(u64, Call)> {
     let mut words = line.split(' ');
     let name = words.next()?;
@@ -88,65 +81,48 @@ fn shape(words: &[&str]) -> Option<Option<Vec<u64>>> {
 #[cfg(test)]
 mod tests {
     use super::*;
-    use std::num::NonZeroU64;
 
     const SUBTASK: Subtask = Subtask { vertex: 1, index: 7 };
 
-    fn with_moments() -> Vec<Call> {
+    /// Calls at the moment 1234, and their lines.
+    fn lines() -> Vec<(Call, &'static str)> {
         vec![
-            Call::Tick,
-            Call::Savepoint,
-            Call::Ack { id: 12, subtask: SUBTASK, fresh: vec![31, u64::MAX], reused: vec![11] },
-            Call::Ack { id: 12, subtask: SUBTASK, fresh: vec![], reused: vec![] },
-            Call::Decline { id: 3, subtask: SUBTASK },
-            Call::Restore { target: Target::Latest, shape: None },
-            Call::Restore { target: Target::Savepoint(4), shape: Some(vec![2, 1]) },
-            Call::Cancel,
+            (Call::Tick, "tick 1234"),
+            (Call::Savepoint, "savepoint 1234"),
+            (
+                Call::Ack { id: 12, subtask: SUBTASK, fresh: vec![31, u64::MAX], reused: vec![11] },
+                "ack 1234 12 1.7 +31 +18446744073709551615 =11",
+            ),
+            (Call::Ack { id: 12, subtask: SUBTASK, fresh: vec![], reused: vec![] }, "ack 1234 12 1.7"),
+            (Call::Decline { id: 3, subtask: SUBTASK }, "decline 1234 3 1.7"),
+            (Call::Restore { target: Target::Latest, shape: None }, "restore 1234 latest"),
+            (Call::Restore { target: Target::Savepoint(4), shape: Some(vec![2, 1]) }, "restore 1234 4 2 1"),
+            (Call::Cancel, "cancel 1234"),
+            (Call::Dispose { id: 4 }, "dispose 4"),
+            (Call::Take { most: 64 }, "take 64"),
+            (Call::Deleted { file: 9 }, "deleted 9"),
+            (Call::Undeleted { file: 9 }, "undeleted 9"),
         ]
     }
 
-    fn without_moments() -> Vec<Call> {
-        vec![Call::Dispose { id: 4 }, Call::Take { most: 64 }, Call::Deleted { file: 9 }, Call::Undeleted { file: 9 }]
-    }
-
     #[test]
-    fn reads_what_it_wrote() {
-        for call in with_moments() {
-            assert_eq!(parse_line(&call.line(1234)), Some((1234, call)));
-        }
-        for call in without_moments() {
-            assert_eq!(parse_line(&call.line(1234)), Some((0, call)));
+    fn the_library_writes_the_lines() {
+        for (call, line) in lines() {
+            assert_eq!(call.line(1234).as_deref(), Ok(line));
         }
     }
 
-    /// The line that the library writes of a call.
-    fn of_library(call: &Call, now: u64) -> String {
-        use relkvanu::Call as C;
-        let part = |subtask: &Subtask| (subtask.vertex, subtask.index);
-        let call = match call {
-            Call::Tick => C::Tick { now },
-            Call::Savepoint => C::Savepoint { now },
-            Call::Ack { id, subtask, fresh, reused } => C::Ack { now, id: *id, subtask: part(subtask), fresh, reused },
-            Call::Decline { id, subtask } => C::Decline { now, id: *id, subtask: part(subtask) },
-            Call::Dispose { id } => C::Dispose { id: *id },
-            Call::Restore { target: Target::Latest, shape } => {
-                C::Restore { now, savepoint: None, shape: shape.as_deref() }
-            }
-            Call::Restore { target: Target::Savepoint(id), shape } => {
-                C::Restore { now, savepoint: NonZeroU64::new(*id), shape: shape.as_deref() }
-            }
-            Call::Cancel => C::Cancel { now },
-            Call::Take { most } => C::Take { most: *most },
-            Call::Deleted { file } => C::Deleted { file: *file },
-            Call::Undeleted { file } => C::Undeleted { file: *file },
-        };
-        call.line().unwrap_or_else(|fault| fault.to_string())
+    #[test]
+    fn files_ascend_in_a_line() {
+        let call = Call::Ack { id: 1, subtask: SUBTASK, fresh: vec![31, 11], reused: vec![9, 8] };
+        assert_eq!(call.line(5).as_deref(), Ok("ack 5 1 1.7 +11 +31 =8 =9"));
     }
 
     #[test]
-    fn writes_the_lines_that_the_library_writes() {
-        for call in with_moments().iter().chain(&without_moments()) {
-            assert_eq!(call.line(1234), of_library(call, 1234));
+    fn reads_the_lines() {
+        for (call, line) in lines() {
+            let now = if line.contains("1234") { 1234 } else { 0 };
+            assert_eq!(parse_line(line), Some((now, call)));
         }
     }
 

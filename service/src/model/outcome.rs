@@ -1,4 +1,5 @@
 //! What a call was answered: the script's text, which the log holds, and the JSON of the API.
+use super::engine::Fault;
 use relkvanu::{Answer, Choice};
 use serde_json::{json, Value};
 use std::fmt::Write;
@@ -84,6 +85,15 @@ fn answer_json(answer: Answer) -> Value {
         Answer::Deleted(file) => json!({"deleted": file.to_string()}),
         Answer::Undeleted(file) => json!({"undeleted": file.to_string()}),
         Answer::Counted { file, uses } => json!({"counted": file.to_string(), "uses": uses}),
+    }
+}
+
+impl From<Fault> for Outcome {
+    fn from(fault: Fault) -> Outcome {
+        match fault {
+            Fault::Refused { name, file } => Outcome::Refused { name, file },
+            Fault::Memory => Outcome::NoMemory,
+        }
     }
 }
 

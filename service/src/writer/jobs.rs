@@ -164,14 +164,14 @@ fn repeat(job: &mut Job, entry: &Entry) -> Result<(), StartError> {
         return Err(damaged(format!("call {} is missing", job.seq + 1)));
     }
     let (now, call) = parse_line(&entry.line).ok_or_else(|| damaged(format!("{:?} is no call", entry.line)))?;
-    let answered = match job.call(&call, now) {
-        (Outcome::Made { reply, .. }, _) if reply.text() == entry.answer => {
+    let answered = match job.repeat(&entry.line, &call, now) {
+        Outcome::Made { reply, .. } if reply.text() == entry.answer => {
             job.at = entry.at;
             return Ok(());
         }
-        (Outcome::Made { reply, .. }, _) => reply.text(),
-        (Outcome::NoMemory, _) => return Err(StartError::NoMemory { job: name.clone(), seq: entry.seq }),
-        (other, _) => other.json().to_string(),
+        Outcome::Made { reply, .. } => reply.text(),
+        Outcome::NoMemory => return Err(StartError::NoMemory { job: name.clone(), seq: entry.seq }),
+        other => other.json().to_string(),
     };
     let (line, logged) = (entry.line.clone(), entry.answer.clone());
     Err(StartError::Differs { job: name.clone(), seq: entry.seq, line, logged, answered })
