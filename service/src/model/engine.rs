@@ -120,7 +120,7 @@ impl Engine {
     }
 }
 
-/// What a line answered, where it is one of a call that changes a job.
+/// What a line answered, if it is one of a call that changes a job.
 fn reply(said: Result<Said<'_>, relkvanu::Fault>) -> Result<Reply, Fault> {
     match said.map_err(fault)? {
         Said::Called(answer) => Ok(Reply::Answered(answer)),

@@ -84,7 +84,7 @@ impl Job {
     pub fn call(&mut self, call: &Call, now: u64) -> (Outcome, Option<Entry>) {
         let line = match call.line(now) {
             Err(relkvanu::Fault::Memory) => return (Outcome::NoMemory, None),
-            // a call whose line can't be written is refused
+            // The line would be longer than a line may be: an acknowledgement of so many files is refused below.
             line => line.unwrap_or_default(),
         };
         let waiting = self.engine.counts().waiting;
