@@ -3,6 +3,7 @@ mod auth;
 mod cli;
 mod config;
 mod discard;
+mod exit;
 mod history;
 mod http;
 mod log;

@@ -2,6 +2,7 @@
 use crate::auth::Tokens;
 use crate::cli;
 use crate::config::{Config, Database};
+use crate::exit;
 use crate::history::{Historian, HistoryReader};
 use crate::http::{self, App};
 use crate::log;
@@ -12,7 +13,6 @@ use crate::writer::{Board, Jobs, Message, StartError, Writer, START_AGAIN};
 use sd_notify::NotifyState;
 use std::io::ErrorKind;
 use std::path::{Path, PathBuf};
-use std::process::ExitCode;
 use std::sync::mpsc::{sync_channel, Receiver, SyncSender};
 use std::sync::{Arc, Mutex};
 use std::time::{Duration, Instant};
@@ -31,15 +31,16 @@ const SILENCE: Duration = Duration::from_secs(15);
 /// How long the writer may take for its last group.
 const STOP_WITHIN: Duration = Duration::from_secs(10);
 
-pub fn run(given: &cli::Serve) -> ExitCode {
+/// Serves, and ends the process.
+pub fn run(given: &cli::Serve) -> ! {
     let ended = Config::of(given).map_err(Stop::Never).and_then(serve);
-    match ended.map_err(Stop::parts) {
-        Ok(()) => ExitCode::SUCCESS,
+    exit::now(match ended.map_err(Stop::parts) {
+        Ok(()) => 0,
         Err((why, status)) => {
             log::error(&why);
-            ExitCode::from(status)
+            status
         }
-    }
+    })
 }
 
 /// Why the service ended.
@@ -155,7 +156,7 @@ impl Leader {
         let jobs = self.lead().unwrap_or_else(|stop| {
             let (why, status) = stop.parts();
             log::error(&why);
-            std::process::exit(i32::from(status))
+            exit::now(status)
         });
         let (board, metrics) = (Arc::clone(&self.board), Arc::clone(&self.metrics));
         let writer = Writer::new(self.store, jobs, board, metrics, self.keeping);

@@ -134,3 +134,21 @@ def test_a_backup_of_a_service_that_runs():
         kept = [entry for entry in log if entry["seq"] <= len(last) and entry["at"] <= last[-1]["at"]]
         assert len(kept) >= first and log[:first] == last[:first], (len(log), first)
         return f"{len(kept)} of {len(last)} calls in the copy, {first} before it was made"
+
+
+def test_an_end_runs_no_finalizers():
+    """Those of C libraries: another thread may be connecting to PostgreSQL, and Kerberos aborts where it is finalized meanwhile."""
+    with folder() as at:
+        with open(f"{at}/finalizer.c", "w", encoding="utf-8") as it:
+            it.write("#include <stdlib.h>\n__attribute__((destructor)) static void finalize(void) { abort(); }\n")
+        subprocess.run(["cc", "-shared", "-fPIC", "-o", f"{at}/finalizer.so", f"{at}/finalizer.c"], check=True)
+        loaded = ["env", f"LD_PRELOAD={at}/finalizer.so"]
+        told = subprocess.run([*loaded, PROGRAM, "--version"], stdout=subprocess.DEVNULL, check=False)
+        assert told.returncode == -6, told
+        for status, words in (75, ["--database", f"{at}/no/x.db"]), (78, ["--database", f"{at}/x.db", "--token-file", f"{at}/none"]):
+            words = [*loaded, PROGRAM, "serve", "--listen", "127.0.0.1:0", *words]
+            told = subprocess.run(words, stderr=subprocess.DEVNULL, timeout=20, check=False)
+            assert told.returncode == status, told
+        server = Server(at, prefix=loaded).start()
+        assert server.stop() == 0
+        return "ended with 75, 78 and 0"

@@ -10,6 +10,7 @@ pub use jobs::{Jobs, StartError};
 pub use message::{Board, CallsDone, Created, Key, Message, Read, ReadDone};
 pub use state::{JobState, RecordState};
 
+use crate::exit;
 use crate::log;
 use crate::metrics::Metrics;
 use crate::model::{Call, Clock, Keeping, Outcome};
@@ -280,5 +281,5 @@ fn did_its_work(ticked: &Outcome) -> bool {
 /// Ends the process: nothing of the group was answered, and the next start reads what was committed.
 fn lose(why: &str) -> ! {
     log::error(&format!("the group was not committed, or that is not known; nothing of it was answered: {why}"));
-    std::process::exit(i32::from(START_AGAIN))
+    exit::now(START_AGAIN)
 }
