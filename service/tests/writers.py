@@ -114,19 +114,24 @@ def check_made(made, log, seen):
 
 
 def check_kept(whole, log, first):
-    """The log has all calls from the first on. Returns the whole one."""
+    """The log has all calls from the first to its last. The whole one was read later, so the timer may have made more since. Returns the
+    whole one up to that last call."""
     assert log[0]["seq"] == first, (log[0], first)
+    last = log[-1]["seq"]
     rest = [{name: entry[name] for name in ("seq", "at", "line", "answer")} for entry in log]
-    assert whole[first - 1 :] == rest, (len(whole), len(rest), first)
-    return whole
+    assert whole[first - 1 : last] == rest, (len(whole), len(rest), first, last)
+    return whole[:last]
 
 
 def check(writers, service, job, shape, archive=None):
     """The writers' acknowledged calls are in the log, with what was cut from it, and the oracle answers it alike. Returns how many were
     acknowledged, how many the log has, and how many answers the oracle gave."""
+    before = service.job(job).state()["first"]
     log = list(service.job(job).log())
     if archive:
-        log = check_kept(archive.log(job), log, service.job(job).state()["first"])
+        # an image may have been made meanwhile, and the log cut behind it
+        assert before <= log[0]["seq"] <= service.job(job).state()["first"], (before, log[0])
+        log = check_kept(archive.log(job), log, log[0]["seq"])
     seen = set()
     for writer in (writer for writer in writers if writer.name_of_job == job):
         assert not writer.errors, writer.errors[:3]
