@@ -1,4 +1,4 @@
-//! The configuration: defaults, a TOML file over them, and the command line over that.
+//! The configuration: defaults, then a TOML file that overrides them, then the command line.
 use crate::cli::Serve;
 use crate::model::Keeping;
 use serde::Deserialize;
@@ -150,7 +150,7 @@ impl Database {
         }
     }
 
-    /// Where the history lies by default: beside the database, or in the folder of the service.
+    /// The default place of the history: beside the database, or in the folder of the service.
     fn history(&self, listen: &SocketAddr) -> PathBuf {
         match self {
             Database::Sqlite(path) => {

@@ -28,7 +28,7 @@ def wrk(url, connections, batch, seconds):
 
 
 def bare(at, rows, seconds=2):
-    """Commits a second of so many rows, in a database of its own."""
+    """Commits a second of this many rows, in a database of its own."""
     base = sqlite3.connect(f"{at}/bare-{rows}.db", isolation_level=None)
     base.executescript("pragma journal_mode=wal; pragma synchronous=full; create table t(a integer primary key, line text, answer text)")
     commits, started = 0, time.monotonic()

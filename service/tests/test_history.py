@@ -1,4 +1,4 @@
-"""The history against a model of its own, which replays the log with a map of each file's uses: who released each file, when
+"""The history against a model of its own, which replays the log with a map of each file's uses: which call released each file, when
 each record ended and how, and who was missing. It is deleted and made again, and says the same."""
 import glob
 import os
