@@ -13,7 +13,7 @@ OF_ONE_ACKNOWLEDGEMENT = 4000
 
 
 def chosen(kind, count):
-    """So many file numbers of this kind, or nothing where there is no C compiler."""
+    """This many file numbers of this kind, or nothing if there is no C compiler."""
     with tempfile.TemporaryDirectory() as folder:
         meeting = built("meeting.c", f"{folder}/meeting")
         if not meeting:

@@ -16,7 +16,7 @@ def key(seed: int, partition: int, offset: int) -> int:
 
 
 def counted(seed: int, vertex: int, partition: int, first: int, end: int) -> "Counter[int]":
-    """How often each key of the vertex stands in the partition, from one offset to before another."""
+    """How often each key of the vertex is in the partition, from one offset to before another."""
     keys = (key(seed, partition, offset) for offset in range(first, end))
     return Counter(key for key in keys if key % VERTICES == vertex)
 

@@ -223,7 +223,7 @@ impl Writer {
         }
     }
 
-    /// A leader returns the state of its jobs only while it surely leads.
+    /// Renews the lease if it is old: a leader returns the state of its jobs only while it surely leads.
     fn renew(&mut self) {
         if self.store.lease().is_some_and(|lease| self.committed.elapsed() >= lease) {
             self.write(&Group::default());
