@@ -6,8 +6,8 @@
  * beside it, synced and renamed to it, and the folder is synced. A process that dies before the rename leaves the old log, which is whole.
  *
  * The log also has comments, with what the engine has to know and the coordinator does not: how many tasks the job is to have, the
-  * end of the file numbers that may have been given, and at the start of a cut log what the earlier lines had of this. Each comment
-  * is written before the engine relies on it. */
+ * end of the file numbers that may have been given, and at the start of a cut log what the earlier lines had of this. Each comment
+ * is written before the engine relies on it. */
 #ifndef ENGINE_COORDINATOR_H
 #define ENGINE_COORDINATOR_H
 
@@ -18,9 +18,9 @@
 
 enum { REPLIES = 23, LINE = 131072, FILES_AT_ONCE = 1000, COMPLETED_OF_A_LOG = 5 };
 
-/* The places at which the process may kill itself: after a call that is not in the log yet, with half of its line there, with all of it,
- * between two steps of a task or of the discarder; with half of a new log written, with all of it synced, when it is renamed, and when
- * the folder is synced. */
+/* The places at which the process may kill itself: after a call that is not in the log yet, with half of its line there, with all of
+ * it, between two steps of a task or of the discarder; with half of a new log written, with all of it synced, when it is renamed, and
+ * when the folder is synced. */
 enum place { AFTER_A_CALL, HALF_A_LINE, AFTER_A_LINE, BETWEEN_STEPS, HALF_A_LOG, AFTER_A_LOG, AFTER_A_RENAME, AFTER_A_CUT, PLACES };
 
 /* The process is killed when it comes to the place for the nth time; 0: it is not. */
