@@ -333,7 +333,7 @@ public:
         return written([&](std::uint8_t *image, std::size_t len) { return relkvanu_save(&handle_, image, len); });
     }
 
-    /* Makes the call of a script's line (docs/SCRIPT.md). The text is what stands before the newline. A take line fetches into the
+    /* Makes the call of a script's line (docs/SCRIPT.md). The text is the bytes before the newline. A take line fetches into the
      * buffer. If it would fetch more files than the buffer has places, it is refused as error::too_short. */
     line_answer line(std::string_view text, span<std::uint64_t> buffer = {}) {
         relkvanu_answer told = relkvanu_line(&handle_, reinterpret_cast<const std::uint8_t *>(text.data()), text.size(), buffer.data(), buffer.size());
