@@ -187,8 +187,8 @@ using text_answer = std::variant<std::string, refused>;
 
 enum class mode { running, failed, cancelled };
 
-/* Whose number it is: of a live record (pending or done), of a record that is no longer live, of no record yet, or never of one,
- * because it is below the first number of the opening. */
+/* What a number is. A live record has it (pending or done), or one that is no longer live had it. Or no record has had it yet. Or none
+ * ever has it, because it is below the first number of the opening. */
 enum class standing { pending, done, ended, not_yet, never };
 
 /* The files that a read returns, in ascending order, for reads that take memory. */

@@ -1,6 +1,6 @@
-"""Load by wrk: load.py [SECONDS [sqlite|postgres]] prints acknowledgements a second with 1 and 256 connections, of one and of 64 each, beside
-how many bare commits of as many rows the database takes, then what a start over that log costs with an image and without. Over SQLite
-also what images of a job with a million files cost."""
+"""Load by wrk. load.py [SECONDS [sqlite|postgres]] prints acknowledgements a second with 1 and 256 connections, of one and of 64 each. It also
+prints how many bare commits of as many rows the database makes, and the cost of a start over that log, with an image and without. Over
+SQLite it also prints the cost of images of a job with a million files."""
 import os
 import re
 import sqlite3
