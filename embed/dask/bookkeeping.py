@@ -1,5 +1,5 @@
 """What the lines of a log say by docs/RULES.md: a model of the coordinator with sets and lists, which shares nothing with the library. It
-reads the lines itself, and answers the calls that the driver makes."""
+reads the lines itself, and returns the answers to the driver's calls."""
 from collections import Counter
 from dataclasses import dataclass, field
 from typing import Any, Callable, Dict, List, Optional, Sequence, Set, Tuple

@@ -91,8 +91,8 @@ class Channel(threading.Thread):
             raise
 
     def take_part(self, id: int) -> None:
-        """The task's part of a record. It is refused if a file that was to be used again is gone, as it is with those
-        of a record that another task declined: then all is written anew."""
+        """The task's part of a record. If a file that it reuses is gone, for example because another
+        task declined the file's record, it is refused. Then the task writes everything anew."""
         fresh, reused = self.snapshot(id)
         try:
             reply = self.job.ack(id, self.subtask, fresh, reused)

@@ -1,9 +1,9 @@
-"""job.py [OPTIONS] SECONDS [SEED]: a keyed count as actors on worker processes. The coordinator is in the driver, which keeps a log, and
-goes on where a driver before it was killed; or in a service that --service names, which may be killed and started again meanwhile.
+"""job.py [OPTIONS] SECONDS [SEED]: a keyed count as actors on worker processes. The coordinator is in the driver, which keeps a log and
+goes on after a driver that was killed. Or it is in the service that --service names, which may be killed and started again meanwhile.
 
-The job has three vertices of different parallelism, each of which reads the whole stream and counts its part of the keys. A
-worker process is killed in the middle of a checkpoint, again and again: in turn the driver declines for the lost task, or the
-record expires. The job is restored with fewer tasks of one vertex on the workers that are left, and with all where there is a new
+The job has three vertices of different parallelism. Each reads the whole stream and counts its part of the keys. A
+worker process is killed in the middle of a checkpoint, again and again. In turn the driver declines for the lost task, or the
+record expires. The job is restored with fewer tasks of one vertex on the remaining workers, and with all tasks once there is a new
 worker. At the end the totals and the storage folder have to be exact.
 """
 import argparse
@@ -128,8 +128,8 @@ class Job:
                 channel.start()
 
     def ends_of(self, reply: Reply, channels: Sequence[Channel]) -> Dict[int, int]:
-        """The source's offsets at the barriers of the record that the job begins from. Of one of an earlier driver they are what the
-        states of one vertex tell."""
+        """The source's offsets at the barriers of the record that the job begins from. If an earlier driver took it, they come from
+        the states of one vertex."""
         if not isinstance(reply, RestoredCheckpoint):
             return dict.fromkeys(range(PARTITIONS), 0)
         of_a_vertex = {p: end for channel in channels if channel.subtask[0] == 0 for p, end in channel.ends.items()}

@@ -1,10 +1,10 @@
 """The coordinator as a library in the driver's process, which ticks it, and logs its calls.
 
 Each call that changed something is a line of a script (docs/SCRIPT.md), which is written and synced before the caller is told. The
-library writes the lines and makes the calls that they say. A driver that opens the log of one that was killed has the very state that
-this one had told of, or that of one call more.
+library writes the lines and makes the calls that they say. A driver that opens the log of one that was killed has exactly the state
+after the last call that the other one answered, or after one more call.
 
-After some completed checkpoints the log is cut: a new one begins with an image of the coordinator. The comments of a log say what the
+After some completed checkpoints the log is cut: a new one begins with an image of the coordinator. The comments of a log have what the
 driver has to know and the coordinator does not: the end of the file numbers that may have been given.
 """
 import contextlib

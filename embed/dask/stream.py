@@ -1,4 +1,4 @@
-"""The stream: each partition is a list of keys without an end, which the seed alone says. Each vertex of the job reads all of it, and
+"""The stream: each partition is an endless list of keys, which depends on the seed alone. Each vertex of the job reads all of it, and
 counts a part of the keys."""
 import json
 import pathlib

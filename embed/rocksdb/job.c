@@ -192,7 +192,7 @@ static void send_barriers(struct job *job, uint64_t id) {
     }
 }
 
-/* Whether so many hundredths of the time have passed. */
+/* Whether this many hundredths of the time have passed. */
 static bool has_passed(const struct job *job, uint64_t hundredths) {
     return now() - job->started >= job->seconds * 10 * hundredths;
 }

@@ -77,7 +77,7 @@ def memory(server):
 
 
 def job_memory(at, jobs=500):
-    """KiB for each of so many jobs, and how late their timers are at most, in milliseconds."""
+    """KiB for each of this many jobs, and how late their timers are at most, in milliseconds."""
     os.mkdir(f"{at}/jobs")
     server = Server(f"{at}/jobs").start()
     service = Service(server.url)
@@ -96,7 +96,7 @@ def job_memory(at, jobs=500):
 
 
 def large_images(at, files=1_000_000, seconds=5):
-    """What an image of a job with so many files costs: its bytes, and the seconds in which the writer makes it; then the longest wait of a
+    """The cost of an image of a job with this many files: its bytes, the seconds in which the writer makes it, and the longest wait of a
     client of another job, in milliseconds, while it is made and while none is."""
     os.mkdir(f"{at}/large")
     # the second savepoint of the large job is its call 4098

@@ -1,5 +1,5 @@
 """The history against a model of its own, which replays the log with a map of each file's uses: which call released each file, when
-each record ended and how, and who was missing. It is deleted and made again, and says the same."""
+each record ended and how, and which subtasks were missing. It is deleted and made again, and has the same content."""
 import glob
 import os
 import sqlite3

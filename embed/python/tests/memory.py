@@ -1,5 +1,5 @@
-"""Memory that runs out, over a library whose heap refuses one request after the other (embed/c/refusing_heap.c): a call that does not go on
-without it says so and has changed nothing, and it is made again."""
+"""Memory that runs out, over a library whose heap refuses one request after the other (embed/c/refusing_heap.c): a call that fails for
+that reason says so and has changed nothing, and is made again."""
 import ctypes
 import os
 import unittest

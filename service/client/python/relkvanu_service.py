@@ -8,8 +8,8 @@
         if event["event"] == "triggered":
             job.call(ack(event["id"], "0.0", fresh=[31]))
 
-A request whose answer is lost is made again, by default for a minute: under its Idempotency-Key where it has one, so that
-the service makes it once. File numbers are integers here, and strings in the API. Threads may share what is here.
+If the answer to a request is lost, the client makes the request again, by default for a minute. With an Idempotency-Key the
+service makes it once. File numbers are integers here, and strings in the API. Threads may share what is here.
 """
 import threading
 import time
