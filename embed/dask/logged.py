@@ -159,7 +159,7 @@ class Logged:
         assert names == used, (names - used, used - names)
 
     def check(self, storage: pathlib.Path) -> bookkeeping.Bookkeeping:
-        """Compares the coordinator, and what it has answered, with what all lines say from the first on. The files in use are there."""
+        """Compares the coordinator and its answers with what all lines say from the first on. The files in use are there."""
         with self.lock:
             books = bookkeeping.Bookkeeping()
             answers = [(line, books.follow(line)) for line in whole_log(self.log.path, self.log.kept)]

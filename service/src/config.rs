@@ -40,9 +40,9 @@ pub struct Limits {
     pub calls: usize,
     /// Requests that wait for the writer.
     pub queue: usize,
-    /// Seconds that a connection may have no request that came whole.
+    /// Seconds that a connection may be open without a complete request.
     pub idle_seconds: u64,
-    /// Seconds until a request's body has come whole.
+    /// Seconds in which a request's body has to be complete.
     pub body_seconds: u64,
 }
 

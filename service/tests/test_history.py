@@ -12,7 +12,7 @@ from writers import SETTINGS, SHAPE, Writer
 
 
 class Model:
-    """What became of records and files, by the log's lines and RULES.md, with a set of users for each file."""
+    """The history of records and files, by the log's lines and RULES.md, with a set of users for each file."""
 
     def __init__(self, shape, settings):
         self.shape, self.settings = list(shape), settings

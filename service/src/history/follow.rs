@@ -42,8 +42,8 @@ impl Follower {
         Ok(Follower { job, name: opening.name.clone(), upto, first: 1, at, records, outbox })
     }
 
-    /// Goes on from an image if calls before it can't be read: what they did to files is forgotten, and what became of
-    /// records that were live then is not known.
+    /// Goes on from an image if calls before it can't be read. Forgets what they did to files. How records ended that were
+    /// live then is not known.
     pub fn bridge(&mut self, tables: &Tables, image: &Image) -> Result<(), String> {
         let contents = image.contents().ok_or_else(|| format!("the image after call {} is none", image.seq))?;
         self.take_over(tables, image, &contents).map_err(|error| error.to_string())

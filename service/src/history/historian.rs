@@ -13,7 +13,7 @@ use std::time::{Duration, Instant};
 use tokio::sync::oneshot;
 
 const PAGE: u32 = 2000;
-/// Into how many parts of a log its calls go from the history.
+/// The history forgets the calls that a log has cut once they are one part in this many of the log.
 const PARTS: u64 = 8;
 /// How often the thread looks at the board.
 const LOOK: Duration = Duration::from_millis(100);

@@ -106,7 +106,7 @@ impl Records {
         Ok(None)
     }
 
-    /// A record is live no more, by a call that was made of another or of itself.
+    /// A record is no longer live, because of a call for it or for another record.
     fn end(&mut self, tables: &Tables, id: u64, call: &Call, entry: &Entry) -> rusqlite::Result<Option<Ended>> {
         let how = match self.pending.get(&id) {
             Some(pending) => how_pending_ended(call, entry, id, pending.started.saturating_add(self.timeout)),

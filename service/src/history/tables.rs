@@ -73,7 +73,7 @@ impl Tables {
             .try_for_each(|table| self.0.execute(&format!("delete from {table} where job = ?"), [job]).map(|_| ()))
     }
 
-    /// Forgets what is not known where calls were not read: files, and how records ended that are no more at the moment `at`.
+    /// Forgets what calls that were not read may have changed: files, and the end of records that are not live at the moment `at`.
     pub fn forget_unread(&self, job: i64, at: u64, live: &[SavedRecord]) -> rusqlite::Result<()> {
         ["file", "queue", "place"]
             .iter()
