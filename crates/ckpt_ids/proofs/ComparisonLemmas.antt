@@ -1,4 +1,4 @@
--- The comparisons of binary searches: of numbers, and of subtasks by vertex and then by index.
+-- The comparisons that searches by halves go by: of numbers, and of subtasks by vertex and then by index.
 use Rattle.std.proofs.Common.{◌≡◌, ℕ, ◌≤◌, true, ltb, eqb, ◌||◌, ◌&&◌, arith, Ordering}
 use Rattle.std.specs.Ordering.{nat_cmp, ordering_index, ordering_then}
 use Rattle.std.specs.declared.cmp.Ordering.TheVariants.{Less, Equal, Greater}
