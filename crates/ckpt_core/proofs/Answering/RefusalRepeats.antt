@@ -55,7 +55,7 @@ repeats-from_adjacent xs false a h =
     let below : get_or xs k 0 ≤ get_or xs (suc k) 0 = ascending_at xs a k (suc k) (omega arith) lt in
     sym (repeat_at xs k lt (omega arith))
 
--- what a search by halves says
+-- what a binary search returns
 pub among-from_search : (xs : List ℕ) (x : ℕ) (r : Result ℕ ℕ) → IsAscending xs → IsBinarySearchResult (λ y. nat_cmp y x) xs r → is_ok r ≡ list_any (λ f. eqb x f) xs
 among-from_search xs x (Ok i) a h =
     let at : (i < length xs) × (get_or xs i 0 ≡ x) = searched xs x (Ok i) h (ascending_at xs a) in
