@@ -237,7 +237,7 @@ relkvanu_answer relkvanu_savepoint(relkvanu *handle, uint64_t now);
  * RELKVANU_MOMENT_TOO_LARGE, RELKVANU_TOO_MANY_FILES, RELKVANU_REPEATED_FILE, RELKVANU_UNKNOWN_CHECKPOINT, RELKVANU_UNKNOWN_SUBTASK,
  * RELKVANU_ALREADY_ACKNOWLEDGED, RELKVANU_NAME_TAKEN, RELKVANU_FILE_GONE. After a refusal the task must not delete a file that
  * an accepted acknowledgement ever named. The call first copies the two lists, which takes memory. So it may return
- * RELKVANU_NO_MEMORY where it would otherwise be refused. */
+ * RELKVANU_NO_MEMORY instead of a refusal. */
 relkvanu_answer relkvanu_ack(relkvanu *handle, uint64_t now, uint64_t id, uint16_t vertex, uint16_t index, const uint64_t *fresh, size_t fresh_len, const uint64_t *reused, size_t reused_len);
 
 /* The subtask vertex.index could not take its part of record id.
@@ -256,7 +256,7 @@ relkvanu_answer relkvanu_dispose(relkvanu *handle, uint64_t id);
  *
  * RELKVANU_RESTORED_CHECKPOINT, RELKVANU_RESTORED_SAVEPOINT or RELKVANU_RESTORED_FRESH. RELKVANU_BAD_ARGUMENT with RELKVANU_BAD_SHAPE is checked
  * first. Refused: RELKVANU_MOMENT_TOO_LARGE, RELKVANU_NOT_RUNNING (cancelled), RELKVANU_NO_SUCH_SAVEPOINT. The call first copies the
- * shape, which takes memory. So it may return RELKVANU_NO_MEMORY where it would otherwise be refused. Without a shape it takes
+ * shape, which takes memory. So it may return RELKVANU_NO_MEMORY instead of a refusal. Without a shape it takes
  * no memory. */
 relkvanu_answer relkvanu_restore(relkvanu *handle, uint64_t now, uint64_t savepoint, const uint64_t *shape, size_t shape_len);
 
@@ -338,7 +338,7 @@ size_t relkvanu_refusal_text(uint32_t what, uint8_t *text, size_t text_len);
  * relkvanu_show returns with an empty buffer. A restore line with a bad shape returns RELKVANU_BAD_ARGUMENT with
  * RELKVANU_BAD_SHAPE. A line that has no words or is a comment returns RELKVANU_SKIPPED. A line that can't be read, or makes no
  * call, returns RELKVANU_BAD_LINE. Only RELKVANU_TAKEN changes the buffer. The call takes memory as its own function does, and for the
- * lists of an ack, job or restore line. So such a line may return RELKVANU_NO_MEMORY where the call would be refused. */
+ * lists of an ack, job or restore line. So such a line may return RELKVANU_NO_MEMORY instead of a refusal. */
 relkvanu_answer relkvanu_line(relkvanu *handle, const uint8_t *line, size_t line_len, uint64_t *files, size_t files_len);
 
 /* Returns the kind of the line, RELKVANU_LINE_SKIP to RELKVANU_LINE_ALL. If the line makes no call, writes its numbers to the start
@@ -359,7 +359,7 @@ relkvanu_answer relkvanu_call_line(const relkvanu_call *call, const uint64_t *fi
 
 /* Writes the lines config, job and start of a coordinator whose first record has the number 1, each with its newline.
  *
- * RELKVANU_WRITTEN; RELKVANU_TOO_SHORT, and a is how many bytes it needs; RELKVANU_BAD_ARGUMENT where relkvanu_open returns it, with
+ * RELKVANU_WRITTEN; RELKVANU_TOO_SHORT, and a is how many bytes it needs; RELKVANU_BAD_ARGUMENT if relkvanu_open returns it, with
  * the same argument: RELKVANU_BAD_CONFIG, RELKVANU_BAD_SHAPE or RELKVANU_BAD_MOMENT. Only RELKVANU_WRITTEN changes the buffer. Takes
  * memory. */
 relkvanu_answer relkvanu_opening_lines(const relkvanu_settings *settings, const uint64_t *shape, size_t shape_len, uint64_t now, uint8_t *lines, size_t lines_len);

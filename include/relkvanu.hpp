@@ -187,8 +187,8 @@ using text_answer = std::variant<std::string, refused>;
 
 enum class mode { running, failed, cancelled };
 
-/* Whose number it is: of a live record (pending or done), of a record that is no longer live, of no record yet, or never of one,
- * because it is below the first number of the opening. */
+/* What a number is. A live record has it (pending or done), or one that is no longer live had it. Or no record has had it yet. Or none
+ * ever has it, because it is below the first number of the opening. */
 enum class standing { pending, done, ended, not_yet, never };
 
 /* The files that a read returns, in ascending order, for reads that take memory. */
@@ -333,7 +333,7 @@ public:
         return written([&](std::uint8_t *image, std::size_t len) { return relkvanu_save(&handle_, image, len); });
     }
 
-    /* Makes the call of a script's line (docs/SCRIPT.md). The text is what stands before the newline. A take line fetches into the
+    /* Makes the call of a script's line (docs/SCRIPT.md). The text is the bytes before the newline. A take line fetches into the
      * buffer. If it would fetch more files than the buffer has places, it is refused as error::too_short. */
     line_answer line(std::string_view text, span<std::uint64_t> buffer = {}) {
         relkvanu_answer told = relkvanu_line(&handle_, reinterpret_cast<const std::uint8_t *>(text.data()), text.size(), buffer.data(), buffer.size());

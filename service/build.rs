@@ -1,4 +1,4 @@
-//! Copies Debian's Chart.js to where the program includes it from, so that no request ever reaches a file.
+//! Copies Debian's Chart.js into the folder from which the program includes it. So no request ever reaches a file.
 use std::{env, fs, path::Path};
 
 const CHART: &str = "/usr/share/javascript/chart.js/chart.min.js";

@@ -1,6 +1,6 @@
 """The script of the row `abandoned-line`, and what each prefix of it prints, by the rules of docs/SCRIPT.md."""
 
-# Each line with what it prints, and what its shorter moments print where they are moments too.
+# Each line with what it prints, and what it prints with a shorter moment, if that is a moment too.
 LINES = [
     ("config 1000 0 1 600000 0 1 delete", "", ""),
     ("job 1", "", ""),
@@ -26,7 +26,7 @@ PLACES = {"config": 7, "job": 1, "start": 1, "tick": 1, "savepoint": 1, "ack": 3
 
 
 def fault_of(words):
-    """The fault of a front of one of these lines, where it has one."""
+    """The fault of a prefix of one of these lines, if it has one."""
     if words[0] not in PLACES:
         return "Word"
     for place, word in enumerate(words[1:]):
@@ -46,7 +46,7 @@ def fault_of(words):
 
 
 def output_of(piece):
-    """What a front of the script prints, how many lines it has, and how many of them have a fault."""
+    """What a prefix of the script prints, how many lines it has, and how many of them have a fault."""
     lines = piece.decode().split("\n")
     cut = lines.pop()
     told = [text for _, text, _ in LINES[: len(lines)] if text]

@@ -85,7 +85,7 @@ void _exit(int status) {
     }
 }
 
-/* Whether the call of this place is to fail, where that one is, and all after it where `rest` says so. */
+/* Whether the call at this place has to fail: the chosen one, and with `rest` all after it. */
 static int is_met(long place, long fails, long rest) {
     return fails > 0 && (place == fails || (rest && place > fails));
 }
@@ -122,7 +122,7 @@ int pthread_create(pthread_t *made, const pthread_attr_t *kind, void *(*run)(voi
     return is_met(place, thread_fails, threads_rest) ? EAGAIN : next(made, kind, run, given);
 }
 
-/* Counts a call, and tells whether it is the one that fails. */
+/* Counts a call, and returns whether it is the one that fails. */
 static int is_failing(struct stream *stream) {
     stream->calls += 1;
     stream->late += stream->is_over;

@@ -1,8 +1,8 @@
 #!/usr/bin/env python3
 """tests/hostile_script.py KIND COUNT: writes a script whose file numbers are of this kind to standard output: `meeting`, chosen by
 meeting.c against maps that hash under words that are 0, or `random`. Each of the files goes through both maps of a coordinator:
-it is acknowledged as new and counted; then its checkpoint is dropped, so that it waits; and it is taken and reported as deleted.
-Needs cc. The last line of the script, `count`, is answered 0 where all went that way."""
+it is acknowledged as new and counted. Then its checkpoint is dropped, so it waits. Then it is taken and reported as deleted.
+Needs cc. If all of that happened, the answer to the last line of the script, `count`, is 0."""
 import subprocess
 import sys
 import tempfile
@@ -13,7 +13,7 @@ OF_ONE_ACKNOWLEDGEMENT = 4000
 
 
 def chosen(kind, count):
-    """So many file numbers of this kind, or nothing where there is no C compiler."""
+    """This many file numbers of this kind, or nothing if there is no C compiler."""
     with tempfile.TemporaryDirectory() as folder:
         meeting = built("meeting.c", f"{folder}/meeting")
         if not meeting:

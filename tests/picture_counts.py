@@ -26,7 +26,7 @@ def told(job, script):
 
 
 def counted(lines):
-    """How many calls were accepted and refused, and what records came to, as the lines tell it."""
+    """How many calls were accepted and refused, and how records ended, by these lines."""
     n = dict.fromkeys(["accepted", "refused", "records", "subsumed", "expired", "declined", "disposed"], 0)
     started = False
     for line in lines:
@@ -54,7 +54,7 @@ def counted(lines):
 
 
 def wanted(job, script):
-    """What the picture has to tell."""
+    """The numbers that the picture must have."""
     n = counted(told(job, script))
     asked = b"".join(b"show %d\n" % id for id in range(1, n["records"] + 1))
     shown = told(job, script + b"\n" + asked)[-n["records"] :] if n["records"] else []
@@ -66,7 +66,7 @@ def wanted(job, script):
 
 
 def drawn(chart, script):
-    """What the picture tells, or None where there is none."""
+    """The numbers of the picture, or None if there is none."""
     run = subprocess.run([chart], input=script, capture_output=True, timeout=120)
     text = run.stdout.decode()
     found = re.search(r">(\d+) records; (\d+) calls accepted, (\d+) refused<", text)

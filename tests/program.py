@@ -18,7 +18,7 @@ def program():
 
 
 def built(source, made, *words):
-    """Builds a C file of this folder, and returns what is made, or nothing where there is no C compiler."""
+    """Builds a C file of this folder, and returns the result, or nothing if there is no C compiler."""
     if not shutil.which("cc"):
         return None
     subprocess.run(["cc", "-O2", "-o", made, f"{TOP}/tests/{source}", *words], check=True)
@@ -26,7 +26,7 @@ def built(source, made, *words):
 
 
 def skip(tool, what):
-    """Says what is not tested for want of a tool, as the gate reads it."""
+    """Prints what is not tested because a tool is missing, as the gate reads it."""
     print(f"skipped: {tool}: {what}", flush=True)
 
 

@@ -1,5 +1,5 @@
 //! The program that the benchmarks compare with: a plain coordinator. It runs the scripts that
-//! bench/script.py prints, and answers as ckpt_job does. It uses only the standard library, keeps the
+//! bench/script.py prints, and prints the answers of ckpt_job. It uses only the standard library, keeps the
 //! list of all calls, and is written to be fast. It promises nothing: it has no `restore`, `cancel`,
 //! `show` and `all`, stops at a line that it can't read, and aborts if memory runs out.
 
@@ -186,7 +186,7 @@ impl Coordinator {
         }
     }
 
-    /// The subtask's place among all, where the shape has it.
+    /// The subtask's place among all, if the shape has it.
     fn place(&self, (vertex, index): Subtask) -> Option<usize> {
         let vertex = usize::from(vertex);
         let parallelism = *self.shape.get(vertex)?;
@@ -220,7 +220,7 @@ impl Coordinator {
         }
     }
 
-    /// Hands out what was released, and answers how many files these are.
+    /// Hands out what was released, and returns how many files these are.
     fn hand_out(&mut self) -> usize {
         self.released.sort_unstable();
         self.waiting.extend(&self.released);

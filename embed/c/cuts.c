@@ -1,4 +1,4 @@
-/* cuts: gives the library lines that are cut at each byte, lines with faults and lines that are too long, each at the end of
+/* cuts: gives the library lines that are cut at each byte, lines with faults, and lines that are too long. Each is at the end of
  * a page after which nothing may be read. Compares the answers with docs/SCRIPT.md. A line that can't be read has to change
  * nothing. */
 #define _GNU_SOURCE

@@ -11,7 +11,7 @@ static relkvanu_block block_at(void *at) {
     return block;
 }
 
-/* malloc may answer NULL for no bytes, so a block of none has some all the same. */
+/* malloc may return NULL for no bytes, so an empty block has some bytes too. */
 relkvanu_block rattle_alloc(size_t size, size_t align) {
     return block_at(malloc(size != 0 ? size : align));
 }

@@ -59,7 +59,7 @@ static relkvanu opened(const struct world *world, uint64_t retained, uint64_t at
     return job;
 }
 
-/* A list of new files, or of such as were named before. */
+/* A list of new files, or of files that were named before. */
 static size_t list_of(struct world *world, uint64_t list[LIST], bool is_new) {
     size_t len = (size_t)below(4);
     for (size_t place = 0; place < len; place++) {
@@ -98,7 +98,7 @@ static struct call next_call(struct world *world) {
     return call;
 }
 
-/* The call through the lines of a script: what is answered, and what is fetched. */
+/* The call through the lines of a script: its answer, and the files that it fetches. */
 static struct told made(relkvanu *job, const struct call *call) {
     struct told told = {0};
     uint8_t line[512];
@@ -172,7 +172,7 @@ static relkvanu busy(void) {
     return job;
 }
 
-/* An image that is cut is none; one with another byte is none, or is opened, and saved as it was read. */
+/* A cut image is no image. One with a changed byte is no image, or is opened and then saved as it was read. */
 static void cut_and_changed(void) {
     static uint8_t image[IMAGE], again[IMAGE];
     relkvanu job = busy(), other = {NULL};

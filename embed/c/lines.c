@@ -140,7 +140,7 @@ static void try_calls(void) {
     relkvanu_close(&job);
 }
 
-/* Lines that open a job are written, read and said again. */
+/* Lines that open a job are written, and read back. */
 static void try_opening(void) {
     static const char text[] = "config 10 20 3 40 5 6 keep\njob 2 1\nstart 7\n";
     size_t len = sizeof text - 1;

@@ -175,7 +175,7 @@ bool reads_fit(struct reads *reads, struct script *script, const char *line, rel
     uint64_t requests = heap_requests();
     bool fit = tells("mode", relkvanu_mode(&script->handle), reads->mode, 0, 0) && files_fit(reads, &script->handle)
         && same("memory asked for", heap_requests(), requests);
-    /* all of many records are asked after but a few lines, for time */
+    /* if there are many records, all are compared after only a few lines, to save time */
     bool are_asked = reads->last <= 64 || reads->lines % 256 == 0;
     reads->lines++;
     return fit && (!are_asked || records_fit(reads, script));

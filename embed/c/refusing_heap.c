@@ -40,7 +40,7 @@ static struct note *note_of(void *at) {
     return note;
 }
 
-/* The address for no block faults if it is read. A new block is filled, so that nothing depends on its bytes. */
+/* The address for no block faults if it is read. A new block is filled, so nothing can depend on its bytes. */
 relkvanu_block rattle_alloc(size_t size, size_t align) {
     relkvanu_block none = {0, (void *)16};
     check(align != 0 && align <= 16 && (align & (align - 1)) == 0, "an align that is no power of two up to 16");

@@ -1,8 +1,8 @@
 /* scale acks SUBTASKS ROUNDS | files MOST | counts RECORDS SUBTASKS | log FOLDER CALLS | replay SCRIPT: what the coordinator costs, for docs/SCALE.md.
  *
- * acks: acknowledgements a second of a job with so many subtasks, from one thread and under a lock from many.
+ * acks: acknowledgements a second of a job with this many subtasks, from one thread and under a lock from many.
  * files: the bytes that a coordinator has, and how long a trigger and a completion take, at 1000 live files and so on.
- * counts: how long a count takes while so many pending savepoints each pin another checkpoint, and the last savepoint.
+ * counts: how long a count takes while this many pending savepoints each pin another checkpoint, and how long the last savepoint takes.
  * log: calls a second that are made and written to a log, with a sync for each or for many; and their replay.
  * replay: calls a second of a script. */
 #define _GNU_SOURCE

@@ -1,5 +1,5 @@
 /* Scripts (docs/SCRIPT.md) by the library's own reader: for programs that run a script, and for those that log their calls as one.
- * Any line may be given: one with a fault is answered so, and changes nothing. */
+ * Any line may be given. One with a fault gets that answer, and changes nothing. */
 #ifndef RELKVANU_SCRIPT_H
 #define RELKVANU_SCRIPT_H
 

@@ -1,4 +1,4 @@
-/* The version of the library: that of the header which it was built with. */
+/* The version of the library: that of the header with which it was built. */
 #include "../../include/relkvanu.h"
 
 const char *relkvanu_version(void) {

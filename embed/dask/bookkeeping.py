@@ -1,5 +1,5 @@
 """What the lines of a log say by docs/RULES.md: a model of the coordinator with sets and lists, which shares nothing with the library. It
-reads the lines itself, and answers the calls that the driver makes."""
+reads the lines itself, and returns the answers to the driver's calls."""
 from collections import Counter
 from dataclasses import dataclass, field
 from typing import Any, Callable, Dict, List, Optional, Sequence, Set, Tuple
@@ -39,7 +39,7 @@ class Bookkeeping:
         self.latest = self.due = 0
 
     def follow(self, line: bytes) -> Optional[Reply]:
-        """Does what a line says, and answers what its call has to answer."""
+        """Does what a line says, and returns the answer that its call must have."""
         name, *words = line.decode().split(" ")
         return getattr(self, "on_" + name)(*words) if name != "#" else None
 
@@ -57,7 +57,7 @@ class Bookkeeping:
         return self.latest
 
     def released(self, change: Callable[[], object]) -> int:
-        """Makes a change. The files that were used before it and are not after it are handed out: how many."""
+        """Makes a change. Hands out the files that were used before it and are not after it, and returns how many."""
         before = set(self.uses())
         change()
         files = sorted(before - set(self.uses()))

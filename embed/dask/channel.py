@@ -13,7 +13,7 @@ Message = Union[int, Dict[int, int]]  # the number of a barrier; or ends of part
 
 
 class Lost(Exception):
-    """The worker of the task is gone."""
+    """The worker of the task has ended."""
 
 
 class Channel(threading.Thread):
@@ -77,7 +77,7 @@ class Channel(threading.Thread):
                 self.is_ending.set()
 
     def snapshot(self, id: int) -> Tuple[List[int], List[int]]:
-        """What the task wrote and names again. Where its worker is lost, the driver deletes what it wrote, and declines
+        """What the task wrote and names again. If its worker is lost, the driver deletes what it wrote, and declines
         for it; or says nothing, and then the record expires."""
         numbers = self.job.new_files(len(self.partitions))
         pause = WAIT if self.is_stopping else 0.0
@@ -91,8 +91,8 @@ class Channel(threading.Thread):
             raise
 
     def take_part(self, id: int) -> None:
-        """The task's part of a record. It is refused where a file that was to be used again is gone, as it is with those
-        of a record that another task declined: then all is written anew."""
+        """The task's part of a record. If a file that it reuses is gone, for example because another
+        task declined the file's record, it is refused. Then the task writes everything anew."""
         fresh, reused = self.snapshot(id)
         try:
             reply = self.job.ack(id, self.subtask, fresh, reused)

@@ -13,7 +13,7 @@ from distributed import Client, LocalCluster
 
 HERE = pathlib.Path(__file__).resolve().parent
 WAIT = 120  # seconds for what takes one on a fast machine
-# a call of an actor whose process is gone tries to connect for so long
+# a call of an actor whose process has ended tries to connect for this long
 dask.config.set({"distributed.comm.timeouts.connect": "8s"})
 
 
@@ -48,7 +48,7 @@ class Worker:
         self.address = addresses(client)[self.name]
 
     def has_ended(self, within: float = 0) -> bool:
-        """Whether the process has ended, or ends within so many seconds."""
+        """Whether the process has ended, or ends within this many seconds."""
         try:
             self.process.wait(within)
         except subprocess.TimeoutExpired:

@@ -1,9 +1,9 @@
-"""job.py [OPTIONS] SECONDS [SEED]: a keyed count as actors on worker processes. The coordinator is in the driver, which keeps a log, and
-goes on where a driver before it was killed; or in a service that --service names, which may be killed and started again meanwhile.
+"""job.py [OPTIONS] SECONDS [SEED]: a keyed count as actors on worker processes. The coordinator is in the driver, which keeps a log and
+goes on after a driver that was killed. Or it is in the service that --service names, which may be killed and started again meanwhile.
 
-The job has three vertices of different parallelism, each of which reads the whole stream and counts its part of the keys. A
-worker process is killed in the middle of a checkpoint, again and again: in turn the driver declines for the lost task, or the
-record expires. The job is restored with fewer tasks of one vertex on the workers that are left, and with all where there is a new
+The job has three vertices of different parallelism. Each reads the whole stream and counts its part of the keys. A
+worker process is killed in the middle of a checkpoint, again and again. In turn the driver declines for the lost task, or the
+record expires. The job is restored with fewer tasks of one vertex on the remaining workers, and with all tasks once there is a new
 worker. At the end the totals and the storage folder have to be exact.
 """
 import argparse
@@ -71,7 +71,7 @@ class Job:
         self.path(file).unlink()
 
     def called(self, call: Callable[..., Reply], *arguments: Any) -> Reply:
-        """Makes a call of the coordinator, and notes what it answers."""
+        """Makes a call of the coordinator, and notes its answer."""
         try:
             reply = call(*arguments)
         except Refused as refusal:
@@ -112,7 +112,7 @@ class Job:
         ]
 
     def start_tasks(self, shape: Sequence[int]) -> None:
-        """Restores the job in this shape, from what the coordinator answers, on the workers that are there."""
+        """Restores the job in this shape, from the record that the coordinator returns, on the workers that run."""
         with self.lock:
             reply = self.called(self.coordinator.restore, shape)
             files = self.coordinator.files(reply.id) if isinstance(reply, RestoredCheckpoint) else {}
@@ -128,15 +128,15 @@ class Job:
                 channel.start()
 
     def ends_of(self, reply: Reply, channels: Sequence[Channel]) -> Dict[int, int]:
-        """The source's offsets at the barriers of the record that the job begins from. Of one of an earlier driver they are what the
-        states of one vertex tell."""
+        """The source's offsets at the barriers of the record that the job begins from. If an earlier driver took it, they come from
+        the states of one vertex."""
         if not isinstance(reply, RestoredCheckpoint):
             return dict.fromkeys(range(PARTITIONS), 0)
         of_a_vertex = {p: end for channel in channels if channel.subtask[0] == 0 for p, end in channel.ends.items()}
         return self.cuts.get(reply.id, of_a_vertex)
 
     def stop_tasks(self) -> None:
-        """After this no task does anything, nor does any thread of one."""
+        """After this no task and no thread of a task does anything."""
         with self.lock:
             channels, self.channels = self.channels, []
         for channel in channels:
@@ -147,7 +147,7 @@ class Job:
         self.start_tasks(shape)
 
     def complete(self, shape: Sequence[int]) -> None:
-        """Waits until some checkpoints are complete since the tasks were started. Where the job failed, it is restored."""
+        """Waits until some checkpoints are complete since the tasks were started. If the job failed, it is restored."""
         while self.completed < COMPLETED:
             wait_for(lambda: self.completed >= COMPLETED or self.has_failed.is_set())
             if self.has_failed.is_set():
@@ -171,7 +171,7 @@ class Job:
         wait_for(self.has_failed.is_set)
 
     def run(self, seconds: float) -> None:
-        """Until the time is over, and a lost task was declined once and expired once."""
+        """Runs until the time is over, and a lost task was declined once and expired once."""
         end, rounds = time.monotonic() + seconds, 0
         self.coordinator.settle(self.storage)
         for thread in self.threads:
@@ -251,7 +251,7 @@ class Job:
 
 
 def source(job: Job) -> None:
-    """Sends records of a part of the partitions to each vertex, so that the states of the others are named again."""
+    """Sends each vertex records of some partitions. So the states of the others are named again."""
     chance = random.Random(job.seed + 1)
     while not job.is_over.is_set():
         with job.stream:
@@ -276,7 +276,7 @@ def options() -> argparse.Namespace:
 
 
 def coordinator_of(given: argparse.Namespace, folder: pathlib.Path) -> Any:
-    """Each wants what it needs alone: the library, or the client."""
+    """Imports only what is needed: the library, or the client."""
     if given.service:
         from over_service import OverService
 
@@ -301,7 +301,7 @@ def main() -> None:
         with Cluster(WORKERS) as cluster:
 
             def end_at_fault(fault: threading.ExceptHookArgs) -> None:
-                """A thread that fails ends all: nothing would wait for it."""
+                """A thread that fails ends the process, because nothing would wait for the thread."""
                 threading.__excepthook__(fault)
                 cluster.kill()
                 os._exit(1)

@@ -1,5 +1,5 @@
-"""kills.py SECONDS KILLS [SEED]: the job of job.py, whose driver is killed so often by SIGKILL, in turn at each place of log.py and at any
-moment, before it may come to its end. Each driver opens the log of the one before, and checks what has to hold (logged.py)."""
+"""kills.py SECONDS KILLS [SEED]: the job of job.py. SIGKILL ends its driver this many times, in turn at each place of log.py and at any
+moment. The next one may run to its end. Each driver opens the log of the one before, and checks what has to hold (logged.py)."""
 import ctypes
 import os
 import pathlib

@@ -8,7 +8,7 @@ from typing import List, NoReturn, Optional
 
 
 class Place(enum.Enum):
-    """Where the process may kill itself: after a call that is not in the log yet, with half of its line there, with all of it; with
+    """The places at which the process may kill itself: after a call that is not in the log yet, with half of its line there, with all of it; with
     half of a new log written, with all of it synced, when it is renamed, and when the folder is synced."""
 
     AFTER_A_CALL = "after-a-call"
@@ -55,10 +55,10 @@ def sync_folder(path: pathlib.Path) -> None:
 
 
 class Log:
-    """What fails here is told by OSError. Then the writer has to end: it knows of a call that the log may lack."""
+    """A failure raises OSError. Then the writer has to end, because the log may lack a call that it knows."""
 
     def __init__(self, path: pathlib.Path, kept: Optional[pathlib.Path], death: Death) -> None:
-        """A log that is cut off stays in the folder `kept`, if one is given, for who wants to read all of it."""
+        """Logs that were cut off stay in the folder `kept`, if one is given, for a reader of all lines."""
         self.path, self.kept, self.death = path, kept, death
         self.guard = os.open(path.with_name(path.name + ".lock"), os.O_CREAT | os.O_RDWR, 0o600)  # a cut replaces the log's own file
         try:
@@ -68,7 +68,7 @@ class Log:
         self.file: Optional[int] = None  # not before there is a log
 
     def lines(self) -> List[bytes]:
-        """The whole lines of the log that is there. Nobody was told of what half a line at its end says: it is cut off."""
+        """The whole lines of the log. Half a line at its end is cut off, because its call was never answered."""
         if not self.path.exists():
             return []
         self.file = os.open(self.path, os.O_WRONLY | os.O_APPEND)

@@ -1,10 +1,10 @@
 """The coordinator as a library in the driver's process, which ticks it, and logs its calls.
 
 Each call that changed something is a line of a script (docs/SCRIPT.md), which is written and synced before the caller is told. The
-library writes the lines and makes the calls that they say. A driver that opens the log of one that was killed has the very state that
-this one had told of, or that of one call more.
+library writes the lines and makes the calls that they say. A driver that opens the log of one that was killed has exactly the state
+after the last call that the other one answered, or after one more call.
 
-After some completed checkpoints the log is cut: a new one begins with an image of the coordinator. The comments of a log say what the
+After some completed checkpoints the log is cut: a new one begins with an image of the coordinator. The comments of a log have what the
 driver has to know and the coordinator does not: the end of the file numbers that may have been given.
 """
 import contextlib
@@ -33,7 +33,7 @@ def now() -> int:
 
 @contextlib.contextmanager
 def or_end() -> Iterator[None]:
-    """Ends the process if the log can't be written: the coordinator knows of a call that the log may lack."""
+    """Ends the process if the log can't be written, because the log may lack a call that the coordinator knows."""
     try:
         yield
     except OSError as fault:
@@ -70,7 +70,7 @@ class Logged:
         return core
 
     def call(self, line: str, most: int = 1) -> Any:
-        """Makes the call that a line says, logs it, and then tells what it answered. One that was refused has changed nothing, and
+        """Makes the call of a line, logs it, and then returns its answer. One that was refused has changed nothing, and
         is not logged."""
         with self.lock:
             reply = made(self.core, line.encode(), most)
@@ -83,7 +83,7 @@ class Logged:
         return reply
 
     def cut(self) -> None:
-        """Begins the log anew, or goes on with it where there is no memory for an image."""
+        """Begins the log anew, or goes on with it if there is no memory for an image."""
         with contextlib.suppress(OutOfMemory), or_end():
             self.log.replace(IMAGE + self.core.save().encode() + b"\n" + FILES + b"%d\n" % self.files_end)
             self.completed = 0
@@ -159,7 +159,7 @@ class Logged:
         assert names == used, (names - used, used - names)
 
     def check(self, storage: pathlib.Path) -> bookkeeping.Bookkeeping:
-        """Compares the coordinator, and what it has answered, with what all lines say from the first on. The files in use are there."""
+        """Compares the coordinator and its answers with what all lines say from the first on. The files in use are there."""
         with self.lock:
             books = bookkeeping.Bookkeeping()
             answers = [(line, books.follow(line)) for line in whole_log(self.log.path, self.log.kept)]
@@ -171,7 +171,7 @@ class Logged:
         return books
 
     def run(self, job: Any) -> None:
-        """Ticks when something can happen, and has barriers sent where a checkpoint is triggered, until the job is over."""
+        """Ticks when something can happen, and has barriers sent if a checkpoint is triggered, until the job is over."""
         ticked: Optional[Reply] = None
         calls = 0
         while not job.is_over.is_set():
@@ -205,7 +205,7 @@ def opened(says: Sequence[lines.Line]) -> Optional[Coordinator]:
 
 
 def made(core: Coordinator, line: bytes, most: int) -> Optional[Reply]:
-    """Makes the call of a line. One that finds no memory is made again before any other."""
+    """Makes the call of a line. If it runs out of memory, makes it again before any other."""
     while True:
         try:
             return core.line(line, most)

@@ -11,7 +11,7 @@ from relkvanu import (
 )
 
 Subtask = Tuple[int, int]
-# What an answer is here, by the call's name and what stands under that name.
+# What an answer is here, by the call's name and the value under that name.
 REPLIES = {
     "ack pending": AckPending, "ack completed": AckCompleted, "ack late": AckLate,
     "decline aborted": DeclineAborted, "decline failed": DeclineFailed, "decline late": DeclineLate,
@@ -20,7 +20,7 @@ REPLIES = {
 
 
 class OverService:
-    """Each call goes under a key of its own, so that one whose answer is lost is made once."""
+    """Each call has a key of its own, so it is made once even if its answer is lost."""
 
     def __init__(self, url: str, name: str, settings: Dict[str, int], shape: Sequence[int]) -> None:
         self.remote = service.Service(url).open(name, settings, list(shape))
@@ -95,7 +95,7 @@ class OverService:
         return used & set(files)
 
     def run(self, job: Any) -> None:
-        """Has barriers sent where the service has triggered a checkpoint, until the job is over."""
+        """Has barriers sent if the service has triggered a checkpoint, until the job is over."""
         after = 0
         while not job.is_over.is_set():
             after, events = self.remote.events(after, wait=1)

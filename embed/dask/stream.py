@@ -1,4 +1,4 @@
-"""The stream: each partition is a list of keys without an end, which the seed alone says. Each vertex of the job reads all of it, and
+"""The stream: each partition is an endless list of keys, which depends on the seed alone. Each vertex of the job reads all of it, and
 counts a part of the keys."""
 import json
 import pathlib
@@ -16,7 +16,7 @@ def key(seed: int, partition: int, offset: int) -> int:
 
 
 def counted(seed: int, vertex: int, partition: int, first: int, end: int) -> "Counter[int]":
-    """How often each key of the vertex stands in the partition, from one offset to before another."""
+    """How often each key of the vertex is in the partition, from one offset to before another."""
     keys = (key(seed, partition, offset) for offset in range(first, end))
     return Counter(key for key in keys if key % VERTICES == vertex)
 

@@ -1,6 +1,6 @@
-"""Builds the package's wheel, so that pip needs no index and no other package (PEP 517, PEP 427).
+"""Builds the package's wheel. So pip needs no index and no other package (PEP 517, PEP 427).
 
-The wheel has librelkvanu.so.0 beside the package where it is found: in the folder that RELKVANU_LIB names, else in `build`
+The wheel has librelkvanu.so.0 beside the package. It comes from the folder that RELKVANU_LIB names, otherwise from `build`
 of this repository, where `make` leaves it.
 """
 import base64
@@ -30,7 +30,7 @@ def library() -> Optional[pathlib.Path]:
 
 
 def contents() -> Dict[str, bytes]:
-    """The files of the wheel but for its RECORD."""
+    """The files of the wheel except its RECORD."""
     files = {f"relkvanu/{path.name}": path.read_bytes() for path in sorted((HERE / "relkvanu").glob("*.py"))}
     files["relkvanu/py.typed"] = b""
     shared = library()

@@ -4,7 +4,7 @@
 
 #include <string.h>
 
-/* The live counts are those of the stream up to where the source stopped. */
+/* The live counts are those of the stream up to the place at which the source stopped. */
 static void check_counts(struct job *job) {
     for (unsigned partition = 0; partition < PARTITIONS; partition++) {
         const struct store *store = &job->tasks[partition % job->parallelism].store;
@@ -53,7 +53,7 @@ static void check_known(void *with, const char *name) {
     CHECK(coordinator_count(folder->coordinator, file) != 0 || is_taken(folder->coordinator, file), "nobody knows file %" PRIu64, file);
 }
 
-/* The storage folder has exactly the files that are in use or taken; it answers how many. One that a repeated
+/* Checks that the storage folder has exactly the files that are in use or taken, and returns how many. One that a repeated
  * message has handed out once more may be taken and gone. */
 static size_t check_folder(struct job *job) {
     struct coordinator *c = &job->coordinator;

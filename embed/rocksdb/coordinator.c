@@ -155,7 +155,7 @@ static char *image_of(struct coordinator *c, size_t *len) {
     return image;
 }
 
-/* What a log begins with in place of all lines before: an image, and what they told the engine. */
+/* The beginning of a log in place of all earlier lines: an image, and what the engine has to know of those lines. */
 static char *new_log(struct coordinator *c, size_t *len) {
     char *text = NULL;
     size_t image_len = 0;
@@ -184,7 +184,7 @@ static void sync_folder(const char *path) {
     close(it);
 }
 
-/* Puts a log in the place of this one that begins with an image and has no call yet. */
+/* Replaces this log by one that begins with an image and has no call yet. */
 static void cut(struct coordinator *c) {
     char beside[PATH];
     size_t len = 0;
@@ -225,7 +225,7 @@ static void obey(struct coordinator *c, const char *line, size_t len) {
     }
 }
 
-/* Writes the line of a call, makes the call that it says, and logs it where it changed something. A line that would be too long is
+/* Writes the line of a call, makes the call, and logs the line if the call changed something. A line that would be too long is
  * a fault of the engine: it is neither cut nor made. A call that found no memory is made again before any other, under the lock. */
 static relkvanu_answer logged(struct coordinator *c, const relkvanu_call *call, const uint64_t *first, size_t first_len, const uint64_t *second, size_t second_len) {
     relkvanu_answer written = relkvanu_call_line(call, first, first_len, second, second_len, (uint8_t *)c->line, LINE);
@@ -316,7 +316,7 @@ void coordinator_report(struct coordinator *c, uint64_t file, bool is_deleted) {
     CHECK(answer.code == RELKVANU_DONE, "the report of file %" PRIu64 " is refused", file);
 }
 
-/* Obeys the whole lines of a log, and says how many bytes they have. */
+/* Obeys the whole lines of a log, and returns how many bytes they have. */
 static off_t replayed(struct coordinator *c, const char *log) {
     char *line = NULL;
     size_t room = 0;

@@ -1,12 +1,13 @@
 /* The coordinator behind a lock, with a log: each call that changed it is a script line (docs/SCRIPT.md), which is written and synced
  * before the caller is told. The library writes the lines and makes the calls that they say. Opened over a log, it makes the calls of
- * all whole lines again, and so has the very state that the process before had told of, or that of one call more.
+ * all whole lines again. So it has exactly the state after the last call that the process before answered, or after one more call.
  *
  * After each COMPLETED_OF_A_LOG completed records the log is cut: a new one, which begins with an image of the coordinator, is written
  * beside it, synced and renamed to it, and the folder is synced. A process that dies before the rename leaves the old log, which is whole.
  *
- * What the engine has to know and the coordinator does not stands in the log as comments, before it is used: how many tasks the job
- * is to have, the end of the file numbers that may have been given, and at the start of a cut log what the lines before it told. */
+ * The log also has comments, with what the engine has to know and the coordinator does not: how many tasks the job is to have, the
+ * end of the file numbers that may have been given, and at the start of a cut log what the earlier lines had of this. Each comment
+ * is written before the engine relies on it. */
 #ifndef ENGINE_COORDINATOR_H
 #define ENGINE_COORDINATOR_H
 
@@ -17,9 +18,9 @@
 
 enum { REPLIES = 23, LINE = 131072, FILES_AT_ONCE = 1000, COMPLETED_OF_A_LOG = 5 };
 
-/* Where the process may kill itself: after a call that is not in the log yet, with half of its line there, with all of it,
- * between two steps of a task or of the discarder; with half of a new log written, with all of it synced, when it is renamed, and when
- * the folder is synced. */
+/* The places at which the process may kill itself: after a call that is not in the log yet, with half of its line there, with all of
+ * it, between two steps of a task or of the discarder; with half of a new log written, with all of it synced, when it is renamed, and
+ * when the folder is synced. */
 enum place { AFTER_A_CALL, HALF_A_LINE, AFTER_A_LINE, BETWEEN_STEPS, HALF_A_LOG, AFTER_A_LOG, AFTER_A_RENAME, AFTER_A_CUT, PLACES };
 
 /* The process is killed when it comes to the place for the nth time; 0: it is not. */
@@ -49,14 +50,14 @@ struct coordinator {
     size_t taken_len, taken_room;
 };
 
-/* What the timer goes by. */
+/* What the timer needs to know. */
 struct progress {
     uint64_t savepoint, savepoint_pending; /* 0: none */
     uint64_t completed;                    /* since the last restore */
     bool is_rolled_back;
 };
 
-/* Opens the log, a new one where there is none: then the coordinator too, for a job of TASKS tasks, by its first lines. */
+/* Opens the log, or a new one if there is none, and then the coordinator, for a job of TASKS tasks, by its first lines. */
 void coordinator_open(struct coordinator *c, const char *log, struct death death);
 
 /* Replays a log to compare with. Nothing is written. */
@@ -64,7 +65,7 @@ void coordinator_replay(struct coordinator *c, const char *log);
 
 void coordinator_close(struct coordinator *c);
 
-/* Calls, each of which is logged where it changed something. */
+/* Calls. Each is logged if it changed something. */
 
 relkvanu_answer coordinator_tick(struct coordinator *c);
 
@@ -76,12 +77,12 @@ relkvanu_answer coordinator_decline(struct coordinator *c, uint64_t id, unsigned
 
 relkvanu_answer coordinator_dispose(struct coordinator *c, uint64_t savepoint);
 
-/* From a savepoint, or from the latest where it is 0; with so many tasks from now on, or as many as before where that is 0. */
+/* From a savepoint, or from the latest if it is 0; with this many tasks from now on, or as many as before if that is 0. */
 relkvanu_answer coordinator_restore(struct coordinator *c, uint64_t savepoint, unsigned tasks);
 
 relkvanu_answer coordinator_cancel(struct coordinator *c);
 
-/* Fetches files for deletion, and says how many. */
+/* Fetches files for deletion, and returns how many. */
 size_t coordinator_take(struct coordinator *c, uint64_t *files, size_t most);
 
 void coordinator_report(struct coordinator *c, uint64_t file, bool is_deleted);
@@ -98,7 +99,7 @@ struct record {
 /* Reads the files of a done record. */
 void coordinator_files(struct coordinator *c, uint64_t id, struct record *record);
 
-/* The metadata of a live record, to be freed; NULL where the record is not live. */
+/* The metadata of a live record, to be freed; NULL if the record is not live. */
 char *coordinator_show(struct coordinator *c, uint64_t id);
 
 /* How often a file is used. */

@@ -1,5 +1,5 @@
-/* The discarder: a thread that fetches files, deletes them and reports each. By the seed a part of its deletions
- * fails, and is reported so. */
+/* The discarder: a thread that fetches files, deletes them and reports each. The seed decides which of its deletions
+ * fail, and these are reported as failed. */
 #ifndef ENGINE_DISCARDER_H
 #define ENGINE_DISCARDER_H
 

@@ -141,7 +141,7 @@ static void settle(struct job *job, struct task *task) {
     task->left.id = 0;
 }
 
-/* Restores the job as its end wants, and starts the source and the tasks. */
+/* Restores the job as its end requires, and starts the source and the tasks. */
 static void start(struct job *job, enum end end) {
     struct coordinator *c = &job->coordinator;
     relkvanu_answer answer;
@@ -192,7 +192,7 @@ static void send_barriers(struct job *job, uint64_t id) {
     }
 }
 
-/* Whether so many hundredths of the time have passed. */
+/* Whether this many hundredths of the time have passed. */
 static bool has_passed(const struct job *job, uint64_t hundredths) {
     return now() - job->started >= job->seconds * 10 * hundredths;
 }
@@ -223,7 +223,7 @@ static bool has_failed(struct job *job) {
     return atomic_load(&job->is_failed) || (job->victim != TASKS && atomic_load(&job->tasks[job->victim].is_stopped));
 }
 
-/* A tick, and a savepoint where it is time for it. */
+/* A tick, and a savepoint if it is time for one. */
 static void drive(struct job *job) {
     struct coordinator *c = &job->coordinator;
     relkvanu_answer answer = coordinator_tick(c);

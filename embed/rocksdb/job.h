@@ -1,4 +1,4 @@
-/* The job: a source, tasks, a timer, and what is done where something fails. */
+/* The job: a source, tasks, a timer, and what is done if something fails. */
 #ifndef ENGINE_JOB_H
 #define ENGINE_JOB_H
 
@@ -35,7 +35,7 @@ void job_open(struct job *job, const char *folder);
  * the source has stopped, and all its records are counted. */
 void job_run(struct job *job);
 
-/* Opens the databases of the record that a restore answered, one for each subtask of the record, in local/of. */
+/* Opens the databases of the record that a restore returned, one for each subtask of the record, in local/of. */
 void job_open_record(struct job *job, const struct record *record, struct store *stores, struct files *held, const char *of);
 
 #endif

@@ -28,10 +28,10 @@ void queue_open(struct queue *queue);
 /* Waits for room. Nothing is put into a queue that is closed. */
 void queue_put(struct queue *queue, const struct message *message);
 
-/* Waits for a message, and says whether there is one: none comes after an end or a close. */
+/* Waits for a message, and returns whether there is one: none comes after an end or a close. */
 bool queue_get(struct queue *queue, struct message *message);
 
-/* What is in the queue is still got. */
+/* Messages that are in the queue are still received. */
 void queue_end(struct queue *queue);
 
 /* What is in the queue is lost. */

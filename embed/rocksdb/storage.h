@@ -15,7 +15,7 @@ void storage_get(const char *storage, uint64_t number, const char *folder, char 
 
 bool storage_has(const char *storage, uint64_t number);
 
-/* A file that is gone is deleted. */
+/* A file that does not exist counts as deleted. */
 void storage_delete(const char *storage, uint64_t number);
 
 #endif

@@ -1,4 +1,4 @@
-/* The stream: each partition is a list of keys without an end, which the seed alone says. */
+/* The stream: each partition is an endless list of keys, which depends on the seed alone. */
 #ifndef ENGINE_STREAM_H
 #define ENGINE_STREAM_H
 

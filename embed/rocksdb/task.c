@@ -99,7 +99,7 @@ static void repeat(struct task *task, const struct upload *upload) {
 }
 
 /* Uploads the checkpoint in the folder and acknowledges. Returns whether that was accepted, or the task was stopped. It is
- * refused if a reused file is gone, as the files of a checkpoint are that another task declined. */
+ * refused if a reused file is gone, for example because another task declined the file's checkpoint. */
 static bool uploads(struct task *task, uint64_t id, const char *folder) {
     static _Thread_local struct upload upload;
     struct uploading uploading = {task, folder, &upload};

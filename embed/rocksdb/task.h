@@ -52,7 +52,7 @@ void task_start(struct task *task);
 /* Names those of the files again that never change: the tables. */
 void task_hold(struct task *task, const struct files *files);
 
-/* Acknowledges, and says what it was answered. */
+/* Acknowledges, and returns the answer. */
 relkvanu_answer task_ack(struct task *task, const struct upload *upload);
 
 /* Deletes the files that were written for an acknowledgement which was not accepted. */

@@ -19,7 +19,7 @@ create index if not exists file_deleted on file(job, deleted) where deleted is n
 create table if not exists queue(
     job integer not null, place integer not null, released integer not null, files integer not null,
     primary key(job, place)) strict, without rowid;
--- What the calls said that files name, without their lists of files: the log may be cut before them.
+-- What the calls said that files name, without their lists of files. The log may be cut behind them.
 create table if not exists place(
     job integer not null, seq integer not null, at integer not null, record integer, line text not null, answer text not null,
     ended text, waiting integer not null, primary key(job, seq)) strict, without rowid;

@@ -1,4 +1,4 @@
-//! Tokens: who may read, and who may change something.
+//! Tokens: which clients may read, and which may change something.
 use hyper::header::{HeaderMap, AUTHORIZATION};
 use std::path::Path;
 use subtle::ConstantTimeEq;

@@ -1,4 +1,4 @@
-//! The configuration: defaults, a TOML file over them, and the command line over that.
+//! The configuration: defaults, then a TOML file that overrides them, then the command line.
 use crate::cli::Serve;
 use crate::model::Keeping;
 use serde::Deserialize;
@@ -40,9 +40,9 @@ pub struct Limits {
     pub calls: usize,
     /// Requests that wait for the writer.
     pub queue: usize,
-    /// Seconds that a connection may have no request that came whole.
+    /// Seconds that a connection may be open without a complete request.
     pub idle_seconds: u64,
-    /// Seconds until a request's body has come whole.
+    /// Seconds in which a request's body has to be complete.
     pub body_seconds: u64,
 }
 
@@ -150,7 +150,7 @@ impl Database {
         }
     }
 
-    /// Where the history lies by default: beside the database, or in the folder of the service.
+    /// The default place of the history: beside the database, or in the folder of the service.
     fn history(&self, listen: &SocketAddr) -> PathBuf {
         match self {
             Database::Sqlite(path) => {

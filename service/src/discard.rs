@@ -1,4 +1,4 @@
-//! `relkvanu discard`: deletes the files that a job hands out, which lie in a folder under their numbers.
+//! `relkvanu discard`: deletes the files that a job hands out. They are in a folder, with their numbers in their names.
 use crate::cli;
 use crate::log;
 use relkvanu_client::{Answer, Call, Error, Job, Service};
@@ -10,7 +10,7 @@ use std::time::Duration;
 
 /// How many files one request takes.
 const MOST: u64 = 64;
-/// How long it waits where no file does.
+/// How long it waits if no file waits for deletion.
 const IDLE: Duration = Duration::from_secs(1);
 /// How long it waits after files that could not be deleted: the first time, and at most.
 const FIRST_PAUSE: Duration = Duration::from_millis(500);
@@ -23,7 +23,7 @@ struct Discarder {
     suffix: String,
 }
 
-/// What became of some files.
+/// The outcome of some deletions.
 #[derive(Clone, Copy, Default)]
 struct Done {
     deleted: usize,
@@ -65,7 +65,7 @@ impl Discarder {
         Ok(Discarder { job: service.job(&given.job), folder: given.folder.clone(), prefix, suffix })
     }
 
-    /// Deletes what an earlier run left taken, then what waits, for ever or until nothing does.
+    /// Deletes the files that an earlier run left taken, then those that wait: for ever, or until none waits.
     async fn work(&self, once: bool) -> Result<(), Error> {
         let left = self.left().await?;
         let mut done = self.discard(&left).await?;
@@ -109,7 +109,7 @@ impl Discarder {
         Ok(done)
     }
 
-    /// Deletes a file, and returns its report. A file that is not there is deleted.
+    /// Deletes a file, and returns its report. A file that does not exist counts as deleted.
     fn delete(&self, file: u64) -> Call {
         let path = self.folder.join(format!("{}{file}{}", self.prefix, self.suffix));
         match std::fs::remove_file(&path) {

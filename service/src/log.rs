@@ -1,4 +1,4 @@
-//! The service's own log: one line each, on standard error.
+//! The service's own log, on standard error: one line for each event.
 use std::io::Write;
 use std::time::SystemTime;
 
@@ -14,7 +14,7 @@ pub fn error(text: &str) {
     line("error", text);
 }
 
-/// Writes one line, whatever the text has in it. Where standard error is gone, there is nobody to tell.
+/// Writes one line, whatever bytes the text has. If standard error is closed, the line is lost.
 fn line(level: &str, text: &str) {
     let at = humantime::format_rfc3339_millis(SystemTime::now());
     let text: String = text.chars().map(|c| if c.is_control() { ' ' } else { c }).collect();

@@ -25,7 +25,7 @@ fn main() -> ExitCode {
     }
 }
 
-/// A thread that panics ends the process, so that nothing half done goes on: the next start reads what was committed.
+/// A thread that panics ends the process, so nothing goes on half done. The next start reads what was committed.
 fn abort_on_panic() {
     let tell = std::panic::take_hook();
     std::panic::set_hook(Box::new(move |info| {

@@ -1,4 +1,4 @@
-//! What Prometheus reads: counters and times by the writer, gauges by reads.
+//! The metrics for Prometheus: the writer sets counters and times, and reads set gauges.
 use crate::model::{Mode, Outcome};
 use crate::writer::JobState;
 use prometheus::{
@@ -25,7 +25,7 @@ pub struct Metrics {
     gauges: Gauges,
 }
 
-/// The gauges of jobs, which are set anew at each scrape.
+/// The gauges of jobs, which each scrape sets anew.
 struct Gauges {
     mode: IntGaugeVec,
     interval: GaugeVec,
@@ -113,7 +113,7 @@ impl Metrics {
         &self.connections
     }
 
-    /// A record ended being pending; `seconds` from its trigger on.
+    /// A record stopped being pending, `seconds` after its trigger.
     pub fn record(&self, job: &str, kind: &str, how: &str, seconds: f64) {
         self.records.with_label_values(&[job, kind, how]).inc();
         if how == "completed" {

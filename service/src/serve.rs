@@ -1,4 +1,4 @@
-//! `relkvanu serve`: opens the database, makes the jobs from the log, and serves them until it is stopped.
+//! `relkvanu serve`: opens the database, replays the jobs from the log, and serves them until it is stopped.
 use crate::auth::Tokens;
 use crate::cli;
 use crate::config::{Config, Database};
@@ -20,13 +20,13 @@ use tokio::net::TcpListener;
 use tokio::signal::unix::{signal, SignalKind};
 use tokio::sync::Semaphore;
 
-/// The exit status of a configuration or a log that no further start can mend.
+/// The exit status if the configuration or the log is bad, so another start would fail too.
 const NOT_TO_START: u8 = 78;
 /// How often a standby follows the log and tries to lead.
 const LEAD_EACH: Duration = Duration::from_millis(100);
-/// How seldom at most systemd hears that the writer is at work.
+/// The longest time between two reports to systemd that the writer works.
 const WATCHDOG: Duration = Duration::from_secs(5);
-/// A writer that is silent for so long is stuck.
+/// After this time without a sign of work the writer counts as stuck.
 const SILENCE: Duration = Duration::from_secs(15);
 /// How long the writer may take for its last group.
 const STOP_WITHIN: Duration = Duration::from_secs(10);
@@ -45,7 +45,7 @@ pub fn run(given: &cli::Serve) -> ! {
 
 /// Why the service ended.
 enum Stop {
-    /// A further start would end in the same way.
+    /// Another start would end in the same way.
     Never(String),
     Again(String),
 }
@@ -62,7 +62,7 @@ impl Stop {
 
 fn serve(config: Config) -> Result<(), Stop> {
     let tokens = config.token_file.as_deref().map(Tokens::read).transpose().map_err(Stop::Never)?;
-    // before the lease is taken: a second process at this address never leads
+    // before the lease is taken, so a second process at this address never leads
     let listener = listening(&config)?;
     let store = open_store(&config).map_err(|why| match why {
         Unusable::Newer(_) => Stop::Never(why.to_string()),
@@ -114,7 +114,7 @@ fn open_reader(config: &Config) -> Result<Box<dyn Reader>, String> {
     }
 }
 
-/// Opens the history. One that can't be read is set aside, since it can be made again.
+/// Opens the history. If it can't be read, renames it, since it can be made again.
 fn open_history(path: &Path) -> Result<HistoryReader, Stop> {
     HistoryReader::open(path).or_else(|why| {
         log::warn(&format!("history {why}: it is made again"));
@@ -123,7 +123,7 @@ fn open_history(path: &Path) -> Result<HistoryReader, Stop> {
     })
 }
 
-/// Renames an SQLite file, with the files that SQLite keeps beside it where they are there.
+/// Renames an SQLite file, and the files that SQLite keeps beside it if they exist.
 fn set_aside(path: &Path) -> std::io::Result<()> {
     let named = |end: &str| {
         let mut name = path.as_os_str().to_owned();
@@ -151,7 +151,7 @@ struct Leader {
 }
 
 impl Leader {
-    /// Ends the process where it can't lead.
+    /// Ends the process if it can't lead.
     fn run(mut self) {
         let jobs = self.lead().unwrap_or_else(|stop| {
             let (why, status) = stop.parts();
@@ -160,13 +160,13 @@ impl Leader {
         });
         let (board, metrics) = (Arc::clone(&self.board), Arc::clone(&self.metrics));
         let writer = Writer::new(self.store, jobs, board, metrics, self.keeping);
-        // the writer has published all jobs, so that the first request finds them
+        // the writer has published all jobs, so the first request finds them
         self.board.open();
         log::info(&format!("serves on {}", self.listen));
         writer.run(&self.messages);
     }
 
-    /// Follows the log until this process may write, so that a take-over has little to read.
+    /// Follows the log until this process may write. So a take-over has little to read.
     fn lead(&mut self) -> Result<Jobs, Stop> {
         let mut jobs = Jobs::default();
         let (started, mut calls) = (Instant::now(), 0);
@@ -213,7 +213,7 @@ fn listening(config: &Config) -> Result<std::net::TcpListener, Stop> {
     Ok(listener)
 }
 
-/// Answers requests until the process is told to stop.
+/// Answers requests until the process gets a signal to stop.
 fn answer_requests(app: App, listener: std::net::TcpListener) -> Result<(), Stop> {
     let told = |error: std::io::Error| Stop::Again(error.to_string());
     let runtime = tokio::runtime::Builder::new_multi_thread().worker_threads(2).enable_all().build().map_err(told)?;
@@ -226,9 +226,9 @@ fn answer_requests(app: App, listener: std::net::TcpListener) -> Result<(), Stop
     })
 }
 
-/// Tells systemd that the service is ready, a standby too, and while the writer works.
+/// Reports to systemd that the service is ready, even as a standby, and then that the writer works.
 async fn tell_systemd(board: Arc<Board>) {
-    // without systemd there is nobody to tell
+    // without systemd there is nothing to report to
     let _ = sd_notify::notify(false, &[NotifyState::Ready]);
     let each = watchdog();
     loop {
@@ -239,7 +239,7 @@ async fn tell_systemd(board: Arc<Board>) {
     }
 }
 
-/// Twice in the time in which systemd wants to hear of the service.
+/// Half of the time after which systemd expects a report.
 fn watchdog() -> Duration {
     let mut micros = 0;
     match sd_notify::watchdog_enabled(false, &mut micros) {
@@ -258,7 +258,7 @@ async fn told_to_stop() {
     }
 }
 
-/// Lets the writer commit what it has.
+/// Waits until the writer has committed what it has.
 fn stop_writer(inbox: &SyncSender<Message>, working: &std::thread::JoinHandle<()>) {
     let until = Instant::now() + STOP_WITHIN;
     let mut sent = false;

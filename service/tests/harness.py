@@ -73,7 +73,7 @@ class Server:
         return self
 
     def wait_ready(self, seconds=30, kept=False):
-        """Waits until it answers; it may end meanwhile where somebody starts it again."""
+        """Waits until it answers. It may end meanwhile if somebody starts it again."""
         until = time.monotonic() + seconds
         while time.monotonic() < until:
             if self.process.poll() is not None and not kept:
@@ -110,7 +110,7 @@ class Server:
         return self.request("GET", path, token=token)
 
     def request(self, method, path, body=None, token=None, headers=()):
-        """A status, the headers and the body; 0 where there is no answer."""
+        """A status, the headers and the body; 0 if there is no answer."""
         import http.client
 
         connection = http.client.HTTPConnection("127.0.0.1", self.port, timeout=70)
@@ -133,7 +133,7 @@ class Server:
 
 
 class Kept(threading.Thread):
-    """Starts a service again where it ended with 75, as systemd does."""
+    """Starts a service again if it ended with 75, as systemd does."""
 
     def __init__(self, server):
         super().__init__(daemon=True)
@@ -156,7 +156,7 @@ def folder():
 
 @contextmanager
 def small_disk(at, size):
-    """A file system of so many bytes, as `mount` has them, in the folder `small`."""
+    """A file system of this size, in the words of `mount`, in the folder `small`."""
     path = f"{at}/small"
     os.chmod(at, 0o755)  # PostgreSQL runs as a user of its own
     os.mkdir(path)
@@ -180,7 +180,7 @@ def served(**given):
 
 
 def answer_text(answer):
-    """The script's text of an answer of the API, or None where the call was not made."""
+    """The script's text of an answer of the API, or None if the call was not made."""
     if "refused" in answer or "no_memory" in answer or "not_made" in answer:
         return None
     if "tick" in answer:

@@ -1,5 +1,5 @@
-/* Memory that runs out for the proved library alone: after SIGUSR2, and until the next one, one of so many requests that come from
- * rattle_alloc and rattle_realloc is refused. HUNGRY has the offsets of both in the program, and how many. */
+/* Memory that runs out for the proved library alone. From one SIGUSR2 to the next, one in N requests from rattle_alloc and
+ * rattle_realloc is refused. HUNGRY has the offsets of both in the program, and N. */
 #define _GNU_SOURCE
 #include <link.h>
 #include <signal.h>

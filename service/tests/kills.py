@@ -11,7 +11,7 @@ from writers import SETTINGS, Writer, check
 JOBS = ["orders", "users"]
 SETTINGS = {**SETTINGS, "interval": 15}
 SHAPE = [4, 8]
-# so that kills land around images and cuts
+# so kills come near images and cuts
 KEEPING = "image_calls = 40\nkeep_calls = 100\n"
 
 

@@ -1,6 +1,6 @@
-"""Load by wrk: load.py [SECONDS [sqlite|postgres]] prints acknowledgements a second with 1 and 256 connections, of one and of 64 each, beside
-how many bare commits of as many rows the database takes, then what a start over that log costs with an image and without. Over SQLite
-also what images of a job with a million files cost."""
+"""Load by wrk. load.py [SECONDS [sqlite|postgres]] prints acknowledgements a second with 1 and 256 connections, of one and of 64 each. It also
+prints how many bare commits of as many rows the database makes, and the cost of a start over that log, with an image and without. Over
+SQLite it also prints the cost of images of a job with a million files."""
 import os
 import re
 import sqlite3
@@ -28,7 +28,7 @@ def wrk(url, connections, batch, seconds):
 
 
 def bare(at, rows, seconds=2):
-    """Commits a second of so many rows, in a database of its own."""
+    """Commits a second of this many rows, in a database of its own."""
     base = sqlite3.connect(f"{at}/bare-{rows}.db", isolation_level=None)
     base.executescript("pragma journal_mode=wal; pragma synchronous=full; create table t(a integer primary key, line text, answer text)")
     commits, started = 0, time.monotonic()
@@ -77,7 +77,7 @@ def memory(server):
 
 
 def job_memory(at, jobs=500):
-    """KiB for each of so many jobs, and how late their timers are at most, in milliseconds."""
+    """KiB for each of this many jobs, and how late their timers are at most, in milliseconds."""
     os.mkdir(f"{at}/jobs")
     server = Server(f"{at}/jobs").start()
     service = Service(server.url)
@@ -96,7 +96,7 @@ def job_memory(at, jobs=500):
 
 
 def large_images(at, files=1_000_000, seconds=5):
-    """What an image of a job with so many files costs: its bytes, and the seconds in which the writer makes it; then the longest wait of a
+    """The cost of an image of a job with this many files: its bytes, the seconds in which the writer makes it, and the longest wait of a
     client of another job, in milliseconds, while it is made and while none is."""
     os.mkdir(f"{at}/large")
     # the second savepoint of the large job is its call 4098

@@ -11,7 +11,7 @@ from run import Skipped
 
 
 class Postgres:
-    """In a folder that is there. The options are those of initdb."""
+    """In a folder that exists. The options are those of initdb."""
 
     def __init__(self, at, *options):
         found = sorted(glob.glob("/usr/lib/postgresql/*/bin/pg_ctl"))
@@ -45,7 +45,7 @@ class Postgres:
         self.run("pg_ctl", "-D", self.data, "-w", "-m", mode, "stop")
 
     def start_again(self):
-        """Starts it where it has ended by itself. Returns whether it runs."""
+        """Starts it if it has ended by itself. Returns whether it runs."""
         try:
             self.start()
         except AssertionError:
@@ -64,7 +64,7 @@ class Postgres:
 
 @contextmanager
 def postgres(at=None, *options):
-    """In a folder that is there, or one of its own."""
+    """In a folder that exists, or one of its own."""
     with folder() as own:
         it = Postgres(at or own, *options)
         try:

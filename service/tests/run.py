@@ -1,5 +1,5 @@
 """Runs the service's tests: run.py [WORD..] runs those whose name has one of the words. Two modules run at a time, each in a process of its
-own. The last line counts."""
+own. The last line has the counts."""
 import importlib
 import os
 import subprocess

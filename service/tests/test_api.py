@@ -77,7 +77,7 @@ def test_bad_requests_name_the_field_and_change_nothing():
 
 
 def raw(server, request):
-    """The answer's first bytes; none where the service waits for more of the request."""
+    """The answer's first bytes; none if the service waits for more of the request."""
     with socket.create_connection(("127.0.0.1", server.port), timeout=20) as it:
         it.sendall(request)
         it.settimeout(0.05)
@@ -223,7 +223,7 @@ def test_a_slow_client_and_many_connections():
             assert it.recv(100) == b""
             assert 0.5 < time.monotonic() - started < 3
         idle = [socket.create_connection(("127.0.0.1", server.port), timeout=5) for _ in range(60)]
-        # idle connections are closed, so that others come in
+        # idle connections are closed, so others come in
         until(lambda: server.get("/healthz")[0] == 200, 20)
         for it in idle:
             it.close()

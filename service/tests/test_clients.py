@@ -1,4 +1,4 @@
-"""The clients, and the API's description against what the service really answers."""
+"""The clients, and the API's description against the service's real answers."""
 import json
 import os
 import subprocess

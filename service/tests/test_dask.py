@@ -1,4 +1,4 @@
-"""An engine over the service: the job of embed/dask, whose tasks are killed in the middle of checkpoints, and its coordinator all the while."""
+"""An engine over the service: the job of embed/dask. Its tasks are killed in the middle of checkpoints, and the service again and again."""
 import json
 import os
 import random

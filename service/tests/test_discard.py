@@ -1,4 +1,4 @@
-"""`relkvanu discard` over a folder of files: it deletes what is handed out, nothing else, and ends what a killed one began."""
+"""`relkvanu discard` over a folder of files: it deletes what is handed out and nothing else, and goes on where a killed one stopped."""
 import os
 import subprocess
 import time
@@ -10,7 +10,7 @@ SETTINGS = {"interval": 10, "timeout": 100000, "retained": 1}
 
 
 def checkpoints(job, folder, count, first):
-    """Takes so many checkpoints, each with 3 new files in the folder. Returns all files."""
+    """Takes this many checkpoints, each with 3 new files in the folder. Returns all files."""
     files = []
     for number in range(count):
         record = until(lambda: next((it["id"] for it in job.state()["live"] if not it["done"]), None))
@@ -44,7 +44,7 @@ def test_a_folder():
         left = job.take(5)
         os.remove(f"{folder}/s-{left[0]}.state")
         # one that can't be deleted at first
-        stuck = job.files()  # read once before, so that the test fails where reading disturbs anything
+        stuck = job.files()  # read once before: the test fails if reading changes anything
         assert [row["file"] for row in stuck["taken"]] in ([], [str(file) for file in left])
         hard = files[30]
         os.remove(f"{folder}/s-{hard}.state")

@@ -1,4 +1,4 @@
-"""Databases whose disk is full: nothing is answered that was not kept, and where there is room again, all goes on."""
+"""Databases on a full disk: every answered call was kept, and once there is room again, the service goes on."""
 import os
 import subprocess
 import time
@@ -12,7 +12,7 @@ JOB = {"name": "orders", "settings": {"interval": 10, "at_once": 64}, "shape": [
 
 
 def test_sqlite():
-    """The database lies on a file system of 2 MiB. The process ends with 75 and answers nothing that it has not kept; where there is room
+    """The database is on a file system of 2 MiB. The process ends with 75 and answers nothing that it has not kept; if there is room
     again, it goes on."""
     with folder() as at, small_disk(at, "2m") as small:
         server = Server(at, database=f"{small}/x.db")
@@ -59,7 +59,7 @@ def fill(file):
 
 
 def test_postgresql():
-    """The database lies on a file system that fills up: first its tables have no room, then its own log, by which it ends. Where there is
+    """The database is on a file system that fills up: first its tables have no room, then its own log, and it ends. If there is
     room again, all goes on."""
     with folder() as at, small_disk(at, "96m") as small, postgres(small, "--wal-segsize=1") as database:
         server = Server(at, database.url).start()

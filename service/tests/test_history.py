@@ -1,5 +1,5 @@
-"""The history against a model of its own, which replays the log with a map of each file's uses: who released each file, when
-each record ended and how, and who was missing. It is deleted and made again, and says the same."""
+"""The history against a model of its own, which replays the log with a map of each file's uses: which call released each file, when
+each record ended and how, and which subtasks were missing. It is deleted and made again, and has the same content."""
 import glob
 import os
 import sqlite3
@@ -12,7 +12,7 @@ from writers import SETTINGS, SHAPE, Writer
 
 
 class Model:
-    """What became of records and files, by the log's lines and RULES.md, with a set of users for each file."""
+    """The history of records and files, by the log's lines and RULES.md, with a set of users for each file."""
 
     def __init__(self, shape, settings):
         self.shape, self.settings = list(shape), settings

@@ -1,5 +1,5 @@
-"""Images of jobs: a start goes from the last one, the log is cut behind it, and nothing that was promised goes with it. Ones that are
-damaged, and databases of other versions."""
+"""Images of jobs: a start begins with the last one, the log is cut behind it, and nothing that was promised is lost. Also damaged
+images, and databases of other versions."""
 import glob
 import hashlib
 import os
@@ -29,7 +29,7 @@ def worked(job, rounds, first=1):
 
 
 def seen(job, files):
-    """What a job is at and what the history says of it, but for the time that it is."""
+    """The state of a job and its history, without the current time."""
     state = {name: value for name, value in job.state().items() if name != "now"}
     return state, job.files(1000), job.records(), [job.record(it["id"]) for it in state["live"]], [job.file(file) for file in files]
 

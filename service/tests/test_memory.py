@@ -1,4 +1,4 @@
-"""Memory runs out in the library, again and again: calls are answered so, and the log is still the state."""
+"""Memory runs out in the library, again and again: the answers say so, and the log is still the state."""
 import os
 import shutil
 import signal

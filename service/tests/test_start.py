@@ -137,7 +137,7 @@ def test_a_backup_of_a_service_that_runs():
 
 
 def test_an_end_runs_no_finalizers():
-    """Those of C libraries: another thread may be connecting to PostgreSQL, and Kerberos aborts where it is finalized meanwhile."""
+    """Those of C libraries: another thread may be connecting to PostgreSQL, and Kerberos aborts if it is finalized meanwhile."""
     with folder() as at:
         with open(f"{at}/finalizer.c", "w", encoding="utf-8") as it:
             it.write("#include <stdlib.h>\n__attribute__((destructor)) static void finalize(void) { abort(); }\n")

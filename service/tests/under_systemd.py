@@ -1,4 +1,4 @@
-"""What test_unit.py does inside the container. Prints what it found, as JSON; where something is not as it should be, an error."""
+"""What test_unit.py does inside the container. Prints what it found as JSON, or an error."""
 import http.client
 import json
 import os
@@ -21,7 +21,7 @@ def property_of(name):
 
 
 def request(method, path, body=None, key="first"):
-    """A status and a body of JSON; 0 where there is no answer."""
+    """A status and a body of JSON; 0 if there is no answer."""
     connection = http.client.HTTPConnection("127.0.0.1", 7780, timeout=10)
     headers = {"Authorization": f"Bearer {WRITE}", "Content-Type": "application/json", "Idempotency-Key": key}
     try:

@@ -1,4 +1,4 @@
-"""Writers that drive jobs as engines do, badly at times, and keep what they were answered."""
+"""Writers that drive jobs as engines do, badly at times, and keep their answers."""
 import random
 import threading
 import time
@@ -11,7 +11,7 @@ SHAPE = [2, 3]
 
 
 class Writer(threading.Thread):
-    """Calls one job until it is told to stop. `made` has each acknowledged call, with its answer."""
+    """Calls one job until it is stopped. `made` has each acknowledged call, with its answer."""
 
     def __init__(self, urls, job, number):
         super().__init__(daemon=True)
@@ -102,7 +102,7 @@ def same_call(call, line):
 
 
 def check_made(made, log, seen):
-    """Each acknowledged call, given with its answer, stands in the log where it was said to, with that answer, and at a place that is
+    """Each acknowledged call, given with its answer, is in the log at the place that its answer named, with that answer, and at a place that is
     not seen yet."""
     for call, answer in made:
         seq = answer["seq"]
@@ -129,7 +129,7 @@ def check(writers, service, job, shape, archive=None):
     before = service.job(job).state()["first"]
     log = list(service.job(job).log())
     if archive:
-        # an image may have been made meanwhile, and the log cut behind it
+        # meanwhile an image may have been made, and the log cut behind it
         assert before <= log[0]["seq"] <= service.job(job).state()["first"], (before, log[0])
         log = check_kept(archive.log(job), log, log[0]["seq"])
     seen = set()

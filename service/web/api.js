@@ -1,4 +1,4 @@
-// Requests to the service, with the token of this tab where one was given.
+// Requests to the service, with the token of this tab if one was given.
 const TOKEN = "relkvanu-token";
 
 export class Failed extends Error {
@@ -12,7 +12,7 @@ export function keepToken(text) {
   sessionStorage.setItem(TOKEN, text);
 }
 
-// Gets a path below /v1; an error has the answer's status, or 0 where there was none.
+// Gets a path below /v1; an error has the answer's status, or 0 if there was none.
 export async function get(path, signal) {
   const token = sessionStorage.getItem(TOKEN);
   const headers = token ? { Authorization: `Bearer ${token}` } : {};

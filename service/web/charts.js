@@ -56,7 +56,7 @@ export function showCounts(chart, samples) {
   ["in_use", "waiting", "taken"].forEach((name, place) => {
     chart.data.datasets[place].data = samples.map((sample) => sample[name]);
   });
-  // so many times as stand beside each other
+  // as many times as fit beside each other
   chart.options.scales.x.ticks.maxTicksLimit = Math.min(6, Math.max(2, Math.floor(chart.width / TIME_WIDTH)));
   chart.update();
 }

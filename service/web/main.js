@@ -1,4 +1,4 @@
-// The page's life: it asks what the jobs are at, shows it, and waits for the next event.
+// The page's loop: it reads the state of the jobs, shows it, and waits for the next event.
 import { get, keepToken } from "./api.js";
 import * as charts from "./charts.js";
 import * as views from "./views.js";
@@ -77,7 +77,7 @@ async function look(file) {
   }
 }
 
-// Waits for an event of the job, at most so long; for other reasons to look again too.
+// Waits for an event of the job, for at most this long, or for another reason to look again.
 async function waited(job) {
   const ended = new AbortController();
   const wake = new Promise((resolve) => (shown.wake = resolve));

@@ -105,7 +105,7 @@ function step(word, entry, more) {
   return entry ? element("li", {}, element("strong", {}, word), ` ${moment(entry.at)}, call ${entry.seq}: ${entry.line.slice(0, 120)} → ${entry.answer.slice(0, 120)}`, more ?? null) : null;
 }
 
-// What is said of a file of which no call is known. The log begins with the call `first`.
+// The text for a file of which no call is known. The log begins with the call `first`.
 function unknown(told, first) {
   if (told.uses > 0) return "Who wrote it is not known any more.";
   return first > 1 ? `No call has named it, or it was deleted before call ${first}, with which the log begins.` : "No call has named it.";

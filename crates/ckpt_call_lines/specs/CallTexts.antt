@@ -70,7 +70,7 @@ retention_text false = codes " delete"
 unfoldable pub triggers_text : Configuration → List ℕ
 triggers_text c = codes "config" ++ spaced c.interval ++ spaced c.pause ++ spaced c.at_once
 
--- when they are given up, and which are kept
+-- when they expire, and which are kept
 unfoldable pub limits_text : Configuration → List ℕ
 limits_text c = spaced c.timeout ++ spaced c.tolerable ++ spaced c.retained ++ retention_text c.keep_on_cancel
 

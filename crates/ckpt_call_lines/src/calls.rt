@@ -9,7 +9,7 @@ use crate::pieces::{
 use ckpt_ids::{Call, CheckpointId, Files, Shape, SubtaskId, Target};
 use std::alloc::{AllocError, Global};
 
-/// Room for most lines, so that each allocates once.
+/// Room for most lines, which then allocate once.
 const USUAL_LENGTH: usize = 64;
 
 /// The line of a call, without its newline. A script with this line makes that call.

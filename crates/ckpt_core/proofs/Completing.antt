@@ -1,4 +1,4 @@
--- The acknowledgement that completes a record: what it supersedes, and what it answers.
+-- The acknowledgement that completes a record: what it supersedes, and its answer.
 pub mod Agrees
 pub mod Answers
 pub mod Calls

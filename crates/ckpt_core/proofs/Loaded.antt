@@ -1,4 +1,4 @@
--- What is made again of an image.
+-- What is made from an image.
 pub mod Alike
 pub mod Bounds
 pub mod Groups

@@ -61,11 +61,11 @@ StaysAsItWas old new answer = answer.code ≡ no_memory → new ≡ old
 abbrev pub IsRefusedAs : Option State → Option State → ℕ → Answer → Type 0
 IsRefusedAs old new what answer = (m : State) → old ≡ Some m → (answer ≡ bad_argument what) × (new ≡ old)
 
--- 0 stands for the latest
+-- 0 means the latest
 abbrev pub target_of : ℕ → Target
 target_of savepoint = if savepoint == 0 then Latest else Savepoint savepoint
 
--- an empty list stands for the shape that the job has
+-- an empty list means the shape that the job has
 abbrev pub shape_of : List ℕ → Option (List ℕ)
 shape_of [] = None
 shape_of (n ∷ ns) = Some (n ∷ ns)

@@ -5,7 +5,7 @@ ghost use Rattle.ckpt_hash.specs.Hashing.{begun, secret_of};
 use crate::hasher::NumberHasher;
 use std::hash::BuildHasher;
 
-/// The words are joined with these, so that two zeros are a valid secret too.
+/// The words are joined with these. So two zeros are a valid secret too.
 const SEED: u64 = 0x243f_6a88_85a3_08d3;
 
 const MULTIPLIER: u64 = 0x9e37_79b9_7f4a_7c15;

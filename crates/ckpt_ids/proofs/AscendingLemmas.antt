@@ -116,7 +116,7 @@ ascending_at (x ∷ xs) a zero (suc j) le lt = leb-true x (get_or xs j 0) (Comes
 ascending_at (x ∷ xs) a (suc i) zero le lt = absurd (omega arith)
 ascending_at (x ∷ xs) a (suc i) (suc j) le lt = ascending_at xs a.1 i j (omega arith) (omega arith)
 
--- ascending numbers of which none stands twice rise
+-- ascending numbers without repeats rise
 pub set-from_distinct : (xs : List ℕ) → IsAscending xs → AreDistinct xs → IsAscendingSet xs
 set-from_distinct [] a d = tt
 set-from_distinct (x ∷ xs) a d =

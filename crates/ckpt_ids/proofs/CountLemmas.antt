@@ -70,7 +70,7 @@ count_by-in_order p before [] = refl
 count_by-in_order p before (x ∷ xs) =
     omega (arith, count_by-put p before x (in_order before xs), count_by-cons p x xs, count_by-in_order p before xs)
 
--- how often a number stands in a list
+-- how often a number is in a list
 
 pub times-append : (f : ℕ) (xs ys : List ℕ) → times f (xs ++ ys) ≡ times f xs + times f ys
 times-append f xs ys = count_by-append (λ x. eqb x f) xs ys
@@ -84,7 +84,7 @@ IsIn-from_times f xs h =
     let P : ℕ → Type 0 = λ x. IsIn x xs in
     subst P (eqb-true q.0 f q.2) q.1
 
--- numbers of which none stands twice
+-- numbers without repeats
 pub times_at_most_once : (f : ℕ) (xs : List ℕ) → AreDistinct xs → times f xs ≤ 1
 times_at_most_once f [] d = omega arith
 times_at_most_once f (x ∷ xs) d =
@@ -102,7 +102,7 @@ AreDistinct-from_times (x ∷ xs) h = (
   AreDistinct-from_times xs (λ f. omega (arith, h f, count_by-cons (λ y. eqb y f) x xs)),
 )
 
--- a filter that is told by the number keeps all of a number or none
+-- a filter that depends on the number alone keeps all of a number or none
 pub times-filter : (p : ℕ → Bool) (z : ℕ) (xs : List ℕ) → times z (filter p xs) ≡ cond (p z) (times z xs) 0
 times-filter p z [] = cond_both (p z) 0 0 (λ n. 0 ≡ n) (λ _. refl) (λ _. refl)
 times-filter p z (x ∷ xs) =

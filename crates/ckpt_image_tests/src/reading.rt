@@ -110,7 +110,7 @@ fn with(alloc: Global, part: &str, other: &str) -> Result<String, AllocError> {
     Ok(text)
 }
 
-/// Parts of the text, and what may stand in their places: each number at its limits.
+/// Parts of the text, and valid replacements: each number at its limits.
 const TAKEN: [(&str, &str); 15] = [
     ("\"at_once\":5", "\"at_once\":64"),
     ("\"interval\":1000", "\"interval\":10"),
@@ -141,7 +141,7 @@ fn takes_each_number_at_its_limits(rt: HostRuntime) -> Result<(), Fail> {
     Ok(())
 }
 
-/// What may not stand there: numbers past their limits, and values of another kind.
+/// Replacements that are not valid: numbers past their limits, and values of another kind.
 const REFUSED: [(&str, &str); 34] = [
     ("\"version\":1", "\"version\":0"),
     ("\"version\":1", "\"version\":2"),

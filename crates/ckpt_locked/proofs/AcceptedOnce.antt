@@ -15,7 +15,7 @@ use Rattle.ckpt_ids.proofs.CountLemmas.{count_by-in_order, count_by_no, count_by
 use Rattle.ckpt_locked.specs.Books.{History, calls_of, state_of_book}
 use Rattle.ckpt_locked.specs.Promises.{ExactlyOne, accepted_in, times_of}
 
--- after an acknowledgement of s comes none of s
+-- after an acknowledgement of s there is no other of s
 later_differs : (s : SubtaskId) (x a : Acked) (xs : List Acked) → ComesBefore acknowledges_before x xs → IsIn a xs → same_subtask s x.subtask ≡ true → same_subtask s a.subtask ≡ false
 later_differs s x a xs first h same =
     let is_x : s ≡ x.subtask = (same_subtask-Decides s x.subtask).0 same in

@@ -123,7 +123,7 @@ distinct_taken front rest ts a =
     let swapped : AreDistinct (rest ++ front) = AreDistinct-swap front rest ws in
     distinct-append rest (ts ++ front) (AreDistinct-right front rest ws) later (λ x h. not_in-append x ts front (across x (is_in-right x front rest h)) (distinct-apart rest front swapped x h))
 
--- membership once a file has gone
+-- membership after a file was removed
 pub in_without : (x f : ℕ) (xs : List ℕ) → is_in x (without f xs) ≡ cond (f == x) false (is_in x xs)
 in_without x f [] = elim (f == x) as (λ b. false ≡ cond b false false) [ true ↦ refl | false ↦ refl ]
 in_without x f (y ∷ xs) =
@@ -170,7 +170,7 @@ AreDistinct-take n xs a = AreDistinct-left (take n xs) (drop n xs) (subst AreDis
 pub last_is_new : (x : ℕ) (xs : List ℕ) → AreDistinct (xs ++ x ∷ []) → is_in x xs ≡ false
 last_is_new x xs a = distinct-apart (x ∷ []) xs (AreDistinct-swap xs (x ∷ []) a) x (or_left (x == x) false (eqb_itself x))
 
--- two files that are the same stand in the same lists
+-- two files that are the same are in the same lists
 here : (f x : ℕ) (ws : List ℕ) → is_in f ws ≡ false → (f == x) ≡ true → is_in x ws ≡ false
 here f x ws h e = ap (λ z. is_in z ws) (sym (eqb-true f x e)) ∙ h
 

@@ -1,4 +1,4 @@
--- How often a file stands in lists that have each file once, and what the index tells of the files that are taken.
+-- How often a file is in lists that have each file once, and which files are taken by the index.
 use Rattle.std.proofs.Common.{◌≡◌, ◌∙◌, ◌+◌, ℕ, Bool, true, false, ◌||◌, cond, eqb, List, [], ◌∷◌, ◌++◌, filter, refl, sym, ap, subst, ⊎_elim, nat_eq, arith}
 use Rattle.std.specs.Prelude.{Option, is_some}
 use Rattle.std.specs.List.{IsDistinct, AllByRecursion}
@@ -44,7 +44,7 @@ times-distinct f (x ∷ xs) d =
     let P : ℕ → Type 0 = λ y. is_in y xs ≡ false in
     once_more f x xs (λ e. subst P (sym (eqb-true f x e)) (not_in x xs d.0)) (times-distinct f xs d.1)
 
--- what the index tells of a file that does not wait
+-- the index of a file that does not wait
 once_apart : (tickets : ℕ → Option ℕ) (ws : List ℕ) (b : Bool) (f : ℕ) → is_some (tickets f) ≡ b → cond (is_apart tickets ws f) (one_if b) 0 ≡ one_if (is_apart tickets ws f)
 once_apart tickets ws b f e = both (is_in f ws) (is_some (tickets f)) b e
   where
@@ -53,7 +53,7 @@ once_apart tickets ws b f e = both (is_in f ws) (is_some (tickets f)) b e
     both false true c h = ap one_if (sym h)
     both false false c h = refl
 
--- the files that the index tells of and that do not wait are those that are taken
+-- the files of the index that do not wait are the taken ones
 pub taken-from_index : (tickets : ℕ → Option ℕ) (keys ws ts : List ℕ) → IsDistinct nat_eq keys → ((f : ℕ) → is_some (tickets f) ≡ is_in f keys) → AreDistinct (ws ++ ts) → ((f : ℕ) → is_some (tickets f) ≡ is_in f (ws ++ ts))
     → ascending (filter (is_apart tickets ws) keys) ≡ ascending ts
 taken-from_index tickets keys ws ts unique has apart known =

@@ -1,4 +1,4 @@
--- What the tickets of an outbox tell.
+-- The place that a ticket of an outbox gives.
 use Rattle.std.proofs.Common.{◌≡◌, ◌∙◌, ◌+◌, ◌-◌, ◌<◌, ◌≤◌, ◌%◌, ◌^◌, ℕ, suc, Option, length, length-append, get_or, arith, Bool, true, false, cond, ◌||◌, ◌==◌, List, [], ◌∷◌, ◌++◌, Some, None, is_some, unwrap_or, refl, sym, ap, subst, ⊎_elim}
 use Rattle.std.proofs.Math.Nat.{add-mod_right, eq-or-lt_of_le, mod-add-mod, mod-eq_of_lt}
 use Rattle.std.proofs.Math.ListN.{get_or-append}
@@ -36,7 +36,7 @@ found_at x (y ∷ ys) h =
 pub stands : (xs : List ℕ) (i : ℕ) → i < length xs → is_in (get_or xs i 0) xs ≡ true
 stands xs i h = list_any_at (λ g. get_or xs i 0 == g) xs i 0 h (eqb_itself (get_or xs i 0))
 
--- a file that waits stands where its ticket says
+-- a waiting file is at the place that its ticket gives
 at_its_place : (ws : List ℕ) (front file drawn : ℕ) → front < 2 ^ 64 → length ws ≤ 2 ^ 64 → ((i : ℕ) → i < length ws → get_or ws i 0 ≡ file → drawn ≡ ticket front i)
     → is_in file ws ≡ true → ((drawn + (2 ^ 64 - front)) % 2 ^ 64 < length ws) × (get_or ws ((drawn + (2 ^ 64 - front)) % 2 ^ 64) 0 ≡ file)
 at_its_place ws front file drawn f few tickets h =
@@ -64,7 +64,7 @@ waits_not ws front file drawn f few tickets beyond =
 pub ticket_found : (tickets : ℕ → Option ℕ) (file other drawn n : ℕ) → Some drawn ≡ tickets file → other ≡ file → tickets other ≡ Some n → drawn ≡ n
 ticket_found tickets file other drawn n found same other_has = ap (λ o. unwrap_or o 0) (found ∙ ap tickets (sym same) ∙ other_has)
 
--- what the index tells of a file
+-- what the index has of a file
 pub tells_taken : (tickets : ℕ → Option ℕ) (ws ts : List ℕ) (x : ℕ) → AreDistinct (ws ++ ts) → is_some (tickets x) ≡ is_in x (ws ++ ts) → is_apart tickets ws x ≡ is_in x ts
 tells_taken tickets ws ts x d known =
     let P : Bool → Type 0 = λ a. cond a false (a || is_in x ts) ≡ is_in x ts in

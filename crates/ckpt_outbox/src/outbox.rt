@@ -95,7 +95,7 @@ impl Outbox {
         }
     }
 
-    /// Makes room, so that `n` files can be put without memory. Existing room stays.
+    /// Makes room for `n` files, which can then be put without memory. Existing room stays.
     ///
     /// Fails only if memory runs out, and then nothing has changed.
     pub fn reserve(&mut self, n: u64) -> Result<(), AllocError>

@@ -7,7 +7,7 @@ use crate::replies::write_reply;
 use ckpt_ids::Answer;
 use std::alloc::{AllocError, Global};
 
-/// Room for most lines, so that each allocates once.
+/// Room for most lines, which then allocate once.
 const USUAL_LENGTH: usize = 64;
 
 /// The printed line of an answer, with its newline.

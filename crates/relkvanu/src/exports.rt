@@ -128,7 +128,7 @@ pub extern "C" fn relkvanu_dispose(alloc: Global, handle: &mut Handle, id: u64) 
     )
 }
 
-/// The job begins again. Savepoint 0 stands for the latest, and an empty shape for the current one.
+/// The job begins again. Savepoint 0 means the latest, and an empty shape means the current one.
 #[unsafe(no_mangle)]
 pub extern "C" fn relkvanu_restore(
     alloc: Global,

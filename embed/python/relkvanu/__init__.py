@@ -1,7 +1,7 @@
-"""The coordinator of a stream processor's checkpoints, over the shared form of the library.
+"""The coordinator of a stream processor's checkpoints, over the shared library.
 
-librelkvanu.so.0 is looked for in the folder that RELKVANU_LIB names, else beside this file, where an installation puts it, else
-where the system's loader looks. docs/RULES.md says what each call does, and when it is refused.
+librelkvanu.so.0 comes from the folder that RELKVANU_LIB names. Otherwise it is beside this file, where an installation puts it, or
+the system's loader finds it. docs/RULES.md says what each call does, and when it is refused.
 """
 from relkvanu import lines
 from relkvanu.coordinator import BadArgument, BadLine, Closed, Coordinator, OutOfMemory, Refused, Settings, TooShort, version

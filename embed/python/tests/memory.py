@@ -1,5 +1,5 @@
-"""Memory that runs out, over a library whose heap refuses one request after the other (embed/c/refusing_heap.c): a call that does not go on
-without it says so and has changed nothing, and it is made again."""
+"""Memory that runs out, over a library whose heap refuses one request after the other (embed/c/refusing_heap.c): a call that fails for
+that reason says so and has changed nothing, and is made again."""
 import ctypes
 import os
 import unittest
@@ -18,13 +18,13 @@ HEAP.heap_requests.restype = ctypes.c_uint64
 
 
 def requests_of(call):
-    """What it answers, and how often it asks for memory."""
+    """Its answer, and how often it asks for memory."""
     HEAP.heap_refuse(0)
     return call(), HEAP.heap_requests()
 
 
 def refused(nth, call):
-    """What it answers with that request refused; None where it says that it found no memory."""
+    """Its answer with that request refused; None if it ran out of memory."""
     HEAP.heap_refuse(nth)
     try:
         return call()

@@ -40,7 +40,7 @@ TEXTS = {
 
 
 def opened(rows):
-    """Opens the job as the config, job and start lines of a row say; None where it has not one of each, then calls alone."""
+    """Opens the job as the config, job and start lines of a row say; None if it does not have one of each and then only calls."""
     says = []
     for line in rows:
         with contextlib.suppress(BadLine):

@@ -8,8 +8,8 @@
         if event["event"] == "triggered":
             job.call(ack(event["id"], "0.0", fresh=[31]))
 
-A request whose answer is lost is made again, by default for a minute: under its Idempotency-Key where it has one, so that
-the service makes it once. File numbers are integers here, and strings in the API. Threads may share what is here.
+If the answer to a request is lost, the client makes the request again, by default for a minute. With an Idempotency-Key the
+service makes it once. File numbers are integers here, and strings in the API. Threads may share what is here.
 """
 import threading
 import time
@@ -50,17 +50,17 @@ def decline(record, subtask):
 
 
 def savepoint():
-    """A savepoint is wanted."""
+    """A user wants a savepoint."""
     return {"call": "savepoint"}
 
 
 def restore(start="latest", shape=None):
-    """The job begins again, from the latest or from a savepoint, in a new shape where one is given."""
+    """The job begins again, from the latest or from a savepoint, in a new shape if one is given."""
     return {"call": "restore", "from": start, **({} if shape is None else {"shape": shape})}
 
 
 def dispose(record):
-    """A savepoint is let go."""
+    """A user disposes of a savepoint."""
     return {"call": "dispose", "id": record}
 
 
@@ -89,7 +89,7 @@ def _texts(files):
 
 
 class Service:
-    """A service at a URL, or at several of which one leads. `patience` is how many seconds a request is made again for."""
+    """A service at a URL, or at several of which one leads. For `patience` seconds it makes a request again."""
 
     def __init__(self, *urls, token=None, patience=60.0):
         self._urls = [url.rstrip("/") for url in urls]
@@ -104,15 +104,15 @@ class Service:
         return Job(self, name)
 
     def job(self, name):
-        """A job that is there."""
+        """A job that exists."""
         return Job(self, name)
 
     def jobs(self):
-        """What each job is at."""
+        """The state of each job."""
         return self.request("GET", "/v1/jobs")["jobs"]
 
     def request(self, method, path, body=None, key=None, wait=0):
-        """Makes a request until it is answered, and returns its body. Raises `Failed` where the answer is an error."""
+        """Makes a request until it is answered, and returns its body. Raises `Failed` if the answer is an error."""
         until = time.monotonic() + self._patience
         pause = 0.05
         while True:
@@ -162,7 +162,7 @@ class Job:
         return self._service.request("POST", f"{self._path}/calls", {"calls": calls}, key)["answers"]
 
     def call(self, call, key=None):
-        """Makes one call. Raises `Refused` where the coordinator refuses it."""
+        """Makes one call. Raises `Refused` if the coordinator refuses it."""
         answer = self.calls([call], key)[0]
         if "refused" in answer:
             file = answer.get("file")
@@ -172,19 +172,19 @@ class Job:
         return answer
 
     def state(self):
-        """What the job is at."""
+        """The state of the job."""
         return self._get("")
 
     def records(self, before=None, limit=100):
-        """What became of records, the newest first."""
+        """The history of records, the newest first."""
         return self._get("/records", limit=limit, **({} if before is None else {"before": before}))["records"]
 
     def record(self, number):
-        """A record: its metadata, who is missing, and what became of it."""
+        """A record: its metadata, its missing subtasks, and its history."""
         return self._get(f"/records/{number}")
 
     def file(self, number):
-        """A file: who uses it, and what became of it."""
+        """A file: the records that use it, and its history."""
         return self._get(f"/files/{number}")
 
     def files(self, limit=100):

@@ -1,10 +1,11 @@
-//! What became of files: who brought each, which call released it, and when it was taken and deleted. The coordinator hands
-//! files out in the order in which they were released, so that a count of each call's files attributes each one.
+//! The history of files: which subtask wrote each, which call released it, and when it was taken and deleted. The
+//! coordinator hands files out in the order of their release. So the counts of released files determine which call released
+//! which file.
 use super::tables::Tables;
 use crate::model::{Call, Entry};
 use std::collections::VecDeque;
 
-/// The place of the call that released a file, where that was cut unread.
+/// The place of the call that released a file, if that call was cut before it was read.
 pub const UNKNOWN: u64 = 0;
 
 /// Files that one call released, which wait for deletion.
@@ -23,13 +24,13 @@ pub struct Outbox {
 }
 
 impl Outbox {
-    /// The outbox of runs that stand in their order.
+    /// The outbox of these runs, which are in order.
     pub fn of(runs: Vec<Run>) -> Outbox {
         let next = runs.last().map_or(0, |run| run.place + 1);
         Outbox { runs: runs.into(), next }
     }
 
-    /// Takes in a call of the log.
+    /// Adds a call of the log.
     pub fn follow(&mut self, tables: &Tables, call: &Call, entry: &Entry) -> rusqlite::Result<()> {
         let names_files = match call {
             Call::Ack { fresh, .. } => !fresh.is_empty(),
@@ -52,7 +53,7 @@ impl Outbox {
         self.push(tables, entry.job, entry.seq, entry.waiting)
     }
 
-    /// Fresh files come with an acknowledgement; of a late one those alone that were handed out.
+    /// An acknowledgement brings its fresh files. A late one brings only those that were handed out.
     fn ack(&mut self, tables: &Tables, fresh: &[u64], entry: &Entry) -> rusqlite::Result<()> {
         let is_late = entry.answer.starts_with("ack late");
         match is_late {

@@ -7,7 +7,7 @@ use crate::store::{Reader, Which};
 
 use std::collections::BTreeMap;
 
-/// How many entries of a record are looked at when its acknowledgements are read again: each subtask may repeat.
+/// How many entries of a record are read again for its acknowledgements. Each subtask may have repeated its own.
 const MOST_ABOUT: u32 = 100_000;
 
 pub struct Follower {
@@ -23,7 +23,7 @@ pub struct Follower {
 }
 
 impl Follower {
-    /// Goes on where the tables are, or from the start where they are of another log, as after a restore of the database.
+    /// Goes on where the tables end. If they are of another log, as after a restore of the database, begins at the start.
     pub fn open(tables: &Tables, reader: &mut dyn Reader, opening: &Opening) -> Result<Follower, String> {
         let told = |error: rusqlite::Error| error.to_string();
         let job = opening.number;
@@ -42,8 +42,8 @@ impl Follower {
         Ok(Follower { job, name: opening.name.clone(), upto, first: 1, at, records, outbox })
     }
 
-    /// Goes on from an image, where calls before it can't be read: what they did to files is forgotten, and what became of
-    /// records that were live then is not known.
+    /// Goes on from an image if calls before it can't be read. Forgets what they did to files. How records ended that were
+    /// live then is not known.
     pub fn bridge(&mut self, tables: &Tables, image: &Image) -> Result<(), String> {
         let contents = image.contents().ok_or_else(|| format!("the image after call {} is none", image.seq))?;
         self.take_over(tables, image, &contents).map_err(|error| error.to_string())
@@ -64,7 +64,7 @@ impl Follower {
         tables.commit()
     }
 
-    /// Takes in a page of the log, in one transaction, and returns which records stopped being pending, and when.
+    /// Adds a page of the log in one transaction, and returns which records stopped being pending, and when.
     pub fn follow(&mut self, tables: &Tables, page: &[Entry]) -> rusqlite::Result<Vec<(u64, Ended)>> {
         let mut ended = Vec::new();
         tables.begin()?;
@@ -83,7 +83,7 @@ impl Follower {
     }
 }
 
-/// Whether tables that are so far are of this log: of one that goes on after it, as far as that can be told.
+/// Whether tables that end here are of this log: whether the log goes on after them, as far as its entries show.
 fn is_of(read: &Progress, job: i64, reader: &mut dyn Reader) -> Result<bool, String> {
     if let Some(entry) = reader.entry(job, read.upto)? {
         return Ok(entry.at == read.at);

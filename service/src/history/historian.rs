@@ -13,14 +13,14 @@ use std::time::{Duration, Instant};
 use tokio::sync::oneshot;
 
 const PAGE: u32 = 2000;
-/// Into how many parts of a log its calls go from the history.
+/// The history forgets the calls that a log has cut once they are one part in this many of the log.
 const PARTS: u64 = 8;
-/// How often the board is looked at.
+/// How often the thread looks at the board.
 const LOOK: Duration = Duration::from_millis(100);
 /// How long the thread rests after an error.
 const REST: Duration = Duration::from_secs(5);
 const SAMPLE_EACH: Duration = Duration::from_secs(2);
-/// A sample that says what the one before said is left out for so long, in milliseconds.
+/// For how long a sample that equals the one before is left out, in milliseconds.
 const SAME_FOR: u64 = 60_000;
 /// How long samples are kept, in milliseconds.
 const KEEP_SAMPLES: u64 = 7 * 24 * 3_600_000;
@@ -31,7 +31,7 @@ pub struct Historian {
     pub board: Arc<Board>,
     pub metrics: Arc<Metrics>,
     pub inbox: SyncSender<Message>,
-    /// Records that ended before this moment are not counted: an earlier process did.
+    /// Records that ended before this moment are not counted: an earlier process has counted them.
     pub since: u64,
 }
 
@@ -82,7 +82,7 @@ impl Historian {
         Follower::open(tables, self.reader.as_mut(), opening).map(Some)
     }
 
-    /// One page, so that a long log of one job keeps no other waiting.
+    /// Reads one page, so a long log of one job does not keep other jobs waiting.
     fn catch_up(&mut self, tables: &Tables, follower: &mut Follower) -> Result<(), String> {
         let page = self.reader.log(follower.job, follower.upto, PAGE)?;
         if page.first().is_none_or(|entry| entry.seq != follower.upto + 1) {
@@ -97,7 +97,7 @@ impl Historian {
         Ok(())
     }
 
-    /// The calls that come next were cut: it goes on from an image.
+    /// The next calls were cut, so the history goes on from an image.
     fn bridge(&mut self, tables: &Tables, follower: &mut Follower) -> Result<(), String> {
         let Some(saved) = self.reader.image(follower.job, follower.upto, Which::Oldest)? else {
             return Ok(());
@@ -111,7 +111,7 @@ impl Historian {
         Ok(())
     }
 
-    /// Lets go of what the log's cut lets go of, where that is an eighth of what the log has: it looks at all files.
+    /// Forgets the calls that the log has cut, once they are an eighth of the log. It visits all files, so it is done seldom.
     fn forget(&self, tables: &Tables, follower: &mut Follower) -> Result<(), String> {
         let first = self.board.first(&follower.name);
         let has = follower.upto.saturating_sub(first);

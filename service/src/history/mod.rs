@@ -1,4 +1,4 @@
-//! The history: what became of each record and file, made from the log by a thread that nobody waits for.
+//! The history of each record and file. A thread that no answer waits for makes it from the log.
 mod files;
 mod follow;
 mod historian;

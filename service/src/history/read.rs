@@ -10,7 +10,7 @@ use std::time::Duration;
 const RECORD: &str = "id, kind, shape, started, finished, how, gone, why, first_ack, last_ack, slowest, acks, missing";
 const FILE: &str = "file, born, released, taken, deleted";
 
-/// What became of a record. Moments are milliseconds of Unix time.
+/// The history of a record. Moments are milliseconds of Unix time.
 #[derive(Serialize, Debug)]
 pub struct RecordRow {
     pub id: i64,
@@ -34,7 +34,7 @@ pub struct RecordRow {
     pub more_missing: u64,
 }
 
-/// What became of a file: places in the log.
+/// The history of a file, as places in the log.
 #[derive(Serialize, Debug)]
 pub struct FileRow {
     pub file: String,
@@ -68,7 +68,7 @@ pub struct HistoryReader(Connection);
 
 impl HistoryReader {
     pub fn open(path: &Path) -> Result<HistoryReader, String> {
-        // the tables are made where they are not there, so that the first read finds them
+        // makes the tables if they are missing, so the first read finds them
         super::tables::Tables::open(path).map_err(|error| format!("{}: {error}", path.display()))?;
         let flags = OpenFlags::SQLITE_OPEN_READ_ONLY | OpenFlags::SQLITE_OPEN_NO_MUTEX;
         let opened = Connection::open_with_flags(path, flags).and_then(|connection| {
@@ -83,7 +83,7 @@ impl HistoryReader {
         read().map_err(|error| error.to_string())
     }
 
-    /// The records below a number, at most so many, the greatest number first.
+    /// At most this many records below a number, the greatest number first.
     pub fn records(&self, job: i64, before: u64, most: u64) -> Result<Vec<RecordRow>, String> {
         let sql = format!("select {RECORD} from record where job = ? and id < ? order by id desc limit ?");
         self.all(&sql, params![job, i64::try_from(before).unwrap_or(i64::MAX), bits(most)], record_of)

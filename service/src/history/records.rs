@@ -1,4 +1,4 @@
-//! What became of records: when each was triggered, acknowledged and ended, how, and who was missing.
+//! The history of records: when each was triggered and acknowledged, when and how it ended, and which subtasks were missing.
 use super::tables::Tables;
 use crate::model::{Call, Entry, Kind, Subtask};
 use std::collections::{BTreeMap, BTreeSet, HashSet};
@@ -6,7 +6,7 @@ use std::collections::{BTreeMap, BTreeSet, HashSet};
 /// How many missing subtasks are named.
 const MOST_NAMED: usize = 32;
 
-/// A record that subtasks are missing of, and what is known of it so far.
+/// A record that lacks acknowledgements, and what is known of it so far.
 pub struct Pending {
     pub kind: Kind,
     pub shape: Vec<u64>,
@@ -29,7 +29,7 @@ impl Pending {
         self.slowest = Some(subtask);
     }
 
-    /// The first missing subtasks by name, then how many more there are; `None` where none is missing.
+    /// The first missing subtasks by name, then how many more there are; `None` if none is missing.
     fn missing(&self) -> Option<String> {
         let subtasks = self.shape.iter().zip(0..).flat_map(|(parallelism, vertex)| {
             (0..*parallelism).map(move |index| Subtask { vertex, index: u16::try_from(index).unwrap_or(u16::MAX) })
@@ -67,7 +67,7 @@ impl Records {
         Records { shape, timeout, pending: BTreeMap::new(), changed: BTreeSet::new() }
     }
 
-    /// Takes in a call of the log, and returns which records stopped being pending by it.
+    /// Adds a call of the log, and returns which records stopped being pending by it.
     pub fn follow(&mut self, tables: &Tables, call: &Call, entry: &Entry) -> rusqlite::Result<Vec<Ended>> {
         let mut ended = Vec::new();
         if let Call::Ack { id, subtask, .. } = call {
@@ -106,7 +106,7 @@ impl Records {
         Ok(None)
     }
 
-    /// A record is live no more, by a call that was made of another or of itself.
+    /// A record is no longer live, because of a call for it or for another record.
     fn end(&mut self, tables: &Tables, id: u64, call: &Call, entry: &Entry) -> rusqlite::Result<Option<Ended>> {
         let how = match self.pending.get(&id) {
             Some(pending) => how_pending_ended(call, entry, id, pending.started.saturating_add(self.timeout)),
@@ -116,7 +116,7 @@ impl Records {
         self.finish(tables, id, how, entry)
     }
 
-    /// A pending record is pending no more.
+    /// A pending record is no longer pending.
     fn finish(
         &mut self,
         tables: &Tables,

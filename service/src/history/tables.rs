@@ -44,10 +44,10 @@ impl Tables {
         self.run("commit", [])
     }
 
-    /// Lets go of what was not committed, if anything.
+    /// Rolls back what was not committed, if anything.
     pub fn roll_back(&self) {
         if !self.0.is_autocommit() {
-            // what fails here fails again in the next `begin`, where it is told
+            // a failure here comes again in the next `begin`, which reports it
             let _ = self.run("rollback", []);
         }
     }
@@ -66,14 +66,14 @@ impl Tables {
         self.run("insert or replace into progress values(?, ?, ?, ?)", given)
     }
 
-    /// Forgets a job, so that its history is made anew.
+    /// Forgets a job. Then its history is made anew.
     pub fn forget(&self, job: i64) -> rusqlite::Result<()> {
         ["progress", "record", "file", "queue", "place"]
             .iter()
             .try_for_each(|table| self.0.execute(&format!("delete from {table} where job = ?"), [job]).map(|_| ()))
     }
 
-    /// Forgets what is not known where calls were not read: files, and how records ended that are no more at the moment `at`.
+    /// Forgets what calls that were not read may have changed: files, and the end of records that are not live at the moment `at`.
     pub fn forget_unread(&self, job: i64, at: u64, live: &[SavedRecord]) -> rusqlite::Result<()> {
         ["file", "queue", "place"]
             .iter()
@@ -85,7 +85,7 @@ impl Tables {
         self.0.execute(&sql, params![job, signed(at)]).map(|_| ())
     }
 
-    /// A live record of an image, which is added where it is not there; what is known of it while it is pending.
+    /// A live record of an image, which is added if it is missing; what is known of it while it is pending.
     pub fn saved_record(&self, job: i64, saved: &SavedRecord) -> rusqlite::Result<Pending> {
         let mut pending = Pending::new(saved.kind, saved.shape.clone(), saved.started);
         pending.acked.extend(&saved.acked);
@@ -98,7 +98,7 @@ impl Tables {
         Ok(pending)
     }
 
-    /// Keeps what a call says, but for lists of files, since the log may be cut before its files are gone.
+    /// Keeps a call without its lists of files, since the log may be cut before its files are deleted.
     pub fn place(&self, call: &Call, entry: &Entry) -> rusqlite::Result<()> {
         let line = match call {
             Call::Ack { .. } => entry.line.splitn(5, ' ').take(4).collect::<Vec<_>>().join(" "),
@@ -169,7 +169,7 @@ impl Tables {
         self.run(sql, params![job, bits(file), signed(seq)])
     }
 
-    /// A late acknowledgement named a file, which it brought where the number was free.
+    /// A late acknowledgement named a file. It registered the file if the number was free.
     pub fn late(&self, job: i64, file: u64, seq: u64) -> rusqlite::Result<()> {
         let sql = "insert into file(job, file, born) values(?, ?, ?) on conflict do update
             set born = excluded.born, released = null, taken = null, deleted = null where deleted is not null";

@@ -1,4 +1,4 @@
-//! What every request passes: its route, its token, where it came from, and who leads.
+//! The checks that every request passes: its route, its token, its origin, and whether this process leads.
 use super::reply::{error, text, with_header, Reply};
 use super::route::{NoRoute, Route};
 use super::{page, reads, writes, App};
@@ -58,8 +58,8 @@ fn no_route(none: &NoRoute) -> Reply {
     }
 }
 
-/// Whether a request may be made: with its token; or, where there are no tokens, by a program of this machine that names
-/// this machine. A page of another site can do neither, as it can set no such type of content.
+/// Whether a request may be made. It has a token, or, if there are no tokens, comes from a program of this machine and names
+/// this machine. A page of another site can do neither, because it can't set this type of content.
 fn admitted(app: &App, route: &Route, headers: &HeaderMap) -> Result<(), Box<Reply>> {
     let Some(access) = route.access() else {
         return Ok(());

@@ -1,4 +1,4 @@
-//! The HTTP side: connections and their limits, and what every request goes through before it is answered.
+//! The HTTP side: connections and their limits, and the path of every request to its answer.
 mod gate;
 mod page;
 mod query;
@@ -27,7 +27,7 @@ use tokio::sync::{oneshot, Semaphore};
 /// The unit in which room for bodies is counted, in bytes.
 pub const BODY_UNIT: usize = 1024;
 
-/// What the requests work with.
+/// What all requests share.
 pub struct App {
     pub board: Arc<Board>,
     pub metrics: Arc<Metrics>,

@@ -27,7 +27,7 @@ pub struct Parameter {
     pub default: u64,
 }
 
-/// At most the first characters of what a client sent.
+/// The first characters of what a client sent.
 fn shown(text: &str) -> String {
     text.chars().take(40).collect()
 }

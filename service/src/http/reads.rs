@@ -127,7 +127,7 @@ async fn files(app: &App, job: &str, query: &str) -> Result<Reply, Box<Reply>> {
     Ok(json_reply(200, &json!({"upto": upto, "taken": taken, "deleted": deleted})))
 }
 
-/// How often a file is used and by whom, and what became of it.
+/// How often a file is used, by which records, and its history.
 async fn one_file(app: &App, job: String, file: u64, query: &str) -> Result<Reply, Box<Reply>> {
     numbers(query, [])?;
     let number = app.number(&job)?;
@@ -150,8 +150,8 @@ async fn one_file(app: &App, job: String, file: u64, query: &str) -> Result<Repl
     ))
 }
 
-/// The acknowledgements of these live records that name a file. One record is read at a time, so that none keeps the writer
-/// for long; one that ended meanwhile has none.
+/// The acknowledgements of these live records that name a file. Reads one record at a time, so none keeps the writer
+/// for long. A record that has ended meanwhile has none.
 async fn used_by(app: &App, job: &str, file: u64, live: Vec<u64>) -> Result<Vec<Value>, Box<Reply>> {
     let file = file.to_string();
     let mut by = Vec::new();
@@ -185,7 +185,7 @@ async fn events(app: &App, job: &str, query: &str) -> Result<Reply, Box<Reply>> 
             }
         }
     };
-    // where the time is over, there are no events
+    // if the time is over, there are no events
     let _ = tokio::time::timeout(Duration::from_secs(wait), come).await;
     let first = app.board.first(job);
     let page = app.read_log(move |reader| reader.events(number, after.max(first - 1), rows(most))).await?;

@@ -63,7 +63,7 @@ fn ended(entry: &Entry) -> Vec<u64> {
     entry.ended.iter().flat_map(|ids| ids.split(' ')).filter_map(|id| id.parse().ok()).collect()
 }
 
-/// What an engine hears of a row of the log; `None` where nothing.
+/// The event that a row of the log is for an engine, or `None`.
 pub fn event(entry: &Entry) -> Option<Value> {
     let (_, call) = parse_line(&entry.line)?;
     let answer = entry.answer.as_str();
@@ -90,7 +90,7 @@ pub fn event(entry: &Entry) -> Option<Value> {
     Some(event)
 }
 
-/// The kind of the record that an event names, where the row says it.
+/// The kind of the record that an event names, if the row has it.
 fn kind(call: &Call, answer: &str) -> Option<&'static str> {
     match call {
         Call::Savepoint => Some("savepoint"),
@@ -100,7 +100,7 @@ fn kind(call: &Call, answer: &str) -> Option<&'static str> {
     }
 }
 
-/// What became of a file, with the log's entries at its places.
+/// The history of a file, with the log's entries at its places.
 pub fn file_history(row: &FileRow, entries: &[Entry]) -> Value {
     let at = |seq: Option<u64>| {
         let found = entries.iter().find(|entry| Some(entry.seq) == seq);

@@ -29,13 +29,13 @@ pub enum Route {
 pub enum NoRoute {
     /// There is no such path.
     Path,
-    /// The path is there, but with these methods alone.
+    /// The path exists, but only with these methods.
     Method(&'static str),
     /// A part of the path has not the form that it needs.
     Part(&'static str),
 }
 
-/// All routes of the API, which the description has to have.
+/// All routes of the API. The description must have each.
 #[cfg(test)]
 pub const API: [(&str, &str); 15] = [
     ("get", "/healthz"),
@@ -101,7 +101,7 @@ impl Route {
         }
     }
 
-    /// What a request needs a token for; `None` where it needs none.
+    /// The access that a request needs a token for, or `None` if it needs none.
     pub fn access(&self) -> Option<Access> {
         match self {
             Route::Asset(_) | Route::Health | Route::Ready => None,

@@ -1,4 +1,4 @@
-//! Accepts connections, so many at once, each closed where it is idle, or sends a head too slowly.
+//! Accepts a limited number of connections. Closes one that is idle or sends a head too slowly.
 use super::{gate, App};
 use crate::log;
 use hyper::server::conn::Http;
@@ -13,7 +13,7 @@ use tokio::sync::{OwnedSemaphorePermit, Semaphore};
 
 /// Bytes of a request's line and headers.
 const HEAD_BYTES: usize = 32 << 10;
-/// How long accepting rests after it failed, as where the process has too many open files.
+/// The wait after a failed accept, for example if the process has too many open files.
 const REST: Duration = Duration::from_millis(100);
 
 /// Serves until `stop` ends.
@@ -21,7 +21,7 @@ pub async fn serve(app: Arc<App>, listener: TcpListener, stop: impl Future<Outpu
     let places = Arc::new(Semaphore::new(app.limits.connections));
     let accepting = async {
         loop {
-            // where all places are taken, new connections wait in the system's queue
+            // if all places are taken, new connections wait in the system's queue
             let Ok(place) = Arc::clone(&places).acquire_owned().await else {
                 return;
             };
@@ -60,7 +60,7 @@ impl Activity {
         self.requests.fetch_sub(1, Ordering::SeqCst);
     }
 
-    /// Ends once no request was answered for this long, be it that no head came whole or that none was begun.
+    /// Ends once no request was answered for this long, because no head came whole or none was begun.
     async fn idle_for(&self, most: Duration) {
         loop {
             let idle = match self.requests.load(Ordering::SeqCst) {
@@ -77,7 +77,7 @@ impl Activity {
 
 async fn connection(app: Arc<App>, stream: TcpStream, _place: OwnedSemaphorePermit) {
     app.metrics.connections().inc();
-    // a peer that is gone has no use for the option
+    // a peer that has gone does not need the option
     let _ = stream.set_nodelay(true);
     let activity = Arc::new(Activity::new());
     let watched = Arc::clone(&activity);

@@ -1,4 +1,4 @@
-//! Reads the bodies of requests. Whatever does not fit is named with its place, as `calls[3].fresh[0]`.
+//! Reads the bodies of requests. An error names the place of the bad value, such as `calls[3].fresh[0]`.
 use crate::model::{check_shape, settings_of, Call, Settings, Subtask, Target, FIELDS};
 use serde_json::{Map, Value};
 
@@ -18,7 +18,7 @@ pub struct Invalid {
 
 type Checked<T> = Result<T, Invalid>;
 
-/// A JSON object whose members are taken out one by one, so that a member that nobody wants is found.
+/// A JSON object whose members are taken out one by one. Those that are left at the end are unknown.
 struct Members {
     /// The object's place, with a dot, or nothing for the body itself.
     place: String,
@@ -79,7 +79,7 @@ impl Members {
         file(&value, || self.field("file"))
     }
 
-    /// A list of files; none where there is no such member.
+    /// A list of files, which is empty if there is no such member.
     fn files(&mut self, name: &str) -> Checked<Vec<u64>> {
         match self.take(name) {
             None => Ok(Vec::new()),
@@ -101,7 +101,7 @@ impl Members {
         Ok(Some(shape))
     }
 
-    /// Refuses members that nobody took.
+    /// Refuses the members that are left.
     fn finish(self) -> Checked<()> {
         match self.members.keys().next() {
             Some(name) => Err(self.wrong(name, "is no field here")),
@@ -133,7 +133,7 @@ fn body(bytes: &[u8]) -> Checked<Members> {
     Members::of("", value)
 }
 
-/// A job that a request wants to open.
+/// The job that a request opens.
 #[derive(Debug, PartialEq, Eq)]
 pub struct NewJob {
     pub name: String,

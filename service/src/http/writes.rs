@@ -72,13 +72,13 @@ fn key_name(headers: &HeaderMap) -> Result<Option<String>, Box<Reply>> {
     }
 }
 
-/// The whole body, within its limits of bytes and time, and its room, which is taken until the request is answered.
+/// The whole body, within its limits of bytes and time, and its room, which is reserved until the request is answered.
 async fn read_body(app: &App, request: Request<Body>) -> Result<(Bytes, OwnedSemaphorePermit), Box<Reply>> {
     let most = app.limits.body_bytes;
     let length = request.body().size_hint().upper().and_then(|length| usize::try_from(length).ok()).unwrap_or(most);
     let time = Duration::from_secs(app.limits.body_seconds);
     if length > most {
-        // a client that still sends would not read the answer; one that sends for too long gets none
+        // a client that still sends would not read the answer, so its body is read to the end; after too long it gets no answer
         let _ = tokio::time::timeout(time, pass_over(request.into_body(), 4 * most)).await;
         return Err(too_long(most).into());
     }

@@ -19,7 +19,7 @@ impl fmt::Display for Subtask {
 impl FromStr for Subtask {
     type Err = ();
 
-    /// Reads `vertex.index`, two numbers of at most 65535 in digits alone.
+    /// Reads `vertex.index`: two numbers of at most 65535, in digits only.
     fn from_str(text: &str) -> Result<Subtask, ()> {
         let (vertex, index) = text.split_once('.').ok_or(())?;
         let half = |text: &str| match text.bytes().all(|byte| byte.is_ascii_digit()) {
@@ -86,7 +86,7 @@ impl Call {
         }
     }
 
-    /// Whether a repeat of this call does its work a second time, so that a lost answer needs a key.
+    /// Whether a repeat of this call does its work a second time. Then its request needs a key.
     pub fn wants_key(&self) -> bool {
         matches!(self, Call::Savepoint | Call::Take { .. })
     }

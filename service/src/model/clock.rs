@@ -1,14 +1,14 @@
 //! The moments that calls are given: milliseconds of Unix time that never go back.
 use std::time::{Duration, Instant, SystemTime, UNIX_EPOCH};
 
-/// Counts on from its start, so that a system clock that is set back or forth stops no checkpoint.
+/// Counts on from its start. So a change of the system's clock stops no checkpoint.
 pub struct Clock {
     base: u64,
     started: Instant,
 }
 
 impl Clock {
-    /// Starts at the system's time, or at `floor`, the last moment of the log, where that is later.
+    /// Starts at the system's time, or at `floor`, the last moment of the log, if that is later.
     pub fn starting_after(floor: u64) -> Clock {
         let wall = SystemTime::now().duration_since(UNIX_EPOCH).unwrap_or(Duration::ZERO);
         Clock { base: millis(wall).max(floor), started: Instant::now() }

@@ -28,12 +28,12 @@ impl Engine {
         relkvanu::Coordinator::open_saved(text.as_bytes()).map(Engine).map_err(fault)
     }
 
-    /// The coordinator's image; `None` where memory ran out.
+    /// The coordinator's image; `None` if memory ran out.
     pub fn image(&self) -> Option<String> {
         self.0.save().ok()
     }
 
-    /// The files that were taken and not reported, ascending; `None` where memory ran out.
+    /// The files that were taken and not reported, ascending; `None` if memory ran out.
     pub fn taken(&self) -> Option<Vec<u64>> {
         self.0.taken_files().ok()
     }
@@ -101,7 +101,7 @@ impl Engine {
         self.0.missing(id)
     }
 
-    /// How many uses a file has; `None` where memory ran out.
+    /// How many uses a file has; `None` if memory ran out.
     pub fn uses(&self, file: u64) -> Option<u64> {
         match self.0.count(file) {
             Ok(relkvanu::Answer::Counted { uses, .. }) => Some(uses),
@@ -109,7 +109,7 @@ impl Engine {
         }
     }
 
-    /// The metadata of a live record, as JSON; `None` where there is none, or memory ran out.
+    /// The metadata of a live record, as JSON; `None` if there is none, or memory ran out.
     pub fn show(&self, id: u64) -> Option<String> {
         self.0.show(id).ok()
     }
@@ -120,7 +120,7 @@ impl Engine {
     }
 }
 
-/// What a line answered, if it is one of a call that changes a job.
+/// The answer to a line, if the line is a call that changes a job.
 fn reply(said: Result<Said<'_>, relkvanu::Fault>) -> Result<Reply, Fault> {
     match said.map_err(fault)? {
         Said::Called(answer) => Ok(Reply::Answered(answer)),

@@ -1,4 +1,4 @@
-//! Images of a job: all that it is at a place in its log, so that the calls up to there need not be made again.
+//! Images of a job: its whole state at a place in its log. A start does not make the calls up to there again.
 use super::call::Subtask;
 use super::settings::shape_words;
 use relkvanu::Kind;
@@ -8,7 +8,7 @@ use sha2::{Digest, Sha256};
 #[derive(Clone, Debug, PartialEq, Eq)]
 pub struct Image {
     pub job: i64,
-    /// The last call that it has in it.
+    /// The last call that it includes.
     pub seq: u64,
     /// The moment of that call.
     pub at: u64,
@@ -37,14 +37,14 @@ pub struct Contents {
 }
 
 impl Image {
-    /// SHA-256 of all that it says, in hexadecimal digits: a changed digit may give the image of another state.
+    /// SHA-256 of its content, in hexadecimal digits. Without it a changed digit could give the image of another state.
     pub fn digest(&self) -> String {
         let Image { job, seq, at, shape, last_completed, last_event, text } = self;
         let shape = shape_words(shape);
         sha256(format!("{job} {seq} {at} {shape} {last_completed:?} {last_event} {text}").as_bytes())
     }
 
-    /// `None` where it is no image.
+    /// `None` if it is no image.
     pub fn contents(&self) -> Option<Contents> {
         let value: Value = serde_json::from_str(&self.text).ok()?;
         let records = value["records"].as_array()?.iter().map(record).collect::<Option<_>>()?;

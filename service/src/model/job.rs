@@ -47,9 +47,9 @@ pub struct Job {
     pub at: u64,
     /// When the last checkpoint completed.
     pub last_completed: Option<u64>,
-    /// The last call that an engine hears of through the events.
+    /// The last call that is an event for engines.
     pub last_event: u64,
-    /// What the database has of the log, where this process leads.
+    /// What the database has of the log, if this process leads.
     pub kept: Kept,
     engine: Engine,
     live: Live,
@@ -73,18 +73,18 @@ impl Job {
         Ok(())
     }
 
-    /// The image of the job as it is now; `None` where memory ran out.
+    /// The image of the job as it is now; `None` if memory ran out.
     pub fn image(&self) -> Option<Image> {
         let Job { seq, at, last_completed, last_event, .. } = *self;
         let (job, shape, text) = (self.opening.number, self.shape.clone(), self.engine.image()?);
         Some(Image { job, seq, at, shape, last_completed, last_event, text })
     }
 
-    /// Makes a call. Where it changed something, there is the row that has to be committed before the call is answered.
+    /// Makes a call. If it changed something, also returns its row, which has to be committed before the call is answered.
     pub fn call(&mut self, call: &Call, now: u64) -> (Outcome, Option<Entry>) {
         let line = match call.line(now) {
             Err(relkvanu::Fault::Memory) => return (Outcome::NoMemory, None),
-            // The line would be longer than a line may be: an acknowledgement of so many files is refused below.
+            // The line would be longer than a line may be: an acknowledgement of this many files is refused below.
             line => line.unwrap_or_default(),
         };
         let waiting = self.engine.counts().waiting;
@@ -122,7 +122,7 @@ impl Job {
         Outcome::Made { seq: Some(self.seq), reply }
     }
 
-    /// Takes in what a call answered. Returns the record that the call is about, and those that it ended.
+    /// Notes the answer of a call. Returns the record that the call is about, and those that it ended.
     fn take_in(&mut self, call: &Call, now: u64, reply: &Reply) -> (Option<u64>, Option<String>) {
         self.seq += 1;
         self.at = self.at.max(now);
@@ -132,8 +132,8 @@ impl Job {
         (record, ended)
     }
 
-    /// Brings the live records up to date, and tells which ones a call ended. They are read anew where its answer says
-    /// that one became done or went.
+    /// Brings the live records up to date, and returns which ones a call ended. Reads them anew if the answer says that one
+    /// became done or ended.
     fn follow(&mut self, record: Option<u64>, reply: &Reply) -> Option<String> {
         let Reply::Answered(answer) = reply else {
             return None;
@@ -199,7 +199,7 @@ fn record_of(call: &Call, reply: &Reply) -> Option<u64> {
     }
 }
 
-/// The kind of the record that a call added, where it did nothing else to the records.
+/// The kind of the record that a call added, if it did nothing else to the records.
 fn added(answer: &Answer) -> Option<Kind> {
     match answer {
         Answer::Triggered { expired: 0, .. } => Some(Kind::Checkpoint),
@@ -208,7 +208,7 @@ fn added(answer: &Answer) -> Option<Kind> {
     }
 }
 
-/// Whether a call that answered this left each live record as it was, but for who is missing.
+/// Whether a call with this answer left each live record as it was, except for its missing subtasks.
 fn leaves_records(answer: &Answer) -> bool {
     use Answer as A;
     match answer {

@@ -1,10 +1,10 @@
 //! What the database keeps of a job's log: images, and the calls from one of them on.
 use super::image::Image;
 
-/// How many bytes of the log a call stands for: an image is made when the calls since the last one have as many bytes as
-/// that one, so that images never cost more than the log does.
+/// How many bytes a call of the log counts as. An image is made when the calls since the last one have as many bytes as
+/// that one. So images never take more bytes than the log.
 const CALL_BYTES: u64 = 100;
-/// Into how many parts of the calls that are kept images divide them at least.
+/// Into how many parts images divide the kept calls, at least.
 const PARTS: u64 = 8;
 
 /// How often images are made, and how much of the log is kept.
@@ -24,7 +24,7 @@ pub struct KeptImage {
     pub bytes: u64,
 }
 
-/// Calls that go: those after `after`, up to `upto`.
+/// Calls to delete: those after `after`, up to `upto`.
 #[derive(Clone, Copy, Debug, PartialEq, Eq)]
 pub struct Cut {
     pub job: i64,
@@ -35,11 +35,11 @@ pub struct Cut {
 #[derive(Default)]
 pub struct Kept {
     images: Vec<KeptImage>,
-    /// Calls up to here are the log's no more.
+    /// Calls up to here are no longer in the log.
     cut: u64,
     /// Calls up to here are deleted.
     gone: u64,
-    /// Where an image was tried last.
+    /// The place at which an image was tried last.
     tried: u64,
 }
 
@@ -49,13 +49,13 @@ impl Kept {
         let all_gone = images.last().map_or(0, |image| image.seq);
         let gone = first.map_or(all_gone, |first| first.saturating_sub(1));
         let mut kept = Kept { images, cut: 0, gone, tried: 0 };
-        // a cut that was begun is ended
+        // a cut that was begun goes on
         let begun = kept.images.iter().find(|image| gone > 0 && image.seq >= gone);
         kept.cut = kept.base(keeping).max(begun.map_or(0, |image| image.seq));
         kept
     }
 
-    /// The call up to which the log goes, by its last image.
+    /// The call up to which the log may be cut, by its last image.
     fn base(&self, keeping: Keeping) -> u64 {
         let last = self.last().map_or(0, |image| image.seq);
         let places = self.images.iter().map(|image| image.seq);
@@ -71,7 +71,7 @@ impl Kept {
         self.cut + 1
     }
 
-    /// Whether an image is to be made at this place, where the last one is long ago.
+    /// Whether to make an image at this place, because the last one is old enough.
     pub fn wants_image(&self, seq: u64, keeping: Keeping) -> bool {
         let (last, bytes) = self.last().map_or((0, 0), |image| (image.seq, image.bytes));
         let each = keeping.image_calls.max(bytes / CALL_BYTES);
@@ -83,7 +83,7 @@ impl Kept {
         self.tried = seq;
     }
 
-    /// Takes in a new image, and returns the places of images that go.
+    /// Adds a new image, and returns the places of images to delete.
     pub fn add(&mut self, image: &Image, keeping: Keeping) -> Vec<u64> {
         self.images.push(KeptImage { seq: image.seq, at: image.at, bytes: image.text.len() as u64 });
         self.cut = self.cut.max(self.base(keeping));
@@ -91,7 +91,7 @@ impl Kept {
         let apart = keeping.keep_calls / PARTS;
         let (mut gone, mut at) = (Vec::new(), 0);
         for (place, one) in before.iter().enumerate() {
-            // those before the cut go, and one between two that are near each other
+            // those before the cut, and one between two that are near each other
             let is_between = one.seq > cut && before.get(place + 1).is_some_and(|next| next.seq - at <= apart);
             if one.seq < cut || is_between && place + 2 < before.len() {
                 gone.push(one.seq);
@@ -103,12 +103,12 @@ impl Kept {
         gone
     }
 
-    /// Whether calls are still to go.
+    /// Whether there are calls left to delete.
     pub fn is_cutting(&self) -> bool {
         self.cut > self.gone
     }
 
-    /// The next calls that go, at most so many and none after `read`, which are gone then.
+    /// The next calls to delete: at most this many, and none after `read`. Afterwards they count as deleted.
     pub fn cut(&mut self, job: i64, most: u64, read: u64) -> Option<Cut> {
         let upto = self.cut.min(read).min(self.gone.saturating_add(most));
         (upto > self.gone).then(|| Cut { job, after: std::mem::replace(&mut self.gone, upto), upto })

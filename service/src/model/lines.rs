@@ -1,5 +1,5 @@
-//! Script lines of calls, as docs/SCRIPT.md has them: what the log holds, and what `ckpt_job` runs. The library writes
-//! them, and makes their calls again.
+//! Script lines of calls (docs/SCRIPT.md), which the log has and `ckpt_job` runs. The library writes them, and makes their
+//! calls again.
 use super::call::{Call, Subtask, Target};
 use relkvanu::Fault;
 
@@ -31,8 +31,8 @@ impl Call {
 
 /// Reads a line that [`Call::line`] wrote: its moment, which is 0 for calls without one, and the call.
 ///
-/// The library makes the call of a line, and does not tell what the line says: `relkvanu::Line::of` returns `Call` for
-/// each of these. So what the history and the events tell of a row's record, subtask, files and shape is read here.
+/// The library makes the call of a line, but does not return its parts: `relkvanu::Line::of` returns `Call` for each
+/// of these. So this reads the record, subtask, files and shape for the history and the events.
 pub fn parse_line(line: &str) -> Option<(u64, Call)> {
     let mut words = line.split(' ');
     let name = words.next()?;

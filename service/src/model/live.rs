@@ -1,4 +1,4 @@
-//! The live records of a job, kept beside the coordinator so that a call's effect on them can be told.
+//! The live records of a job, kept beside the coordinator. Compared before and after a call, they show its effect.
 use relkvanu::Live as LiveRecord;
 use std::collections::BTreeMap;
 

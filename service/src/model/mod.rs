@@ -1,4 +1,4 @@
-//! Jobs and their calls: what the proved coordinator decides, as the log and the API tell it.
+//! Jobs and their calls: the decisions of the proved coordinator, in the words of the log and of the API.
 mod call;
 mod clock;
 mod engine;

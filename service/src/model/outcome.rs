@@ -1,10 +1,10 @@
-//! What a call was answered: the script's text, which the log holds, and the JSON of the API.
+//! The answer to a call: the script's text, which the log has, and the JSON of the API.
 use super::engine::Fault;
 use relkvanu::{Answer, Choice};
 use serde_json::{json, Value};
 use std::fmt::Write;
 
-/// What a call that was made answered.
+/// The answer of a call that was made.
 #[derive(Clone, Debug, PartialEq, Eq)]
 pub enum Reply {
     Answered(Answer),
@@ -12,7 +12,7 @@ pub enum Reply {
     Taken(Vec<u64>),
 }
 
-/// What became of a call of a request.
+/// The outcome of a call of a request.
 #[derive(Clone, Debug, PartialEq, Eq)]
 pub enum Outcome {
     /// The call was made. `seq` is its place in the log; a take that finds no file has none.
@@ -41,12 +41,12 @@ impl Reply {
         }
     }
 
-    /// Whether the call left the state as it was, so that the log needs no row of it.
+    /// Whether the call left the state as it was. Then the log needs no row for it.
     pub fn changed_nothing(&self) -> bool {
         matches!(self, Reply::Taken(files) if files.is_empty())
     }
 
-    /// Whether an engine wants to hear of it: a record was triggered, completed or failed, or the job restored or ended.
+    /// Whether it is an event for engines: a record was triggered, completed or failed, or the job was restored or ended.
     pub fn is_event(&self) -> bool {
         use Answer as A;
         match self {

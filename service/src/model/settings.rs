@@ -5,7 +5,7 @@ use std::fmt::Write;
 
 const LONGEST: u64 = 1 << 40;
 
-/// A number of the settings: its name, its limits, and Flink's default where there is one.
+/// A number of the settings: its name, its limits, and Flink's default if there is one.
 pub struct Field {
     pub name: &'static str,
     pub least: u64,
@@ -59,7 +59,7 @@ pub fn settings_json(settings: &Settings) -> Value {
     Value::Object(object)
 }
 
-/// How many checkpoints may be pending at once: one where there is a pause.
+/// How many checkpoints may be pending at once: one if there is a pause.
 pub fn pending_limit(settings: &Settings) -> usize {
     match settings.pause {
         0 => usize::try_from(settings.at_once).unwrap_or(usize::MAX),

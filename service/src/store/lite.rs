@@ -21,7 +21,7 @@ pub struct Lite {
 }
 
 impl Lite {
-    /// Opens the database, and makes the tables that are not there.
+    /// Opens the database, and makes the tables that are missing.
     pub fn open(path: &Path) -> Result<Lite, Unusable> {
         let failed = |error: rusqlite::Error| Unusable::Failed(format!("{}: {error}", path.display()));
         let lock = locked(path).map_err(Unusable::Failed)?;
@@ -39,7 +39,7 @@ impl Lite {
     }
 }
 
-/// Takes the lock file beside the database, which the system lets go when the process ends.
+/// Takes the lock file beside the database. The system releases it when the process ends.
 fn locked(path: &Path) -> Result<File, String> {
     let mut name = path.as_os_str().to_owned();
     name.push(".lock");
@@ -93,7 +93,7 @@ impl Store for Lite {
     fn release(&mut self) {}
 }
 
-/// One transaction. It is rolled back where this returns an error.
+/// One transaction. It is rolled back if this returns an error.
 fn write(connection: &mut Connection, group: &Group) -> rusqlite::Result<()> {
     let transaction = connection.transaction()?;
     write_jobs(&transaction, &group.jobs)?;

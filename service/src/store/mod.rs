@@ -1,4 +1,4 @@
-//! The log of all jobs in a database: what was committed is what the service is.
+//! The log of all jobs in a database. What was committed is the state of the service.
 mod lite;
 mod pg;
 mod pg_read;

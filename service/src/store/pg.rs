@@ -1,5 +1,5 @@
-//! The log in PostgreSQL: a lease with an epoch says who writes, and each group is one statement that renews it and is fenced
-//! by it, so that a leader that was stopped holds no lock.
+//! The log in PostgreSQL. A lease with an epoch decides which process writes. Each group is one statement, which renews the
+//! lease and is fenced by it. So a leader that was stopped holds no lock.
 use super::pq::{Connection, Failed, Parameter, Rows};
 use super::rows::{Failure, Group, Keyed, Store, Unusable, Written, VERSION};
 use crate::model::{config_line, shape_words, Cut, Entry, Image, Opening};
@@ -22,7 +22,7 @@ pub struct Pg {
 }
 
 impl Pg {
-    /// Connects, and makes the tables where they are not there. A database that does not sync what it commits is refused.
+    /// Connects, and makes the tables if they are missing. Refuses a database that does not sync its commits.
     pub fn open(url: &str, holder: &str, lease: Duration) -> Result<Pg, Unusable> {
         let told = |failed| Unusable::Failed(told(failed));
         let mut connection = Connection::open(url).map_err(told)?;
@@ -35,7 +35,7 @@ impl Pg {
         connection
             .run("set synchronous_commit = on; set statement_timeout = '10s'; set client_min_messages = warning")
             .map_err(told)?;
-        // two that start at once take turns
+        // two processes that start at once take turns
         let version = format!("insert into schema_version values(true, {VERSION}) on conflict do nothing");
         let tables = format!("begin; select pg_advisory_xact_lock(7203146); {SCHEMA}; {version}; commit");
         connection.run(&tables).map_err(told)?;
@@ -108,12 +108,12 @@ impl Store for Pg {
 
     fn release(&mut self) {
         let sql = "update leader set until = '-infinity' where epoch = $1::bigint";
-        // where this fails the lease ends by itself
+        // if this fails, the lease expires by itself
         let _ = self.connection.query(sql, &[&self.epoch.to_string()]);
     }
 }
 
-/// The version of the tables; 0 where there are none, or those of a program that did not say it.
+/// The version of the tables; 0 if there are none, or if they are of a program that did not write a version.
 fn version(connection: &mut Connection) -> Result<i64, Failed> {
     let there = connection.run("select 1 where to_regclass('schema_version') is not null")?;
     if there.is_empty() {
@@ -127,7 +127,7 @@ fn told(failed: Failed) -> String {
     failed.text
 }
 
-/// What a failed statement means: one that the database answered was rolled back.
+/// What a failed statement means. If the database answered it, it was rolled back.
 fn failure(failed: Failed) -> Failure {
     let Failed { text, state } = failed;
     match state.as_deref() {

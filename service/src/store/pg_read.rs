@@ -1,4 +1,4 @@
-//! Reads of the log in PostgreSQL. A connection that was lost is made again once.
+//! Reads of the log in PostgreSQL. If the connection is lost, they connect again once.
 use super::pq::{Connection, Failed, Rows};
 use super::rows::{LogPage, Reader, SavedImage, Which, COLUMNS, IMAGE_COLUMNS, IS_EVENT};
 use crate::model::{parse_config, Entry, Image, KeptImage, Opening};

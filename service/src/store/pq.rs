@@ -37,8 +37,8 @@ impl Drop for Connection {
 #[derive(Debug)]
 pub struct Failed {
     pub text: String,
-    /// The five characters of SQLSTATE; `None` where the connection was lost, so that what became of the statement is
-    /// not known.
+    /// The five characters of SQLSTATE; `None` if the connection was lost. Then it is not known whether the statement was
+    /// committed.
     pub state: Option<String>,
 }
 

@@ -10,7 +10,7 @@ pub struct Group {
     pub entries: Vec<Entry>,
     pub requests: Vec<Keyed>,
     pub images: Vec<Image>,
-    /// Images that go: their jobs and places.
+    /// Images to delete: their jobs and places.
     pub dropped: Vec<(i64, u64)>,
     pub cuts: Vec<Cut>,
 }
@@ -46,7 +46,7 @@ pub const VERSION: i64 = 1;
 
 /// Why a database can't be used.
 pub enum Unusable {
-    /// A newer program made its tables: no further start of this one can read them.
+    /// A newer program made its tables, so no start of this program can read them.
     Newer(i64),
     Failed(String),
 }
@@ -78,7 +78,7 @@ impl fmt::Display for Unusable {
 pub enum Failure {
     /// Certainly rolled back: the same group may be written again.
     Again(String),
-    /// It may or may not have been committed, or this process leads no more: the process ends, and its next start reads
+    /// It may or may not have been committed, or this process no longer leads. The process ends, and its next start reads
     /// what was committed.
     Lost(String),
 }
@@ -87,16 +87,16 @@ pub type Written = Result<(), Failure>;
 
 /// The writer's connection.
 pub trait Store: Send {
-    /// Tries to lead: the epoch in which this process may write from now on, or `None` where another one leads.
+    /// Tries to lead: the epoch in which this process may write from now on, or `None` if another process leads.
     fn lead(&mut self) -> Result<Option<u64>, String>;
 
-    /// Commits a group, or renews the lease where it is empty.
+    /// Commits a group, or renews the lease if it is empty.
     fn commit(&mut self, group: &Group) -> Written;
 
     /// The answers that were committed under a key.
     fn keyed(&mut self, job: i64, key: &str) -> Result<Option<Keyed>, String>;
 
-    /// Lets go of keys that are older than the moment `before`.
+    /// Deletes keys that are older than the moment `before`.
     fn forget_keys(&mut self, before: u64) -> Result<(), String>;
 
     /// How long the writer may wait before it has to commit again, an empty group too.
@@ -109,8 +109,8 @@ pub trait Store: Send {
     fn release(&mut self);
 }
 
-/// Which rows of `call` an engine hears of: all but acknowledgements and declines that end no record, held ticks and the
-/// outbox's calls.
+/// The rows of `call` that are events for engines: all but acknowledgements and declines that end no record, held ticks and
+/// the outbox's calls.
 pub const IS_EVENT: &str =
     "(answer like 'ack completed%' or line like 'tick %' and answer not like '%held%' or ended is not null \
     or line like 'savepoint %' or line like 'restore %' or line like 'cancel %')";
@@ -129,7 +129,7 @@ pub enum Which {
 }
 
 impl Which {
-    /// The order of places that has it first, and it alone.
+    /// The order and limit of a query that returns it alone.
     pub fn order(self) -> &'static str {
         match self {
             Which::Newest => "desc limit 1",
@@ -148,7 +148,7 @@ pub trait Reader: Send {
     /// The entries after `after`, at most `most`.
     fn log(&mut self, job: i64, after: u64, most: u32) -> Result<LogPage, String>;
 
-    /// The entries after `after` that an engine hears of, at most `most`.
+    /// The entries after `after` that are events, at most `most`.
     fn events(&mut self, job: i64, after: u64, most: u32) -> Result<LogPage, String>;
 
     /// The entries about a record, at most `most`.
@@ -166,6 +166,6 @@ pub trait Reader: Send {
     /// The first call that the log has.
     fn first(&mut self, job: i64) -> Result<Option<u64>, String>;
 
-    /// Who leads, where it is known.
+    /// The address of the leader, if it is known.
     fn leader(&mut self) -> Option<String>;
 }

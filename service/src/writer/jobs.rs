@@ -14,19 +14,18 @@ pub struct Jobs {
     last_moment: u64,
 }
 
-/// Why the jobs could not be made from the log.
+/// Why the jobs could not be replayed from the log.
 #[derive(Debug)]
 pub enum StartError {
     /// The log can't be read.
     Unread(String),
-    /// A call of the log answers otherwise than the log says, so this library is not the one that wrote it, or the log
-    /// was changed.
+    /// A call has another answer than in the log. So another library wrote the log, or the log was changed.
     Differs { job: String, seq: u64, line: String, logged: String, answered: String },
     /// A call of the log is missing, or can't be read as one.
     Damaged { job: String, seq: u64, why: String },
-    /// An image says something else than it was written with, or the library refuses it.
+    /// An image is not as it was written, or the library refuses it.
     BadImage { job: String, seq: u64, why: String },
-    /// Memory ran out: a later start may find some.
+    /// Memory ran out. A later start may have more.
     NoMemory { job: String, seq: u64 },
     /// A job can't be opened.
     NotOpened { job: String, why: String },
@@ -88,8 +87,8 @@ impl Jobs {
         Ok(place)
     }
 
-    /// Makes the calls that the log has and these jobs have not, and returns how many there were. Each answer is compared.
-    /// `beat` tells now and then that the work goes on.
+    /// Makes the calls of the log that these jobs have not made, and returns how many there were. Compares each answer.
+    /// Calls `beat` now and then, to report that the work goes on.
     pub fn catch_up(&mut self, reader: &mut dyn Reader, beat: &dyn Fn()) -> Result<u64, StartError> {
         let mut made = 0;
         for opening in reader.jobs().map_err(StartError::Unread)? {
@@ -127,7 +126,7 @@ impl Jobs {
         }
     }
 
-    /// Learns what the database has of each job's log.
+    /// Reads what the database has of each job's log.
     pub fn take_stock(&mut self, reader: &mut dyn Reader, keeping: Keeping) -> Result<(), StartError> {
         for job in &mut self.jobs {
             let number = job.opening.number;
@@ -139,7 +138,7 @@ impl Jobs {
     }
 }
 
-/// Goes on from a job's last image, where that is after the calls that the job has. Returns whether there is one.
+/// Goes on from a job's last image, if that is after the calls that the job has. Returns whether there is one.
 fn resume(job: &mut Job, reader: &mut dyn Reader) -> Result<bool, StartError> {
     let newest = reader.image(job.opening.number, job.seq, Which::Newest).map_err(StartError::Unread)?;
     let Some(saved) = newest else {

@@ -1,4 +1,4 @@
-//! Images and cuts of the log: what each round writes of them beside its calls.
+//! Images and cuts of the log, which each round writes beside its calls.
 use super::jobs::Jobs;
 use super::message::Board;
 use super::round::Round;
@@ -9,12 +9,12 @@ use crate::store::Group;
 use std::collections::BTreeSet;
 use std::time::Instant;
 
-/// How many old calls go in a round, beside as many as it adds.
+/// How many old calls a round deletes, beside as many as it adds.
 const CUT_CALLS: u64 = 1000;
 
 pub struct Keeper {
     keeping: Keeping,
-    /// The places of jobs that may want an image or have something to cut.
+    /// The places of jobs that may need an image or a cut.
     attend: BTreeSet<usize>,
 }
 
@@ -29,7 +29,7 @@ impl Keeper {
         self.attend.extend(places);
     }
 
-    /// A round that writes the image of one job at most, and a piece of its log that goes. Between two rounds a job is as
+    /// A round that writes the image of one job at most, and deletes a piece of its log. Between two rounds a job is as
     /// the log says. `added` calls were written in the last one.
     pub fn work(&mut self, jobs: &mut Jobs, board: &Board, metrics: &Metrics, added: usize) -> Round {
         let mut round = Round::default();
@@ -46,7 +46,7 @@ impl Keeper {
                 later.insert(place);
                 break;
             }
-            // the history has to read first what goes
+            // the history has to read calls before they are deleted
             later.extend(job.kept.is_cutting().then_some(place));
         }
         self.attend.append(&mut later);

@@ -1,4 +1,4 @@
-//! What the writer is asked, what it answers, and what it tells everybody.
+//! The messages to the writer, its answers, and the state that it publishes.
 use super::state::{JobState, RecordState};
 use crate::model::{Call, Job, Outcome, Settings};
 use serde_json::json;
@@ -62,19 +62,19 @@ pub enum Read {
 pub enum ReadDone {
     Jobs(Vec<JobState>),
     Job(Box<JobState>),
-    /// A live record, or `None` where none has the number.
+    /// A live record, or `None` if none has the number.
     Record(Option<RecordState>),
     /// How many uses the file has, and which records are live.
     File {
         uses: Option<u64>,
         live: Vec<u64>,
     },
-    /// Ascending; `None` where memory ran out.
+    /// Ascending; `None` if memory ran out.
     Taken(Option<Vec<u64>>),
     NoJob,
 }
 
-/// What the threads know of each other: who leads, which jobs there are and how far each is.
+/// What the threads know of each other: whether this process leads, which jobs there are, and how far each is.
 pub struct Board {
     ready: AtomicBool,
     epoch: AtomicU64,
@@ -111,7 +111,7 @@ impl Board {
         self.epoch.store(epoch, Ordering::SeqCst);
     }
 
-    /// All jobs are published: requests are taken from now on.
+    /// All jobs are published. From now on requests are accepted.
     pub fn open(&self) {
         self.ready.store(true, Ordering::SeqCst);
     }
@@ -124,7 +124,7 @@ impl Board {
         self.epoch.load(Ordering::SeqCst)
     }
 
-    /// The writer, or who waits to lead, is at work.
+    /// The writer works, or the thread that waits to lead.
     pub fn beat(&self) {
         let now = u64::try_from(self.started.elapsed().as_millis()).unwrap_or(u64::MAX);
         self.beat.store(now, Ordering::SeqCst);

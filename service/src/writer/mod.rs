@@ -24,7 +24,7 @@ use timer::Timer;
 
 /// How many calls share a commit at most.
 const MOST_CALLS: usize = 4096;
-/// How long a group that the database certainly rolled back is tried again.
+/// For how long a group is tried again that the database certainly rolled back.
 const RETRY_FOR: Duration = Duration::from_secs(10);
 const RETRY_EACH: Duration = Duration::from_millis(200);
 /// How long a tick that could not be made waits for its next try, in milliseconds.
@@ -140,7 +140,7 @@ impl Writer {
             Ok(None) => {
                 let outcomes = self.calls(round, place, calls);
                 let answers = self.board.answers(&outcomes);
-                // where nothing was made, a repeat makes nothing twice
+                // if nothing was made, a repeat makes nothing twice
                 if outcomes.iter().any(|outcome| matches!(outcome, Outcome::Made { seq: Some(_), .. })) {
                     round.keep(job, key, self.clock.now(), answers.clone());
                 }
@@ -223,7 +223,7 @@ impl Writer {
         }
     }
 
-    /// A leader tells what its jobs are at only while it surely leads.
+    /// Renews the lease if it is old: a leader returns the state of its jobs only while it surely leads.
     fn renew(&mut self) {
         if self.store.lease().is_some_and(|lease| self.committed.elapsed() >= lease) {
             self.write(&Group::default());
@@ -240,9 +240,9 @@ impl Writer {
         }
     }
 
-    /// Tells what was committed. Nobody who has gone away is missed.
+    /// Sends the answers to what was committed. A client may have gone away.
     fn answer(&mut self, round: Round) {
-        // a refusal needs no commit, but is true of a leader's jobs alone
+        // a refusal needs no commit, but only a leader may answer it
         if !round.done.is_empty() || !round.created.is_empty() {
             self.renew();
         }
@@ -264,7 +264,7 @@ impl Writer {
         }
     }
 
-    /// Tells those who wait for events how far the job is, and sets its timer.
+    /// Wakes the requests that wait for the job's events, and sets its timer.
     fn publish(&mut self, place: usize) {
         let job = self.jobs.at(place);
         let wake = job.wake();
@@ -273,7 +273,7 @@ impl Writer {
     }
 }
 
-/// Whether a tick did what the timer called it for: it ended or triggered a record.
+/// Whether a tick did what the timer expected: it ended or triggered a record.
 fn did_its_work(ticked: &Outcome) -> bool {
     matches!(ticked, Outcome::Made { reply, .. } if reply.is_event())
 }

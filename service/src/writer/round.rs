@@ -1,4 +1,4 @@
-//! What one commit collects, and who waits for it.
+//! What one commit collects, and the requests that wait for it.
 use super::jobs::Jobs;
 use super::message::{CallsDone, Created, Key, Read, ReadDone};
 use crate::model::{NoJob, Opening, Settings};

@@ -1,4 +1,4 @@
-//! What a job is at, as reads tell it between two commits.
+//! The state of a job, as reads return it between two commits.
 use super::jobs::Jobs;
 use super::message::{Read, ReadDone};
 use crate::model::{Choice, FileCounts, Job, KeptImage, Kind, LiveRecord, Mode, Opening};
@@ -28,7 +28,7 @@ pub struct JobState {
 
 #[derive(Debug)]
 pub struct RecordState {
-    /// The coordinator's metadata, as JSON; `None` where memory ran out.
+    /// The coordinator's metadata, as JSON; `None` if memory ran out.
     pub metadata: Option<String>,
 }
 

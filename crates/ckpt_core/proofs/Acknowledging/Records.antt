@@ -27,7 +27,7 @@ in_order-acknowledged r a none order =
     (λ y h e. ⊎_elim (λ (t : is_before a.subtask y.subtask ≡ true). t) (λ (t : is_before a.subtask y.subtask ≡ false). absurd (new_subtask r a.subtask y none h (subtasks_in_order.total a.subtask y.subtask t e))) (cases_Bool (is_before a.subtask y.subtask)))
     order
 
--- numbers of which none stands twice, in ascending order
+-- numbers without repeats, in ascending order
 pub ascending-distinct : (xs : List ℕ) → AreDistinct xs → IsAscendingSet (ascending xs)
 ascending-distinct [] d = tt
 ascending-distinct (x ∷ xs) d = IsInOrder-put numbers_in_order x (ascending xs) (λ h. d.0 (IsIn-from_in_order ltb x xs h)) (ascending-distinct xs d.1)

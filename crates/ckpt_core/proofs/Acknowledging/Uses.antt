@@ -1,4 +1,4 @@
--- The uses of records of which one has an acknowledgement more stand in order, and how many files they name.
+-- If one of the records has an acknowledgement more, their uses are in order; and how many files they name.
 use Rattle.std.proofs.Common.{◌≡◌, ℕ, suc, ◌+◌, ◌≤◌, Bool, true, false, not, ◌&&◌, cond, ltb, eqb, List, [], ◌∷◌, map, length, refl, sym, ap, subst, ◌∙◌, ⊎_elim, arith}
 use Rattle.std.specs.List.{filter}
 use Rattle.std.proofs.lemmas.Bool.{cases_Bool, ltb-true, eqb-true, not-true, and_from, and_parts}

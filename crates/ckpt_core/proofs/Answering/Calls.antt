@@ -1,4 +1,4 @@
--- What an accepted call leaves of the parts, and that what fails for want of memory may want some.
+-- The parts after an accepted call, and that only calls that may take memory run out of it.
 use Rattle.std.proofs.Common.{◌≡◌, ℕ, Bool, true, List, refl, sym, ap, subst, ◌∙◌, Option, Some, None}
 use Rattle.std.specs.Prelude.{Result, Ok, Err, IfOk, OnErr}
 use Rattle.ckpt_ids.specs.declared.call.Call.{Call}
@@ -42,7 +42,7 @@ sound_after old new call (Err error) c s a h = sound_unchanged old new s h
 
 -- memory
 
--- so its answer determines whether it may want memory
+-- so its answer determines whether it may take memory
 wants_as_effect : (m : State) (call : Call) → refusal m call ≡ None → may_want_memory m call ≡ answer_wants call (effect (at_moment m (moment_of call)) call).1
 wants_as_effect m call e =
     let wanted : Stepped → Bool = λ stepped. answer_wants call stepped.1 in

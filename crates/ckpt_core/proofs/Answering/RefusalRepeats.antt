@@ -1,4 +1,4 @@
--- A file that is named twice, in ascending lists: it stands beside itself, or in both lists.
+-- A file that is named twice, in ascending lists: it is its own neighbour, or is in both lists.
 use Rattle.std.proofs.Common.{◌≡◌, ℕ, zero, suc, ◌+◌, ◌<◌, ◌≤◌, Bool, true, false, not, ◌||◌, ltb, eqb, List, [], ◌∷◌, ◌++◌, length, get_or, refl, sym, ap, subst, ◌∙◌, ⊎_elim, arith, MatchBool, Ok, Err, Result, add-one}
 use Rattle.std.specs.List.Sorted.{IsBinarySearchResult}
 use Rattle.std.specs.Ordering.{nat_cmp}
@@ -55,7 +55,7 @@ repeats-from_adjacent xs false a h =
     let below : get_or xs k 0 ≤ get_or xs (suc k) 0 = ascending_at xs a k (suc k) (omega arith) lt in
     sym (repeat_at xs k lt (omega arith))
 
--- what a search by halves says
+-- what a binary search returns
 pub among-from_search : (xs : List ℕ) (x : ℕ) (r : Result ℕ ℕ) → IsAscending xs → IsBinarySearchResult (λ y. nat_cmp y x) xs r → is_ok r ≡ list_any (λ f. eqb x f) xs
 among-from_search xs x (Ok i) a h =
     let at : (i < length xs) × (get_or xs i 0 ≡ x) = searched xs x (Ok i) h (ascending_at xs a) in
@@ -93,7 +93,7 @@ no_repeats xs ys a b e =
     both_ways (share xs ys) e (list_any-from_IsIn (λ f. list_any (λ g. eqb f g) xs) x ys k (test-from_IsIn x xs h)) in
     test-from_distinct (xs ++ ys) (AreDistinct-append xs ys (distinct-from_test xs a) (distinct-from_test ys b) apart)
 
--- a file stands twice in one list, or in both
+-- a file is twice in one list, or in both
 pub repeats_within : (xs ys : List ℕ) (v : Bool) → v ≡ (has_repeats xs || has_repeats ys) → v ≡ true → v ≡ has_repeats (xs ++ ys)
 repeats_within xs ys v is e =
     e ∙ sym (⊎_elim (repeats_left xs ys) (repeats_right xs ys) (or_cases (has_repeats xs) (has_repeats ys) (sym is ∙ e)))

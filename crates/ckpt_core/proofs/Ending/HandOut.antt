@@ -1,4 +1,4 @@
--- Released files can be put into the outbox: room that was kept for the files in use is room for them, none stands twice, and none is known to it.
+-- Released files can be put into the outbox. It has reserved room for all files in use. No file is there twice, and the outbox knows none.
 use Rattle.std.proofs.Common.{◌≡◌, ℕ, ◌≤◌, Bool, true, false, not, eqb, List, [], map, length, ltb, refl, sym, ap, subst, ◌∙◌, arith}
 use Rattle.std.proofs.lemmas.Bool.{lt-ltb, eq-eqb}
 use Rattle.std.proofs.lemmas.List.Sums.{length-filter, count_by-le-length}
@@ -19,7 +19,7 @@ released_room before after room h =
     let gone : ℕ → Bool = λ f. not (is_present after f) in
     omega (arith, length-filter gone fs, count_by-le-length gone fs)
 
--- each stands once
+-- each is there once
 pub released_once : (before after : List Use) → AreDistinct (released before after)
 released_once before after = AreDistinct-from_order numbers_in_order (released before after) (ascending-released before after)
 

@@ -103,7 +103,7 @@ even_added before after fresh distinct new now_held still from = record { even =
         ⊎_elim is_now is_not (cases_Bool (is_present (uses after) f)) in
         ⊎_elim was was_not (cases_Bool (is_present (uses before) f))
 
--- what is behind the front
+-- what comes after the prefix
 pub drop_front : (xs ys : List ℕ) → drop (length xs) (xs ++ ys) ≡ ys
 drop_front [] ys = refl
 drop_front (x ∷ xs) ys = drop_front xs ys

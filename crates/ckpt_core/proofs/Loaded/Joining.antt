@@ -1,4 +1,4 @@
--- When a list of sound records stays sound with one more, and that a front of sound records is sound.
+-- When a list of sound records stays sound with one more, and that a prefix of sound records is sound.
 use Rattle.std.proofs.Common.{◌≡◌, ℕ, ◌<◌, ◌≤◌, ◌^◌, Bool, true, false, not, List, [], ◌∷◌, ◌++◌, refl, sym, subst, inl, inr, ⊎_elim, arith}
 use Rattle.std.specs.Prelude.{count_by}
 use Rattle.std.proofs.lemmas.Bool.{cases_Bool, cases_lt, both_ways, and_parts, not-true, ltb-true, lt-ltb}
@@ -100,7 +100,7 @@ front_order (x ∷ xs) ys order = (front xs ys order.0, front_order xs ys order.
 fewer_in_front : (p : Record → Bool) (xs ys : List Record) (n : ℕ) → count_by p (xs ++ ys) ≤ n → count_by p xs ≤ n
 fewer_in_front p xs ys n le = omega (arith, le, count_by-append p xs ys)
 
--- a front of sound records
+-- a prefix of sound records
 pub sound_front : {o : Opening} {next : ℕ} (xs ys : List Record) → AreSoundRecords o next (xs ++ ys) → AreSoundRecords o next xs
 sound_front {o} {next} xs ys w = record {
   in_order = front_order xs ys w.in_order;

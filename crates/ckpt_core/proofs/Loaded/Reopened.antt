@@ -1,4 +1,4 @@
--- A coordinator that is made of an image, step by step: what the state says about the parts, and when it can be held.
+-- A coordinator that is made from an image, step by step: what the state says about the parts, and which states are possible.
 use Rattle.std.proofs.Common.{◌≡◌, ◌≢◌, ℕ, ◌+◌, ◌-◌, ◌<◌, Bool, true, ◌||◌, List, [], ◌∷◌, ◌++◌, length, map, take, drop, get_or, refl, sym, ap, subst, ◌∙◌, inl, ⊎_elim, Option, Some, arith}
 use Rattle.std.proofs.lemmas.Bool.{both_ways}
 use Rattle.std.proofs.lemmas.List.{append_assoc, length-append, take-append-drop, take_more}

@@ -56,7 +56,7 @@ pins_unused old id acks newest = λ u h same holder.
     (λ (k : IsIn u (uses_of_acks id acks)). let q = id_of_acks id acks u k in let eq : Subtask q.0.subtask ≡ Pin = sym q.3 ∙ holder in absurd (cc))
     (IsIn-append_cases u old (uses_of_acks id acks) h)
 
--- with the pins, all stand in order already
+-- with the pins, all are in order already
 pub whole_in_order : (old : List Use) (id : ℕ) (acks : List Acked) (pins : List ℕ) → IsInOrder use_before old → ((u : Use) → IsIn u old → u.id < id) → AreInSubtaskOrder acks → ((a : Acked) → IsIn a acks → IsAscendingSet a.files) → IsAscendingSet pins
     → IsInOrder use_before (old ++ uses_held id acks pins)
 whole_in_order old id acks pins order newest acks_order files set =
@@ -96,7 +96,7 @@ count_so_far f old before more pins =
     let its : Use → _ = λ (u : Use). eqb u.file f in
     omega (arith, count_by-append its old before, count_by-append its old ((before ++ more) ++ pins), count_by-append its (before ++ more) pins, count_by-append its before more)
 
--- the front of acknowledgements in order
+-- a prefix of acknowledgements in order
 pub front_in_order : (xs ys : List Acked) → AreInSubtaskOrder (xs ++ ys) → AreInSubtaskOrder xs
 front_in_order [] ys order = tt
 front_in_order (x ∷ xs) ys order = (front xs ys order.0, front_in_order xs ys order.1)
@@ -112,7 +112,7 @@ count_front f old id acks i pins =
     let same : count (old ++ uses_held id acks pins) f ≡ count (old ++ ((uses_of_acks id (take i acks) ++ uses_of_acks id (drop i acks)) ++ holds id Pin pins)) f = ap (λ us. count (old ++ (us ++ holds id Pin pins)) f) split in
     omega (arith, same, count_so_far f old (uses_of_acks id (take i acks)) (uses_of_acks id (drop i acks)) (holds id Pin pins))
 
--- one of the front is one of all
+-- one of the prefix is one of all
 pub in_front : (b : Acked) (acks : List Acked) (i : ℕ) → IsIn b (take i acks) → IsIn b acks
 in_front b acks i h = let P : List Acked → Type 0 = λ xs. IsIn b xs in subst P (take-append-drop i acks) (IsIn-append_left b (take i acks) (drop i acks) h)
 

@@ -1,4 +1,4 @@
--- When a tick may trigger, as far as the interval and the pause tell.
+-- When a tick may trigger, as far as the interval and the pause decide.
 use Rattle.std.proofs.Common.{◌≡◌, ℕ, ◌+◌, ◌<◌, ◌≤◌, max, Bool, false, ◌&&◌, cond, ltb, leb, refl, sym, subst, ⊎_elim, arith, Option, Some, None}
 use Rattle.std.specs.Prelude.{count_by, ⊤}
 use Rattle.std.proofs.lemmas.Bool.{cond_both, ltb-true, ltb-false}

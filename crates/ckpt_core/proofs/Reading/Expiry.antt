@@ -40,7 +40,7 @@ pending_there p x h =
     IsIn-in_order id_before (with_pins us x) (grouped us p.pending p.store.checkpoints p.store.savepoints)
     (IsIn-append_left (with_pins us x) (map (with_pins us) p.pending) (p.store.checkpoints ++ p.store.savepoints) (IsIn-map (with_pins us) x p.pending h))
 
--- it lies below all moments, so that the timeout can be added
+-- it is below all moments, so the timeout can be added
 pub started_bound : (p : Parts) (s : ℕ) → IsSound (state_of p) → TellsLeast p.pending (Some s) → s < 2 ^ 62
 unfolding state_of
 started_bound p s sound told =

@@ -20,7 +20,7 @@ use Rattle.ckpt_core.proofs.Records.Counts.{IsIn-from_find, fails-from_find, fin
 abbrev pub is_from : ℕ → Record → Bool
 is_from n r = leb n r.id
 
--- the first of these records from a number on, in whatever order they stand
+-- the first of these records from a number on, whatever their order is
 abbrev IsFirst : ℕ → List Record → Option Live → Type 0
 IsFirst n xs None = (r : Record) → IsIn r xs → is_from n r ≡ false
 IsFirst n xs (Some live) = ((r : Record) × IsIn r xs × (is_from n r ≡ true) × (live ≡ live_of r)) × ((s : Record) → IsIn s xs → is_from n s ≡ true → live.id ≤ s.id)

@@ -1,4 +1,4 @@
--- What the look-ups of a number among the pending records and in the store tell of it.
+-- What the look-ups of a number among the pending records and in the store find.
 use Rattle.std.proofs.Common.{◌≡◌, ℕ, Bool, true, false, ◌&&◌, cond, eqb, refl, sym, ap, ◌∙◌, Option, Some, None}
 use Rattle.std.specs.Borrow.{Bor}
 use Rattle.std.specs.Prelude.{find, is_some}

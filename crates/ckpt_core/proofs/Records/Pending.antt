@@ -66,7 +66,7 @@ place_there id None rs there absent =
 pub at_place : (id place : ℕ) (answer : Option ℕ) (rs : List Record) → answer ≡ Some place → IfSome answer (LiesAt id_of id rs) → LiesAt id_of id rs place
 at_place id place answer rs e found = let P : Option ℕ → Type 0 = λ o. IfSome o (LiesAt id_of id rs) in subst P e found
 
--- what stands at the place of a number is what is found
+-- a look-up finds what is at the place of the number
 pub found_at : (id place : ℕ) (r : Record) (rs : List Record) → IsInOrder id_before rs → LiesAt id_of id rs place → r ≡ get_or rs place r → find (has_id id) rs ≡ Some r
 found_at id place r rs order at is =
     sym (find-place id rs place order at) ∙ slice_get-get_or rs place r at.0 ∙ ap (λ q. Some q) (sym is)

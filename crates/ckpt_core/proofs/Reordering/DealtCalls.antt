@@ -82,8 +82,8 @@ below-answers m seats (x ∷ xs) below y h =
 abbrev pub all_missing : ℕ → ℕ → ℕ → Record → List Call
 all_missing now id first r = map (ack_with now id) (new_files first 0 (missing_of r))
 
--- Dealt out to seats and made in whatever order, they leave the same state, and what the seats were answered, put back into the
--- order of the calls, counts the same.
+-- Calls that are dealt out to seats leave the same state in whatever order the seats make them. In the order of the calls, the
+-- answers of the seats have the same counts.
 pub record ComesToTheSame (m : State) (calls : List Call) (made : List (ℕ × Call)) (told : List Answer) : Type 0 where
   pub state : replay m calls ≡ replay m (calls_of made)
   pub as_often : (asked : Answer → Bool) → count_by asked (answers m calls) ≡ count_by asked told

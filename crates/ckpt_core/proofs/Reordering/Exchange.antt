@@ -56,7 +56,7 @@ completed_not_pending : (m : State) (r : Record) → is_ack_pending (completed_w
 unfolding completed_with
 completed_not_pending m r h = both_ways false refl h
 
--- a record that answers AckPending lacks an acknowledgement still
+-- a record for which the answer is AckPending still lacks an acknowledgement
 still_lacks : (n : State) (w : Record) → is_ack_pending (acknowledged_in n w).1 ≡ true → eqb (missing w) 0 ≡ false
 unfolding acknowledged_in
 still_lacks n w h =
@@ -69,7 +69,7 @@ still_lacks n w h =
     (λ (e : eqb (missing w) 0 ≡ false). e)
     (cases_Bool (eqb (missing w) 0))
 
--- only a pending record answers AckPending
+-- only for a pending record is the answer AckPending
 was_pending : (n : State) (p : Part) (o : Option Record) → is_ack_pending (ack n o p.subtask p.fresh p.reused).1 ≡ true → (r : Record) × (o ≡ Some r) × (eqb (missing (with_ack r p.subtask p.fresh p.reused)) 0 ≡ false)
 unfolding ack
 was_pending n p None h = absurd (both_ways false refl h)

@@ -72,7 +72,7 @@ same_chain a b = record {
   completed = a.completed ∙ b.completed;
 }
 
--- after one call more in front
+-- after one call more at the start
 same_later : (m : State) (call : Call) (xs ys : List Call) → Same (step m call).0 xs ys → Same m (call ∷ xs) (call ∷ ys)
 same_later m call xs ys a =
     let n : State = (step m call).0 in

@@ -1,4 +1,4 @@
--- The missing subtasks of a pending record, each with the next file from a first one on, are what the law of any order speaks of.
+-- The missing subtasks of a pending record, each with the next file from a first one on, meet the conditions of the law of any order.
 use Rattle.std.proofs.Common.{◌≡◌, ℕ, ◌+◌, ◌≤◌, Bool, true, false, not, ◌&&◌, eqb, List, [], ◌∷◌, map, refl, sym, ap, subst, ◌∙◌, inl, inr, ⊎_elim, arith}
 use Rattle.std.specs.Prelude.{find, Some}
 use Rattle.std.specs.List.{filter, enumerate_from}
@@ -39,7 +39,7 @@ pending_record m id r found pending =
     let its : eqb r.id id ≡ true = (IsIn-from_find wide r m.records found).1 in
     find-narrower wide narrow r m.records (λ y h. (and_parts (is_pending y) (eqb y.id id) h).1) found (and_from (is_pending r) (eqb r.id id) (not_from_false r.done pending) its)
 
--- the subtasks, each with the next file; the first of them stands at this place
+-- the subtasks, each with the next file; the first of them is at this place
 abbrev pub new_files : ℕ → ℕ → List SubtaskId → List NewFile
 new_files first place missing = map (λ p. record { subtask = p.1; file = first + p.0 }) (enumerate_from place missing)
 

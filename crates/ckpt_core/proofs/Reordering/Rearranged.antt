@@ -1,4 +1,4 @@
--- Lists with the same elements in another order; lists in which each seat has the same in the same order are such.
+-- Lists with the same elements in another order. Two lists in which each seat has the same elements in the same order are such lists.
 use Rattle.std.proofs.Common.{◌≡◌, ℕ, Bool, true, false, cond, eqb, List, [], ◌∷◌, ◌++◌, map, refl, sym, ap, subst, ◌∙◌, ◌⊎◌, inl, inr, ⊎_elim, arith}
 use Rattle.std.specs.Prelude.{count_by}
 use Rattle.std.specs.List.{filter}

@@ -1,4 +1,4 @@
--- Of a drop of records: which done savepoints, idle states and outboxes stay as a sound state has them. And a later moment keeps it sound.
+-- After a drop of records, done savepoints, idle states and the outbox are still as in a sound state. A later moment keeps a state sound.
 use Rattle.std.proofs.Common.{◌≡◌, ◌≢◌, ℕ, ◌<◌, ◌^◌, max, Bool, true, false, not, ◌&&◌, eqb, List, ◌++◌, map, ap, subst, ◌∙◌, ⊎_elim, arith}
 use Rattle.std.specs.List.{filter, list_any}
 use Rattle.std.proofs.lemmas.Bool.{cases_Bool, both_ways, not-true, not_from_false}

@@ -26,7 +26,7 @@ outbox_is_sound m waiting taken s o =
       failures = s.failures;
     }) (records_of s) o
 
--- the front goes behind the end
+-- the prefix moves behind the end
 outbox_rotated : (rs : List Record) (xs ys taken : List ℕ) → IsSoundOutbox rs (xs ++ ys) taken → IsSoundOutbox rs ys (taken ++ xs)
 outbox_rotated rs xs ys taken o =
     let front : AreDistinct (xs ++ ys) = AreDistinct-left (xs ++ ys) taken o.apart in

@@ -244,7 +244,7 @@ extern "C" {
     /// Triggers a savepoint. At most 1000 savepoints are pending or done. RELKVANU_SAVEPOINT_TRIGGERED. Refused: RELKVANU_MOMENT_TOO_LARGE, RELKVANU_NOT_RUNNING, RELKVANU_TOO_MANY_SAVEPOINTS, RELKVANU_IDS_USED_UP. Takes memory.
     pub fn relkvanu_savepoint(handle: *mut relkvanu, now: u64) -> relkvanu_answer;
 
-    /// The subtask vertex.index has taken its part of record id. fresh has the files that it wrote. reused has files of earlier records that it uses again. Both may be in any order, with at most 4096 files together. RELKVANU_ACK_PENDING, RELKVANU_ACK_COMPLETED or RELKVANU_ACK_LATE: the fresh files belong to the coordinator now. Refused: RELKVANU_MOMENT_TOO_LARGE, RELKVANU_TOO_MANY_FILES, RELKVANU_REPEATED_FILE, RELKVANU_UNKNOWN_CHECKPOINT, RELKVANU_UNKNOWN_SUBTASK, RELKVANU_ALREADY_ACKNOWLEDGED, RELKVANU_NAME_TAKEN, RELKVANU_FILE_GONE. After a refusal the task must not delete a file that an accepted acknowledgement ever named. The call first copies the two lists, which takes memory. So it may return RELKVANU_NO_MEMORY where it would otherwise be refused.
+    /// The subtask vertex.index has taken its part of record id. fresh has the files that it wrote. reused has files of earlier records that it uses again. Both may be in any order, with at most 4096 files together. RELKVANU_ACK_PENDING, RELKVANU_ACK_COMPLETED or RELKVANU_ACK_LATE: the fresh files belong to the coordinator now. Refused: RELKVANU_MOMENT_TOO_LARGE, RELKVANU_TOO_MANY_FILES, RELKVANU_REPEATED_FILE, RELKVANU_UNKNOWN_CHECKPOINT, RELKVANU_UNKNOWN_SUBTASK, RELKVANU_ALREADY_ACKNOWLEDGED, RELKVANU_NAME_TAKEN, RELKVANU_FILE_GONE. After a refusal the task must not delete a file that an accepted acknowledgement ever named. The call first copies the two lists, which takes memory. So it may return RELKVANU_NO_MEMORY instead of a refusal.
     pub fn relkvanu_ack(
         handle: *mut relkvanu,
         now: u64,
@@ -269,7 +269,7 @@ extern "C" {
     /// A user disposes of the completed savepoint id. RELKVANU_DISPOSED. Refused: RELKVANU_NO_SUCH_SAVEPOINT, RELKVANU_IN_USE. Takes no memory.
     pub fn relkvanu_dispose(handle: *mut relkvanu, id: u64) -> relkvanu_answer;
 
-    /// The job begins again: from a savepoint, or from the latest record if savepoint is 0. With shape_len above 0 it begins in a new shape, within the limits of relkvanu_open. Otherwise it keeps its current shape. RELKVANU_RESTORED_CHECKPOINT, RELKVANU_RESTORED_SAVEPOINT or RELKVANU_RESTORED_FRESH. RELKVANU_BAD_ARGUMENT with RELKVANU_BAD_SHAPE is checked first. Refused: RELKVANU_MOMENT_TOO_LARGE, RELKVANU_NOT_RUNNING (cancelled), RELKVANU_NO_SUCH_SAVEPOINT. The call first copies the shape, which takes memory. So it may return RELKVANU_NO_MEMORY where it would otherwise be refused. Without a shape it takes no memory.
+    /// The job begins again: from a savepoint, or from the latest record if savepoint is 0. With shape_len above 0 it begins in a new shape, within the limits of relkvanu_open. Otherwise it keeps its current shape. RELKVANU_RESTORED_CHECKPOINT, RELKVANU_RESTORED_SAVEPOINT or RELKVANU_RESTORED_FRESH. RELKVANU_BAD_ARGUMENT with RELKVANU_BAD_SHAPE is checked first. Refused: RELKVANU_MOMENT_TOO_LARGE, RELKVANU_NOT_RUNNING (cancelled), RELKVANU_NO_SUCH_SAVEPOINT. The call first copies the shape, which takes memory. So it may return RELKVANU_NO_MEMORY instead of a refusal. Without a shape it takes no memory.
     pub fn relkvanu_restore(
         handle: *mut relkvanu,
         now: u64,
@@ -329,7 +329,7 @@ extern "C" {
     /// Returns the length of the name of the refusal with this number, such as "NotRunning", or 0 if no refusal has the number. Writes the name, without a zero at its end, if text_len is at least the length.
     pub fn relkvanu_refusal_text(what: u32, text: *mut u8, text_len: usize) -> usize;
 
-    /// Makes the call of a line, and returns what the function of that call returns. A take line writes the files that it fetches to the start of files. If it would fetch more than files_len, the answer is RELKVANU_TOO_SHORT, a is how many places it needs, and nothing has changed. A show line returns what relkvanu_show returns with an empty buffer. A restore line with a bad shape returns RELKVANU_BAD_ARGUMENT with RELKVANU_BAD_SHAPE. A line that has no words or is a comment returns RELKVANU_SKIPPED. A line that can't be read, or makes no call, returns RELKVANU_BAD_LINE. Only RELKVANU_TAKEN changes the buffer. The call takes memory as its own function does, and for the lists of an ack, job or restore line. So such a line may return RELKVANU_NO_MEMORY where the call would be refused.
+    /// Makes the call of a line, and returns what the function of that call returns. A take line writes the files that it fetches to the start of files. If it would fetch more than files_len, the answer is RELKVANU_TOO_SHORT, a is how many places it needs, and nothing has changed. A show line returns what relkvanu_show returns with an empty buffer. A restore line with a bad shape returns RELKVANU_BAD_ARGUMENT with RELKVANU_BAD_SHAPE. A line that has no words or is a comment returns RELKVANU_SKIPPED. A line that can't be read, or makes no call, returns RELKVANU_BAD_LINE. Only RELKVANU_TAKEN changes the buffer. The call takes memory as its own function does, and for the lists of an ack, job or restore line. So such a line may return RELKVANU_NO_MEMORY instead of a refusal.
     pub fn relkvanu_line(
         handle: *mut relkvanu,
         line: *const u8,
@@ -357,7 +357,7 @@ extern "C" {
         line_len: usize,
     ) -> relkvanu_answer;
 
-    /// Writes the lines config, job and start of a coordinator whose first record has the number 1, each with its newline. RELKVANU_WRITTEN; RELKVANU_TOO_SHORT, and a is how many bytes it needs; RELKVANU_BAD_ARGUMENT where relkvanu_open returns it, with the same argument: RELKVANU_BAD_CONFIG, RELKVANU_BAD_SHAPE or RELKVANU_BAD_MOMENT. Only RELKVANU_WRITTEN changes the buffer. Takes memory.
+    /// Writes the lines config, job and start of a coordinator whose first record has the number 1, each with its newline. RELKVANU_WRITTEN; RELKVANU_TOO_SHORT, and a is how many bytes it needs; RELKVANU_BAD_ARGUMENT if relkvanu_open returns it, with the same argument: RELKVANU_BAD_CONFIG, RELKVANU_BAD_SHAPE or RELKVANU_BAD_MOMENT. Only RELKVANU_WRITTEN changes the buffer. Takes memory.
     pub fn relkvanu_opening_lines(
         settings: *const relkvanu_settings,
         shape: *const u64,

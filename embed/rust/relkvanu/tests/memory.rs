@@ -1,5 +1,5 @@
 //! Memory that runs out, over a library whose heap refuses one request after the other (`embed/c/refusing_heap.c`): a call
-//! that does not go on without it says so and has changed nothing, and it is made again. The heap counts for one thread, so
+//! that fails says so and has changed nothing, and is made again. The heap counts for one thread, so
 //! this is one test. It is empty without `--cfg refusing_heap`, since the library that is shipped has another heap.
 #![cfg(refusing_heap)]
 mod settings;

@@ -1,5 +1,5 @@
-//! An engine in small: each subtask acknowledges each checkpoint of a job, with a new file, until so many have completed.
-//! Its words are the service's address, the job's name and how many.
+//! A small engine: each subtask acknowledges each checkpoint of a job with a new file, until a number of them have completed.
+//! Its arguments are the service's address, the job's name and that number.
 use relkvanu_client::{Call, Job, Service};
 use serde_json::{json, Value};
 use std::error::Error;
@@ -20,7 +20,7 @@ async fn main() -> Result<(), Box<dyn Error>> {
     Ok(())
 }
 
-/// Takes part in checkpoints until so many have completed.
+/// Takes part in checkpoints until this many have completed.
 async fn follow(job: &Job, wanted: u64) -> Result<u64, Box<dyn Error>> {
     let (mut after, mut completed) = (0, 0);
     loop {

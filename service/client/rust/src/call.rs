@@ -19,7 +19,7 @@ pub enum Call {
     Dispose {
         id: u64,
     },
-    /// From a savepoint, or the latest; in a new shape where one is given.
+    /// From a savepoint, or the latest; in a new shape if one is given.
     Restore {
         savepoint: Option<u64>,
         shape: Option<Vec<u64>>,
@@ -67,7 +67,7 @@ fn texts(files: &[u64]) -> Vec<String> {
     files.iter().map(u64::to_string).collect()
 }
 
-/// What became of a call.
+/// The outcome of a call.
 #[derive(Clone, Debug, PartialEq)]
 pub enum Answer {
     /// The call was made. The reply is the API's, as `{"ack": "pending", "missing": 2}`.

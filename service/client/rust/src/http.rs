@@ -10,7 +10,7 @@ use std::sync::atomic::{AtomicUsize, Ordering};
 use std::time::Duration;
 use tokio::time::Instant;
 
-/// How long a request is made again for.
+/// For how long a request is made again.
 const PATIENCE: Duration = Duration::from_secs(60);
 /// How long one try may take: longer than a poll of events waits.
 const ONE_TRY: Duration = Duration::from_secs(90);
@@ -50,7 +50,7 @@ pub struct Requests {
     token: Option<HeaderValue>,
 }
 
-/// A new Idempotency-Key, of the system's random numbers, which std keeps for its maps.
+/// A new Idempotency-Key, from the system's random numbers, as std has them for its maps.
 pub fn new_key() -> String {
     let words = RandomState::new();
     format!("{:016x}{:016x}", words.hash_one(0), words.hash_one(1))

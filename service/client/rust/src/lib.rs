@@ -10,8 +10,8 @@
 //! # Ok(())
 //! # }
 //! ```
-//! A request whose answer is lost is made again for a minute, to the next of the service's addresses. Calls whose repeat does
-//! its work twice go under an Idempotency-Key, so that the service makes them once.
+//! If the answer to a request is lost, the client makes the request again for a minute, to the service's next address. A
+//! call that must not be made twice has an Idempotency-Key, so the service makes it once.
 mod call;
 mod http;
 
@@ -36,7 +36,7 @@ pub struct Job {
 }
 
 impl Service {
-    /// A service at these addresses, as `http://127.0.0.1:7780`, with a token where it wants one.
+    /// A service at these addresses, as `http://127.0.0.1:7780`, with a token if it needs one.
     pub fn new(urls: &[&str], token: Option<&str>) -> Result<Service, Error> {
         Ok(Service { requests: Arc::new(Requests::new(urls, token)?) })
     }
@@ -49,12 +49,12 @@ impl Service {
         Ok(self.job(name))
     }
 
-    /// A job that is there.
+    /// A job that exists.
     pub fn job(&self, name: &str) -> Job {
         Job { requests: Arc::clone(&self.requests), path: format!("/v1/jobs/{name}") }
     }
 
-    /// What each job is at.
+    /// The state of each job.
     pub async fn jobs(&self) -> Result<Value, Error> {
         self.requests.get("/v1/jobs").await
     }
@@ -70,7 +70,7 @@ impl Job {
         Ok(answers.iter().map(Answer::of).collect())
     }
 
-    /// Fetches at most so many files for deletion.
+    /// Fetches at most this many files for deletion.
     pub async fn take(&self, most: u64) -> Result<Vec<u64>, Error> {
         let answers = self.calls(&[Call::Take { most }]).await?;
         match answers.first() {
@@ -79,17 +79,17 @@ impl Job {
         }
     }
 
-    /// What the job is at.
+    /// The state of the job.
     pub async fn state(&self) -> Result<Value, Error> {
         self.requests.get(&self.path).await
     }
 
-    /// A record: its metadata, who is missing, and what became of it.
+    /// A record: its metadata, its missing subtasks, and its history.
     pub async fn record(&self, id: u64) -> Result<Value, Error> {
         self.requests.get(&format!("{}/records/{id}", self.path)).await
     }
 
-    /// A file: who uses it, and what became of it.
+    /// A file: the records that use it, and its history.
     pub async fn file(&self, file: u64) -> Result<Value, Error> {
         self.requests.get(&format!("{}/files/{file}", self.path)).await
     }
@@ -99,7 +99,7 @@ impl Job {
         self.requests.get(&format!("{}/files?limit={limit}", self.path)).await
     }
 
-    /// The events after a place, once there is one or the seconds, at most 60, are over: the place to go on from, and they.
+    /// The events after a place, and the place to go on from. Waits at most this many seconds for an event, and at most 60.
     pub async fn events(&self, after: u64, wait: u64) -> Result<(u64, Vec<Value>), Error> {
         let mut told = self.requests.get(&format!("{}/events?after={after}&wait={wait}", self.path)).await?;
         let upto = told["upto"].as_u64().ok_or(Error::Answer("has no upto".to_string()))?;

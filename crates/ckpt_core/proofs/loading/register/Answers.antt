@@ -15,7 +15,7 @@ use Rattle.ckpt_core.proofs.Using.Order.{holds}
 use Rattle.ckpt_core.proofs.Loaded.Uses.{ack_registered, count_front, in_front, pins_registered, pins_unused, subtask_unused, take_in_order}
 use Rattle.ckpt_core.proofs.loading.register.Goals as goal
 
--- the next of a list stands behind those before
+-- the next of a list comes after those before
 next_of : (acks : List Acked) (i : ℕ) (a : Acked) → i < length acks → a ≡ get_or acks i a → take (i + 1) acks ≡ take i acks ++ a ∷ []
 next_of acks i a within at = take_more acks i a within ∙ ap (λ z. take i acks ++ z ∷ []) (sym at)
 

@@ -1,4 +1,4 @@
-//! The settings that the tests change where they need others.
+//! The settings of the tests, which change some of them.
 use relkvanu::Settings;
 
 pub const SETTINGS: Settings = Settings {

@@ -1,4 +1,4 @@
--- The calls that take memory in any case may want it.
+-- The calls that always take memory may take it.
 use Rattle.std.proofs.Common.{Some, rules}
 use Rattle.ckpt_ids.specs.declared.call.Call.TheVariants.{Savepoint, Restore, Take, Show}
 use Rattle.ckpt_core.specs.Inside.Parts.{state_of}

@@ -1,4 +1,4 @@
--- A live record is pending or stored, and its metadata do not tell its pins.
+-- A live record is pending or stored, and its metadata does not have its pins.
 use Rattle.std.proofs.Common.{◌≡◌, Option, Some, None, sym, ap, subst, ◌∙◌}
 use Rattle.std.specs.Prelude.{find, IsSome}
 use Rattle.std.specs.Option.{option_copied}
