@@ -1,5 +1,6 @@
 -- The parts after each call are those of the lemmas.
 use Rattle.std.proofs.Common.{sym, subst}
+use Rattle.ckpt_ids.specs.declared.reply.Reply.TheVariants.{AckCompleted}
 use Rattle.ckpt_core.specs.declared.parts.Parts.{Parts}
 use Rattle.ckpt_core.specs.Inside.Parts.{Stays}
 use Rattle.ckpt_ids.proofs.ResultLemmas.{on_each_error}
@@ -41,9 +42,9 @@ last c =
     c.requires.sound c.requires.accepted c.requires.last c.len.ensures c.in_ok-make_room_for_files.ensures.ok c.in_ok-reserve.ensures.kept c.in_ok-reserve.ensures.ok
     c.in_ok-take_ack.ensures.pending c.in_ok-take_ack.ensures.in_order c.in_ok-take_ack.ensures.stored c.in_ok-take_ack.ensures.ok c.finish-done.ensures.value c.finish-done.ensures.rest
 
-pub complete_checkpoint-requires : goal.complete_checkpoint-requires
-complete_checkpoint-requires c =
-    let l = last (goal.at.complete_checkpoint-requires c).After-kind in
+pub complete_checkpoint-dropped-requires : goal.complete_checkpoint-dropped-requires
+complete_checkpoint-dropped-requires c =
+    let l = last (goal.at.complete_checkpoint-dropped-requires c).After-kind in
     let can : CanComplete c.finish-done.new.self = can_complete l in
     record {
       room = can.room;
@@ -56,9 +57,9 @@ complete_checkpoint-requires c =
       few = can.few;
     }
 
-pub complete_savepoint-requires : goal.complete_savepoint-requires
-complete_savepoint-requires c =
-    let l = last (goal.at.complete_savepoint-requires c).After-kind in
+pub complete_savepoint-released-requires : goal.complete_savepoint-released-requires
+complete_savepoint-released-requires c =
+    let l = last (goal.at.complete_savepoint-released-requires c).After-kind in
     let can : CanComplete c.finish-done.new.self = can_complete l in
     record {
       room = can.room;
@@ -73,11 +74,11 @@ complete_savepoint-requires c =
 pub returns-in-Checkpoint-clause-ok : goal.returns-in-Checkpoint-clause-ok
 returns-in-Checkpoint-clause-ok c =
     let l = last (goal.at.returns-in-Checkpoint-clause-ok c).After-kind in
-    let done = c.complete_checkpoint.ensures in
-    checkpoint_answers c.complete_checkpoint.new.self c.complete_checkpoint.result (made_place c.args.self.now c.make_room_for_files.new.self c.len.result c.reserve.new.self c.in_ok-make_room_for_files.ensures.ok c.in_ok-reserve.ensures.kept) l (sym c.in-Checkpoint.ensures) done.parts done.none_ended done.capacity done.reply
+    let done = c.complete_checkpoint-dropped.ensures in
+    checkpoint_answers c.complete_checkpoint-dropped.new.self (AckCompleted c.complete_checkpoint-dropped.result.0 c.complete_checkpoint-dropped.result.1) (made_place c.args.self.now c.make_room_for_files.new.self c.len.result c.reserve.new.self c.in_ok-make_room_for_files.ensures.ok c.in_ok-reserve.ensures.kept) l (sym c.in-Checkpoint.ensures) done.parts done.none_ended done.capacity done.reply
 
 pub returns-in-Savepoint-clause-ok : goal.returns-in-Savepoint-clause-ok
 returns-in-Savepoint-clause-ok c =
     let l = last (goal.at.returns-in-Savepoint-clause-ok c).After-kind in
-    let done = c.complete_savepoint.ensures in
-    savepoint_answers c.complete_savepoint.new.self c.complete_savepoint.result (made_place c.args.self.now c.make_room_for_files.new.self c.len.result c.reserve.new.self c.in_ok-make_room_for_files.ensures.ok c.in_ok-reserve.ensures.kept) l (sym c.in-Savepoint.ensures) done.parts done.none_ended done.capacity done.reply
+    let done = c.complete_savepoint-released.ensures in
+    savepoint_answers c.complete_savepoint-released.new.self (AckCompleted 0 c.complete_savepoint-released.result) (made_place c.args.self.now c.make_room_for_files.new.self c.len.result c.reserve.new.self c.in_ok-make_room_for_files.ensures.ok c.in_ok-reserve.ensures.kept) l (sym c.in-Savepoint.ensures) done.parts done.none_ended done.capacity done.reply
