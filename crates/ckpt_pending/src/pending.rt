@@ -88,7 +88,7 @@ impl Keyed for Pending {
     ghost goes_by_order = { numbers_searched };
 
     fn key(&self) -> CheckpointId {
-        self.id
+        self.id()
     }
 }
 
