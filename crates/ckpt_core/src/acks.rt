@@ -1,6 +1,7 @@
 //! Acknowledgements of records that are pending.
-ghost use Rattle.std.specs.Prelude.{◌≡◌, ◌<◌, ◌≤◌, ◌+◌, ◌-◌, ◌++◌, ◌==◌, find, length, IfOk, OnOk, OnErr, IsSome, true};
+ghost use Rattle.std.specs.Prelude.{◌≡◌, ◌<◌, ◌≤◌, ◌+◌, ◌-◌, ◌++◌, ◌==◌, find, length, IfOk, OnOk, OnErr, IsSome, true, IfErr};
 ghost use Rattle.ckpt_ids.specs.declared.call.Call.TheVariants as call;
+ghost use Rattle.ckpt_core.specs.declared.coordinator.CoreFault.TheVariants.{Memory};
 ghost use Rattle.ckpt_core.specs.Coordinator.{may_want_memory};
 ghost use Rattle.ckpt_core.specs.Inside.Completing.{IsMissing};
 ghost use Rattle.ckpt_core.specs.Inside.FileFacts.{ascending};
@@ -8,6 +9,7 @@ ghost use Rattle.ckpt_core.specs.Inside.Moving.{taken_in, with_room};
 ghost use Rattle.ckpt_core.specs.Inside.Parts.{Answers, AreSound, IsAccepted, Stays, is_known_in, state_of};
 ghost use Rattle.ckpt_core.specs.Inside.RecordFacts.{IsIn, IsInOrder, IsPending, IsStored, Record, id_before};
 
+use crate::coordinator::CoreFault;
 use crate::parts::Parts;
 use ckpt_ids::{CheckpointId, FileId, Files, MOST_FILES, Reply, SubtaskId};
 use std::alloc::{AllocError, Global};
@@ -47,11 +49,12 @@ impl Parts {
         subtask: SubtaskId,
         fresh: &Files,
         reused: &Files,
-    ) -> Result<Reply, AllocError>
+    ) -> Result<Reply, CoreFault>
         requires sound { AreSound self.old }
         requires accepted { IsAccepted self.old (call.Ack now id subtask fresh.now reused.now) }
         ensures ok { IfOk result (Answers self.old self.new (call.Ack now id subtask fresh.now reused.now)) }
         ensures err { OnErr result (Stays self.old self.new) }
+        ensures fault { IfErr result (λ fault. fault ≡ Memory) }
         ensures memory { OnErr result (may_want_memory (state_of self.old) (call.Ack now id subtask fresh.now reused.now) ≡ true) }
     {
         // what the store ensures, which ties its records to the state
@@ -79,13 +82,14 @@ impl Parts {
         fresh: &Files,
         reused: &Files,
         missing: u32,
-    ) -> Result<Reply, AllocError>
+    ) -> Result<Reply, CoreFault>
         requires sound { AreSound self.old }
         requires accepted { IsAccepted self.old (call.Ack now id subtask fresh.now reused.now) }
         requires waiting { IsMissing self.old.pending id missing }
         requires others { 1 < missing }
         ensures ok { IfOk result (Answers self.old self.new (call.Ack now id subtask fresh.now reused.now)) }
         ensures err { OnErr result (Stays self.old self.new) }
+        ensures fault { IfErr result (λ fault. fault ≡ Memory) }
     {
         self.make_room_for_files(fresh.len())?;
         self.take_ack(now, id, subtask, fresh, reused)?;

@@ -1,17 +1,19 @@
 //! The last acknowledgement of a record, which completes it.
-ghost use Rattle.std.specs.Prelude.{◌≡◌, ◌<◌, ◌≤◌, ◌+◌, ◌^◌, ◌++◌, ◌==◌, ℕ, not, filter, find, length, [], IfOk, OnErr, Some, true, false, vec_capacity, vec_len};
+ghost use Rattle.std.specs.Prelude.{◌≡◌, ◌<◌, ◌≤◌, ◌+◌, ◌^◌, ◌++◌, ◌==◌, ℕ, not, filter, find, length, [], IfOk, OnErr, Some, true, false, vec_capacity, vec_len, IfErr};
 ghost use Rattle.ckpt_ids.specs.declared.call.Call.TheVariants as call;
 ghost use Rattle.ckpt_ids.specs.declared.numbers.Kind.TheVariants as kind;
+ghost use Rattle.ckpt_ids.specs.declared.reply.Reply.TheVariants as reply;
+ghost use Rattle.ckpt_core.specs.declared.coordinator.CoreFault.TheVariants.{Memory};
 ghost use Rattle.ckpt_core.specs.Inside.Completing.{IsMissing, superseded, surplus};
 ghost use Rattle.ckpt_core.specs.Inside.FileFacts.{is_known, is_present};
 ghost use Rattle.ckpt_core.specs.Inside.Moving.{checkpoint_completed, completion, savepoint_completed, with_checkpoint};
 ghost use Rattle.ckpt_core.specs.Inside.Parts.{Answers, AreInUseAlone, AreSound, IsAccepted, Stays, present_in};
 ghost use Rattle.ckpt_core.specs.Inside.RecordFacts.{IsAbove, Record, has_savepoint};
 
+use crate::coordinator::CoreFault;
 use crate::parts::Parts;
 use ckpt_ids::{CheckpointId, Files, Kind, Reply, SubtaskId};
 use ckpt_pending::Done;
-use std::alloc::AllocError;
 
 impl Parts {
     /// The pending record has waited for this subtask only, and completes.
@@ -22,20 +24,28 @@ impl Parts {
         subtask: SubtaskId,
         fresh: &Files,
         reused: &Files,
-    ) -> Result<Reply, AllocError>
+    ) -> Result<Reply, CoreFault>
         requires sound { AreSound self.old }
         requires accepted { IsAccepted self.old (call.Ack now id subtask fresh.now reused.now) }
         requires last { IsMissing self.old.pending id 1 }
         ensures ok { IfOk result (Answers self.old self.new (call.Ack now id subtask fresh.now reused.now)) }
         ensures err { OnErr result (Stays self.old self.new) }
+        ensures fault { IfErr result (λ fault. fault ≡ Memory) }
     {
         self.make_room_for_files(fresh.len())?;
         self.store.reserve()?;
         self.take_ack(now, id, subtask, fresh, reused)?;
         let done = self.finish(id);
         match done.kind() {
-            Kind::Checkpoint => Ok(self.complete_checkpoint(done)),
-            Kind::Savepoint => Ok(self.complete_savepoint(done)),
+            Kind::Checkpoint => {
+                let (dropped, released) = self.complete_checkpoint(done);
+                Ok(Reply::AckCompleted { dropped, released })
+            }
+            Kind::Savepoint => {
+                let dropped = 0;
+                let released = self.complete_savepoint(done);
+                Ok(Reply::AckCompleted { dropped, released })
+            }
         }
     }
 
@@ -50,8 +60,8 @@ impl Parts {
     }
 
     /// Keeps a completed savepoint, and hands out what its end as a pending record releases. Takes
-    /// no memory.
-    fn complete_savepoint(&mut self, done: Done) -> Reply
+    /// no memory. Returns how many files were released.
+    fn complete_savepoint(&mut self, done: Done) -> u64
         requires room { 1 ≤ self.old.store.spare }
         requires savepoint { done.kind ≡ kind.Savepoint }
         requires new { has_savepoint self.old.store done.id ≡ false }
@@ -62,20 +72,17 @@ impl Parts {
         ensures parts { self.new ≡ savepoint_completed self.old done self.new }
         ensures none_ended { self.new.ended.items ≡ [] }
         ensures capacity { vec_capacity self.new.ended ≡ vec_capacity self.old.ended }
-        ensures reply { result ≡ completion self.old done [] }
+        ensures reply { reply.AckCompleted 0 result ≡ completion self.old done [] }
     {
         let id = done.id();
         self.store.add_savepoint(done);
-        let released = self.hand_out_after(id);
-        Reply::AckCompleted {
-            dropped: 0,
-            released,
-        }
+        self.hand_out_after(id)
     }
 
     /// Keeps a completed checkpoint, drops what it supersedes, and hands out what this and its end
-    /// as a pending record release. Takes no memory.
-    fn complete_checkpoint(&mut self, done: Done) -> Reply
+    /// as a pending record release. Takes no memory. Returns how many records were dropped, and how
+    /// many files were released.
+    fn complete_checkpoint(&mut self, done: Done) -> (u32, u64)
         requires room { 1 ≤ self.old.store.spare }
         requires checkpoint { done.kind ≡ kind.Checkpoint }
         requires above { IsAbove self.old.store.checkpoints done.id }
@@ -87,7 +94,7 @@ impl Parts {
         ensures parts { self.new ≡ checkpoint_completed self.old done (superseded self.old.pending self.old.store done) self.new }
         ensures none_ended { self.new.ended.items ≡ [] }
         ensures capacity { vec_capacity self.new.ended ≡ vec_capacity self.old.ended }
-        ensures reply { result ≡ completion self.old done (superseded self.old.pending self.old.store done) }
+        ensures reply { reply.AckCompleted result.0 result.1 ≡ completion self.old done (superseded self.old.pending self.old.store done) }
     {
         let id = done.id();
         self.pending.note_subsumed(id, &mut self.ended);
@@ -98,7 +105,7 @@ impl Parts {
         self.failures.reset();
         let moment = self.clock.read(0);
         self.clock.completed(moment);
-        Reply::AckCompleted { dropped, released }
+        (dropped, released)
     }
 
     /// Keeps a completed checkpoint, and notes the one that is past the number retained.

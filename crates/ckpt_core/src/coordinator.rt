@@ -1,8 +1,9 @@
 //! The coordinator as callers see it: how it is opened, and the call that makes all others.
-ghost use Rattle.std.specs.Prelude.{◌≡◌, ◌↔◌, true, false, None, Some, Err, IfOk, OnErr};
+ghost use Rattle.std.specs.Prelude.{◌≡◌, ◌↔◌, true, false, None, Some, Err, IfOk, OnErr, IfErr};
 ghost use Rattle.std.specs.Result.{result_err};
 ghost use Rattle.ckpt_ids.specs.declared.reply.Answer.TheVariants.{Done};
 ghost use Rattle.ckpt_ids.specs.declared.reply.Refusal.{Refusal};
+ghost use Rattle.ckpt_core.specs.declared.coordinator.CoreFault.TheVariants.{Memory};
 ghost use Rattle.ckpt_core.specs.Coordinator.{IsCall, may_want_memory, open_fault, opened, refusal, step};
 ghost use Rattle.ckpt_core.specs.Inside.Parts.{Answers, AreSound, IsAccepted, Stays, is_report, never_fails, state_of};
 
@@ -161,7 +162,7 @@ impl Core {
         match call {
             Call::Deleted { file } => self.parts.deleted(*file).map_err(CoreFault::Refused),
             Call::Undeleted { file } => self.parts.undeleted(*file).map_err(CoreFault::Refused),
-            _ => Ok(self.parts.answer(call)?),
+            _ => self.parts.answer(call),
         }
     }
 }
@@ -184,12 +185,13 @@ impl Parts {
     ///
     /// Each kind of call has a function of its own, because a function clears the locals of
     /// everything that is inlined into it.
-    fn answer(&mut self, call: &Call) -> Result<Reply, AllocError>
+    fn answer(&mut self, call: &Call) -> Result<Reply, CoreFault>
         requires sound { AreSound self.old }
         requires accepted { IsAccepted self.old call.now }
         requires other { is_report call.now ≡ false }
         ensures ok { IfOk result (Answers self.old self.new call.now) }
         ensures err { OnErr result (Stays self.old self.new) }
+        ensures fault { IfErr result (λ fault. fault ≡ Memory) }
         ensures memory { OnErr result (may_want_memory (state_of self.old) call.now ≡ true) }
     {
         match call {

@@ -1,17 +1,18 @@
 //! Calls that end records: declines, disposals, restores and the cancellation of the job.
-ghost use Rattle.std.specs.Prelude.{◌≡◌, ℕ, ◌||◌, true, [], length, Some, None, IfOk, OnErr};
+ghost use Rattle.std.specs.Prelude.{◌≡◌, ℕ, ◌||◌, true, [], length, Some, None, IfOk, OnErr, IfErr};
 ghost use Rattle.ckpt_ids.specs.declared.call.Target.TheVariants.{Savepoint};
 ghost use Rattle.ckpt_ids.specs.declared.call.Call.TheVariants as call;
+ghost use Rattle.ckpt_core.specs.declared.coordinator.CoreFault.TheVariants.{Memory};
 ghost use Rattle.ckpt_core.specs.Inside.Parts.{Answers, AreSound, AreTied, Drops, IsAccepted, Stays, records_in, state_of};
 ghost use Rattle.ckpt_core.specs.Inside.RecordFacts.{IsInOrder, id_before, is_done_checkpoint, is_pending};
 ghost use Rattle.ckpt_core.specs.Refusals.{is_done_savepoint};
 ghost use Rattle.ckpt_core.specs.State.{choice_of, drop, released_by};
 ghost use Rattle.ckpt_core.specs.Steps.{cancelled, dropped_by, failed_over, rolled_back, with_base};
 
+use crate::coordinator::CoreFault;
 use crate::mode::Mode;
 use crate::parts::Parts;
 use ckpt_ids::{CheckpointId, Choice, Kind, Reply, Shape, SubtaskId, Target};
-use std::alloc::AllocError;
 
 impl Parts {
     /// The job fails over: all pending records are dropped, and nothing is triggered until the job
@@ -130,11 +131,12 @@ impl Parts {
         now: u64,
         target: Target,
         shape: &Shape,
-    ) -> Result<Reply, AllocError>
+    ) -> Result<Reply, CoreFault>
         requires sound { AreSound self.old }
         requires accepted { IsAccepted self.old (call.Restore now target (Some shape.now)) }
         ensures ok { IfOk result (Answers self.old self.new (call.Restore now target (Some shape.now))) }
         ensures err { OnErr result (Stays self.old self.new) }
+        ensures fault { IfErr result (λ fault. fault ≡ Memory) }
     {
         let shape = shape.copy()?;
         let reply = self.restore(now, target);

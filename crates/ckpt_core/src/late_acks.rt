@@ -1,11 +1,13 @@
 //! Acknowledgements of records that have ended.
-ghost use Rattle.std.specs.Prelude.{◌≡◌, ◌<◌, ◌≤◌, ℕ, not, filter, length, count_by, IfOk, OnOk, OnErr, None, true, false};
+ghost use Rattle.std.specs.Prelude.{◌≡◌, ◌<◌, ◌≤◌, ℕ, not, filter, length, count_by, IfOk, OnOk, OnErr, None, true, false, IfErr};
 ghost use Rattle.ckpt_ids.specs.declared.call.Call.TheVariants as call;
+ghost use Rattle.ckpt_core.specs.declared.coordinator.CoreFault.TheVariants.{Memory};
 ghost use Rattle.ckpt_core.specs.Coordinator.{may_want_memory, pending_of};
 ghost use Rattle.ckpt_core.specs.Inside.FileFacts.{AreDistinct, is_in, is_known};
 ghost use Rattle.ckpt_core.specs.Inside.Moving.{with_waiting};
 ghost use Rattle.ckpt_core.specs.Inside.Parts.{Answers, AreSound, IsAccepted, Stays, is_known_in, present_in, state_of};
 
+use crate::coordinator::CoreFault;
 use crate::parts::Parts;
 use ckpt_ids::{CheckpointId, FileId, Files, Reply, SubtaskId};
 use std::alloc::AllocError;
@@ -20,12 +22,13 @@ impl Parts {
         subtask: SubtaskId,
         fresh: &Files,
         reused: &Files,
-    ) -> Result<Reply, AllocError>
+    ) -> Result<Reply, CoreFault>
         requires sound { AreSound self.old }
         requires accepted { IsAccepted self.old (call.Ack now id subtask fresh.now reused.now) }
         requires ended { pending_of (state_of self.old).records id ≡ None }
         ensures ok { IfOk result (Answers self.old self.new (call.Ack now id subtask fresh.now reused.now)) }
         ensures err { OnErr result (Stays self.old self.new) }
+        ensures fault { IfErr result (λ fault. fault ≡ Memory) }
         ensures memory { OnErr result (may_want_memory (state_of self.old) (call.Ack now id subtask fresh.now reused.now) ≡ true) }
     {
         let unknown = self.unknown_files(fresh)?;

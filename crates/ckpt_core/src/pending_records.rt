@@ -4,11 +4,9 @@ ghost use Rattle.std.specs.List.{list_any};
 ghost use Rattle.ckpt_core.specs.Inside.PendingRecords.{Expects, acked, retracted};
 ghost use Rattle.ckpt_core.specs.Inside.RecordFacts.{IsIn, IsInOrder, IsPending, Record, has_acknowledged, id_before, is_checkpoint};
 ghost use Rattle.ckpt_core.specs.Reads.{has_come, live_of};
-ghost use Rattle.ckpt_ids.specs.Places.{LiesAt};
-ghost use Rattle.ckpt_store.specs.Storing.{has_id, id_of};
 
 use crate::queries::{Live, live_pending};
-use ckpt_ids::{CheckpointId, Files, Kind, SubtaskId};
+use ckpt_ids::{CheckpointId, Files, Kind, SubtaskId, place_of, take_out};
 use ckpt_pending::Pending;
 use std::alloc::{AllocError, Global};
 use std::collections::VecDeque;
@@ -61,8 +59,10 @@ impl PendingRecords {
         ensures in_order { IsInOrder id_before self.now }
         ensures pending { (r : Record) → IsIn r self.now → IsPending r }
     {
-        let place = place_of(&self.records, id)?;
-        self.records.get(place)
+        match place_of(&self.records, id) {
+            Ok(place) => self.records.get(place),
+            Err(_) => None,
+        }
     }
 
     /// Adds a record with a greater number than all others. Fails only if memory runs out, and then
@@ -116,8 +116,10 @@ impl PendingRecords {
         ensures value { result ≡ find (λ r. r.id == id) self.old }
         ensures rest { self.new ≡ filter (λ r. not (r.id == id)) self.old }
     {
-        let place = place_of(&self.records, id)?;
-        let removed = self.records.remove(place).unwrap();
+        let Ok(place) = place_of(&self.records, id) else {
+            return None;
+        };
+        let removed = take_out(&mut self.records, place);
         let gone = usize::from(is_checkpoint(&removed));
         self.checkpoints -= gone;
         Some(removed)
@@ -224,21 +226,6 @@ impl PendingRecords {
                 ended.push_reserved(pending.id());
             }
         }
-    }
-}
-
-/// The place of the record with this number. Mostly that is the last one, so it is checked before a
-/// binary search.
-fn place_of(records: &VecDeque<Pending>, id: CheckpointId) -> Option<usize>
-    requires { IsInOrder id_before records.now.items }
-    ensures found { IfSome result (LiesAt id_of id records.now.items) }
-    ensures absent { IfNone result (list_any (has_id id) records.now.items ≡ false) }
-{
-    match records.back() {
-        Some(last) if last.id() == id => Some(records.len() - 1),
-        _ => records
-            .binary_search_by_key(&id, |pending| pending.id())
-            .ok(),
     }
 }
 

@@ -2,11 +2,13 @@
 ghost use Rattle.std.specs.Prelude.{◌≡◌, Some, IsSome, IfOk, IfErr, OnErr, option_map};
 ghost use Rattle.ckpt_ids.specs.Records.{metadata_of};
 ghost use Rattle.ckpt_ids.specs.declared.call.Call.TheVariants as call;
+ghost use Rattle.ckpt_core.specs.declared.coordinator.CoreFault.TheVariants.{Memory};
 ghost use Rattle.ckpt_core.specs.Inside.Parts.{Answers, AreSound, IsAccepted, Stays, records_in, state_of};
 ghost use Rattle.ckpt_core.specs.Inside.RecordFacts.{IsInOrder, id_before};
 ghost use Rattle.ckpt_core.specs.Refusals.{refusal};
 ghost use Rattle.ckpt_core.specs.State.{record_of};
 
+use crate::coordinator::CoreFault;
 use crate::parts::Parts;
 use ckpt_ids::{CheckpointId, FileId, Metadata, Refusal, Reply};
 use std::alloc::AllocError;
@@ -14,11 +16,12 @@ use std::alloc::AllocError;
 impl Parts {
     /// Fetches files that wait for deletion.
     #[inline(never)]
-    pub(crate) fn take(&mut self, most: u64) -> Result<Reply, AllocError>
+    pub(crate) fn take(&mut self, most: u64) -> Result<Reply, CoreFault>
         requires sound { AreSound self.old }
         requires accepted { IsAccepted self.old (call.Take most) }
         ensures ok { IfOk result (Answers self.old self.new (call.Take most)) }
         ensures err { OnErr result (Stays self.old self.new) }
+        ensures fault { IfErr result (λ fault. fault ≡ Memory) }
     {
         Ok(Reply::Taken(self.outbox.take(most)?))
     }
@@ -53,11 +56,12 @@ impl Parts {
 
     /// The metadata of a live record.
     #[inline(never)]
-    pub(crate) fn show(&mut self, id: CheckpointId) -> Result<Reply, AllocError>
+    pub(crate) fn show(&mut self, id: CheckpointId) -> Result<Reply, CoreFault>
         requires sound { AreSound self.old }
         requires accepted { IsAccepted self.old (call.Show id) }
         ensures ok { IfOk result (Answers self.old self.new (call.Show id)) }
         ensures err { OnErr result (Stays self.old self.new) }
+        ensures fault { IfErr result (λ fault. fault ≡ Memory) }
     {
         Ok(Reply::Shown(self.metadata(id)?))
     }

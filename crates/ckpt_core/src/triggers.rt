@@ -1,14 +1,16 @@
 //! Calls that trigger records: ticks, which let old ones expire first, and savepoints.
-ghost use Rattle.std.specs.Prelude.{◌≡◌, ℕ, ◌<◌, ◌^◌, ◌≤◌, ◌+◌, ◌-◌, [], length, OnOk, unwrap_or, IfOk, OnErr, true, false, vec_capacity};
+ghost use Rattle.std.specs.Prelude.{◌≡◌, ℕ, ◌<◌, ◌^◌, ◌≤◌, ◌+◌, ◌-◌, [], length, OnOk, unwrap_or, IfOk, OnErr, true, false, vec_capacity, IfErr};
 ghost use Rattle.ckpt_ids.specs.declared.call.Call.TheVariants as call;
 ghost use Rattle.ckpt_ids.specs.declared.reply.Answer.TheVariants as answer;
 ghost use Rattle.ckpt_ids.specs.declared.reply.Reply.TheVariants as reply;
+ghost use Rattle.ckpt_core.specs.declared.coordinator.CoreFault.TheVariants.{Memory};
 ghost use Rattle.ckpt_core.specs.declared.mode.Mode.TheVariants.{Running};
 ghost use Rattle.ckpt_core.specs.Coordinator.{IsSound, answer_wants, may_want_memory};
 ghost use Rattle.ckpt_core.specs.Inside.Expiring.{IsExpiry};
 ghost use Rattle.ckpt_core.specs.Inside.Parts.{Answers, AreSound, AreTied, IsAccepted, Stays, records_in, state_of};
 ghost use Rattle.ckpt_core.specs.Inside.Starting.{Go, HasNoUse, IsIn, IsInOrder, NUMBERS_END, Pin, Starts, count, files_chosen, held_at, pinned, tick, triggered, use_before};
 
+use crate::coordinator::CoreFault;
 use crate::parts::Parts;
 use ckpt_ids::{CheckpointId, Choice, Kind, Reply, Shape, TickEnd};
 use ckpt_pending::Pending;
@@ -123,11 +125,12 @@ impl Parts {
 
     /// Triggers a savepoint.
     #[inline(never)]
-    pub(crate) fn savepoint(&mut self, now: u64) -> Result<Reply, AllocError>
+    pub(crate) fn savepoint(&mut self, now: u64) -> Result<Reply, CoreFault>
         requires sound { AreSound self.old }
         requires accepted { IsAccepted self.old (call.Savepoint now) }
         ensures ok { IfOk result (Answers self.old self.new (call.Savepoint now)) }
         ensures err { OnErr result (Stays self.old self.new) }
+        ensures fault { IfErr result (λ fault. fault ≡ Memory) }
     {
         let before = self.clock;
         self.clock.see(now);
@@ -135,7 +138,7 @@ impl Parts {
             Ok(id) => Ok(Reply::SavepointTriggered(id)),
             Err(error) => {
                 self.clock = before;
-                Err(error)
+                Err(CoreFault::from(error))
             }
         }
     }

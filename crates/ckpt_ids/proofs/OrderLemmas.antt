@@ -1,4 +1,4 @@
--- The orders of subtasks, holders and uses are strict.
+-- The orders of holders and uses are strict.
 use Rattle.std.proofs.Common.{◌≡◌, ℕ, Bool, true, false, ◌&&◌, ◌||◌, ltb, eqb, refl, sym, ap, ◌∙◌, ⊎_elim}
 use Rattle.std.specs.Bool.{Decides}
 use Rattle.std.proofs.lemmas.Bool.{both_ways, or_cases, or_parts, or_from, or_left, or_right, and_parts, and_cases, and_from, and_right}
@@ -6,7 +6,8 @@ use Rattle.std.proofs.lemmas.Bool.Decides.{Decides-eqb}
 use Rattle.ckpt_ids.specs.declared.subtask.SubtaskId.{SubtaskId}
 use Rattle.ckpt_ids.specs.Ordered.{IsStrictOrder}
 use Rattle.ckpt_ids.specs.Shapes.{same_subtask}
-use Rattle.ckpt_ids.specs.Acknowledged.{is_before}
+use Rattle.ckpt_ids.specs.SubtaskOrder.{same_parts}
+pub use Rattle.ckpt_ids.specs.SubtaskOrder.{subtasks_in_order}
 use Rattle.ckpt_ids.specs.Records.{Use, Holder, Subtask, Pin, holder_before, same_holder, use_before}
 use Rattle.ckpt_ids.proofs.AscendingLemmas.{numbers_in_order}
 
@@ -52,16 +53,6 @@ by_both-strict f g before same behind o p decides whole = record {
   transitive = by_both-transitive f g before same behind o p decides;
   total = λ x y h k. let parts = by_both-total f g before same behind o p decides x y h k in whole x y parts.0 parts.1;
 }
-
-same_parts : (s t : SubtaskId) → s.vertex ≡ t.vertex → s.index ≡ t.index → s ≡ t
-same_parts s t e h =
-    let make : ℕ → ℕ → SubtaskId = λ v i. record { vertex = v; index = i } in
-    ap (λ v. make v s.index) e ∙ ap (make t.vertex) h
-
-pub subtasks_in_order : IsStrictOrder is_before
-subtasks_in_order =
-    by_both-strict (λ (s : SubtaskId). s.vertex) (λ (s : SubtaskId). s.index) ltb eqb ltb numbers_in_order numbers_in_order Decides-eqb
-    same_parts
 
 pub same_subtask-Decides : (s t : SubtaskId) → Decides (same_subtask s t) (s ≡ t)
 same_subtask-Decides s t = (

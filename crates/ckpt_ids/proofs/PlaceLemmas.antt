@@ -8,15 +8,8 @@ use Rattle.std.specs.declared.cmp.Ordering.TheVariants.{Less, Equal, Greater}
 use Rattle.std.proofs.lemmas.Bool.{both_ways, cases_Bool, cases_lt, cond-true, cond-false, or_parts}
 use Rattle.std.proofs.lemmas.List.{get_or_read_under}
 use Rattle.ckpt_ids.specs.Ordered.{ComesBefore, IsIn, IsInOrder, IsStrictOrder, put}
-use Rattle.ckpt_ids.specs.Places.{BelongsAt, LiesAt}
+use Rattle.ckpt_ids.specs.Places.{BelongsAt, IsSearchOrder, LiesAt}
 use Rattle.ckpt_ids.proofs.OrderedLemmas.{ComesBefore-at, ComesBefore-from, IsIn-get_or, IsIn-map, IsIn-place, IsInOrder-at, filter-all, filter-none, list_any-from_IsIn, list_any-none}
-
--- a comparison that goes by the order
-pub record IsSearchOrder {K : Type 0} (cmp : K → K → Ordering) (before : K → K → Bool) : Type 0 where
-  pub less : (a b : K) → cmp a b ≡ Less → before a b ≡ true
-  pub equal : (a b : K) → cmp a b ≡ Equal → a ≡ b
-  pub greater : (a b : K) → cmp a b ≡ Greater → before b a ≡ true
-  pub rises : (a b k : K) → before a b ≡ true → ordering_index (cmp a k) ≤ ordering_index (cmp b k)
 
 pub find-none : {X : Type 0} (p : X → Bool) (xs : List X) → list_any p xs ≡ false → find p xs ≡ None
 find-none p [] h = refl

@@ -8,3 +8,4 @@ pub mod Places
 pub mod Records
 pub mod RefusalTexts
 pub mod Shapes
+pub mod SubtaskOrder

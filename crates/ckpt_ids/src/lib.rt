@@ -14,6 +14,7 @@ pub mod files;
 pub mod handed;
 pub mod limits;
 pub mod numbers;
+pub mod places;
 mod refusal_text;
 pub mod reply;
 pub mod shape;
@@ -29,6 +30,7 @@ pub use limits::{
     MOST_SAVEPOINTS, MOST_SUBTASKS, MOST_TOLERABLE, MOST_VERTICES, NUMBERS_END,
 };
 pub use numbers::{CheckpointId, FileId, Kind};
+pub use places::{Keyed, place_of, take_out};
 pub use reply::{Answer, Choice, Refusal, Reply, TickEnd};
 pub use shape::{Shape, ShapeFault};
 pub use subtask::SubtaskId;

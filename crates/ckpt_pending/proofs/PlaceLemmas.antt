@@ -16,9 +16,6 @@ use Rattle.ckpt_pending.specs.Acknowledging.{subtask_of}
 use Rattle.ckpt_pending.proofs.AckLemmas.{acked}
 use Rattle.ckpt_pending.proofs.SubtaskLemmas.{same_subtask-other}
 
-pub less_parts : (a b c d : ℕ) → is_some_and is_lt (partial_ordering_then (Some (nat_cmp a b)) (Some (nat_cmp c d))) ≡ true → (ltb a b || (eqb a b && ltb c d)) ≡ true
-less_parts a b c d h = grind (arith, nat_tests)
-
 module _ (s : SubtaskId) (acks : List Acked) (place : ℕ) where
   yes : (a : Acked) → a.subtask ≡ s → same_subtask s a.subtask ≡ true
   yes a e = (same_subtask-Decides s a.subtask).1 (sym e)

@@ -6,7 +6,7 @@ ghost use Rattle.ckpt_ids.specs.Records.{Record, missing, metadata_of, uses};
 ghost use Rattle.ckpt_pending.specs.Acknowledging.{IsDone, IsPending, files_from};
 
 use crate::pending::Pending;
-use ckpt_ids::{CheckpointId, FileId, Files, Kind, Metadata, SubtaskId};
+use ckpt_ids::{CheckpointId, FileId, Files, Keyed, Kind, Metadata, SubtaskId};
 use std::alloc::AllocError;
 use std::marker::Model;
 
@@ -28,6 +28,26 @@ impl Model for Done {
     ghost view = { λ d. record d.record { done = true } };
 
     ghost invariant = { λ d. IsDone (record d.record { done = true }) };
+}
+
+impl Keyed for Done {
+    ghost use Rattle.std.specs.Prelude.{nat_lt};
+    ghost use Rattle.ckpt_ids.proofs.AscendingLemmas.{numbers_in_order};
+    ghost use Rattle.ckpt_ids.proofs.ComparisonLemmas.{numbers_searched};
+
+    type Key = CheckpointId;
+
+    ghost key_of = { λ r. r.id };
+
+    ghost before = { nat_lt };
+
+    ghost is_order = { numbers_in_order };
+
+    ghost goes_by_order = { numbers_searched };
+
+    fn key(&self) -> CheckpointId {
+        self.id()
+    }
 }
 
 impl Done {

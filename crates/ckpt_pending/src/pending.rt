@@ -2,15 +2,16 @@
 
 ghost use Rattle.std.specs.Prelude.{◌≡◌, ◌+◌, ◌↔◌, ◌<◌, ◌≤◌, Bool, true, false, not, [], filter, length, Ok, Err, IfOk, IfErr, OnOk, OnErr, IsOk, IsErr, option_copied};
 ghost use Rattle.std.specs.List.{flat_map, insert};
-ghost use Rattle.ckpt_ids.specs.Acknowledged.{AreInSubtaskOrder, is_before, put_ack};
+ghost use Rattle.ckpt_ids.specs.Acknowledged.{put_ack};
 ghost use Rattle.ckpt_ids.specs.Ascending.{ascending_set};
-ghost use Rattle.ckpt_ids.specs.Places.{BelongsAt, LiesAt};
 ghost use Rattle.ckpt_ids.specs.Records.{Record, acknowledged, has_acknowledged, missing, metadata_of};
 ghost use Rattle.ckpt_ids.specs.Shapes.{is_subtask, same_subtask};
 ghost use Rattle.ckpt_pending.specs.Acknowledging.{HasAlready, IsPending, files_from, subtask_of, without_ack};
 
 use crate::done::Done;
-use ckpt_ids::{Acked, Acks, CheckpointId, FileId, Files, Kind, Metadata, Shape, SubtaskId};
+use ckpt_ids::{
+    Acked, Acks, CheckpointId, FileId, Files, Keyed, Kind, Metadata, Shape, SubtaskId, place_of,
+};
 use std::alloc::{AllocError, Global};
 use std::collections::VecDeque;
 use std::marker::Model;
@@ -69,6 +70,26 @@ impl Model for Pending {
     ghost view = { λ p. pending_record p.id p.kind p.shape p.started p.acks.items };
 
     ghost invariant = { λ p. IsCounted (pending_record p.id p.kind p.shape p.started p.acks.items) p.missing };
+}
+
+impl Keyed for Pending {
+    ghost use Rattle.std.specs.Prelude.{nat_lt};
+    ghost use Rattle.ckpt_ids.proofs.AscendingLemmas.{numbers_in_order};
+    ghost use Rattle.ckpt_ids.proofs.ComparisonLemmas.{numbers_searched};
+
+    type Key = CheckpointId;
+
+    ghost key_of = { λ r. r.id };
+
+    ghost before = { nat_lt };
+
+    ghost is_order = { numbers_in_order };
+
+    ghost goes_by_order = { numbers_searched };
+
+    fn key(&self) -> CheckpointId {
+        self.id()
+    }
 }
 
 impl Pending {
@@ -226,20 +247,6 @@ impl Pending {
         } else {
             Err(self)
         }
-    }
-}
-
-/// The place of this subtask's acknowledgement, or an `Err` with the place where it belongs. The
-/// last one is checked before a binary search.
-#[inline(always)]
-fn place_of(acks: &VecDeque<Acked>, subtask: SubtaskId) -> Result<usize, usize>
-    requires { AreInSubtaskOrder acks.now.items }
-    ensures found { IfOk result (LiesAt subtask_of subtask acks.now.items) }
-    ensures absent { IfErr result (BelongsAt is_before subtask_of subtask acks.now.items) }
-{
-    match acks.back() {
-        Some(last) if last.subtask < subtask => Err(acks.len()),
-        _ => acks.binary_search_by_key(&subtask, |acked| acked.subtask),
     }
 }
 

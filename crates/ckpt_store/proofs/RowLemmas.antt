@@ -24,17 +24,13 @@ module _ (id : ℕ) (records : List Record) where
 
   -- what a search answers
 
-  none_there : (r : Result ℕ ℕ) → IfErr r (BelongsAt ltb id_of id records) → OnErr r (list_any (has_id id) records ≡ false)
-  none_there (Ok place) h = tt
-  none_there (Err place) h = none_belongs id_of numbers_in_order id (has_id id) yes no records place h
-
-  pub search_absent : (r : Result ℕ ℕ) → AreRising records → IsSearchInRange r (length records) → IsBinarySearchResult (λ q. nat_cmp q.id id) records r → OnErr r (list_any (has_id id) records ≡ false)
-  search_absent r a within h = none_there r (rows.search_absent id_of numbers_in_order numbers_searched id records r a within h)
-
   pub partitioned : AreRising records → IsPartitionedBy (λ r. ltb r.id id) records
   partitioned a = rows.partitioned id_of numbers_in_order id records a
 
   -- at a place
+
+  pub none_place : (place : ℕ) → BelongsAt ltb id_of id records place → list_any (has_id id) records ≡ false
+  none_place place h = none_belongs id_of numbers_in_order id (has_id id) yes no records place h
 
   pub has_place : (place : ℕ) → LiesAt id_of id records place → list_any (has_id id) records ≡ true
   has_place place h = any_lies id_of numbers_in_order id (has_id id) yes no records place h

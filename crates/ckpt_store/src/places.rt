@@ -1,11 +1,9 @@
-//! Where a record lies in a row, or would lie.
+//! Where a record belongs in a row, and room for it.
 
-ghost use Rattle.std.specs.Prelude.{◌≡◌, ◌≤◌, ◌+◌, true, false, nat_lt, length, IfOk, OnOk, OnErr};
-ghost use Rattle.std.specs.List.{list_any};
+ghost use Rattle.std.specs.Prelude.{◌≡◌, ◌≤◌, ◌+◌, true, false, nat_lt, length, OnOk};
 ghost use Rattle.std.specs.List.Sorted.{IsPartitionPoint};
 ghost use Rattle.std.specs.VecDeque.{deque_len, deque_capacity};
-ghost use Rattle.ckpt_ids.specs.Places.{LiesAt};
-ghost use Rattle.ckpt_store.specs.Storing.{AreRising, has_id, id_of};
+ghost use Rattle.ckpt_store.specs.Storing.{AreRising};
 
 use ckpt_ids::CheckpointId;
 use ckpt_pending::Done;
@@ -14,27 +12,6 @@ use std::collections::VecDeque;
 
 /// The room of a queue when it grows for the first time.
 const FIRST_ROOM: usize = 4;
-
-/// The place of the record with this number, or an `Err` if there is none. Mostly a caller wants
-/// the last or the first, so these two are checked before a binary search.
-#[inline(always)]
-pub(crate) fn place_of(queue: &VecDeque<Done>, id: CheckpointId) -> Result<usize, usize>
-    requires { AreRising queue.now.items }
-    ensures found { IfOk result (LiesAt id_of id queue.now.items) }
-    ensures absent { OnErr result (list_any (has_id id) queue.now.items ≡ false) }
-{
-    if let Some(last) = queue.back() {
-        if last.id() == id {
-            return Ok(queue.len() - 1);
-        }
-    }
-    if let Some(first) = queue.front() {
-        if first.id() == id {
-            return Ok(0);
-        }
-    }
-    queue.binary_search_by_key(&id, |done| done.id())
-}
 
 /// Where a record with this number belongs: before the first whose number is not below it. Mostly
 /// that is the end, so the last record is checked before a binary search.

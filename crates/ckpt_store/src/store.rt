@@ -7,8 +7,8 @@ ghost use Rattle.ckpt_ids.specs.declared.numbers.Kind.TheVariants as kind;
 ghost use Rattle.ckpt_ids.specs.Ordered.{put};
 ghost use Rattle.ckpt_store.specs.Storing.{Stored, IsStored, IsAbove, by_id, has_id, has_savepoint, completing, past_retained, lowest, choice_of, record_of};
 
-use crate::places::{make_room, place_for, place_of};
-use ckpt_ids::{CheckpointId, Choice, Kind};
+use crate::places::{make_room, place_for};
+use ckpt_ids::{CheckpointId, Choice, Kind, place_of};
 use ckpt_pending::Done;
 use std::alloc::{AllocError, Global};
 use std::collections::VecDeque;

@@ -1,5 +1,6 @@
 -- The parts after each call are those of the lemmas.
 use Rattle.std.proofs.Common.{sym, subst}
+use Rattle.ckpt_ids.specs.declared.reply.Reply.TheVariants.{AckCompleted}
 use Rattle.ckpt_core.specs.declared.parts.Parts.{Parts}
 use Rattle.ckpt_core.specs.Inside.Parts.{Stays}
 use Rattle.ckpt_ids.proofs.ResultLemmas.{on_each_error}
@@ -7,6 +8,7 @@ use Rattle.ckpt_core.proofs.Acknowledging.States.{roomier_accepted, roomier_soun
 use Rattle.ckpt_core.proofs.Completing.Answers.{checkpoint_answers, savepoint_answers}
 use Rattle.ckpt_core.proofs.Completing.Calls.{IsLast, CanComplete, can_complete, last_above, last_made, last_new, made_place, none_missing}
 use Rattle.ckpt_core.proofs.parts.Parts.ack_last.Goals as goal
+use Rattle.ckpt_core.proofs.parts.Parts.ack_last.Goals.{After-kind}
 
 pub returns-in_err-reserve-clause-err : goal.returns-in_err-reserve-clause-err
 returns-in_err-reserve-clause-err c =
@@ -33,12 +35,16 @@ finish-done-requires c =
     c.in_ok-take_ack.ensures.pending c.in_ok-take_ack.ensures.in_order c.in_ok-take_ack.ensures.stored c.requires.last)
     c.requires.last.counted c.in_ok-take_ack.ensures.ok
 
-pub complete_checkpoint-requires : goal.complete_checkpoint-requires
-complete_checkpoint-requires c =
-    let l : IsLast (record c.make_room_for_files.new.self { store = c.reserve.new.self }) c.finish-done.new.self c.args.now c.args.id c.args.subtask c.args.fresh.now c.args.reused.now c.requires.last.lacking c.finish-done.result =
+-- the record is complete once its last acknowledgement is taken and it is taken out
+last : (c : After-kind) → IsLast (record c.make_room_for_files.new.self { store = c.reserve.new.self }) c.finish-done.new.self c.args.now c.args.id c.args.subtask c.args.fresh.now c.args.reused.now c.requires.last.lacking c.finish-done.result
+last c =
     last_made c.args.self.now c.make_room_for_files.new.self c.take_ack.new.self c.finish-done.new.self c.finish-done.result c.args.now c.args.subtask c.args.fresh.now c.args.reused.now c.len.result c.reserve.new.self
     c.requires.sound c.requires.accepted c.requires.last c.len.ensures c.in_ok-make_room_for_files.ensures.ok c.in_ok-reserve.ensures.kept c.in_ok-reserve.ensures.ok
-    c.in_ok-take_ack.ensures.pending c.in_ok-take_ack.ensures.in_order c.in_ok-take_ack.ensures.stored c.in_ok-take_ack.ensures.ok c.finish-done.ensures.value c.finish-done.ensures.rest in
+    c.in_ok-take_ack.ensures.pending c.in_ok-take_ack.ensures.in_order c.in_ok-take_ack.ensures.stored c.in_ok-take_ack.ensures.ok c.finish-done.ensures.value c.finish-done.ensures.rest
+
+pub complete_checkpoint-dropped-requires : goal.complete_checkpoint-dropped-requires
+complete_checkpoint-dropped-requires c =
+    let l = last (goal.at.complete_checkpoint-dropped-requires c).After-kind in
     let can : CanComplete c.finish-done.new.self = can_complete l in
     record {
       room = can.room;
@@ -51,12 +57,9 @@ complete_checkpoint-requires c =
       few = can.few;
     }
 
-pub complete_savepoint-requires : goal.complete_savepoint-requires
-complete_savepoint-requires c =
-    let l : IsLast (record c.make_room_for_files.new.self { store = c.reserve.new.self }) c.finish-done.new.self c.args.now c.args.id c.args.subtask c.args.fresh.now c.args.reused.now c.requires.last.lacking c.finish-done.result =
-    last_made c.args.self.now c.make_room_for_files.new.self c.take_ack.new.self c.finish-done.new.self c.finish-done.result c.args.now c.args.subtask c.args.fresh.now c.args.reused.now c.len.result c.reserve.new.self
-    c.requires.sound c.requires.accepted c.requires.last c.len.ensures c.in_ok-make_room_for_files.ensures.ok c.in_ok-reserve.ensures.kept c.in_ok-reserve.ensures.ok
-    c.in_ok-take_ack.ensures.pending c.in_ok-take_ack.ensures.in_order c.in_ok-take_ack.ensures.stored c.in_ok-take_ack.ensures.ok c.finish-done.ensures.value c.finish-done.ensures.rest in
+pub complete_savepoint-released-requires : goal.complete_savepoint-released-requires
+complete_savepoint-released-requires c =
+    let l = last (goal.at.complete_savepoint-released-requires c).After-kind in
     let can : CanComplete c.finish-done.new.self = can_complete l in
     record {
       room = can.room;
@@ -70,18 +73,12 @@ complete_savepoint-requires c =
 
 pub returns-in-Checkpoint-clause-ok : goal.returns-in-Checkpoint-clause-ok
 returns-in-Checkpoint-clause-ok c =
-    let l : IsLast (record c.make_room_for_files.new.self { store = c.reserve.new.self }) c.finish-done.new.self c.args.now c.args.id c.args.subtask c.args.fresh.now c.args.reused.now c.requires.last.lacking c.finish-done.result =
-    last_made c.args.self.now c.make_room_for_files.new.self c.take_ack.new.self c.finish-done.new.self c.finish-done.result c.args.now c.args.subtask c.args.fresh.now c.args.reused.now c.len.result c.reserve.new.self
-    c.requires.sound c.requires.accepted c.requires.last c.len.ensures c.in_ok-make_room_for_files.ensures.ok c.in_ok-reserve.ensures.kept c.in_ok-reserve.ensures.ok
-    c.in_ok-take_ack.ensures.pending c.in_ok-take_ack.ensures.in_order c.in_ok-take_ack.ensures.stored c.in_ok-take_ack.ensures.ok c.finish-done.ensures.value c.finish-done.ensures.rest in
-    let done = c.complete_checkpoint.ensures in
-    checkpoint_answers c.complete_checkpoint.new.self c.complete_checkpoint.result (made_place c.args.self.now c.make_room_for_files.new.self c.len.result c.reserve.new.self c.in_ok-make_room_for_files.ensures.ok c.in_ok-reserve.ensures.kept) l (sym c.in-Checkpoint.ensures) done.parts done.none_ended done.capacity done.reply
+    let l = last (goal.at.returns-in-Checkpoint-clause-ok c).After-kind in
+    let done = c.complete_checkpoint-dropped.ensures in
+    checkpoint_answers c.complete_checkpoint-dropped.new.self (AckCompleted c.complete_checkpoint-dropped.result.0 c.complete_checkpoint-dropped.result.1) (made_place c.args.self.now c.make_room_for_files.new.self c.len.result c.reserve.new.self c.in_ok-make_room_for_files.ensures.ok c.in_ok-reserve.ensures.kept) l (sym c.in-Checkpoint.ensures) done.parts done.none_ended done.capacity done.reply
 
 pub returns-in-Savepoint-clause-ok : goal.returns-in-Savepoint-clause-ok
 returns-in-Savepoint-clause-ok c =
-    let l : IsLast (record c.make_room_for_files.new.self { store = c.reserve.new.self }) c.finish-done.new.self c.args.now c.args.id c.args.subtask c.args.fresh.now c.args.reused.now c.requires.last.lacking c.finish-done.result =
-    last_made c.args.self.now c.make_room_for_files.new.self c.take_ack.new.self c.finish-done.new.self c.finish-done.result c.args.now c.args.subtask c.args.fresh.now c.args.reused.now c.len.result c.reserve.new.self
-    c.requires.sound c.requires.accepted c.requires.last c.len.ensures c.in_ok-make_room_for_files.ensures.ok c.in_ok-reserve.ensures.kept c.in_ok-reserve.ensures.ok
-    c.in_ok-take_ack.ensures.pending c.in_ok-take_ack.ensures.in_order c.in_ok-take_ack.ensures.stored c.in_ok-take_ack.ensures.ok c.finish-done.ensures.value c.finish-done.ensures.rest in
-    let done = c.complete_savepoint.ensures in
-    savepoint_answers c.complete_savepoint.new.self c.complete_savepoint.result (made_place c.args.self.now c.make_room_for_files.new.self c.len.result c.reserve.new.self c.in_ok-make_room_for_files.ensures.ok c.in_ok-reserve.ensures.kept) l (sym c.in-Savepoint.ensures) done.parts done.none_ended done.capacity done.reply
+    let l = last (goal.at.returns-in-Savepoint-clause-ok c).After-kind in
+    let done = c.complete_savepoint-released.ensures in
+    savepoint_answers c.complete_savepoint-released.new.self (AckCompleted 0 c.complete_savepoint-released.result) (made_place c.args.self.now c.make_room_for_files.new.self c.len.result c.reserve.new.self c.in_ok-make_room_for_files.ensures.ok c.in_ok-reserve.ensures.kept) l (sym c.in-Savepoint.ensures) done.parts done.none_ended done.capacity done.reply

@@ -4,7 +4,7 @@ use Rattle.std.specs.List.{remove}
 use Rattle.std.specs.VecDeque.{deque_len}
 use Rattle.std.proofs.lemmas.Bool.{both_ways, eq-eqb}
 use Rattle.ckpt_store.specs.Storing.{has_savepoint}
-use Rattle.ckpt_store.proofs.RowLemmas.{has_place, remove-place}
+use Rattle.ckpt_store.proofs.RowLemmas.{has_place, none_place, remove-place}
 use Rattle.ckpt_store.proofs.StoreLemmas.{IsStored-dispose}
 use Rattle.ckpt_store.proofs.store.Store.dispose.Goals as goal
 
@@ -15,12 +15,12 @@ on_some None h there = absurd (both_ways false refl there)
 
 pub returns-in_default-clause-absent : goal.returns-in_default-clause-absent
 returns-in_default-clause-absent c =
-    let absent : has_savepoint c.args.self.now c.args.id ≡ false = ap (λ s. has_savepoint s c.args.id) (sym c.self.view_is) ∙ c.in_default.ensures.absent in
+    let absent : has_savepoint c.args.self.now c.args.id ≡ false = ap (λ s. has_savepoint s c.args.id) (sym c.self.view_is) ∙ none_place c.args.id c.self.inside.savepoints.items c.in_default.field-0 c.in_default.ensures.absent in
     (λ e. absent, λ h. refl)
 
 pub returns-in_default-clause-in_use : goal.returns-in_default-clause-in_use
 returns-in_default-clause-in_use c =
-    let absent : has_savepoint c.args.self.now c.args.id ≡ false = ap (λ s. has_savepoint s c.args.id) (sym c.self.view_is) ∙ c.in_default.ensures.absent in
+    let absent : has_savepoint c.args.self.now c.args.id ≡ false = ap (λ s. has_savepoint s c.args.id) (sym c.self.view_is) ∙ none_place c.args.id c.self.inside.savepoints.items c.in_default.field-0 c.in_default.ensures.absent in
     (λ e. absurd (cc), λ h. absurd (both_ways (has_savepoint c.args.self.now c.args.id) absent h.0))
 
 pub invariant_of-self : goal.invariant_of-self

@@ -5,7 +5,7 @@ use Rattle.std.specs.List.{list_any}
 use Rattle.std.specs.Option.{option_copied}
 use Rattle.ckpt_store.specs.Storing.{Stored, has_id, record_of}
 use Rattle.ckpt_ids.proofs.PlaceLemmas.{find-none}
-use Rattle.ckpt_store.proofs.RowLemmas.{find-place, copied_from_get}
+use Rattle.ckpt_store.proofs.RowLemmas.{copied_from_get, find-place, none_place}
 use Rattle.ckpt_store.proofs.StoreLemmas.{record_of_place, record_of_later}
 use Rattle.ckpt_store.proofs.store.Store.get.Goals as goal
 
@@ -21,11 +21,11 @@ returns-in-Ok-place_of-clause-value c =
     let s : Stored = record { retained = c.self.inside.retained; checkpoints = c.self.inside.checkpoints.items; savepoints = c.self.inside.savepoints.items; base = c.self.inside.base; spare = 0 } in
     let same : record_of s c.args.id ≡ record_of c.args.self.now c.args.id = ap (λ q. record_of q c.args.id) c.self.view_is in
     let got : option_copied c.get-in-Ok-place_of.result ≡ slice_get c.self.inside.savepoints.items c.in-Ok-place_of.place = copied_from_get c.get-in-Ok-place_of.result c.self.inside.savepoints.items c.in-Ok-place_of.place c.get-in-Ok-place_of.ensures.item.0 c.get-in-Ok-place_of.ensures.lookup in
-    got ∙ find-place c.args.id c.self.inside.savepoints.items c.in-Ok-place_of.place c.self.invariant.savepoints_rise c.in-Ok-place_of.ensures.found ∙ record_of_later s c.args.id c.in_default.ensures.absent ∙ same
+    got ∙ find-place c.args.id c.self.inside.savepoints.items c.in-Ok-place_of.place c.self.invariant.savepoints_rise c.in-Ok-place_of.ensures.found ∙ record_of_later s c.args.id (none_place c.args.id c.self.inside.checkpoints.items c.in_default.field-0 c.in_default.ensures.absent) ∙ same
 
 pub returns-in-Err-clause-value : goal.returns-in-Err-clause-value
 returns-in-Err-clause-value c =
     let s : Stored = record { retained = c.self.inside.retained; checkpoints = c.self.inside.checkpoints.items; savepoints = c.self.inside.savepoints.items; base = c.self.inside.base; spare = 0 } in
     let same : record_of s c.args.id ≡ record_of c.args.self.now c.args.id = ap (λ q. record_of q c.args.id) c.self.view_is in
-    let absent : list_any (has_id c.args.id) c.self.inside.savepoints.items ≡ false = c.in-Err.ensures.absent in
-    sym (find-none (has_id c.args.id) c.self.inside.savepoints.items absent) ∙ record_of_later s c.args.id c.in_default.ensures.absent ∙ same
+    let absent : list_any (has_id c.args.id) c.self.inside.savepoints.items ≡ false = none_place c.args.id c.self.inside.savepoints.items c.in-Err.field-0 c.in-Err.ensures.absent in
+    sym (find-none (has_id c.args.id) c.self.inside.savepoints.items absent) ∙ record_of_later s c.args.id (none_place c.args.id c.self.inside.checkpoints.items c.in_default.field-0 c.in_default.ensures.absent) ∙ same

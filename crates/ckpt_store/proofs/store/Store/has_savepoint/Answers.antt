@@ -1,16 +1,16 @@
 -- Answers the goals of `Store::has_savepoint`.
-use Rattle.std.proofs.Common.{◌≡◌, ◌∙◌, ℕ, List, Result, Ok, Err, IfOk, OnErr, false, sym, ap}
+use Rattle.std.proofs.Common.{◌≡◌, ◌∙◌, ℕ, List, Result, Ok, Err, IfOk, IfErr, ltb, sym, ap}
 use Rattle.std.specs.Result.{is_ok}
 use Rattle.std.specs.List.{list_any}
-use Rattle.ckpt_ids.specs.Places.{LiesAt}
+use Rattle.ckpt_ids.specs.Places.{BelongsAt, LiesAt}
 use Rattle.ckpt_ids.specs.Records.{Record}
 use Rattle.ckpt_store.specs.Storing.{has_id, has_savepoint, id_of}
-use Rattle.ckpt_store.proofs.RowLemmas.{has_place}
+use Rattle.ckpt_store.proofs.RowLemmas.{has_place, none_place}
 use Rattle.ckpt_store.proofs.store.Store.has_savepoint.Goals as goal
 
-found_or_absent : (id : ℕ) (row : List Record) (r : Result ℕ ℕ) → IfOk r (LiesAt id_of id row) → OnErr r (list_any (has_id id) row ≡ false) → is_ok r ≡ list_any (has_id id) row
+found_or_absent : (id : ℕ) (row : List Record) (r : Result ℕ ℕ) → IfOk r (LiesAt id_of id row) → IfErr r (BelongsAt ltb id_of id row) → is_ok r ≡ list_any (has_id id) row
 found_or_absent id row (Ok place) h k = sym (has_place id row place h)
-found_or_absent id row (Err place) h k = sym k
+found_or_absent id row (Err place) h k = sym (none_place id row place k)
 
 pub returns : goal.returns
 returns c =
