@@ -13,11 +13,11 @@ use Rattle.ckpt_ids.specs.Records.{Use, Pin, Subtask, count, same_holder}
 use Rattle.ckpt_ids.proofs.CountLemmas.{count_by-append, count_by-map, times-append}
 use Rattle.ckpt_ids.proofs.OrderedLemmas.{IsIn-from_filter, IsIn-from_flat_map, IsIn-from_map, IsIn-append_cases, filter-all, filter-none}
 use Rattle.ckpt_registry.specs.declared.holdings.Holding.{Holding}
-use Rattle.ckpt_registry.specs.declared.holdings.Part.{Part}
 use Rattle.ckpt_registry.specs.declared.pins.Pinner.{Pinner}
-use Rattle.ckpt_registry.specs.Holdings.{Acknowledged, Extends, files_in, files_of, parts_of, uses_by, uses_in}
+use Rattle.ckpt_registry.specs.Holdings.{Acknowledged, Extends, parts_of, uses_by, uses_in}
 use Rattle.ckpt_registry.specs.Pins.{AreKept, AreSettled, IsKept, IsSettled, IsTaken, each_file, is_named, own_in, own_of, parts_pinned, pinned_by, pins_in, pins_of_records, pins_on}
 use Rattle.ckpt_registry.specs.Uses.{is_owned, triples, without}
+use Rattle.ckpt_registry.specs.Parts.{Part, files_in, files_of}
 use Rattle.ckpt_registry.proofs.HoldingLemmas.{count-parts_of}
 use Rattle.ckpt_registry.proofs.ListLemmas.{one_if, times-ascending_set}
 use Rattle.ckpt_registry.proofs.PartLemmas.{times_of_take}
@@ -277,8 +277,8 @@ own_of-le f owners n pinned = omega (arith, own_in-parts f owners (take n pinned
 
 pub uses_in-holder : (held : List Holding) (u : Use) → IsIn u (uses_in held) → same_holder u.holder Pin ≡ false
 uses_in-holder held u h =
-    let e = IsIn-from_flat_map (λ (x : Holding). uses_by x.id x.parts.items) u held h in
-    let part = IsIn-from_flat_map (λ (p : Part). triples e.0.id (Subtask p.subtask) (files_of p)) u e.0.parts.items e.2 in
+    let e = IsIn-from_flat_map (λ (x : Holding). uses_by x.id x.parts) u held h in
+    let part = IsIn-from_flat_map (λ (p : Part). triples e.0.id (Subtask p.subtask) (files_of p)) u e.0.parts e.2 in
     let file = IsIn-from_map (λ (x : ℕ). record { id = e.0.id; holder = Subtask part.0.subtask; file = x }) u (files_of part.0) part.2 in
     ap (λ (v : Use). same_holder v.holder Pin) file.2
 

@@ -7,7 +7,8 @@ ghost use Rattle.ckpt_ids.specs.Records.{Subtask, Pin, count, is_present, releas
 ghost use Rattle.ckpt_registry.specs.Uses.{IsEachOnce, HasNoUse, after_end, files_by, pins_by, triples, without};
 
 use crate::counters::{Counts, count_each, count_fresh, count_reused};
-use crate::holdings::{Acknowledged, Part, hold, named, parts_held};
+use crate::holdings::{Acknowledged, hold, parts_held};
+use crate::parts::Parts;
 use crate::pins::{Pinner, files_pinned, pin_all, pins_of, unpin};
 use crate::releases::release_each;
 use crate::sorting::sort;
@@ -43,7 +44,7 @@ pub struct Registry {
     /// The answer of the last release, in room for all files that are present.
     released: Vec<FileId>,
     /// Empty room for the parts of the next new record. It comes from the last dropped record.
-    spare: Vec<Part>,
+    spare: Parts,
 }
 
 impl Drop for Registry {
@@ -68,7 +69,7 @@ impl Model for Registry {
 
     ghost view = { λ r. in_use r.acknowledged r.pinned.items };
 
-    ghost invariant = { λ r. IsSound r.acknowledged r.pinned.items r.counts (vec_capacity r.released) × (r.spare.items ≡ []) };
+    ghost invariant = { λ r. IsSound r.acknowledged r.pinned.items r.counts (vec_capacity r.released) × (r.spare ≡ []) };
 }
 
 impl Registry {
@@ -92,7 +93,7 @@ impl Registry {
             acknowledged: VecDeque::new(alloc),
             pinned: Vec::new(alloc),
             released: Vec::new(alloc),
-            spare: Vec::new(alloc),
+            spare: Parts::new(alloc),
         }
     }
 
@@ -206,17 +207,16 @@ impl Registry {
         ensures ok { OnOk result (self.new ≡ in_order_once use_before (self.old ++ triples id Pin (files_by chosen self.old))) }
         ensures err { OnErr result (self.new ≡ self.old) }
     {
-        let parts = parts_held(&self.acknowledged, chosen);
-        if parts.is_empty() {
+        let Some(parts) = parts_held(&self.acknowledged, chosen) else {
+            return Ok(());
+        };
+        if parts.len() == 0 {
             return Ok(());
         }
-        let Some(files) = named(parts) else {
-            return Err(AllocError);
-        };
         let alloc = *self.released.allocator();
         // Room for the files. They are written if the other record is dropped first, since a drop
         // may take no memory. Until then nothing touches this room.
-        let room = Vec::with_capacity(alloc, files)?;
+        let room = Vec::with_capacity(alloc, parts.files().len())?;
         self.pinned.reserve(1)?;
         let one = pin_all(&mut self.counts, &self.pinned, id, chosen, parts, room);
         self.pinned.push_reserved(one);
