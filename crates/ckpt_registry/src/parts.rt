@@ -9,9 +9,11 @@ use ckpt_ids::{FileId, Files, SubtaskId};
 use std::alloc::{AllocError, Global};
 use std::marker::Model;
 
-/// A record that went leaves its room to the next new one, unless it has room for more files or
-/// subtasks than this. So no record holds more than 32 kilobytes of another one's room.
-const MOST_LEFT: usize = 1024;
+/// A list that is no longer needed leaves its room to the next one, unless that has more places than
+/// these. So no record holds more than 14 kilobytes of another one's room.
+const MOST_CUTS: usize = 256;
+
+pub(crate) const MOST_FILES: usize = 1024;
 
 /// Where the files of one part end.
 #[derive(Clone, Copy, Debug, Drop)]
@@ -122,21 +124,28 @@ impl Parts {
         Ok(())
     }
 
-    /// No parts, in the same room if it is small enough to be left to another record.
+    /// No parts, in the same room if it may be left to another record.
     pub(crate) fn emptied(self) -> Parts
         ensures { result ≡ [] }
     {
-        let Parts {
-            mut cuts,
-            mut files,
-        } = self;
-        if cuts.capacity() > MOST_LEFT || files.capacity() > MOST_LEFT {
-            return Parts::new(*files.allocator());
+        let Parts { cuts, files } = self;
+        Parts {
+            cuts: emptied(cuts, MOST_CUTS),
+            files: emptied(files, MOST_FILES),
         }
-        cuts.clear();
-        files.clear();
-        Parts { cuts, files }
     }
+}
+
+/// An empty list, in the same room unless it has more places than these.
+pub(crate) fn emptied<T: Copy>(list: Vec<T>, most: usize) -> Vec<T>
+    ensures { result.items ≡ [] }
+{
+    let mut list = list;
+    if list.capacity() > most {
+        return Vec::new(*list.allocator());
+    }
+    list.clear();
+    list
 }
 
 /// Whether the part that begins here has a file.

@@ -12,7 +12,7 @@ ghost use Rattle.ckpt_registry.specs.Pins.{AreKept, AreSettled, IsKept, IsLook, 
 
 use crate::counters::{Counts, count_reused};
 use crate::holdings::{Acknowledged, lower_each, parts_held};
-use crate::parts::{Parts, write};
+use crate::parts::{MOST_FILES, Parts, emptied, write};
 use crate::sorting::sort;
 use ckpt_ids::{CheckpointId, FileId};
 use std::alloc::{AllocError, Global};
@@ -222,28 +222,30 @@ pub(crate) fn settle(
     }
 }
 
-/// Removes the pins of these records.
+/// Removes the pins of these records. The room of the last of them is then spare.
 pub(crate) fn unpin(
     pinned: &mut Vec<Pinner>,
     counts: &mut Counts,
     released: &mut Vec<FileId>,
+    room: &mut Vec<FileId>,
     owners: &[CheckpointId],
 )
     requires counted { (f : ℕ) → times f (own_in pinned.old.items) ≤ counter counts.old f }
     requires range { AreInRange counts.old }
     requires room { HasRoom counts.old released.old }
+    requires no_files { room.old.items ≡ [] }
     ensures kept { pinned.new.items ≡ filter (λ one. not (is_named owners.now one.id)) pinned.old.items }
     ensures lowered { AreLowered (λ f. times f (own_of owners.now pinned.old.items)) counts.old released.old counts.new released.new }
+    ensures no_files { room.new.items ≡ [] }
 {
-    for one in pinned.iter() {
-        if owners.contains(&one.id) {
+    let mut place: usize = 0;
+    for _ in 0..pinned.len() {
+        if owners.contains(&pinned[place].id) {
+            let one = pinned.remove(place);
             lower_each(counts, released, &one.files);
+            *room = emptied(one.files, MOST_FILES);
+        } else {
+            place += 1;
         }
     }
-    pinned.retain(
-        |one|
-            ensures value { result ≡ not (is_named owners.entry.now one.now.id) }
-            ensures same { owners.exit ≡ owners.entry }
-        { !owners.contains(&one.id) },
-    );
 }

@@ -18,6 +18,7 @@ use indexmap::IndexMap;
 use std::alloc::{AllocError, Global};
 use std::collections::VecDeque;
 use std::marker::Model;
+use std::mem::replace;
 
 /// The uses of state files by live records, and how often each file is used.
 ///
@@ -45,6 +46,9 @@ pub struct Registry {
     released: Vec<FileId>,
     /// Empty room for the parts of the next new record. It comes from the last dropped record.
     spare: Parts,
+    /// Empty room for the files of the next record that pins another. It comes from the last pins
+    /// that went.
+    room: Vec<FileId>,
 }
 
 impl Drop for Registry {
@@ -55,6 +59,7 @@ impl Drop for Registry {
             pinned: _,
             released: _,
             spare: _,
+            room: _,
         } = self;
     }
 }
@@ -69,7 +74,7 @@ impl Model for Registry {
 
     ghost view = { λ r. in_use r.acknowledged r.pinned.items };
 
-    ghost invariant = { λ r. IsSound r.acknowledged r.pinned.items r.counts (vec_capacity r.released) × (r.spare ≡ []) };
+    ghost invariant = { λ r. IsSound r.acknowledged r.pinned.items r.counts (vec_capacity r.released) × (r.spare ≡ []) × (r.room.items ≡ []) };
 }
 
 impl Registry {
@@ -94,6 +99,7 @@ impl Registry {
             pinned: Vec::new(alloc),
             released: Vec::new(alloc),
             spare: Parts::new(alloc),
+            room: Vec::new(alloc),
         }
     }
 
@@ -216,8 +222,9 @@ impl Registry {
         let alloc = *self.released.allocator();
         // Room for the files. They are written if the other record is dropped first, since a drop
         // may take no memory. Until then nothing touches this room.
-        let room = Vec::with_capacity(alloc, parts.files().len())?;
+        self.room.reserve(parts.files().len())?;
         self.pinned.reserve(1)?;
+        let room = replace(&mut self.room, Vec::new(alloc));
         let one = pin_all(&mut self.counts, &self.pinned, id, chosen, parts, room);
         self.pinned.push_reserved(one);
         Ok(())
@@ -249,6 +256,7 @@ impl Registry {
             &mut self.counts,
             &mut self.released,
             &mut self.spare,
+            &mut self.room,
             owners,
         );
         sort(&mut self.released); // as one list, however many records go
@@ -268,6 +276,7 @@ impl Registry {
             &mut self.pinned,
             &mut self.counts,
             &mut self.released,
+            &mut self.room,
             &[id],
         );
         release_each(
@@ -276,6 +285,7 @@ impl Registry {
             &mut self.counts,
             &mut self.released,
             &mut self.spare,
+            &mut self.room,
             owners,
         );
         sort(&mut self.released);

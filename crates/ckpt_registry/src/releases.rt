@@ -46,18 +46,21 @@ pub(crate) fn release_each(
     counts: &mut Counts,
     released: &mut Vec<FileId>,
     spare: &mut Parts,
+    room: &mut Vec<FileId>,
     owners: &[CheckpointId],
 )
     requires counted { AreCounted acknowledged.old pinned.old.items counts.old }
     requires room { HasRoom counts.old released.old }
     requires spare { spare.old ≡ [] }
+    requires no_files { room.old.items ≡ [] }
     ensures counted { AreCounted acknowledged.new pinned.new.items counts.new }
     ensures uses { uses_in acknowledged.new.items ≡ without owners.now (uses_in acknowledged.old.items) }
     ensures pins { pins_in acknowledged.new pinned.new.items ≡ without owners.now (pins_in acknowledged.old pinned.old.items) }
     ensures released { AreReleased counts.old released.old counts.new released.new }
     ensures spare { spare.new ≡ [] }
+    ensures no_files { room.new.items ≡ [] }
 {
-    unpin(pinned, counts, released, owners);
+    unpin(pinned, counts, released, room, owners);
     for owner in owners {
         drop_uses(acknowledged, pinned, counts, released, spare, *owner);
     }

@@ -14,4 +14,5 @@ invariant-loop-owner l = record {
   pins : pins_in l.acknowledged l.pinned.items ≡ without l.owners (pins_in l.fn.acknowledged l.fn.pinned.items);
   released : AreReleased l.fn.counts l.fn.released l.counts l.released;
   spare : l.spare ≡ [];
+  no_files : l.room.items ≡ [];
 }

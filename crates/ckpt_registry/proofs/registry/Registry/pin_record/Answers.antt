@@ -1,6 +1,8 @@
 -- Answers the goals of `Registry::pin_record`.
 use Rattle.std.proofs.Common.{refl, ◌≡◌, ℕ, ◌+◌, ◌<◌, ◌^◌, ◌-◌, ◌++◌, List, [], ◌∷◌, length, take, sym, ap, subst, ◌∙◌, arith}
 use Rattle.std.specs.Vec.{vec_capacity}
+use Rattle.std.specs.declared.alloc.Global.{Global}
+use Rattle.std.specs.declared.vec.Vec.{Vec}
 use Rattle.ckpt_ids.specs.Counting.{times}
 use Rattle.ckpt_ids.specs.Ordered.{IsIn, in_order_once}
 use Rattle.ckpt_ids.specs.Records.{Use, Pin, count, use_before}
@@ -75,9 +77,10 @@ invariant_of-self-2 c =
     let H : ℕ → Type 0 = λ id. HasNoUse (in_use a p) id Pin in
     let V : List Use → Type 0 = λ us. HasNoUse us c.args.id Pin in
     let P : List Pinner → Type 0 = λ ps. IsSound a ps new room in (
-      subst P (sym (c.push_reserved.ensures.items ∙ ap (λ (ps : List Pinner). ps ++ one ∷ []) c.reserve.ensures.items))
+      subst P (sym (c.push_reserved.ensures.items ∙ ap (λ (ps : List Pinner). ps ++ one ∷ []) c.reserve-2.ensures.items))
           (IsSound-pinned a p one named pins r.counts new room room c.self.invariant.0 (subst K (sym at) c.pin_all-one.ensures.kept) (IsEachOnce-files_by chosen c.args.self.now) (subst H (sym c.pin_all-one.ensures.id) (subst V (sym c.self.view_is) c.requires.unpinned)) c.pin_all-one.ensures.counted c.pin_all-one.ensures.range (omega (arith, c.self.invariant.0.has_room, c.pin_all-one.ensures.len)) (fits a p c.args.self.now chosen c.self.view_is (below-in_use a p r.counts room c.self.invariant.0) c.requires.below)),
       c.self.invariant.1,
+      ap (λ (v : Vec ℕ Global). v.items) c.replace-room.ensures.after ∙ c.new.ensures.items,
     )
 
 pub returns-clause-ok : goal.returns-clause-ok
@@ -90,4 +93,4 @@ returns-clause-ok c =
     let one : Pinner = c.pin_all-one.result in
     let at : parts_of a one.chosen ≡ c.in-Some.parts.now = ap (parts_of a) c.pin_all-one.ensures.chosen ∙ sym c.in-Some.ensures.some in
     let pins : pinned_by a one ≡ named = ap (λ (ps : List Part). each_file (take one.parts ps) ++ one.files.items) at ∙ c.pin_all-one.ensures.pinned ∙ ap each_file c.in-Some.ensures.some ∙ sym (files_by-in_use a p chosen) ∙ ap (files_by chosen) c.self.view_is in
-    ap (in_use a) (c.push_reserved.ensures.items ∙ ap (λ (ps : List Pinner). ps ++ one ∷ []) c.reserve.ensures.items) ∙ in_use-pinned a p one named pins ∙ ap (λ (us : List Use). in_order_once use_before (us ++ triples one.id Pin named)) c.self.view_is ∙ ap (λ (id : ℕ). in_order_once use_before (c.args.self.now ++ triples id Pin named)) c.pin_all-one.ensures.id
+    ap (in_use a) (c.push_reserved.ensures.items ∙ ap (λ (ps : List Pinner). ps ++ one ∷ []) c.reserve-2.ensures.items) ∙ in_use-pinned a p one named pins ∙ ap (λ (us : List Use). in_order_once use_before (us ++ triples one.id Pin named)) c.self.view_is ∙ ap (λ (id : ℕ). in_order_once use_before (c.args.self.now ++ triples id Pin named)) c.pin_all-one.ensures.id
