@@ -1,5 +1,5 @@
 //! The acknowledgements of each record: a row of records, each with its parts.
-ghost use Rattle.std.specs.Prelude.{◌≡◌, ℕ, ◌<◌, ◌≤◌, ◌==◌, [], filter, length, not, remove, slice_index_or, IfErr, IfNone, IfOk, IfSome, IsSome, OnErr, OnOk};
+ghost use Rattle.std.specs.Prelude.{◌≡◌, ℕ, ◌<◌, ◌≤◌, ◌==◌, [], filter, insert, length, not, remove, slice_index_or, IfErr, IfNone, IfOk, IfSome, IsSome, OnErr, OnOk};
 ghost use Rattle.ckpt_ids.specs.Counting.{times};
 ghost use Rattle.ckpt_registry.specs.Counters.{counter, AreInRange, AreLowered, HasRoom};
 ghost use Rattle.ckpt_registry.specs.Holdings.{Adds, AreRising, BelongsAt, Extends, LiesAt, parts_of, uses_in, uses_of_ack};
@@ -104,6 +104,21 @@ fn take_out(acknowledged: &mut Acknowledged, place: usize) -> Option<Holding>
     }
 }
 
+/// Adds a record at the place where it belongs. Mostly that is the end, which moves no other.
+#[inline(always)]
+fn add(acknowledged: &mut Acknowledged, place: usize, holding: Holding) -> Result<(), AllocError>
+    requires { place ≤ length acknowledged.old.items }
+    ensures ok { OnOk result (acknowledged.new.items ≡ insert acknowledged.old.items place holding) }
+    ensures err { OnErr result (acknowledged.new.items ≡ acknowledged.old.items) }
+{
+    if place == acknowledged.len() {
+        acknowledged.push_back(holding)?;
+    } else {
+        acknowledged.insert(place, holding)?;
+    }
+    Ok(())
+}
+
 /// Adds the part of a subtask to a record. A new record uses the spare room. Fails only if memory
 /// runs out, and then adds nothing.
 pub(crate) fn hold(
@@ -134,7 +149,7 @@ pub(crate) fn hold(
             spare.push(subtask, fresh, reused)?;
             let alloc = *acknowledged.allocator();
             let parts = replace(spare, Parts::new(alloc));
-            acknowledged.insert(place, Holding { id, parts })?;
+            add(acknowledged, place, Holding { id, parts })?;
             Ok(())
         }
     }

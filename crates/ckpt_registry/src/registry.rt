@@ -37,6 +37,11 @@ use std::mem::replace;
 ///
 /// No call visits other files. A record that is pinned as a whole uses each of its files, so they
 /// are present while it is live. So such pins are counted only once it is dropped.
+///
+/// A use by an acknowledgement takes 8 bytes, and the acknowledgement 24, in two lists of the record
+/// that double when they are full. A pin takes 8 bytes. A new record begins with the lists of the
+/// last one that was dropped, if they have at most 14 kilobytes. So while records come and go that
+/// need no more, an acknowledgement takes memory only for the counters of further files.
 #[derive(Debug)]
 pub struct Registry {
     counts: Counts,

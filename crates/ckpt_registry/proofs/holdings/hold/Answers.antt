@@ -101,22 +101,22 @@ module _ (m n : Acknowledged) (place : ℕ) (new : Holding) (more : List Part) (
   inserted_uses : (p : Use → Bool) → count_by p (uses_in n.items) ≡ count_by p (uses_in m.items) + count_by p (uses_by new.id more)
   inserted_uses = uses-grown m n new.id (take place m.items) [] (drop place m.items) new more (sym (take-append-drop place m.items)) has refl (λ x k. absurd k) is
 
-pub returns-in_ok-insert-in-Err-clause-ordered : goal.returns-in_ok-insert-in-Err-clause-ordered
-returns-in_ok-insert-in-Err-clause-ordered c =
+pub returns-in_ok-add-in-Err-clause-ordered : goal.returns-in_ok-add-in-Err-clause-ordered
+returns-in_ok-add-in-Err-clause-ordered c =
     let absent = c.in-Err.ensures.absent in
     let new : Holding = record { id = c.args.id; parts = c.replace-parts.result } in
-    subst (λ hs. AreRising hs) (sym c.in_ok-insert-in-Err.ensures.items) (rising_insert new c.args.acknowledged.now.items c.in-Err.place c.requires.ordered absent.0 absent.1)
+    subst (λ hs. AreRising hs) (sym c.in_ok-add-in-Err.ensures.ok) (rising_insert new c.args.acknowledged.now.items c.in-Err.place c.requires.ordered absent.0 absent.1)
 
-pub returns-in_ok-insert-in-Err-clause-extends : goal.returns-in_ok-insert-in-Err-clause-extends
-returns-in_ok-insert-in-Err-clause-extends c =
+pub returns-in_ok-add-in-Err-clause-extends : goal.returns-in_ok-add-in-Err-clause-extends
+returns-in_ok-add-in-Err-clause-extends c =
     let new : Holding = record { id = c.args.id; parts = c.replace-parts.result } in
-    inserted_extends c.args.acknowledged.now c.insert.new.self c.in-Err.place new _ c.in-Err.ensures.absent.1 c.in_ok-insert-in-Err.ensures.items refl
+    inserted_extends c.args.acknowledged.now c.add.new.acknowledged c.in-Err.place new _ c.in-Err.ensures.absent.1 c.in_ok-add-in-Err.ensures.ok refl
 
-pub returns-in_ok-insert-in-Err-clause-ok : goal.returns-in_ok-insert-in-Err-clause-ok
-returns-in_ok-insert-in-Err-clause-ok c = λ p.
+pub returns-in_ok-add-in-Err-clause-ok : goal.returns-in_ok-add-in-Err-clause-ok
+returns-in_ok-add-in-Err-clause-ok c = λ p.
     let m : Acknowledged = c.args.acknowledged.now in
     let part : Part = record { subtask = c.args.subtask; fresh = c.args.fresh.now; reused = c.args.reused.now } in
     let new : Holding = record { id = c.args.id; parts = c.replace-parts.result } in
     let one : new.parts ≡ part ∷ [] = c.replace-parts.ensures.value ∙ c.in_ok-push-in-Err.ensures.ok ∙ ap (λ (ps : List Part). ps ++ part ∷ []) c.requires.spare in
-    inserted_uses m c.insert.new.self c.in-Err.place new (part ∷ []) c.in-Err.ensures.absent.1 c.in_ok-insert-in-Err.ensures.items one p
+    inserted_uses m c.add.new.acknowledged c.in-Err.place new (part ∷ []) c.in-Err.ensures.absent.1 c.in_ok-add-in-Err.ensures.ok one p
     ∙ ap (λ (us : List Use). count_by p (uses_in m.items) + count_by p us) (append-nil (triples c.args.id (Subtask c.args.subtask) (files_of part)))
