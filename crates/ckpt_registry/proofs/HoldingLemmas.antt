@@ -14,9 +14,9 @@ use Rattle.ckpt_ids.specs.Records.{Use, Subtask, count}
 use Rattle.ckpt_ids.proofs.CountLemmas.{count_by-append, count_by-map, times-append}
 use Rattle.ckpt_ids.proofs.OrderedLemmas.{IsIn-from_flat_map, IsIn-from_map, IsInOrder-filter, filter-all, filter-same, filter-none, filter-filter}
 use Rattle.ckpt_registry.specs.declared.holdings.Holding.{Holding}
-use Rattle.ckpt_registry.specs.declared.holdings.Part.{Part}
-use Rattle.ckpt_registry.specs.Holdings.{Acknowledged, AreRising, Extends, files_in, files_of, parts_of, uses_by, uses_in}
+use Rattle.ckpt_registry.specs.Holdings.{Acknowledged, AreRising, Extends, parts_of, uses_by, uses_in}
 use Rattle.ckpt_registry.specs.Uses.{triples, is_owned, without, without_record}
+use Rattle.ckpt_registry.specs.Parts.{Part, files_in, files_of}
 use Rattle.ckpt_registry.proofs.ListLemmas.{count_by-filter, count_by-filter_le}
 
 abbrev pub number : Holding → ℕ
@@ -29,7 +29,7 @@ abbrev pub has_id : ℕ → Holding → Bool
 has_id id h = eqb h.id id
 
 abbrev pub parts_in : List Holding → List Part
-parts_in hs = flat_map (λ h. h.parts.items) hs
+parts_in hs = flat_map (λ h. h.parts) hs
 
 -- the uses of one part
 abbrev part_uses : ℕ → Part → List Use
@@ -46,10 +46,10 @@ uses_in-filter : (t : ℕ → Bool) (hs : List Holding) → filter (λ (u : Use)
 uses_in-filter t [] = refl
 uses_in-filter t (h ∷ hs) =
     let q : Use → Bool = λ u. t u.id in
-    let own : List Use = uses_by h.id h.parts.items in
+    let own : List Use = uses_by h.id h.parts in
     let both : filter q (own ++ uses_in hs) ≡ filter q own ++ filter q (uses_in hs) = filter-append q own (uses_in hs) in
     let rest = uses_in-filter t hs in
-    let same : (u : Use) → IsIn u own → q u ≡ t h.id = λ u k. ap t (uses_by-id h.id h.parts.items u k) in
+    let same : (u : Use) → IsIn u own → q u ≡ t h.id = λ u k. ap t (uses_by-id h.id h.parts u k) in
     let Goal : Bool → Type 0 = λ b. filter q (uses_in (h ∷ hs)) ≡ uses_in (cond b (h ∷ filter (λ (o : Holding). t o.id) hs) (filter (λ (o : Holding). t o.id) hs)) in
     let kept : t h.id ≡ true → Goal (t h.id) = λ (e : t h.id ≡ true). subst Goal (sym e) (both ∙ ap (λ us. us ++ filter q (uses_in hs)) (filter-all q own (λ u k. same u k ∙ e)) ∙ ap (λ us. own ++ us) rest) in
     let gone : t h.id ≡ false → Goal (t h.id) = λ (e : t h.id ≡ false). subst Goal (sym e) (both ∙ ap (λ us. us ++ filter q (uses_in hs)) (filter-none q own (λ u k. same u k ∙ e)) ∙ rest) in
@@ -67,9 +67,9 @@ count-uses_by id f (part ∷ parts) =
 count-uses_in : (hs : List Holding) (f : ℕ) → count (uses_in hs) f ≡ times f (files_in (parts_in hs))
 count-uses_in [] f = refl
 count-uses_in (h ∷ hs) f =
-    let used : count (uses_in (h ∷ hs)) f ≡ count (uses_by h.id h.parts.items) f + count (uses_in hs) f = count_by-append (λ (u : Use). eqb u.file f) (uses_by h.id h.parts.items) (uses_in hs) in
-    let files : times f (files_in (parts_in (h ∷ hs))) ≡ times f (files_in h.parts.items ++ files_in (parts_in hs)) = ap (times f) (flat_map-append files_of h.parts.items (parts_in hs)) in
-    omega (arith, used, files, count-uses_by h.id f h.parts.items, count-uses_in hs f, times-append f (files_in h.parts.items) (files_in (parts_in hs)))
+    let used : count (uses_in (h ∷ hs)) f ≡ count (uses_by h.id h.parts) f + count (uses_in hs) f = count_by-append (λ (u : Use). eqb u.file f) (uses_by h.id h.parts) (uses_in hs) in
+    let files : times f (files_in (parts_in (h ∷ hs))) ≡ times f (files_in h.parts ++ files_in (parts_in hs)) = ap (times f) (flat_map-append files_of h.parts (parts_in hs)) in
+    omega (arith, used, files, count-uses_by h.id f h.parts, count-uses_in hs f, times-append f (files_in h.parts) (files_in (parts_in hs)))
 
 -- a record uses the files of its parts, and the others use theirs
 pub count-used_by : (m : Acknowledged) (id f : ℕ) → count_by (λ (u : Use). eqb u.id id && eqb u.file f) (uses_in m.items) ≡ times f (files_in (parts_of m id))
@@ -115,14 +115,14 @@ module _ (m n : Acknowledged) (id : ℕ) (gone : n.items ≡ filter (λ (h : Hol
 -- A record gets more parts. What it held lies between the records of other numbers.
 
 module _ (m n : Acknowledged) (id : ℕ) (before old after : List Holding) (new : Holding) (more : List Part) (had : m.items ≡ before ++ (old ++ after)) (has : n.items ≡ before ++ new ∷ after) (own : new.id ≡ id)
-    (all : (h : Holding) → IsIn h old → h.id ≡ id) (grown : new.parts.items ≡ parts_in old ++ more) where
+    (all : (h : Holding) → IsIn h old → h.id ≡ id) (grown : new.parts ≡ parts_in old ++ more) where
   uses_old : (hs : List Holding) → ((h : Holding) → IsIn h hs → h.id ≡ id) → uses_in hs ≡ uses_by id (parts_in hs)
   uses_old [] ids = refl
   uses_old (h ∷ hs) ids =
-      ap (λ k. uses_by k h.parts.items ++ uses_in hs) (ids h (inl refl)) ∙ ap (λ us. uses_by id h.parts.items ++ us) (uses_old hs (λ x k. ids x (inr k))) ∙ sym (flat_map-append (part_uses id) h.parts.items (parts_in hs))
+      ap (λ k. uses_by k h.parts ++ uses_in hs) (ids h (inl refl)) ∙ ap (λ us. uses_by id h.parts ++ us) (uses_old hs (λ x k. ids x (inr k))) ∙ sym (flat_map-append (part_uses id) h.parts (parts_in hs))
 
-  uses_new : uses_by new.id new.parts.items ≡ uses_in old ++ uses_by id more
-  uses_new = ap (λ k. uses_by k new.parts.items) own ∙ ap (uses_by id) grown ∙ flat_map-append (part_uses id) (parts_in old) more ∙ ap (λ us. us ++ uses_by id more) (sym (uses_old old all))
+  uses_new : uses_by new.id new.parts ≡ uses_in old ++ uses_by id more
+  uses_new = ap (λ k. uses_by k new.parts) own ∙ ap (uses_by id) grown ∙ flat_map-append (part_uses id) (parts_in old) more ∙ ap (λ us. us ++ uses_by id more) (sym (uses_old old all))
 
   was : uses_in m.items ≡ uses_in before ++ (uses_in old ++ uses_in after)
   was = ap uses_in had ∙ flat_map-append _ before (old ++ after) ∙ ap (λ us. uses_in before ++ us) (flat_map-append _ old after)
@@ -161,9 +161,9 @@ module _ (m n : Acknowledged) (id : ℕ) (before old after : List Holding) (new 
       let none_before : held before ≡ [] = ap parts_in (filter-none (has_id q) before (λ x k. ne_eqb x.id q (λ i. apart x (inl k) (i ∙ e)))) in
       let none_after : held after ≡ [] = ap parts_in (filter-none (has_id q) after (λ x k. ne_eqb x.id q (λ i. apart x (inr k) (i ∙ e)))) in
       let old_parts : held old ≡ parts_in old = ap parts_in (filter-all (has_id q) old (λ x k. eq-eqb x.id q (all x k ∙ sym e))) in
-      let new_parts : held (new ∷ []) ≡ new.parts.items = ap parts_in (cond-true (eqb new.id q) _ _ (eq-eqb new.id q (own ∙ sym e))) ∙ append-nil new.parts.items in
+      let new_parts : held (new ∷ []) ≡ new.parts = ap parts_in (cond-true (eqb new.id q) _ _ (eq-eqb new.id q (own ∙ sym e))) ∙ append-nil new.parts in
       let first : parts_of m q ≡ parts_in old = whole ∙ ap (λ ps. ps ++ (held old ++ held after)) none_before ∙ ap (λ ps. held old ++ ps) none_after ∙ append-nil (held old) ∙ old_parts in
-      let last : parts_of n q ≡ new.parts.items = after_all ∙ ap (λ ps. ps ++ (held (new ∷ []) ++ held after)) none_before ∙ ap (λ ps. held (new ∷ []) ++ ps) none_after ∙ append-nil (held (new ∷ [])) ∙ new_parts in
+      let last : parts_of n q ≡ new.parts = after_all ∙ ap (λ ps. ps ++ (held (new ∷ []) ++ held after)) none_before ∙ ap (λ ps. held (new ∷ []) ++ ps) none_after ∙ append-nil (held (new ∷ [])) ∙ new_parts in
       (more, last ∙ grown ∙ ap (λ ps. ps ++ more) (sym first)) in
       let other : (q ≡ id → ⊥) → Goal = λ (ne : q ≡ id → ⊥).
       let old_parts : held old ≡ [] = ap parts_in (filter-none (has_id q) old (λ x k. ne_eqb x.id q (λ i. ne (sym i ∙ all x k)))) in

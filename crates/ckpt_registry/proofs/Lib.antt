@@ -1,5 +1,6 @@
 -- The lemmas that the proofs use.
 pub mod CounterLemmas
+pub mod CutLemmas
 pub mod HoldingLemmas
 pub mod ListLemmas
 pub mod PartLemmas

@@ -1,9 +1,9 @@
 -- What the pins of records come to, and how they change with the records.
-use Rattle.std.proofs.Common.{◌≡◌, ℕ, ◌+◌, ◌<◌, ◌≤◌, Bool, true, false, not, cond, eqb, ltb, List, [], ◌∷◌, ◌++◌, length, get_or, take, drop, set, refl, sym, ap, subst, ◌∙◌, ◌⊎◌, inl, inr, ⊎_elim, arith, ◌||◌, length-append}
+use Rattle.std.proofs.Common.{◌≡◌, ℕ, ◌+◌, ◌<◌, ◌≤◌, Bool, true, false, not, cond, eqb, ltb, List, [], ◌∷◌, ◌++◌, length, get_or, take, drop, set, refl, sym, ap, subst, ◌∙◌, ◌⊎◌, inl, inr, ⊎_elim, arith, ◌||◌, append_assoc, length-append}
 use Rattle.std.specs.List.{filter}
 use Rattle.std.proofs.lemmas.Bool.{cases_Bool, cases_eq, cond-true, cond-false, eq-eqb, ne_eqb, eqb-true}
 use Rattle.std.proofs.lemmas.Grind.{flat_map-append}
-use Rattle.std.proofs.lemmas.List.{append-nil, take_more, take_more_set, get_or-drop, drop-set-lt, drop-drop}
+use Rattle.std.proofs.lemmas.List.{append-nil, drop_at, drop_more, get_or_at, length-drop, take_at, take_more, take_more_set, get_or-drop, drop-set-lt, drop-drop}
 use Rattle.std.proofs.lemmas.List.{take-append-le}
 use Rattle.std.proofs.lemmas.List.Elements.{filter-append}
 use Rattle.std.proofs.lemmas.List.Sums.{sum_by-cons}
@@ -13,11 +13,11 @@ use Rattle.ckpt_ids.specs.Records.{Use, Pin, Subtask, count, same_holder}
 use Rattle.ckpt_ids.proofs.CountLemmas.{count_by-append, count_by-map, times-append}
 use Rattle.ckpt_ids.proofs.OrderedLemmas.{IsIn-from_filter, IsIn-from_flat_map, IsIn-from_map, IsIn-append_cases, filter-all, filter-none}
 use Rattle.ckpt_registry.specs.declared.holdings.Holding.{Holding}
-use Rattle.ckpt_registry.specs.declared.holdings.Part.{Part}
 use Rattle.ckpt_registry.specs.declared.pins.Pinner.{Pinner}
-use Rattle.ckpt_registry.specs.Holdings.{Acknowledged, Extends, files_in, files_of, parts_of, uses_by, uses_in}
+use Rattle.ckpt_registry.specs.Holdings.{Acknowledged, Extends, parts_of, uses_by, uses_in}
 use Rattle.ckpt_registry.specs.Pins.{AreKept, AreSettled, IsKept, IsSettled, IsTaken, each_file, is_named, own_in, own_of, parts_pinned, pinned_by, pins_in, pins_of_records, pins_on}
 use Rattle.ckpt_registry.specs.Uses.{is_owned, triples, without}
+use Rattle.ckpt_registry.specs.Parts.{Part, files_in, files_of}
 use Rattle.ckpt_registry.proofs.HoldingLemmas.{count-parts_of}
 use Rattle.ckpt_registry.proofs.ListLemmas.{one_if, times-ascending_set}
 use Rattle.ckpt_registry.proofs.PartLemmas.{times_of_take}
@@ -273,12 +273,63 @@ own_of-more f owners pinned i one within at =
 pub own_of-le : (f : ℕ) (owners : List ℕ) (n : ℕ) (pinned : List Pinner) → times f (own_of owners (take n pinned)) ≤ times f (own_in pinned)
 own_of-le f owners n pinned = omega (arith, own_in-parts f owners (take n pinned), times_of_take (λ (o : Pinner). o.files.items) f n pinned)
 
+-- A walk over a row of pinners takes those out who go. It has seen the first i, and the others come after those that stay.
+
+abbrev pub staying : List ℕ → List Pinner → List Pinner
+staying owners pinned = filter (λ one. not (is_named owners one.id)) pinned
+
+module _ (owners : List ℕ) (old row : List Pinner) (i place : ℕ) (one : Pinner) (is : row ≡ staying owners (take i old) ++ drop i old) (at : place ≡ length (staying owners (take i old))) (here : one ≡ get_or row place one) (below : i < length old) where
+  abbrev kept : List Pinner
+  kept = staying owners (take i old)
+
+  abbrev first : Pinner
+  first = get_or old i one
+
+  split : row ≡ kept ++ first ∷ drop (i + 1) old
+  split = is ∙ ap (λ os. kept ++ os) (drop_more old i one below)
+
+  pub walked_one : one ≡ get_or old i one
+  walked_one = here ∙ ap (λ os. get_or os place one) split ∙ get_or_at kept first (drop (i + 1) old) one place (sym at)
+
+  more : staying owners (take (i + 1) old) ≡ kept ++ staying owners (one ∷ [])
+  more = ap (staying owners) (take_more old i one below) ∙ filter-append (λ o. not (is_named owners o.id)) (take i old) (first ∷ []) ∙ ap (λ o. kept ++ staying owners (o ∷ [])) (sym walked_one)
+
+  module _ (e : goes owners one ≡ true) where
+    none_more : staying owners (take (i + 1) old) ≡ kept
+    none_more = more ∙ ap (λ os. kept ++ os) (cond-false (not (goes owners one)) _ _ (ap not e)) ∙ append-nil kept
+
+    pub walked_out : take place row ++ drop (place + 1) row ≡ staying owners (take (i + 1) old) ++ drop (i + 1) old
+    walked_out =
+        let before : take place row ≡ kept = ap (take place) split ∙ take_at kept (first ∷ drop (i + 1) old) place (sym at) in
+        let whole : row ≡ (kept ++ first ∷ []) ++ drop (i + 1) old = split ∙ sym (append_assoc kept (first ∷ []) (drop (i + 1) old)) in
+        let after : drop (place + 1) row ≡ drop (i + 1) old = ap (drop (place + 1)) whole ∙ drop_at (kept ++ first ∷ []) (drop (i + 1) old) (place + 1) (omega (arith, at, length-append kept (first ∷ []))) in
+        ap (λ os. os ++ drop (place + 1) row) (before ∙ sym none_more) ∙ ap (λ os. staying owners (take (i + 1) old) ++ os) after
+
+    pub place_same : place ≡ length (staying owners (take (i + 1) old))
+    place_same = at ∙ ap (λ os. length os) (sym none_more)
+
+  module _ (e : goes owners one ≡ false) where
+    one_more : staying owners (take (i + 1) old) ≡ kept ++ one ∷ []
+    one_more = more ∙ ap (λ os. kept ++ os) (cond-true (not (goes owners one)) _ _ (ap not e))
+
+    pub walked_on : row ≡ staying owners (take (i + 1) old) ++ drop (i + 1) old
+    walked_on = split ∙ ap (λ o. kept ++ o ∷ drop (i + 1) old) (sym walked_one) ∙ sym (append_assoc kept (one ∷ []) (drop (i + 1) old)) ∙ ap (λ os. os ++ drop (i + 1) old) (sym one_more)
+
+    pub place_next : place + 1 ≡ length (staying owners (take (i + 1) old))
+    place_next = let same : length (staying owners (take (i + 1) old)) ≡ length (kept ++ one ∷ []) = ap (λ os. length os) one_more in omega (arith, same, at, length-append kept (one ∷ []))
+
+-- before the end of the walk the row has one more
+pub walk_within : (owners : List ℕ) (old row : List Pinner) (i place : ℕ) → row ≡ staying owners (take i old) ++ drop i old → place ≡ length (staying owners (take i old)) → i < length old → place < length row
+walk_within owners old row i place is at below =
+    let same : length row ≡ length (staying owners (take i old) ++ drop i old) = ap (λ os. length os) is in
+    omega (arith, same, at, length-append (staying owners (take i old)) (drop i old), length-drop i old)
+
 -- who holds a use
 
 pub uses_in-holder : (held : List Holding) (u : Use) → IsIn u (uses_in held) → same_holder u.holder Pin ≡ false
 uses_in-holder held u h =
-    let e = IsIn-from_flat_map (λ (x : Holding). uses_by x.id x.parts.items) u held h in
-    let part = IsIn-from_flat_map (λ (p : Part). triples e.0.id (Subtask p.subtask) (files_of p)) u e.0.parts.items e.2 in
+    let e = IsIn-from_flat_map (λ (x : Holding). uses_by x.id x.parts) u held h in
+    let part = IsIn-from_flat_map (λ (p : Part). triples e.0.id (Subtask p.subtask) (files_of p)) u e.0.parts e.2 in
     let file = IsIn-from_map (λ (x : ℕ). record { id = e.0.id; holder = Subtask part.0.subtask; file = x }) u (files_of part.0) part.2 in
     ap (λ (v : Use). same_holder v.holder Pin) file.2
 

@@ -12,10 +12,11 @@ use Rattle.ckpt_ids.proofs.OrderLemmas.{uses_in_order}
 use Rattle.ckpt_ids.proofs.OrderedLemmas.{ComesBefore-at, ComesBefore-from, IsIn-append_left, IsIn-append_right, IsIn-append_cases, IsIn-filter, IsIn-flat_map, IsIn-from_filter, IsIn-from_flat_map, IsIn-from_map, IsIn-from_in_order_once, IsIn-in_order_once, IsIn-map, IsInOrder-filter, IsInOrder-in_order_once, same_from_members}
 use Rattle.ckpt_ids.proofs.SetLemmas.{ascending-from_dedup}
 use Rattle.ckpt_registry.specs.declared.pins.Pinner.{Pinner}
-use Rattle.ckpt_registry.specs.Holdings.{Acknowledged, files_in, uses_in}
+use Rattle.ckpt_registry.specs.Holdings.{Acknowledged, uses_in}
 use Rattle.ckpt_registry.specs.Pins.{each_file, named_by, parts_pinned, pinned_by, pins_in}
 use Rattle.ckpt_registry.specs.Sound.{in_use, stored}
 use Rattle.ckpt_registry.specs.Uses.{pins_by, triples}
+use Rattle.ckpt_registry.specs.Parts.{files_in}
 use Rattle.ckpt_registry.proofs.PinLemmas.{uses_in-holder}
 
 abbrev pins_it : ℕ → Use → Bool

@@ -58,9 +58,9 @@ module _ (id place : ℕ) (hs : List Holding) (h : Holding) (within : place < le
   lies : h.id ≡ id → LiesAt hs id place
   lies own = (within, λ d. ap number (get_or_any hs place d h within ∙ sym is) ∙ own)
 
-  pub parts_found : AreRising hs → h.id ≡ id → parts_in (filter (has_id id) hs) ≡ h.parts.items
+  pub parts_found : AreRising hs → h.id ≡ id → parts_in (filter (has_id id) hs) ≡ h.parts
   parts_found a own =
-      ap parts_in (rows.filter_lies number numbers_in_order id (has_id id) (λ x e. eq-eqb x.id id e) (λ x ne. ne_eqb x.id id ne) hs place h (by_number hs a) (lies own) ∙ ap (λ x. x ∷ []) (sym is)) ∙ append-nil h.parts.items
+      ap parts_in (rows.filter_lies number numbers_in_order id (has_id id) (λ x e. eq-eqb x.id id e) (λ x ne. ne_eqb x.id id ne) hs place h (by_number hs a) (lies own) ∙ ap (λ x. x ∷ []) (sym is)) ∙ append-nil h.parts
 
   pub remove_found : AreRising hs → h.id ≡ id → remove hs place ≡ filter (λ (x : Holding). not (eqb x.id id)) hs
   remove_found a own = rows.remove_lies number numbers_in_order id (has_id id) (λ x e. eq-eqb x.id id e) (λ x ne. ne_eqb x.id id ne) hs place (by_number hs a) (lies own)

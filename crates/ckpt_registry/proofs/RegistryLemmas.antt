@@ -20,10 +20,11 @@ use Rattle.ckpt_ids.proofs.AscendingLemmas.{numbers_in_order, IsAscending-from_s
 use Rattle.ckpt_ids.proofs.OrderLemmas.{uses_in_order}
 use Rattle.ckpt_registry.specs.Counters.{Counts, counter, counted_once, AreInRange}
 use Rattle.ckpt_registry.specs.declared.pins.Pinner.{Pinner}
-use Rattle.ckpt_registry.specs.Holdings.{Acknowledged, AreRising, Extends, files_in, parts_of, uses_in}
+use Rattle.ckpt_registry.specs.Holdings.{Acknowledged, AreRising, Extends, parts_of, uses_in}
 use Rattle.ckpt_registry.specs.Pins.{IsKept, each_file, pinned_by, pins_in, pins_of_records}
 use Rattle.ckpt_registry.specs.Sound.{stored, in_use, AreCounted, StandsOnce, IsSound}
 use Rattle.ckpt_registry.specs.Uses.{IsEachOnce, HasNoUse, triples, files_by, is_owned, is_ended, without, after_end}
+use Rattle.ckpt_registry.specs.Parts.{files_in}
 use Rattle.ckpt_registry.proofs.PinLemmas.{pins_in-extended, pins_in-holder, pins_in-push, uses_in-holder}
 use Rattle.ckpt_registry.proofs.SoundLemmas.{AreCounted-acknowledged, AreCounted-pushed, count-stored, is_present-stored}
 use Rattle.ckpt_registry.proofs.HoldingLemmas.{count-used_by}

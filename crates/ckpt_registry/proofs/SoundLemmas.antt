@@ -9,10 +9,11 @@ use Rattle.ckpt_ids.proofs.CountLemmas.{count_by-append}
 use Rattle.ckpt_registry.specs.declared.holdings.Holding.{Holding}
 use Rattle.ckpt_registry.specs.declared.pins.Pinner.{Pinner}
 use Rattle.ckpt_registry.specs.Counters.{Counts, counter, counted_once, AreInRange}
-use Rattle.ckpt_registry.specs.Holdings.{Acknowledged, AreRising, Extends, files_in, parts_of, uses_in}
+use Rattle.ckpt_registry.specs.Holdings.{Acknowledged, AreRising, Extends, parts_of, uses_in}
 use Rattle.ckpt_registry.specs.Pins.{AreKept, AreSettled, IsKept, is_named, own_in, own_of, pinned_by, pins_in, pins_of_records, pins_on}
 use Rattle.ckpt_registry.specs.Sound.{AreCounted, stored}
 use Rattle.ckpt_registry.specs.Uses.{is_owned, triples, without, without_record}
+use Rattle.ckpt_registry.specs.Parts.{files_in}
 use Rattle.ckpt_registry.proofs.CounterLemmas.{counted_once-above, counted_once-zero}
 use Rattle.ckpt_registry.proofs.HoldingLemmas.{has_id, parts_in}
 use Rattle.ckpt_registry.proofs.ListLemmas.{count_by-filter_le}

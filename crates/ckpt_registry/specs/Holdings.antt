@@ -8,7 +8,7 @@ use Rattle.ckpt_ids.specs.Ascending.{IsAscendingSet}
 use Rattle.ckpt_ids.specs.Records.{Use, Subtask}
 use Rattle.ckpt_ids.specs.declared.subtask.SubtaskId.{SubtaskId}
 use Rattle.ckpt_registry.specs.declared.holdings.Holding.{Holding}
-use Rattle.ckpt_registry.specs.declared.holdings.Part.{Part}
+use Rattle.ckpt_registry.specs.Parts.{Part, files_of}
 use Rattle.ckpt_registry.specs.Uses.{triples}
 
 -- what the subtasks of each record acknowledged
@@ -27,14 +27,6 @@ LiesAt held id place = (place < length held) × HoldsAt (λ h. h.id ≡ id) held
 abbrev pub BelongsAt : List Holding → ℕ → ℕ → Type 0
 BelongsAt held id place = (place ≤ length held) × IsPartitionPoint (λ h. h.id < id) (λ h. id < h.id) held place
 
--- the files of one part
-abbrev pub files_of : Part → List ℕ
-files_of part = part.fresh ++ part.reused
-
--- the files of a record; a file that several subtasks use is there once for each
-abbrev pub files_in : List Part → List ℕ
-files_in parts = flat_map files_of parts
-
 -- what one record uses
 abbrev pub uses_by : ℕ → List Part → List Use
 uses_by id parts = flat_map (λ part. triples id (Subtask part.subtask) (files_of part)) parts
@@ -45,11 +37,11 @@ uses_of_ack id subtask fresh reused = triples id (Subtask subtask) (fresh ++ reu
 
 -- what these records use
 abbrev pub uses_in : List Holding → List Use
-uses_in held = flat_map (λ h. uses_by h.id h.parts.items) held
+uses_in held = flat_map (λ h. uses_by h.id h.parts) held
 
 -- the parts of the record of this number
 abbrev pub parts_of : Acknowledged → ℕ → List Part
-parts_of m id = flat_map (λ h. h.parts.items) (filter (λ h. h.id == id) m.items)
+parts_of m id = flat_map (λ h. h.parts) (filter (λ h. h.id == id) m.items)
 
 -- the uses after are those before and these, in any order
 abbrev pub Adds : List Use → List Use → List Use → Type 0

@@ -12,6 +12,7 @@
 
 mod counters;
 mod holdings;
+mod parts;
 mod pins;
 pub mod registry;
 mod releases;

@@ -6,11 +6,13 @@ ghost use Rattle.indexmap.specs.IndexMap.{index_map_len};
 ghost use Rattle.ckpt_ids.specs.Counting.{times};
 ghost use Rattle.ckpt_ids.specs.Ordered.{IsIn};
 ghost use Rattle.ckpt_registry.specs.Counters.{counter, AreInRange, AreLowered, HasRoom};
-ghost use Rattle.ckpt_registry.specs.Holdings.{AreRising, files_in, parts_of};
+ghost use Rattle.ckpt_registry.specs.Holdings.{AreRising, parts_of};
+ghost use Rattle.ckpt_registry.specs.Parts.{files_in};
 ghost use Rattle.ckpt_registry.specs.Pins.{AreKept, AreSettled, IsKept, IsLook, IsTaken, each_file, is_named, named_by, own_in, own_of, parts_pinned, pins_of_records, pins_on};
 
 use crate::counters::{Counts, count_reused};
-use crate::holdings::{Acknowledged, Part, has, lower_each, parts_held};
+use crate::holdings::{Acknowledged, lower_each, parts_held};
+use crate::parts::{MOST_FILES, Parts, emptied, write};
 use crate::sorting::sort;
 use ckpt_ids::{CheckpointId, FileId};
 use std::alloc::{AllocError, Global};
@@ -38,13 +40,15 @@ impl Pinner {
         requires within { self.now.parts ≤ length (parts_of acknowledged.now self.now.chosen) }
         ensures { result ≡ nat_lt 0 (times file (files_in (parts_pinned acknowledged.now self.now))) }
     {
-        let parts = parts_held(acknowledged, self.chosen);
-        has(&parts[..self.parts], file)
+        match parts_held(acknowledged, self.chosen) {
+            Some(parts) => parts.has(self.parts, file),
+            None => false,
+        }
     }
 
     /// From now on the files of the pinned record are counted one by one, in the room that was kept
     /// for them. Takes no memory.
-    fn take(&mut self, counts: &mut Counts, parts: &[Part])
+    fn take(&mut self, counts: &mut Counts, parts: &Parts)
         requires kept { IsKept parts.now self.old }
         requires pins { 0 < self.old.parts }
         requires present { (f : ℕ) → IsIn f (files_in parts.now) → 0 < counter counts.old f }
@@ -55,7 +59,7 @@ impl Pinner {
         ensures len { index_map_len counts.new ≡ index_map_len counts.old }
         ensures range { AreInRange counts.new }
     {
-        fill(&mut self.files, &parts[..self.parts]);
+        write(&mut self.files, parts.files_of_first(self.parts));
         sort(&mut self.files);
         self.files.dedup();
         self.parts = 0;
@@ -88,7 +92,7 @@ pub(crate) fn pin_all(
     pinned: &[Pinner],
     id: CheckpointId,
     chosen: CheckpointId,
-    parts: &[Part],
+    parts: &Parts,
     room: Vec<FileId>,
 ) -> Pinner
     requires some { 0 < length parts.now }
@@ -121,38 +125,6 @@ pub(crate) fn pin_all(
     one
 }
 
-/// Writes the files of these parts into reserved room.
-fn fill(files: &mut Vec<FileId>, parts: &[Part])
-    requires room { vec_len files.old + length (files_in parts.now) ≤ vec_capacity files.old }
-    ensures { files.new.items ≡ files.old.items ++ files_in parts.now }
-{
-    for part in parts {
-        write(files, part.fresh.as_slice());
-        write(files, part.reused.as_slice());
-    }
-}
-
-/// Writes files into reserved room.
-fn write(files: &mut Vec<FileId>, more: &[FileId])
-    requires room { vec_len files.old + length more.now ≤ vec_capacity files.old }
-    ensures items { files.new.items ≡ files.old.items ++ more.now }
-    ensures len { vec_len files.new ≡ vec_len files.old + length more.now }
-    ensures capacity { vec_capacity files.old ≤ vec_capacity files.new }
-{
-    let _ = files.extend_from_slice(more);
-}
-
-/// Appends the files of these parts. Fails only if memory runs out.
-fn add_files(all: &mut Vec<FileId>, parts: &[Part]) -> Result<(), AllocError>
-    ensures { OnOk result (all.new.items ≡ all.old.items ++ files_in parts.now) }
-{
-    for part in parts {
-        all.extend_from_slice(part.fresh.as_slice())?;
-        all.extend_from_slice(part.reused.as_slice())?;
-    }
-    Ok(())
-}
-
 /// The files that a record pins. A file of several parts is there once for each. Fails only if
 /// memory runs out.
 pub(crate) fn files_pinned(
@@ -168,8 +140,9 @@ pub(crate) fn files_pinned(
     let mut all = Vec::new(alloc);
     for one in pinned {
         if one.id == id {
-            let parts = parts_held(acknowledged, one.chosen);
-            add_files(&mut all, &parts[..one.parts])?;
+            if let Some(parts) = parts_held(acknowledged, one.chosen) {
+                all.extend_from_slice(parts.files_of_first(one.parts))?;
+            }
             all.extend_from_slice(&one.files)?;
         }
     }
@@ -231,7 +204,7 @@ pub(crate) fn settle(
     pinned: &mut Vec<Pinner>,
     counts: &mut Counts,
     chosen: CheckpointId,
-    parts: &[Part],
+    parts: &Parts,
 )
     requires kept { (one : Pinner) → IsIn one pinned.old.items → one.chosen ≡ chosen → IsKept parts.now one }
     requires present { (f : ℕ) → IsIn f (files_in parts.now) → 0 < counter counts.old f }
@@ -249,28 +222,30 @@ pub(crate) fn settle(
     }
 }
 
-/// Removes the pins of these records.
+/// Removes the pins of these records. The room of the last of them is then spare.
 pub(crate) fn unpin(
     pinned: &mut Vec<Pinner>,
     counts: &mut Counts,
     released: &mut Vec<FileId>,
+    room: &mut Vec<FileId>,
     owners: &[CheckpointId],
 )
     requires counted { (f : ℕ) → times f (own_in pinned.old.items) ≤ counter counts.old f }
     requires range { AreInRange counts.old }
     requires room { HasRoom counts.old released.old }
+    requires no_files { room.old.items ≡ [] }
     ensures kept { pinned.new.items ≡ filter (λ one. not (is_named owners.now one.id)) pinned.old.items }
     ensures lowered { AreLowered (λ f. times f (own_of owners.now pinned.old.items)) counts.old released.old counts.new released.new }
+    ensures no_files { room.new.items ≡ [] }
 {
-    for one in pinned.iter() {
-        if owners.contains(&one.id) {
+    let mut place: usize = 0;
+    for _ in 0..pinned.len() {
+        if owners.contains(&pinned[place].id) {
+            let one = pinned.remove(place);
             lower_each(counts, released, &one.files);
+            *room = emptied(one.files, MOST_FILES);
+        } else {
+            place += 1;
         }
     }
-    pinned.retain(
-        |one|
-            ensures value { result ≡ not (is_named owners.entry.now one.now.id) }
-            ensures same { owners.exit ≡ owners.entry }
-        { !owners.contains(&one.id) },
-    );
 }

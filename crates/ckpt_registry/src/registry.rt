@@ -7,7 +7,8 @@ ghost use Rattle.ckpt_ids.specs.Records.{Subtask, Pin, count, is_present, releas
 ghost use Rattle.ckpt_registry.specs.Uses.{IsEachOnce, HasNoUse, after_end, files_by, pins_by, triples, without};
 
 use crate::counters::{Counts, count_each, count_fresh, count_reused};
-use crate::holdings::{Acknowledged, Part, hold, named, parts_held};
+use crate::holdings::{Acknowledged, hold, parts_held};
+use crate::parts::Parts;
 use crate::pins::{Pinner, files_pinned, pin_all, pins_of, unpin};
 use crate::releases::release_each;
 use crate::sorting::sort;
@@ -17,6 +18,7 @@ use indexmap::IndexMap;
 use std::alloc::{AllocError, Global};
 use std::collections::VecDeque;
 use std::marker::Model;
+use std::mem::replace;
 
 /// The uses of state files by live records, and how often each file is used.
 ///
@@ -35,6 +37,11 @@ use std::marker::Model;
 ///
 /// No call visits other files. A record that is pinned as a whole uses each of its files, so they
 /// are present while it is live. So such pins are counted only once it is dropped.
+///
+/// A use by an acknowledgement takes 8 bytes, and the acknowledgement 24, in two lists of the record
+/// that double when they are full. A pin takes 8 bytes. A new record begins with the lists of the
+/// last one that was dropped, if they have at most 14 kilobytes. So while records come and go that
+/// need no more, an acknowledgement takes memory only for the counters of further files.
 #[derive(Debug)]
 pub struct Registry {
     counts: Counts,
@@ -43,7 +50,10 @@ pub struct Registry {
     /// The answer of the last release, in room for all files that are present.
     released: Vec<FileId>,
     /// Empty room for the parts of the next new record. It comes from the last dropped record.
-    spare: Vec<Part>,
+    spare: Parts,
+    /// Empty room for the files of the next record that pins another. It comes from the last pins
+    /// that went.
+    room: Vec<FileId>,
 }
 
 impl Drop for Registry {
@@ -54,6 +64,7 @@ impl Drop for Registry {
             pinned: _,
             released: _,
             spare: _,
+            room: _,
         } = self;
     }
 }
@@ -68,7 +79,7 @@ impl Model for Registry {
 
     ghost view = { λ r. in_use r.acknowledged r.pinned.items };
 
-    ghost invariant = { λ r. IsSound r.acknowledged r.pinned.items r.counts (vec_capacity r.released) × (r.spare.items ≡ []) };
+    ghost invariant = { λ r. IsSound r.acknowledged r.pinned.items r.counts (vec_capacity r.released) × (r.spare ≡ []) × (r.room.items ≡ []) };
 }
 
 impl Registry {
@@ -92,7 +103,8 @@ impl Registry {
             acknowledged: VecDeque::new(alloc),
             pinned: Vec::new(alloc),
             released: Vec::new(alloc),
-            spare: Vec::new(alloc),
+            spare: Parts::new(alloc),
+            room: Vec::new(alloc),
         }
     }
 
@@ -206,18 +218,18 @@ impl Registry {
         ensures ok { OnOk result (self.new ≡ in_order_once use_before (self.old ++ triples id Pin (files_by chosen self.old))) }
         ensures err { OnErr result (self.new ≡ self.old) }
     {
-        let parts = parts_held(&self.acknowledged, chosen);
-        if parts.is_empty() {
+        let Some(parts) = parts_held(&self.acknowledged, chosen) else {
+            return Ok(());
+        };
+        if parts.len() == 0 {
             return Ok(());
         }
-        let Some(files) = named(parts) else {
-            return Err(AllocError);
-        };
         let alloc = *self.released.allocator();
         // Room for the files. They are written if the other record is dropped first, since a drop
         // may take no memory. Until then nothing touches this room.
-        let room = Vec::with_capacity(alloc, files)?;
+        self.room.reserve(parts.files().len())?;
         self.pinned.reserve(1)?;
+        let room = replace(&mut self.room, Vec::new(alloc));
         let one = pin_all(&mut self.counts, &self.pinned, id, chosen, parts, room);
         self.pinned.push_reserved(one);
         Ok(())
@@ -249,6 +261,7 @@ impl Registry {
             &mut self.counts,
             &mut self.released,
             &mut self.spare,
+            &mut self.room,
             owners,
         );
         sort(&mut self.released); // as one list, however many records go
@@ -268,6 +281,7 @@ impl Registry {
             &mut self.pinned,
             &mut self.counts,
             &mut self.released,
+            &mut self.room,
             &[id],
         );
         release_each(
@@ -276,6 +290,7 @@ impl Registry {
             &mut self.counts,
             &mut self.released,
             &mut self.spare,
+            &mut self.room,
             owners,
         );
         sort(&mut self.released);

@@ -7,7 +7,8 @@ ghost use Rattle.ckpt_registry.specs.Sound.{AreCounted};
 ghost use Rattle.ckpt_registry.specs.Uses.{without, without_record};
 
 use crate::counters::Counts;
-use crate::holdings::{Acknowledged, Part, lower_parts, remove};
+use crate::holdings::{Acknowledged, lower_each, remove};
+use crate::parts::Parts;
 use crate::pins::{Pinner, settle, unpin};
 use ckpt_ids::{CheckpointId, FileId};
 
@@ -18,23 +19,22 @@ fn drop_uses(
     pinned: &mut Vec<Pinner>,
     counts: &mut Counts,
     released: &mut Vec<FileId>,
-    spare: &mut Vec<Part>,
+    spare: &mut Parts,
     id: CheckpointId,
 )
     requires counted { AreCounted acknowledged.old pinned.old.items counts.old }
     requires room { HasRoom counts.old released.old }
-    requires spare { spare.old.items ≡ [] }
+    requires spare { spare.old ≡ [] }
     ensures counted { AreCounted acknowledged.new pinned.new.items counts.new }
     ensures uses { uses_in acknowledged.new.items ≡ without_record id (uses_in acknowledged.old.items) }
     ensures pins { pins_in acknowledged.new pinned.new.items ≡ pins_in acknowledged.old pinned.old.items }
     ensures released { AreReleased counts.old released.old counts.new released.new }
-    ensures spare { spare.new.items ≡ [] }
+    ensures spare { spare.new ≡ [] }
 {
-    if let Some(mut parts) = remove(acknowledged, id) {
+    if let Some(parts) = remove(acknowledged, id) {
         settle(pinned, counts, id, &parts);
-        lower_parts(counts, released, &parts);
-        parts.clear();
-        *spare = parts;
+        lower_each(counts, released, parts.files());
+        *spare = parts.emptied();
     }
 }
 
@@ -45,19 +45,22 @@ pub(crate) fn release_each(
     pinned: &mut Vec<Pinner>,
     counts: &mut Counts,
     released: &mut Vec<FileId>,
-    spare: &mut Vec<Part>,
+    spare: &mut Parts,
+    room: &mut Vec<FileId>,
     owners: &[CheckpointId],
 )
     requires counted { AreCounted acknowledged.old pinned.old.items counts.old }
     requires room { HasRoom counts.old released.old }
-    requires spare { spare.old.items ≡ [] }
+    requires spare { spare.old ≡ [] }
+    requires no_files { room.old.items ≡ [] }
     ensures counted { AreCounted acknowledged.new pinned.new.items counts.new }
     ensures uses { uses_in acknowledged.new.items ≡ without owners.now (uses_in acknowledged.old.items) }
     ensures pins { pins_in acknowledged.new pinned.new.items ≡ without owners.now (pins_in acknowledged.old pinned.old.items) }
     ensures released { AreReleased counts.old released.old counts.new released.new }
-    ensures spare { spare.new.items ≡ [] }
+    ensures spare { spare.new ≡ [] }
+    ensures no_files { room.new.items ≡ [] }
 {
-    unpin(pinned, counts, released, owners);
+    unpin(pinned, counts, released, room, owners);
     for owner in owners {
         drop_uses(acknowledged, pinned, counts, released, spare, *owner);
     }

@@ -2,28 +2,21 @@
 use Rattle.std.proofs.Common.{◌≡◌, ℕ, ◌+◌, ◌<◌, Bool, List, [], ◌∷◌, ◌++◌, length, get_or, suc, take, drop, ◌⊎◌, refl, sym, ap, subst, ◌∙◌, ⊎_elim, count_by}
 use Rattle.std.specs.List.Sorted.{IsPartitionPoint}
 use Rattle.std.specs.VecDeque.{deque_with_item}
-use Rattle.std.specs.declared.alloc.Global.{Global}
-use Rattle.std.specs.declared.vec.Vec.{Vec}
 use Rattle.std.proofs.lemmas.List.{append-nil, set_split, take-append-drop}
 use Rattle.ckpt_ids.specs.Ordered.{IsIn}
 use Rattle.ckpt_ids.specs.Records.{Use, Subtask}
 use Rattle.ckpt_ids.proofs.OrderedLemmas.{IsIn-append_left, IsIn-append_right}
 use Rattle.ckpt_ids.proofs.ResultLemmas.{on_each_error}
 use Rattle.ckpt_registry.specs.declared.holdings.Holding.{Holding}
-use Rattle.ckpt_registry.specs.declared.holdings.Part.{Part}
-use Rattle.ckpt_registry.specs.Holdings.{Acknowledged, AreRising, Extends, files_of, uses_by, uses_in, uses_of_ack}
+use Rattle.ckpt_registry.specs.Holdings.{Acknowledged, AreRising, Extends, uses_by, uses_in}
 use Rattle.ckpt_registry.specs.Uses.{triples}
+use Rattle.ckpt_registry.specs.Parts.{Part, files_of}
 use Rattle.ckpt_registry.proofs.HoldingLemmas.{Extends-grown, number, parts_in, uses-grown, uses-same}
 use Rattle.ckpt_registry.proofs.PlaceLemmas.{apart_at, apart_from, rising_insert, rising_same, split_at}
 use Rattle.ckpt_registry.proofs.holdings.hold.Goals as goal
 
--- what the uses of one part are
-uses_of_one : (id : ℕ) (part : Part) (fresh reused : List ℕ) → part.fresh ≡ fresh → part.reused ≡ reused → uses_by id (part ∷ []) ≡ uses_of_ack id part.subtask fresh reused
-uses_of_one id part fresh reused e f =
-    append-nil (triples id (Subtask part.subtask) (files_of part)) ∙ ap (λ (xs : List ℕ). triples id (Subtask part.subtask) (xs ++ part.reused)) e ∙ ap (λ (xs : List ℕ). triples id (Subtask part.subtask) (fresh ++ xs)) f
-
 -- a record that holds parts gets more
-module _ (m : Acknowledged) (id place : ℕ) (h : Holding) (v : Vec Part Global) (more : List Part) (a : AreRising m.items) (within : place < length m.items) (is : h ≡ get_or m.items place h) (own : h.id ≡ id) (grown : v.items ≡ h.parts.items ++ more) where
+module _ (m : Acknowledged) (id place : ℕ) (h : Holding) (v : List Part) (more : List Part) (a : AreRising m.items) (within : place < length m.items) (is : h ≡ get_or m.items place h) (own : h.id ≡ id) (grown : v ≡ h.parts ++ more) where
   abbrev new : Holding
   new = record { id = h.id; parts = v }
 
@@ -39,8 +32,8 @@ module _ (m : Acknowledged) (id place : ℕ) (h : Holding) (v : Vec Part Global)
   all : (x : Holding) → IsIn x (h ∷ []) → x.id ≡ id
   all x k = ⊎_elim (λ (e : x ≡ h). ap number e ∙ own) (λ (b : ⊥). absurd b) k
 
-  parts : new.parts.items ≡ parts_in (h ∷ []) ++ more
-  parts = grown ∙ ap (λ ps. ps ++ more) (sym (append-nil h.parts.items))
+  parts : new.parts ≡ parts_in (h ∷ []) ++ more
+  parts = grown ∙ ap (λ ps. ps ++ more) (sym (append-nil h.parts))
 
   pushed_ordered : AreRising after.items
   pushed_ordered = subst (λ hs. AreRising hs) (sym has) (rising_same id place m.items h within is new a refl)
@@ -58,46 +51,46 @@ pub returns-in_err-push-in-Ok-clause-ordered : goal.returns-in_err-push-in-Ok-cl
 returns-in_err-push-in-Ok-clause-ordered c =
     let found = c.in-Ok.ensures.found in
     let h = c.index_mut.result.now in
-    pushed_ordered c.args.acknowledged.now c.args.id c.in-Ok.place h c.push.new.self [] c.requires.ordered found.0 c.index_mut.ensures.value (ap number c.index_mut.ensures.value ∙ found.1 h) (c.in_err-push-in-Ok.ensures.items ∙ sym (append-nil h.parts.items))
+    pushed_ordered c.args.acknowledged.now c.args.id c.in-Ok.place h c.push.new.self [] c.requires.ordered found.0 c.index_mut.ensures.value (ap number c.index_mut.ensures.value ∙ found.1 h) (c.in_err-push-in-Ok.ensures.err ∙ sym (append-nil h.parts))
 
 pub returns-in_err-push-in-Ok-clause-extends : goal.returns-in_err-push-in-Ok-clause-extends
 returns-in_err-push-in-Ok-clause-extends c =
     let found = c.in-Ok.ensures.found in
     let h = c.index_mut.result.now in
-    pushed_extends c.args.acknowledged.now c.args.id c.in-Ok.place h c.push.new.self [] c.requires.ordered found.0 c.index_mut.ensures.value (ap number c.index_mut.ensures.value ∙ found.1 h) (c.in_err-push-in-Ok.ensures.items ∙ sym (append-nil h.parts.items))
+    pushed_extends c.args.acknowledged.now c.args.id c.in-Ok.place h c.push.new.self [] c.requires.ordered found.0 c.index_mut.ensures.value (ap number c.index_mut.ensures.value ∙ found.1 h) (c.in_err-push-in-Ok.ensures.err ∙ sym (append-nil h.parts))
 
 pub returns-in_err-push-in-Ok-clause-err : goal.returns-in_err-push-in-Ok-clause-err
 returns-in_err-push-in-Ok-clause-err c =
     let found = c.in-Ok.ensures.found in
     let h = c.index_mut.result.now in
-    on_each_error c.from_residual-in_err-push-in-Ok.result _
-    (pushed_same c.args.acknowledged.now c.args.id c.in-Ok.place h c.push.new.self [] c.requires.ordered found.0 c.index_mut.ensures.value (ap number c.index_mut.ensures.value ∙ found.1 h) (c.in_err-push-in-Ok.ensures.items ∙ sym (append-nil h.parts.items)) refl)
+    on_each_error c.from_residual.result _
+    (pushed_same c.args.acknowledged.now c.args.id c.in-Ok.place h c.push.new.self [] c.requires.ordered found.0 c.index_mut.ensures.value (ap number c.index_mut.ensures.value ∙ found.1 h) (c.in_err-push-in-Ok.ensures.err ∙ sym (append-nil h.parts)) refl)
 
 pub returns-in_ok-push-in-Ok-clause-ordered : goal.returns-in_ok-push-in-Ok-clause-ordered
 returns-in_ok-push-in-Ok-clause-ordered c =
     let found = c.in-Ok.ensures.found in
     let h = c.index_mut.result.now in
-    let part : Part = record { subtask = c.args.subtask; fresh = c.in_ok-fresh.fresh; reused = c.in_ok-reused.reused } in
-    pushed_ordered c.args.acknowledged.now c.args.id c.in-Ok.place h c.push.new.self (part ∷ []) c.requires.ordered found.0 c.index_mut.ensures.value (ap number c.index_mut.ensures.value ∙ found.1 h) c.in_ok-push-in-Ok.ensures.items
+    let part : Part = record { subtask = c.args.subtask; fresh = c.args.fresh.now; reused = c.args.reused.now } in
+    pushed_ordered c.args.acknowledged.now c.args.id c.in-Ok.place h c.push.new.self (part ∷ []) c.requires.ordered found.0 c.index_mut.ensures.value (ap number c.index_mut.ensures.value ∙ found.1 h) c.in_ok-push-in-Ok.ensures.ok
 
 pub returns-in_ok-push-in-Ok-clause-extends : goal.returns-in_ok-push-in-Ok-clause-extends
 returns-in_ok-push-in-Ok-clause-extends c =
     let found = c.in-Ok.ensures.found in
     let h = c.index_mut.result.now in
-    let part : Part = record { subtask = c.args.subtask; fresh = c.in_ok-fresh.fresh; reused = c.in_ok-reused.reused } in
-    pushed_extends c.args.acknowledged.now c.args.id c.in-Ok.place h c.push.new.self (part ∷ []) c.requires.ordered found.0 c.index_mut.ensures.value (ap number c.index_mut.ensures.value ∙ found.1 h) c.in_ok-push-in-Ok.ensures.items
+    let part : Part = record { subtask = c.args.subtask; fresh = c.args.fresh.now; reused = c.args.reused.now } in
+    pushed_extends c.args.acknowledged.now c.args.id c.in-Ok.place h c.push.new.self (part ∷ []) c.requires.ordered found.0 c.index_mut.ensures.value (ap number c.index_mut.ensures.value ∙ found.1 h) c.in_ok-push-in-Ok.ensures.ok
 
 pub returns-in_ok-push-in-Ok-clause-ok : goal.returns-in_ok-push-in-Ok-clause-ok
 returns-in_ok-push-in-Ok-clause-ok c = λ p.
     let found = c.in-Ok.ensures.found in
     let h = c.index_mut.result.now in
     let m : Acknowledged = c.args.acknowledged.now in
-    let part : Part = record { subtask = c.args.subtask; fresh = c.in_ok-fresh.fresh; reused = c.in_ok-reused.reused } in
-    pushed_uses m c.args.id c.in-Ok.place h c.push.new.self (part ∷ []) c.requires.ordered found.0 c.index_mut.ensures.value (ap number c.index_mut.ensures.value ∙ found.1 h) c.in_ok-push-in-Ok.ensures.items p
-    ∙ ap (λ (us : List Use). count_by p (uses_in m.items) + count_by p us) (uses_of_one c.args.id part c.args.fresh.now c.args.reused.now c.in_ok-fresh.ensures c.in_ok-reused.ensures)
+    let part : Part = record { subtask = c.args.subtask; fresh = c.args.fresh.now; reused = c.args.reused.now } in
+    pushed_uses m c.args.id c.in-Ok.place h c.push.new.self (part ∷ []) c.requires.ordered found.0 c.index_mut.ensures.value (ap number c.index_mut.ensures.value ∙ found.1 h) c.in_ok-push-in-Ok.ensures.ok p
+    ∙ ap (λ (us : List Use). count_by p (uses_in m.items) + count_by p us) (append-nil (triples c.args.id (Subtask c.args.subtask) (files_of part)))
 
 -- a record that holds nothing gets its first part
-module _ (m n : Acknowledged) (place : ℕ) (new : Holding) (more : List Part) (parted : IsPartitionPoint (λ h. h.id < new.id) (λ h. new.id < h.id) m.items place) (has : n.items ≡ take place m.items ++ new ∷ drop place m.items) (is : new.parts.items ≡ more) where
+module _ (m n : Acknowledged) (place : ℕ) (new : Holding) (more : List Part) (parted : IsPartitionPoint (λ h. h.id < new.id) (λ h. new.id < h.id) m.items place) (has : n.items ≡ take place m.items ++ new ∷ drop place m.items) (is : new.parts ≡ more) where
   inserted_extends : Extends m n
   inserted_extends =
       let apart : (x : Holding) → IsIn x (take place m.items) ⊎ IsIn x (drop place m.items) → x.id ≡ new.id → ⊥ = λ x side.
@@ -108,23 +101,22 @@ module _ (m n : Acknowledged) (place : ℕ) (new : Holding) (more : List Part) (
   inserted_uses : (p : Use → Bool) → count_by p (uses_in n.items) ≡ count_by p (uses_in m.items) + count_by p (uses_by new.id more)
   inserted_uses = uses-grown m n new.id (take place m.items) [] (drop place m.items) new more (sym (take-append-drop place m.items)) has refl (λ x k. absurd k) is
 
-pub returns-in_ok-insert-in-Err-clause-ordered : goal.returns-in_ok-insert-in-Err-clause-ordered
-returns-in_ok-insert-in-Err-clause-ordered c =
+pub returns-in_ok-add-in-Err-clause-ordered : goal.returns-in_ok-add-in-Err-clause-ordered
+returns-in_ok-add-in-Err-clause-ordered c =
     let absent = c.in-Err.ensures.absent in
-    let new : Holding = record { id = c.args.id; parts = c.push_reserved.new.self } in
-    subst (λ hs. AreRising hs) (sym c.in_ok-insert-in-Err.ensures.items) (rising_insert new c.args.acknowledged.now.items c.in-Err.place c.requires.ordered absent.0 absent.1)
+    let new : Holding = record { id = c.args.id; parts = c.replace-parts.result } in
+    subst (λ hs. AreRising hs) (sym c.in_ok-add-in-Err.ensures.ok) (rising_insert new c.args.acknowledged.now.items c.in-Err.place c.requires.ordered absent.0 absent.1)
 
-pub returns-in_ok-insert-in-Err-clause-extends : goal.returns-in_ok-insert-in-Err-clause-extends
-returns-in_ok-insert-in-Err-clause-extends c =
-    let new : Holding = record { id = c.args.id; parts = c.push_reserved.new.self } in
-    inserted_extends c.args.acknowledged.now c.insert.new.self c.in-Err.place new _ c.in-Err.ensures.absent.1 c.in_ok-insert-in-Err.ensures.items refl
+pub returns-in_ok-add-in-Err-clause-extends : goal.returns-in_ok-add-in-Err-clause-extends
+returns-in_ok-add-in-Err-clause-extends c =
+    let new : Holding = record { id = c.args.id; parts = c.replace-parts.result } in
+    inserted_extends c.args.acknowledged.now c.add.new.acknowledged c.in-Err.place new _ c.in-Err.ensures.absent.1 c.in_ok-add-in-Err.ensures.ok refl
 
-pub returns-in_ok-insert-in-Err-clause-ok : goal.returns-in_ok-insert-in-Err-clause-ok
-returns-in_ok-insert-in-Err-clause-ok c = λ p.
+pub returns-in_ok-add-in-Err-clause-ok : goal.returns-in_ok-add-in-Err-clause-ok
+returns-in_ok-add-in-Err-clause-ok c = λ p.
     let m : Acknowledged = c.args.acknowledged.now in
-    let part : Part = record { subtask = c.args.subtask; fresh = c.in_ok-fresh.fresh; reused = c.in_ok-reused.reused } in
-    let new : Holding = record { id = c.args.id; parts = c.push_reserved.new.self } in
-    let none : c.replace-parts.result.items ≡ [] = ap (λ (v : Vec Part Global). v.items) c.replace-parts.ensures.value ∙ c.in_ok-reserve-in-Err.ensures.items ∙ c.requires.spare in
-    let one : new.parts.items ≡ part ∷ [] = c.push_reserved.ensures.items ∙ ap (λ (ps : List Part). ps ++ part ∷ []) none in
-    inserted_uses m c.insert.new.self c.in-Err.place new (part ∷ []) c.in-Err.ensures.absent.1 c.in_ok-insert-in-Err.ensures.items one p
-    ∙ ap (λ (us : List Use). count_by p (uses_in m.items) + count_by p us) (uses_of_one c.args.id part c.args.fresh.now c.args.reused.now c.in_ok-fresh.ensures c.in_ok-reused.ensures)
+    let part : Part = record { subtask = c.args.subtask; fresh = c.args.fresh.now; reused = c.args.reused.now } in
+    let new : Holding = record { id = c.args.id; parts = c.replace-parts.result } in
+    let one : new.parts ≡ part ∷ [] = c.replace-parts.ensures.value ∙ c.in_ok-push-in-Err.ensures.ok ∙ ap (λ (ps : List Part). ps ++ part ∷ []) c.requires.spare in
+    inserted_uses m c.add.new.acknowledged c.in-Err.place new (part ∷ []) c.in-Err.ensures.absent.1 c.in_ok-add-in-Err.ensures.ok one p
+    ∙ ap (λ (us : List Use). count_by p (uses_in m.items) + count_by p us) (append-nil (triples c.args.id (Subtask c.args.subtask) (files_of part)))

@@ -1,68 +1,118 @@
 -- Answers the goals of `unpin`.
-use Rattle.std.proofs.Common.{◌≡◌, ℕ, ◌+◌, not, cond, List, take, ap, sym, subst, ◌∙◌, arith, rules}
+use Rattle.std.proofs.Common.{◌≡◌, ℕ, ◌+◌, ◌<◌, ◌^◌, ◌++◌, true, false, cond, length, get_or, List, take, refl, ap, sym, subst, ◌∙◌, arith, rules}
+use Rattle.std.specs.declared.alloc.Global.{Global}
+use Rattle.std.specs.declared.vec.Vec.{Vec}
 use Rattle.std.proofs.lemmas.Bool.{cond-true, cond-false}
-use Rattle.std.proofs.lemmas.Fn.{filter_same}
-use Rattle.std.proofs.lemmas.List.{take_all}
+use Rattle.std.proofs.lemmas.List.{append-nil, drop_all, get_or_default, take_all}
 use Rattle.ckpt_ids.specs.Counting.{times}
 use Rattle.ckpt_registry.specs.declared.pins.Pinner.{Pinner}
 use Rattle.ckpt_registry.specs.Counters.{Counts, Released, AreLowered}
-use Rattle.ckpt_registry.specs.Pins.{is_named, own_in, own_of}
-use Rattle.ckpt_registry.proofs.PinLemmas.{goes, own_of-more, own_of-le}
+use Rattle.ckpt_registry.specs.Pins.{own_of}
+use Rattle.ckpt_registry.proofs.PinLemmas.{goes, own_of-more, own_of-le, place_next, place_same, staying, walk_within, walked_on, walked_one, walked_out}
 use Rattle.ckpt_registry.proofs.CounterLemmas.{AreLowered-none, AreLowered-same, AreLowered-then, HasRoom-released}
 use Rattle.ckpt_registry.proofs.pins.unpin.Goals as goal
 use Rattle.ckpt_registry.proofs.pins.unpin.Goals.{then-contains, else-contains}
 
+-- two reads of one place
+is_item : (row : List Pinner) (place : ℕ) (a b : Pinner) → place < length row → a ≡ get_or row place a → b ≡ get_or row place b → a ≡ b
+is_item row place a b within at here = at ∙ get_or_default row place a b within ∙ sym here
+
+pub loop-init : goal.loop-init
+loop-init c = record { row = refl; place = refl; lowered = AreLowered-none c.args.counts.now c.args.released.now c.requires.range; no_files = c.requires.no_files }
+
+pub index-requires : goal.index-requires
+index-requires c =
+    let old : List Pinner = c.args.pinned.now.items in
+    let below : c.loop.counter < length old = omega (arith, c.loop-test.true, c.len-end.ensures, c.args.pinned.now.ok.0) in
+    omega (arith, c.loop.pinned.ok.0, walk_within c.args.owners.now old c.loop.pinned.items c.loop.counter c.loop.place c.loop.invariant.row c.loop.invariant.place below)
+
+pub remove-one-requires : goal.remove-one-requires
+remove-one-requires c =
+    let old : List Pinner = c.args.pinned.now.items in
+    let below : c.loop.counter < length old = omega (arith, c.loop-test.true, c.len-end.ensures, c.args.pinned.now.ok.0) in
+    omega (arith, c.loop.pinned.ok.0, walk_within c.args.owners.now old c.loop.pinned.items c.loop.counter c.loop.place c.loop.invariant.row c.loop.invariant.place below)
+
 pub lower_each-requires-clause-counted : goal.lower_each-requires-clause-counted
 lower_each-requires-clause-counted c = λ f.
     let owners = c.args.owners.now in
-    let items : List Pinner = c.deref-one-items.result.now in
-    let one = c.one-item.result in
-    let i = c.loop-one.one-index in
-    let same : times f c.deref.result.now ≡ times f one.files.items = ap (times f) c.deref.ensures.value in
-    let all : times f (own_in items) ≡ times f (own_in c.args.pinned.now.items) = ap (λ os. times f (own_in os)) c.deref-one-items.ensures.value in
+    let old : List Pinner = c.args.pinned.now.items in
+    let row : List Pinner = c.loop.pinned.items in
+    let i = c.loop.counter in
+    let one : Pinner = c.index.result.now in
+    let below : i < length old = omega (arith, c.loop-test.true, c.len-end.ensures, c.args.pinned.now.ok.0) in
+    let here : one ≡ get_or old i one = walked_one owners old row i c.loop.place one c.loop.invariant.row c.loop.invariant.place c.index.ensures below in
+    let taken : c.remove-one.result ≡ one = is_item row c.loop.place c.remove-one.result one (walk_within owners old row i c.loop.place c.loop.invariant.row c.loop.invariant.place below) c.remove-one.ensures.value c.index.ensures in
+    let same : times f c.deref.result.now ≡ times f one.files.items = ap (times f) c.deref.ensures.value ∙ ap (λ (o : Pinner). times f o.files.items) taken in
     let on : cond (goes owners one) (times f one.files.items) 0 ≡ times f one.files.items = cond-true (goes owners one) (times f one.files.items) 0 (sym c.contains.ensures.value ∙ c.if-contains.true) in
-    omega (arith, same, all, on, c.loop-one.invariant.lowered f, c.requires.counted f, own_of-more f owners items i one c.loop-one-test.true c.one-item.is, own_of-le f owners (i + 1) items)
-
-pub loop-one-init : goal.loop-one-init
-loop-one-init c = AreLowered-none c.args.counts.now c.args.released.now c.requires.range
+    omega (arith, same, on, c.loop.invariant.lowered.lowered f, c.requires.counted f, own_of-more f owners old i one below here, own_of-le f owners (i + 1) old)
 
 pub lower_each-requires-clause-range : goal.lower_each-requires-clause-range
-lower_each-requires-clause-range c = c.loop-one.invariant.range
+lower_each-requires-clause-range c = c.loop.invariant.lowered.range
 
 pub lower_each-requires-clause-room : goal.lower_each-requires-clause-room
-lower_each-requires-clause-room c = HasRoom-released c.args.counts.now c.loop-one.counts c.args.released.now c.loop-one.released c.requires.room c.loop-one.invariant.released
+lower_each-requires-clause-room c = HasRoom-released c.args.counts.now c.loop.counts c.args.released.now c.loop.released c.requires.room c.loop.invariant.lowered.released
 
-pub loop-one-preserved : goal.loop-one-preserved
-loop-one-preserved c =
+pub overflow_add-place : goal.overflow_add-place
+overflow_add-place c =
+    let old : List Pinner = c.args.pinned.now.items in
+    let below : c.loop.counter < length old = omega (arith, c.loop-test.true, c.len-end.ensures, c.args.pinned.now.ok.0) in
+    let within : c.loop.place < length c.loop.pinned.items = walk_within c.args.owners.now old c.loop.pinned.items c.loop.counter c.loop.place c.loop.invariant.row c.loop.invariant.place below in
+    let small : c.loop.place + 1 < 2 ^ 64 = omega (arith, within, c.loop.pinned.ok.0) in
+    search rules
+
+pub loop-preserved : goal.loop-preserved
+loop-preserved c =
     let owners = c.args.owners.now in
-    let items : List Pinner = c.deref-one-items.result.now in
-    let one = c.one-item.result in
-    let i = c.loop-one.one-index in
+    let old : List Pinner = c.args.pinned.now.items in
+    let row : List Pinner = c.loop.pinned.items in
+    let i = c.loop.counter in
+    let place = c.loop.place in
+    let one : Pinner = c.index.result.now in
     let m : Counts = c.args.counts.now in
     let out : Released = c.args.released.now in
-    let before : ℕ → ℕ = λ f. times f (own_of owners (take i items)) in
-    let after : ℕ → ℕ = λ f. times f (own_of owners (take (i + 1) items)) in
-    let more : (f : ℕ) → after f ≡ before f + cond (goes owners one) (times f one.files.items) 0 = λ f. own_of-more f owners items i one c.loop-one-test.true c.one-item.is in
+    let below : i < length old = omega (arith, c.loop-test.true, c.len-end.ensures, c.args.pinned.now.ok.0) in
+    let here : one ≡ get_or old i one = walked_one owners old row i place one c.loop.invariant.row c.loop.invariant.place c.index.ensures below in
+    let before : ℕ → ℕ = λ f. times f (own_of owners (take i old)) in
+    let after : ℕ → ℕ = λ f. times f (own_of owners (take (i + 1) old)) in
+    let more : (f : ℕ) → after f ≡ before f + cond (goes owners one) (times f one.files.items) 0 = λ f. own_of-more f owners old i one below here in
     let Goal : Counts → Released → Type 0 = λ n last. AreLowered after m out n last in
     elim c.if-contains.branch [
       | then-contains w ↦
-          let on : (f : ℕ) → cond (goes owners one) (times f one.files.items) 0 ≡ times f one.files.items = λ f. cond-true (goes owners one) (times f one.files.items) 0 (sym c.contains.ensures.value ∙ w.if-contains.true) in
-          let same : (f : ℕ) → times f w.deref.result.now ≡ times f one.files.items = λ f. ap (times f) w.deref.ensures.value in
-          let step = AreLowered-then before (λ f. times f w.deref.result.now) after m c.loop-one.counts w.lower_each.new.counts out c.loop-one.released w.lower_each.new.released (λ f. omega (arith, more f, on f, same f)) c.loop-one.invariant w.lower_each.ensures in
-          subst (λ (n : Counts). Goal n c.if-contains.released) (sym w.counts-is) (subst (Goal w.lower_each.new.counts) (sym w.released-is) step)
+          let e : goes owners one ≡ true = sym c.contains.ensures.value ∙ w.if-contains.true in
+          let taken : w.remove-one.result ≡ one = is_item row place w.remove-one.result one (walk_within owners old row i place c.loop.invariant.row c.loop.invariant.place below) w.remove-one.ensures.value c.index.ensures in
+          let on : (f : ℕ) → cond (goes owners one) (times f one.files.items) 0 ≡ times f one.files.items = λ f. cond-true (goes owners one) (times f one.files.items) 0 e in
+          let same : (f : ℕ) → times f w.deref.result.now ≡ times f one.files.items = λ f. ap (times f) w.deref.ensures.value ∙ ap (λ (o : Pinner). times f o.files.items) taken in
+          let step = AreLowered-then before (λ f. times f w.deref.result.now) after m c.loop.counts w.lower_each.new.counts out c.loop.released w.lower_each.new.released (λ f. omega (arith, more f, on f, same f)) c.loop.invariant.lowered w.lower_each.ensures in
+          record {
+            row = ap (λ (v : Vec Pinner Global). v.items) w.pinned-is ∙ w.remove-one.ensures.by_index.2 ∙ walked_out owners old row i place one c.loop.invariant.row c.loop.invariant.place c.index.ensures below e;
+            place = w.place-is ∙ place_same owners old row i place one c.loop.invariant.row c.loop.invariant.place c.index.ensures below e;
+            lowered = subst (λ (n : Counts). Goal n c.if-contains.released) (sym w.counts-is) (subst (Goal w.lower_each.new.counts) (sym w.released-is) step);
+            no_files = ap (λ (v : Released). v.items) w.room-is ∙ w.emptied.ensures;
+          }
       | else-contains w ↦
-          let off : (f : ℕ) → cond (goes owners one) (times f one.files.items) 0 ≡ 0 = λ f. cond-false (goes owners one) (times f one.files.items) 0 (sym c.contains.ensures.value ∙ w.if-contains.false) in
-          let step = AreLowered-same before after m c.loop-one.counts out c.loop-one.released (λ f. omega (arith, more f, off f)) c.loop-one.invariant in
-          subst (λ (n : Counts). Goal n c.if-contains.released) (sym w.counts-is) (subst (Goal c.loop-one.counts) (sym w.released-is) step)
+          let e : goes owners one ≡ false = sym c.contains.ensures.value ∙ w.if-contains.false in
+          let off : (f : ℕ) → cond (goes owners one) (times f one.files.items) 0 ≡ 0 = λ f. cond-false (goes owners one) (times f one.files.items) 0 e in
+          let step = AreLowered-same before after m c.loop.counts out c.loop.released (λ f. omega (arith, more f, off f)) c.loop.invariant.lowered in
+          record {
+            row = ap (λ (v : Vec Pinner Global). v.items) w.pinned-is ∙ walked_on owners old row i place one c.loop.invariant.row c.loop.invariant.place c.index.ensures below e;
+            place = w.place-is ∙ place_next owners old row i place one c.loop.invariant.row c.loop.invariant.place c.index.ensures below e;
+            lowered = subst (λ (n : Counts). Goal n c.if-contains.released) (sym w.counts-is) (subst (Goal c.loop.counts) (sym w.released-is) step);
+            no_files = ap (λ (v : Released). v.items) w.room-is ∙ c.loop.invariant.no_files;
+          }
     ]
 
 pub returns-clause-kept : goal.returns-clause-kept
-returns-clause-kept c = filter_same _ (λ one. not (is_named c.args.owners.now one.id)) _ (λ one b f' t. search rules) c.args.pinned.now.items c.retain.new.self.items c.retain.ensures.filtered
+returns-clause-kept c =
+    let old : List Pinner = c.args.pinned.now.items in
+    let i = c.loop.counter in
+    let end : i ≡ length old = omega (arith, c.loop-test.false, c.loop.auto.counter-end, c.len-end.ensures, c.args.pinned.now.ok.0) in
+    c.loop.invariant.row ∙ ap (λ os. staying c.args.owners.now (take i old) ++ os) (drop_all i old (omega arith)) ∙ append-nil (staying c.args.owners.now (take i old)) ∙ ap (staying c.args.owners.now) (take_all i old (omega arith))
 
 pub returns-clause-lowered : goal.returns-clause-lowered
 returns-clause-lowered c =
     let owners = c.args.owners.now in
-    let items : List Pinner = c.deref-one-items.result.now in
-    let whole : (f : ℕ) → times f (own_of owners (take c.loop-one.one-index items)) ≡ times f (own_of owners c.args.pinned.now.items) = λ f.
-    ap (λ os. times f (own_of owners os)) (take_all c.loop-one.one-index items c.loop-one-test.false ∙ c.deref-one-items.ensures.value) in
-    AreLowered-same _ _ c.args.counts.now c.loop-one.counts c.args.released.now c.loop-one.released whole c.loop-one.invariant
+    let old : List Pinner = c.args.pinned.now.items in
+    let i = c.loop.counter in
+    let end : i ≡ length old = omega (arith, c.loop-test.false, c.loop.auto.counter-end, c.len-end.ensures, c.args.pinned.now.ok.0) in
+    let whole : (f : ℕ) → times f (own_of owners (take i old)) ≡ times f (own_of owners old) = λ f. ap (λ os. times f (own_of owners os)) (take_all i old (omega arith)) in
+    AreLowered-same _ _ c.args.counts.now c.loop.counts c.args.released.now c.loop.released whole c.loop.invariant.lowered

@@ -2,11 +2,11 @@
 use Rattle.std.proofs.Common.{◌≡◌, ℕ, ◌+◌, List, sym, ap, subst, ◌∙◌, arith}
 use Rattle.ckpt_ids.specs.Counting.{times}
 use Rattle.ckpt_ids.proofs.CountLemmas.{times-from_IsIn}
-use Rattle.ckpt_registry.specs.declared.holdings.Part.{Part}
 use Rattle.ckpt_registry.specs.declared.pins.Pinner.{Pinner}
 use Rattle.ckpt_registry.specs.Counters.{counter, counted_once}
-use Rattle.ckpt_registry.specs.Holdings.{Acknowledged, files_in, parts_of}
+use Rattle.ckpt_registry.specs.Holdings.{Acknowledged, parts_of}
 use Rattle.ckpt_registry.specs.Pins.{AreSettled, IsKept, pins_on}
+use Rattle.ckpt_registry.specs.Parts.{Part, files_in}
 use Rattle.ckpt_registry.proofs.CounterLemmas.{AreReleased-none}
 use Rattle.ckpt_registry.proofs.HoldingLemmas.{AreRising-gone, count-gone, count-parts_of, parts_of-gone, uses_in-gone}
 use Rattle.ckpt_registry.proofs.PinLemmas.{pins_on-le}
@@ -16,30 +16,30 @@ use Rattle.ckpt_registry.proofs.releases.drop_uses.Goals as goal
 pub settle-requires-clause-kept : goal.settle-requires-clause-kept
 settle-requires-clause-kept c = λ one h e.
     let m : Acknowledged = c.args.acknowledged.now in
-    let is : parts_of m one.chosen ≡ c.deref.result.now = ap (parts_of m) e ∙ sym c.in-Some.ensures.parts ∙ sym c.deref.ensures.value in
+    let is : parts_of m one.chosen ≡ c.in-Some.parts = ap (parts_of m) e ∙ sym c.in-Some.ensures.parts in
     let P : List Part → Type 0 = λ ps. IsKept ps one in
     subst P is (c.requires.counted.kept one h)
 
 pub settle-requires-clause-present : goal.settle-requires-clause-present
 settle-requires-clause-present c = λ f h.
     let m : Acknowledged = c.args.acknowledged.now in
-    let is : c.deref.result.now ≡ parts_of m c.args.id = c.deref.ensures.value ∙ c.in-Some.ensures.parts in
-    let same : times f (files_in c.deref.result.now) ≡ times f (files_in (parts_of m c.args.id)) = ap (λ ps. times f (files_in ps)) is in
-    omega (arith, same, times-from_IsIn f (files_in c.deref.result.now) h, count-parts_of m c.args.id f, c.requires.counted.counted f)
+    let is : c.in-Some.parts ≡ parts_of m c.args.id = c.in-Some.ensures.parts in
+    let same : times f (files_in c.in-Some.parts) ≡ times f (files_in (parts_of m c.args.id)) = ap (λ ps. times f (files_in ps)) is in
+    omega (arith, same, times-from_IsIn f (files_in c.in-Some.parts) h, count-parts_of m c.args.id f, c.requires.counted.counted f)
 
 pub settle-requires-clause-fits : goal.settle-requires-clause-fits
 settle-requires-clause-fits c = λ f.
     let m : Acknowledged = c.args.acknowledged.now in
     let p : List Pinner = c.args.pinned.now.items in
-    let is : c.deref.result.now ≡ parts_of m c.args.id = c.deref.ensures.value ∙ c.in-Some.ensures.parts in
-    let same : pins_on c.args.id c.deref.result.now f p ≡ pins_on c.args.id (parts_of m c.args.id) f p = ap (λ ps. pins_on c.args.id ps f p) is in
+    let is : c.in-Some.parts ≡ parts_of m c.args.id = c.in-Some.ensures.parts in
+    let same : pins_on c.args.id c.in-Some.parts f p ≡ pins_on c.args.id (parts_of m c.args.id) f p = ap (λ ps. pins_on c.args.id ps f p) is in
     omega (arith, same, pins_on-le m c.args.id f p, count-stored m p c.args.counts.now c.requires.counted f, c.requires.counted.below f)
 
-pub lower_parts-requires-clause-counted : goal.lower_parts-requires-clause-counted
-lower_parts-requires-clause-counted c = λ f.
+pub lower_each-requires-clause-counted : goal.lower_each-requires-clause-counted
+lower_each-requires-clause-counted c = λ f.
     let m : Acknowledged = c.args.acknowledged.now in
-    let is : c.deref-in-Some.result.now ≡ parts_of m c.args.id = c.deref-in-Some.ensures.value ∙ c.in-Some.ensures.parts in
-    let same : times f (files_in c.deref-in-Some.result.now) ≡ times f (files_in (parts_of m c.args.id)) = ap (λ ps. times f (files_in ps)) is in
+    let is : c.in-Some.parts ≡ parts_of m c.args.id = c.in-Some.ensures.parts in
+    let same : times f c.files.result.now ≡ times f (files_in (parts_of m c.args.id)) = ap (times f) c.files.ensures ∙ ap (λ ps. times f (files_in ps)) is in
     omega (arith, same, count-parts_of m c.args.id f, c.requires.counted.counted f, c.settle.ensures.counted f)
 
 pub returns-in-Some-clause-counted : goal.returns-in-Some-clause-counted
@@ -49,15 +49,14 @@ returns-in-Some-clause-counted c =
     let id = c.args.id in
     let p : List Pinner = c.args.pinned.now.items in
     let q : List Pinner = c.settle.new.pinned.items in
-    let is : c.deref.result.now ≡ parts_of m id = c.deref.ensures.value ∙ c.in-Some.ensures.parts in
-    let other : c.deref-in-Some.result.now ≡ parts_of m id = c.deref-in-Some.ensures.value ∙ c.in-Some.ensures.parts in
+    let is : c.in-Some.parts ≡ parts_of m id = c.in-Some.ensures.parts in
     let P : List Part → Type 0 = λ ps. AreSettled id ps p q in
-    let moved : (f : ℕ) → counter c.lower_parts.new.counts f + times f (files_in (parts_of m id)) ≡ counter c.args.counts.now f + pins_on id (parts_of m id) f p = λ f.
-    let lowered : times f (files_in c.deref-in-Some.result.now) ≡ times f (files_in (parts_of m id)) = ap (λ ps. times f (files_in ps)) other in
-    let raised : pins_on id c.deref.result.now f p ≡ pins_on id (parts_of m id) f p = ap (λ ps. pins_on id ps f p) is in
-    omega (arith, lowered, raised, c.lower_parts.ensures.lowered f, c.settle.ensures.counted f) in
-    AreCounted-gone m n id p q c.args.counts.now c.lower_parts.new.counts c.requires.counted (parts_of-gone m n id c.remove.ensures.gone) (subst P is c.settle.ensures.settled) (AreRising-gone m n id c.remove.ensures.gone c.requires.counted.ordered)
-    (uses_in-gone m n id c.remove.ensures.gone) (count-gone m n id c.remove.ensures.gone) moved c.lower_parts.ensures.range
+    let moved : (f : ℕ) → counter c.lower_each.new.counts f + times f (files_in (parts_of m id)) ≡ counter c.args.counts.now f + pins_on id (parts_of m id) f p = λ f.
+    let lowered : times f c.files.result.now ≡ times f (files_in (parts_of m id)) = ap (times f) c.files.ensures ∙ ap (λ ps. times f (files_in ps)) is in
+    let raised : pins_on id c.in-Some.parts f p ≡ pins_on id (parts_of m id) f p = ap (λ ps. pins_on id ps f p) is in
+    omega (arith, lowered, raised, c.lower_each.ensures.lowered f, c.settle.ensures.counted f) in
+    AreCounted-gone m n id p q c.args.counts.now c.lower_each.new.counts c.requires.counted (parts_of-gone m n id c.remove.ensures.gone) (subst P is c.settle.ensures.settled) (AreRising-gone m n id c.remove.ensures.gone c.requires.counted.ordered)
+    (uses_in-gone m n id c.remove.ensures.gone) (count-gone m n id c.remove.ensures.gone) moved c.lower_each.ensures.range
 
 pub returns-in-Some-clause-uses : goal.returns-in-Some-clause-uses
 returns-in-Some-clause-uses c = uses_in-gone c.args.acknowledged.now c.remove.new.acknowledged c.args.id c.remove.ensures.gone
@@ -69,19 +68,19 @@ returns-in-Some-clause-pins c =
     let id = c.args.id in
     let p : List Pinner = c.args.pinned.now.items in
     let q : List Pinner = c.settle.new.pinned.items in
-    let is : c.deref.result.now ≡ parts_of m id = c.deref.ensures.value ∙ c.in-Some.ensures.parts in
+    let is : c.in-Some.parts ≡ parts_of m id = c.in-Some.ensures.parts in
     let P : List Part → Type 0 = λ ps. AreSettled id ps p q in
-    pins_in-gone m n id p q c.args.counts.now c.lower_parts.new.counts c.requires.counted (parts_of-gone m n id c.remove.ensures.gone) (subst P is c.settle.ensures.settled)
+    pins_in-gone m n id p q c.args.counts.now c.lower_each.new.counts c.requires.counted (parts_of-gone m n id c.remove.ensures.gone) (subst P is c.settle.ensures.settled)
 
 pub returns-in-Some-clause-released : goal.returns-in-Some-clause-released
 returns-in-Some-clause-released c =
     let m : Acknowledged = c.args.acknowledged.now in
     let p : List Pinner = c.args.pinned.now.items in
-    let e = c.lower_parts.ensures.released in
-    let is : c.deref.result.now ≡ parts_of m c.args.id = c.deref.ensures.value ∙ c.in-Some.ensures.parts in
+    let e = c.lower_each.ensures.released in
+    let is : c.in-Some.parts ≡ parts_of m c.args.id = c.in-Some.ensures.parts in
     record {
       each = λ f.
-          let raised : pins_on c.args.id c.deref.result.now f p ≡ pins_on c.args.id (parts_of m c.args.id) f p = ap (λ ps. pins_on c.args.id ps f p) is in
+          let raised : pins_on c.args.id c.in-Some.parts f p ≡ pins_on c.args.id (parts_of m c.args.id) f p = ap (λ ps. pins_on c.args.id ps f p) is in
           let same : counted_once c.settle.new.counts f ≡ counted_once c.args.counts.now f = counted_once-settled m p c.args.counts.now c.settle.new.counts c.args.id f c.requires.counted (c.settle.ensures.counted f ∙ ap (λ k. counter c.args.counts.now f + k) raised) in
           omega (arith, same, e.each f);
       len = omega (arith, c.settle.ensures.len, e.len);

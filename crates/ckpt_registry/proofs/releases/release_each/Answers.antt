@@ -18,6 +18,7 @@ loop-owner-init c =
       pins = ap (pins_in m) e.kept ∙ pins_in-filter m c.args.owners.now c.args.pinned.now.items;
       released = e.lowered.released;
       spare = c.requires.spare;
+      no_files = e.no_files;
     }
 
 pub drop_uses-requires-clause-room : goal.drop_uses-requires-clause-room
@@ -37,4 +38,5 @@ loop-owner-preserved c =
       pins = e.pins ∙ before.pins;
       released = AreReleased-then c.args.counts.now c.loop-owner.counts c.drop_uses.new.counts c.args.released.now c.loop-owner.released c.drop_uses.new.released before.released e.released;
       spare = e.spare;
+      no_files = before.no_files;
     }

@@ -13,5 +13,6 @@ invariant-loop-owner l = record {
   uses : uses_in l.acknowledged.items ≡ without (take l.owner-index l.owners) (uses_in l.fn.acknowledged.items);
   pins : pins_in l.acknowledged l.pinned.items ≡ without l.owners (pins_in l.fn.acknowledged l.fn.pinned.items);
   released : AreReleased l.fn.counts l.fn.released l.counts l.released;
-  spare : l.spare.items ≡ [];
+  spare : l.spare ≡ [];
+  no_files : l.room.items ≡ [];
 }

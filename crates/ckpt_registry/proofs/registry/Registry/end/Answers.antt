@@ -37,7 +37,7 @@ invariant_of-self c =
     let fits : index_map_len after.counts ≤ vec_capacity c.sort.new.files = omega (arith, c.self.invariant.0.has_room, e.released.len, e.released.capacity, c.unpin.ensures.lowered.released.len, c.unpin.ensures.lowered.released.capacity, c.sort.ensures.capacity, c.clear.ensures.len, c.clear.ensures.capacity) in
     let sound = IsSound-filtered r.acknowledged p after.acknowledged q r.counts after.counts (vec_capacity r.released) (vec_capacity c.sort.new.files) (λ u. not (is_ended c.args.id owners u)) c.self.invariant.0 e.counted
     (stored-after_end r.acknowledged p after.acknowledged q c.args.id owners e.uses pins) fits in
-    (sound, e.spare)
+    (sound, e.spare, e.no_files)
 
 pub returns : goal.returns
 returns c =

@@ -61,6 +61,7 @@ invariant_of-self-2 c =
       subst P (sym c.in_ok-push.ensures.items)
           (IsSound-pinned a p one files own r.counts c.count_each.new.counts room left c.self.invariant.0 kept each (subst H (sym c.self.view_is) c.requires.unpinned) raised c.count_each.ensures.range fits (subst Q (sym c.self.view_is) small)),
       c.self.invariant.1,
+      c.self.invariant.2,
     )
 
 pub returns-clause-ok : goal.returns-clause-ok
@@ -90,4 +91,5 @@ invariant_of-self-in_err-push c =
         has_room = omega (arith, entries, c.in_ok-reserve.ensures.ok, c.len.ensures, c.capacity.ensures, c.in_ok-reserve-2.ensures.ok);
       }),
       c.self.invariant.1,
+      c.self.invariant.2,
     )

@@ -1,24 +1,25 @@
 -- Answers the goals of `Registry::pin_record`.
-use Rattle.std.proofs.lemmas.Bool.{eqb-true}
-use Rattle.std.proofs.Common.{eqb, true, refl, ◌≡◌, ℕ, ◌+◌, ◌<◌, ◌^◌, ◌-◌, ◌++◌, List, [], ◌∷◌, length, take, sym, ap, subst, ◌∙◌, arith}
+use Rattle.std.proofs.Common.{refl, ◌≡◌, ℕ, ◌+◌, ◌<◌, ◌^◌, ◌-◌, ◌++◌, List, [], ◌∷◌, length, take, sym, ap, subst, ◌∙◌, arith}
 use Rattle.std.specs.Vec.{vec_capacity}
+use Rattle.std.specs.declared.alloc.Global.{Global}
+use Rattle.std.specs.declared.vec.Vec.{Vec}
 use Rattle.ckpt_ids.specs.Counting.{times}
 use Rattle.ckpt_ids.specs.Ordered.{IsIn, in_order_once}
 use Rattle.ckpt_ids.specs.Records.{Use, Pin, count, use_before}
 use Rattle.ckpt_ids.proofs.CountLemmas.{times-from_IsIn}
-use Rattle.ckpt_registry.specs.declared.holdings.Part.{Part}
 use Rattle.ckpt_registry.specs.declared.pins.Pinner.{Pinner}
-use Rattle.ckpt_registry.specs.Holdings.{Acknowledged, files_in, parts_of}
+use Rattle.ckpt_registry.specs.Holdings.{Acknowledged, parts_of}
 use Rattle.ckpt_registry.specs.Pins.{IsKept, each_file, pinned_by}
 use Rattle.ckpt_registry.specs.Sound.{IsSound, in_use}
 use Rattle.ckpt_registry.specs.Uses.{HasNoUse, files_by, triples}
+use Rattle.ckpt_registry.specs.Parts.{Part, files_in}
 use Rattle.ckpt_registry.proofs.HoldingLemmas.{count-parts_of}
 use Rattle.ckpt_registry.proofs.RegistryLemmas.{IsEachOnce-files_by, IsSound-pinned, below-in_use, below_more, count-in_use, files_by-in_use, in_use-none, in_use-pinned}
 use Rattle.ckpt_registry.proofs.registry.Registry.pin_record.Goals as goal
 
-no_parts : (ps : List Part) → eqb (length ps) 0 ≡ true → ps ≡ []
+no_parts : (ps : List Part) → length ps ≡ 0 → ps ≡ []
 no_parts [] e = refl
-no_parts (p ∷ ps) e = absurd (omega (arith, eqb-true (length (p ∷ ps)) 0 e))
+no_parts (p ∷ ps) e = absurd (omega (arith, e))
 
 -- no file of the record has as many uses as a counter can have
 fits : (a : Acknowledged) (p : List Pinner) (us : List Use) (chosen : ℕ) → in_use a p ≡ us → ((f : ℕ) → count (in_use a p) f < 2 ^ 32) → ((f : ℕ) → IsIn f (files_by chosen us) → count us f < 2 ^ 32 - 1) → (f : ℕ) → count (in_use a p) f + times f (files_by chosen us) < 2 ^ 32
@@ -27,21 +28,25 @@ fits a p us chosen view was below =
     let Q : List Use → Type 0 = λ vs. (f : ℕ) → count vs f + times f (files_by chosen us) < 2 ^ 32 in
     subst Q (sym view) (below_more us [] (files_by chosen us) (subst B view was) (IsEachOnce-files_by chosen us) (λ f h. absurd h) below)
 
-pub returns-then-is_empty-clause-ok : goal.returns-then-is_empty-clause-ok
-returns-then-is_empty-clause-ok c =
-    let r = c.self.inside in
-    let a : Acknowledged = r.acknowledged in
-    let p : List Pinner = r.pinned.items in
-    let named : List ℕ = files_by c.args.chosen c.args.self.now in
-    let none : named ≡ [] = ap (files_by c.args.chosen) (sym c.self.view_is) ∙ files_by-in_use a p c.args.chosen ∙ ap each_file (sym c.parts_held-parts.ensures ∙ no_parts c.parts_held-parts.result.now (sym c.is_empty.ensures ∙ c.if-is_empty.true)) in
-    let P : List Use → Type 0 = λ us. us ≡ in_order_once use_before (us ++ triples c.args.id Pin named) in
-    subst P c.self.view_is (in_use-none a p c.args.id Pin named none)
+-- a record without parts has no file to pin
+none_pinned : (a : Acknowledged) (p : List Pinner) (us : List Use) (id chosen : ℕ) → in_use a p ≡ us → parts_of a chosen ≡ [] → us ≡ in_order_once use_before (us ++ triples id Pin (files_by chosen us))
+none_pinned a p us id chosen view empty =
+    let named : List ℕ = files_by chosen us in
+    let none : named ≡ [] = ap (files_by chosen) (sym view) ∙ files_by-in_use a p chosen ∙ ap each_file empty in
+    let P : List Use → Type 0 = λ vs. vs ≡ in_order_once use_before (vs ++ triples id Pin named) in
+    subst P view (in_use-none a p id Pin named none)
+
+pub returns-in_default-clause-ok : goal.returns-in_default-clause-ok
+returns-in_default-clause-ok c = none_pinned c.self.inside.acknowledged c.self.inside.pinned.items c.args.self.now c.args.id c.args.chosen c.self.view_is c.in_default.ensures.none
+
+pub returns-then-len-eq0-clause-ok : goal.returns-then-len-eq0-clause-ok
+returns-then-len-eq0-clause-ok c = none_pinned c.self.inside.acknowledged c.self.inside.pinned.items c.args.self.now c.args.id c.args.chosen c.self.view_is (sym c.in-Some.ensures.some ∙ no_parts c.in-Some.parts.now (omega arith))
 
 pub pin_all-one-requires-clause-present : goal.pin_all-one-requires-clause-present
 pin_all-one-requires-clause-present c = λ f h.
     let r = c.self.inside in
-    let parts : List Part = c.parts_held-parts.result.now in
-    let same : times f (files_in parts) ≡ times f (files_in (parts_of r.acknowledged c.args.chosen)) = ap (λ ps. times f (files_in ps)) c.parts_held-parts.ensures in
+    let parts : List Part = c.in-Some.parts.now in
+    let same : times f (files_in parts) ≡ times f (files_in (parts_of r.acknowledged c.args.chosen)) = ap (λ ps. times f (files_in ps)) c.in-Some.ensures.some in
     omega (arith, same, times-from_IsIn f (files_in parts) h, count-parts_of r.acknowledged c.args.chosen f, c.self.invariant.0.parts.counted f)
 
 pub pin_all-one-requires-clause-fits : goal.pin_all-one-requires-clause-fits
@@ -52,8 +57,8 @@ pin_all-one-requires-clause-fits c = λ f.
     let chosen = c.args.chosen in
     let room = vec_capacity r.released in
     let named : List ℕ = files_by chosen c.args.self.now in
-    let is : named ≡ each_file c.parts_held-parts.result.now = ap (files_by chosen) (sym c.self.view_is) ∙ files_by-in_use a p chosen ∙ ap each_file (sym c.parts_held-parts.ensures) in
-    let same : times f named ≡ times f (each_file c.parts_held-parts.result.now) = ap (times f) is in
+    let is : named ≡ each_file c.in-Some.parts.now = ap (files_by chosen) (sym c.self.view_is) ∙ files_by-in_use a p chosen ∙ ap each_file (sym c.in-Some.ensures.some) in
+    let same : times f named ≡ times f (each_file c.in-Some.parts.now) = ap (times f) is in
     omega (arith, same, fits a p c.args.self.now chosen c.self.view_is (below-in_use a p r.counts room c.self.invariant.0) c.requires.below f, count-in_use a p r.counts room c.self.invariant.0 f)
 
 pub invariant_of-self-2 : goal.invariant_of-self-2
@@ -66,15 +71,16 @@ invariant_of-self-2 c =
     let named : List ℕ = files_by chosen c.args.self.now in
     let one : Pinner = c.pin_all-one.result in
     let new = c.pin_all-one.new.counts in
-    let at : parts_of a one.chosen ≡ c.parts_held-parts.result.now = ap (parts_of a) c.pin_all-one.ensures.chosen ∙ sym c.parts_held-parts.ensures in
-    let pins : pinned_by a one ≡ named = ap (λ (ps : List Part). each_file (take one.parts ps) ++ one.files.items) at ∙ c.pin_all-one.ensures.pinned ∙ ap each_file c.parts_held-parts.ensures ∙ sym (files_by-in_use a p chosen) ∙ ap (files_by chosen) c.self.view_is in
+    let at : parts_of a one.chosen ≡ c.in-Some.parts.now = ap (parts_of a) c.pin_all-one.ensures.chosen ∙ sym c.in-Some.ensures.some in
+    let pins : pinned_by a one ≡ named = ap (λ (ps : List Part). each_file (take one.parts ps) ++ one.files.items) at ∙ c.pin_all-one.ensures.pinned ∙ ap each_file c.in-Some.ensures.some ∙ sym (files_by-in_use a p chosen) ∙ ap (files_by chosen) c.self.view_is in
     let K : List Part → Type 0 = λ ps. IsKept ps one in
     let H : ℕ → Type 0 = λ id. HasNoUse (in_use a p) id Pin in
     let V : List Use → Type 0 = λ us. HasNoUse us c.args.id Pin in
     let P : List Pinner → Type 0 = λ ps. IsSound a ps new room in (
-      subst P (sym (c.push_reserved.ensures.items ∙ ap (λ (ps : List Pinner). ps ++ one ∷ []) c.reserve.ensures.items))
+      subst P (sym (c.push_reserved.ensures.items ∙ ap (λ (ps : List Pinner). ps ++ one ∷ []) c.reserve-2.ensures.items))
           (IsSound-pinned a p one named pins r.counts new room room c.self.invariant.0 (subst K (sym at) c.pin_all-one.ensures.kept) (IsEachOnce-files_by chosen c.args.self.now) (subst H (sym c.pin_all-one.ensures.id) (subst V (sym c.self.view_is) c.requires.unpinned)) c.pin_all-one.ensures.counted c.pin_all-one.ensures.range (omega (arith, c.self.invariant.0.has_room, c.pin_all-one.ensures.len)) (fits a p c.args.self.now chosen c.self.view_is (below-in_use a p r.counts room c.self.invariant.0) c.requires.below)),
       c.self.invariant.1,
+      ap (λ (v : Vec ℕ Global). v.items) c.replace-room.ensures.after ∙ c.new.ensures.items,
     )
 
 pub returns-clause-ok : goal.returns-clause-ok
@@ -85,6 +91,6 @@ returns-clause-ok c =
     let chosen = c.args.chosen in
     let named : List ℕ = files_by chosen c.args.self.now in
     let one : Pinner = c.pin_all-one.result in
-    let at : parts_of a one.chosen ≡ c.parts_held-parts.result.now = ap (parts_of a) c.pin_all-one.ensures.chosen ∙ sym c.parts_held-parts.ensures in
-    let pins : pinned_by a one ≡ named = ap (λ (ps : List Part). each_file (take one.parts ps) ++ one.files.items) at ∙ c.pin_all-one.ensures.pinned ∙ ap each_file c.parts_held-parts.ensures ∙ sym (files_by-in_use a p chosen) ∙ ap (files_by chosen) c.self.view_is in
-    ap (in_use a) (c.push_reserved.ensures.items ∙ ap (λ (ps : List Pinner). ps ++ one ∷ []) c.reserve.ensures.items) ∙ in_use-pinned a p one named pins ∙ ap (λ (us : List Use). in_order_once use_before (us ++ triples one.id Pin named)) c.self.view_is ∙ ap (λ (id : ℕ). in_order_once use_before (c.args.self.now ++ triples id Pin named)) c.pin_all-one.ensures.id
+    let at : parts_of a one.chosen ≡ c.in-Some.parts.now = ap (parts_of a) c.pin_all-one.ensures.chosen ∙ sym c.in-Some.ensures.some in
+    let pins : pinned_by a one ≡ named = ap (λ (ps : List Part). each_file (take one.parts ps) ++ one.files.items) at ∙ c.pin_all-one.ensures.pinned ∙ ap each_file c.in-Some.ensures.some ∙ sym (files_by-in_use a p chosen) ∙ ap (files_by chosen) c.self.view_is in
+    ap (in_use a) (c.push_reserved.ensures.items ∙ ap (λ (ps : List Pinner). ps ++ one ∷ []) c.reserve-2.ensures.items) ∙ in_use-pinned a p one named pins ∙ ap (λ (us : List Use). in_order_once use_before (us ++ triples one.id Pin named)) c.self.view_is ∙ ap (λ (id : ℕ). in_order_once use_before (c.args.self.now ++ triples id Pin named)) c.pin_all-one.ensures.id

@@ -20,6 +20,7 @@ invariant_of-self c =
       IsSound-filtered r.acknowledged r.pinned.items after.acknowledged after.pinned.items r.counts after.counts (vec_capacity r.released) (vec_capacity c.sort.new.files) (λ u. not (is_owned owners u)) c.self.invariant.0 e.counted
           (stored-without r.acknowledged r.pinned.items after.acknowledged after.pinned.items owners e.uses e.pins) fits,
       e.spare,
+      e.no_files,
     )
 
 pub returns : goal.returns

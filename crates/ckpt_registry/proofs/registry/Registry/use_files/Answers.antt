@@ -76,6 +76,7 @@ invariant_of-self-in_err-hold c =
         has_room = omega (arith, entries, c.in_ok-reserve.ensures.ok, c.len.ensures, c.capacity.ensures, c.in_ok-reserve-2.ensures.ok);
       },
       e.spare,
+      c.self.invariant.2,
     )
 
 pub returns-in_err-hold-clause-err : goal.returns-in_err-hold-clause-err
@@ -107,6 +108,7 @@ invariant_of-self-2 c =
       IsSound-acknowledged r.acknowledged p held r.counts c.count_reused.new.counts (vec_capacity r.released) (vec_capacity c.reserve-2.new.self) c.args.id c.args.subtask files c.self.invariant.0 c.in_ok-hold.ensures.ordered c.in_ok-hold.ensures.extends c.in_ok-hold.ensures.ok
           c.requires.each_once (subst P (sym c.self.view_is) c.requires.unused) raised c.count_reused.ensures.range fits (subst Q (sym c.self.view_is) small),
       c.in_ok-hold.ensures.spare,
+      c.self.invariant.2,
     )
 
 pub returns-clause-ok : goal.returns-clause-ok

@@ -1,0 +1,12 @@
+-- The loop invariants of `Parts::has`.
+use Rattle.std.proofs.Common.{◌≡◌, take}
+use Rattle.ckpt_ids.specs.Counting.{times}
+use Rattle.ckpt_registry.specs.Parts.{files_in, parts_from}
+use Rattle.ckpt_registry.proofs.CutLemmas.{end_of}
+use Rattle.ckpt_registry.proofs.parts.Parts.has.Given as goal
+
+abbrev pub invariant-loop-cut : goal.invariant-loop-cut
+invariant-loop-cut l = record {
+  start : l.start ≡ end_of 0 (take l.cut-index l.self-inside.cuts.items);
+  none : times l.file (files_in (take l.cut-index (parts_from 0 l.self-inside.cuts.items l.self-inside.files.items))) ≡ 0;
+}

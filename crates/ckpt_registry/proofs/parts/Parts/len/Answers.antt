@@ -1,0 +1,8 @@
+-- Answers the goals of `Parts::len`.
+use Rattle.std.proofs.Common.{ap, sym, ◌∙◌, length, List}
+use Rattle.ckpt_registry.specs.Parts.{Part}
+use Rattle.ckpt_registry.proofs.CutLemmas.{length-parts_from}
+use Rattle.ckpt_registry.proofs.parts.Parts.len.Goals as goal
+
+pub returns : goal.returns
+returns c = c.len.ensures ∙ c.self.inside.cuts.ok.0 ∙ sym (length-parts_from 0 c.self.inside.cuts.items c.self.inside.files.items) ∙ ap (λ (ps : List Part). length ps) c.self.view_is
