@@ -99,11 +99,18 @@ ack m None subtask fresh reused =
 unfoldable pub dropping : State → (Record → Bool) → (ℕ → Reply) → Stepped
 dropping m dropped say = (drop m dropped None, Done (say (length (released_by m dropped None))))
 
+-- the failures after this record is declined
+abbrev pub failures_with : State → Record → ℕ
+failures_with m r = if is_checkpoint r then m.failures + 1 else m.failures
+
+-- whether the job fails over when this record is declined
+abbrev pub fails_the_job : State → Record → Bool
+fails_the_job m r = is_checkpoint r && nat_lt m.opening.config.tolerable (failures_with m r)
+
 unfoldable pub decline_pending : State → Record → Stepped
 decline_pending m r =
-    let failures : ℕ = (if is_checkpoint r then m.failures + 1 else m.failures) in
-    let counted : State = record m { failures = failures } in
-    if is_checkpoint r && nat_lt m.opening.config.tolerable failures
+    let counted : State = record m { failures = failures_with m r } in
+    if fails_the_job m r
     then (failed_over counted, Done (reply.DeclineFailed (length (released_by m is_pending None))))
     else dropping counted (λ s. s.id == r.id) reply.DeclineAborted
 

@@ -131,6 +131,17 @@ pub cascade_through_compaction : answers (opening (record usual { retained = 2 }
 unfolding step_computes
 cascade_through_compaction = refl
 
+-- completed savepoint resets no failures
+pub completed_savepoint_resets_no_failures : answers (opening (record usual { tolerable = 1 }) (1 ∷ [])) (
+    Tick 1000 ∷ Decline 1001 1 (subtask 0 0) ∷ Savepoint 1002 ∷ Ack 1003 2 (subtask 0 0) (7 ∷ []) [] ∷ Tick 2000
+    ∷ Decline 2001 3 (subtask 0 0) ∷ []
+    ) ≡ (
+    Done (reply.Ticked 0 (end.Triggered 1)) ∷ Done (reply.DeclineAborted 0) ∷ Done (reply.SavepointTriggered 2)
+    ∷ Done (reply.AckCompleted 0 0) ∷ Done (reply.Ticked 0 (end.Triggered 3)) ∷ Done (reply.DeclineFailed 0) ∷ []
+    )
+unfolding step_computes
+completed_savepoint_resets_no_failures = refl
+
 -- decline and fail over
 pub decline_and_fail_over : answers (opening (record usual { timeout = 500; tolerable = 1 }) (2 ∷ [])) (
     Tick 1000 ∷ Ack 1000 1 (subtask 0 0) (5 ∷ []) [] ∷ Decline 1100 1 (subtask 0 1) ∷ Tick 2000 ∷ Ack 2000 2 (subtask 0 1) (5 ∷ []) []

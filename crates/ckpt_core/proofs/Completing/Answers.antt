@@ -4,6 +4,7 @@ use Rattle.std.specs.Vec.{vec_capacity}
 use Rattle.std.proofs.lemmas.List.{length-map}
 use Rattle.std.proofs.lemmas.List.Sums.{length-filter, count_by-le-length}
 use Rattle.ckpt_ids.specs.declared.call.Call.TheVariants.{Ack}
+use Rattle.ckpt_ids.specs.declared.numbers.Kind.{Kind}
 use Rattle.ckpt_ids.specs.declared.numbers.Kind.TheVariants as kind
 use Rattle.ckpt_ids.specs.declared.reply.Answer.TheVariants.{Done}
 use Rattle.ckpt_ids.specs.declared.reply.Reply.{Reply}
@@ -28,7 +29,7 @@ use Rattle.ckpt_core.proofs.Completing.Lists.{IsFinishing, is_past, noted_row, n
 use Rattle.ckpt_core.proofs.Completing.Moves.{IsEnding, completed_is, kept_records, left_groups, left_records, left_uses, released_files}
 use Rattle.ckpt_core.proofs.Completing.Taken.{checkpoint_ending, ending_completes, savepoint_ending}
 use Rattle.ckpt_core.proofs.Ending.Drops.{present_after, stays, staying}
-use Rattle.ckpt_core.proofs.Records.GroupLookups.{is_checkpoint-kind, is_savepoint-kind}
+use Rattle.ckpt_core.proofs.Records.GroupLookups.{is_savepoint-kind}
 use Rattle.ckpt_ids.proofs.CountLemmas.{count_by-none}
 use Rattle.ckpt_core.specs.Inside.Grouped.{with_pins}
 use Rattle.ckpt_core.specs.Inside.Moving.{checkpoint_completed, savepoint_completed, taken_in}
@@ -84,13 +85,11 @@ last_places {p} {now} {id} {s} {fresh} {reused} {r} {more_checkpoints} {more_sav
     let all : List Record = replaced (records_in after) d in
     omega (arith, ap length (is ∙ left_records e gone), length-filter keeps all, count_by-le-length keeps all, length-map (records_in after) (with_instead d))
 
+-- what is cleared, where the kind is known
+cleared_by : (m : State) (c : Record) (k : Kind) → c.kind ≡ k → cleared m c ≡ cleared m (record c { kind = k })
+cleared_by m c k e = ap (λ x. cleared m (record c { kind = x })) e
+
 -- a checkpoint
-
-cleared_checkpoint : (m : State) (c : Record) → is_checkpoint c ≡ true → cleared m c ≡ record m { failures = 0; completed = Some m.latest; base = None }
-cleared_checkpoint m c e = ap (λ b. cond b (record m { failures = 0; completed = Some m.latest; base = None }) m) e
-
-cleared_savepoint : (m : State) (c : Record) → is_checkpoint c ≡ false → cleared m c ≡ m
-cleared_savepoint m c e = ap (λ b. cond b (record m { failures = 0; completed = Some m.latest; base = None }) m) e
 
 checkpoint_records : {p : Parts} {now id : ℕ} {s : SubtaskId} {fresh reused : List ℕ} {r : Record} (then : Parts) → IsTaking p now id s fresh reused r → r.kind ≡ kind.Checkpoint →
     records_in (checkpoint_completed (taken_out p now id s fresh reused r) (completed r s fresh reused) (gone_by p now id s fresh reused r) then)
@@ -126,7 +125,7 @@ checkpoint_is {p} {q} {now} {id} {s} {fresh} {reused} {r} then roomier t last ro
       step_is =
           ap (λ m. step m (Ack now id s fresh reused)) (sym (roomier_state roomier))
           ∙ last_step t last e gone files (records_in new) (superseded_is t checkpoint) (superseded_count t checkpoint) records refl
-          ∙ ap (λ m. (m, Done (reply.AckCompleted (length gone) (length files)))) (cleared_checkpoint (record (moved q now) { records = records_in new; waiting = q.outbox.waiting ++ files }) c (is_checkpoint-kind c checkpoint));
+          ∙ ap (λ m. (m, Done (reply.AckCompleted (length gone) (length files)))) (cleared_by (record (moved q now) { records = records_in new; waiting = q.outbox.waiting ++ files }) c kind.Checkpoint checkpoint);
       tied = record {
         uses_are = left_uses e gone ∙ ap uses (sym records);
         retained = t.sound.tied.retained;
@@ -192,7 +191,7 @@ savepoint_is {p} {q} {now} {id} {s} {fresh} {reused} {r} then roomier t last roo
       step_is =
           ap (λ n. step n (Ack now id s fresh reused)) (sym (roomier_state roomier))
           ∙ last_step t last e [] files (records_in new) (λ x h. none_superseded m c x its) (count_by-none (superseded m c) m.records (λ x h. none_superseded m c x its)) records refl
-          ∙ ap (λ n. (n, Done (reply.AckCompleted 0 (length files)))) (cleared_savepoint (record (moved q now) { records = records_in new; waiting = q.outbox.waiting ++ files }) c its);
+          ∙ ap (λ n. (n, Done (reply.AckCompleted 0 (length files)))) (cleared_by (record (moved q now) { records = records_in new; waiting = q.outbox.waiting ++ files }) c kind.Savepoint savepoint);
       tied = record {
         uses_are = left_uses e [] ∙ ap uses (sym records);
         retained = t.sound.tied.retained;

@@ -1,9 +1,9 @@
 -- What the parts become when records end by a call, and the step of the state that this is.
-use Rattle.std.proofs.Common.{◌≡◌, ℕ, ◌+◌, ◌<◌, ◌≤◌, max, Bool, true, false, not, ◌&&◌, cond, ltb, eqb, List, [], ◌++◌, map, length, refl, sym, ap, subst, ◌∙◌, ⊎_elim, arith, Some, None}
+use Rattle.std.proofs.Common.{◌≡◌, ℕ, ◌+◌, ◌<◌, ◌≤◌, max, Bool, true, false, not, ltb, eqb, List, [], ◌++◌, map, length, refl, sym, ap, subst, ◌∙◌, ⊎_elim, arith, Some, None}
 use Rattle.std.specs.Prelude.{find, IsTrue, ◌↔◌}
 use denote.Enum.Bare.{sameb}
 use Rattle.std.specs.Option.{option_map}
-use Rattle.std.proofs.lemmas.Bool.{cases_Bool, both_ways, lt-ltb, le-ltb, ltb-true, ltb-false}
+use Rattle.std.proofs.lemmas.Bool.{cases_Bool, both_ways, cond-true, cond-false, false_from_ne_true, lt-ltb, ltb-true}
 use Rattle.ckpt_ids.specs.declared.subtask.SubtaskId.{SubtaskId}
 use Rattle.ckpt_ids.specs.contracts.numbers.Kind.{the_type}
 use Rattle.ckpt_ids.specs.declared.numbers.Kind.{Kind}
@@ -31,8 +31,8 @@ use Rattle.ckpt_core.specs.Inside.Grouped.{with_pins, grouped}
 use Rattle.ckpt_core.specs.Inside.Parts.{Answers, AreTied, AreSound, Drops, IsAccepted, records_in, state_of}
 use Rattle.ckpt_core.specs.Refusals.{refusal, pending_of, is_done_savepoint}
 use Rattle.ckpt_core.specs.Soundness.{IsSound, id_before}
-use Rattle.ckpt_core.specs.State.{State, choice_of, choice_from, last_checkpoint, drop, kept, released_by, unpinned, is_pending, is_checkpoint}
-use Rattle.ckpt_core.specs.Steps.{Stepped, effect, decline, decline_pending, dispose, dropping, failed_over, restarted, restore, rolled_back, with_base, cancel, cancelled, dropped_by}
+use Rattle.ckpt_core.specs.State.{State, choice_of, choice_from, last_checkpoint, drop, kept, released_by, unpinned, is_pending}
+use Rattle.ckpt_core.specs.Steps.{Stepped, effect, failures_with, fails_the_job, decline, decline_pending, dispose, dropping, failed_over, restarted, restore, rolled_back, with_base, cancel, cancelled, dropped_by}
 use Rattle.ckpt_core.proofs.Records.Counts.{IsIn-from_find}
 use Rattle.ckpt_core.proofs.Ending.Drops.{apart_in}
 use Rattle.ckpt_core.proofs.Records.Grouped.{apart-from_in_order}
@@ -67,31 +67,14 @@ late_answers p now id subtask sound accepted none = record {
   none_ended = sound.none_ended;
 }
 
--- what a declined record does, by whether it is a checkpoint
-declined_by : State → Record → Bool → Stepped
-declined_by m r checkpoint =
-    let failures : ℕ = (cond checkpoint (m.failures + 1) m.failures) in
-    let counted : State = record m { failures = failures } in
-    cond (checkpoint && ltb m.opening.config.tolerable failures)
-    (failed_over counted, Done (reply.DeclineFailed (length (released_by m is_pending None))))
-    (dropping counted (λ s. eqb s.id r.id) reply.DeclineAborted)
+failed : (m : State) (r : Record) → fails_the_job m r ≡ true →
+    decline m (Some r) ≡ (failed_over (record m { failures = failures_with m r }), Done (reply.DeclineFailed (length (released_by m is_pending None))))
+unfolding decline decline_pending
+failed m r fails = cond-true (fails_the_job m r) _ _ fails
 
-decline_is : (m : State) (r : Record) → decline m (Some r) ≡ declined_by m r (is_checkpoint r)
-unfolding decline decline_pending declined_by
-decline_is m r = refl
-
-failed_checkpoint : (m : State) (r : Record) → m.opening.config.tolerable < m.failures + 1 →
-    declined_by m r true ≡ (failed_over (record m { failures = m.failures + 1 }), Done (reply.DeclineFailed (length (released_by m is_pending None))))
-unfolding declined_by
-failed_checkpoint m r many = ap (λ b. cond b (let x : Stepped = (failed_over (record m { failures = m.failures + 1 }), Done (reply.DeclineFailed (length (released_by m is_pending None)))) in x) (dropping (record m { failures = m.failures + 1 }) (λ s. eqb s.id r.id) reply.DeclineAborted)) (lt-ltb m.opening.config.tolerable (m.failures + 1) many)
-
-aborted_checkpoint : (m : State) (r : Record) → m.failures + 1 ≤ m.opening.config.tolerable → declined_by m r true ≡ dropping (record m { failures = m.failures + 1 }) (λ s. eqb s.id r.id) reply.DeclineAborted
-unfolding declined_by
-aborted_checkpoint m r few = ap (λ b. cond b (let x : Stepped = (failed_over (record m { failures = m.failures + 1 }), Done (reply.DeclineFailed (length (released_by m is_pending None)))) in x) (dropping (record m { failures = m.failures + 1 }) (λ s. eqb s.id r.id) reply.DeclineAborted)) (le-ltb m.opening.config.tolerable (m.failures + 1) few)
-
-aborted_savepoint : (m : State) (r : Record) → declined_by m r false ≡ dropping m (λ s. eqb s.id r.id) reply.DeclineAborted
-unfolding declined_by
-aborted_savepoint m r = refl
+aborted : (m : State) (r : Record) → fails_the_job m r ≡ false → decline m (Some r) ≡ dropping (record m { failures = failures_with m r }) (λ s. eqb s.id r.id) reply.DeclineAborted
+unfolding decline decline_pending
+aborted m r stays = cond-false (fails_the_job m r) _ _ stays
 
 -- the record of a number that is pending
 pub pending_there : (p : Parts) (id : ℕ) (r : Record) → IsSound (state_of p) → AreGroups p.pending p.store.checkpoints p.store.savepoints → find (has_number id) p.pending ≡ Some r → pending_of (records_in p) id ≡ Some (with_pins p.registry r)
@@ -135,61 +118,41 @@ declined_tied p q now failures before tied same e = record {
 }
 
 pub failed_answers : (p q : Parts) (now id : ℕ) (subtask : SubtaskId) (r : Record) (failures : FailureCount) (n : ℕ) → AreTied p → IsAccepted p (call.Decline now id subtask) →
-    pending_of (records_in p) id ≡ Some r → is_checkpoint r ≡ true → failures ≡ record p.failures { number = p.failures.number + 1 } → failures.tolerable < failures.number →
+    pending_of (records_in p) id ≡ Some r → failures ≡ record p.failures { number = failures_with (state_of p) r } → fails_the_job (state_of p) r ≡ true →
     state_of q ≡ failed_over (state_of p) → n ≡ length (released_by (state_of p) is_pending None) → AreTied q → q.ended.items ≡ [] →
     Answers p (declined q now failures) (call.Decline now id subtask) (reply.DeclineFailed n)
 unfolding state_of effect failed_over drop
-failed_answers p q now id subtask r failures n before accepted there checkpoint count many is released tied none =
+failed_answers p q now id subtask r failures n before accepted there count fails is released tied none =
     let m : State = record (state_of p) { latest = max now p.clock.latest } in
-    let over : m.opening.config.tolerable < m.failures + 1 = omega (arith, before.tolerable, many, ap (λ f. f.number) count, ap (λ f. f.tolerable) count) in
     let F : State → State = λ s. record s { latest = max now s.latest; failures = failures.number } in
     record {
       step_is = step_accepted (state_of p) (call.Decline now id subtask) accepted
-          ∙ ap (decline m) there ∙ decline_is m r ∙ ap (declined_by m r) checkpoint ∙ failed_checkpoint m r over
-          ∙ answered reply.DeclineFailed (failed_over (record m { failures = m.failures + 1 })) (state_of (declined q now failures)) (length (released_by m is_pending None)) n
+          ∙ ap (decline m) there ∙ failed m r fails
+          ∙ answered reply.DeclineFailed (failed_over (record m { failures = failures_with m r })) (state_of (declined q now failures)) (length (released_by m is_pending None)) n
           (ap F is ∙ ap (λ k. failed_over (record m { failures = k })) (ap (λ f. f.number) count)) released;
       tied = declined_tied p q now failures before tied (ap (λ s. s.opening.config.tolerable) is) (ap (λ f. f.tolerable) count);
       none_ended = none;
     }
 
-aborted_answers : (p q : Parts) (now id : ℕ) (subtask : SubtaskId) (r : Record) (failures : FailureCount) (n : ℕ) → AreTied p → IsAccepted p (call.Decline now id subtask) →
-    pending_of (records_in p) id ≡ Some r → r.id ≡ id → failures.tolerable ≡ p.failures.tolerable →
-    declined_by (record (state_of p) { latest = max now p.clock.latest }) r (is_checkpoint r) ≡ dropping (record (state_of p) { latest = max now p.clock.latest; failures = failures.number }) (λ s. eqb s.id r.id) reply.DeclineAborted →
+pub aborted_answers : (p q : Parts) (now id : ℕ) (subtask : SubtaskId) (r : Record) (failures : FailureCount) (n : ℕ) → AreTied p → IsAccepted p (call.Decline now id subtask) →
+    pending_of (records_in p) id ≡ Some r → r.id ≡ id → failures ≡ record p.failures { number = failures_with (state_of p) r } → fails_the_job (state_of p) r ≡ false →
     Drops p q (λ s. eqb s.id id) n →
     Answers p (declined q now failures) (call.Decline now id subtask) (reply.DeclineAborted n)
 unfolding state_of effect drop dropping
-aborted_answers p q now id subtask r failures n before accepted there its tolerable aborts d =
+aborted_answers p q now id subtask r failures n before accepted there its count stays d =
     let m : State = record (state_of p) { latest = max now p.clock.latest } in
-    let counted : State = record (state_of p) { latest = max now p.clock.latest; failures = failures.number } in
+    let counted : State = record m { failures = failures.number } in
     let F : State → State = λ s. record s { latest = max now s.latest; failures = failures.number } in
     record {
       step_is = step_accepted (state_of p) (call.Decline now id subtask) accepted
-          ∙ ap (decline m) there ∙ decline_is m r ∙ aborts ∙ ap (λ i. dropping counted (λ s. eqb s.id i) reply.DeclineAborted) its
+          ∙ ap (decline m) there ∙ aborted m r stays
+          ∙ ap (λ k. dropping (record m { failures = k }) (λ s. eqb s.id r.id) reply.DeclineAborted) (sym (ap (λ f. f.number) count))
+          ∙ ap (λ i. dropping counted (λ s. eqb s.id i) reply.DeclineAborted) its
           ∙ answered reply.DeclineAborted (drop counted (λ s. eqb s.id id) None) (state_of (declined q now failures)) (length (released_by counted (λ s. eqb s.id id) None)) n
           (ap F d.state_is) d.count_is;
-      tied = declined_tied p q now failures before d.tied (ap (λ s. s.opening.config.tolerable) d.state_is) tolerable;
+      tied = declined_tied p q now failures before d.tied (ap (λ s. s.opening.config.tolerable) d.state_is) (ap (λ f. f.tolerable) count);
       none_ended = d.none_ended;
     }
-
-pub aborted_checkpoint_answers : (p q : Parts) (now id : ℕ) (subtask : SubtaskId) (r : Record) (failures : FailureCount) (n : ℕ) → AreTied p → IsAccepted p (call.Decline now id subtask) →
-    pending_of (records_in p) id ≡ Some r → r.id ≡ id → is_checkpoint r ≡ true → failures ≡ record p.failures { number = p.failures.number + 1 } → failures.number ≤ failures.tolerable →
-    Drops p q (λ s. eqb s.id id) n →
-    Answers p (declined q now failures) (call.Decline now id subtask) (reply.DeclineAborted n)
-unfolding state_of
-aborted_checkpoint_answers p q now id subtask r failures n before accepted there its checkpoint count few d =
-    let m : State = record (state_of p) { latest = max now p.clock.latest } in
-    let not_over : m.failures + 1 ≤ m.opening.config.tolerable = omega (arith, before.tolerable, few, ap (λ f. f.number) count, ap (λ f. f.tolerable) count) in
-    aborted_answers p q now id subtask r failures n before accepted there its (ap (λ f. f.tolerable) count)
-    (ap (declined_by m r) checkpoint ∙ aborted_checkpoint m r not_over ∙ ap (λ k. dropping (record m { failures = k }) (λ s. eqb s.id r.id) reply.DeclineAborted) (sym (ap (λ f. f.number) count))) d
-
-pub aborted_savepoint_answers : (p q : Parts) (now id : ℕ) (subtask : SubtaskId) (r : Record) (n : ℕ) → AreTied p → IsAccepted p (call.Decline now id subtask) →
-    pending_of (records_in p) id ≡ Some r → r.id ≡ id → is_checkpoint r ≡ false →
-    Drops p q (λ s. eqb s.id id) n →
-    Answers p (declined q now p.failures) (call.Decline now id subtask) (reply.DeclineAborted n)
-unfolding state_of
-aborted_savepoint_answers p q now id subtask r n before accepted there its savepoint d =
-    let m : State = record (state_of p) { latest = max now p.clock.latest } in
-    aborted_answers p q now id subtask r p.failures n before accepted there its refl (ap (declined_by m r) savepoint ∙ aborted_savepoint m r) d
 
 pub declined_as : (p x q : Parts) (now : ℕ) (clock : Moments) (failures f : FailureCount) (call : Call) (r s : Reply) → x ≡ q → clock ≡ record x.clock { latest = max now x.clock.latest } → failures ≡ f → r ≡ s →
     Answers p (declined q now f) call s → Answers p (record x { clock = clock; failures = failures }) call r
@@ -206,9 +169,10 @@ pub kind_test : (k : Kind) → sameb the_type k kind.Checkpoint ≡ elim k [ kin
 kind_test kind.Checkpoint = refl
 kind_test kind.Savepoint = refl
 
-pub not_many : (b : Bool) (t n : ℕ) → IsTrue b ↔ (t < n) → b ≡ false → n ≤ t
-not_many b t n says e =
-    ⊎_elim (λ (h : ltb t n ≡ true). absurd (both_ways b e (says.1 (ltb-true t n h)))) (λ (h : ltb t n ≡ false). ltb-false t n h) (cases_Bool (ltb t n))
+-- what `Failures::add` returns
+pub are_too_many : (b : Bool) (t n : ℕ) → IsTrue b ↔ (t < n) → b ≡ ltb t n
+are_too_many b t n says =
+    ⊎_elim (λ (h : ltb t n ≡ true). says.1 (ltb-true t n h) ∙ sym h) (λ (h : ltb t n ≡ false). false_from_ne_true b (λ e. both_ways (ltb t n) h (lt-ltb t n (says.0 e))) ∙ sym h) (cases_Bool (ltb t n))
 
 -- the choice
 

@@ -31,7 +31,7 @@ use Rattle.ckpt_rules.specs.declared.hold.Hold.TheVariants.{Interval, AtOnce, Pa
 use Rattle.ckpt_rules.specs.Trigger.{gap, hold}
 use Rattle.ckpt_core.specs.State.{State, is_checkpoint, is_pending, is_known, in_outbox, is_expired, drop, released_by, choice_of, chosen, files_of, pins_now}
 use Rattle.ckpt_core.specs.Refusals.{refusal, moment_of, pending_of, first_some, named, where_pending, refuse_if, moment_too_large, not_running, too_many_files, repeated_file, unknown_checkpoint, unknown_subtask, already_acknowledged, name_taken, file_gone, no_such_savepoint, in_use, too_many_savepoints, not_taken, no_such_record, ids_used_up}
-use Rattle.ckpt_core.specs.Steps.{Stepped, with_records, dropped_by, triggered, failed_over, pending_checkpoints, start_or_hold, after_expiry, tick, replaced, superseded, cleared, completed_with, acknowledged_in, ack, dropping, decline_pending, decline, dispose, restarted, restore, cancel, take_files, without, effect, at_moment, unless_refused, step}
+use Rattle.ckpt_core.specs.Steps.{Stepped, with_records, dropped_by, triggered, failed_over, pending_checkpoints, start_or_hold, after_expiry, tick, replaced, superseded, cleared, completed_with, acknowledged_in, ack, dropping, failures_with, fails_the_job, decline_pending, decline, dispose, restarted, restore, cancel, take_files, without, effect, at_moment, unless_refused, step}
 use Rattle.ckpt_core.specs.Histories.{answers}
 use Rattle.ckpt_core.specs.Images.{AreAlike, GoesOnAs}
 
@@ -160,11 +160,11 @@ tick_frame m t =
     refl (start_frame k t (dropped_by m expired) h)
 
 cleared_frame : (m : State) (t : List ℕ) (r : Record) → cleared (with_taken m t) r ≡ with_taken (cleared m r) t
-cleared_frame m t r = both (is_checkpoint r)
+cleared_frame m t r = by_kind r.kind
   where
-    both : (b : Bool) → cond b (record m { failures = 0; completed = Some m.latest; base = None; taken = t }) (with_taken m t) ≡ with_taken (cond b (record m { failures = 0; completed = Some m.latest; base = None }) m) t
-    both true = refl
-    both false = refl
+    by_kind : (k : Kind) → cleared (with_taken m t) (record r { kind = k }) ≡ with_taken (cleared m (record r { kind = k })) t
+    by_kind kind.Checkpoint = refl
+    by_kind kind.Savepoint = refl
 
 completed_frame : (m : State) (t : List ℕ) (r : Record) → completed_with (with_taken m t) r ≡ framed t (completed_with m r)
 unfolding completed_with drop
@@ -183,11 +183,10 @@ decline_frame : (m : State) (t : List ℕ) (o : Option Record) → decline (with
 unfolding decline decline_pending dropping failed_over drop
 decline_frame m t None = refl
 decline_frame m t (Some r) =
-    let failures : ℕ = cond (is_checkpoint r) (m.failures + 1) m.failures in
-    let counted : State = record m { failures = failures } in
+    let counted : State = record m { failures = failures_with m r } in
     let gone : Stepped = (failed_over counted, Done (reply.DeclineFailed (length (released_by m is_pending None)))) in
     let aborted : Stepped = dropping counted (λ s. eqb s.id r.id) reply.DeclineAborted in
-    either t (is_checkpoint r && ltb m.opening.config.tolerable failures) gone aborted (framed t gone) (framed t aborted) refl refl
+    either t (fails_the_job m r) gone aborted (framed t gone) (framed t aborted) refl refl
 
 restore_frame : (m : State) (t : List ℕ) (target : Target) (shape : Option (List ℕ)) → restore (with_taken m t) target shape ≡ framed t (restore m target shape)
 unfolding restore restarted drop choice_of

@@ -1,16 +1,19 @@
 -- What an acknowledgement that is accepted for a pending record changes: the record gets it, or is completed by it.
 use Rattle.std.proofs.Common.{◌≡◌, ℕ, ◌≤◌, true, false, eqb, List, [], ◌++◌, refl, arith}
-use Rattle.std.specs.Prelude.{Option, Some, None}
+use Rattle.std.specs.Prelude.{Option, Some}
 use Rattle.std.specs.List.{list_any}
 use Rattle.std.proofs.lemmas.Bool.{cond_both, eqb-true}
+use Rattle.ckpt_ids.specs.declared.numbers.Kind.{Kind}
+use Rattle.ckpt_ids.specs.declared.numbers.Kind.TheVariants as kind
 use Rattle.ckpt_ids.specs.declared.subtask.SubtaskId.{SubtaskId}
 use Rattle.ckpt_ids.specs.Ascending.{ascending}
 use Rattle.ckpt_ids.specs.Records.{Record, missing}
 use Rattle.ckpt_core.specs.declared.mode.Mode.TheVariants.{Running}
 use Rattle.ckpt_core.specs.State.{State, is_checkpoint, drop}
-use Rattle.ckpt_core.specs.Steps.{Stepped, superseded, with_records, replaced, completed_with, acknowledged_in}
+use Rattle.ckpt_core.specs.Steps.{Stepped, superseded, cleared, with_records, replaced, completed_with, acknowledged_in}
 use Rattle.ckpt_core.specs.Soundness.{IsSound}
 use Rattle.ckpt_core.specs.Laws.{given_as, is_ack_taken}
+use Rattle.ckpt_core.proofs.Records.GroupLookups.{is_savepoint-kind}
 use Rattle.ckpt_core.proofs.Soundness.Drops.{is_savepoint}
 use Rattle.ckpt_core.proofs.Soundness.Acks.{IsAcking, with_ack, ack_pending_is_sound}
 use Rattle.ckpt_core.proofs.Soundness.Completions.{completed, having, left_by, savepoints_left, completing, completed_is_sound}
@@ -46,9 +49,13 @@ completion_is m q subtask fresh reused a none =
     let c : Record = completed q subtask fresh reused in
     let n : State = having m c in
     let after : State = drop n (superseded n c) (Some c.id) in
-    cond_both (is_checkpoint c) (record after { failures = 0; completed = Some n.latest; base = None }) after (λ (k : State). IsAcked m q subtask fresh reused (k, (completed_with n c).1))
-    (λ _. completed_is m q subtask fresh reused 0 (Some m.latest) None a none (λ s id e. absurd (cc)) (λ _ _. omega arith))
-    (λ (e : is_checkpoint c ≡ false). completed_is m q subtask fresh reused m.failures m.completed m.base a none (λ s id k. savepoints_left m q c id s (completing m q subtask fresh reused s a none) e (s.base id k)) (λ s. s.failures))
+    let by_kind : Kind → State = λ k. cleared after (record c { kind = k }) in
+    let left : is_checkpoint c ≡ false → IsSound m → (id : ℕ) → m.base ≡ Some id → list_any (is_savepoint id) (left_by m c) ≡ true = λ e s id base.
+    savepoints_left m q c id s (completing m q subtask fresh reused s a none) e (s.base id base) in
+    elim q.kind as (λ k. q.kind ≡ k → IsAcked m q subtask fresh reused (by_kind k, (completed_with n c).1)) [
+      | kind.Checkpoint ↦ λ _. completed_is m q subtask fresh reused _ _ _ a none (λ s id e. absurd (cc)) (λ s runs. omega (arith, s.failures runs))
+      | kind.Savepoint ↦ λ e. completed_is m q subtask fresh reused _ _ _ a none (left (is_savepoint-kind c e)) (λ s runs. omega (arith, s.failures runs))
+    ] refl
 
 -- an accepted acknowledgement of a pending record
 pub acked_is : (m : State) (q : Record) (subtask : SubtaskId) (fresh reused : List ℕ) → IsAcking m q subtask fresh reused → IsAcked m q subtask fresh reused (acknowledged_in m (with_ack q subtask fresh reused))

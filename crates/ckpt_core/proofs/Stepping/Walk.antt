@@ -1,10 +1,11 @@
 -- The walk over all calls of `step`: what each changes.
-use Rattle.std.proofs.Common.{◌≡◌, ℕ, ◌+◌, ◌<◌, ◌≤◌, ◌^◌, max, Bool, true, false, not, ◌&&◌, ◌||◌, cond, ltb, eqb, List, [], ◌∷◌, ◌++◌, take, refl, sym, ap, subst, ◌∙◌, inl, inr, ⊎_elim, arith}
+use Rattle.std.proofs.Common.{◌≡◌, ℕ, ◌+◌, ◌<◌, ◌≤◌, ◌^◌, max, Bool, true, false, not, ◌&&◌, ◌||◌, ltb, eqb, List, [], ◌∷◌, ◌++◌, take, refl, sym, ap, subst, ◌∙◌, inl, inr, ⊎_elim, arith}
 use Rattle.std.specs.Prelude.{count_by, Option, Some, None, unwrap_or, IfSome}
 use Rattle.std.specs.Prelude as prelude
 use Rattle.std.specs.List.{filter, list_any}
 use Rattle.std.proofs.lemmas.Bool.{cases_Bool, both_ways, not-true, and_parts, and_left, and_right, or_from, or_left, cond_both, eqb-true, eqb-false, ltb-false}
 use Rattle.ckpt_ids.specs.declared.subtask.SubtaskId.{SubtaskId}
+use Rattle.ckpt_ids.specs.declared.numbers.Kind.{Kind}
 use Rattle.ckpt_ids.specs.declared.numbers.Kind.TheVariants as kind
 use Rattle.ckpt_ids.specs.declared.call.Target.TheVariants as target
 use Rattle.ckpt_ids.specs.declared.call.Target.{Target}
@@ -23,7 +24,7 @@ use Rattle.ckpt_rules.specs.declared.hold.Hold.TheVariants.{Interval, AtOnce, Pa
 use Rattle.ckpt_core.specs.declared.mode.Mode.TheVariants.{Running, Failed, Cancelled}
 use Rattle.ckpt_core.specs.State.{State, is_checkpoint, is_pending, is_expired, is_known, record_of, drop, pins_now}
 use Rattle.ckpt_core.specs.Refusals.{refusal, moment_of, pending_of, is_done_savepoint, is_number, savepoints}
-use Rattle.ckpt_core.specs.Steps.{Stepped, pending_checkpoints, dropped_by, triggered, failed_over, start_or_hold, after_expiry, tick, ack, decline, decline_pending, dropping, dispose, restore, restarted, rolled_back, cancel, cancelled, take_files, without, show, effect, at_moment, unless_refused, step}
+use Rattle.ckpt_core.specs.Steps.{Stepped, pending_checkpoints, dropped_by, triggered, failed_over, start_or_hold, after_expiry, tick, ack, failures_with, fails_the_job, decline, decline_pending, dropping, dispose, restore, restarted, rolled_back, cancel, cancelled, take_files, without, show, effect, at_moment, unless_refused, step}
 use Rattle.ckpt_core.specs.Soundness.{IsSound}
 use Rattle.ckpt_core.specs.Laws.{given_as, is_ack_taken, registered_as}
 use Rattle.ckpt_core.proofs.Records.Counts.{IsIn-from_find}
@@ -101,31 +102,32 @@ savepoint_is : (m : State) (call : Call) → m.mode ≡ Running → m.next < 2 ^
 unfolding triggered
 savepoint_is m call running room fewer = triggered_is m m call kind.Savepoint m.due (unchanged m call) refl (λ _. refl) (λ s. savepoint_is_sound m s running room fewer)
 
--- if a decline does not fail over, few enough checkpoints have failed
-few_after_decline : (checkpoint : Bool) (failures tolerable : ℕ) → failures ≤ tolerable → (checkpoint && ltb tolerable (cond checkpoint (failures + 1) failures)) ≡ false → cond checkpoint (failures + 1) failures ≤ tolerable
-few_after_decline true failures tolerable few e = ltb-false tolerable (failures + 1) e
-few_after_decline false failures tolerable few e = few
+-- if a decline does not fail over, few enough have failed
+few_after_decline : (m : State) (r : Record) → m.failures ≤ m.opening.config.tolerable → fails_the_job m r ≡ false → failures_with m r ≤ m.opening.config.tolerable
+few_after_decline m r few = by_kind r.kind
+  where
+    by_kind : (k : Kind) → fails_the_job m (record r { kind = k }) ≡ false → failures_with m (record r { kind = k }) ≤ m.opening.config.tolerable
+    by_kind kind.Checkpoint e = ltb-false m.opening.config.tolerable (m.failures + 1) e
+    by_kind kind.Savepoint e = few
 
 -- a decline
 decline_is : (m : State) (call : Call) (id : ℕ) (o : Option Record) → pending_of m.records id ≡ o → IsPlain m call (decline m o).0 (given_as (decline m o).1)
 unfolding decline decline_pending dropping
 decline_is m call id None e = unchanged m call
 decline_is m call id (Some r) e =
-    let failures : ℕ = cond (is_checkpoint r) (m.failures + 1) m.failures in
-    let counted : State = record m { failures = failures } in
+    let counted : State = record m { failures = failures_with m r } in
     let mine : Record → Bool = λ x. eqb x.id r.id in
-    let fails : Bool = is_checkpoint r && ltb m.opening.config.tolerable failures in
     let found = IsIn-from_find (λ x. is_pending x && eqb x.id id) r m.records e in
     let pending : r.done ≡ false = not-true r.done (and_parts (is_pending r) (eqb r.id id) found.1).0 in
     let other : IsSound m → (x : Record) → IsIn x m.records → x.done ≡ true → mine x ≡ false = λ s x h done. ⊎_elim (λ (t : eqb x.id r.id ≡ true). absurd (both_ways r.done pending (ap (λ z. z.done) (sym (same_record x r m.records s.in_order h found.0 (eqb-true x.id r.id t))) ∙ done))) (λ (t : eqb x.id r.id ≡ false). t) (cases_Bool (eqb x.id r.id)) in
-    cond_both fails (failed_over counted, _) (drop counted mine None, _) (λ (x : Stepped). IsPlain m call x.0 (given_as x.1))
-    (λ _. failed_over_is m call failures)
-    (λ (e : fails ≡ false). dropped_is m call (record (settings m) { failures = failures }) mine (record {
+    cond_both (fails_the_job m r) (failed_over counted, _) (drop counted mine None, _) (λ (x : Stepped). IsPlain m call x.0 (given_as x.1))
+    (λ _. failed_over_is m call (failures_with m r))
+    (λ (e : fails_the_job m r ≡ false). dropped_is m call (record (settings m) { failures = failures_with m r }) mine (record {
       shape = λ _ h. h;
       savepoints = λ s x h done _. inl (other s x h done);
       base = λ s. s.base;
       idle = λ ne. inl ne;
-      failures = λ s runs. few_after_decline (is_checkpoint r) m.failures m.opening.config.tolerable (s.failures runs) e;
+      failures = λ s runs. few_after_decline m r (s.failures runs) e;
     }))
 
 -- a number that is not the base's

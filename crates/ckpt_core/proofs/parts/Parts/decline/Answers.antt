@@ -1,22 +1,25 @@
--- A late decline changes only the moment; of a pending record each of the three ends is a step of the state.
-use Rattle.std.proofs.Common.{◌≡◌, Some, None, ap, sym, subst, ◌∙◌, arith}
+-- A late decline changes only the moment; a decline of a pending record is a step of the state, whether the job fails over or not.
+use Rattle.std.proofs.Common.{◌≡◌, ◌+◌, Bool, true, false, ◌&&◌, cond, ltb, Some, None, refl, ap, sym, subst, ◌∙◌, arith}
 use Rattle.std.specs.Prelude.{find}
 use Rattle.std.specs.Option.{option_copied}
-use Rattle.std.proofs.lemmas.Bool.{both_ways, eqb-true}
+use Rattle.std.proofs.lemmas.Bool.{eqb-true}
 use denote.Enum.Bare.{sameb}
 use Rattle.ckpt_ids.specs.contracts.numbers.Kind.{the_type}
 use Rattle.ckpt_ids.specs.declared.numbers.Kind.TheVariants as kind
 use Rattle.ckpt_ids.specs.declared.call.Call.TheVariants as call
 use Rattle.ckpt_ids.specs.declared.reply.Reply.TheVariants as reply
+use Rattle.ckpt_ids.specs.Records.{Record}
 use Rattle.ckpt_rules.specs.Moments.{Moments}
+use Rattle.ckpt_core.specs.declared.parts.Parts.{Parts}
 use Rattle.ckpt_core.specs.Inside.Grouped.{with_pins}
 use Rattle.ckpt_core.specs.Inside.Parts.{state_of, Answers}
 use Rattle.ckpt_core.specs.State.{is_checkpoint}
+use Rattle.ckpt_core.specs.Steps.{failures_with, fails_the_job}
 use Rattle.ckpt_core.proofs.Answering.Accepted.{accepted_decline}
 use Rattle.ckpt_core.proofs.Records.Counts.{IsIn-from_find}
 use Rattle.ckpt_core.proofs.Records.Lookups.{has_number}
 use Rattle.ckpt_core.proofs.Ending.Drops.{groups_of}
-use Rattle.ckpt_core.proofs.Ending.Moves.{late_answers, pending_there, pending_absent, few_failed, failed_answers, aborted_checkpoint_answers, aborted_savepoint_answers, declined_as, kind_test, not_many}
+use Rattle.ckpt_core.proofs.Ending.Moves.{late_answers, pending_there, pending_absent, few_failed, failed_answers, aborted_answers, declined_as, kind_test, are_too_many}
 use Rattle.ckpt_core.proofs.parts.Parts.decline.Goals as goal
 use Rattle.ckpt_core.proofs.parts.Parts.decline.Goals.{then-eq, else-eq, then-failed, else-failed}
 
@@ -41,6 +44,15 @@ add-failed-requires c =
 pub see-requires-2 : goal.see-requires-2
 see-requires-2 c = accepted_decline (state_of c.args.self.now) c.args.now c.args.id c.args.subtask c.requires.accepted
 
+-- the number of failures after it, and whether the job fails over, by whether it is a checkpoint
+number_is : (p : Parts) (r : Record) (b : Bool) → is_checkpoint r ≡ b → failures_with (state_of p) r ≡ cond b (p.failures.number + 1) p.failures.number
+unfolding state_of
+number_is p r b e = ap (λ t. cond t (p.failures.number + 1) p.failures.number) e
+
+test_is : (p : Parts) (r : Record) (b : Bool) → is_checkpoint r ≡ b → fails_the_job (state_of p) r ≡ (b && ltb p.opened.config.tolerable (cond b (p.failures.number + 1) p.failures.number))
+unfolding state_of
+test_is p r b e = ap (λ t. t && ltb p.opened.config.tolerable (cond t (p.failures.number + 1) p.failures.number)) e
+
 pub returns : goal.returns
 returns c =
     let p = c.args.self.now in
@@ -51,25 +63,25 @@ returns c =
     let there = pending_there p id c.in-Some.record.now c.requires.sound.sound (groups_of p c.recall_groups.ensures.pending c.recall_groups.ensures.stored) found in
     let its : r.id ≡ id = eqb-true r.id id (IsIn-from_find (has_number id) c.in-Some.record.now p.pending found).1 in
     let tests : is_checkpoint r ≡ c.eq.result = sym (c.eq.ensures ∙ ap (λ k. sameb the_type k kind.Checkpoint) c.kind.ensures ∙ kind_test r.kind) in
+    let counted : c.if-eq.failures ≡ record p.failures { number = failures_with (state_of p) r } = elim c.if-eq.branch [
+      | then-eq v ↦ v.failures-is ∙ v.add-failed.ensures.number ∙ ap (λ n. record p.failures { number = n }) (sym (number_is p r true (tests ∙ v.if-eq.true)))
+      | else-eq v ↦ v.failures-is ∙ ap (λ n. record p.failures { number = n }) (sym (number_is p r false (tests ∙ v.if-eq.false)))
+    ] in
+    let fails : c.if-eq.failed ≡ fails_the_job (state_of p) r = elim c.if-eq.branch [
+      | then-eq v ↦
+          let many = are_too_many v.add-failed.result v.add-failed.new.self.tolerable v.add-failed.new.self.number v.add-failed.ensures.intolerable in
+          v.failed-is ∙ many ∙ ap (λ f. ltb f.tolerable f.number) v.add-failed.ensures.number ∙ ap (λ t. ltb t (p.failures.number + 1)) c.requires.sound.tied.tolerable
+          ∙ sym (test_is p r true (tests ∙ v.if-eq.true))
+      | else-eq v ↦ v.failed-is ∙ v.if-eq.false ∙ sym (test_is p r false (tests ∙ v.if-eq.false))
+    ] in
     elim c.if-failed.branch [
-      | then-failed w ↦ elim c.if-eq.branch [
-        | then-eq v ↦ declined_as p c.if-failed.self w.fail_over.new.self now c.see-2.new.self c.if-eq.failures v.add-failed.new.self (call.Decline now id c.args.subtask) c.if-failed.reply (reply.DeclineFailed w.fail_over.result)
-            w.self-is c.see-2.ensures v.failures-is w.reply-is
-            (failed_answers p w.fail_over.new.self now id c.args.subtask r v.add-failed.new.self w.fail_over.result c.requires.sound.tied c.requires.accepted
-            there (tests ∙ v.if-eq.true) v.add-failed.ensures.number (v.add-failed.ensures.intolerable.0 (sym v.failed-is ∙ w.if-failed.true))
-            w.fail_over.ensures.state w.fail_over.ensures.count w.fail_over.ensures.tied w.fail_over.ensures.cleared)
-        | else-eq v ↦ absurd (both_ways c.if-eq.failed (v.failed-is ∙ v.if-eq.false) w.if-failed.true)
-      ]
-      | else-failed w ↦ elim c.if-eq.branch [
-        | then-eq v ↦ declined_as p c.if-failed.self w.drop_pending.new.self now c.see-2.new.self c.if-eq.failures v.add-failed.new.self (call.Decline now id c.args.subtask) c.if-failed.reply (reply.DeclineAborted w.drop_pending.result)
-            w.self-is c.see-2.ensures v.failures-is w.reply-is
-            (aborted_checkpoint_answers p w.drop_pending.new.self now id c.args.subtask r v.add-failed.new.self w.drop_pending.result c.requires.sound.tied c.requires.accepted
-            there its (tests ∙ v.if-eq.true) v.add-failed.ensures.number
-            (not_many v.add-failed.result v.add-failed.new.self.tolerable v.add-failed.new.self.number v.add-failed.ensures.intolerable (sym v.failed-is ∙ w.if-failed.false))
-            w.drop_pending.ensures)
-        | else-eq v ↦ declined_as p c.if-failed.self w.drop_pending.new.self now c.see-2.new.self c.if-eq.failures p.failures (call.Decline now id c.args.subtask) c.if-failed.reply (reply.DeclineAborted w.drop_pending.result)
-            w.self-is c.see-2.ensures v.failures-is w.reply-is
-            (aborted_savepoint_answers p w.drop_pending.new.self now id c.args.subtask r w.drop_pending.result c.requires.sound.tied c.requires.accepted
-            there its (tests ∙ v.if-eq.false) w.drop_pending.ensures)
-      ]
+      | then-failed w ↦ declined_as p c.if-failed.self w.fail_over.new.self now c.see-2.new.self c.if-eq.failures c.if-eq.failures (call.Decline now id c.args.subtask) c.if-failed.reply (reply.DeclineFailed w.fail_over.result)
+          w.self-is c.see-2.ensures refl w.reply-is
+          (failed_answers p w.fail_over.new.self now id c.args.subtask r c.if-eq.failures w.fail_over.result c.requires.sound.tied c.requires.accepted
+          there counted (sym fails ∙ w.if-failed.true)
+          w.fail_over.ensures.state w.fail_over.ensures.count w.fail_over.ensures.tied w.fail_over.ensures.cleared)
+      | else-failed w ↦ declined_as p c.if-failed.self w.drop_pending.new.self now c.see-2.new.self c.if-eq.failures c.if-eq.failures (call.Decline now id c.args.subtask) c.if-failed.reply (reply.DeclineAborted w.drop_pending.result)
+          w.self-is c.see-2.ensures refl w.reply-is
+          (aborted_answers p w.drop_pending.new.self now id c.args.subtask r c.if-eq.failures w.drop_pending.result c.requires.sound.tied c.requires.accepted
+          there its counted (sym fails ∙ w.if-failed.false) w.drop_pending.ensures)
     ]

@@ -1,12 +1,13 @@
 -- Answers the goals of `Parts::note_expired`.
-use Rattle.std.proofs.Common.{◌≡◌, ℕ, ◌+◌, ◌-◌, ◌<◌, ◌&&◌, ◌++◌, Bool, true, false, ltb, length, ap, sym, ◌∙◌, ⊎_elim, arith}
-use Rattle.std.specs.Prelude.{count_by, IsTrue, ◌↔◌}
+use Rattle.std.proofs.Common.{◌≡◌, ℕ, ◌+◌, ◌-◌, ◌&&◌, ◌++◌, Bool, ltb, length, ap, sym, ◌∙◌, arith}
+use Rattle.std.specs.Prelude.{count_by}
 use Rattle.std.specs.List.{filter}
-use Rattle.std.proofs.lemmas.Bool.{cases_Bool, both_ways, false_from_ne_true, lt-ltb, ltb-true}
+use Rattle.std.proofs.lemmas.Bool.{lt-ltb}
 use Rattle.std.proofs.lemmas.List.{length-map}
 use Rattle.ckpt_core.specs.declared.triggers.Expiry.{Expiry}
 use Rattle.ckpt_core.specs.State.{is_checkpoint}
 use Rattle.ckpt_core.proofs.Ending.Drops.{groups_of, numbers, room_to_note}
+use Rattle.ckpt_core.proofs.Ending.Moves.{are_too_many}
 use Rattle.ckpt_core.proofs.Triggering.TickParts.{expiry_is, few_checkpoints, few_expired, few_failures, is_old, late_at_most}
 use Rattle.ckpt_core.proofs.parts.Parts.note_expired.Goals as goal
 use Rattle.ckpt_core.proofs.parts.Parts.note_expired.Goals.{then-late-gt0, else-late-gt0}
@@ -40,10 +41,6 @@ overflow_cast-left c =
 
 pub overflow_sub-left : goal.overflow_sub-left
 overflow_sub-left c = omega (arith, c.checkpoints.ensures, late_at_most c.args.self.now c.timeout-timeout.result c.read-moment.result c.note_expired-late.result c.note_expired-late.ensures.checkpoints)
-
-are_too_many : (b : Bool) (t n : ℕ) → IsTrue b ↔ (t < n) → b ≡ ltb t n
-are_too_many b t n says =
-    ⊎_elim (λ (h : ltb t n ≡ true). says.1 (ltb-true t n h) ∙ sym h) (λ (h : ltb t n ≡ false). false_from_ne_true b (λ e. both_ways (ltb t n) h (lt-ltb t n (says.0 e))) ∙ sym h) (cases_Bool (ltb t n))
 
 pub returns-clause-expired : goal.returns-clause-expired
 returns-clause-expired c =
