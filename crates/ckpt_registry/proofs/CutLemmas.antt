@@ -25,7 +25,7 @@ end_of-more start cuts i cut within at = ap (end_of start) (take_more cuts i cut
 
 -- files from one place to another
 
-pub between-append : (a b c : ℕ) (xs : List ℕ) → a ≤ b → b ≤ c → between a b xs ++ between b c xs ≡ between a c xs
+between-append : (a b c : ℕ) (xs : List ℕ) → a ≤ b → b ≤ c → between a b xs ++ between b c xs ≡ between a c xs
 between-append a b c xs ab bc =
     let there : b ≡ a + (b - a) = omega arith in
     let whole : (b - a) + (c - b) ≡ c - a = omega arith in
@@ -51,7 +51,7 @@ length-parts_from start (cut ∷ cuts) files = ap suc (length-parts_from cut.end
 pub places : (parts : List Part) (cuts : List Cut) (files : List ℕ) (n : ℕ) → parts_from 0 cuts files ≡ parts → n ≤ length parts → n ≤ length cuts
 places parts cuts files n view h = let same : length (parts_from 0 cuts files) ≡ length parts = ap (λ (ps : List Part). length ps) view in omega (arith, same, length-parts_from 0 cuts files)
 
-pub start_within : (start : ℕ) (cuts : List Cut) (files : List ℕ) → AreCut start cuts files → start ≤ length files
+start_within : (start : ℕ) (cuts : List Cut) (files : List ℕ) → AreCut start cuts files → start ≤ length files
 start_within start [] files h = omega arith
 start_within start (cut ∷ cuts) files h = omega (arith, h.0, h.1, start_within cut.end cuts files h.4)
 
@@ -87,7 +87,7 @@ files_of_all cuts files h =
     ap files_in (sym all) ∙ files_of_first n cuts files h ∙ take_all (end_of 0 (take n cuts)) files (omega (arith, end))
 
 -- what is known of the part at a place
-pub cut_at : (i start : ℕ) (cuts : List Cut) (files : List ℕ) (d : Cut) → AreCut start cuts files → i < length cuts → IsCutAt (end_of start (take i cuts)) (get_or cuts i d) files
+cut_at : (i start : ℕ) (cuts : List Cut) (files : List ℕ) (d : Cut) → AreCut start cuts files → i < length cuts → IsCutAt (end_of start (take i cuts)) (get_or cuts i d) files
 cut_at i start [] files d h within = absurd (omega arith)
 cut_at zero start (cut ∷ cuts) files d h within = record { begins = h.0; ends = h.1; within = start_within cut.end cuts files h.4; fresh = h.2; reused = h.3 }
 cut_at (suc i) start (cut ∷ cuts) files d h within = cut_at i cut.end cuts files d h.4 (omega arith)
@@ -132,7 +132,7 @@ times-between f start cut files h =
     ap (times f) (sym (between-append start cut.middle cut.end files h.begins h.ends)) ∙ times-append f (between start cut.middle files) (between cut.middle cut.end files)
 
 -- the files of one part more
-pub times-more : (f i : ℕ) (cuts : List Cut) (files : List ℕ) (cut : Cut) → AreCut 0 cuts files → i < length cuts → cut ≡ get_or cuts i cut
+times-more : (f i : ℕ) (cuts : List Cut) (files : List ℕ) (cut : Cut) → AreCut 0 cuts files → i < length cuts → cut ≡ get_or cuts i cut
     → times f (files_in (take (i + 1) (parts_from 0 cuts files))) ≡ times f (files_in (take i (parts_from 0 cuts files))) + times f (between (end_of 0 (take i cuts)) cut.end files)
 times-more f i cuts files cut h within at =
     let start : ℕ = end_of 0 (take i cuts) in
@@ -146,7 +146,7 @@ times-more f i cuts files cut h within at =
 -- What a walk over the first parts knows of the next one, and what it knows after it.
 
 module _ (cuts : List Cut) (files : List ℕ) (n i : ℕ) (row : List Cut) (given : List ℕ) (d : Cut) (is : row ≡ cuts) (are : given ≡ files) (within : n ≤ length cuts) (below : i < length (take n row)) (whole : AreCut 0 cuts files) where
-  abbrev pub next : Cut
+  abbrev next : Cut
   next = get_or (take n row) i d
 
   next_below : i < n × i < length cuts
