@@ -8,6 +8,8 @@ ghost use Rattle.ckpt_core.specs.Inside.FileFacts.{ascending};
 ghost use Rattle.ckpt_core.specs.Inside.Moving.{taken_in, with_room};
 ghost use Rattle.ckpt_core.specs.Inside.Parts.{Answers, AreSound, IsAccepted, Stays, is_known_in, state_of};
 ghost use Rattle.ckpt_core.specs.Inside.RecordFacts.{IsIn, IsInOrder, IsPending, IsStored, Record, id_before};
+ghost use Rattle.ckpt_ids.specs.Places.{LiesAt};
+ghost use Rattle.ckpt_store.specs.Storing.{id_of};
 
 use crate::coordinator::CoreFault;
 use crate::parts::Parts;
@@ -60,14 +62,14 @@ impl Parts {
         // what the store ensures, which ties its records to the state
         let _ = self.store.base();
         // each answer is the last expression, so it needs no place beside the result
-        match self.pending.get(id) {
+        match self.pending.place(id) {
             None => self.ack_late(now, id, subtask, fresh, reused),
-            Some(record) => {
-                let missing = record.missing();
+            Some(place) => {
+                let missing = self.pending.at(place).missing();
                 if missing > 1 {
-                    self.ack_waiting(now, id, subtask, fresh, reused, missing)
+                    self.ack_waiting(now, id, place, subtask, fresh, reused, missing)
                 } else {
-                    self.ack_last(now, id, subtask, fresh, reused)
+                    self.ack_last(now, id, place, subtask, fresh, reused)
                 }
             }
         }
@@ -78,6 +80,7 @@ impl Parts {
         &mut self,
         now: u64,
         id: CheckpointId,
+        place: usize,
         subtask: SubtaskId,
         fresh: &Files,
         reused: &Files,
@@ -85,6 +88,7 @@ impl Parts {
     ) -> Result<Reply, CoreFault>
         requires sound { AreSound self.old }
         requires accepted { IsAccepted self.old (call.Ack now id subtask fresh.now reused.now) }
+        requires place { LiesAt id_of id self.old.pending place }
         requires waiting { IsMissing self.old.pending id missing }
         requires others { 1 < missing }
         ensures ok { IfOk result (Answers self.old self.new (call.Ack now id subtask fresh.now reused.now)) }
@@ -92,7 +96,7 @@ impl Parts {
         ensures fault { IfErr result (λ fault. fault ≡ Memory) }
     {
         self.make_room_for_files(fresh.len())?;
-        self.take_ack(now, id, subtask, fresh, reused)?;
+        self.take_ack(now, id, place, subtask, fresh, reused)?;
         Ok(Reply::AckPending(missing - 1))
     }
 
@@ -113,12 +117,14 @@ impl Parts {
         &mut self,
         now: u64,
         id: CheckpointId,
+        place: usize,
         subtask: SubtaskId,
         fresh: &Files,
         reused: &Files,
     ) -> Result<(), AllocError>
         requires sound { AreSound self.old }
         requires accepted { IsAccepted self.old (call.Ack now id subtask fresh.now reused.now) }
+        requires place { LiesAt id_of id self.old.pending place }
         requires there { IsSome (find (λ r. r.id == id) self.old.pending) }
         ensures ok { OnOk result (self.new ≡ taken_in self.old now id subtask fresh.now reused.now) }
         ensures err { OnErr result (self.new ≡ self.old) }
@@ -130,9 +136,9 @@ impl Parts {
         let _ = self.store.base();
         self.pending.recall();
         let files = joined(self.alloc, fresh, reused)?;
-        self.pending.ack(id, subtask, files)?;
+        self.pending.ack(place, subtask, files)?;
         if let Err(error) = self.registry.use_files(id, subtask, fresh, reused) {
-            self.pending.retract(id, subtask);
+            self.pending.retract(place, subtask);
             return Err(error);
         }
         self.clock.see(now);

@@ -1,5 +1,5 @@
 //! The last acknowledgement of a record, which completes it.
-ghost use Rattle.std.specs.Prelude.{◌≡◌, ◌<◌, ◌≤◌, ◌+◌, ◌^◌, ◌++◌, ◌==◌, ℕ, not, filter, find, length, [], IfOk, OnErr, Some, true, false, vec_capacity, vec_len, IfErr};
+ghost use Rattle.std.specs.Prelude.{◌≡◌, ◌<◌, ◌≤◌, ◌+◌, ◌^◌, ◌++◌, ◌==◌, ℕ, not, filter, length, slice_get, [], IfOk, OnErr, Some, true, false, vec_capacity, vec_len, IfErr};
 ghost use Rattle.ckpt_ids.specs.declared.call.Call.TheVariants as call;
 ghost use Rattle.ckpt_ids.specs.declared.numbers.Kind.TheVariants as kind;
 ghost use Rattle.ckpt_ids.specs.declared.reply.Reply.TheVariants as reply;
@@ -9,6 +9,9 @@ ghost use Rattle.ckpt_core.specs.Inside.FileFacts.{is_known, is_present};
 ghost use Rattle.ckpt_core.specs.Inside.Moving.{checkpoint_completed, completion, savepoint_completed, with_checkpoint};
 ghost use Rattle.ckpt_core.specs.Inside.Parts.{Answers, AreInUseAlone, AreSound, IsAccepted, Stays, present_in};
 ghost use Rattle.ckpt_core.specs.Inside.RecordFacts.{IsAbove, Record, has_savepoint};
+ghost use Rattle.ckpt_ids.specs.Places.{LiesAt};
+ghost use Rattle.ckpt_ids.specs.Records.{missing};
+ghost use Rattle.ckpt_store.specs.Storing.{id_of};
 
 use crate::coordinator::CoreFault;
 use crate::parts::Parts;
@@ -21,12 +24,14 @@ impl Parts {
         &mut self,
         now: u64,
         id: CheckpointId,
+        place: usize,
         subtask: SubtaskId,
         fresh: &Files,
         reused: &Files,
     ) -> Result<Reply, CoreFault>
         requires sound { AreSound self.old }
         requires accepted { IsAccepted self.old (call.Ack now id subtask fresh.now reused.now) }
+        requires place { LiesAt id_of id self.old.pending place }
         requires last { IsMissing self.old.pending id 1 }
         ensures ok { IfOk result (Answers self.old self.new (call.Ack now id subtask fresh.now reused.now)) }
         ensures err { OnErr result (Stays self.old self.new) }
@@ -34,8 +39,8 @@ impl Parts {
     {
         self.make_room_for_files(fresh.len())?;
         self.store.reserve()?;
-        self.take_ack(now, id, subtask, fresh, reused)?;
-        let done = self.finish(id);
+        self.take_ack(now, id, place, subtask, fresh, reused)?;
+        let done = self.finish(place);
         match done.kind() {
             Kind::Checkpoint => {
                 let (dropped, released) = self.complete_checkpoint(done);
@@ -49,14 +54,15 @@ impl Parts {
         }
     }
 
-    /// Takes out the pending record of this number, which has all of its acknowledgements. Takes
-    /// no memory.
-    fn finish(&mut self, id: CheckpointId) -> Done
-        requires { IsMissing self.old.pending id 0 }
-        ensures value { (r : Record) → find (λ r. r.id == id) self.old.pending ≡ Some r → result ≡ record r { done = true } }
-        ensures rest { self.new ≡ record self.old { pending = filter (λ r. not (r.id == id)) self.old.pending } }
+    /// Takes out the pending record at this place, which has all of its acknowledgements. Takes no
+    /// memory.
+    fn finish(&mut self, place: usize) -> Done
+        requires there { place < length self.old.pending }
+        requires full { (r : Record) → slice_get self.old.pending place ≡ Some r → missing r ≡ 0 }
+        ensures value { (r : Record) → slice_get self.old.pending place ≡ Some r → result ≡ record r { done = true } }
+        ensures rest { (id : ℕ) → LiesAt id_of id self.old.pending place → self.new ≡ record self.old { pending = filter (λ r. not (r.id == id)) self.old.pending } }
     {
-        self.pending.remove(id).unwrap().finish().ok().unwrap()
+        self.pending.take_out(place).finish().ok().unwrap()
     }
 
     /// Keeps a completed savepoint, and hands out what its end as a pending record releases. Takes

@@ -1,9 +1,11 @@
 //! The pending records, in rising number.
-ghost use Rattle.std.specs.Prelude.{◌≡◌, ℕ, ◌+◌, ◌<◌, ◌≤◌, true, false, not, ◌&&◌, ◌||◌, nat_lt, nat_le, ◌==◌, [], ◌∷◌, ◌++◌, map, filter, find, length, count_by, Some, IfSome, IfNone, IsSome, OnOk, OnErr, option_copied, option_map, vec_capacity, vec_len};
+ghost use Rattle.std.specs.Prelude.{◌≡◌, ℕ, ◌+◌, ◌<◌, ◌≤◌, true, false, not, ◌&&◌, ◌||◌, nat_lt, nat_le, ◌==◌, [], ◌∷◌, ◌++◌, map, filter, find, length, count_by, Some, IfSome, IfNone, OnOk, OnErr, option_copied, option_map, slice_get, vec_capacity, vec_len};
 ghost use Rattle.std.specs.List.{list_any};
 ghost use Rattle.ckpt_core.specs.Inside.PendingRecords.{Expects, acked, retracted};
 ghost use Rattle.ckpt_core.specs.Inside.RecordFacts.{IsIn, IsInOrder, IsPending, Record, has_acknowledged, id_before, is_checkpoint};
 ghost use Rattle.ckpt_core.specs.Reads.{has_come, live_of};
+ghost use Rattle.ckpt_ids.specs.Places.{LiesAt};
+ghost use Rattle.ckpt_store.specs.Storing.{has_id, id_of};
 
 use crate::queries::{Live, live_pending};
 use ckpt_ids::{CheckpointId, Files, Kind, SubtaskId, place_of, take_out};
@@ -65,6 +67,29 @@ impl PendingRecords {
         }
     }
 
+    /// The place of the record of this number.
+    #[inline(always)]
+    pub(crate) fn place(&self, id: CheckpointId) -> Option<usize>
+        ensures found { IfSome result (LiesAt id_of id self.now) }
+        ensures absent { IfNone result (list_any (has_id id) self.now ≡ false) }
+        ensures in_order { IsInOrder id_before self.now }
+        ensures pending { (r : Record) → IsIn r self.now → IsPending r }
+    {
+        match place_of(&self.records, id) {
+            Ok(place) => Some(place),
+            Err(_) => None,
+        }
+    }
+
+    /// The record at this place.
+    #[inline(always)]
+    pub(crate) fn at(&self, place: usize) -> &Pending
+        requires { place < length self.now }
+        ensures { slice_get self.now place ≡ Some result.now }
+    {
+        &self.records[place]
+    }
+
     /// Adds a record with a greater number than all others. Fails only if memory runs out, and then
     /// adds none.
     pub(crate) fn add(&mut self, pending: Pending) -> Result<(), AllocError>
@@ -80,35 +105,46 @@ impl PendingRecords {
         Ok(())
     }
 
-    /// Adds the acknowledgement of a subtask, with all files of its part, to the record with this
-    /// number, which lacks it. Fails only if memory runs out, and then changes nothing.
+    /// Adds the acknowledgement of a subtask, with all files of its part, to the record at this
+    /// place, which lacks it. Fails only if memory runs out, and then changes nothing.
     pub(crate) fn ack(
         &mut self,
-        id: CheckpointId,
+        place: usize,
         subtask: SubtaskId,
         files: Files,
     ) -> Result<(), AllocError>
-        requires there { IsSome (find (λ r. r.id == id) self.old) }
-        requires expected { (r : Record) → find (λ r. r.id == id) self.old ≡ Some r → Expects r subtask }
-        ensures ok { OnOk result (self.new ≡ acked id subtask files self.old) }
+        requires there { place < length self.old }
+        requires expected { (r : Record) → slice_get self.old place ≡ Some r → Expects r subtask }
+        ensures ok { (id : ℕ) → LiesAt id_of id self.old place → OnOk result (self.new ≡ acked id subtask files self.old) }
         ensures err { OnErr result (self.new ≡ self.old) }
     {
-        let place = place_of(&self.records, id).unwrap();
         match self.records[place].ack(subtask, files) {
             Ok(()) => Ok(()),
             Err(_) => Err(AllocError),
         }
     }
 
-    /// Takes back the acknowledgement of a subtask in the record of this number, which has it.
-    /// Takes no memory.
-    pub(crate) fn retract(&mut self, id: CheckpointId, subtask: SubtaskId)
-        requires there { IsSome (find (λ r. r.id == id) self.old) }
-        requires acknowledged { (r : Record) → find (λ r. r.id == id) self.old ≡ Some r → has_acknowledged r subtask ≡ true }
-        ensures { self.new ≡ retracted id subtask self.old }
+    /// Takes back the acknowledgement of a subtask in the record at this place, which has it. Takes
+    /// no memory.
+    pub(crate) fn retract(&mut self, place: usize, subtask: SubtaskId)
+        requires there { place < length self.old }
+        requires acknowledged { (r : Record) → slice_get self.old place ≡ Some r → has_acknowledged r subtask ≡ true }
+        ensures { (id : ℕ) → LiesAt id_of id self.old place → self.new ≡ retracted id subtask self.old }
     {
-        let place = place_of(&self.records, id).unwrap();
         self.records[place].retract(subtask);
+    }
+
+    /// Takes out the record at this place. Takes no memory.
+    pub(crate) fn take_out(&mut self, place: usize) -> Pending
+        requires { place < length self.old }
+        ensures value { slice_get self.old place ≡ Some result }
+        ensures found { (id : ℕ) → LiesAt id_of id self.old place → find (λ r. r.id == id) self.old ≡ Some result }
+        ensures rest { (id : ℕ) → LiesAt id_of id self.old place → self.new ≡ filter (λ r. not (r.id == id)) self.old }
+    {
+        let removed = take_out(&mut self.records, place);
+        let gone = usize::from(is_checkpoint(&removed));
+        self.checkpoints -= gone;
+        removed
     }
 
     /// Takes out the record of this number. Takes no memory.
@@ -116,13 +152,10 @@ impl PendingRecords {
         ensures value { result ≡ find (λ r. r.id == id) self.old }
         ensures rest { self.new ≡ filter (λ r. not (r.id == id)) self.old }
     {
-        let Ok(place) = place_of(&self.records, id) else {
-            return None;
-        };
-        let removed = take_out(&mut self.records, place);
-        let gone = usize::from(is_checkpoint(&removed));
-        self.checkpoints -= gone;
-        Some(removed)
+        match self.place(id) {
+            Some(place) => Some(self.take_out(place)),
+            None => None,
+        }
     }
 
     /// Removes the records with these numbers, if there are any. Takes no memory.

@@ -1,10 +1,9 @@
 -- What a search by halves finds in a list that is in order by a key, and what a change at that place leaves.
-use Rattle.std.proofs.Common.{◌≡◌, ℕ, zero, suc, ◌-◌, ◌<◌, ◌≤◌, Bool, true, false, not, cond, List, [], ◌∷◌, length, map, get_or, refl, sym, ap, subst, ◌∙◌, inl, inr, ⊎_elim, arith, Result, Ok, Err, IfOk, IfErr, Ordering, ◌||◌}
+use Rattle.std.proofs.Common.{◌≡◌, ℕ, zero, suc, ◌-◌, ◌<◌, ◌≤◌, Bool, true, false, not, List, [], ◌∷◌, length, map, get_or, refl, sym, ap, ◌∙◌, ⊎_elim, arith, Result, Ok, Err, IfOk, IfErr, Ordering}
 use Rattle.std.specs.Prelude.{filter, find, slice_get, Some, None}
 use Rattle.std.specs.List.{list_any, insert, remove}
 use Rattle.std.specs.List.Sorted.{IsBinarySearchResult, IsNonDecreasingBy, IsPartitionPoint, IsPartitionedBy, IsSearchInRange}
 use Rattle.std.specs.Ordering.{ordering_index}
-use Rattle.std.specs.declared.cmp.Ordering.TheVariants.{Less, Equal, Greater}
 use Rattle.std.proofs.lemmas.Bool.{both_ways, cases_Bool, cases_lt, cond-true, cond-false, or_parts}
 use Rattle.std.proofs.lemmas.List.{get_or_read_under}
 use Rattle.ckpt_ids.specs.Ordered.{ComesBefore, IsIn, IsInOrder, IsStrictOrder, put}

@@ -1,11 +1,11 @@
 -- A pending record stays one, with its count, through each change.
-use Rattle.std.proofs.Common.{◌≡◌, ℕ, ◌+◌, ◌-◌, ◌≤◌, Bool, true, false, not, cond, List, [], ◌∷◌, sum, length, refl, sym, ap, subst, ◌∙◌, inl, inr, ⊎_elim, arith}
+use Rattle.std.proofs.Common.{◌≡◌, ℕ, ◌+◌, ◌-◌, ◌≤◌, Bool, true, false, not, List, [], sum, length, refl, sym, ap, ◌∙◌, ⊎_elim, arith}
 use Rattle.std.proofs.lemmas.List.Sums.{count_by-le-length}
 use Rattle.std.proofs.lemmas.Bool.{cases_Bool, both_ways}
 use Rattle.ckpt_ids.specs.declared.subtask.SubtaskId.{SubtaskId}
 use Rattle.ckpt_ids.specs.declared.numbers.Kind.{Kind}
 use Rattle.ckpt_ids.specs.declared.ack.Acked.{Acked}
-use Rattle.ckpt_ids.specs.Ordered.{IsIn, IsInOrder, put}
+use Rattle.ckpt_ids.specs.Ordered.{IsIn}
 use Rattle.ckpt_ids.specs.Acknowledged.{acknowledges_before, AreInSubtaskOrder, put_ack}
 use Rattle.ckpt_ids.specs.Shapes.{IsShape, subtasks, is_subtask, same_subtask}
 use Rattle.ckpt_ids.specs.Records.{Record, missing, has_acknowledged}

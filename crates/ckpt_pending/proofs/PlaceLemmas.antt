@@ -1,9 +1,7 @@
 -- What is found among acknowledgements at the place of a subtask, and what a change there leaves.
-use Rattle.std.proofs.Common.{◌≡◌, ℕ, true, false, not, ltb, eqb, get_or, List, sym, ap, ◌∙◌, arith, ◌||◌, ◌&&◌, Some, None}
+use Rattle.std.proofs.Common.{◌≡◌, ℕ, true, false, not, get_or, List, sym, ap, ◌∙◌, Some}
 use Rattle.std.specs.Prelude.{find}
 use Rattle.std.specs.List.{filter, insert, remove}
-use Rattle.std.specs.Ordering.{nat_cmp, is_lt, is_some_and, partial_ordering_then}
-use Rattle.std.proofs.lemmas.Bool.Decides.{nat_tests}
 use Rattle.std.proofs.lemmas.Option.{slice_get-get_or}
 use Rattle.ckpt_ids.specs.declared.subtask.SubtaskId.{SubtaskId}
 use Rattle.ckpt_ids.specs.declared.ack.Acked.{Acked}

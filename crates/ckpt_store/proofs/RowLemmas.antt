@@ -1,16 +1,14 @@
 -- Rows of records that rise by number: what is found there, and what an insertion and a removal leave.
-use Rattle.std.proofs.Common.{◌≡◌, ℕ, zero, suc, ◌<◌, ◌≤◌, true, false, not, ltb, leb, List, [], ◌∷◌, get_or, length, sym, ap, ◌∙◌, arith, Bor, Option, Some, None, Result, Ok, Err, IfErr, IfSome, OnErr}
+use Rattle.std.proofs.Common.{◌≡◌, ℕ, zero, suc, true, false, not, ltb, leb, List, [], ◌∷◌, get_or, length, sym, ap, ◌∙◌, arith, Bor, Option, Some, None, IfSome}
 use Rattle.std.specs.Prelude.{filter, slice_get}
 use Rattle.std.specs.List.{list_any, find, remove}
-use Rattle.std.specs.List.Sorted.{IsBinarySearchResult, IsPartitionedBy, IsPartitionPoint, IsSearchInRange}
-use Rattle.std.specs.Ordering.{nat_cmp}
+use Rattle.std.specs.List.Sorted.{IsPartitionedBy, IsPartitionPoint}
 use Rattle.std.specs.Option.{is_some, option_copied}
 use Rattle.std.proofs.lemmas.Option.{slice_get-get_or, slice_get_past}
 use Rattle.std.proofs.lemmas.Bool.{cond-true, cond-false, eq-eqb, le-leb, lt-leb, ltb-true, ltb-false, ne_eqb}
 use Rattle.ckpt_ids.specs.Places.{BelongsAt, LiesAt}
 use Rattle.ckpt_ids.specs.Records.{Record}
 use Rattle.ckpt_ids.proofs.AscendingLemmas.{numbers_in_order}
-use Rattle.ckpt_ids.proofs.ComparisonLemmas.{numbers_searched}
 use Rattle.ckpt_ids.proofs.PlaceLemmas.{any_lies, find_lies, none_belongs, remove_lies}
 use Rattle.ckpt_ids.proofs.PlaceLemmas as rows
 use Rattle.ckpt_store.specs.Storing.{AreRising, has_id, id_of}

@@ -1,5 +1,5 @@
 -- What an accepted acknowledgement of a pending record may rely on.
-use Rattle.std.proofs.Common.{◌≡◌, ℕ, ◌+◌, ◌-◌, ◌*◌, ◌^◌, ◌<◌, ◌≤◌, Bool, true, false, cond, eqb, List, ◌++◌, length, refl, sym, ap, subst, ◌∙◌, ⊎_elim, arith, Option, Some, None}
+use Rattle.std.proofs.Common.{◌≡◌, ℕ, zero, suc, ◌+◌, ◌-◌, ◌*◌, ◌^◌, ◌<◌, ◌≤◌, Bool, true, false, cond, eqb, ltb, List, [], ◌∷◌, ◌++◌, length, refl, sym, ap, subst, ◌∙◌, ⊎_elim, arith, Option, Some, None}
 use Rattle.std.specs.Prelude.{find}
 use Rattle.std.specs.Option.{option_map, IsSome}
 use Rattle.std.specs.List.{flat_map}
@@ -7,19 +7,20 @@ use Rattle.std.proofs.lemmas.Bool.{cases_Bool, eqb-true, or_parts}
 use Rattle.ckpt_ids.specs.declared.ack.Acked.{Acked}
 use Rattle.ckpt_ids.specs.declared.call.Call.TheVariants.{Ack}
 use Rattle.ckpt_ids.specs.declared.subtask.SubtaskId.{SubtaskId}
-use Rattle.ckpt_ids.specs.Ordered.{IsIn}
+use Rattle.ckpt_ids.specs.Ordered.{IsIn, IsInOrder}
+use Rattle.ckpt_ids.specs.Places.{LiesAt}
 use Rattle.ckpt_ids.specs.Records.{Record, Use, Subtask, Pin, count, is_present, uses, uses_of, has_acknowledged, acknowledged}
 use Rattle.ckpt_ids.specs.Shapes.{is_subtask}
-use Rattle.ckpt_ids.proofs.OrderedLemmas.{IsIn-append_cases, IsIn-from_flat_map}
+use Rattle.ckpt_ids.proofs.OrderedLemmas.{IsIn-append_cases, IsIn-from_flat_map, IsInOrder-map}
 use Rattle.ckpt_pending.specs.Acknowledging.{IsPending}
 use Rattle.ckpt_registry.specs.Uses.{IsEachOnce, HasNoUse}
-use Rattle.ckpt_store.specs.Storing.{IsStored}
+use Rattle.ckpt_store.specs.Storing.{IsStored, id_of}
 use Rattle.ckpt_core.specs.declared.parts.Parts.{Parts}
 use Rattle.ckpt_core.specs.Inside.Grouped.{with_pins}
 use Rattle.ckpt_core.specs.Inside.Parts.{AreSound, IsAccepted, records_in, state_of}
 use Rattle.ckpt_core.specs.Inside.PendingRecords.{acked}
 use Rattle.ckpt_core.specs.Refusals.{pending_of}
-use Rattle.ckpt_core.specs.Soundness.{IsSound}
+use Rattle.ckpt_core.specs.Soundness.{IsSound, id_before}
 use Rattle.ckpt_core.specs.State.{in_outbox}
 use Rattle.ckpt_core.proofs.Answering.Accepted.{IsAcceptedAck, accepted_ack}
 use Rattle.ckpt_core.proofs.Acknowledging.Records.{new_subtask}
@@ -123,6 +124,23 @@ found_acked id s files r rs e =
     find-map (has_number id) ack rs
     ∙ ap (option_map ack) (find_agree (λ q. has_number id (ack q)) (has_number id) rs (λ q h. ap (λ i. eqb i id) (ack_id id s files q)) ∙ e)
     ∙ ap (λ b. Some (cond b (acknowledged r s files) r)) (IsIn-from_find (has_number id) r rs e).1
+
+-- it lies where it lay
+pub lies_acked : (id : ℕ) (s : SubtaskId) (files : List ℕ) (rs : List Record) (place : ℕ) → LiesAt id_of id rs place → LiesAt id_of id (acked id s files rs) place
+lies_acked id s files [] place h = let within : place < 0 = h.0 in absurd (omega arith)
+lies_acked id s files (r ∷ rs) zero h = (omega arith, λ d. ack_id id s files r ∙ h.1 r)
+lies_acked id s files (r ∷ rs) (suc place) h =
+    let within : suc place < length (r ∷ rs) = h.0 in
+    let later : LiesAt id_of id (acked id s files rs) place = lies_acked id s files rs place (omega arith, λ d. h.1 d) in
+    (omega (arith, later.0), λ d. later.1 d)
+
+pub lies_in_new : (id : ℕ) (s : SubtaskId) (files : List ℕ) (rs new : List Record) (place : ℕ) → LiesAt id_of id rs place → new ≡ acked id s files rs → LiesAt id_of id new place
+lies_in_new id s files rs new place h is = subst (λ (qs : List Record). LiesAt id_of id qs place) (sym is) (lies_acked id s files rs place h)
+
+pub acked_in_order : (id : ℕ) (s : SubtaskId) (files : List ℕ) (rs : List Record) → IsInOrder id_before rs → IsInOrder id_before (acked id s files rs)
+acked_in_order id s files rs order =
+    let ack : Record → Record = λ q. cond (has_number id q) (acknowledged q s files) q in
+    IsInOrder-map id_before id_before ack rs (λ q r h. ap (λ k. ltb k (ack r).id) (ack_id id s files q) ∙ ap (ltb q.id) (ack_id id s files r) ∙ h) order
 
 pub record IsFoundAcked (id : ℕ) (s : SubtaskId) (rs : List Record) : Type 0 where
   pub there : IsSome (find (has_number id) rs)

@@ -16,6 +16,8 @@ use Rattle.ckpt_outbox.specs.Queues.{is_known}
 use Rattle.ckpt_pending.specs.Acknowledging.{IsPending}
 use Rattle.ckpt_registry.specs.Uses.{triples}
 use Rattle.ckpt_store.specs.Storing.{Stored, IsAbove, IsStored, has_id, has_savepoint}
+use Rattle.ckpt_ids.specs.Places.{LiesAt}
+use Rattle.ckpt_store.specs.Storing.{id_of}
 use Rattle.ckpt_core.specs.declared.parts.Parts.{Parts}
 use Rattle.ckpt_core.specs.Inside.Completing.{IsMissing}
 use Rattle.ckpt_core.specs.Inside.Grouped.{with_pins}
@@ -24,7 +26,7 @@ use Rattle.ckpt_core.specs.Soundness.{id_before}
 use Rattle.ckpt_core.specs.State.{in_outbox}
 use Rattle.ckpt_core.proofs.Acknowledging.Moves.{with_instead}
 use Rattle.ckpt_core.proofs.Acknowledging.States.{IsRoomier, IsTaking, its_number, room_made, taking_from, one_less, taken_records, taken_tied, taking}
-use Rattle.ckpt_core.proofs.Acknowledging.Takes.{found_acked}
+use Rattle.ckpt_core.proofs.Acknowledging.Takes.{acked_in_order, lies_acked, found_acked}
 use Rattle.ckpt_core.proofs.Completing.Agrees.{its_above}
 use Rattle.ckpt_core.proofs.Completing.Lists.{fewer, others}
 use Rattle.ckpt_core.proofs.Completing.Taken.{taken_there, not_done_number}
@@ -53,6 +55,13 @@ pub record IsLast (p then : Parts) (now id : ℕ) (s : SubtaskId) (fresh reused 
   pub done_is : done ≡ completed r s fresh reused
 
 -- before it is taken out
+-- the record lies where it lay, and the order is the same
+pub lies_taken : {id place : ℕ} (p then : Parts) (now : ℕ) (s : SubtaskId) (fresh reused : List ℕ) → LiesAt id_of id p.pending place → then ≡ taken_in p now id s fresh reused → LiesAt id_of id then.pending place
+lies_taken {id} {place} p then now s fresh reused lies is = subst (λ (x : Parts). LiesAt id_of id x.pending place) (sym is) (lies_acked id s (ascending (fresh ++ reused)) p.pending place lies)
+
+pub order_taken : (id : ℕ) (p then : Parts) (now : ℕ) (s : SubtaskId) (fresh reused : List ℕ) → IsInOrder id_before p.pending → then ≡ taken_in p now id s fresh reused → IsInOrder id_before then.pending
+order_taken id p then now s fresh reused order is = subst (λ (x : Parts). IsInOrder id_before x.pending) (sym is) (acked_in_order id s (ascending (fresh ++ reused)) p.pending order)
+
 pub none_missing : {p : Parts} {now id : ℕ} {s : SubtaskId} {fresh reused : List ℕ} {r : Record} (then : Parts) → IsTaking p now id s fresh reused r → missing r ≡ 1 → then ≡ taken_in p now id s fresh reused → IsMissing then.pending id 0
 none_missing {p} {now} {id} {s} {fresh} {reused} {r} then t last is =
     let P : Parts → Type 0 = λ x. IsMissing x.pending id 0 in

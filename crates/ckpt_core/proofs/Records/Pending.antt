@@ -1,5 +1,5 @@
 -- The pending records in rising number: what is found, added, changed and taken out.
-use Rattle.std.proofs.Common.{◌≡◌, ℕ, zero, suc, ◌+◌, ◌<◌, Bool, true, false, not, cond, ltb, eqb, ◌&&◌, ◌||◌, List, [], ◌∷◌, ◌++◌, map, length, get_or, Option, Some, None, IsSome, Result, Ok, Err, IfOk, IfErr, IsOk, refl, sym, ap, subst, ◌∙◌, inl, inr, ⊎_elim, arith}
+use Rattle.std.proofs.Common.{◌≡◌, ℕ, zero, suc, ◌+◌, ◌<◌, Bool, true, false, not, cond, ltb, eqb, ◌&&◌, ◌||◌, List, [], ◌∷◌, ◌++◌, map, length, get_or, Option, Some, None, refl, sym, ap, subst, ◌∙◌, inl, inr, ⊎_elim, arith}
 use Rattle.std.specs.Prelude.{count_by, find, filter}
 use Rattle.std.specs.List.{list_any, remove, slice_set}
 use Rattle.std.specs.Int.{from_bool}
@@ -10,17 +10,17 @@ use Rattle.std.proofs.lemmas.List.Sums.{sum_by-remove}
 use Rattle.std.proofs.lemmas.Option.{slice_get-get_or}
 use Rattle.ckpt_ids.specs.declared.subtask.SubtaskId.{SubtaskId}
 use Rattle.ckpt_ids.specs.Ordered.{IsIn, IsInOrder}
-use Rattle.ckpt_ids.specs.Places.{BelongsAt, LiesAt}
+use Rattle.ckpt_ids.specs.Places.{LiesAt}
 use Rattle.ckpt_ids.specs.Records.{Record, has_acknowledged, acknowledged}
 use Rattle.ckpt_ids.proofs.CountLemmas.{count_by-cons, count_by-append, count_by-map}
 use Rattle.ckpt_ids.proofs.OrderedLemmas.{IsIn-from_map, IsIn-from_filter, IsIn-append_cases, IsInOrder-append, IsInOrder-filter, IsInOrder-map, ComesBefore-at, filter-same, filter-filter}
 use Rattle.ckpt_ids.proofs.AscendingLemmas.{numbers_in_order}
-use Rattle.ckpt_ids.proofs.PlaceLemmas.{find-none, first_differs}
+use Rattle.ckpt_ids.proofs.PlaceLemmas.{first_differs, get_or_any}
 use Rattle.ckpt_pending.specs.Acknowledging.{IsPending, without_ack}
 use Rattle.ckpt_pending.proofs.PendingLemmas.{without-with_ack}
 use Rattle.ckpt_pending.proofs.SubtaskLemmas.{count_by_same}
 use Rattle.ckpt_store.specs.Storing.{has_id, id_of}
-use Rattle.ckpt_store.proofs.RowLemmas.{find-place, none_place, remove-place}
+use Rattle.ckpt_store.proofs.RowLemmas.{find-place, remove-place}
 use Rattle.ckpt_core.specs.State.{is_checkpoint}
 use Rattle.ckpt_core.specs.Soundness.{id_before}
 use Rattle.ckpt_core.specs.Inside.PendingRecords.{acked, retracted, AreKept}
@@ -56,15 +56,9 @@ find-from_IsIn id q (r ∷ rs) order (inr h) e =
     (λ (t : has_id id r ≡ false). subst P (sym t) (find-from_IsIn id q rs order.1 h e))
     (cases_Bool (has_id id r))
 
--- if there is such a record, its place is found
-pub place_there : (id : ℕ) (answer : Result ℕ ℕ) (rs : List Record) → IsSome (find (has_id id) rs) → IfErr answer (BelongsAt ltb id_of id rs) → IsOk answer
-place_there id (Ok place) rs there absent = refl
-place_there id (Err place) rs there absent =
-    let P : Option Record → Type 0 = λ o. IsSome o in
-    absurd (both_ways false refl (subst P (find-none (has_id id) rs (none_place id rs place absent)) there))
-
-pub at_place : (id place : ℕ) (answer : Result ℕ ℕ) (rs : List Record) → answer ≡ Ok place → IfOk answer (LiesAt id_of id rs) → LiesAt id_of id rs place
-at_place id place answer rs e found = let P : Result ℕ ℕ → Type 0 = λ o. IfOk o (LiesAt id_of id rs) in subst P e found
+-- what stands at a place lies there by its own number
+pub its_place : (place : ℕ) (r : Record) (rs : List Record) → place < length rs → r ≡ get_or rs place r → LiesAt id_of r.id rs place
+its_place place r rs within is = (within, λ d. ap id_of (get_or_any rs place d r within ∙ sym is))
 
 -- a look-up finds what is at the place of the number
 pub found_at : (id place : ℕ) (r : Record) (rs : List Record) → IsInOrder id_before rs → LiesAt id_of id rs place → r ≡ get_or rs place r → find (has_id id) rs ≡ Some r

@@ -1,14 +1,22 @@
 -- The parts after each call are those of the lemmas.
-use Rattle.std.proofs.Common.{sym, subst}
+use Rattle.std.proofs.Common.{◌≡◌, ◌∙◌, Some, ap, sym, subst}
+use Rattle.std.specs.Prelude.{find, slice_get}
+use Rattle.ckpt_ids.specs.Ordered.{IsInOrder}
+use Rattle.ckpt_ids.specs.Places.{LiesAt}
+use Rattle.ckpt_ids.specs.Records.{Record, missing}
+use Rattle.ckpt_store.specs.Storing.{has_id, id_of}
+use Rattle.ckpt_store.proofs.RowLemmas.{find-place}
+use Rattle.ckpt_core.specs.Inside.Completing.{IsMissing}
+use Rattle.ckpt_core.specs.Soundness.{id_before}
 use Rattle.ckpt_ids.specs.declared.reply.Reply.TheVariants.{AckCompleted}
 use Rattle.ckpt_core.specs.declared.parts.Parts.{Parts}
 use Rattle.ckpt_core.specs.Inside.Parts.{Stays}
 use Rattle.ckpt_ids.proofs.ResultLemmas.{on_each_error}
 use Rattle.ckpt_core.proofs.Acknowledging.States.{roomier_accepted, roomier_sound, roomier_stays, taking_from}
 use Rattle.ckpt_core.proofs.Completing.Answers.{checkpoint_answers, savepoint_answers}
-use Rattle.ckpt_core.proofs.Completing.Calls.{IsLast, CanComplete, can_complete, last_above, last_made, last_new, made_place, none_missing}
+use Rattle.ckpt_core.proofs.Completing.Calls.{IsLast, CanComplete, can_complete, last_above, last_made, last_new, lies_taken, made_place, none_missing, order_taken}
 use Rattle.ckpt_core.proofs.parts.Parts.ack_last.Goals as goal
-use Rattle.ckpt_core.proofs.parts.Parts.ack_last.Goals.{After-kind}
+use Rattle.ckpt_core.proofs.parts.Parts.ack_last.Goals.{After-finish-arg-1, After-kind}
 
 pub returns-in_err-reserve-clause-err : goal.returns-in_err-reserve-clause-err
 returns-in_err-reserve-clause-err c =
@@ -17,6 +25,9 @@ returns-in_err-reserve-clause-err c =
 
 pub take_ack-requires-clause-sound : goal.take_ack-requires-clause-sound
 take_ack-requires-clause-sound c = roomier_sound (made_place c.args.self.now c.make_room_for_files.new.self c.len.result c.reserve.new.self c.in_ok-make_room_for_files.ensures.ok c.in_ok-reserve.ensures.kept) c.requires.sound
+
+pub take_ack-requires-clause-place : goal.take_ack-requires-clause-place
+take_ack-requires-clause-place c = subst (λ (p : Parts). LiesAt id_of c.args.id p.pending c.args.place) (sym c.in_ok-make_room_for_files.ensures.ok) c.requires.place
 
 pub take_ack-requires-clause-accepted : goal.take_ack-requires-clause-accepted
 take_ack-requires-clause-accepted c =
@@ -28,23 +39,46 @@ returns-in_err-take_ack-clause-err c =
     on_each_error c.from_residual-in_err-take_ack.result (Stays c.args.self.now c.take_ack.new.self)
     (subst P (sym c.in_err-take_ack.ensures.err) (roomier_stays (made_place c.args.self.now c.make_room_for_files.new.self c.len.result c.reserve.new.self c.in_ok-make_room_for_files.ensures.ok c.in_ok-reserve.ensures.kept) c.requires.sound))
 
-pub finish-done-requires : goal.finish-done-requires
-finish-done-requires c =
+-- the record lies where it lay
+lies : (c : After-finish-arg-1) → LiesAt id_of c.args.id c.take_ack.new.self.pending c.args.place
+lies c =
+    let lay : LiesAt id_of c.args.id c.make_room_for_files.new.self.pending c.args.place = subst (λ (p : Parts). LiesAt id_of c.args.id p.pending c.args.place) (sym c.in_ok-make_room_for_files.ensures.ok) c.requires.place in
+    lies_taken (record c.make_room_for_files.new.self { store = c.reserve.new.self }) c.take_ack.new.self c.args.now c.args.subtask c.args.fresh.now c.args.reused.now lay c.in_ok-take_ack.ensures.ok
+
+-- and is the one of its number
+found : (c : After-finish-arg-1) → slice_get c.take_ack.new.self.pending c.args.place ≡ find (has_id c.args.id) c.take_ack.new.self.pending
+found c =
+    let order : IsInOrder id_before c.take_ack.new.self.pending =
+    order_taken c.args.id (record c.make_room_for_files.new.self { store = c.reserve.new.self }) c.take_ack.new.self c.args.now c.args.subtask c.args.fresh.now c.args.reused.now c.in_ok-take_ack.ensures.in_order c.in_ok-take_ack.ensures.ok in
+    find-place c.args.id c.take_ack.new.self.pending c.args.place order (lies c)
+
+pub finish-done-requires-clause-there : goal.finish-done-requires-clause-there
+finish-done-requires-clause-there c = (lies (goal.at.finish-done-requires-clause-there c).After-finish-arg-1).0
+
+same_found : (a b : Record) → Some a ≡ Some b → a ≡ b
+same_found a b e = cc
+
+pub finish-done-requires-clause-full : goal.finish-done-requires-clause-full
+finish-done-requires-clause-full c = λ r e.
+    let none : IsMissing c.take_ack.new.self.pending c.args.id 0 =
     none_missing c.take_ack.new.self
     (taking_from c.args.now c.args.subtask c.args.fresh.now c.args.reused.now (made_place c.args.self.now c.make_room_for_files.new.self c.len.result c.reserve.new.self c.in_ok-make_room_for_files.ensures.ok c.in_ok-reserve.ensures.kept) c.requires.sound c.requires.accepted
     c.in_ok-take_ack.ensures.pending c.in_ok-take_ack.ensures.in_order c.in_ok-take_ack.ensures.stored c.requires.last)
-    c.requires.last.counted c.in_ok-take_ack.ensures.ok
+    c.requires.last.counted c.in_ok-take_ack.ensures.ok in
+    let same : none.lacking ≡ r = same_found none.lacking r (sym none.found ∙ sym (found (goal.at.finish-done-requires-clause-full c).After-finish-arg-1) ∙ e) in
+    ap missing (sym same) ∙ none.counted
 
 -- the record is complete once its last acknowledgement is taken and it is taken out
-last : (c : After-kind) → IsLast (record c.make_room_for_files.new.self { store = c.reserve.new.self }) c.finish-done.new.self c.args.now c.args.id c.args.subtask c.args.fresh.now c.args.reused.now c.requires.last.lacking c.finish-done.result
-last c =
+last : (c : After-kind) → LiesAt id_of c.args.id c.take_ack.new.self.pending c.args.place → slice_get c.take_ack.new.self.pending c.args.place ≡ find (has_id c.args.id) c.take_ack.new.self.pending → IsLast (record c.make_room_for_files.new.self { store = c.reserve.new.self }) c.finish-done.new.self c.args.now c.args.id c.args.subtask c.args.fresh.now c.args.reused.now c.requires.last.lacking c.finish-done.result
+last c lies found =
     last_made c.args.self.now c.make_room_for_files.new.self c.take_ack.new.self c.finish-done.new.self c.finish-done.result c.args.now c.args.subtask c.args.fresh.now c.args.reused.now c.len.result c.reserve.new.self
     c.requires.sound c.requires.accepted c.requires.last c.len.ensures c.in_ok-make_room_for_files.ensures.ok c.in_ok-reserve.ensures.kept c.in_ok-reserve.ensures.ok
-    c.in_ok-take_ack.ensures.pending c.in_ok-take_ack.ensures.in_order c.in_ok-take_ack.ensures.stored c.in_ok-take_ack.ensures.ok c.finish-done.ensures.value c.finish-done.ensures.rest
+    c.in_ok-take_ack.ensures.pending c.in_ok-take_ack.ensures.in_order c.in_ok-take_ack.ensures.stored c.in_ok-take_ack.ensures.ok (λ x e. c.finish-done.ensures.value x (found ∙ e)) (c.finish-done.ensures.rest c.args.id lies)
 
 pub complete_checkpoint-dropped-requires : goal.complete_checkpoint-dropped-requires
 complete_checkpoint-dropped-requires c =
-    let l = last (goal.at.complete_checkpoint-dropped-requires c).After-kind in
+    let at = goal.at.complete_checkpoint-dropped-requires c in
+    let l = last at.After-kind (lies at.After-finish-arg-1) (found at.After-finish-arg-1) in
     let can : CanComplete c.finish-done.new.self = can_complete l in
     record {
       room = can.room;
@@ -59,7 +93,8 @@ complete_checkpoint-dropped-requires c =
 
 pub complete_savepoint-released-requires : goal.complete_savepoint-released-requires
 complete_savepoint-released-requires c =
-    let l = last (goal.at.complete_savepoint-released-requires c).After-kind in
+    let at = goal.at.complete_savepoint-released-requires c in
+    let l = last at.After-kind (lies at.After-finish-arg-1) (found at.After-finish-arg-1) in
     let can : CanComplete c.finish-done.new.self = can_complete l in
     record {
       room = can.room;
@@ -73,12 +108,14 @@ complete_savepoint-released-requires c =
 
 pub returns-in-Checkpoint-clause-ok : goal.returns-in-Checkpoint-clause-ok
 returns-in-Checkpoint-clause-ok c =
-    let l = last (goal.at.returns-in-Checkpoint-clause-ok c).After-kind in
+    let at = goal.at.returns-in-Checkpoint-clause-ok c in
+    let l = last at.After-kind (lies at.After-finish-arg-1) (found at.After-finish-arg-1) in
     let done = c.complete_checkpoint-dropped.ensures in
     checkpoint_answers c.complete_checkpoint-dropped.new.self (AckCompleted c.complete_checkpoint-dropped.result.0 c.complete_checkpoint-dropped.result.1) (made_place c.args.self.now c.make_room_for_files.new.self c.len.result c.reserve.new.self c.in_ok-make_room_for_files.ensures.ok c.in_ok-reserve.ensures.kept) l (sym c.in-Checkpoint.ensures) done.parts done.none_ended done.capacity done.reply
 
 pub returns-in-Savepoint-clause-ok : goal.returns-in-Savepoint-clause-ok
 returns-in-Savepoint-clause-ok c =
-    let l = last (goal.at.returns-in-Savepoint-clause-ok c).After-kind in
+    let at = goal.at.returns-in-Savepoint-clause-ok c in
+    let l = last at.After-kind (lies at.After-finish-arg-1) (found at.After-finish-arg-1) in
     let done = c.complete_savepoint-released.ensures in
     savepoint_answers c.complete_savepoint-released.new.self (AckCompleted 0 c.complete_savepoint-released.result) (made_place c.args.self.now c.make_room_for_files.new.self c.len.result c.reserve.new.self c.in_ok-make_room_for_files.ensures.ok c.in_ok-reserve.ensures.kept) l (sym c.in-Savepoint.ensures) done.parts done.none_ended done.capacity done.reply

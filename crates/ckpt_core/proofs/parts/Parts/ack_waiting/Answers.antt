@@ -1,5 +1,7 @@
 -- Making room leaves the state as it is, and so does what fails; what was taken is the step.
 use Rattle.std.proofs.Common.{◌+◌, ◌≤◌, sym, subst, length, arith}
+use Rattle.ckpt_ids.specs.Places.{LiesAt}
+use Rattle.ckpt_store.specs.Storing.{id_of}
 use Rattle.ckpt_core.specs.declared.parts.Parts.{Parts}
 use Rattle.ckpt_core.specs.Inside.Parts.{Stays, present_in}
 use Rattle.ckpt_ids.proofs.ResultLemmas.{on_each_error}
@@ -8,6 +10,9 @@ use Rattle.ckpt_core.proofs.parts.Parts.ack_waiting.Goals as goal
 
 pub take_ack-requires-clause-sound : goal.take_ack-requires-clause-sound
 take_ack-requires-clause-sound c = roomier_sound (made_room c.args.self.now c.make_room_for_files.new.self c.len.result c.in_ok-make_room_for_files.ensures.ok) c.requires.sound
+
+pub take_ack-requires-clause-place : goal.take_ack-requires-clause-place
+take_ack-requires-clause-place c = subst (λ (p : Parts). LiesAt id_of c.args.id p.pending c.args.place) (sym c.in_ok-make_room_for_files.ensures.ok) c.requires.place
 
 pub take_ack-requires-clause-accepted : goal.take_ack-requires-clause-accepted
 take_ack-requires-clause-accepted c = roomier_accepted c.args.now c.args.id c.args.subtask c.args.fresh.now c.args.reused.now (made_room c.args.self.now c.make_room_for_files.new.self c.len.result c.in_ok-make_room_for_files.ensures.ok) c.requires.accepted

@@ -1,7 +1,14 @@
 -- The call was accepted, so the acknowledgement can be taken; taken back, nothing has changed.
-use Rattle.std.proofs.Common.{◌≡◌, ◌∙◌, ap}
-use Rattle.ckpt_core.specs.Inside.PendingRecords.{retracted}
-use Rattle.ckpt_core.proofs.Acknowledging.Takes.{CanTake, IsFoundAcked, can_take, is_found_acked, some_from}
+use Rattle.std.proofs.Common.{◌≡◌, ◌∙◌, List, ap, rules, subst, sym}
+use Rattle.ckpt_ids.specs.Ordered.{IsInOrder}
+use Rattle.ckpt_ids.specs.Places.{LiesAt}
+use Rattle.ckpt_ids.specs.Records.{Record}
+use Rattle.ckpt_store.specs.Storing.{id_of}
+use Rattle.ckpt_store.proofs.RowLemmas.{find-place}
+use Rattle.ckpt_core.specs.Soundness.{id_before}
+use Rattle.ckpt_core.specs.Inside.Moving.{taken_in}
+use Rattle.ckpt_core.specs.Inside.PendingRecords.{acked, retracted}
+use Rattle.ckpt_core.proofs.Acknowledging.Takes.{CanTake, IsFoundAcked, acked_in_order, can_take, is_found_acked, lies_in_new, some_from}
 use Rattle.ckpt_core.proofs.Records.Pending.{retracted-acked}
 use Rattle.ckpt_core.proofs.parts.Parts.take_ack.Goals as goal
 
@@ -16,7 +23,7 @@ taken c =
     can_take c.args.self.now c.args.now c.args.id c.args.subtask c.args.fresh.now c.args.reused.now r.0 c.requires.sound c.requires.accepted c.recall.ensures.pending c.base.ensures.stored r.1
 
 pub ack-requires-clause-expected : goal.ack-requires-clause-expected
-ack-requires-clause-expected c = (taken c).expected
+ack-requires-clause-expected c = λ r e. (taken c).expected r (sym (find-place c.args.id c.args.self.now.pending c.args.place c.recall.ensures.in_order c.requires.place) ∙ e)
 
 using_files : (c : goal.After-use_files-arg-1) → CanTake c.args.self.now c.args.now c.args.id c.args.subtask c.args.fresh.now c.args.reused.now
 using_files c =
@@ -41,21 +48,28 @@ use_files-requires-clause-unused c = (using_files c).unused
 acked_there : (c : goal.After-retract-arg-1) → IsFoundAcked c.args.id c.args.subtask c.ack.new.self
 acked_there c =
     let r = some_from _ c.requires.there in
-    is_found_acked c.args.id c.args.subtask c.in_ok-files.files r.0 c.args.self.now.pending c.ack.new.self r.1 c.in_ok-ack.ensures.ok
+    is_found_acked c.args.id c.args.subtask c.in_ok-files.files r.0 c.args.self.now.pending c.ack.new.self r.1 (c.in_ok-ack.ensures.ok c.args.id c.requires.place)
+
+lies_still : (c : goal.After-retract-arg-1) → LiesAt id_of c.args.id c.ack.new.self c.args.place
+lies_still c = lies_in_new c.args.id c.args.subtask c.in_ok-files.files c.args.self.now.pending c.ack.new.self c.args.place c.requires.place (c.in_ok-ack.ensures.ok c.args.id c.requires.place)
 
 pub retract-requires-clause-there : goal.retract-requires-clause-there
-retract-requires-clause-there c = (acked_there c).there
+retract-requires-clause-there c = (lies_still c).0
 
 pub retract-requires-clause-acknowledged : goal.retract-requires-clause-acknowledged
-retract-requires-clause-acknowledged c = (acked_there c).acknowledged
+retract-requires-clause-acknowledged c = λ r e.
+    let order : IsInOrder id_before c.ack.new.self =
+    subst (λ (rs : List Record). IsInOrder id_before rs) (sym (c.in_ok-ack.ensures.ok c.args.id c.requires.place)) (acked_in_order c.args.id c.args.subtask c.in_ok-files.files c.args.self.now.pending c.recall.ensures.in_order) in
+    (acked_there c).acknowledged r (sym (find-place c.args.id c.ack.new.self c.args.place order (lies_still c)) ∙ e)
 
 pub returns-in-Err-clause-err : goal.returns-in-Err-clause-err
 returns-in-Err-clause-err c =
     let r = some_from _ c.requires.there in
     let p = c.args.self.now in
     let t : CanTake p c.args.now c.args.id c.args.subtask c.args.fresh.now c.args.reused.now = can_take p c.args.now c.args.id c.args.subtask c.args.fresh.now c.args.reused.now r.0 c.requires.sound c.requires.accepted c.recall.ensures.pending c.base.ensures.stored r.1 in
+    let acked_is = c.in_ok-ack.ensures.ok c.args.id c.requires.place in
     let back : c.retract.new.self ≡ p.pending =
-    c.retract.ensures ∙ ap (retracted c.args.id c.args.subtask) c.in_ok-ack.ensures.ok
+    c.retract.ensures c.args.id (lies_in_new c.args.id c.args.subtask c.in_ok-files.files p.pending c.ack.new.self c.args.place c.requires.place acked_is) ∙ ap (retracted c.args.id c.args.subtask) acked_is
     ∙ retracted-acked c.args.id c.args.subtask c.in_ok-files.files p.pending c.recall.ensures.in_order (λ q h. (t.expected q h).1) in
     ap (λ ps. record p { pending = ps; registry = c.use_files.new.self }) back ∙ ap (λ us. record p { registry = us }) c.in-Err.ensures.err
 
@@ -63,3 +77,10 @@ pub see-requires : goal.see-requires
 see-requires c =
     let r = some_from _ c.requires.there in
     (can_take c.args.self.now c.args.now c.args.id c.args.subtask c.args.fresh.now c.args.reused.now r.0 c.requires.sound c.requires.accepted c.recall.ensures.pending c.base.ensures.stored r.1).moment
+
+pub returns-clause-ok : goal.returns-clause-ok
+returns-clause-ok c =
+    let p = c.args.self.now in
+    let taken : c.ack.new.self ≡ (taken_in p c.args.now c.args.id c.args.subtask c.args.fresh.now c.args.reused.now).pending =
+    c.in_ok-ack.ensures.ok c.args.id c.requires.place ∙ ap (λ fs. acked c.args.id c.args.subtask fs p.pending) c.in_ok-files.ensures in
+    rw (taken) (search rules)

@@ -1,14 +1,15 @@
 -- Answers the goals of `PendingRecords::ack`.
-use Rattle.std.proofs.Common.{◌≡◌, ◌∙◌, ℕ, List, Some, Result, Ok, Err, OnOk, OnErr, IsSome, find, refl, sym, ap, subst}
+use Rattle.std.proofs.Common.{◌≡◌, ◌∙◌, ◌<◌, ℕ, List, Some, Result, Ok, Err, OnOk, OnErr, find, length, refl, sym, ap, subst}
+use Rattle.std.specs.Prelude.{slice_get}
 use Rattle.std.specs.List.{slice_set}
+use Rattle.ckpt_ids.specs.Places.{LiesAt}
 use Rattle.ckpt_ids.specs.Records.{Record, acknowledged}
 use Rattle.ckpt_pending.specs.Acknowledging.{IsPending}
 use Rattle.ckpt_pending.proofs.PendingLemmas.{IsPending-put}
-use Rattle.ckpt_store.specs.Storing.{has_id}
+use Rattle.ckpt_store.specs.Storing.{has_id, id_of}
+use Rattle.ckpt_store.proofs.RowLemmas.{find-place}
 use Rattle.ckpt_core.proofs.Records.Counts.{IsIn-from_find}
-use Rattle.ckpt_ids.specs.Places.{LiesAt}
-use Rattle.ckpt_store.specs.Storing.{id_of}
-use Rattle.ckpt_core.proofs.Records.Pending.{AreKept-changed, at_place, changed, place_there, set-place}
+use Rattle.ckpt_core.proofs.Records.Pending.{AreKept-changed, changed, its_place, set-place}
 use Rattle.ckpt_core.proofs.pending_records.PendingRecords.ack.Goals as goal
 use Rattle.ckpt_core.proofs.pending_records.PendingRecords.ack.Goals.{in-Ok, in-Err}
 
@@ -17,23 +18,19 @@ either : {T E P Q R : Type 0} (r : Result T E) → (P → R) → (Q → R) → O
 either (Ok x) f g p q = f p
 either (Err x) f g p q = g q
 
-pub unwrap-place-requires : goal.unwrap-place-requires
-unwrap-place-requires c =
-    let There : List Record → Type 0 = λ rs. IsSome (find (has_id c.args.id) rs) in
-    place_there c.args.id c.place_of.result c.self.inside.records.items (subst There (sym c.self.view_is) c.requires.there) c.place_of.ensures.absent
-
 pub invariant_of-self : goal.invariant_of-self
 invariant_of-self c =
     let rs : List Record = c.self.inside.records.items in
-    let id : ℕ = c.args.id in
-    let place : ℕ = c.unwrap-place.result in
+    let place : ℕ = c.args.place in
     let held : Record = c.index_mut.result.now in
+    let id : ℕ = held.id in
     let new : Record = c.ack.new.self in
     let ack : Record → Record = λ r. acknowledged r c.args.subtask c.args.files in
-    let at : LiesAt id_of id rs place = at_place id place c.place_of.result rs c.unwrap-place.ensures c.place_of.ensures.found in
+    let within : place < length rs = subst (λ (xs : List Record). place < length xs) (sym c.self.view_is) c.requires.there in
+    let at : LiesAt id_of id rs place = its_place place held rs within c.index_mut.ensures.value in
     let one : (r : Record) → find (has_id id) rs ≡ Some r → IsPending r = λ r e. c.self.invariant.pending r (IsIn-from_find (has_id id) r rs e).0 in
     let expected : (r : Record) → find (has_id id) rs ≡ Some r → IsPending (ack r) = λ r e.
-    let facts = c.requires.expected r (ap (find (has_id id)) (sym c.self.view_is) ∙ e) in
+    let facts = c.requires.expected r (ap (λ (xs : List Record). slice_get xs place) (sym c.self.view_is) ∙ find-place id rs place c.self.invariant.in_order at ∙ e) in
     IsPending-put r c.args.subtask c.args.files (one r e) facts.0 facts.1 in
     either c.ack.result
     (λ e. AreKept-changed id place ack held new rs c.self.inside.checkpoints c.self.invariant at c.index_mut.ensures.value e (λ r. refl) (λ r. refl) expected)
@@ -41,14 +38,13 @@ invariant_of-self c =
     c.ack.ensures.ok c.ack.ensures.err
 
 pub returns-clause-ok : goal.returns-clause-ok
-returns-clause-ok c =
+returns-clause-ok c = λ id lies.
     let rs : List Record = c.self.inside.records.items in
-    let id : ℕ = c.args.id in
-    let place : ℕ = c.unwrap-place.result in
+    let place : ℕ = c.args.place in
     let held : Record = c.index_mut.result.now in
     let new : Record = c.ack.new.self in
     let ack : Record → Record = λ r. acknowledged r c.args.subtask c.args.files in
-    let at : LiesAt id_of id rs place = at_place id place c.place_of.result rs c.unwrap-place.ensures c.place_of.ensures.found in
+    let at : LiesAt id_of id rs place = subst (λ (xs : List Record). LiesAt id_of id xs place) (sym c.self.view_is) lies in
     let done : new ≡ ack held → slice_set rs place new ≡ changed id ack c.args.self.now = λ (e : new ≡ ack held).
     set-place id ack held new rs place c.self.invariant.in_order at c.index_mut.ensures.value e ∙ ap (changed id ack) c.self.view_is in
     elim c.match-ack.branch [ in-Ok w ↦ rw w.result-is (done w.in-Ok.ensures.ok) | in-Err w ↦ rw w.result-is tt ]

@@ -1,0 +1,21 @@
+-- Answers the goals of `PendingRecords::place`.
+use Rattle.std.proofs.Common.{◌≡◌, ◌∙◌, List, ap, subst, sym}
+use Rattle.std.specs.List.{list_any}
+use Rattle.ckpt_ids.specs.Places.{LiesAt}
+use Rattle.ckpt_ids.specs.Records.{Record}
+use Rattle.ckpt_store.specs.Storing.{has_id, id_of}
+use Rattle.ckpt_store.proofs.RowLemmas.{none_place}
+use Rattle.ckpt_core.proofs.pending_records.PendingRecords.place.Goals as goal
+
+pub returns-in-Ok-clause-found : goal.returns-in-Ok-clause-found
+returns-in-Ok-clause-found c = subst (λ (rs : List Record). LiesAt id_of c.args.id rs c.in-Ok.place) c.self.view_is c.in-Ok.ensures.found
+
+pub returns-in-Ok-clause-pending : goal.returns-in-Ok-clause-pending
+returns-in-Ok-clause-pending c = rw (← c.self.view_is) c.self.invariant.pending
+
+pub returns-in-Err-clause-absent : goal.returns-in-Err-clause-absent
+returns-in-Err-clause-absent c =
+    ap (list_any (has_id c.args.id)) (sym c.self.view_is) ∙ none_place c.args.id c.self.inside.records.items c.in-Err.field-0 c.in-Err.ensures.absent
+
+pub returns-in-Err-clause-pending : goal.returns-in-Err-clause-pending
+returns-in-Err-clause-pending c = rw (← c.self.view_is) c.self.invariant.pending
