@@ -19,25 +19,13 @@ use Rattle.ckpt_registry.proofs.HoldingLemmas.{number, numbers, has_id, parts_in
 
 -- the row by number
 
-by_number : (hs : List Holding) → AreRising hs → IsInOrder (λ g h. ltb g.id h.id) hs
+pub by_number : (hs : List Holding) → AreRising hs → IsInOrder (λ g h. ltb g.id h.id) hs
 by_number hs a = IsInOrder-of_keys ltb number hs a
 
 -- what a search answers
 
 pub belongs : (id : ℕ) (hs : List Holding) (place : ℕ) → ids.BelongsAt ltb number id hs place → BelongsAt hs id place
 belongs id hs place h = (h.0, (λ k d l m. ltb-true (get_or hs k d).id id (h.1.0 k d l m), λ k d l m. ltb-true id (get_or hs k d).id (h.1.1 k d l m)))
-
-pub search_absent : (id : ℕ) (hs : List Holding) (r : Result ℕ ℕ) → AreRising hs → IsSearchInRange r (length hs) → IsBinarySearchResult (λ h. nat_cmp h.id id) hs r → IfErr r (BelongsAt hs id)
-search_absent id hs (Ok place) a within at = tt
-search_absent id hs (Err place) a within at = belongs id hs place (rows.search_absent number numbers_in_order numbers_searched id hs (Err place) (by_number hs a) within at)
-
--- if each number is below, as the last one is, a record belongs at the end
-pub after_last : (id : ℕ) (hs : List Holding) (n : ℕ) (last : Holding) → AreRising hs → n ≡ length hs → last ≡ get_or hs (n - 1) last → last.id < id → BelongsAt hs id n
-after_last id hs n last a all at below =
-    belongs id hs n (rows.end_belongs number numbers_in_order id hs n all (rows.all_before number numbers_in_order id hs n last (by_number hs a) all at (lt-ltb last.id id below)))
-
-pub first_of_all : (id : ℕ) (hs : List Holding) (n : ℕ) → n ≡ length hs → ((k : ℕ) → k < n → ⊥) → BelongsAt hs id n
-first_of_all id hs n all none = belongs id hs n (rows.end_belongs number numbers_in_order id hs n all (λ k d h. absurd (none k h)))
 
 -- The place at which a record was found. The others have other numbers.
 

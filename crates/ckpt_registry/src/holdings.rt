@@ -6,7 +6,7 @@ ghost use Rattle.ckpt_registry.specs.Holdings.{Adds, AreRising, BelongsAt, Exten
 
 use crate::counters::{Counts, lower};
 use crate::parts::Parts;
-use ckpt_ids::{CheckpointId, FileId, Files, SubtaskId};
+use ckpt_ids::{CheckpointId, FileId, Files, Keyed, SubtaskId, place_of, take_out};
 use std::alloc::AllocError;
 use std::collections::VecDeque;
 use std::mem::replace;
@@ -16,6 +16,26 @@ use std::mem::replace;
 pub(crate) struct Holding {
     id: CheckpointId,
     parts: Parts,
+}
+
+impl Keyed for Holding {
+    ghost use Rattle.std.specs.Prelude.{nat_lt};
+    ghost use Rattle.ckpt_ids.proofs.AscendingLemmas.{numbers_in_order};
+    ghost use Rattle.ckpt_ids.proofs.ComparisonLemmas.{numbers_searched};
+
+    type Key = CheckpointId;
+
+    ghost key_of = { λ h. h.id };
+
+    ghost before = { nat_lt };
+
+    ghost is_order = { numbers_in_order };
+
+    ghost goes_by_order = { numbers_searched };
+
+    fn key(&self) -> CheckpointId {
+        self.id
+    }
 }
 
 /// The acknowledgements of all records, in order of their numbers. A new record mostly has the
@@ -34,31 +54,14 @@ pub(crate) fn lower_each(counts: &mut Counts, released: &mut Vec<FileId>, files:
     }
 }
 
-/// The place of a record, or an `Err` with the place where it belongs. Mostly that is at the end,
-/// so the last record is checked first.
+/// The place of a record, or an `Err` with the place where it belongs.
 #[inline(always)]
-fn place_of(acknowledged: &Acknowledged, id: CheckpointId) -> Result<usize, usize>
+fn place_in(acknowledged: &Acknowledged, id: CheckpointId) -> Result<usize, usize>
     requires { AreRising acknowledged.now.items }
     ensures found { IfOk result (LiesAt acknowledged.now.items id) }
     ensures absent { IfErr result (BelongsAt acknowledged.now.items id) }
 {
-    match acknowledged.back() {
-        Some(last) if last.id == id => Ok(acknowledged.len() - 1),
-        Some(last) if id < last.id => place_below(acknowledged, id),
-        _ => Err(acknowledged.len()),
-    }
-}
-
-/// The same for a number below the last. The first record is checked before a binary search.
-fn place_below(acknowledged: &Acknowledged, id: CheckpointId) -> Result<usize, usize>
-    requires { AreRising acknowledged.now.items }
-    ensures found { IfOk result (LiesAt acknowledged.now.items id) }
-    ensures absent { IfErr result (BelongsAt acknowledged.now.items id) }
-{
-    match acknowledged.front() {
-        Some(first) if first.id == id => Ok(0),
-        _ => acknowledged.binary_search_by_key(&id, |holding| holding.id),
-    }
+    place_of(acknowledged, id)
 }
 
 /// The parts of a record, or `None` if no subtask of it uses a file.
@@ -67,7 +70,7 @@ pub(crate) fn parts_held(acknowledged: &Acknowledged, id: CheckpointId) -> Optio
     ensures some { IfSome result (λ parts. parts.now ≡ parts_of acknowledged.now id) }
     ensures none { IfNone result (parts_of acknowledged.now id ≡ []) }
 {
-    match place_of(acknowledged, id) {
+    match place_in(acknowledged, id) {
         Ok(place) => Some(&acknowledged[place].parts),
         Err(_) => None,
     }
@@ -80,28 +83,11 @@ pub(crate) fn remove(acknowledged: &mut Acknowledged, id: CheckpointId) -> Optio
     ensures parts { IfSome result (λ parts. parts ≡ parts_of acknowledged.old id) }
     ensures none { IfNone result (acknowledged.new.items ≡ acknowledged.old.items) }
 {
-    let Ok(place) = place_of(acknowledged, id) else {
+    let Ok(place) = place_in(acknowledged, id) else {
         return None;
     };
-    let holding = take_out(acknowledged, place)?;
+    let holding = take_out(acknowledged, place);
     Some(holding.parts)
-}
-
-/// Removes the record at a place. Mostly that is the first or the last, which moves no other.
-#[inline(always)]
-fn take_out(acknowledged: &mut Acknowledged, place: usize) -> Option<Holding>
-    requires { place < length acknowledged.old.items }
-    ensures items { acknowledged.new.items ≡ remove acknowledged.old.items place }
-    ensures some { IsSome result }
-    ensures value { IfSome result (λ h. h ≡ slice_index_or acknowledged.old.items place h) }
-{
-    if place == 0 {
-        acknowledged.pop_front()
-    } else if place == acknowledged.len() - 1 {
-        acknowledged.pop_back()
-    } else {
-        acknowledged.remove(place)
-    }
 }
 
 /// Adds a record at the place where it belongs. Mostly that is the end, which moves no other.
@@ -140,7 +126,7 @@ pub(crate) fn hold(
     if fresh.is_empty() && reused.is_empty() {
         return Ok(());
     }
-    match place_of(acknowledged, id) {
+    match place_in(acknowledged, id) {
         Ok(place) => {
             acknowledged[place].parts.push(subtask, fresh, reused)?;
             Ok(())

@@ -15,13 +15,13 @@ returns-in_default-clause-gone c =
 pub returns-clause-gone : goal.returns-clause-gone
 returns-clause-gone c =
     let found = c.in-Ok.ensures.found in
-    let at = c.in_ok-holding.ensures in
-    let h = c.in_ok-holding.holding in
-    at.items ∙ remove_found c.args.id c.in-Ok.place c.args.acknowledged.now.items h found.0 at.value c.requires (ap number at.value ∙ found.1 h)
+    let at = c.take_out-holding.ensures in
+    let h = c.take_out-holding.result in
+    at.rest ∙ remove_found c.args.id c.in-Ok.place c.args.acknowledged.now.items h found.0 at.value c.requires (ap number at.value ∙ found.1 h)
 
 pub returns-clause-parts : goal.returns-clause-parts
 returns-clause-parts c =
     let found = c.in-Ok.ensures.found in
-    let at = c.in_ok-holding.ensures in
-    let h = c.in_ok-holding.holding in
+    let at = c.take_out-holding.ensures in
+    let h = c.take_out-holding.result in
     sym (parts_found c.args.id c.in-Ok.place c.args.acknowledged.now.items h found.0 at.value c.requires (ap number at.value ∙ found.1 h))
