@@ -1,5 +1,5 @@
 -- Answers the goals of `PendingRecords::remove`.
-use Rattle.std.proofs.Common.{◌∙◌, sym}
+use Rattle.std.proofs.Common.{sym}
 use Rattle.ckpt_pending.proofs.AckLemmas.{filter_all}
 use Rattle.ckpt_store.specs.Storing.{has_id}
 use Rattle.ckpt_ids.proofs.PlaceLemmas.{find-none}
