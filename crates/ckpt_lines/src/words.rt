@@ -119,6 +119,7 @@ impl<'a> Words<'a> {
 
     /// Takes the next word if it is a keyword that most lines begin with, with no space before it
     /// and one after it. Otherwise returns `None` and takes no word.
+    #[inline(always)]
     pub(crate) fn usual_keyword(&mut self) -> Option<Keyword>
         ensures { Takes result self.old self.new }
     {
