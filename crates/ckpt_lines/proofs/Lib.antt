@@ -2,8 +2,10 @@
 pub mod EachLemmas
 pub mod FileLemmas
 pub mod FirstNumbers
+pub mod KeywordLemmas
 pub mod NumberLemmas
 pub mod PlaceLemmas
 pub mod ReadingLaws
 pub mod SubtaskLemmas
+pub mod UsualLemmas
 pub mod WordSplits

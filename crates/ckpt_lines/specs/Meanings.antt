@@ -1,10 +1,12 @@
 -- What a line says: a call of the coordinator, or another kind of line.
-use Rattle.std.specs.Prelude.{ℕ, Bool, true, false, List, [], ◌∷◌, if◌then◌else◌, Option, Some, None, Result, Ok, Err}
+use Rattle.std.specs.Prelude.{◌≡◌, ℕ, Bool, true, false, List, [], ◌∷◌, if◌then◌else◌, Option, Some, None, Result, Ok, Err}
 use Rattle.ckpt_ids.specs.Shapes.{is_shape}
+use Rattle.ckpt_ids.specs.declared.call.Call as calls
 use Rattle.ckpt_ids.specs.declared.call.Call.TheVariants as call
 use Rattle.ckpt_ids.specs.declared.call.Target.{Target}
 use Rattle.ckpt_ids.specs.declared.shape.ShapeFault.{ShapeFault}
 use Rattle.ckpt_ids.specs.declared.shape.ShapeFault.TheVariants.{BadShape}
+use Rattle.ckpt_lines.specs.declared.fault.LineFault.{LineFault}
 use Rattle.ckpt_lines.specs.declared.line.Line.{Line}
 use Rattle.ckpt_lines.specs.declared.line.Line.TheVariants as line
 use Rattle.ckpt_lines.specs.declared.meaning.Meaning.{Meaning}
@@ -46,3 +48,7 @@ meaning (line.All now id threads first) = Ok (All now id threads first)
 abbrev pub has_new_shape : Line → Bool
 has_new_shape (line.Restore now target (p ∷ ps)) = true
 has_new_shape line = false
+
+-- What was read is a line, and its meaning is this call.
+abbrev pub SaysCall : Result Line LineFault → calls.Call → Type 0
+SaysCall read said = (line : Line) × (read ≡ Ok line) × (meaning line ≡ Ok (Call said))

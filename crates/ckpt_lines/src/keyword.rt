@@ -85,6 +85,7 @@ pub(crate) fn keyword_of(word: &[u8]) -> Option<Keyword>
 /// Most of the hundreds of thousands of lines of a long script begin with these. So they are
 /// recognized by their bytes, before the end of the word is known. The bytes are written one by
 /// one, because a byte string can't be a pattern for the prefix of a slice.
+#[inline(always)]
 pub(crate) fn usual_keyword(text: &[u8]) -> Option<(Keyword, &[u8])>
     ensures { IfSome result (λ found. words_of text.now ≡ spelling found.0 ∷ words_of found.1.now) }
 {

@@ -3,7 +3,7 @@
 //! [`parse_line`] reads one line, and returns a [`Line`] or the first [`LineFault`] from the left.
 //! `specs/Reading.antt` defines how a line is read, over the list of its words. [`Line::meaning`]
 //! returns the call of a line, or which other kind of line it is. `specs/Meanings.antt` defines
-//! that.
+//! that. [`usual_call`] returns the call of most lines without a [`Line`].
 #![tactic(auto)]
 
 mod fault;
@@ -17,6 +17,7 @@ mod numbers;
 mod parse;
 mod places;
 mod rows;
+mod usual;
 mod values;
 mod words;
 
@@ -26,3 +27,4 @@ pub use line::Line;
 pub use meaning::Meaning;
 pub use numbers::Numbers;
 pub use parse::parse_line;
+pub use usual::usual_call;

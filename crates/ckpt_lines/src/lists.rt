@@ -26,8 +26,9 @@ pub(crate) fn files(alloc: Global, words: &mut Words<'_>) -> Result<(Files, File
     ensures { Reads result (file_places words.old) }
 {
     // The lists stay in memory as long as the call, so they get no more room than they need.
-    let mut fresh = Vec::with_capacity(alloc, words.occurrences(b'+'))?;
-    let mut reused = Vec::with_capacity(alloc, words.occurrences(b'='))?;
+    let (most_fresh, most_reused) = words.signs();
+    let mut fresh = Vec::with_capacity(alloc, most_fresh)?;
+    let mut reused = Vec::with_capacity(alloc, most_reused)?;
     'files: while let Some(file) = words.file()? {
         match file {
             FileWord::Fresh(file) => fresh.push(file)?,

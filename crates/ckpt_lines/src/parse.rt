@@ -12,7 +12,7 @@ use crate::words::Words;
 use std::alloc::Global;
 
 /// The text without the one carriage return at its end, if it has one.
-fn without_return(line: &[u8]) -> &[u8]
+pub(crate) fn without_return(line: &[u8]) -> &[u8]
     ensures { result.now ≡ strip_carriage_return line.now }
 {
     line.strip_suffix(b"\r").unwrap_or(line)

@@ -44,13 +44,15 @@ fn without_spaces(text: &[u8]) -> &[u8]
     rest
 }
 
-/// How often this byte occurs in at most [`FEW`] bytes.
-fn count_of_few(few: &[u8], byte: u8) -> u8 {
-    let mut count: u8 = 0;
-    for each in few {
-        count = count.wrapping_add(u8::from(*each == byte));
+/// How often `+` and `=` occur in at most [`FEW`] bytes.
+fn signs_of_few(few: &[u8]) -> (u8, u8) {
+    let mut fresh: u8 = 0;
+    let mut reused: u8 = 0;
+    for byte in few {
+        fresh = fresh.wrapping_add(u8::from(*byte == b'+'));
+        reused = reused.wrapping_add(u8::from(*byte == b'='));
     }
-    count
+    (fresh, reused)
 }
 
 /// The number of bytes before the first space, or of all bytes if there is none.
@@ -119,6 +121,7 @@ impl<'a> Words<'a> {
 
     /// Takes the next word if it is a keyword that most lines begin with, with no space before it
     /// and one after it. Otherwise returns `None` and takes no word.
+    #[inline(always)]
     pub(crate) fn usual_keyword(&mut self) -> Option<Keyword>
         ensures { Takes result self.old self.new }
     {
@@ -127,13 +130,16 @@ impl<'a> Words<'a> {
         Some(keyword)
     }
 
-    /// How often this byte occurs in the rest of the line.
-    pub(crate) fn occurrences(&self, byte: u8) -> usize {
-        let mut count: usize = 0;
+    /// How often `+` and `=` occur in the rest of the line.
+    pub(crate) fn signs(&self) -> (usize, usize) {
+        let mut fresh: usize = 0;
+        let mut reused: usize = 0;
         for few in self.rest.chunks(FEW) {
-            count = count.wrapping_add(usize::from(count_of_few(few, byte)));
+            let (more_fresh, more_reused) = signs_of_few(few);
+            fresh = fresh.wrapping_add(usize::from(more_fresh));
+            reused = reused.wrapping_add(usize::from(more_reused));
         }
-        count
+        (fresh, reused)
     }
 
     /// The next word as a number. Reads its bytes once, both for its end and for its value.

@@ -31,40 +31,43 @@ followed_still left asked ahead (Some newline) ended counted = record {
 }
 
 -- the sink failed: a prefix of what waited was written
-pub fails_writing : (old : Unread) (asked : Asked) (before after : Option (List ℕ)) (waiting left : List ℕ) (failures : ℕ) (why : RunFault)
-    → why ≡ Write → IsCut before after waiting → failures ≡ 1 → asked.times ≤ most_reads → FailsBy old asked before after waiting left failures why
-fails_writing old asked before after waiting left failures why write cut failed few = subst (λ (w : RunFault). FailsBy old asked before after waiting left failures w) (sym write)
-    (record { fault = λ many. cc; stays = λ read. cc; shown_read = λ read. cc; cut = (_, passes_part before after waiting [] cut); cause = record { few = few; source = tt; sink = failed } })
+pub fails_writing : (old : Unread) (before after : Option (List ℕ)) (waiting left : List ℕ) (why : RunFault)
+    → why ≡ Write → IsCut before after waiting → FailsBy old before after waiting left why
+fails_writing old before after waiting left why write cut = subst (λ (w : RunFault). FailsBy old before after waiting left w) (sym write)
+    (record { fault = λ many. cc; stays = λ read. cc; shown_read = λ read. cc; cut = (_, passes_part before after waiting [] cut) })
+
+pub caused_writing : (asked : Asked) (failures : ℕ) (why : RunFault) → why ≡ Write → failures ≡ 1 → asked.times ≤ most_reads → IsCaused asked failures why
+caused_writing asked failures why write failed few = subst (λ (w : RunFault). IsCaused asked failures w) (sym write) (record { few = few; source = tt; sink = failed })
 
 -- the source failed, once all that waited was written
-pub fails_reading : (old : Unread) (asked : Asked) (before after : Option (List ℕ)) (waiting left : List ℕ) (failures : ℕ) (why : RunFault)
-    → old.is_ended ≡ false → Appends before after waiting → left ≡ [] → failures ≡ 0 → why ≡ Read → IsCaused asked 0 why → FailsBy old asked before after waiting left failures why
-fails_reading old asked before after waiting left failures why going_on appended written none read cause =
+pub fails_reading : (old : Unread) (before after : Option (List ℕ)) (waiting left : List ℕ) (why : RunFault)
+    → old.is_ended ≡ false → Appends before after waiting → left ≡ [] → why ≡ Read → FailsBy old before after waiting left why
+fails_reading old before after waiting left why going_on appended written read =
     let passes : Passes before after waiting [] left = record { written = waiting; appended = appended; in_turn = ap (λ (xs : List ℕ). waiting ++ xs) written } in
-    record { fault = λ many. cc; stays = λ r. going_on; shown_read = λ r. passes; cut = (left, passes); cause = subst (λ (n : ℕ). IsCaused asked n why) (sym none) cause }
+    record { fault = λ many. cc; stays = λ r. going_on; shown_read = λ r. passes; cut = (left, passes) }
 
 -- memory ran out, and what waited was written or waits still
-pub fails_for_memory : (old : Unread) (asked : Asked) (before after : Option (List ℕ)) (waiting left : List ℕ) (failures : ℕ)
-    → Passes before after waiting [] left → failures ≡ 0 → asked.times ≤ most_reads → asked.failures ≡ 0 → FailsBy old asked before after waiting left failures Memory
-fails_for_memory old asked before after waiting left failures passes going_on few none =
-    record { fault = λ many. cc; stays = λ read. cc; shown_read = λ read. cc; cut = (left, passes); cause = record { few = few; source = none; sink = going_on } }
+pub fails_for_memory : (old : Unread) (before after : Option (List ℕ)) (waiting left : List ℕ) → Passes before after waiting [] left → FailsBy old before after waiting left Memory
+fails_for_memory old before after waiting left passes = record { fault = λ many. cc; stays = λ read. cc; shown_read = λ read. cc; cut = (left, passes) }
+
+pub caused_by_memory : (asked : Asked) (failures : ℕ) → failures ≡ 0 → asked.times ≤ most_reads → asked.failures ≡ 0 → IsCaused asked failures Memory
+caused_by_memory asked failures going_on few none = record { few = few; source = none; sink = going_on }
 
 -- reading on ended by a fault after what waited was handed on
-pub fails_on : (first old : Unread) (asked : Asked) (before between after : Option (List ℕ)) (waiting middle left : List ℕ) (failures : ℕ) (why : RunFault)
-    → (old.is_ended ≡ false → first.is_ended ≡ false) → Passes before between waiting [] middle → FailsBy old asked between after middle left failures why → FailsBy first asked before after waiting left failures why
-fails_on first old asked before between after waiting middle left failures why stays passes fails = record {
+pub fails_on : (first old : Unread) (before between after : Option (List ℕ)) (waiting middle left : List ℕ) (why : RunFault)
+    → (old.is_ended ≡ false → first.is_ended ≡ false) → Passes before between waiting [] middle → FailsBy old between after middle left why → FailsBy first before after waiting left why
+fails_on first old before between after waiting middle left why stays passes fails = record {
   fault = fails.fault;
   stays = λ read. stays (fails.stays read);
   shown_read = λ read. passes_on before between after waiting middle left passes (fails.shown_read read);
   cut = (fails.cut.0, passes_on before between after waiting middle fails.cut.0 passes fails.cut.1);
-  cause = fails.cause;
 }
 
 -- the sink failed at the text, or at what waited before it
-pub fails_to_print_by_write : (before after : Option (List ℕ)) (waiting text : List ℕ) (failures : ℕ) (why : RunFault) → why ≡ Write → PassesFront before after waiting text → failures ≡ 1 → FailsToPrint before after waiting text failures why
-fails_to_print_by_write before after waiting text failures why write cut failed = subst (λ (w : RunFault). FailsToPrint before after waiting text failures w) (sym write)
-    (record { fault = (λ read. cc, λ many. cc); cut = cut; cause = failed })
+pub fails_to_print_by_write : (before after : Option (List ℕ)) (waiting text : List ℕ) (why : RunFault) → why ≡ Write → PassesFront before after waiting text → FailsToPrint before after waiting text why
+fails_to_print_by_write before after waiting text why write cut = subst (λ (w : RunFault). FailsToPrint before after waiting text w) (sym write)
+    (record { fault = (λ read. cc, λ many. cc); cut = cut })
 
 -- memory ran out before anything of the text waited
-pub fails_to_print_for_memory : (before : Option (List ℕ)) (waiting text : List ℕ) (failures : ℕ) → failures ≡ 0 → FailsToPrint before before waiting text failures Memory
-fails_to_print_for_memory before waiting text failures going_on = record { fault = (λ read. cc, λ many. cc); cut = (_, passes_none before waiting text); cause = going_on }
+pub fails_to_print_for_memory : (before : Option (List ℕ)) (waiting text : List ℕ) → FailsToPrint before before waiting text Memory
+fails_to_print_for_memory before waiting text = record { fault = (λ read. cc, λ many. cc); cut = (_, passes_none before waiting text) }

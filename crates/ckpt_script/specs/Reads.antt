@@ -57,3 +57,7 @@ line_at ahead line (Some newline) = take held (take newline ahead.bytes)
 pub record FindsLine (old : Unread) (before : Option (List ℕ)) (new : Unread) (after : Option (List ℕ)) (line : List ℕ) (newline : Option ℕ) : Type 0 where
   pub ahead : IsAhead new newline
   pub read : ReadsLine old before (left_by new newline) after (line_at new line newline)
+
+-- at least one byte was used, once the line that was found is left
+abbrev pub UsesBytes : Unread → Asked → Unread → Asked → Option ℕ → Type 0
+UsesBytes old before new after newline = used before old < used after (left_by new newline)

@@ -24,6 +24,10 @@ faults_next run newline = run.summary.faults + (if is_err (reading_next run newl
 abbrev pub said_next : Runner → Option ℕ → Said
 said_next run newline = said (run.summary.lines + 1) run.session (reading_next run newline)
 
+-- and what it prints
+abbrev pub text_next : Runner → Option ℕ → List ℕ
+text_next run newline = (said_next run newline).1
+
 -- The next line was obeyed: it is counted, and the session is as it says.
 pub record Obeys (old : Runner) (newline : Option ℕ) (new : Runner) : Type 0 where
   pub lines : new.summary.lines ≡ old.summary.lines + 1

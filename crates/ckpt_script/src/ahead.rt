@@ -1,11 +1,11 @@
 //! What was read of a script and not used yet, and how the next line is found in it.
-ghost use Rattle.std.specs.Prelude.{◌≡◌, ◌+◌, ◌≢◌, ◌≤◌, ◌<◌, ◌∷◌, ◌++◌, ℕ, List, true, false, [], IsTrue, ◌↔◌, IfOk, OnOk, OnErr, IfErr, length, take, Some};
+ghost use Rattle.std.specs.Prelude.{◌≡◌, ◌+◌, ◌≢◌, ◌≤◌, ◌<◌, ◌++◌, true, false, [], IsTrue, ◌↔◌, IfOk, OnOk, OnErr, IfErr, length, take, Some};
 ghost use Rattle.std.specs.Io.KnownBytes.{IsAtEnd};
-ghost use Rattle.ckpt_script.specs.Devices.{IsCounted, IsCaused, used};
+ghost use Rattle.ckpt_script.specs.Devices.{IsCounted, IsCaused};
 ghost use Rattle.ckpt_script.specs.Faults.{FailsBy};
 ghost use Rattle.ckpt_script.specs.Known.{Prints};
 ghost use Rattle.ckpt_script.specs.Lines.{held, FindsNewline, Moves};
-ghost use Rattle.ckpt_script.specs.Reads.{FindsLine, IsFilled, IsFollowed, ReadsOn, ReadsPart, left_by};
+ghost use Rattle.ckpt_script.specs.Reads.{FindsLine, IsFilled, IsFollowed, ReadsOn, ReadsPart, UsesBytes, left_by};
 
 use crate::fault::RunFault;
 use crate::limits::MOST_READS;
@@ -86,7 +86,8 @@ impl Ahead {
         ensures filled { OnOk result (IsFilled self.old (S.asked source.old) self.new (S.asked source.new)) }
         ensures at_once { OnOk result (self.old.bytes ≡ [] → self.old.is_ended ≡ false → printed.new ≡ []) }
         ensures shown { OnOk result (Prints (K.contents sink.old) (K.contents sink.new) printed.old [] printed.new (K.failures sink.new)) }
-        ensures fault { IfErr result (FailsBy self.old (S.asked source.new) (K.contents sink.old) (K.contents sink.new) printed.old printed.new (K.failures sink.new)) }
+        ensures fault { IfErr result (FailsBy self.old (K.contents sink.old) (K.contents sink.new) printed.old printed.new) }
+        ensures cause { IfErr result (IsCaused (S.asked source.new) (K.failures sink.new)) }
         ensures memory { IfErr result (λ why. why ≢ RunFault.Memory) }
         ensures unread { OnErr result (self.new.bytes ≡ []) }
         ensures same_source { S.device source.new ≡ S.device source.old }
@@ -142,10 +143,11 @@ impl Ahead {
         ensures ended { self.new.is_ended ≡ true → IsAtEnd (S.remaining source.new) }
         ensures counted { OnOk result (IsCounted (S.asked source.new) self.new) }
         ensures line { IfOk result (FindsLine self.old (S.remaining source.old) self.new (S.remaining source.new) line.new.items) }
-        ensures bytes_used { self.old.bytes ≢ [] → IfOk result (λ place. used (S.asked source.old) self.old < used (S.asked source.new) (left_by self.new place)) }
+        ensures bytes_used { self.old.bytes ≢ [] → IfOk result (UsesBytes self.old (S.asked source.old) self.new (S.asked source.new)) }
         ensures shown { OnOk result (Prints (K.contents sink.old) (K.contents sink.new) printed.old [] printed.new (K.failures sink.new)) }
         ensures part { IfErr result (λ why. why ≡ RunFault.Read → ReadsPart self.old (S.remaining source.old) (S.remaining source.new) line.new.items) }
-        ensures fault { IfErr result (FailsBy self.old (S.asked source.new) (K.contents sink.old) (K.contents sink.new) printed.old printed.new (K.failures sink.new)) }
+        ensures fault { IfErr result (FailsBy self.old (K.contents sink.old) (K.contents sink.new) printed.old printed.new) }
+        ensures cause { IfErr result (IsCaused (S.asked source.new) (K.failures sink.new)) }
         ensures same_source { S.device source.new ≡ S.device source.old }
         ensures same_sink { K.device sink.new ≡ K.device sink.old }
     {

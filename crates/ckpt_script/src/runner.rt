@@ -1,11 +1,11 @@
 //! A run of a script: reads line after line, obeys it and prints.
-ghost use Rattle.std.specs.Prelude.{◌≡◌, ◌≢◌, ◌≤◌, ◌<◌, ◌+◌, [], Ok, Err, true, false, OnOk, OnErr, IfOk, IfErr};
+ghost use Rattle.std.specs.Prelude.{◌≡◌, ◌≤◌, ◌<◌, ◌+◌, [], true, false, OnOk, IfOk, IfErr};
 ghost use Rattle.std.specs.Io.KnownBytes.{IsAtEnd};
 ghost use Rattle.ckpt_script.specs.Devices.{Asked, IsCaused, SinkCauses, IsReadThrough};
 ghost use Rattle.ckpt_script.specs.Faults.{FailsToPrint};
 ghost use Rattle.ckpt_script.specs.Known.{Prints};
-ghost use Rattle.ckpt_script.specs.Reads.{IsAhead, left_by};
-ghost use Rattle.ckpt_script.specs.Runs.{reading_next, said_next, Obeys, IsReady, GoesOn, Stops, EndsBy};
+ghost use Rattle.ckpt_script.specs.Reads.{IsAhead, left_by, line_at};
+ghost use Rattle.ckpt_script.specs.Runs.{text_next, Obeys, IsReady, GoesOn, Stops, EndsBy};
 ghost use Rattle.ckpt_script.specs.Telling.{keeps_lines};
 ghost use Rattle.ckpt_session.specs.Sessions.{opening_scene};
 
@@ -16,7 +16,7 @@ use crate::printed::Printed;
 use crate::sink::Sink;
 use crate::source::Source;
 use crate::summary::Summary;
-use ckpt_lines::{Line, LineFault, laws, parse_line};
+use ckpt_lines::laws;
 use ckpt_session::{Secret, Session};
 use ckpt_workers::Team;
 use std::alloc::{AllocError, Global};
@@ -24,7 +24,6 @@ use std::alloc::{AllocError, Global};
 /// A script that is being run.
 #[derive(Drop)]
 pub(crate) struct Runner {
-    alloc: Global,
     ahead: Ahead,
     line: Vec<u8>,
     session: Session,
@@ -33,18 +32,6 @@ pub(crate) struct Runner {
 }
 
 impl Runner {
-    /// The meaning of the line whose newline is here, or of the held line.
-    fn meaning(&self, newline: Option<usize>) -> Result<Line, LineFault>
-        requires { IsAhead self.now.ahead newline }
-        ensures line { IfOk result (λ read. reading_next self.now newline ≡ Ok read) }
-        ensures fault { IfErr result (λ why. why ≢ LineFault.Memory → reading_next self.now newline ≡ Err why) }
-    {
-        match newline {
-            Some(place) => parse_line(self.alloc, self.ahead.front(place)),
-            None => parse_line(self.alloc, self.line.as_slice()),
-        }
-    }
-
     /// Runs the line whose newline is here, or the held line, and prints what it prints.
     fn obey<K: Sink, T: Team>(
         &mut self,
@@ -58,21 +45,20 @@ impl Runner {
         requires going_on { K.failures sink.old ≡ 0 }
         ensures left { self.new.ahead ≡ left_by self.old.ahead newline }
         ensures obeyed { OnOk result (Obeys self.old newline self.new) }
-        ensures shown { OnOk result (Prints (K.contents sink.old) (K.contents sink.new) self.old.printed (said_next self.old newline).1 self.new.printed (K.failures sink.new)) }
-        ensures fault { IfErr result (FailsToPrint (K.contents sink.old) (K.contents sink.new) self.old.printed (said_next self.old newline).1 (K.failures sink.new)) }
+        ensures shown { OnOk result (Prints (K.contents sink.old) (K.contents sink.new) self.old.printed (text_next self.old newline) self.new.printed (K.failures sink.new)) }
+        ensures fault { IfErr result (FailsToPrint (K.contents sink.old) (K.contents sink.new) self.old.printed (text_next self.old newline)) }
+        ensures cause { IfErr result (SinkCauses (K.failures sink.new)) }
         ensures same_sink { K.device sink.new ≡ K.device sink.old }
     {
         let number = self.summary.lines + 1;
-        let line = self.meaning(newline);
+        let line = line_at(&self.ahead, self.line.as_slice(), newline);
+        let told = self
+            .session
+            .say_bytes_onto(&mut self.printed.waiting, number, line, team);
         if let Some(place) = newline {
             self.ahead.drop_line(place);
         }
-        if let Err(LineFault::Memory) = line {
-            return Err(RunFault::Memory);
-        }
-        let is_faulty = line.is_err();
-        self.session
-            .say_onto(&mut self.printed.waiting, number, line, team)?;
+        let is_faulty = told?;
         self.printed.settle(sink)?;
         self.summary.lines = number;
         self.summary.faults += u64::from(is_faulty);
@@ -120,7 +106,6 @@ impl Runner {
         ensures summary { IfOk result (λ run. run.summary ≡ record { lines = 0; faults = 0 }) }
     {
         Ok(Runner {
-            alloc,
             ahead: Ahead::new(alloc)?,
             line: Vec::new(alloc),
             session: Session::keyed(alloc, secret),
@@ -181,5 +166,16 @@ fn keeps_lines(fault: RunFault) -> bool
     match fault {
         RunFault::Read | RunFault::TooManyLines => true,
         RunFault::Write | RunFault::Memory => false,
+    }
+}
+
+/// What is held of the line whose newline is here, or the held line.
+fn line_at<'a>(ahead: &'a Ahead, line: &'a [u8], newline: Option<usize>) -> &'a [u8]
+    requires { IsAhead ahead.now newline }
+    ensures { result.now ≡ line_at ahead.now line.now newline }
+{
+    match newline {
+        Some(place) => ahead.front(place),
+        None => line,
     }
 }

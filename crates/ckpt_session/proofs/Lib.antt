@@ -2,6 +2,7 @@
 pub mod AckLists
 pub mod AckSearch
 pub mod BookLemmas
+pub mod CallLemmas
 pub mod KeepLemmas
 pub mod ShownLemmas
 pub mod Teamwork

@@ -1,12 +1,10 @@
 //! The `all` line: each missing subtask of a pending record acknowledges, with one new file each.
-ghost use Rattle.std.specs.Prelude.{◌≡◌, ◌≤◌, ◌<◌, ◌^◌, ◌+◌, false, Some, length, slice_get, IfOk, OnOk};
+ghost use Rattle.std.specs.Prelude.{◌≡◌, ◌≤◌, ◌<◌, ◌^◌, ◌+◌, Some, length, IfOk, OnOk};
 ghost use Rattle.std.specs.List.{list_any};
-ghost use Rattle.std.specs.Option.{option_map_or};
 ghost use Rattle.ckpt_ids.specs.Shapes.{same_subtask};
-ghost use Rattle.ckpt_ids.specs.Acknowledged.{is_before};
 ghost use Rattle.ckpt_locked.specs.Books.{state_of_book};
 ghost use Rattle.ckpt_texts.specs.MetadataTexts.{missing_subtasks};
-ghost use Rattle.ckpt_session.specs.AllLines.{ack_with, missing_now, pending_metadata, shown_pending, acks_for, end_of, told_of, all_of, all_obeyed};
+ghost use Rattle.ckpt_session.specs.AllLines.{ack_with, missing_now, pending_metadata, shown_pending, acks_for, told_of, all_of, all_obeyed};
 
 use crate::outcome::{AllEnd, Outcome, ScriptRefusal};
 use ckpt_ids::{Acks, Answer, Call, CheckpointId, FileId, Files, Metadata, Reply, SubtaskId};

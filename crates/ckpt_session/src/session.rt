@@ -1,17 +1,18 @@
 //! A script that is being run: what its lines do, and what they print.
-ghost use Rattle.std.specs.Prelude.{◌≡◌, ◌++◌, true, Ok, Err, None, IfOk, OnOk, OnErr, is_err, option_map, string_bytes};
+ghost use Rattle.std.specs.Prelude.{◌≡◌, ◌++◌, true, false, Ok, Err, None, IfOk, OnOk, OnErr, is_err, option_map, string_bytes};
 ghost use Rattle.std.specs.Option.{option_copied};
 ghost use Rattle.ckpt_locked.specs.Books.{state_of_book};
 ghost use Rattle.ckpt_lines.specs.Meanings.{meaning};
+ghost use Rattle.ckpt_lines.specs.Reading.{reading};
 ghost use Rattle.ckpt_session.specs.ScriptTexts.{outcome_bytes};
 ghost use Rattle.ckpt_session.specs.Sessions.{opening_scene, before_start, after_start, refused, configured, shaped, started_so_far, called, all_called, obeyed, done_by, said};
 
 use crate::all::{AllLine, LINE_SEAT};
 use crate::outcome::{Outcome, ScriptRefusal};
-use crate::texts::{write_fault, write_outcome};
+use crate::texts::{write_fault, write_not_started, write_outcome};
 use ckpt_core::Secret;
 use ckpt_ids::{Call, Config, Shape, ShapeFault};
-use ckpt_lines::{Line, LineFault, Meaning, Numbers};
+use ckpt_lines::{Line, LineFault, Meaning, Numbers, parse_line, usual_call};
 use ckpt_locked::Book;
 use ckpt_texts::write_answer;
 use ckpt_workers::Team;
@@ -78,6 +79,64 @@ impl Session {
         ensures { option_map state_of_book (option_copied result) ≡ self.now.core }
     {
         self.book.as_ref()
+    }
+
+    /// Reads the line with this number from its bytes and runs it, as [`parse_line`] and
+    /// [`Session::say_onto`] do. Returns whether the line has a fault.
+    ///
+    /// Fails only if memory runs out, and then as [`Session::say_onto`].
+    pub fn say_bytes_onto<T: Team>(
+        &mut self,
+        text: &mut String,
+        number: u64,
+        line: &[u8],
+        team: &mut T,
+    ) -> Result<bool, AllocError>
+        ensures scene { OnOk result (self.new ≡ (said number self.old (reading line.now)).0) }
+        ensures text { OnOk result (string_bytes text.new ≡ string_bytes text.old ++ (said number self.old (reading line.now)).1) }
+        ensures fault { IfOk result (λ faulty. faulty ≡ is_err (reading line.now)) }
+        ensures given_up { OnErr result (self.new ≡ record self.old { core = None }) }
+    {
+        match usual_call(line) {
+            Some(call) => self.say_call(text, call),
+            None => self.say_any(text, number, line, team),
+        }
+    }
+
+    /// Makes the call of a line, and appends its answer. A line with a call has no fault.
+    #[inline(always)]
+    fn say_call(&mut self, text: &mut String, call: Call) -> Result<bool, AllocError>
+        ensures scene { OnOk result (self.new ≡ (called self.old self.old.core call).0) }
+        ensures text { OnOk result (string_bytes text.new ≡ string_bytes text.old ++ outcome_bytes (called self.old self.old.core call).1) }
+        ensures fault { IfOk result (λ faulty. faulty ≡ false) }
+        ensures given_up { OnErr result (self.new ≡ record self.old { core = None }) }
+    {
+        if self.tell_answer(text, call).is_err() {
+            self.give_up();
+            return Err(AllocError);
+        }
+        Ok(false)
+    }
+
+    /// The same as [`Session::say_bytes_onto`], for any line. It has the locals that usual lines do
+    /// not need.
+    #[inline(never)]
+    fn say_any<T: Team>(
+        &mut self,
+        text: &mut String,
+        number: u64,
+        line: &[u8],
+        team: &mut T,
+    ) -> Result<bool, AllocError>
+        ensures scene { OnOk result (self.new ≡ (said number self.old (reading line.now)).0) }
+        ensures text { OnOk result (string_bytes text.new ≡ string_bytes text.old ++ (said number self.old (reading line.now)).1) }
+        ensures fault { IfOk result (λ faulty. faulty ≡ is_err (reading line.now)) }
+        ensures given_up { OnErr result (self.new ≡ record self.old { core = None }) }
+    {
+        let read = parse_line(self.alloc, line);
+        let is_faulty = read.is_err();
+        self.say_onto(text, number, read, team)?;
+        Ok(is_faulty)
     }
 
     /// Runs the line with this number, and appends what it prints: one text with its newline, or
@@ -163,11 +222,7 @@ impl Session {
         ensures told { OnErr result ((self.new.config ≡ self.old.config) × (self.new.shape ≡ self.old.shape)) }
     {
         let Some(book) = &mut self.book else {
-            return write_outcome(
-                self.alloc,
-                text,
-                &Outcome::Refused(ScriptRefusal::NotStarted),
-            );
+            return write_not_started(text);
         };
         let answer = book.apply(LINE_SEAT, call);
         match &answer {

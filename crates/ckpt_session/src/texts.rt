@@ -1,5 +1,7 @@
 //! What a script prints: the outcomes of its lines, and their faults.
 ghost use Rattle.std.specs.Prelude.{◌≡◌, ◌++◌, true, OnErr, OnOk, string_bytes};
+ghost use Rattle.ckpt_session.specs.declared.outcome.Outcome.TheVariants.{Refused};
+ghost use Rattle.ckpt_session.specs.declared.outcome.ScriptRefusal.TheVariants.{NotStarted};
 ghost use Rattle.ckpt_session.specs.ScriptTexts.{all_end_bytes, fault_bytes, fault_name, is_said, outcome_bytes, refusal_bytes, refusal_name};
 
 use crate::outcome::{AllEnd, Outcome, ScriptRefusal};
@@ -44,6 +46,16 @@ fn write_all_end(text: &mut String, end: AllEnd) -> Result<(), AllocError>
         }
         AllEnd::Pending { missing } => write!(text, " pending {missing}\n"),
     }
+}
+
+/// Appends what a line prints that needs an accepted `start` before it. A function of its own,
+/// because few scripts have such a line.
+#[tactic(auto, unfolding(crate::specs::ScriptTexts::outcome_bytes))]
+#[inline(never)]
+pub(crate) fn write_not_started(text: &mut String) -> Result<(), AllocError>
+    ensures { OnOk result (string_bytes text.new ≡ string_bytes text.old ++ outcome_bytes (Refused NotStarted)) }
+{
+    write_refusal(text, ScriptRefusal::NotStarted)
 }
 
 /// Appends the text of a refusal, with its newline. Fails only if memory runs out.

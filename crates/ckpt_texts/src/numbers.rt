@@ -4,17 +4,24 @@ ghost use Rattle.std.specs.Prelude.{◌≡◌, ◌++◌, codes, decimal, OnOk, s
 use itoa::Buffer;
 use std::alloc::AllocError;
 
-/// Appends the digits of the number.
-#[tactic(auto, using(std::proofs::lemmas::Fmt::decimal_digit))]
+/// Appends the digits of the number, however many.
 #[inline(never)]
+fn write_any_digits(text: &mut String, number: u64) -> Result<(), AllocError>
+    ensures { OnOk result (string_bytes text.new ≡ string_bytes text.old ++ decimal number) }
+{
+    text.push_str(Buffer::new().format(number))
+}
+
+/// Appends the digits of the number. Most counts have one digit, which is written at once.
+#[tactic(auto, using(std::proofs::lemmas::Fmt::decimal_digit))]
+#[inline(always)]
 fn write_digits(text: &mut String, number: u64) -> Result<(), AllocError>
     ensures { OnOk result (string_bytes text.new ≡ string_bytes text.old ++ decimal number) }
 {
-    // Most counts have one digit.
     if number < 10 {
         return text.push(char::from(b'0' + number as u8));
     }
-    text.push_str(Buffer::new().format(number))
+    write_any_digits(text, number)
 }
 
 /// Appends the words and the digits of the number. The caller's words are constants, so inlining

@@ -3,7 +3,7 @@ use Rattle.std.proofs.Common.{◌≡◌, ◌≢◌, Bool, true, false, [], subst
 use Rattle.std.specs.Io.KnownBytes.{prepend_known}
 use Rattle.ckpt_script.specs.declared.fault.RunFault.TheVariants.{Memory}
 use Rattle.ckpt_script.specs.Lines.{Moves, HoldsLine, HoldsPart}
-use Rattle.ckpt_script.proofs.CauseLemmas.{fails_on, fails_for_memory}
+use Rattle.ckpt_script.proofs.CauseLemmas.{caused_by_memory, fails_on, fails_for_memory}
 use Rattle.ckpt_script.proofs.LineLemmas.{length-take_held, moved_fewer}
 use Rattle.ckpt_script.proofs.KnownLemmas.{WhereKnown-keeps, WhereKnown-moves, WhereKnown-unread, part_goes_on, line_ends, text_ends}
 use Rattle.ckpt_script.proofs.PassesLemmas.{passes_on, if_err_is}
@@ -65,15 +65,20 @@ returns-in_err-fill-2-clause-part g c = if_err_is c.from_residual-in_err-fill-2.
 
 pub returns-in_err-fill-2-clause-fault : goal.returns-in_err-fill-2-clause-fault
 returns-in_err-fill-2-clause-fault g c = if_err_is c.from_residual-in_err-fill-2.result c.in_err-fill-2.field-0.0 _ c.from_residual-in_err-fill-2.ensures.1
-    (fails_on c.args.self.now c.move_to.new.self (g.S.Source.asked c.fill-in-loop-self.new.source) (g.K.Sink.contents c.args.sink.now) (g.K.Sink.contents c.loop-self.sink) (g.K.Sink.contents c.fill-in-loop-self.new.sink) c.args.printed.now c.loop-self.printed c.fill-in-loop-self.new.printed (g.K.Sink.failures c.fill-in-loop-self.new.sink) c.in_err-fill-2.field-0.0
+    (fails_on c.args.self.now c.move_to.new.self (g.K.Sink.contents c.args.sink.now) (g.K.Sink.contents c.loop-self.sink) (g.K.Sink.contents c.fill-in-loop-self.new.sink) c.args.printed.now c.loop-self.printed c.fill-in-loop-self.new.printed c.in_err-fill-2.field-0.0
     (λ e. c.loop-self.invariant.stays (sym c.in_ok-move_to.ensures.ended ∙ e)) c.loop-self.invariant.shown.passes c.in_err-fill-2.ensures.fault)
 
 pub returns-in_err-move_to-clause-fault : goal.returns-in_err-move_to-clause-fault
 returns-in_err-move_to-clause-fault g c =
     let sure = c.loop-self.invariant in
     if_err_is c.from_residual-in_err-move_to.result Memory _ c.from_residual-in_err-move_to.ensures.1
-    (fails_for_memory c.args.self.now (g.S.Source.asked c.loop-self.source) (g.K.Sink.contents c.args.sink.now) (g.K.Sink.contents c.loop-self.sink) c.args.printed.now c.loop-self.printed (g.K.Sink.failures c.loop-self.sink)
-    sure.shown.passes sure.shown.going_on (omega (arith, sure.followed.counted.times)) sure.followed.counted.none_failed)
+    (fails_for_memory c.args.self.now (g.K.Sink.contents c.args.sink.now) (g.K.Sink.contents c.loop-self.sink) c.args.printed.now c.loop-self.printed sure.shown.passes)
+
+pub returns-in_err-move_to-clause-cause : goal.returns-in_err-move_to-clause-cause
+returns-in_err-move_to-clause-cause g c =
+    let sure = c.loop-self.invariant in
+    if_err_is c.from_residual-in_err-move_to.result Memory _ c.from_residual-in_err-move_to.ensures.1
+    (caused_by_memory (g.S.Source.asked c.loop-self.source) (g.K.Sink.failures c.loop-self.sink) sure.shown.going_on (omega (arith, sure.followed.counted.times)) sure.followed.counted.none_failed)
 
 pub returns-clause-line : goal.returns-clause-line
 returns-clause-line g c =

@@ -31,7 +31,7 @@ returns-in_err-fill-clause-stopped g c =
     c.fill.new.self.bytes (g.S.Source.remaining c.fill.new.source) failed.read.kept))
 
 pub returns-in_err-fill-clause-cause : goal.returns-in_err-fill-clause-cause
-returns-in_err-fill-clause-cause g c = if_err_is c.from_residual.result c.in_err-fill.field-0.0 _ c.from_residual.ensures.1 c.in_err-fill.ensures.fault.cause
+returns-in_err-fill-clause-cause g c = if_err_is c.from_residual.result c.in_err-fill.field-0.0 _ c.from_residual.ensures.1 c.in_err-fill.ensures.cause
 
 pub returns-then-is_empty-clause-ready : goal.returns-then-is_empty-clause-ready
 returns-then-is_empty-clause-ready g c =
@@ -86,7 +86,7 @@ returns-in_err-newline-clause-stopped g c = if_err_is c.from_residual-in_err-new
     c.fill.new.self.bytes (g.S.Source.remaining c.fill.new.source) c.in_ok-fill.ensures.read.kept))
 
 pub returns-in_err-newline-clause-cause : goal.returns-in_err-newline-clause-cause
-returns-in_err-newline-clause-cause g c = if_err_is c.from_residual-in_err-newline.result c.in_err-newline.field-0.0 _ c.from_residual-in_err-newline.ensures.1 c.in_err-newline.ensures.fault.cause
+returns-in_err-newline-clause-cause g c = if_err_is c.from_residual-in_err-newline.result c.in_err-newline.field-0.0 _ c.from_residual-in_err-newline.ensures.1 c.in_err-newline.ensures.cause
 
 pub returns-in_err-obey-clause-stopped : goal.returns-in_err-obey-clause-stopped
 returns-in_err-obey-clause-stopped g c = if_err_is c.from_residual-in_err-obey.result c.in_err-obey.field-0.0 _ c.from_residual-in_err-obey.ensures.1
@@ -104,7 +104,7 @@ returns-in_err-obey-clause-cause g c = if_err_is c.from_residual-in_err-obey.res
     (record {
       few = omega (arith, c.in_ok-newline.ensures.counted.times);
       source = source_causes (g.S.Source.asked c.find_line.new.source) c.in_err-obey.field-0.0 c.in_err-obey.ensures.fault.fault.0 c.in_err-obey.ensures.fault.fault.1 c.in_ok-newline.ensures.counted.none_failed;
-      sink = c.in_err-obey.ensures.fault.cause;
+      sink = c.in_err-obey.ensures.cause;
     })
 
 pub returns-clause-ready : goal.returns-clause-ready

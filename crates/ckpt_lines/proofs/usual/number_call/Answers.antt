@@ -1,0 +1,36 @@
+-- Answers the goals of `number_call`.
+use Rattle.std.proofs.Common.{refl}
+use Rattle.ckpt_ids.specs.declared.call.Call.TheVariants as call
+use Rattle.ckpt_lines.specs.declared.line.Line.TheVariants as line
+use Rattle.ckpt_lines.specs.Meanings.{meaning}
+use Rattle.ckpt_lines.specs.Reading.{row}
+use Rattle.ckpt_lines.proofs.UsualLemmas.{says_number}
+use Rattle.ckpt_lines.proofs.usual.number_call.Goals as goal
+
+pub returns-in-Tick : goal.returns-in-Tick
+unfolding row meaning
+returns-in-Tick c = λ words. says_number c.args.keyword line.Tick (call.Tick c.args.number) c.args.number words (rw c.in-Tick.is refl) refl
+
+pub returns-in-Savepoint : goal.returns-in-Savepoint
+unfolding row meaning
+returns-in-Savepoint c = λ words. says_number c.args.keyword line.Savepoint (call.Savepoint c.args.number) c.args.number words (rw c.in-Savepoint.is refl) refl
+
+pub returns-in-Dispose : goal.returns-in-Dispose
+unfolding row meaning
+returns-in-Dispose c = λ words. says_number c.args.keyword line.Dispose (call.Dispose c.args.number) c.args.number words (rw c.in-Dispose.is refl) refl
+
+pub returns-in-Take : goal.returns-in-Take
+unfolding row meaning
+returns-in-Take c = λ words. says_number c.args.keyword line.Take (call.Take c.args.number) c.args.number words (rw c.in-Take.is refl) refl
+
+pub returns-in-Deleted : goal.returns-in-Deleted
+unfolding row meaning
+returns-in-Deleted c = λ words. says_number c.args.keyword line.Deleted (call.Deleted c.args.number) c.args.number words (rw c.in-Deleted.is refl) refl
+
+pub returns-in-Undeleted : goal.returns-in-Undeleted
+unfolding row meaning
+returns-in-Undeleted c = λ words. says_number c.args.keyword line.Undeleted (call.Undeleted c.args.number) c.args.number words (rw c.in-Undeleted.is refl) refl
+
+pub returns-in-Count : goal.returns-in-Count
+unfolding row meaning
+returns-in-Count c = λ words. says_number c.args.keyword line.Count (call.Count c.args.number) c.args.number words (rw c.in-Count.is refl) refl
