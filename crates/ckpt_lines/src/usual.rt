@@ -11,8 +11,9 @@ use crate::rows::end;
 use crate::words::Words;
 use ckpt_ids::{Call, CheckpointId, FileId};
 
-/// The call of a line that has a usual keyword and one number. Returns `None` for other lines, which
-/// [`parse_line`](crate::parse_line) reads.
+/// The call of a line that has a usual keyword and one number, or `None`. Then
+/// [`parse_line`](crate::parse_line) reads the line, and gives the same call if it has one. So no
+/// clause says for which lines this returns `None`.
 ///
 /// Most lines of a long script are of this kind. A program moves a [`Line`](crate::Line) whole,
 /// whichever line it is, and makes a call of it after that. So these calls are made without one.
