@@ -44,6 +44,14 @@ pub(crate) enum Plan {
     Book(BookPlan),
 }
 
+/// The word at this place, or an empty one if the command line is not that long.
+fn word(words: &[String], place: usize) -> &str {
+    match words.get(place) {
+        Some(word) => word.as_str(),
+        None => "",
+    }
+}
+
 /// The number at this place, if the command line is that long.
 fn optional(words: &[String], place: usize) -> Result<Option<u64>, BenchFault> {
     let Some(word) = words.get(place) else {
@@ -76,9 +84,9 @@ fn storm_plan(words: &[String]) -> Result<StormPlan, BenchFault> {
 }
 
 fn way_of(words: &[String]) -> Result<Way, BenchFault> {
-    match words.get(1).map(|word| word.as_str()) {
-        Some("locked") => Ok(Way::Locked),
-        Some("mutex") => Ok(Way::Mutex),
+    match word(words, 1) {
+        "locked" => Ok(Way::Locked),
+        "mutex" => Ok(Way::Mutex),
         _ => Err(BenchFault::Usage),
     }
 }
@@ -100,23 +108,22 @@ fn book_plan(words: &[String]) -> Result<BookPlan, BenchFault> {
 
 /// The arguments after the program's name.
 fn given_words(rt: &HostRuntime) -> Result<Vec<String>, BenchFault> {
-    let Ok(given) = env::args(rt) else {
+    let Ok(mut given) = env::args(rt) else {
         return Err(BenchFault::Memory);
     };
+    let _program = given.next();
     let mut words = Vec::new(rt.alloc());
-    for word in given.skip(1) {
-        if words.push(word).is_err() {
-            return Err(BenchFault::Memory);
-        }
+    for word in given {
+        words.push(word).or(Err(BenchFault::Memory))?;
     }
     Ok(words)
 }
 
 fn plan_of(words: &[String]) -> Result<Plan, BenchFault> {
-    match words.first().map(|word| word.as_str()) {
-        Some("storm") => Ok(Plan::Storm(storm_plan(words)?)),
-        Some("lock") => Ok(Plan::Lock(lock_plan(words)?)),
-        Some("book") => Ok(Plan::Book(book_plan(words)?)),
+    match word(words, 0) {
+        "storm" => Ok(Plan::Storm(storm_plan(words)?)),
+        "lock" => Ok(Plan::Lock(lock_plan(words)?)),
+        "book" => Ok(Plan::Book(book_plan(words)?)),
         _ => Err(BenchFault::Usage),
     }
 }

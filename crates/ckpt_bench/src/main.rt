@@ -52,8 +52,7 @@ fn main(rt: HostRuntime) -> ExitCode {
     match bench(&rt, &rt) {
         Ok(()) => ExitCode::SUCCESS,
         Err(fault) => {
-            // If standard error fails too, only the status says so.
-            let _ = eprintln!(rt; "ckpt_bench: {fault}");
+            fault.tell(&rt);
             ExitCode::FAILURE
         }
     }

@@ -54,5 +54,5 @@ pub(crate) fn measure<R: Threads + Wait + Sync>(
     plan: &LockPlan,
 ) -> Result<(), BenchFault> {
     let (made, each) = timed(rt, host, plan)?;
-    tell(host, plan.threads, made, each).map_err(|_| BenchFault::Output)
+    tell(host, plan.threads, made, each).or(Err(BenchFault::Output))
 }

@@ -107,7 +107,7 @@ fn check_held(book: &Book, last: u64, threads: u32) -> Result<(), BenchFault> {
 /// entry's thread.
 fn replay(alloc: Global, book: &Book, told: &[Told]) -> Result<(), BenchFault> {
     let mut core = open_core(alloc)?;
-    let mut next = Vec::from_elem(alloc, 0usize, told.len()).map_err(|_| BenchFault::Memory)?;
+    let mut next = Vec::from_elem(alloc, 0usize, told.len()).or(Err(BenchFault::Memory))?;
     for place in 0..book.len() {
         let Some(entry) = book.entry(place) else {
             return Err(BenchFault::Unread { place });

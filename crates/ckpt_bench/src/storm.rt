@@ -42,5 +42,5 @@ pub(crate) fn storm<R: Threads + Wait + Sync>(
     plan: &StormPlan,
 ) -> Result<(), BenchFault> {
     let returned = returned(rt, host.alloc(), plan)?;
-    tell(host, plan, returned).map_err(|_| BenchFault::Output)
+    tell(host, plan, returned).or(Err(BenchFault::Output))
 }

@@ -53,8 +53,9 @@ pub(crate) fn run<R: Threads + Wait + Sync>(
     calls: u64,
 ) -> Result<u64, BenchFault> {
     let (_book, told) = run_threads(rt, alloc, book, threads, Task::Measure { calls })?;
-    Ok(
-        told.iter()
-            .fold(0, |sum: u64, told| sum.saturating_add(told.calls)),
-    )
+    let mut made: u64 = 0;
+    for told in &told {
+        made = made.saturating_add(told.calls);
+    }
+    Ok(made)
 }

@@ -141,10 +141,7 @@ impl Worker {
                 .fetch_max(self.caller.newest(), Ordering::SeqCst);
         }
         if self.plan.last.is_none() {
-            self.told
-                .answers
-                .push(answer)
-                .map_err(|_| BenchFault::Memory)?;
+            self.told.answers.push(answer).or(Err(BenchFault::Memory))?;
         }
         Ok(())
     }

@@ -1,8 +1,7 @@
 //! The checks after a run, and their output.
 use crate::folder::listed;
 use crate::lines::{tell_files, tell_line};
-use crate::replay::{Counts, Place, Replay, answer};
-use crate::roles::OTHERS;
+use crate::replay::{Counts, Replay, answer};
 use crate::script::write_script;
 use crate::settings::DemoFault;
 use crate::threads::Ended;
@@ -25,12 +24,15 @@ fn sum(calls: &[u64]) -> u64 {
 
 /// Prints how many calls each role made. If standard error fails, the checks go on.
 fn tell_calls(rt: &HostRuntime, calls: &[u64]) {
-    let (tasks, others) = calls.split_at(calls.len().saturating_sub(OTHERS.len()));
-    let _ = eprint!(rt; "calls: tasks {}", sum(tasks));
-    for (role, calls) in OTHERS.iter().zip(others.iter()) {
-        let _ = eprint!(rt; ", {} {calls}", role.name());
+    if let [tasks @ .., timer, discarder, conductor] = calls {
+        let parts = [
+            ("calls: tasks ", sum(tasks)),
+            (", timer ", *timer),
+            (", discarder ", *discarder),
+            (", conductor ", *conductor),
+        ];
+        tell_line(rt, &parts, "");
     }
-    let _ = eprintln!(rt; "");
 }
 
 fn tell_records(rt: &HostRuntime, counts: Counts) {
@@ -101,13 +103,23 @@ fn show_all(book: &mut Book, core: &mut Core) -> Result<bool, DemoFault> {
 
 /// Whether both count the same uses of each file, and hand out the same ones.
 fn are_files_same(book: &mut Book, replay: &mut Replay) -> Result<bool, DemoFault> {
-    for (file, _) in replay.places.iter() {
+    let core = &mut replay.core;
+    Ok(
+        are_counts_same(book, core, &replay.registered)?
+            && are_counts_same(book, core, &replay.refused)?
+            && is_same(book, core, Call::Take { most: u64::MAX })?,
+    )
+}
+
+/// Whether both count the same uses of each of these files.
+fn are_counts_same(book: &mut Book, core: &mut Core, files: &[u64]) -> Result<bool, DemoFault> {
+    for file in files {
         let file = FileId(*file);
-        if !is_same(book, &mut replay.core, Call::Count { file })? {
+        if !is_same(book, core, Call::Count { file })? {
             return Ok(false);
         }
     }
-    is_same(book, &mut replay.core, Call::Take { most: u64::MAX })
+    Ok(true)
 }
 
 /// The files that the folder should have, in ascending order: those that were there before, those that the
@@ -155,10 +167,10 @@ fn is_folder_right(
     replay: &Replay,
     before: &[u64],
 ) -> Result<bool, DemoFault> {
-    let refused = replay.files_at(rt.alloc(), Place::Refused)?;
-    tell_files(rt, "files of refused acknowledgements", refused.as_slice());
-    let known = replay.files_at(rt.alloc(), Place::Known)?;
-    let expected = expected(rt.alloc(), before, known.as_slice(), refused.as_slice())?;
+    let refused = replay.refused.as_slice();
+    tell_files(rt, "files of refused acknowledgements", refused);
+    let known = without(rt.alloc(), &replay.registered, &replay.deleted)?;
+    let expected = expected(rt.alloc(), before, known.as_slice(), refused)?;
     let there = listed(rt, folder)?;
     let same = compare(rt, there.as_slice(), expected.as_slice())?;
     Ok(same && known.len() as u64 == count_files(&replay.core))

@@ -7,7 +7,6 @@ use crate::settings::Settings;
 use ckpt_ids::{Call, CheckpointId, FileId, Metadata, Reply, Shape, Target};
 use ckpt_locked::Pass;
 use std::alloc::Global;
-use std::collections::BTreeSet;
 use std::sync::Wait;
 
 /// The time between two looks at the clock, in milliseconds.
@@ -79,7 +78,8 @@ struct Desk {
 struct Census {
     live: Vec<u64>,
     pending: u64,
-    used: BTreeSet<u64>,
+    /// The files of the records, each as often as a record has it.
+    used: Vec<u64>,
 }
 
 impl Census {
@@ -94,7 +94,7 @@ impl Census {
 
     fn note_files(&mut self, files: &[FileId]) {
         for file in files {
-            let _ = self.used.insert(file.0);
+            let _ = self.used.push(file.0);
         }
     }
 }
@@ -153,12 +153,12 @@ impl Desk {
         let mut census = Census {
             live: Vec::new(self.alloc),
             pending: 0,
-            used: BTreeSet::new(self.alloc),
+            used: Vec::new(self.alloc),
         };
         let known = ground.board.known();
         let pass = count(rt, ground, pass, self.live.as_slice(), &mut census);
-        let (used, pending) = (census.used.len() as u64, census.pending);
-        tell_progress(ground, known, used, pending);
+        census.used.sort_unstable();
+        tell_progress(ground, known, distinct(&census.used), census.pending);
         self.live = census.live;
         pass
     }
@@ -195,6 +195,19 @@ fn count<R: Wait>(
         }
     }
     pass
+}
+
+/// How many different numbers there are. They are in ascending order.
+fn distinct(numbers: &[u64]) -> u64 {
+    let mut count: u64 = 0;
+    let mut last = None;
+    for number in numbers {
+        if last != Some(*number) {
+            count = count.saturating_add(1);
+            last = Some(*number);
+        }
+    }
+    count
 }
 
 /// Prints a line of progress. If standard error fails, the run goes on.

@@ -57,8 +57,7 @@ fn main(rt: HostRuntime) -> ExitCode {
         Ok(true) => ExitCode::SUCCESS,
         Ok(false) => ExitCode::FAILURE,
         Err(fault) => {
-            // If standard error fails too, only the status says so.
-            let _ = eprintln!(rt; "ckpt_demo: {fault}");
+            fault.tell(&rt);
             ExitCode::from(NO_RUN)
         }
     }

@@ -3,18 +3,7 @@ use crate::settings::{DemoFault, Settings};
 use ckpt_core::{Core, CoreFault};
 use ckpt_ids::{Answer, Call, Files, Reply};
 use ckpt_locked::Book;
-use std::alloc::{AllocError, Global};
-use std::collections::BTreeMap;
-
-/// Where a file should be.
-#[derive(Clone, Copy, PartialEq, Eq)]
-pub(crate) enum Place {
-    /// Its acknowledgement was refused, so it stays in the folder for good.
-    Refused,
-    /// The coordinator knows it: a record uses it, or it is waiting or taken.
-    Known,
-    Deleted,
-}
+use std::alloc::Global;
 
 /// How records and files ended, by the answers.
 #[derive(Clone, Copy)]
@@ -32,8 +21,14 @@ pub(crate) struct Counts {
 #[derive(Drop)]
 pub(crate) struct Replay {
     pub(crate) core: Core,
-    pub(crate) places: BTreeMap<u64, Place>,
     pub(crate) counts: Counts,
+    /// The new files of accepted acknowledgements. No file is new in two acknowledgements.
+    pub(crate) registered: Vec<u64>,
+    /// The new files of refused acknowledgements, in ascending order. They stay in the folder for
+    /// good.
+    pub(crate) refused: Vec<u64>,
+    /// The files that were reported as deleted, in ascending order.
+    pub(crate) deleted: Vec<u64>,
 }
 
 /// Makes a call, and returns its answer even if it is refused.
@@ -52,8 +47,10 @@ impl Replay {
         let core = Core::new(alloc, settings.config()?, shape, 0, 1);
         Ok(Replay {
             core: core.or(Err(DemoFault::Limits))?,
-            places: BTreeMap::new(alloc),
             counts: Counts::none(),
+            registered: Vec::new(alloc),
+            refused: Vec::new(alloc),
+            deleted: Vec::new(alloc),
         })
     }
 
@@ -65,54 +62,39 @@ impl Replay {
                 replay.make(&entry.call)?;
             }
         }
+        replay.refused.sort_unstable();
+        replay.deleted.sort_unstable();
         Ok(replay)
     }
 
-    /// The files that are at this place, in ascending order.
-    pub(crate) fn files_at(&self, alloc: Global, wanted: Place) -> Result<Vec<u64>, AllocError> {
-        let mut files = Vec::new(alloc);
-        for (file, place) in self.places.iter() {
-            if *place == wanted {
-                files.push(*file)?;
-            }
-        }
-        Ok(files)
-    }
-
     fn make(&mut self, call: &Call) -> Result<(), DemoFault> {
-        let answer = answer(&mut self.core, call)?;
-        if let Call::Ack { fresh, .. } = call {
-            let place = match &answer {
-                Answer::Done(_) => Place::Known,
-                Answer::Refused(_) => Place::Refused,
-            };
-            self.place_all(fresh, place)?;
-        }
-        match &answer {
-            Answer::Done(reply) => self.note(reply),
-            Answer::Refused(_) => Ok(()),
+        match answer(&mut self.core, call)? {
+            Answer::Done(reply) => {
+                self.counts.count(&reply);
+                self.note(call)
+            }
+            Answer::Refused(_) => match call {
+                Call::Ack { fresh, .. } => push_all(&mut self.refused, fresh),
+                _ => Ok(()),
+            },
         }
     }
 
-    fn note(&mut self, reply: &Reply) -> Result<(), DemoFault> {
-        self.counts.count(reply);
-        match reply {
-            Reply::Deleted(file) => self.place(file.0, Place::Deleted),
+    /// Notes the files of an accepted call.
+    fn note(&mut self, call: &Call) -> Result<(), DemoFault> {
+        match call {
+            Call::Ack { fresh, .. } => push_all(&mut self.registered, fresh),
+            Call::Deleted { file } => Ok(self.deleted.push(file.0)?),
             _ => Ok(()),
         }
     }
+}
 
-    fn place_all(&mut self, files: &Files, place: Place) -> Result<(), DemoFault> {
-        for file in files.as_slice() {
-            self.place(file.0, place)?;
-        }
-        Ok(())
+fn push_all(numbers: &mut Vec<u64>, files: &Files) -> Result<(), DemoFault> {
+    for file in files.as_slice() {
+        numbers.push(file.0)?;
     }
-
-    fn place(&mut self, file: u64, place: Place) -> Result<(), DemoFault> {
-        self.places.insert(file, place)?;
-        Ok(())
-    }
+    Ok(())
 }
 
 impl Counts {

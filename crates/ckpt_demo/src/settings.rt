@@ -1,25 +1,37 @@
 //! The settings of a run, and why a run may fail.
+use crate::lines::tell_line;
 use ckpt_ids::{Config, Shape};
 use std::alloc::{AllocError, AllocFailed, Global};
-use thiserror::Error;
+
+const FILES: &str = "the folder, a file in it or the script can't be read or written";
 
 /// Why the run did not start, or did not reach its end.
-#[derive(Clone, Copy, Debug, Error)]
+#[derive(Clone, Copy)]
 pub(crate) enum DemoFault {
-    #[error("the settings can't be read")]
     Input,
-    #[error("line {line} is no setting")]
-    Setting { line: usize },
-    #[error("the settings are outside their limits")]
+    /// This line is no setting.
+    Setting { line: u64 },
     Limits,
-    #[error("the folder, a file in it or the script can't be read or written")]
     Files,
-    #[error("nothing can be printed")]
     Output,
-    #[error("out of memory")]
     Memory,
-    #[error("the lock does not close")]
     Open,
+}
+
+impl DemoFault {
+    /// Prints the fault on standard error. If that fails too, only the status says so.
+    pub(crate) fn tell(self, rt: &HostRuntime) {
+        let _ = eprint!(rt; "ckpt_demo: ");
+        match self {
+            DemoFault::Input => tell_line(rt, &[], "the settings can't be read"),
+            DemoFault::Setting { line } => tell_line(rt, &[("line ", line)], " is no setting"),
+            DemoFault::Limits => tell_line(rt, &[], "the settings are outside their limits"),
+            DemoFault::Files => tell_line(rt, &[], FILES),
+            DemoFault::Output => tell_line(rt, &[], "nothing can be printed"),
+            DemoFault::Memory => tell_line(rt, &[], "out of memory"),
+            DemoFault::Open => tell_line(rt, &[], "the lock does not close"),
+        }
+    }
 }
 
 impl From<AllocError> for DemoFault {
@@ -61,12 +73,12 @@ impl Settings {
     pub(crate) fn read(alloc: Global, text: &[u8]) -> Result<Settings, DemoFault> {
         let mut settings = Settings::usual(alloc)?;
         let text = str::from_utf8(text).or(Err(DemoFault::Input))?;
-        for (place, line) in text.lines().enumerate() {
+        let mut number: u64 = 0;
+        for line in text.lines() {
+            number = number.saturating_add(1);
             if !line.is_empty() && !line.starts_with("#") {
                 let set = settings.set(alloc, line)?;
-                set.ok_or(DemoFault::Setting {
-                    line: place.saturating_add(1),
-                })?;
+                set.ok_or(DemoFault::Setting { line: number })?;
             }
         }
         Ok(settings)

@@ -62,11 +62,16 @@ impl Task {
     /// A file of the base, if there is one. Forgets the files before it.
     fn reused(&mut self, ground: &Ground) -> Result<Vec<FileId>, AllocError> {
         let base = ground.board.base();
-        self.kept.retain(|kept| kept.id >= base);
-        let mut reused = Vec::new(ground.alloc);
-        if let Some(kept) = self.kept.iter().find(|kept| kept.id == base) {
-            reused.push(kept.file)?;
+        let (mut reused, mut kept) = (Vec::new(ground.alloc), Vec::new(ground.alloc));
+        for file in &self.kept {
+            if file.id >= base {
+                kept.push(*file)?;
+            }
+            if file.id == base {
+                reused.push(file.file)?;
+            }
         }
+        self.kept = kept;
         Ok(reused)
     }
 

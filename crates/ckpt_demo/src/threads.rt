@@ -67,7 +67,7 @@ pub(crate) fn run<R: Threads + Wait + Sync>(
 ) -> Result<Ended, DemoFault> {
     let book = open(host.alloc(), &settings)?;
     let tasks = settings.tasks();
-    let seats = tasks.saturating_add(OTHERS.len() as u32);
+    let seats = tasks.saturating_add(OTHERS);
     let Ok((lock, passes)) = Locked::new(rt, book, seats) else {
         return Err(DemoFault::Limits);
     };
