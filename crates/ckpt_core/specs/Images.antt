@@ -10,7 +10,7 @@ use Rattle.ckpt_core.specs.State.{State}
 use Rattle.ckpt_core.specs.Histories.{replay, answers}
 use Rattle.ckpt_core.specs.Soundness.{IsSound}
 
--- the record that is saved so
+-- the record that was saved as this
 abbrev pub record_in : Saved → Record
 record_in s = record { id = s.metadata.id; kind = s.metadata.kind; done = s.metadata.done; shape = s.metadata.shape; started = s.metadata.started; acks = s.metadata.acks; pins = s.pins }
 
@@ -44,7 +44,7 @@ pub record GoesOnAs (m n : State) (calls : List Call) : Type 0 where
   pub answers : answers m calls ≡ answers n calls
   pub state : AreAlike (replay m calls) (replay n calls)
 
--- a state that a coordinator can be in: sound, and its moments have their place in the clock
+-- a state that a coordinator can be in: sound, with moments that fit a clock
 pub record CanHold (m : State) : Type 0 where
   pub sound : IsSound m
   pub clock : IsInRange (record { latest = m.latest; due = m.due; completed = m.completed })

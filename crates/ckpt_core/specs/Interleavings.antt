@@ -58,7 +58,7 @@ first_completed (a ∷ rest) = option_or (completed_by a) (first_completed rest)
 abbrev pub is_completing : Answer → Bool
 is_completing a = is_some (completed_by a)
 
--- from this state both lists of calls come to the same
+-- from this state both lists of calls have the same outcome
 pub record SameOutcome (m : State) (given made : List Call) : Type 0 where
   pub state : replay m given ≡ replay m made
   -- as many are accepted, as many refused, and so on for every test of an answer

@@ -36,7 +36,7 @@ pub record IsSound (m : State) : Type 0 where
   pub config : IsWithinLimits m.opening.config
   pub shape : IsShape m.shape
   pub latest : m.latest < MOMENTS_END
-  -- numbers rise, and lie from the first to below the next
+  -- numbers rise, from the first to below the next
   pub first : 1 ≤ m.opening.first
   pub next_from : m.opening.first ≤ m.next
   pub next_to : m.next ≤ NUMBERS_END

@@ -1,4 +1,4 @@
--- What a call does to the state, and what it is answered.
+-- What a call does to the state, and its answer.
 use Rattle.std.specs.Prelude.{ℕ, ◌+◌, ◌-◌, max, min, Bool, true, false, not, ◌&&◌, ◌||◌, nat_lt, nat_le, ◌==◌, List, [], ◌∷◌, ◌++◌, map, filter, find, length, count_by, take, if◌then◌else◌, Option, Some, None, unwrap_or, ⊤}
 use Rattle.std.specs.Prelude as prelude
 use Rattle.ckpt_ids.specs.declared.subtask.SubtaskId.{SubtaskId}
@@ -118,7 +118,7 @@ unfoldable pub decline : State → Option Record → Stepped
 decline m (Some r) = decline_pending m r
 decline m None = (m, Done reply.DeclineLate)
 
--- Source: Savepoints: the user owns them and lets them go.
+-- Source: Savepoints: the user owns them and disposes of them.
 unfoldable pub dispose : State → ℕ → Stepped
 dispose m id = dropping m (λ r. r.id == id) reply.Disposed
 

@@ -1,4 +1,4 @@
--- Worked examples: what the coordinator answers to a list of calls, computed by the definitions.
+-- Worked examples: the coordinator's answers to lists of calls, computed by the definitions.
 -- Their expected answers were written by hand, from the rules.
 use Rattle.std.specs.Prelude.{◌≡◌, ℕ, ◌^◌, ◌-◌, List, refl, ◌++◌, map, replicate, true, false, [], ◌∷◌, Some, None}
 use Rattle.std.specs.List.{range_with_len}
@@ -185,7 +185,7 @@ pub failing_over_afresh : answers (opening (record usual { timeout = 500 }) (1 �
 unfolding step_computes
 failing_over_afresh = refl
 
--- gone or taken
+-- deleted or taken
 pub gone_or_taken : answers (opening usual (1 ∷ [])) (
     Tick 1000 ∷ Ack 1000 1 (subtask 0 0) (1 ∷ []) [] ∷ Tick 2000 ∷ Ack 2000 2 (subtask 0 0) (2 ∷ []) [] ∷ Tick 3000
     ∷ Ack 3000 3 (subtask 0 0) (3 ∷ []) (1 ∷ []) ∷ Ack 3000 3 (subtask 0 0) (1 ∷ []) [] ∷ Ack 3000 3 (subtask 0 0) [] (2 ∷ [])

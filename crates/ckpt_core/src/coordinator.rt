@@ -32,7 +32,7 @@ pub enum OpenFault {
 pub enum CoreFault {
     /// The coordinator refuses the call in its current state.
     Refused(Refusal),
-    /// The call is lawful, and memory ran out.
+    /// No refusal applies, and memory ran out.
     Memory,
 }
 
@@ -158,7 +158,7 @@ impl Core {
         if let Some(why) = self.parts.early_refusal(call) {
             return Err(CoreFault::Refused(why));
         }
-        // A report is not tested before: the outbox refuses it by the look-up that it makes anyway.
+        // A report is not tested first: the outbox looks its file up anyway, and refuses it then.
         match call {
             Call::Deleted { file } => self.parts.deleted(*file).map_err(CoreFault::Refused),
             Call::Undeleted { file } => self.parts.undeleted(*file).map_err(CoreFault::Refused),

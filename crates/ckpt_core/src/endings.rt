@@ -43,7 +43,7 @@ impl Parts {
             return Reply::DeclineLate;
         };
         let mut failures = self.failures;
-        // a savepoint counts for nothing
+        // a declined savepoint is no failure
         let failed = record.kind() == Kind::Checkpoint && failures.add(1);
         let reply = if failed {
             Reply::DeclineFailed(self.fail_over())
@@ -55,7 +55,7 @@ impl Parts {
         reply
     }
 
-    /// A user lets a savepoint go.
+    /// A user disposes of a savepoint.
     #[inline(never)]
     pub(crate) fn dispose(&mut self, id: CheckpointId) -> Reply
         requires sound { AreSound self.old }

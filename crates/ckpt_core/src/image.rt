@@ -1,4 +1,4 @@
-//! What is saved of a coordinator. A coordinator that is made of it goes on as the one that was saved.
+//! What is saved of a coordinator. One that is made from it answers as the saved one would.
 ghost use Rattle.std.specs.Prelude.{◌≡◌, Err, IfOk, OnOk};
 ghost use Rattle.ckpt_core.specs.Images.{CanHold, settled, state_in};
 
@@ -57,7 +57,7 @@ pub struct Image {
     pub taken: Files,
 }
 
-/// Why a coordinator was not made of an image.
+/// Why a coordinator was not made from an image.
 #[derive(Clone, Copy, Debug, PartialEq, Eq, Error)]
 pub enum ImageFault {
     /// No coordinator is in such a state.

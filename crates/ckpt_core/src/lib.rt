@@ -1,6 +1,6 @@
 //! The checkpoint coordinator of one job, for one thread.
 //!
-//! [`Core`] is the coordinator: `Core::apply` makes one [`ckpt_ids::Call`], and answers exactly the
+//! [`Core`] is the coordinator: `Core::apply` makes one [`ckpt_ids::Call`], which is exactly the
 //! step that `specs/Steps.antt` defines. `specs/State.antt` has the state of a coordinator,
 //! `specs/Refusals.antt` says which calls are refused, `specs/Soundness.antt` what holds at each
 //! moment, and [`laws`] what holds over all lists of calls. `specs/WorkedExamples.antt` has lists

@@ -1,5 +1,5 @@
 //! What the parts ensure at each moment. These functions do nothing: a caller needs what their contracts
-//! tell, and the check forgets it between two calls.
+//! say, and the check forgets it between two calls.
 ghost use Rattle.std.specs.Prelude.{◌<◌, ◌^◌, ℕ};
 ghost use Rattle.ckpt_core.specs.Inside.RecordFacts.{IsIn, IsInOrder, IsPending, IsStored, Record};
 ghost use Rattle.ckpt_core.specs.Inside.Starting.{use_before};
@@ -16,7 +16,7 @@ impl Parts {
         let _ = self.store.savepoints();
     }
 
-    /// The uses stand in order.
+    /// The uses are in order.
     pub(crate) fn recall_uses(&self)
         ensures { IsInOrder use_before self.now.registry }
     {

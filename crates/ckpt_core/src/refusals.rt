@@ -83,8 +83,8 @@ fn is_among(file: FileId, files: &[FileId]) -> bool
 }
 
 impl Parts {
-    /// Why the call is refused before it is made, if it is. A report alone is not tested here: the
-    /// outbox answers it by the look-up that it makes anyway. Takes no memory, and changes nothing.
+    /// Why the call is refused before it is made, if it is. Only a report is not tested here: the
+    /// outbox looks its file up anyway, and refuses it then. Takes no memory, and changes nothing.
     pub(crate) fn early_refusal(&self, call: &Call) -> Option<Refusal>
         requires { AreSound self.now }
         ensures { result ≡ early_refusal (state_of self.now) call.now }

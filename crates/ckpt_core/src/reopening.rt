@@ -1,4 +1,4 @@
-//! The parts of a coordinator, made again of an image.
+//! The parts of a coordinator, made from an image.
 
 ghost use Rattle.std.specs.Prelude.{◌≡◌, ◌≢◌, ◌<◌, ◌≤◌, ◌-◌, ◌++◌, ℕ, [], true, false, length, Err, None, Some, IfOk, OnOk, IsTrue};
 ghost use Rattle.ckpt_ids.specs.Ordered.{AreDistinct, IsIn};
@@ -167,7 +167,7 @@ impl Parts {
         ensures held { OnOk result (CanHold (state_in image.now)) }
         ensures damaged { result ≡ Err ImageFault.Damaged → CanHold (state_in image.now) → ⊥ }
     {
-        // Tell that the configuration and the shape are within their limits.
+        // Their contracts say that the configuration and the shape are within their limits.
         let _ = image.config.retained();
         let _ = image.shape.size();
         if !has_sound_numbers(image) {

@@ -24,7 +24,7 @@ pub(crate) struct Ticked {
     pub(crate) end: TickEnd,
 }
 
-/// What the records that are too old at a tick come to. Their numbers are noted.
+/// What follows from the records that are too old at a tick. Their numbers are noted.
 #[derive(Drop)]
 pub(crate) struct Expiry {
     /// How many they are.
@@ -179,7 +179,7 @@ impl Parts {
         self.start_and_drop(expiry)
     }
 
-    /// Notes the numbers of the records that have expired, and says what they come to.
+    /// Notes the numbers of the records that have expired, and returns what follows from them.
     fn note_expired(&mut self) -> Expiry
         requires sound { AreSound self.old }
         requires running { self.old.mode ≡ Running }

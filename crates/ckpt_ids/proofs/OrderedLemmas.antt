@@ -211,7 +211,7 @@ IsIn-put_cases {X} before x z (y ∷ xs) h =
     let here : before y x ≡ false → Q = λ (e : before y x ≡ false). let k : IsIn z (x ∷ y ∷ xs) = subst P e h in k in
     ⊎_elim later here (cases_Bool (before y x))
 
--- where x comes before each that does not come before it
+-- if x comes before each element that does not come before x
 pub IsInOrder-put_between : {X : Type 0} (before : X → X → Bool) → ((x y z : X) → before x y ≡ true → before y z ≡ true → before x z ≡ true) → (x : X) (xs : List X) → ((y : X) → IsIn y xs → before y x ≡ false → before x y ≡ true) → IsInOrder before xs → IsInOrder before (put before x xs)
 IsInOrder-put_between before transitive x [] turns a = (tt, tt)
 IsInOrder-put_between {X} before transitive x (y ∷ xs) turns a =
@@ -224,7 +224,7 @@ IsInOrder-put_between {X} before transitive x (y ∷ xs) turns a =
     subst P (sym e) ((xy, ComesBefore-from before x xs (λ z h. transitive x y z xy (ComesBefore-at before y z xs a.0 h))), a) in
     ⊎_elim later here (cases_Bool (before y x))
 
--- and where x is not there
+-- and if x is not there
 pub IsInOrder-put : {X : Type 0} {before : X → X → Bool} (o : IsStrictOrder before) (x : X) (xs : List X) → (IsIn x xs → ⊥) → IsInOrder before xs → IsInOrder before (put before x xs)
 IsInOrder-put {X} {before} o x xs new a =
     let turns : (y : X) → IsIn y xs → before y x ≡ false → before x y ≡ true = λ y h e.

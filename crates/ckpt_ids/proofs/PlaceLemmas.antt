@@ -1,4 +1,4 @@
--- What a search by halves finds in a list that is in order by a key, and what a change at that place leaves.
+-- What a binary search finds in a list that is in order by a key, and what a change at that place leaves.
 use Rattle.std.proofs.Common.{◌≡◌, ℕ, zero, suc, ◌-◌, ◌<◌, ◌≤◌, Bool, true, false, not, List, [], ◌∷◌, length, map, get_or, refl, sym, ap, ◌∙◌, ⊎_elim, arith, Result, Ok, Err, IfOk, IfErr, Ordering}
 use Rattle.std.specs.Prelude.{filter, find, slice_get, Some, None}
 use Rattle.std.specs.List.{list_any, insert, remove}
@@ -26,17 +26,17 @@ get_or_any [] place d e h = absurd (omega arith)
 get_or_any (x ∷ xs) zero d e h = refl
 get_or_any (x ∷ xs) (suc place) d e h = get_or_any xs place d e (omega arith)
 
--- where the keys are in order, the elements are by their keys
+-- if the keys are in order, the elements are in order by their keys
 pub IsInOrder-of_keys : {X K : Type 0} (before : K → K → Bool) (key : X → K) (xs : List X) → IsInOrder before (map key xs) → IsInOrder (λ x y. before (key x) (key y)) xs
 IsInOrder-of_keys before key [] a = tt
 IsInOrder-of_keys before key (x ∷ xs) a =
     (ComesBefore-from (λ x y. before (key x) (key y)) x xs (λ y h. ComesBefore-at before (key x) (key y) (map key xs) a.0 (IsIn-map key y xs h)), IsInOrder-of_keys before key xs a.1)
 
--- where each is in front, the rest begins at the end
+-- if each comes before the key, the rest begins at the end
 pub end_point : {X : Type 0} (P Q : X → Type 0) (xs : List X) (n : ℕ) → n ≡ length xs → ((i : ℕ) (d : X) → i < n → P (get_or xs i d)) → IsPartitionPoint P Q xs n
 end_point P Q xs n all h = (λ i d l m. h i d m, λ i d l m. absurd (omega arith))
 
--- where an element goes is where the first lies that does not come before it
+-- an element belongs at the place of the first one that does not come before it
 pub insert-put : {X : Type 0} (before : X → X → Bool) (x : X) (xs : List X) (place : ℕ) → place ≤ length xs → IsPartitionPoint (λ y. before y x ≡ true) (λ y. before y x ≡ false) xs place → insert xs place x ≡ put before x xs
 insert-put before x [] zero within parted = refl
 insert-put before x [] (suc place) within parted = absurd (omega arith)
@@ -55,7 +55,7 @@ module _ {X K : Type 0} (key : X → K) {before : K → K → Bool} (o : IsStric
   pub behind : (a b : K) → before a b ≡ true → before b a ≡ false
   behind a b h = ⊎_elim (λ (t : before b a ≡ true). absurd (differ a a (o.transitive a b a h t) refl)) (λ (f : before b a ≡ false). f) (cases_Bool (before b a))
 
-  -- what a search answers
+  -- what a search returns
 
   searchable : {cmp : K → K → Ordering} (s : IsSearchOrder cmp before) (k : K) (xs : List X) → Rises xs → IsNonDecreasingBy (λ x. ordering_index (cmp (key x) k)) xs
   searchable {cmp} s k xs a = λ i j d h l.
@@ -73,19 +73,19 @@ module _ {X K : Type 0} (key : X → K) {before : K → K → Bool} (o : IsStric
       let parted = at (searchable s k xs a) in
       (within, (λ i d h l. s.less (key (get_or xs i d)) k (parted.0 i d h l), λ i d h l. s.greater (key (get_or xs i d)) k (parted.1 i d h l)))
 
-  -- those before the key lie in front of the others
+  -- those before the key come before the others
   pub partitioned : (k : K) (xs : List X) → Rises xs → IsPartitionedBy (λ x. before (key x) k) xs
   partitioned k xs a = λ i j d h l t.
       let below : i < j → before (key (get_or xs i d)) k ≡ true = λ (m : i < j). o.transitive (key (get_or xs i d)) (key (get_or xs j d)) k (IsInOrder-at (λ x y. before (key x) (key y)) xs i j d a m l) t in
       let same : j ≤ i → before (key (get_or xs i d)) k ≡ true = λ (g : j ≤ i). let e : i ≡ j = omega arith in ap (λ n. before (key (get_or xs n d)) k) e ∙ t in
       ⊎_elim below same (cases_lt i j)
 
-  -- what the last one tells, where it is looked at first
+  -- what follows from the last one, if it is looked at first
 
   pub last_lies : (k : K) (xs : List X) (n : ℕ) (last : X) → n ≡ length xs → 0 < n → last ≡ get_or xs (n - 1) last → key last ≡ k → LiesAt key k xs (n - 1)
   last_lies k xs n last all some at e = (omega arith, λ d. ap key (sym (get_or_read_under xs (n - 1) n last d at (omega arith) all)) ∙ e)
 
-  -- each comes before the key, as where the last does
+  -- each comes before the key, if the last one does
   pub all_before : (k : K) (xs : List X) (n : ℕ) (last : X) → Rises xs → n ≡ length xs → last ≡ get_or xs (n - 1) last → before (key last) k ≡ true → (i : ℕ) (d : X) → i < n → before (key (get_or xs i d)) k ≡ true
   all_before k xs n last a all at h = λ i d l.
       let top : before (key (get_or xs (n - 1) d)) k ≡ true = ap (λ x. before (key x) k) (sym (get_or_read_under xs (n - 1) n last d at (omega arith) all)) ∙ h in
@@ -98,7 +98,7 @@ module _ {X K : Type 0} (key : X → K) {before : K → K → Bool} (o : IsStric
   pub end_belongs : (k : K) (xs : List X) (n : ℕ) → n ≡ length xs → ((i : ℕ) (d : X) → i < n → before (key (get_or xs i d)) k ≡ true) → BelongsAt before key k xs n
   end_belongs k xs n all h = (omega arith, end_point (λ x. before (key x) k ≡ true) (λ x. before k (key x) ≡ true) xs n all h)
 
-  -- where one lies
+  -- the place of an element
 
   pub first_differs : (k : K) (x : X) (xs : List X) (place : ℕ) → ComesBefore (λ x y. before (key x) (key y)) x xs → LiesAt key k xs place → key x ≡ k → ⊥
   first_differs k x xs place c lies e =
@@ -108,7 +108,7 @@ module _ {X K : Type 0} (key : X → K) {before : K → K → Bool} (o : IsStric
   later_differ : (k : K) (x : X) (xs : List X) → ComesBefore (λ x y. before (key x) (key y)) x xs → key x ≡ k → (y : X) → IsIn y xs → key y ≡ k → ⊥
   later_differ k x xs c e y h f = differ (key x) (key y) (ComesBefore-at (λ x y. before (key x) (key y)) x y xs c h) (e ∙ sym f)
 
-  -- where one belongs
+  -- the place at which an element belongs
   pub apart_from : (k : K) (xs : List X) (place : ℕ) → BelongsAt before key k xs place → (x : X) → IsIn x xs → key x ≡ k → ⊥
   apart_from k xs place h x m e =
       let at = IsIn-place x xs m in

@@ -12,7 +12,7 @@ abbrev pub AreDistinct : {X : Type 0} → List X → Type 0
 AreDistinct [] = Unit {0}
 AreDistinct (x ∷ xs) = (IsIn x xs → ⊥) × AreDistinct xs
 
--- the opposite, as a test on numbers: one stands twice
+-- the opposite, as a test on numbers: one occurs twice
 abbrev pub has_repeats : List ℕ → Bool
 has_repeats [] = false
 has_repeats (x ∷ xs) = list_any (λ y. x == y) xs || has_repeats xs

@@ -11,7 +11,7 @@ use Rattle.ckpt_ids.specs.Ordered.{IsInOrder}
 abbrev pub AreInOrderBy : {X K : Type 0} → (K → K → Bool) → (X → K) → List X → Type 0
 AreInOrderBy before key = IsInOrder (λ x y. before (key x) (key y))
 
--- an element with this key lies at this place
+-- an element with this key is at this place
 abbrev pub LiesAt : {X K : Type 0} → (X → K) → K → List X → ℕ → Type 0
 LiesAt key k xs place = (place < length xs) × HoldsAt (λ x. key x ≡ k) xs place
 

@@ -30,7 +30,7 @@ module _ (s : SubtaskId) (acks : List Acked) (place : ℕ) where
   pub remove_at : AreInSubtaskOrder acks → LiesAt subtask_of s acks place → remove acks place ≡ filter (λ a. not (same_subtask s a.subtask)) acks
   remove_at a h = remove_lies subtask_of subtasks_in_order s (λ a. same_subtask s a.subtask) yes no acks place a h
 
-  -- what is found of a subtask is what lies at its place
+  -- a look-up of a subtask finds what is at its place
   pub found_at : (one : Acked) → AreInSubtaskOrder acks → LiesAt subtask_of s acks place → one ≡ get_or acks place one → find (λ a. same_subtask s a.subtask) acks ≡ Some one
   found_at one a h is =
       sym (find_lies subtask_of subtasks_in_order s (λ a. same_subtask s a.subtask) yes no acks place a h) ∙ slice_get-get_or acks place one h.0 ∙ ap (λ x. Some x) (sym is)

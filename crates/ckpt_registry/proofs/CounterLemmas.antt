@@ -152,7 +152,7 @@ pub OnOk-at : {T E : Type 0} (r : Result T E) (P : Type 0) → IsOk r → OnOk r
 OnOk-at (Ok x) P ok p = p
 OnOk-at (Err e) P ok p = absurd (false≢true ok)
 
--- a file that stands once is not among those before it
+-- a file that is there once is not among those before it
 pub times_before : (xs : List ℕ) (i k : ℕ) → times k xs ≤ 1 → i < length xs → k ≡ get_or xs i k → times k (take i xs) ≡ 0
 times_before xs i k once within at =
     let one : one_if (eqb (get_or xs i k) k) ≡ 1 = one_if-true (eqb (get_or xs i k) k) (eq-eqb (get_or xs i k) k (sym at)) in

@@ -112,7 +112,7 @@ module _ (m n : Acknowledged) (id : ℕ) (gone : n.items ≡ filter (λ (h : Hol
   pub AreRising-gone : AreRising m.items → AreRising n.items
   AreRising-gone a = subst AreRising (sym gone) (subst (λ ks. IsAscendingSet ks) (sym (numbers-filter (λ k. not (eqb k id)) m.items)) (IsInOrder-filter ltb (λ k. not (eqb k id)) (numbers m.items) a))
 
--- A record gets more parts. What it held lies between the records of other numbers.
+-- A record gets more parts. What it held is between the records of other numbers.
 
 module _ (m n : Acknowledged) (id : ℕ) (before old after : List Holding) (new : Holding) (more : List Part) (had : m.items ≡ before ++ (old ++ after)) (has : n.items ≡ before ++ new ∷ after) (own : new.id ≡ id)
     (all : (h : Holding) → IsIn h old → h.id ≡ id) (grown : new.parts ≡ parts_in old ++ more) where

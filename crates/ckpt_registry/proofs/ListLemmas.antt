@@ -131,19 +131,19 @@ module _ {X : Type 0} {before : X → X → Bool} (o : IsStrictOrder before) (xs
       (IsIn-append_cases z (in_order_once before xs) zs (IsIn-from_in_order_once before z (in_order_once before xs ++ zs) h))) in
       same_from_members o (in_order_once before ys) (in_order_once before (in_order_once before xs ++ zs)) (IsInOrder-in_order_once o ys) (IsInOrder-in_order_once o (in_order_once before xs ++ zs)) forth back
 
-  -- and none stands twice, if none of zs does or is in xs
+  -- and none occurs twice, if none of zs does or is in xs
   pub count_by-added : ((p : X → Bool) → count_by p xs ≡ count_by p (in_order_once before xs)) → AreDistinct zs → ((z : X) → IsIn z (in_order_once before xs) → IsIn z zs → ⊥) → (p : X → Bool) → count_by p ys ≡ count_by p (in_order_once before ys)
   count_by-added once apart new p =
       let all : AreDistinct (in_order_once before xs ++ zs) = AreDistinct-append (in_order_once before xs) zs (AreDistinct-from_order o (in_order_once before xs) (IsInOrder-in_order_once o xs)) apart new in
       let after : count_by p (in_order_once before ys) ≡ count_by p (in_order_once before (in_order_once before xs ++ zs)) = ap (count_by p) in_order_once-added in
       omega (arith, adds p, once p, count_by-in_order_once o p (in_order_once before xs ++ zs) all, count_by-append p (in_order_once before xs) zs)
 
--- filtered, none stands twice
+-- filtered, none occurs twice
 pub count_by-filtered : {X : Type 0} {before : X → X → Bool} (o : IsStrictOrder before) (q : X → Bool) (xs : List X) → ((p : X → Bool) → count_by p xs ≡ count_by p (in_order_once before xs)) → (p : X → Bool) → count_by p (filter q xs) ≡ count_by p (in_order_once before (filter q xs))
 count_by-filtered {X} {before} o q xs once p =
     count_by-filter p q xs ∙ once (λ x. q x && p x) ∙ sym (count_by-filter p q (in_order_once before xs)) ∙ ap (count_by p) (sym (in_order_once-filter o q xs))
 
--- a number of a list stands once in its ascending set
+-- a number of a list is once in its ascending set
 pub times-ascending_set : (f : ℕ) (xs : List ℕ) → times f (ascending_set xs) ≡ one_if (ltb 0 (times f xs))
 times-ascending_set f xs =
     let once : times f (ascending_set xs) ≤ 1 = times_at_most_once f (ascending_set xs) (AreDistinct-from_order numbers_in_order (ascending_set xs) (IsInOrder-in_order_once numbers_in_order xs)) in

@@ -14,7 +14,7 @@ use Rattle.ckpt_ids.proofs.CountLemmas.{times-append, times-from_IsIn, IsIn-from
 use Rattle.ckpt_ids.proofs.AscendingLemmas.{ascending_at}
 use Rattle.ckpt_ids.proofs.OrderedLemmas.{IsIn-get_or, IsIn-place}
 
--- what a search by halves says
+-- what a binary search returns
 pub times-from_search : (xs : List ℕ) (x : ℕ) (r : Result ℕ ℕ) → IsAscending xs → IsBinarySearchResult (λ y. nat_cmp y x) xs r → is_ok r ≡ ltb 0 (times x xs)
 times-from_search xs x (Ok i) a h =
     let at : (i < length xs) × (get_or xs i 0 ≡ x) = searched xs x (Ok i) h (ascending_at xs a) in

@@ -125,7 +125,7 @@ pins_in-filter m owners (one ∷ pinned) =
     subst Goal (sym e) (ap (λ us. here ++ us) rest ∙ sym (both ∙ ap (λ us. us ++ without owners (pins_in m pinned)) all)) in
     ⊎_elim gone kept (cases_Bool (goes owners one))
 
--- the files of those who go, and of those who stay
+-- the files of the pinners that are removed, and of those that stay
 pub own_in-parts : (f : ℕ) (owners : List ℕ) (pinned : List Pinner) → times f (own_of owners pinned) + times f (own_in (filter (λ one. not (is_named owners one.id)) pinned)) ≡ times f (own_in pinned)
 own_in-parts f owners [] = refl
 own_in-parts f owners (one ∷ pinned) =
@@ -140,7 +140,7 @@ own_in-parts f owners (one ∷ pinned) =
 pub AreKept-filter : (m : Acknowledged) (t : Pinner → Bool) (pinned : List Pinner) → AreKept m pinned → AreKept m (filter t pinned)
 AreKept-filter m t pinned kept = λ one h. kept one (IsIn-from_filter t one pinned h).0
 
--- a record goes that some pin
+-- a record is removed that some pin
 
 pub AreSettled-push : (c : ℕ) (ps : List Part) (os ns : List Pinner) (o n : Pinner) → AreSettled c ps os ns → IsSettled c ps o n → AreSettled c ps (os ++ o ∷ []) (ns ++ n ∷ [])
 AreSettled-push c ps [] [] o n all new = (new, tt)
@@ -252,7 +252,7 @@ module _ (chosen : ℕ) (parts : List Part) (old now : List Pinner) (i : ℕ) (d
       let Q : List Pinner → Type 0 = λ ns. AreSettled chosen parts (take i old ++ get_or old i d ∷ []) ns in
       subst P (sym (take_more old i d (omega (arith, within, same_length)))) (subst Q (sym (take_more_set now i y within)) (AreSettled-push chosen parts (take i old) (take i now) (get_or old i d) y all new))
 
--- the files of those who go, of one pinner more
+-- the files of the pinners that are removed, for one pinner more
 
 own_of-push : (f : ℕ) (owners : List ℕ) (pinned : List Pinner) (one : Pinner) → times f (own_of owners (pinned ++ one ∷ [])) ≡ times f (own_of owners pinned) + cond (goes owners one) (times f one.files.items) 0
 own_of-push f owners pinned one =
@@ -324,7 +324,7 @@ walk_within owners old row i place is at below =
     let same : length row ≡ length (staying owners (take i old) ++ drop i old) = ap (λ os. length os) is in
     omega (arith, same, at, length-append (staying owners (take i old)) (drop i old), length-drop i old)
 
--- who holds a use
+-- the holder of a use
 
 pub uses_in-holder : (held : List Holding) (u : Use) → IsIn u (uses_in held) → same_holder u.holder Pin ≡ false
 uses_in-holder held u h =

@@ -1,4 +1,4 @@
--- What a search by halves finds in the row of what each record holds, and what a change at that place leaves.
+-- What a binary search finds in the row of what each record holds, and what a change at that place leaves.
 use Rattle.std.proofs.Common.{◌≡◌, ℕ, suc, ◌-◌, ◌<◌, ◌≤◌, Bool, true, false, not, eqb, ltb, length, get_or, take, drop, set, List, [], ◌∷◌, ◌++◌, sym, ap, subst, ◌∙◌, ⊎_elim, arith, ◌⊎◌, inl, Result, Ok, Err, IfErr}
 use Rattle.std.specs.List.{filter, insert, remove}
 use Rattle.std.specs.List.Sorted.{IsBinarySearchResult, IsPartitionPoint, IsSearchInRange}
@@ -22,7 +22,7 @@ use Rattle.ckpt_registry.proofs.HoldingLemmas.{number, numbers, has_id, parts_in
 pub by_number : (hs : List Holding) → AreRising hs → IsInOrder (λ g h. ltb g.id h.id) hs
 by_number hs a = IsInOrder-of_keys ltb number hs a
 
--- what a search answers
+-- what a search returns
 
 pub belongs : (id : ℕ) (hs : List Holding) (place : ℕ) → ids.BelongsAt ltb number id hs place → BelongsAt hs id place
 belongs id hs place h = (h.0, (λ k d l m. ltb-true (get_or hs k d).id id (h.1.0 k d l m), λ k d l m. ltb-true id (get_or hs k d).id (h.1.1 k d l m)))

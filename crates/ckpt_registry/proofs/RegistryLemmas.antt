@@ -268,7 +268,7 @@ module _ (a : Acknowledged) (p : List Pinner) (one : Pinner) (files : List ℕ) 
     has_room = fits;
   }
 
--- the files of a record, as the uses tell them
+-- the files of a record, by the uses
 
 pub files_by-in_use : (a : Acknowledged) (p : List Pinner) (id : ℕ) → files_by id (in_use a p) ≡ each_file (parts_of a id)
 files_by-in_use a p id =

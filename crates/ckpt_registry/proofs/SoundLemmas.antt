@@ -1,4 +1,4 @@
--- What the counters say of the uses, and that it stays so as records go.
+-- What the counters say of the uses, and that it still holds when records are removed.
 use Rattle.std.proofs.Common.{◌≡◌, ℕ, ◌+◌, ◌<◌, ◌≤◌, ◌^◌, not, ltb, List, [], ◌∷◌, ◌++◌, refl, sym, ap, subst, ◌∙◌, ⊎_elim, arith, eqb}
 use Rattle.std.specs.List.{filter}
 use Rattle.std.proofs.lemmas.Bool.{cases_lt, lt-ltb, le-ltb}
@@ -19,7 +19,7 @@ use Rattle.ckpt_registry.proofs.HoldingLemmas.{has_id, parts_in}
 use Rattle.ckpt_registry.proofs.ListLemmas.{count_by-filter_le}
 use Rattle.ckpt_registry.proofs.PinLemmas.{AreKept-extended, AreKept-filter, AreKept-push, AreKept-settled, count-pins_in, count-triples_of, own_in-parts, own_in-push, own_in-settled, pins_in-extended, pins_in-filter, pins_in-push, pins_in-settled, pins_of_records-none, pins_on-le}
 
--- the count of a file: its counter, and the pins of those who pin a live record
+-- the count of a file: its counter, and the pins of records that pin a live record
 pub count-stored : (m : Acknowledged) (p : List Pinner) (counts : Counts) → AreCounted m p counts → (f : ℕ) → count (stored m p) f ≡ counter counts f + pins_of_records m f p
 count-stored m p counts s f = omega (arith, s.counted f, count-pins_in m p f, count_by-append (λ (u : Use). eqb u.file f) (uses_in m.items) (pins_in m p))
 
@@ -51,7 +51,7 @@ AreCounted-unpinned m p q owners counts after s kept lowered range =
           omega (arith, same, fewer, s.below f, count_by-append (λ (u : Use). eqb u.file f) (uses_in m.items) (pins_in m q), count_by-append (λ (u : Use). eqb u.file f) (uses_in m.items) (pins_in m p));
     }
 
--- a record goes that some pin
+-- a record is removed that some pin
 module _ (m n : Acknowledged) (c : ℕ) (p q : List Pinner) (counts after : Counts) (s : AreCounted m p counts) (others : (d : ℕ) → (d ≡ c → ⊥) → parts_of n d ≡ parts_of m d) (settled : AreSettled c (parts_of m c) p q) where
   pub pins_in-gone : pins_in n q ≡ pins_in m p
   pins_in-gone = pins_in-settled m n c others p q s.kept settled
@@ -68,7 +68,7 @@ module _ (m n : Acknowledged) (c : ℕ) (p q : List Pinner) (counts after : Coun
         omega (arith, same, split f, s.below f, count_by-append (λ (u : Use). eqb u.file f) (uses_in n.items) (pins_in n q), count_by-append (λ (u : Use). eqb u.file f) (uses_in m.items) (pins_in m p));
   }
 
--- those who pin a record that goes are counted for files that had a counter
+-- if a record is removed, its pinners are counted, for files that had a counter
 pub counted_once-settled : (m : Acknowledged) (p : List Pinner) (counts after : Counts) (c f : ℕ) → AreCounted m p counts → counter after f ≡ counter counts f + pins_on c (parts_of m c) f p → counted_once after f ≡ counted_once counts f
 counted_once-settled m p counts after c f s raised =
     let some : 0 < counter counts f → counted_once after f ≡ counted_once counts f = λ (h : 0 < counter counts f).

@@ -19,7 +19,7 @@ Acknowledged = VecDeque Holding Global
 abbrev pub AreRising : List Holding → Type 0
 AreRising held = IsAscendingSet (map (λ h. h.id) held)
 
--- the record of this number lies at this place
+-- the record of this number is at this place
 abbrev pub LiesAt : List Holding → ℕ → ℕ → Type 0
 LiesAt held id place = (place < length held) × HoldsAt (λ h. h.id ≡ id) held place
 

@@ -17,7 +17,7 @@ stored acknowledged pinned = uses_in acknowledged.items ++ pins_in acknowledged 
 abbrev pub in_use : Acknowledged → List Pinner → List Use
 in_use acknowledged pinned = in_order_once use_before (stored acknowledged pinned)
 
--- each use is there once, so that putting them in order loses none
+-- each use is there once, so putting them in order loses none
 abbrev pub StandsOnce : List Use → Type 0
 StandsOnce us = (p : Use → Bool) → count_by p us ≡ count_by p (in_order_once use_before us)
 
@@ -25,7 +25,7 @@ StandsOnce us = (p : Use → Bool) → count_by p us ≡ count_by p (in_order_on
 pub record AreCounted (acknowledged : Acknowledged) (pinned : List Pinner) (counts : Counts) : Type 0 where
   pub ordered : AreRising acknowledged.items
   pub kept : AreKept acknowledged pinned
-  -- Each counter is the count of its file, without the pins of those who pin a live record.
+  -- Each counter is the count of its file, without the pins of records that pin a live record.
   -- A record that is pinned uses its files, so exactly the files that are present have a counter.
   pub counted : (f : ℕ) → counter counts f ≡ count (uses_in acknowledged.items) f + times f (own_in pinned)
   pub range : AreInRange counts

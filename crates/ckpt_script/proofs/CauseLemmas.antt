@@ -17,7 +17,7 @@ source_causes asked Write not_read not_many none = tt
 source_causes asked TooManyLines not_read not_many none = absurd (not_many refl)
 source_causes asked Memory not_read not_many none = none
 
--- the source is followed still where a line that is ahead is dropped
+-- the source is still followed when a line that was read ahead is dropped
 pub followed_still : (left : Option (List ℕ)) (asked : Asked) (ahead : Unread) (newline : Option ℕ) → (ahead.is_ended ≡ true → IsAtEnd left) → IsCounted asked ahead → IsFollowed left asked (left_by ahead newline)
 followed_still left asked ahead None ended counted = record { ended = ended; counted = counted }
 followed_still left asked ahead (Some newline) ended counted = record {
@@ -53,7 +53,7 @@ fails_for_memory old before after waiting left passes = record { fault = λ many
 pub caused_by_memory : (asked : Asked) (failures : ℕ) → failures ≡ 0 → asked.times ≤ most_reads → asked.failures ≡ 0 → IsCaused asked failures Memory
 caused_by_memory asked failures going_on few none = record { few = few; source = none; sink = going_on }
 
--- reading on ended by a fault after what waited was handed on
+-- reading on ended by a fault after what waited was written
 pub fails_on : (first old : Unread) (before between after : Option (List ℕ)) (waiting middle left : List ℕ) (why : RunFault)
     → (old.is_ended ≡ false → first.is_ended ≡ false) → Passes before between waiting [] middle → FailsBy old between after middle left why → FailsBy first before after waiting left why
 fails_on first old before between after waiting middle left why stays passes fails = record {

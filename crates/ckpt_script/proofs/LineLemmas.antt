@@ -64,14 +64,14 @@ pub some_bytes : (bytes : List ℕ) → bytes ≢ [] → 0 < length bytes
 some_bytes [] some = absurd (some refl)
 some_bytes (b ∷ bytes) some = omega arith
 
--- fewer, where a part of a line was moved
+-- fewer, if a part of a line was moved
 pub moved_fewer : (bytes rest line after : List ℕ) (ends : Bool) → Moves bytes rest line after ends → bytes ≢ [] → length rest < length bytes
 moved_fewer bytes rest line after true moves some =
     omega (arith, ap (length {A = ℕ}) moves.bytes_before, length-append moves.part (newline ∷ rest))
 moved_fewer bytes rest line after false moves some =
     omega (arith, some_bytes bytes some, ap (length {A = ℕ}) (moves.none_left refl))
 
--- where the first newline stands
+-- the place of the first newline
 
 pub no_newline_before : (bytes : List ℕ) (place : ℕ) → ((k : ℕ) → k < place → (slice_index bytes k == newline) ≡ true → ⊥) → place ≤ length bytes → has_newline (take place bytes) ≡ false
 no_newline_before bytes zero none le = refl
@@ -86,7 +86,7 @@ split_at_newline [] place lt e = absurd (omega arith)
 split_at_newline (b ∷ bytes) zero lt e = ap (λ (x : ℕ). x ∷ bytes) (eqb-true b newline e)
 split_at_newline (b ∷ bytes) (suc place) lt e = ap (λ (xs : List ℕ). b ∷ xs) (split_at_newline bytes place (omega arith) e)
 
--- lines from a front of the text
+-- lines from a prefix of the text
 
 pub lines_of-line : (line rest : List ℕ) → has_newline line ≡ false → lines_of (line ++ newline ∷ rest) ≡ line ∷ lines_of rest
 lines_of-line [] rest none = refl

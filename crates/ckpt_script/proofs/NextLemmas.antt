@@ -1,4 +1,4 @@
--- What the next line leaves of a run, where the text is known.
+-- What the next line leaves of a run, if the text is known.
 use Rattle.std.proofs.Common.{◌≡◌, ◌≢◌, ℕ, ◌+◌, ◌<◌, ◌≤◌, Bool, false, cond, List, [], ◌++◌, take, Option, refl, sym, ap, subst, ◌∙◌, append-nil}
 use Rattle.std.specs.Prelude.{IfSome, is_err}
 use Rattle.std.specs.Io.KnownBytes.{Keeps, prepend_known}
@@ -15,14 +15,14 @@ use Rattle.ckpt_script.specs.Telling.{HasRun, Shows, IsSoFar, Stopped}
 use Rattle.ckpt_script.proofs.KnownLemmas.{WhereKnown-keeps, WhereKnown-unread, WhereKnown-compose, WhereKnown-if, WhereKnown-map, WhereKnown-some}
 use Rattle.ckpt_script.proofs.TellingLemmas.{run_on, cut_here, shown_front, run_part, run_full, Shows-passes, Shows-cut, Shows-as}
 
--- a fault after which only a front is sure
+-- a fault after which only a prefix is sure
 pub stopped_cut : (text rest before now : Option (List ℕ)) (waiting : List ℕ) (why : RunFault) → why ≢ Read → why ≢ TooManyLines → IfSome text (λ t. IsCut before now (output t)) → Stopped text rest before now waiting why
 stopped_cut text rest before now waiting Read not_read not_many cut = absurd (not_read refl)
 stopped_cut text rest before now waiting TooManyLines not_read not_many cut = absurd (not_many refl)
 stopped_cut text rest before now waiting Write not_read not_many cut = cut
 stopped_cut text rest before now waiting Memory not_read not_many cut = cut
 
--- a fault of the source or the sink, or want of memory
+-- a fault of the source or the sink, or out of memory
 pub stopped_taking : (text rest before now : Option (List ℕ)) (waiting : List ℕ) (why : RunFault) → why ≢ TooManyLines → (why ≡ Read → Stopped text rest before now waiting Read) → IfSome text (λ t. IsCut before now (output t)) → Stopped text rest before now waiting why
 stopped_taking text rest before now waiting Read not_many read cut = read refl
 stopped_taking text rest before now waiting TooManyLines not_many read cut = absurd (not_many refl)

@@ -32,7 +32,7 @@ outputs-more number scene lines line = outputs-append number scene lines (line �
 pub output-few : (text : List ℕ) → length (lines_of text) ≤ MOST_LINES → output text ≡ outputs 1 opening_scene (lines_of text)
 output-few text few = ap (outputs 1 opening_scene) (take_all MOST_LINES (lines_of text) few)
 
--- what the first lines print is the front of the output
+-- what the first lines print is a prefix of the output
 pub output-front : (text : List ℕ) (lines more : List (List ℕ)) → lines_of text ≡ lines ++ more → length lines ≤ MOST_LINES → output text ≡ outputs 1 opening_scene lines ++ outputs (1 + length lines) (scene_after 1 opening_scene lines) (take (MOST_LINES - length lines) more)
 output-front text lines more e few =
     let n : MOST_LINES ≡ length lines + (MOST_LINES - length lines) = omega arith in

@@ -26,7 +26,7 @@ Appends-as None b xs ys e p = tt
 Appends-as (Some a) (Some b) xs ys e p = p ∙ ap (λ (zs : List ℕ). a ++ zs) e
 Appends-as (Some a) None xs ys e p = p
 
--- a front of what waited was written
+-- a prefix of what waited was written
 pub passes_part : (before after : Option (List ℕ)) (waiting text : List ℕ) (cut : IsCut before after waiting) → Passes before after waiting text (cut.1 ++ text)
 passes_part before after waiting text cut = record {
   written = cut.0;
@@ -68,7 +68,7 @@ pub if_err_both : {T E : Type 0} (r : Result T E) {P Q R : E → Type 0} → ((e
 if_err_both (Ok x) f p q = tt
 if_err_both (Err e) f p q = f e p q
 
--- the exit of a `?` that hands an error on
+-- the exit of a `?` that passes an error on
 pub if_err_is : {T E : Type 0} (r : Result T E) (x : E) (P : E → Type 0) → IsErrAnd r (λ y. y ≡ x) → P x → IfErr r P
 if_err_is (Ok z) x P e p = tt
 if_err_is (Err y) x P e p = subst P (sym e) p

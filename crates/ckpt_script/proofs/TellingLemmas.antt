@@ -23,7 +23,7 @@ first_line is_ended bytes rest line some takes =
     ap lines_of e.0 ∙ lines_of-last line takes.one_line (λ none. some (e.0 ∙ none)) ∙ ap (λ (xs : List ℕ). line ∷ lines_of xs) (sym e.1))
     takes.split
 
--- what a line adds to the front that was run
+-- what a line adds to the prefix that was run
 pub record Adds (is_ended : Bool) (front bytes rest line : List ℕ) : Type 0 where
   pub front' : List ℕ
   pub split : front ++ bytes ≡ front' ++ rest
@@ -98,7 +98,7 @@ module _ (text bytes rest line : List ℕ) (was_ended is_ended : Bool) (before a
             ∙ ap (λ (s : Scene × List ℕ). (shown ++ s.1) ++ tail) said_here,
       )
 
--- what is shown so far is the front of the output
+-- what is shown so far is a prefix of the output
 pub shown_front : (text rest : List ℕ) (is_ended : Bool) (summary : Summary) (scene : Scene) (shown : List ℕ) → HasRun text rest is_ended summary scene shown → (more : List ℕ) × (output text ≡ shown ++ more)
 shown_front text rest is_ended summary scene shown so_far =
     let lines : List (List ℕ) = lines_of so_far.front in
@@ -147,7 +147,7 @@ Shows-passes before after now waiting shown text left shows passes = record {
   all = append_assoc shows.written passes.written left ∙ ap (λ (xs : List ℕ). shows.written ++ xs) passes.in_turn ∙ sym (append_assoc shows.written waiting text) ∙ ap (λ (xs : List ℕ). xs ++ text) shows.all;
 }
 
--- what was written is the front of the output, where what is shown is
+-- what was written is a prefix of the output, if what is shown is one
 pub Shows-cut : (before after : Option (List ℕ)) (waiting shown more all : List ℕ) → Shows before after waiting shown → all ≡ shown ++ more → IsCut before after all
 Shows-cut before after waiting shown more all shows e =
     (shows.written, waiting ++ more, shows.appended, sym (append_assoc shows.written waiting more) ∙ ap (λ (xs : List ℕ). xs ++ more) shows.all ∙ sym e)

@@ -30,20 +30,20 @@ pub record IsFilled (old : Unread) (before : Asked) (new : Unread) (after : Aske
   pub bytes_used : used after new ≡ used before old
   pub bytes_given : before.bytes ≤ after.bytes
 
--- a line was read, of which the front is held
+-- a line was read, and a prefix of it is held
 abbrev pub ReadsLine : Unread → Option (List ℕ) → Unread → Option (List ℕ) → List ℕ → Type 0
 ReadsLine old before new after front =
     WhereKnown (all_left old before) (all_left new after) (λ bytes rest. HoldsLine new.is_ended bytes rest front)
 
--- a part of a line was read, of which the front is held, and nothing is read ahead
+-- a part of a line was read, a prefix of it is held, and nothing is read ahead
 abbrev pub ReadsPart : Unread → Option (List ℕ) → Option (List ℕ) → List ℕ → Type 0
 ReadsPart old before after front = WhereKnown (all_left old before) after (λ bytes rest. HoldsPart bytes rest front)
 
--- the newline, where there is one, stands in what is read ahead
+-- the newline, if there is one, is in what was read ahead
 abbrev pub IsAhead : Unread → Option ℕ → Type 0
 IsAhead ahead newline = IfSome newline (λ place. place < length ahead.bytes)
 
--- what is read ahead without the line before this newline, where there is one, and without the newline
+-- what was read ahead without the line before this newline, if there is one, and without the newline
 abbrev pub left_by : Unread → Option ℕ → Unread
 left_by ahead None = ahead
 left_by ahead (Some newline) = record { bytes = drop (newline + 1) ahead.bytes; is_ended = ahead.is_ended; reads_left = ahead.reads_left }

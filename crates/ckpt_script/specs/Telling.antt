@@ -10,7 +10,7 @@ use Rattle.ckpt_script.specs.declared.limits.TheConstants.{MOST_LINES}
 use Rattle.ckpt_script.specs.Outputs.{outputs, output, scene_after, faults_in}
 use Rattle.ckpt_session.specs.Sessions.{Scene, opening_scene}
 
--- The lines of a front of the text have been run, and `rest` is left.
+-- The lines of a prefix of the text have been run, and `rest` is left.
 pub record HasRun (text rest : List ℕ) (is_ended : Bool) (summary : Summary) (scene : Scene) (shown : List ℕ) : Type 0 where
   pub front : List ℕ
   pub split : text ≡ front ++ rest
@@ -28,7 +28,7 @@ pub record Shows (before after : Option (List ℕ)) (waiting shown : List ℕ) :
   pub appended : Appends before after written
   pub all : written ++ waiting ≡ shown
 
--- where a text is known, its front has been run, and what that prints is shown
+-- if the text is known, a prefix of it has been run, and what that prints is shown
 abbrev pub IsSoFar : Option (List ℕ) → Option (List ℕ) → Option (List ℕ) → Option (List ℕ) → Bool → Summary → Scene → List ℕ → Type 0
 IsSoFar text left before after is_ended summary scene waiting = WhereKnown text left (λ text rest.
     (shown : List ℕ) × HasRun text rest is_ended summary scene shown × Shows before after waiting shown)

@@ -141,8 +141,7 @@ impl Runner {
         }
     }
 
-    /// Ends the run by a fault. Where the lines before it are whole, what they print is written
-    /// first.
+    /// Ends the run with a fault. If the lines before it are whole, first writes what they print.
     pub(crate) fn stop<K: Sink>(&mut self, sink: &mut K, fault: RunFault) -> RunFault
         requires cause { SinkCauses (K.failures sink.old) fault }
         ensures cause { (asked : Asked) → IsCaused asked (K.failures sink.old) fault → IsCaused asked (K.failures sink.new) result }
@@ -159,7 +158,7 @@ impl Runner {
     }
 }
 
-/// Whether the lines before the fault are whole, so that all that they print is written.
+/// Whether the lines before the fault are whole. Then all that they print is written.
 fn keeps_lines(fault: RunFault) -> bool
     ensures { result ≡ keeps_lines fault }
 {

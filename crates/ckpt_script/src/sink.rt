@@ -1,10 +1,10 @@
-//! Where the output of a script goes.
+//! The destination of a script's output.
 ghost use Rattle.std.specs.Prelude.{◌≡◌, ◌<◌, ◌≤◌, ◌+◌, ℕ, List, Option, length, IfOk, OnOk, OnErr};
 ghost use Rattle.std.specs.Io.KnownBytes.{WriteAppends, Keeps};
 
 use crate::source::DeviceFailed;
 
-/// Where the output of a script goes. It serves one run.
+/// The destination of a script's output. It serves one run.
 pub trait Sink {
     // The bytes that it has, if they are known.
     ghost contents: { Self → Option (List ℕ) };
@@ -25,7 +25,7 @@ pub trait Sink {
         ensures failed { OnErr result (failures self.new ≡ failures self.old + 1) }
         ensures same { device self.new ≡ device self.old };
 
-    /// Hands on what it took.
+    /// Flushes what it took.
     fn flush(&mut self) -> Result<(), DeviceFailed>
         requires going_on { failures self.old ≡ 0 }
         ensures bytes { Keeps (contents self.old) (contents self.new) }

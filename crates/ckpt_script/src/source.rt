@@ -1,4 +1,4 @@
-//! Where a script comes from.
+//! The origin of a script's bytes.
 ghost use Rattle.std.specs.Prelude.{◌≡◌, ◌<◌, ℕ, List, Option, length};
 ghost use Rattle.std.specs.Io.{ReadsAtMost};
 ghost use Rattle.std.specs.Io.KnownBytes.{ReadConsumes};
@@ -10,7 +10,7 @@ use std::fmt::Debug;
 #[derive(Clone, Copy, Debug, PartialEq, Eq)]
 pub struct DeviceFailed;
 
-/// Where a script comes from. It serves one run.
+/// The origin of a script's bytes. It serves one run.
 pub trait Source {
     // The bytes that are left, if they are known.
     ghost remaining: { Self → Option (List ℕ) };

@@ -5,7 +5,7 @@ use crate::sink::Sink;
 use crate::source::{DeviceFailed, Source};
 use std::io::{Read, Write};
 
-/// A reader of which it is counted what it was asked.
+/// A reader with counts of its calls, failures, ends and bytes.
 #[derive(Drop)]
 pub(crate) struct CountedReader<'a, R> {
     pub(crate) reader: &'a mut R,
@@ -39,7 +39,7 @@ impl<'a, R: Read> Source for CountedReader<'a, R> {
     }
 }
 
-/// A writer of which it is counted how often it failed. One that takes nothing has failed.
+/// A writer with a count of its failures. A write that takes nothing is a failure.
 #[derive(Drop)]
 pub(crate) struct CountedWriter<'a, W> {
     pub(crate) writer: &'a mut W,

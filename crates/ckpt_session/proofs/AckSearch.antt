@@ -37,7 +37,7 @@ equal_to_itself s t same = grind (arith, nat_tests)
 abbrev is_of : SubtaskId → Acked → Bool
 is_of s a = same_subtask s a.subtask
 
--- what a search by halves says
+-- what a binary search returns
 pub found_by_search : (acks : List Acked) (s : SubtaskId) (r : Result ℕ ℕ) → AreInSubtaskOrder acks → IsSearchInRange r (length acks) → IsBinarySearchResult (λ a. by_subtask a.subtask s) acks r → is_ok r ≡ list_any (λ a. same_subtask s a.subtask) acks
 found_by_search [] s (Ok place) order within found = absurd (omega (arith, within))
 found_by_search (x ∷ acks) s (Ok place) order within found =

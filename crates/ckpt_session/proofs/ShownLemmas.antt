@@ -1,4 +1,4 @@
--- What a Show tells of a pending record.
+-- What a Show returns for a pending record.
 use Rattle.std.proofs.Common.{◌≡◌, ℕ, Bool, true, false, ◌&&◌, cond, eqb, refl, sym, ap, ◌∙◌, ⊎_elim}
 use Rattle.std.specs.Prelude.{Option, Some, None}
 use Rattle.std.specs.Option.{option_map}
@@ -39,7 +39,7 @@ none_pending m id sound done = by_pending (pending_of m.records id) refl
 pub shown_state : (m : State) (id : ℕ) → (step m (Show id)).0 ≡ m
 shown_state m id = ap (λ (s : Stepped). s.0) (step-show m id (record_of m id) refl)
 
--- it shows the pending record, where there is one
+-- it shows the pending record, if there is one
 pub shown_is : (m : State) (id : ℕ) → IsSound m → shown_pending (step m (Show id)).1 ≡ pending_metadata m id
 unfolding shown_pending
 shown_is m id sound = by_record (record_of m id) refl

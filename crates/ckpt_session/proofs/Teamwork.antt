@@ -1,4 +1,4 @@
--- What a team made of the calls of an `all` line is what they come to one after the other.
+-- The calls of an `all` line have the same outcome whether a team makes them or one caller makes them in order.
 use Rattle.std.proofs.Common.{◌≡◌, ℕ, ◌+◌, ◌%◌, ◌^◌, ◌<◌, ◌≤◌, length, Bool, true, false, not, cond, eqb, ltb, List, [], ◌∷◌, map, refl, sym, ap, subst, ◌∙◌, ⊎_elim}
 use Rattle.std.specs.Prelude.{filter, count_by, Option, Some, None}
 use Rattle.std.specs.List.{enumerate_from}
@@ -50,7 +50,7 @@ map-cond : {X Y : Type 0} (f : X → Y) (b : Bool) (x : X) (xs : List X) → map
 map-cond f true x xs = refl
 map-cond f false x xs = refl
 
--- of what has this seat or another, with one in front
+-- the members of this seat or another, with one more at the start
 of_seat-front : {X : Type 0} (seat : ℕ) (x : ℕ × X) (xs : List (ℕ × X)) (its : List X) → of_seat seat xs ≡ its → of_seat seat (x ∷ xs) ≡ cond (eqb x.0 seat) (x.1 ∷ its) its
 of_seat-front {X} seat x xs its e =
     map-cond (λ (y : ℕ × X). y.1) (eqb x.0 seat) x (filter (λ (y : ℕ × X). eqb y.0 seat) xs) ∙ ap (λ (ys : List X). cond (eqb x.0 seat) (x.1 ∷ ys) ys) e

@@ -47,11 +47,11 @@ new_files line missing = map (λ p. record { subtask = p.1; file = line.first + 
 unfoldable pub acks_for : AllLine → List SubtaskId → List Call
 acks_for line missing = map (ack_with line.moment line.id) (new_files line missing)
 
--- what a line leaves of the coordinator, and what it came to
+-- the coordinator's state after a line, and the line's outcome
 abbrev pub Obeyed : Type 0
 Obeyed = State × Outcome
 
--- how the record stands after so much of a completion
+-- the state of the record after so much of a completion
 abbrev pub end_of : State → ℕ → Option (ℕ × ℕ) → AllEnd
 end_of m id (Some (dropped, released)) = Completed dropped released
 end_of m id None = Pending (missing_now m id)

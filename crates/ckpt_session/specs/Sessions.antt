@@ -33,7 +33,7 @@ pub record Scene : Type 0 where
 abbrev pub opening_scene : Scene
 opening_scene = record { config = None; shape = None; core = None }
 
--- what a line leaves, and what it came to
+-- the state after a line, and the line's outcome
 abbrev pub Done : Type 0
 Done = Scene × Outcome
 

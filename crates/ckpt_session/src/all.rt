@@ -109,7 +109,7 @@ impl AllLine {
         })
     }
 
-    /// What the calls came to, for which a record that is still pending is asked for once more.
+    /// The outcome of the calls. If the record is still pending, asks for it once more.
     #[tactic(auto, unfolding(crate::specs::AllLines::told))]
     fn tell(&self, alloc: Global, made: &mut Made) -> Result<Outcome, AllocError>
         ensures state { OnOk result (state_of_book made.new.book ≡ state_of_book made.old.book) }
@@ -135,7 +135,7 @@ fn pending_metadata(book: &mut Book, id: CheckpointId) -> Result<Option<Metadata
     ensures state { OnOk result (state_of_book book.new ≡ state_of_book book.old) }
     ensures value { IfOk result (λ metadata. metadata ≡ pending_metadata (state_of_book book.old) id) }
 {
-    // Tells that the state is sound, in which a number has one record.
+    // The contract of this read says that the state is sound. Then a number has one record.
     let _ = book.core();
     match book.apply(LINE_SEAT, Call::Show { id }) {
         Ok(answer) => Ok(pending(answer)),

@@ -1,4 +1,4 @@
-//! What a line of a script came to.
+//! The outcome of a line of a script.
 use ckpt_ids::Answer;
 
 /// Why the script itself refuses a line, before the coordinator sees it. They are tested in this
@@ -42,7 +42,7 @@ pub enum AllEnd {
     },
 }
 
-/// What a line of a script came to.
+/// The outcome of a line of a script.
 #[derive(Debug, Drop, PartialEq, Eq)]
 pub enum Outcome {
     /// The line prints nothing: it is skipped, or it is a `config`, `job` or `start` that was accepted.
@@ -57,7 +57,7 @@ pub enum Outcome {
         accepted: u64,
         /// How many were refused.
         refused: u64,
-        /// How the record stands after them.
+        /// The state of the record after them.
         end: AllEnd,
     },
 }

@@ -194,7 +194,7 @@ impl Session {
 
     /// Does what a line says, and appends what that prints.
     ///
-    /// Most lines are calls. Their answer is printed where it lies, with no outcome made of it.
+    /// Most lines are calls. Their answer is printed from its place, and no outcome is made of it.
     #[tactic(auto, unfolding(crate::specs::Sessions::obeyed))]
     #[inline(always)]
     fn tell<T: Team>(
@@ -345,7 +345,7 @@ impl Session {
         }
     }
 
-    /// What a `restore` is answered whose parallelisms are no shape.
+    /// The answer to a `restore` whose parallelisms are no shape.
     #[inline(never)]
     fn refuse_shape(&self) -> Outcome
         ensures { (self.now, result) ≡ after_start self.now (refused self.now ScriptRefusal.BadShape) }

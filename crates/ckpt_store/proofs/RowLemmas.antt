@@ -20,7 +20,7 @@ module _ (id : ℕ) (records : List Record) where
   no : (r : Record) → (r.id ≡ id → ⊥) → has_id id r ≡ false
   no r ne = ne_eqb r.id id ne
 
-  -- what a search answers
+  -- what a search returns
 
   pub partitioned : AreRising records → IsPartitionedBy (λ r. ltb r.id id) records
   partitioned a = rows.partitioned id_of numbers_in_order id records a
@@ -39,7 +39,7 @@ module _ (id : ℕ) (records : List Record) where
   pub remove-place : (place : ℕ) → AreRising records → LiesAt id_of id records place → remove records place ≡ filter (λ r. not (has_id id r)) records
   remove-place place a h = remove_lies id_of numbers_in_order id (has_id id) yes no records place a h
 
--- what `get` answers
+-- what `get` returns
 pub copied_from_get : (r : Option (Bor Record)) (records : List Record) (place : ℕ) → is_some r ≡ ltb place (length records) → IfSome r (λ x. x.now ≡ get_or records place x.now) → option_copied r ≡ slice_get records place
 copied_from_get None records place e h = sym (slice_get_past records place (ltb-false place (length records) (sym e)))
 copied_from_get (Some x) records place e h = ap (λ q. Some q) h ∙ sym (slice_get-get_or records place x.now (ltb-true place (length records) (sym e)))

@@ -1,4 +1,4 @@
--- What a tick finds before it changes anything: the records that are too old, whose numbers are noted, and what they come to.
+-- What a tick finds before it changes anything: the records that are too old, with their numbers noted, and what follows from them.
 use Rattle.std.specs.Prelude.{◌≡◌, ℕ, ◌+◌, ◌&&◌, Bool, false, nat_lt, count_by}
 use Rattle.ckpt_ids.specs.Ordered.{IsIn}
 use Rattle.ckpt_ids.specs.Records.{Record}

@@ -1,4 +1,4 @@
--- What is made again of an image, record by record.
+-- What is made from an image, record by record.
 use Rattle.std.specs.Prelude.{◌≡◌, ℕ, ◌≤◌, ◌-◌, true, false, List, [], ◌++◌, length, Option, Some, None}
 use Rattle.std.specs.List.{flat_map}
 use Rattle.ckpt_ids.specs.declared.ack.Acked.{Acked}

@@ -28,7 +28,7 @@ taken_in p now id s fresh reused = record p {
 abbrev pub with_waiting : Parts → List ℕ → ℕ → Parts
 with_waiting p files spare = record p { outbox = record p.outbox { waiting = p.outbox.waiting ++ files; spare = spare } }
 
--- These uses are left, and what that releases waits, in places that were kept for it.
+-- These uses are left. The files that this releases wait, in reserved places.
 -- Here and below, `after` has the room of what the parts keep.
 abbrev pub releasing : Parts → List Use → Parts → Parts
 releasing p left after = record (with_waiting p (released p.registry left) (p.outbox.spare - length (released p.registry left))) { registry = left; ended = after.ended }
@@ -59,11 +59,11 @@ with_done p after = record p {
   ended = after.ended;
 }
 
--- the pending records that are not gone
+-- the pending records without those that end
 abbrev pub left_pending : List ℕ → List Record → List Record
 left_pending gone pending = filter (λ r. not (is_noted gone r)) pending
 
--- the record is done, and these others are gone
+-- the record is done, and these others have ended
 abbrev pub handed_after : Parts → Record → List ℕ → List Record → Parts → Parts
 handed_after p done gone pending after = record (releasing p (after_end done.id gone p.registry) after) { pending = pending }
 

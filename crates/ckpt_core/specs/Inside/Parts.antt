@@ -80,7 +80,7 @@ AreInUseAlone p = (f : ℕ) → is_present p.registry f ≡ true → is_known p.
 abbrev pub IsAccepted : Parts → Call → Type 0
 IsAccepted p call = refusal (state_of p) call ≡ None
 
--- the call was accepted and answered so
+-- the call was accepted, with this answer
 pub record Answers (old new : Parts) (call : Call) (reply : Reply) : Type 0 where
   pub step_is : step (state_of old) call ≡ (state_of new, Done reply)
   pub tied : AreTied new
@@ -118,11 +118,11 @@ is_report (Deleted file) = true
 is_report (Undeleted file) = true
 is_report call = false
 
--- Why the call is refused before it is made. A report is not tested so: the outbox answers it by the look-up that it makes anyway.
+-- Why the call is refused before it is made. A report is not tested first: the outbox looks its file up anyway, and refuses it then.
 abbrev pub early_refusal : State → Call → Option Refusal
 early_refusal m call = if is_report call then None else refusal m call
 
--- whether the call, once it is accepted, is answered in any case: it takes no memory, and is no report
+-- whether an accepted call always has an answer: it takes no memory, and is no report
 abbrev pub never_fails : Call → Bool
 never_fails (Tick now) = false
 never_fails (Savepoint now) = false

@@ -6,7 +6,7 @@ use Rattle.ckpt_script.specs.Lines.{held}
 use Rattle.ckpt_script.specs.Reads.{IsFollowed, ReadsPart, all_left}
 use Rattle.ckpt_script.proofs.ahead.Ahead.find_line.Given as goal
 
--- a part of the line was read, and its front is held
+-- a part of the line was read, and its prefix is held
 abbrev pub invariant-loop-self : goal.invariant-loop-self
 invariant-loop-self g l = record {
   part : ReadsPart l.fn.self (g.S.Source.remaining l.fn.source) (all_left l.self (g.S.Source.remaining l.source)) l.line.items;

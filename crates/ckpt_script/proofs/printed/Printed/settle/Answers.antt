@@ -3,7 +3,7 @@ use Rattle.std.proofs.Common.{[]}
 use Rattle.ckpt_script.proofs.PassesLemmas.{passes_part, on_err_map}
 use Rattle.ckpt_script.proofs.printed.Printed.settle.Goals as goal
 
--- a front of what waited was written
+-- a prefix of what waited was written
 pub returns-clause-err : goal.returns-clause-err
 returns-clause-err g c =
     on_err_map c.write_out.result

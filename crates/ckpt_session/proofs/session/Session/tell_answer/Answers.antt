@@ -11,7 +11,7 @@ use Rattle.ckpt_session.specs.Sessions.{Scene, Done, called}
 use Rattle.ckpt_session.proofs.BookLemmas.{called_is}
 use Rattle.ckpt_session.proofs.session.Session.tell_answer.Goals as goal
 
--- what the call leaves and is answered is what a call of the script comes to
+-- the state after the call and its answer are those of a call of the script
 is_called : (c : goal.Joined-answer-2) → ◌≡◌ {A = Done} (record c.args.self.now { core = Some (state_of_book c.apply-answer.new.self) }, Answered c.in-Ok.answer) (called c.args.self.now c.args.self.now.core c.args.call)
 is_called c =
     let book : History = c.in-Some.book in

@@ -8,7 +8,7 @@ use Rattle.ckpt_store.proofs.RowLemmas.{has_place, none_place, remove-place}
 use Rattle.ckpt_store.proofs.StoreLemmas.{IsStored-dispose}
 use Rattle.ckpt_store.proofs.store.Store.dispose.Goals as goal
 
--- what a call leaves that answers something
+-- what a call with a result leaves
 on_some : {X P : Type 0} (o : Option X) → OnSome o P → IsSome o → P
 on_some (Some x) h there = h
 on_some None h there = absurd (both_ways false refl there)
