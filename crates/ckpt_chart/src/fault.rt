@@ -1,19 +1,25 @@
 //! Why there is no picture.
 use std::alloc::{AllocError, AllocFailed};
-use thiserror::Error;
 
 /// Why there is no picture.
-#[derive(Clone, Copy, Debug, Error)]
+#[derive(Clone, Copy)]
 pub(crate) enum ChartFault {
-    #[error("reading failed")]
     Read,
-    #[error("writing failed")]
     Write,
-    #[error("out of memory")]
     Memory,
     /// The script has no accepted `start`.
-    #[error("the script starts no job")]
     NotStarted,
+}
+
+impl ChartFault {
+    pub(crate) fn text(self) -> &'static str {
+        match self {
+            ChartFault::Read => "reading failed",
+            ChartFault::Write => "writing failed",
+            ChartFault::Memory => "out of memory",
+            ChartFault::NotStarted => "the script starts no job",
+        }
+    }
 }
 
 impl From<AllocError> for ChartFault {

@@ -6,6 +6,9 @@ use ckpt_ids::{Answer, CheckpointId, Choice, Kind, Reply, TickEnd};
 use ckpt_session::{AllEnd, Outcome};
 use std::alloc::{AllocError, Global};
 
+/// Up to this many records have a row each, with their names beside it. More records share rows.
+const MOST_NAMED: usize = 30;
+
 /// How a record ended.
 #[derive(Clone, Copy, PartialEq, Eq)]
 pub(crate) enum Ending {
@@ -38,6 +41,8 @@ pub(crate) struct Record {
     pub(crate) ending: Ending,
     /// The moments of its acknowledgements, late ones too.
     pub(crate) acks: Vec<u64>,
+    /// The row in which it is drawn.
+    pub(crate) row: usize,
 }
 
 /// An event that concerns all records.
@@ -191,6 +196,7 @@ impl History {
             ended: None,
             ending: Ending::Pending,
             acks: Vec::new(self.alloc),
+            row: 0,
         };
         self.records.push(record)?;
         Ok(())
@@ -247,11 +253,17 @@ impl History {
     }
 
     /// How many records ended this way.
-    pub(crate) fn count(&self, ending: Ending) -> usize {
-        self.records
-            .iter()
-            .filter(|record| record.ending == ending)
-            .count()
+    pub(crate) fn count(&self, ending: Ending) -> u64 {
+        let mut count: u64 = 0;
+        for record in &self.records {
+            count = count.saturating_add(u64::from(record.ending == ending));
+        }
+        count
+    }
+
+    /// Whether each record has a row of its own, with its name beside it.
+    pub(crate) fn is_named(&self) -> bool {
+        self.records.len() <= MOST_NAMED
     }
 }
 

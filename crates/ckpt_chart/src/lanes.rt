@@ -1,44 +1,35 @@
 //! The row in which each record is drawn.
-use crate::history::{History, Record};
+use crate::history::History;
 use std::alloc::{AllocError, Global};
 
-/// Up to this many records have a row each, with their names beside it. More records share rows.
-const MOST_NAMED: usize = 30;
-
-/// The rows of all records, in the order of the records.
-#[derive(Drop)]
-pub(crate) struct Lanes {
-    pub(crate) rows: Vec<usize>,
-    pub(crate) count: usize,
-    /// Whether each record has a row of its own.
-    pub(crate) named: bool,
-}
-
-/// Gives each record a row.
-pub(crate) fn laid_in_rows(alloc: Global, history: &History) -> Result<Lanes, AllocError> {
-    let named = history.records.len() <= MOST_NAMED;
-    let mut rows = Vec::new(alloc);
+/// Gives each record a row, and returns how many rows there are. If records do not share rows, each
+/// gets a new one.
+pub(crate) fn lay_in_rows(alloc: Global, history: &mut History) -> Result<usize, AllocError> {
+    let shared = !history.is_named();
+    let end = history.now;
     let mut free = Vec::new(alloc);
-    for record in &history.records {
-        let row = if named {
-            free.len()
+    for record in history.records.iter_mut() {
+        let row = if shared {
+            first_free(&free, record.triggered)
         } else {
-            first_free(&free, record)
+            free.len()
         };
-        occupy(&mut free, row, record.last(history.now))?;
-        rows.push(row)?;
+        occupy(&mut free, row, record.last(end))?;
+        record.row = row;
     }
-    Ok(Lanes {
-        rows,
-        count: free.len(),
-        named,
-    })
+    Ok(free.len())
 }
 
-/// The first row that is free when the record is triggered, or a new row after all others.
-fn first_free(free: &Vec<u64>, record: &Record) -> usize {
-    let found = free.iter().position(|moment| *moment < record.triggered);
-    found.unwrap_or(free.len())
+/// The first row that is free at this moment, or a new row after all others.
+fn first_free(free: &[u64], moment: u64) -> usize {
+    let mut row: usize = 0;
+    for from in free {
+        if *from < moment {
+            return row;
+        }
+        row = row.saturating_add(1);
+    }
+    row
 }
 
 /// The row is free from this moment on.

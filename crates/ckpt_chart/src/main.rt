@@ -14,8 +14,10 @@ mod picture;
 mod player;
 mod records;
 mod scale;
+mod svg;
 
 use crate::fault::ChartFault;
+use crate::lanes::lay_in_rows;
 use crate::picture::drawn;
 use crate::player::Player;
 use ckpt_lines::{LineFault, parse_line};
@@ -26,10 +28,10 @@ use std::process::ExitCode;
 const NO_PICTURE: u8 = 2;
 
 /// Runs a line, and returns whether it had a fault.
-fn obeyed(
+fn has_fault(
     rt: &HostRuntime,
     player: &mut Player,
-    number: usize,
+    number: u64,
     line: &[u8],
 ) -> Result<bool, ChartFault> {
     match parse_line(rt.alloc(), line) {
@@ -50,21 +52,20 @@ fn obeyed(
 fn chart(rt: &HostRuntime) -> Result<u64, ChartFault> {
     let mut script = Vec::new(rt.alloc());
     let mut reader = rt.stdin();
-    reader
-        .read_to_end(&mut script)
-        .map_err(|_| ChartFault::Read)?;
+    reader.read_to_end(&mut script).or(Err(ChartFault::Read))?;
     let mut player = Player::new(rt.alloc());
     let mut faults: u64 = 0;
-    for (place, line) in script.split(|byte| *byte == b'\n').enumerate() {
-        if obeyed(rt, &mut player, place.saturating_add(1), line)? {
-            faults = faults.saturating_add(1);
-        }
+    let mut number: u64 = 0;
+    for line in script.split(|byte| *byte == b'\n') {
+        number = number.saturating_add(1);
+        faults = faults.saturating_add(u64::from(has_fault(rt, &mut player, number, line)?));
     }
-    let Some(history) = player.end() else {
+    let Some(mut history) = player.end() else {
         return Err(ChartFault::NotStarted);
     };
-    let text = drawn(rt.alloc(), &history)?;
-    print!(rt; "{text}").map_err(|_| ChartFault::Write)?;
+    let rows = lay_in_rows(rt.alloc(), &mut history)?;
+    let text = drawn(rt.alloc(), &history, rows)?;
+    print!(rt; "{text}").or(Err(ChartFault::Write))?;
     Ok(faults)
 }
 
@@ -72,7 +73,7 @@ fn main(rt: HostRuntime) -> ExitCode {
     match chart(&rt) {
         Ok(faults) => ExitCode::from(u8::from(faults > 0)),
         Err(fault) => {
-            let _ = eprintln!(&rt; "fault: {fault}");
+            let _ = eprintln!(rt; "fault: {}", fault.text());
             ExitCode::from(NO_PICTURE)
         }
     }

@@ -1,11 +1,16 @@
 //! The bars of the records, and the numbers of files below them.
 use crate::history::{Ending, History, Record, Sample};
-use crate::picture::{Layout, stroke, style, words};
+use crate::picture::{Layout, style};
 use crate::scale::{Scale, step};
+use crate::svg::{DARK, LIGHT, TEXT_END, number, numbered, stroke, swatch, text_from, words};
 use ckpt_ids::Kind;
 use std::alloc::AllocError;
 
 const BAR: u64 = 160;
+
+const PALE: &str = " fill-opacity='0.35'";
+
+const FULL: &str = " fill-opacity='1'";
 
 /// Three counts, with the colours of their lines.
 #[derive(Clone, Copy)]
@@ -40,29 +45,20 @@ pub(crate) fn bars(
     out: &mut String,
     layout: &Layout,
     record: &Record,
-    y: u64,
     named: bool,
 ) -> Result<(), AllocError> {
+    let y = layout.row_top(record.row);
     let begin = layout.time.right(record.triggered);
     let end = layout.time.right(record.ended.unwrap_or(layout.time.to));
-    let complete = record
-        .completed
-        .map_or(end, |moment| layout.time.right(moment));
-    bar(out, (begin, complete), y, record.ending, "0.35")?;
-    if record.completed.is_some() {
-        bar(out, (complete, end), y, record.ending, "1")?;
+    match record.completed {
+        Some(moment) => {
+            let complete = layout.time.right(moment);
+            bar(out, (begin, complete), y, record.ending, PALE)?;
+            bar(out, (complete, end), y, record.ending, FULL)?;
+        }
+        None => bar(out, (begin, end), y, record.ending, PALE)?,
     }
-    let how = if named {
-        "stroke='#111827' stroke-width='16'"
-    } else {
-        "stroke='#111827' stroke-width='6' stroke-opacity='0.7'"
-    };
-    for moment in &record.acks {
-        let x = layout.time.right(*moment);
-        let top = y.saturating_sub(20);
-        let bottom = y.saturating_add(BAR + 20);
-        stroke(out, (x, top), (x, bottom), how)?;
-    }
+    acks(out, layout, record, y, named)?;
     name(out, record, (begin, end), y, named)
 }
 
@@ -76,14 +72,29 @@ fn bar(
     let (begin, end) = across;
     let width = end.saturating_sub(begin).max(20);
     let (_, colour) = style(ending);
-    write!(
-        out,
-        "<rect x='{begin}' y='{y}' width='{width}' height='{BAR}' fill='{colour}' "
-    )?;
-    write!(
-        out,
-        "fill-opacity='{opacity}' stroke='#374151' stroke-width='6'/>\n"
-    )
+    swatch(out, (begin, y), (width, BAR), colour, opacity)
+}
+
+/// A line for each acknowledgement.
+fn acks(
+    out: &mut String,
+    layout: &Layout,
+    record: &Record,
+    y: u64,
+    named: bool,
+) -> Result<(), AllocError> {
+    let how = if named {
+        "stroke='#111827' stroke-width='16'"
+    } else {
+        "stroke='#111827' stroke-width='6' stroke-opacity='0.7'"
+    };
+    let top = y.saturating_sub(20);
+    let bottom = y.saturating_add(BAR + 20);
+    for moment in &record.acks {
+        let x = layout.time.right(*moment);
+        stroke(out, (x, top), (x, bottom), how)?;
+    }
+    Ok(())
 }
 
 /// The name of a record: beside its row. If records share rows, its number in its bar, if there is
@@ -97,22 +108,19 @@ fn name(
 ) -> Result<(), AllocError> {
     let (begin, end) = across;
     let base = y.saturating_add(125);
-    let kind = match record.kind {
-        Kind::Checkpoint => "checkpoint",
-        Kind::Savepoint => "savepoint",
-    };
-    let id = record.id.0;
+    let width = end.saturating_sub(begin);
     if named {
-        write!(
-            out,
-            "<text x='1030' y='{base}' font-size='120' text-anchor='end' fill='#1f2937'>{kind} {id}</text>\n"
-        )?;
-    } else if end.saturating_sub(begin) > 350 {
-        let x = begin.saturating_add(end.saturating_sub(begin) / 2);
-        write!(
-            out,
-            "<text x='{x}' y='{base}' font-size='110' text-anchor='middle' fill='#111827'>{id}</text>\n"
-        )?;
+        let kind = match record.kind {
+            Kind::Checkpoint => "checkpoint ",
+            Kind::Savepoint => "savepoint ",
+        };
+        return numbered(out, (1030, base), "end", kind, record.id.0);
+    }
+    if width > 350 {
+        let x = begin.saturating_add(width / 2);
+        text_from(out, (x, base), 110, "middle", "#111827")?;
+        number(out, record.id.0)?;
+        out.push_str(TEXT_END)?;
     }
     Ok(())
 }
@@ -132,8 +140,8 @@ pub(crate) fn file_panel(
         length: layout.files_bottom.saturating_sub(layout.files_top),
     };
     count_axis(out, layout, &count, step)?;
-    for kind in COUNTS {
-        curve(out, layout, &count, history, kind)?;
+    for kind in &COUNTS {
+        curve(out, layout, &count, history, *kind)?;
     }
     file_legend(out, layout)
 }
@@ -163,43 +171,20 @@ fn count_axis(
         if value > count.to {
             break;
         }
-        let y = count.up(value);
-        let x = left.saturating_sub(70);
-        let base = y.saturating_add(45);
-        stroke(
-            out,
-            (left, y),
-            (right, y),
-            "stroke='#e5e7eb' stroke-width='8'",
-        )?;
-        write!(
-            out,
-            "<text x='{x}' y='{base}' font-size='120' text-anchor='end' fill='#1f2937'>{value}</text>\n"
-        )?;
+        count_line(out, (left, right), count.up(value), value)?;
         value = value.saturating_add(step);
     }
-    let bottom = layout.files_bottom;
-    stroke(
-        out,
-        (left, layout.files_top),
-        (left, bottom),
-        "stroke='#111827' stroke-width='12'",
-    )?;
-    stroke(
-        out,
-        (left, bottom),
-        (right, bottom),
-        "stroke='#111827' stroke-width='12'",
-    )?;
-    let middle = left.saturating_add(layout.time.length / 2);
-    words(
-        out,
-        middle,
-        bottom.saturating_add(380),
-        "middle",
-        130,
-        "time, in milliseconds",
-    )
+    let corner = (left, layout.files_bottom);
+    stroke(out, (left, layout.files_top), corner, DARK)?;
+    layout.axis_below(out, layout.files_bottom)
+}
+
+/// The line of a number of files.
+fn count_line(out: &mut String, across: (u64, u64), y: u64, value: u64) -> Result<(), AllocError> {
+    let (left, right) = across;
+    stroke(out, (left, y), (right, y), LIGHT)?;
+    let at = (left.saturating_sub(70), y.saturating_add(45));
+    numbered(out, at, "end", "", value)
 }
 
 /// The line of one count, as steps.
@@ -211,34 +196,35 @@ fn curve(
     kind: Count,
 ) -> Result<(), AllocError> {
     let (_, colour) = kind.style();
-    let x = layout.time.begin;
-    let y = count.up(0);
-    write!(
-        out,
-        "<path fill='none' stroke='{colour}' stroke-width='24' d='M{x} {y}"
-    )?;
+    curve_from(out, colour, layout.time.begin, count.up(0))?;
     for sample in &history.samples {
         let x = layout.time.right(sample.moment);
         let y = count.up(kind.of(sample));
         write!(out, "H{x}V{y}")?;
     }
-    let right = layout.time.right(layout.time.to);
-    write!(out, "H{right}'/>\n")
+    out.push_str("H")?;
+    number(out, layout.time.right(layout.time.to))?;
+    out.push_str("'/>\n")
+}
+
+/// Begins the line of a count, in this colour, at this place.
+fn curve_from(out: &mut String, colour: &str, x: u64, y: u64) -> Result<(), AllocError> {
+    write!(
+        out,
+        "<path fill='none' stroke='{colour}' stroke-width='24' d='M{x} {y}"
+    )
 }
 
 fn file_legend(out: &mut String, layout: &Layout) -> Result<(), AllocError> {
     let y = layout.files_top.saturating_sub(150);
     let middle = y.saturating_sub(45);
-    words(out, 250, y, "start", 150, "Number of files")?;
+    words(out, (250, y), 150, "start", "Number of files")?;
     let mut x: u64 = 2300;
-    for kind in COUNTS {
+    for kind in &COUNTS {
         let (name, colour) = kind.style();
-        let after = x.saturating_add(400);
-        write!(
-            out,
-            "<path fill='none' stroke='{colour}' stroke-width='24' d='M{x} {middle}h320'/>\n"
-        )?;
-        words(out, after, y, "start", 130, name)?;
+        curve_from(out, colour, x, middle)?;
+        out.push_str("h320'/>\n")?;
+        words(out, (x.saturating_add(400), y), 130, "start", name)?;
         x = x.saturating_add(2300);
     }
     Ok(())

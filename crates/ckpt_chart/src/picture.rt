@@ -1,8 +1,10 @@
 //! The whole picture: 1000 pixels wide, in tenths of a pixel.
 use crate::history::{Ending, Event, History};
-use crate::lanes::{Lanes, laid_in_rows};
 use crate::panels::{bars, file_panel};
 use crate::scale::{Scale, first_multiple, step};
+use crate::svg::{
+    DARK, LIGHT, TEXT_END, element, number, numbered, stroke, swatch, text_from, words,
+};
 use ckpt_ids::Choice;
 use std::alloc::{AllocError, Global};
 
@@ -18,6 +20,20 @@ const ROW: u64 = 230;
 
 const FILES_HEIGHT: u64 = 1500;
 
+/// How the lines of events that concern all records are drawn.
+const STOP: &str = "stroke='#b91c1c' stroke-width='14' stroke-dasharray='50 30'";
+
+/// The meaning of the signs.
+const SIGNS: &str = "\
+<rect x='250' y='740' width='300' height='140' fill='#56b4e9' fill-opacity='0.35' stroke='#374151' stroke-width='6'/>
+<rect x='550' y='740' width='300' height='140' fill='#56b4e9' stroke='#374151' stroke-width='6'/>
+<text x='910' y='860' font-size='130' text-anchor='start' fill='#1f2937'>pale: waits for acknowledgements, full: complete</text>
+<line x1='5000' y1='720' x2='5000' y2='900' stroke='#111827' stroke-width='16'/>
+<text x='5080' y='860' font-size='130' text-anchor='start' fill='#1f2937'>acknowledgement</text>
+<line x1='6700' y1='720' x2='6700' y2='900' stroke='#b91c1c' stroke-width='14' stroke-dasharray='50 30'/>
+<text x='6780' y='860' font-size='130' text-anchor='start' fill='#1f2937'>restore, fail-over or cancel</text>
+";
+
 /// The places of the parts of the picture.
 #[derive(Clone, Copy)]
 pub(crate) struct Layout {
@@ -30,6 +46,30 @@ pub(crate) struct Layout {
     pub(crate) files_top: u64,
     pub(crate) files_bottom: u64,
     pub(crate) height: u64,
+}
+
+impl Layout {
+    /// Where the row at this place begins.
+    pub(crate) fn row_top(&self, place: usize) -> u64 {
+        (place as u64)
+            .saturating_mul(self.row)
+            .saturating_add(self.rows_top)
+    }
+
+    /// A line at a moment, through both panels. Above the rows it begins at this height.
+    fn lines_at(&self, out: &mut String, x: u64, top: u64, how: &str) -> Result<(), AllocError> {
+        stroke(out, (x, top), (x, self.axis), how)?;
+        stroke(out, (x, self.files_top), (x, self.files_bottom), how)
+    }
+
+    /// The axis of time at the bottom of a panel, with its name.
+    pub(crate) fn axis_below(&self, out: &mut String, y: u64) -> Result<(), AllocError> {
+        let right = self.time.right(self.time.to);
+        stroke(out, (LEFT, y), (right, y), DARK)?;
+        let middle = LEFT.saturating_add(LENGTH / 2);
+        let at = (middle, y.saturating_add(380));
+        words(out, at, 130, "middle", "time, in milliseconds")
+    }
 }
 
 fn laid_out(history: &History, rows: usize) -> Layout {
@@ -80,97 +120,54 @@ const ENDINGS: [Ending; 7] = [
     Ending::Pending,
 ];
 
-/// The picture of a run, as SVG.
-pub(crate) fn drawn(alloc: Global, history: &History) -> Result<String, AllocError> {
-    let lanes = laid_in_rows(alloc, history)?;
-    let layout = laid_out(history, lanes.count);
+/// The picture of a run whose records have their rows, of which there are this many, as SVG.
+pub(crate) fn drawn(alloc: Global, history: &History, rows: usize) -> Result<String, AllocError> {
+    let layout = laid_out(history, rows);
     let mut out = String::new(alloc);
-    head(&mut out, &layout)?;
+    head(&mut out, layout.height)?;
     title(&mut out, history)?;
     legend(&mut out, history)?;
     time_axis(&mut out, &layout)?;
     marks(&mut out, &layout, history)?;
-    records(&mut out, &layout, &lanes, history)?;
+    for record in &history.records {
+        bars(&mut out, &layout, record, history.is_named())?;
+    }
     file_panel(&mut out, &layout, history)?;
     out.push_str("</svg>\n")?;
     Ok(out)
 }
 
-fn head(out: &mut String, layout: &Layout) -> Result<(), AllocError> {
-    let height = layout.height;
+fn head(out: &mut String, height: u64) -> Result<(), AllocError> {
+    let svg = "<svg xmlns='http://www.w3.org/2000/svg'";
     let pixels = height / 10;
-    write!(
+    element(
         out,
-        "<svg xmlns='http://www.w3.org/2000/svg' width='1000' height='{pixels}' "
+        svg,
+        &[("width", 1000), ("height", pixels)],
+        &[" viewBox='0 0 10000 "],
     )?;
-    write!(
+    number(out, height)?;
+    out.push_str("' font-family='DejaVu Sans, Verdana, sans-serif'>\n")?;
+    element(
         out,
-        "viewBox='0 0 10000 {height}' font-family='DejaVu Sans, Verdana, sans-serif'>\n"
-    )?;
-    write!(
-        out,
-        "<rect width='10000' height='{height}' fill='#ffffff'/>\n"
+        "<rect",
+        &[("width", 10000), ("height", height)],
+        &[" fill='#ffffff'/>\n"],
     )
-}
-
-/// Writes a text that begins here, ends here (`end`) or is centred here (`middle`).
-pub(crate) fn words(
-    out: &mut String,
-    x: u64,
-    y: u64,
-    anchor: &str,
-    size: u64,
-    text: &str,
-) -> Result<(), AllocError> {
-    write!(
-        out,
-        "<text x='{x}' y='{y}' font-size='{size}' text-anchor='{anchor}' fill='#1f2937'>{text}</text>\n"
-    )
-}
-
-/// A box of one colour.
-pub(crate) fn swatch(
-    out: &mut String,
-    x: u64,
-    y: u64,
-    width: u64,
-    height: u64,
-    fill: &str,
-) -> Result<(), AllocError> {
-    write!(
-        out,
-        "<rect x='{x}' y='{y}' width='{width}' height='{height}' fill='{fill}' stroke='#374151' stroke-width='6'/>\n"
-    )
-}
-
-/// A straight line.
-pub(crate) fn stroke(
-    out: &mut String,
-    from: (u64, u64),
-    to: (u64, u64),
-    how: &str,
-) -> Result<(), AllocError> {
-    let (x, y) = from;
-    let (u, v) = to;
-    write!(out, "<line x1='{x}' y1='{y}' x2='{u}' y2='{v}' {how}/>\n")
 }
 
 fn title(out: &mut String, history: &History) -> Result<(), AllocError> {
+    words(
+        out,
+        (250, 330),
+        200,
+        "start",
+        "Checkpoints and savepoints of a job",
+    )?;
+    text_from(out, (9750, 330), 130, "end", "#4b5563")?;
     let count = history.records.len();
     let accepted = history.accepted;
     let refused = history.refused;
-    words(
-        out,
-        250,
-        330,
-        "start",
-        200,
-        "Checkpoints and savepoints of a job",
-    )?;
-    write!(
-        out,
-        "<text x='9750' y='330' font-size='130' text-anchor='end' fill='#4b5563'>"
-    )?;
     write!(
         out,
         "{count} records; {accepted} calls accepted, {refused} refused</text>\n"
@@ -180,48 +177,20 @@ fn title(out: &mut String, history: &History) -> Result<(), AllocError> {
 /// The meaning of the colours and signs, and how many records ended in each way.
 fn legend(out: &mut String, history: &History) -> Result<(), AllocError> {
     let mut x: u64 = 250;
-    for ending in ENDINGS {
-        let (name, colour) = style(ending);
-        let count = history.count(ending);
-        let after = x.saturating_add(200);
-        swatch(out, x, 490, 140, 140, colour)?;
-        write!(
+    for ending in &ENDINGS {
+        let (name, colour) = style(*ending);
+        swatch(out, (x, 490), (140, 140), colour, "")?;
+        element(
             out,
-            "<text x='{after}' y='610' font-size='130' fill='#1f2937'>{name}: {count}</text>\n"
+            "<text",
+            &[("x", x.saturating_add(200)), ("y", 610), ("font-size", 130)],
+            &[" fill='#1f2937'>", name, ": "],
         )?;
+        number(out, history.count(*ending))?;
+        out.push_str(TEXT_END)?;
         x = x.saturating_add(1310);
     }
-    signs(out)
-}
-
-fn signs(out: &mut String) -> Result<(), AllocError> {
-    write!(
-        out,
-        "<rect x='250' y='740' width='300' height='140' fill='#56b4e9' fill-opacity='0.35' stroke='#374151' stroke-width='6'/>\n"
-    )?;
-    swatch(out, 550, 740, 300, 140, "#56b4e9")?;
-    words(
-        out,
-        910,
-        860,
-        "start",
-        130,
-        "pale: waits for acknowledgements, full: complete",
-    )?;
-    stroke(
-        out,
-        (5000, 720),
-        (5000, 900),
-        "stroke='#111827' stroke-width='16'",
-    )?;
-    words(out, 5080, 860, "start", 130, "acknowledgement")?;
-    stroke(
-        out,
-        (6700, 720),
-        (6700, 900),
-        "stroke='#b91c1c' stroke-width='14' stroke-dasharray='50 30'",
-    )?;
-    words(out, 6780, 860, "start", 130, "restore, fail-over or cancel")
+    out.push_str(SIGNS)
 }
 
 /// The axis of time, with its lines through both panels.
@@ -235,60 +204,27 @@ fn time_axis(out: &mut String, layout: &Layout) -> Result<(), AllocError> {
         moment_line(out, layout, moment)?;
         moment = moment.saturating_add(step);
     }
-    let right = layout.time.right(layout.time.to);
-    stroke(
-        out,
-        (LEFT, layout.axis),
-        (right, layout.axis),
-        "stroke='#111827' stroke-width='12'",
-    )?;
-    let middle = LEFT.saturating_add(LENGTH / 2);
-    words(
-        out,
-        middle,
-        layout.axis.saturating_add(380),
-        "middle",
-        130,
-        "time, in milliseconds",
-    )
+    layout.axis_below(out, layout.axis)
 }
 
 fn moment_line(out: &mut String, layout: &Layout, moment: u64) -> Result<(), AllocError> {
     let x = layout.time.right(moment);
-    let below = layout.axis.saturating_add(180);
-    stroke(
-        out,
-        (x, layout.rows_top),
-        (x, layout.axis),
-        "stroke='#e5e7eb' stroke-width='8'",
-    )?;
-    stroke(
-        out,
-        (x, layout.files_top),
-        (x, layout.files_bottom),
-        "stroke='#e5e7eb' stroke-width='8'",
-    )?;
-    write!(
-        out,
-        "<text x='{x}' y='{below}' font-size='120' text-anchor='middle' fill='#1f2937'>{moment}</text>\n"
-    )?;
-    let foot = layout.files_bottom.saturating_add(180);
-    write!(
-        out,
-        "<text x='{x}' y='{foot}' font-size='120' text-anchor='middle' fill='#1f2937'>{moment}</text>\n"
-    )
+    layout.lines_at(out, x, layout.rows_top, LIGHT)?;
+    let below = (x, layout.axis.saturating_add(180));
+    numbered(out, below, "middle", "", moment)?;
+    let foot = (x, layout.files_bottom.saturating_add(180));
+    numbered(out, foot, "middle", "", moment)
 }
 
 /// The lines across all records. Their names are on four levels, so that near ones can be read.
 fn marks(out: &mut String, layout: &Layout, history: &History) -> Result<(), AllocError> {
-    for (place, mark) in history.marks.iter().enumerate() {
+    let mut level: u64 = 0;
+    for mark in &history.marks {
         let x = layout.time.right(mark.moment);
-        let level = (place % 4) as u64 * 150;
-        let y = 1130 + level;
-        let how = "stroke='#b91c1c' stroke-width='14' stroke-dasharray='50 30'";
-        stroke(out, (x, y), (x, layout.axis), how)?;
-        stroke(out, (x, layout.files_top), (x, layout.files_bottom), how)?;
+        let y = level.saturating_add(1130);
+        layout.lines_at(out, x, y, STOP)?;
         mark_name(out, x, y, mark.event)?;
+        level = level.saturating_add(150) % 600;
     }
     Ok(())
 }
@@ -299,41 +235,21 @@ fn mark_name(out: &mut String, x: u64, y: u64, event: Event) -> Result<(), Alloc
     } else {
         ("start", x.saturating_add(40))
     };
-    write!(
-        out,
-        "<text x='{x}' y='{y}' font-size='120' text-anchor='{anchor}' fill='#b91c1c'>"
-    )?;
-    event_name(out, event)?;
-    out.push_str("</text>\n")
-}
-
-fn event_name(out: &mut String, event: Event) -> Result<(), AllocError> {
+    text_from(out, (x, y), 120, anchor, "#b91c1c")?;
     match event {
-        Event::FailedOver => out.push_str("failed over"),
-        Event::Cancelled => out.push_str("cancelled"),
-        Event::Restored(choice) => choice_name(out, choice),
+        Event::FailedOver => out.push_str("failed over")?,
+        Event::Cancelled => out.push_str("cancelled")?,
+        Event::Restored(choice) => choice_name(out, choice)?,
     }
+    out.push_str(TEXT_END)
 }
 
 fn choice_name(out: &mut String, choice: Choice) -> Result<(), AllocError> {
-    match choice {
-        Choice::Checkpoint(id) => write!(out, "restored: checkpoint {}", id.0),
-        Choice::Savepoint(id) => write!(out, "restored: savepoint {}", id.0),
-        Choice::Fresh => out.push_str("restored: fresh"),
-    }
-}
-
-fn records(
-    out: &mut String,
-    layout: &Layout,
-    lanes: &Lanes,
-    history: &History,
-) -> Result<(), AllocError> {
-    for (record, row) in history.records.iter().zip(lanes.rows.iter()) {
-        let y = (*row as u64)
-            .saturating_mul(layout.row)
-            .saturating_add(layout.rows_top);
-        bars(out, layout, record, y, lanes.named)?;
-    }
-    Ok(())
+    let (name, id) = match choice {
+        Choice::Checkpoint(id) => ("restored: checkpoint ", id),
+        Choice::Savepoint(id) => ("restored: savepoint ", id),
+        Choice::Fresh => return out.push_str("restored: fresh"),
+    };
+    out.push_str(name)?;
+    number(out, id.0)
 }
