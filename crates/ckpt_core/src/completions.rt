@@ -6,7 +6,7 @@ ghost use Rattle.ckpt_ids.specs.declared.reply.Reply.TheVariants as reply;
 ghost use Rattle.ckpt_core.specs.declared.coordinator.CoreFault.TheVariants.{Memory};
 ghost use Rattle.ckpt_core.specs.Inside.Completing.{IsMissing, superseded, surplus};
 ghost use Rattle.ckpt_core.specs.Inside.FileFacts.{is_known, is_present};
-ghost use Rattle.ckpt_core.specs.Inside.Moving.{checkpoint_completed, completion, savepoint_completed, with_checkpoint};
+ghost use Rattle.ckpt_core.specs.Inside.Moving.{checkpoint_completed, completion, savepoint_completed, with_checkpoint, without_pending};
 ghost use Rattle.ckpt_core.specs.Inside.Parts.{Answers, AreInUseAlone, AreSound, IsAccepted, Stays, present_in};
 ghost use Rattle.ckpt_core.specs.Inside.RecordFacts.{IsAbove, Record, has_savepoint};
 ghost use Rattle.ckpt_ids.specs.Places.{LiesAt};
@@ -60,7 +60,7 @@ impl Parts {
         requires there { place < length self.old.pending }
         requires full { (r : Record) → slice_get self.old.pending place ≡ Some r → missing r ≡ 0 }
         ensures value { (r : Record) → slice_get self.old.pending place ≡ Some r → result ≡ record r { done = true } }
-        ensures rest { (id : ℕ) → LiesAt id_of id self.old.pending place → self.new ≡ record self.old { pending = filter (λ r. not (r.id == id)) self.old.pending } }
+        ensures rest { (id : ℕ) → LiesAt id_of id self.old.pending place → self.new ≡ without_pending id self.old }
     {
         self.pending.take_out(place).finish().ok().unwrap()
     }

@@ -1,5 +1,5 @@
 -- What the moves of a call make of the parts.
-use Rattle.std.specs.Prelude.{ℕ, ◌+◌, ◌-◌, max, not, List, [], ◌++◌, filter, length, Some}
+use Rattle.std.specs.Prelude.{ℕ, ◌+◌, ◌-◌, ◌==◌, max, not, List, [], ◌++◌, filter, length, Some}
 use Rattle.ckpt_ids.specs.declared.reply.Reply.{Reply}
 use Rattle.ckpt_ids.specs.declared.reply.Reply.TheVariants.{AckCompleted}
 use Rattle.ckpt_ids.specs.declared.subtask.SubtaskId.{SubtaskId}
@@ -58,6 +58,10 @@ with_done p after = record p {
   outbox = record p.outbox { spare = after.outbox.spare };
   ended = after.ended;
 }
+
+-- the pending record of this number is taken out
+abbrev pub without_pending : ℕ → Parts → Parts
+without_pending id p = record p { pending = filter (λ r. not (r.id == id)) p.pending }
 
 -- the pending records without those that end
 abbrev pub left_pending : List ℕ → List Record → List Record
