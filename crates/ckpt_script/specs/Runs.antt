@@ -8,6 +8,7 @@ use Rattle.ckpt_script.specs.declared.fault.RunFault.{RunFault}
 use Rattle.ckpt_script.specs.declared.limits.TheConstants.{MOST_LINES}
 use Rattle.ckpt_script.specs.declared.runner.Runner.{Runner}
 use Rattle.ckpt_script.specs.Devices.{Asked, used}
+use Rattle.ckpt_script.specs.Known.{Prints}
 use Rattle.ckpt_script.specs.Outputs.{Ran}
 use Rattle.ckpt_script.specs.Reads.{IsFollowed, all_left, line_at}
 use Rattle.ckpt_script.specs.Telling.{IsSoFar, Stopped}
@@ -27,6 +28,10 @@ said_next run newline = said (run.summary.lines + 1) run.session (reading_next r
 -- and what it prints
 abbrev pub text_next : Runner → Option ℕ → List ℕ
 text_next run newline = (said_next run newline).1
+
+-- what waited and then the text of the next line were handed to a sink that has not failed
+abbrev pub PrintsNext : Runner → Option ℕ → Runner → Option (List ℕ) → Option (List ℕ) → ℕ → Type 0
+PrintsNext old newline new before after failures = Prints before after old.printed (text_next old newline) new.printed failures
 
 -- The next line was obeyed: it is counted, and the session is as it says.
 pub record Obeys (old : Runner) (newline : Option ℕ) (new : Runner) : Type 0 where

@@ -3,9 +3,8 @@ ghost use Rattle.std.specs.Prelude.{◌≡◌, ◌≤◌, ◌<◌, ◌+◌, [], 
 ghost use Rattle.std.specs.Io.KnownBytes.{IsAtEnd};
 ghost use Rattle.ckpt_script.specs.Devices.{Asked, IsCaused, SinkCauses, IsReadThrough};
 ghost use Rattle.ckpt_script.specs.Faults.{FailsToPrint};
-ghost use Rattle.ckpt_script.specs.Known.{Prints};
 ghost use Rattle.ckpt_script.specs.Reads.{IsAhead, left_by, line_at};
-ghost use Rattle.ckpt_script.specs.Runs.{text_next, Obeys, IsReady, GoesOn, Stops, EndsBy};
+ghost use Rattle.ckpt_script.specs.Runs.{text_next, PrintsNext, Obeys, IsReady, GoesOn, Stops, EndsBy};
 ghost use Rattle.ckpt_script.specs.Telling.{keeps_lines};
 ghost use Rattle.ckpt_session.specs.Sessions.{opening_scene};
 
@@ -45,7 +44,7 @@ impl Runner {
         requires going_on { K.failures sink.old ≡ 0 }
         ensures left { self.new.ahead ≡ left_by self.old.ahead newline }
         ensures obeyed { OnOk result (Obeys self.old newline self.new) }
-        ensures shown { OnOk result (Prints (K.contents sink.old) (K.contents sink.new) self.old.printed (text_next self.old newline) self.new.printed (K.failures sink.new)) }
+        ensures shown { OnOk result (PrintsNext self.old newline self.new (K.contents sink.old) (K.contents sink.new) (K.failures sink.new)) }
         ensures fault { IfErr result (FailsToPrint (K.contents sink.old) (K.contents sink.new) self.old.printed (text_next self.old newline)) }
         ensures cause { IfErr result (SinkCauses (K.failures sink.new)) }
         ensures same_sink { K.device sink.new ≡ K.device sink.old }

@@ -1,5 +1,5 @@
 -- Answers the goals of `Ahead::fill`.
-use Rattle.std.proofs.Common.{◌≡◌, false, ap, subst, sym, arith, rules}
+use Rattle.std.proofs.Common.{◌≡◌, false, subst, sym, arith, rules}
 use Rattle.ckpt_script.proofs.CauseLemmas.{caused_writing, fails_reading, fails_writing}
 use Rattle.ckpt_script.proofs.PassesLemmas.{if_err_both, if_err_is}
 use Rattle.ckpt_script.specs.Devices.{IsCaused}

@@ -1,7 +1,6 @@
 -- Answers the goals of `Runner::obey`.
 use Rattle.std.proofs.Common.{◌≡◌, ℕ, List, [], ◌++◌, subst, arith}
 use Rattle.std.proofs.lemmas.Grind.{common_steps}
-use Rattle.std.specs.Prelude.{string_bytes}
 use Rattle.ckpt_script.specs.declared.fault.RunFault.TheVariants.{Memory}
 use Rattle.ckpt_script.specs.Known.{Passes}
 use Rattle.ckpt_script.specs.Runs.{text_next}
