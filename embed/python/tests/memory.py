@@ -36,9 +36,14 @@ def refused(nth, call):
 
 class Memory(unittest.TestCase):
     def told(self, job, call, reply, takes_memory=True):
-        """Makes the call of a coordinator; and of copies of it, each with another request refused."""
+        """Makes the call of a coordinator; and of copies of it, each with another request refused.
+
+        A call may reuse room that an earlier one left. A copy has no such room, so its requests are counted.
+        """
         image, faults = job.save(), 0
-        answer, requests = requests_of(lambda: call(job))
+        with Coordinator.open_saved(image) as copy:
+            _, requests = requests_of(lambda: call(copy))
+        answer = call(job)
         for nth in range(1, requests + 1):
             with Coordinator.open_saved(image) as copy:
                 told = refused(nth, lambda: call(copy))
