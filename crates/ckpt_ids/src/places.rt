@@ -11,9 +11,9 @@ use crate::subtask::SubtaskId;
 use std::cmp::Ordering;
 use std::collections::VecDeque;
 
-/// An element that rows are in order by.
+/// An element of a row that is in order by a key.
 pub trait Keyed {
-    /// What it is searched by.
+    /// The type of its key.
     type Key: Copy + Ord;
 
     ghost key_of: { Self → Self.Key };
