@@ -46,13 +46,19 @@ begins_once text first second rest others begins again =
     let after : 32 ∷ rest ≡ 32 ∷ others = append_cancel_left (spelling first) (32 ∷ rest) (32 ∷ others) left in
     (same, cc)
 
--- A text that begins with none of these six begins with no recognized keyword, because the function for the two long ones was tried.
-pub recognizes_none : {X : Type 0} (text : List ℕ) (result : Option X) → IfNone result (BeginsWithNone is_long text)
+-- a text that begins with neither of these two begins with no long keyword
+pub no_long : (text : List ℕ) → ((rest : List ℕ) → BeginsWith text Savepoint rest → ⊥) → ((rest : List ℕ) → BeginsWith text Undeleted rest → ⊥) → BeginsWithNone is_long text
+no_long text savepoint undeleted Savepoint rest is begins = savepoint rest begins
+no_long text savepoint undeleted Undeleted rest is begins = undeleted rest begins
+no_long text savepoint undeleted _ rest is begins = absurd cc
+
+-- a text that begins with none of these six, and with none of the long ones if that was tried last, begins with no recognized keyword
+pub none_begins : {X : Type 0} (text : List ℕ) (result : Option X) → IfNone result (BeginsWithNone is_long text)
     → ((rest : List ℕ) → BeginsWith text Tick rest → ⊥) → ((rest : List ℕ) → BeginsWith text Ack rest → ⊥) → ((rest : List ℕ) → BeginsWith text Take rest → ⊥)
     → ((rest : List ℕ) → BeginsWith text Deleted rest → ⊥) → ((rest : List ℕ) → BeginsWith text Dispose rest → ⊥) → ((rest : List ℕ) → BeginsWith text Count rest → ⊥)
     → IfNone result (BeginsWithNone is_recognized text)
-recognizes_none text (Some x) long tick ack take deleted dispose count = tt
-recognizes_none text None long tick ack take deleted dispose count = by
+none_begins text (Some x) long tick ack take deleted dispose count = tt
+none_begins text None long tick ack take deleted dispose count = by
   where
     by : BeginsWithNone is_recognized text
     by Tick rest is begins = tick rest begins

@@ -36,6 +36,7 @@ unfolding ended
 none_left [] is = refl
 none_left (word ∷ words) is = absurd cc
 
+-- nothing is left after a number that is the last word
 pub one_number : (words after : List (List ℕ)) (number : ℕ) → number_place words ≡ Ok (number, after) → ended after ≡ Ok tt → number_place words ≡ Ok (number, [])
 one_number words after number placed end = placed ∙ ap (λ (left : List (List ℕ)). Ok (number, left)) (none_left after end)
 
