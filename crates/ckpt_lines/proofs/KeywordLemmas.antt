@@ -6,7 +6,7 @@ use Rattle.ckpt_lines.specs.Keywords.{keyword_of, spelling, takes_memory}
 use Rattle.ckpt_lines.specs.Reading.{begins_with_a_list, is_comment, line_of, row}
 
 -- the spelling of a keyword is read as that keyword, and not as a comment
-found : (first : Keyword) → (keyword_of (spelling first) ≡ Some first) × (is_comment (spelling first) ≡ false)
+pub found : (first : Keyword) → (keyword_of (spelling first) ≡ Some first) × (is_comment (spelling first) ≡ false)
 unfolding keyword_of
 found Config = (refl, refl)
 found Job = (refl, refl)

@@ -1,4 +1,5 @@
 -- The lemmas that the proofs use.
+pub mod BeginLemmas
 pub mod EachLemmas
 pub mod FileLemmas
 pub mod FirstNumbers

@@ -1,5 +1,5 @@
 -- What a line of a keyword and one number says.
-use Rattle.std.proofs.Common.{◌≡◌, ◌≤◌, ℕ, List, [], ◌∷◌, length, Ok, ◌∙◌, refl, arith}
+use Rattle.std.proofs.Common.{◌≡◌, ◌≤◌, ℕ, true, List, [], ◌∷◌, length, Ok, ap, ◌∙◌, refl, arith}
 use Rattle.std.proofs.lemmas.Bool.Decides.{nat_tests}
 use Rattle.std.specs.Prelude.{false}
 use Rattle.std.specs.Str.Lines.{strip_carriage_return}
@@ -8,10 +8,11 @@ use Rattle.ckpt_lines.specs.declared.keyword.Keyword.{Keyword}
 use Rattle.ckpt_lines.specs.declared.limits.TheConstants.{LONGEST_LINE}
 use Rattle.ckpt_lines.specs.declared.line.Line.{Line}
 use Rattle.ckpt_lines.specs.declared.meaning.Meaning.TheVariants as said
-use Rattle.ckpt_lines.specs.Keywords.{spelling}
 use Rattle.ckpt_lines.specs.Meanings.{SaysCall, meaning}
 use Rattle.ckpt_lines.specs.Reading.{ended, is_too_long, number_line, number_place, reading, row}
+use Rattle.ckpt_lines.specs.Usual.{BeginsWith, IsUsual, is_usual}
 use Rattle.ckpt_lines.specs.Words.{words_of}
+use Rattle.ckpt_lines.proofs.BeginLemmas.{begins_once, words_of-begin}
 use Rattle.ckpt_lines.proofs.KeywordLemmas.{begins}
 
 -- the row of such a keyword says the call that its line means
@@ -22,15 +23,36 @@ unfolding number_line ended
 says_number first line call number words is means placed = (line number, is ∙ (rw placed refl), means)
 
 -- a line that is short enough is read as the row of its first word
-pub reads_row : (line : List ℕ) (first : Keyword) (after : List (List ℕ)) → length line ≤ LONGEST_LINE
-    → words_of (strip_carriage_return line) ≡ spelling first ∷ after → reading line ≡ row first after
+pub reads_row : (line : List ℕ) (first : Keyword) (rest : List ℕ) → length line ≤ LONGEST_LINE
+    → BeginsWith (strip_carriage_return line) first rest → reading line ≡ row first (words_of rest)
 unfolding reading
-reads_row line first after short begin =
+reads_row line first rest short begin =
     let within : is_too_long line ≡ false = grind (arith, nat_tests) in
-    (rw within refl) ∙ (begins first (words_of (strip_carriage_return line)) after begin).0
+    (rw within refl) ∙ (begins first (words_of (strip_carriage_return line)) (words_of rest) (words_of-begin (strip_carriage_return line) first rest begin)).0
 
 -- no word is left after the last
-pub none_left : (words : List (List ℕ)) → ended words ≡ Ok tt → words ≡ []
+none_left : (words : List (List ℕ)) → ended words ≡ Ok tt → words ≡ []
 unfolding ended
 none_left [] is = refl
 none_left (word ∷ words) is = absurd cc
+
+-- nothing is left after a number that is the last word
+pub one_number : (words after : List (List ℕ)) (number : ℕ) → number_place words ≡ Ok (number, after) → ended after ≡ Ok tt → number_place words ≡ Ok (number, [])
+one_number words after number placed end = placed ∙ ap (λ (left : List (List ℕ)). Ok (number, left)) (none_left after end)
+
+-- what a usual line begins with is its own keyword, and its number follows
+pub usual_begin : (line : List ℕ) (first : Keyword) (rest : List ℕ) → BeginsWith (strip_carriage_return line) first rest → (is : IsUsual line)
+    → (is_usual first ≡ true) × (number_place (words_of rest) ≡ Ok (is.number, []))
+usual_begin line first rest begin is =
+    let same = begins_once (strip_carriage_return line) first is.keyword rest is.rest begin is.begins in
+    (ap is_usual same.0 ∙ is.usual, ap (λ (after : List ℕ). number_place (words_of after)) same.1 ∙ is.numbered)
+
+-- so no word is left after that number
+pub usual_end : (line : List ℕ) (first : Keyword) (rest : List ℕ) (number : ℕ) (after : List (List ℕ)) → BeginsWith (strip_carriage_return line) first rest
+    → number_place (words_of rest) ≡ Ok (number, after) → IsUsual line → ended after ≡ Ok tt
+unfolding ended
+usual_end line first rest number after begin placed is =
+    let whole : number_place (words_of rest) ≡ Ok (is.number, []) = (usual_begin line first rest begin is).1 in
+    let pair : ◌≡◌ {A = ℕ × List (List ℕ)} (number, after) (is.number, []) = cc in
+    let none : after ≡ [] = ap (λ (p : ℕ × List (List ℕ)). p.1) pair in
+    rw none refl

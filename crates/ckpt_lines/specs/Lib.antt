@@ -2,6 +2,7 @@
 pub mod Keywords
 pub mod Meanings
 pub mod Reading
+pub mod Usual
 pub mod Values
 pub mod Words
 pub mod WorkedLines

@@ -2,9 +2,11 @@
 use Rattle.std.specs.Prelude.{◌≡◌, ◌-◌, ◌^◌, true, [], ◌∷◌, ◌++◌, refl, codes, Ok, Err}
 use Rattle.ckpt_ids.specs.declared.call.Target.TheVariants as target
 use Rattle.ckpt_lines.specs.declared.fault.LineFault.TheVariants as fault
+use Rattle.ckpt_lines.specs.declared.keyword.Keyword.TheVariants as keyword
 use Rattle.ckpt_lines.specs.declared.line.Line.TheVariants.{Skip, Config, Job, Tick, Ack, Restore, Take}
 use Rattle.ckpt_lines.specs.Keywords.{keyword_of}
 use Rattle.ckpt_lines.specs.Reading.{reading, line_of, row, number_line, job_line, ack_line, restore_line, config_line, number_place, subtask_place, target_place, retention_place, file_places, each, ended}
+use Rattle.ckpt_lines.specs.Usual.{IsUsual}
 use Rattle.ckpt_lines.specs.Values.{number_of, part_of, subtask_of, target_of, file_word}
 
 -- spaces, and a carriage return
@@ -75,3 +77,8 @@ further_word = refl
 pub unknown : reading (codes "Tick 5") ≡ Err fault.Word
 unfolding reading line_of keyword_of
 unknown = refl
+
+-- the number may have spaces around it
+pub usual : IsUsual (codes "take   5 " ++ 13 ∷ [])
+unfolding number_place number_of
+usual = record { keyword = keyword.Take; rest = codes "  5 "; number = 5; short = refl; usual = refl; begins = refl; numbered = refl }

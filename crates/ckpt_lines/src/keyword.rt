@@ -1,8 +1,8 @@
 //! The first words of lines, and how to recognize them.
-ghost use Rattle.std.specs.Prelude.{◌≡◌, ◌∷◌};
+ghost use Rattle.std.specs.Prelude.{◌≡◌, true, IfNone};
 ghost use Rattle.std.specs.Option.{IfSome};
 ghost use Rattle.ckpt_lines.specs.Keywords.{keyword_of, spelling};
-ghost use Rattle.ckpt_lines.specs.Words.{words_of};
+ghost use Rattle.ckpt_lines.specs.Usual.{BeginsWith, BeginsWithNone, is_long, is_recognized};
 
 /// The first word of a line. It says which kind of line it is.
 #[derive(Clone, Copy, Debug, PartialEq, Eq)]
@@ -87,7 +87,9 @@ pub(crate) fn keyword_of(word: &[u8]) -> Option<Keyword>
 /// one, because a byte string can't be a pattern for the prefix of a slice.
 #[inline(always)]
 pub(crate) fn usual_keyword(text: &[u8]) -> Option<(Keyword, &[u8])>
-    ensures { IfSome result (λ found. words_of text.now ≡ spelling found.0 ∷ words_of found.1.now) }
+    ensures found { IfSome result (λ found. BeginsWith text.now found.0 found.1.now) }
+    ensures recognized { IfSome result (λ found. is_recognized found.0 ≡ true) }
+    ensures none { IfNone result (BeginsWithNone is_recognized text.now) }
 {
     match text {
         [b't', b'i', b'c', b'k', b' ', rest @ ..] => Some((Keyword::Tick, rest)),
@@ -109,7 +111,9 @@ pub(crate) fn usual_keyword(text: &[u8]) -> Option<(Keyword, &[u8])>
 /// The same as [`usual_keyword`] for the two longest ones, which it tries last: their bytes take a
 /// line each.
 fn long_keyword(text: &[u8]) -> Option<(Keyword, &[u8])>
-    ensures { IfSome result (λ found. words_of text.now ≡ spelling found.0 ∷ words_of found.1.now) }
+    ensures found { IfSome result (λ found. BeginsWith text.now found.0 found.1.now) }
+    ensures recognized { IfSome result (λ found. is_long found.0 ≡ true) }
+    ensures none { IfNone result (BeginsWithNone is_long text.now) }
 {
     match text {
         [

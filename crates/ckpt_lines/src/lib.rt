@@ -3,7 +3,8 @@
 //! [`parse_line`] reads one line, and returns a [`Line`] or the first [`LineFault`] from the left.
 //! `specs/Reading.antt` defines how a line is read, over the list of its words. [`Line::meaning`]
 //! returns the call of a line, or which other kind of line it is. `specs/Meanings.antt` defines
-//! that. [`usual_call`] returns the call of most lines without a [`Line`].
+//! that. [`usual_call`] returns the call of a usual line without a [`Line`], and `specs/Usual.antt`
+//! defines which lines are usual.
 #![tactic(auto)]
 
 mod fault;

@@ -7,30 +7,30 @@ use Rattle.ckpt_lines.specs.Reading.{row}
 use Rattle.ckpt_lines.proofs.UsualLemmas.{says_number}
 use Rattle.ckpt_lines.proofs.usual.number_call.Goals as goal
 
-pub returns-in-Tick : goal.returns-in-Tick
+pub returns-in-Tick-clause-call : goal.returns-in-Tick-clause-call
 unfolding row meaning
-returns-in-Tick c = λ words. says_number c.args.keyword line.Tick (call.Tick c.args.number) c.args.number words (rw c.in-Tick.is refl) refl
+returns-in-Tick-clause-call c = λ words. says_number c.args.keyword line.Tick (call.Tick c.args.number) c.args.number words (rw c.in-Tick.is refl) refl
 
-pub returns-in-Savepoint : goal.returns-in-Savepoint
+pub returns-in-Savepoint-clause-call : goal.returns-in-Savepoint-clause-call
 unfolding row meaning
-returns-in-Savepoint c = λ words. says_number c.args.keyword line.Savepoint (call.Savepoint c.args.number) c.args.number words (rw c.in-Savepoint.is refl) refl
+returns-in-Savepoint-clause-call c = λ words. says_number c.args.keyword line.Savepoint (call.Savepoint c.args.number) c.args.number words (rw c.in-Savepoint.is refl) refl
 
-pub returns-in-Dispose : goal.returns-in-Dispose
+pub returns-in-Dispose-clause-call : goal.returns-in-Dispose-clause-call
 unfolding row meaning
-returns-in-Dispose c = λ words. says_number c.args.keyword line.Dispose (call.Dispose c.args.number) c.args.number words (rw c.in-Dispose.is refl) refl
+returns-in-Dispose-clause-call c = λ words. says_number c.args.keyword line.Dispose (call.Dispose c.args.number) c.args.number words (rw c.in-Dispose.is refl) refl
 
-pub returns-in-Take : goal.returns-in-Take
+pub returns-in-Take-clause-call : goal.returns-in-Take-clause-call
 unfolding row meaning
-returns-in-Take c = λ words. says_number c.args.keyword line.Take (call.Take c.args.number) c.args.number words (rw c.in-Take.is refl) refl
+returns-in-Take-clause-call c = λ words. says_number c.args.keyword line.Take (call.Take c.args.number) c.args.number words (rw c.in-Take.is refl) refl
 
-pub returns-in-Deleted : goal.returns-in-Deleted
+pub returns-in-Deleted-clause-call : goal.returns-in-Deleted-clause-call
 unfolding row meaning
-returns-in-Deleted c = λ words. says_number c.args.keyword line.Deleted (call.Deleted c.args.number) c.args.number words (rw c.in-Deleted.is refl) refl
+returns-in-Deleted-clause-call c = λ words. says_number c.args.keyword line.Deleted (call.Deleted c.args.number) c.args.number words (rw c.in-Deleted.is refl) refl
 
-pub returns-in-Undeleted : goal.returns-in-Undeleted
+pub returns-in-Undeleted-clause-call : goal.returns-in-Undeleted-clause-call
 unfolding row meaning
-returns-in-Undeleted c = λ words. says_number c.args.keyword line.Undeleted (call.Undeleted c.args.number) c.args.number words (rw c.in-Undeleted.is refl) refl
+returns-in-Undeleted-clause-call c = λ words. says_number c.args.keyword line.Undeleted (call.Undeleted c.args.number) c.args.number words (rw c.in-Undeleted.is refl) refl
 
-pub returns-in-Count : goal.returns-in-Count
+pub returns-in-Count-clause-call : goal.returns-in-Count-clause-call
 unfolding row meaning
-returns-in-Count c = λ words. says_number c.args.keyword line.Count (call.Count c.args.number) c.args.number words (rw c.in-Count.is refl) refl
+returns-in-Count-clause-call c = λ words. says_number c.args.keyword line.Count (call.Count c.args.number) c.args.number words (rw c.in-Count.is refl) refl

@@ -1,21 +1,52 @@
 -- Answers the goals of `usual_call`.
-use Rattle.std.proofs.Common.{◌≡◌, ◌≤◌, ℕ, List, ◌∷◌, length, Ok, ap, ◌∙◌, sym, subst, rules, arith}
+use Rattle.std.proofs.Common.{◌≡◌, ◌≤◌, length, Ok, sym, subst, rules, arith}
 use Rattle.std.proofs.lemmas.Option.{IfSome_then}
+use Rattle.std.proofs.lemmas.Bool.Decides.{nat_tests}
+use Rattle.std.specs.Prelude.{false}
 use Rattle.std.specs.Str.Lines.{strip_carriage_return}
 use Rattle.ckpt_lines.specs.declared.limits.TheConstants.{LONGEST_LINE}
-use Rattle.ckpt_lines.specs.Keywords.{spelling}
 use Rattle.ckpt_lines.specs.Meanings.{SaysCall}
-use Rattle.ckpt_lines.specs.Reading.{ended, number_place, reading, row}
+use Rattle.ckpt_lines.specs.Reading.{ended, is_too_long, number_place, reading, row}
+use Rattle.ckpt_lines.specs.Usual.{BeginsWith}
 use Rattle.ckpt_lines.specs.Words.{words_of}
-use Rattle.ckpt_lines.proofs.UsualLemmas.{reads_row, none_left}
+use Rattle.ckpt_lines.proofs.UsualLemmas.{reads_row, one_number, usual_begin, usual_end}
 use Rattle.ckpt_lines.proofs.usual.usual_call.Goals as goal
 
-pub returns : goal.returns
-returns c =
-    let short : length c.args.line.now ≤ LONGEST_LINE = omega arith in
-    let begin : words_of (strip_carriage_return c.args.line.now) ≡ spelling c.in_ok-keyword.keyword ∷ c.usual_keyword.new.self = grind rules in
-    let placed : number_place c.usual_keyword.new.self ≡ Ok (c.in_ok-number.number, c.number.new.self) = grind rules in
+pub returns-in_err-ok-clause-usual : goal.returns-in_err-ok-clause-usual
+returns-in_err-ok-clause-usual c =
+    let begin : BeginsWith (strip_carriage_return c.args.line.now) c.in_ok-keyword.keyword c.in_ok-keyword.rest.now = search rules in
+    let placed : number_place (words_of c.in_ok-keyword.rest.now) ≡ Ok (c.in_ok-number.number, c.number.new.self) = grind rules in (
+      λ some. absurd (search rules),
+      λ usual.
+          let end : ended c.number.new.self ≡ Ok tt = usual_end c.args.line.now c.in_ok-keyword.keyword c.in_ok-keyword.rest.now c.in_ok-number.number c.number.new.self begin placed usual in
+          absurd (grind rules),
+    )
+
+pub returns-clause-usual : goal.returns-clause-usual
+returns-clause-usual c =
+    let begin : BeginsWith (strip_carriage_return c.args.line.now) c.in_ok-keyword.keyword c.in_ok-keyword.rest.now = search rules in
+    let placed : number_place (words_of c.in_ok-keyword.rest.now) ≡ Ok (c.in_ok-number.number, c.number.new.self) = grind rules in
     let end : ended c.number.new.self ≡ Ok tt = grind rules in
-    let read : reading c.args.line.now ≡ row c.in_ok-keyword.keyword c.usual_keyword.new.self = reads_row c.args.line.now c.in_ok-keyword.keyword c.usual_keyword.new.self short begin in
-    IfSome_then c.number_call.result c.number_call.ensures (λ call says.
-    subst (λ row. SaysCall row call) (sym read) (says c.usual_keyword.new.self (placed ∙ ap (λ (left : List (List ℕ)). Ok (c.in_ok-number.number, left)) (none_left c.number.new.self end))))
+    let short : is_too_long c.args.line.now ≡ false = grind (arith, nat_tests) in (
+      λ some.
+          record {
+            keyword = c.in_ok-keyword.keyword;
+            rest = c.in_ok-keyword.rest.now;
+            number = c.in_ok-number.number;
+            usual = c.number_call.ensures.usual.0 some;
+            short = short;
+            begins = begin;
+            numbered = one_number (words_of c.in_ok-keyword.rest.now) c.number.new.self c.in_ok-number.number placed end;
+          },
+      λ usual. c.number_call.ensures.usual.1 (usual_begin c.args.line.now c.in_ok-keyword.keyword c.in_ok-keyword.rest.now begin usual).0,
+    )
+
+pub returns-clause-call : goal.returns-clause-call
+returns-clause-call c =
+    let short : length c.args.line.now ≤ LONGEST_LINE = omega arith in
+    let begin : BeginsWith (strip_carriage_return c.args.line.now) c.in_ok-keyword.keyword c.in_ok-keyword.rest.now = search rules in
+    let placed : number_place (words_of c.in_ok-keyword.rest.now) ≡ Ok (c.in_ok-number.number, c.number.new.self) = grind rules in
+    let end : ended c.number.new.self ≡ Ok tt = grind rules in
+    let read : reading c.args.line.now ≡ row c.in_ok-keyword.keyword (words_of c.in_ok-keyword.rest.now) = reads_row c.args.line.now c.in_ok-keyword.keyword c.in_ok-keyword.rest.now short begin in
+    IfSome_then c.number_call.result c.number_call.ensures.call (λ call says.
+    subst (λ row. SaysCall row call) (sym read) (says (words_of c.in_ok-keyword.rest.now) (one_number (words_of c.in_ok-keyword.rest.now) c.number.new.self c.in_ok-number.number placed end)))

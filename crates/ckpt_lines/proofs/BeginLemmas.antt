@@ -1,0 +1,72 @@
+-- What a text with a keyword and a space at its start says.
+use Rattle.std.proofs.Common.{◌≡◌, ℕ, List, ◌∷◌, ◌++◌, Option, Some, None, ap, sym, ◌∙◌, refl}
+use Rattle.std.proofs.lemmas.List.{append_cancel_left}
+use Rattle.std.specs.Option.{IfNone}
+use Rattle.ckpt_lines.specs.declared.keyword.Keyword.{Keyword}
+use Rattle.ckpt_lines.specs.declared.keyword.Keyword.TheVariants.{Config, Job, Start, Tick, Savepoint, Ack, Decline, Dispose, Restore, Cancel, Take, Deleted, Undeleted, Show, Count, All}
+use Rattle.ckpt_lines.specs.Keywords.{keyword_of, spelling}
+use Rattle.ckpt_lines.specs.Usual.{BeginsWith, BeginsWithNone, is_long, is_recognized}
+use Rattle.ckpt_lines.specs.Words.{words_of}
+use Rattle.ckpt_lines.proofs.KeywordLemmas.{found}
+
+-- the keyword is the first word
+spelled : (first : Keyword) (rest : List ℕ) → words_of (spelling first ++ 32 ∷ rest) ≡ spelling first ∷ words_of rest
+spelled Config rest = refl
+spelled Job rest = refl
+spelled Start rest = refl
+spelled Tick rest = refl
+spelled Savepoint rest = refl
+spelled Ack rest = refl
+spelled Decline rest = refl
+spelled Dispose rest = refl
+spelled Restore rest = refl
+spelled Cancel rest = refl
+spelled Take rest = refl
+spelled Deleted rest = refl
+spelled Undeleted rest = refl
+spelled Show rest = refl
+spelled Count rest = refl
+spelled All rest = refl
+
+pub words_of-begin : (text : List ℕ) (first : Keyword) (rest : List ℕ) → BeginsWith text first rest → words_of text ≡ spelling first ∷ words_of rest
+words_of-begin text first rest begins = ap words_of begins ∙ spelled first rest
+
+-- two keywords have two spellings
+same_keyword : (first second : Keyword) → spelling first ≡ spelling second → first ≡ second
+same_keyword first second same =
+    let read : keyword_of (spelling first) ≡ Some second = ap keyword_of same ∙ (found second).0 in
+    cc ((found first).0)
+
+-- a text begins in one way at most
+pub begins_once : (text : List ℕ) (first second : Keyword) (rest others : List ℕ) → BeginsWith text first rest → BeginsWith text second others → (first ≡ second) × (rest ≡ others)
+begins_once text first second rest others begins again =
+    let words : spelling first ∷ words_of rest ≡ spelling second ∷ words_of others = sym (words_of-begin text first rest begins) ∙ words_of-begin text second others again in
+    let same : first ≡ second = same_keyword first second cc in
+    let left : spelling first ++ 32 ∷ rest ≡ spelling first ++ 32 ∷ others = sym begins ∙ again ∙ ap (λ one. spelling one ++ 32 ∷ others) (sym same) in
+    let after : 32 ∷ rest ≡ 32 ∷ others = append_cancel_left (spelling first) (32 ∷ rest) (32 ∷ others) left in
+    (same, cc)
+
+-- a text that begins with neither of these two begins with no long keyword
+pub no_long : (text : List ℕ) → ((rest : List ℕ) → BeginsWith text Savepoint rest → ⊥) → ((rest : List ℕ) → BeginsWith text Undeleted rest → ⊥) → BeginsWithNone is_long text
+no_long text savepoint undeleted Savepoint rest is begins = savepoint rest begins
+no_long text savepoint undeleted Undeleted rest is begins = undeleted rest begins
+no_long text savepoint undeleted _ rest is begins = absurd cc
+
+-- a text that begins with none of these six, and with none of the long ones if that was tried last, begins with no recognized keyword
+pub none_begins : {X : Type 0} (text : List ℕ) (result : Option X) → IfNone result (BeginsWithNone is_long text)
+    → ((rest : List ℕ) → BeginsWith text Tick rest → ⊥) → ((rest : List ℕ) → BeginsWith text Ack rest → ⊥) → ((rest : List ℕ) → BeginsWith text Take rest → ⊥)
+    → ((rest : List ℕ) → BeginsWith text Deleted rest → ⊥) → ((rest : List ℕ) → BeginsWith text Dispose rest → ⊥) → ((rest : List ℕ) → BeginsWith text Count rest → ⊥)
+    → IfNone result (BeginsWithNone is_recognized text)
+none_begins text (Some x) long tick ack take deleted dispose count = tt
+none_begins text None long tick ack take deleted dispose count = by
+  where
+    by : BeginsWithNone is_recognized text
+    by Tick rest is begins = tick rest begins
+    by Ack rest is begins = ack rest begins
+    by Take rest is begins = take rest begins
+    by Deleted rest is begins = deleted rest begins
+    by Dispose rest is begins = dispose rest begins
+    by Count rest is begins = count rest begins
+    by Savepoint rest is begins = long Savepoint rest refl begins
+    by Undeleted rest is begins = long Undeleted rest refl begins
+    by _ rest is begins = absurd cc

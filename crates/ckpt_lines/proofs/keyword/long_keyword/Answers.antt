@@ -1,0 +1,12 @@
+-- Answers the goals of `long_keyword`.
+use Rattle.std.proofs.Common.{ℕ, List, rules}
+use Rattle.ckpt_lines.specs.declared.keyword.Keyword.TheVariants.{Savepoint, Undeleted}
+use Rattle.ckpt_lines.specs.Usual.{BeginsWith}
+use Rattle.ckpt_lines.proofs.BeginLemmas.{no_long}
+use Rattle.ckpt_lines.proofs.keyword.long_keyword.Goals as goal
+
+pub returns-in_default-clause-none : goal.returns-in_default-clause-none
+returns-in_default-clause-none c =
+    let savepoint : (rest : List ℕ) → BeginsWith c.args.text.now Savepoint rest → ⊥ = λ rest begins. search rules in
+    let undeleted : (rest : List ℕ) → BeginsWith c.args.text.now Undeleted rest → ⊥ = λ rest begins. search rules in
+    no_long c.args.text.now savepoint undeleted
