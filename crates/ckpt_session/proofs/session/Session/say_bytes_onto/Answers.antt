@@ -10,10 +10,10 @@ use Rattle.ckpt_session.proofs.session.Session.say_bytes_onto.Goals as goal
 
 pub returns-in-Some-clause-scene : goal.returns-in-Some-clause-scene
 returns-in-Some-clause-scene g c =
-    let says = said_call c.args.number c.args.self.now (reading c.args.line.now) c.in-Some.call c.in-Some.ensures in
+    let says = said_call c.args.number c.args.self.now (reading c.args.line.now) c.in-Some.call c.in-Some.ensures.call in
     on_ok_weaker c.say_call.result (λ (made : c.say_call.new.self ≡ (called c.args.self.now c.args.self.now.core c.in-Some.call).0). made ∙ ap (λ (s : Said). s.0) (sym says)) c.say_call.ensures.scene
 
 pub returns-in-Some-clause-text : goal.returns-in-Some-clause-text
 returns-in-Some-clause-text g c =
-    let says = said_call c.args.number c.args.self.now (reading c.args.line.now) c.in-Some.call c.in-Some.ensures in
+    let says = said_call c.args.number c.args.self.now (reading c.args.line.now) c.in-Some.call c.in-Some.ensures.call in
     on_ok_weaker c.say_call.result (λ (made : string_bytes c.say_call.new.text ≡ string_bytes c.args.text.now ++ outcome_bytes (called c.args.self.now c.args.self.now.core c.in-Some.call).1). made ∙ ap (λ (s : Said). string_bytes c.args.text.now ++ s.1) (sym says)) c.say_call.ensures.text
