@@ -1,5 +1,4 @@
 -- The lemmas that the proofs use.
-pub mod Front
 pub mod Given
 pub mod Openings
 pub mod Words

@@ -25,10 +25,6 @@ WhereKnown-moves None rest xs ys P Q f p = tt
 WhereKnown-moves (Some x) (Some z) xs ys P Q f p = f x z p
 WhereKnown-moves (Some x) None xs ys P Q f p = absurd p
 
--- nothing of a line was read
-pub no_part : (bytes : List ℕ) → HoldsPart bytes bytes []
-no_part bytes = ([], record { one_line = refl; split = refl }, refl)
-
 no_newline-append : (xs ys : List ℕ) → has_newline xs ≡ false → has_newline ys ≡ false → has_newline (xs ++ ys) ≡ false
 no_newline-append xs ys p q = list_any-append (λ b. b == newline) xs ys ∙ or_from (has_newline xs) (has_newline ys) p q
 

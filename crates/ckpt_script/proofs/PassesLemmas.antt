@@ -56,10 +56,6 @@ passes_on before between after waiting middle left p q = record {
 
 -- on either side of a result
 
-pub on_err : {T E : Type 0} (r : Result T E) {P : Type 0} → P → OnErr r P
-on_err (Ok x) p = tt
-on_err (Err e) p = p
-
 pub on_err_map : {T E : Type 0} (r : Result T E) {P : E → Type 0} {Q : Type 0} → ((e : E) → P e → Q) → IfErr r P → OnErr r Q
 on_err_map (Ok x) f p = tt
 on_err_map (Err e) f p = f e p
