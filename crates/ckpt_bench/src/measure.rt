@@ -1,7 +1,7 @@
 //! How long a call through a lock or a mutex takes.
 use crate::arguments::{LockPlan, Way};
-use crate::book::opened;
 use crate::fault::BenchFault;
+use crate::opening::open;
 use crate::{through_lock, through_mutex};
 use std::alloc::Global;
 use std::io;
@@ -18,8 +18,7 @@ fn make<R: Threads + Wait + Sync>(
     alloc: Global,
     plan: &LockPlan,
 ) -> Result<u64, BenchFault> {
-    let mut book = opened(alloc)?;
-    book.keep_last(LAST);
+    let book = open(alloc, LAST)?;
     match plan.way {
         Way::Locked => through_lock::run(rt, alloc, book, plan.threads, plan.calls),
         Way::Mutex => through_mutex::run(rt, alloc, book, plan.threads, plan.calls),
