@@ -25,33 +25,24 @@ fn make<R: Threads + Wait + Sync>(
     }
 }
 
-/// Makes the calls, and returns their number and the nanoseconds of one.
-fn timed<R: Threads + Wait + Sync>(
-    rt: &R,
-    host: &HostRuntime,
-    plan: &LockPlan,
-) -> Result<(u64, u128), BenchFault> {
-    let Ok(begun) = Instant::now(host) else {
-        return Err(BenchFault::Clock);
-    };
-    let made = make(rt, host.alloc(), plan)?;
-    match begun.elapsed(host) {
-        Ok(taken) => Ok((made, taken.as_nanos() / u128::from(made.max(1)))),
-        Err(_) => Err(BenchFault::Clock),
-    }
-}
-
 fn tell(host: &HostRuntime, threads: u32, made: u64, each: u128) -> io::Result<()> {
     println!(host; "{threads} threads, {made} calls")?;
     eprintln!(host; "{each} ns a call")
 }
 
-/// Measures the calls of a plan, and prints the result.
+/// Measures the calls of a plan, and prints their number and the nanoseconds of one.
 pub(crate) fn measure<R: Threads + Wait + Sync>(
     rt: &R,
     host: &HostRuntime,
     plan: &LockPlan,
 ) -> Result<(), BenchFault> {
-    let (made, each) = timed(rt, host, plan)?;
+    let Ok(begun) = Instant::now(host) else {
+        return Err(BenchFault::Clock);
+    };
+    let made = make(rt, host.alloc(), plan)?;
+    let Ok(taken) = begun.elapsed(host) else {
+        return Err(BenchFault::Clock);
+    };
+    let each = taken.as_nanos() / u128::from(made.max(1));
     tell(host, plan.threads, made, each).or(Err(BenchFault::Output))
 }

@@ -4,21 +4,9 @@ use crate::fault::BenchFault;
 use crate::opening::open;
 use crate::replay::check;
 use crate::threads::{Task, run};
-use std::alloc::Global;
 use std::io;
 use std::sync::Wait;
 use std::thread::Threads;
-
-/// Runs the threads, and returns how many calls ran out of memory.
-fn returned<R: Threads + Wait + Sync>(
-    rt: &R,
-    alloc: Global,
-    plan: &StormPlan,
-) -> Result<u64, BenchFault> {
-    let book = open(alloc, plan.last.unwrap_or(u64::MAX))?;
-    let (book, mut told) = run(rt, alloc, book, plan.threads, Task::Storm(*plan))?;
-    check(alloc, plan, &book, told.as_mut_slice())
-}
 
 /// Prints how many calls were made, and what was checked of their answers.
 fn tell_checked(rt: &HostRuntime, plan: &StormPlan) -> io::Result<()> {
@@ -45,6 +33,9 @@ pub(crate) fn storm<R: Threads + Wait + Sync>(
     host: &HostRuntime,
     plan: &StormPlan,
 ) -> Result<(), BenchFault> {
-    let returned = returned(rt, host.alloc(), plan)?;
+    let alloc = host.alloc();
+    let book = open(alloc, plan.last.unwrap_or(u64::MAX))?;
+    let (book, mut told) = run(rt, alloc, book, plan.threads, Task::Storm(*plan))?;
+    let returned = check(alloc, plan, &book, told.as_mut_slice())?;
     tell(host, plan, returned).or(Err(BenchFault::Output))
 }
