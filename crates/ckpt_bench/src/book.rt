@@ -6,6 +6,8 @@ use ckpt_ids::{Call, FileId};
 use ckpt_locked::Book;
 
 /// Makes a call, and returns whether it was entered. A call that runs out of memory is not.
+// Compiled into its callers, so that what is measured is the book's call.
+#[inline(always)]
 pub(crate) fn is_entered(book: &mut Book, seat: u32, call: Call) -> bool {
     book.apply(seat, call).is_ok()
 }
