@@ -1,6 +1,7 @@
 //! The command line.
 use crate::fault::BenchFault;
 use std::env;
+use std::env::Args;
 
 /// Calls of all kinds through a lock. Each answer is compared with a replay.
 #[derive(Clone, Copy)]
@@ -44,17 +45,14 @@ pub(crate) enum Plan {
     Book(BookPlan),
 }
 
-/// The word at this place, or an empty one if the command line is not that long.
-fn word(words: &[String], place: usize) -> &str {
-    match words.get(place) {
-        Some(word) => word.as_str(),
-        None => "",
-    }
+/// The next word.
+fn word(words: &mut Args) -> Result<String, BenchFault> {
+    words.next().ok_or(BenchFault::Usage)
 }
 
-/// The number at this place, if the command line is that long.
-fn optional(words: &[String], place: usize) -> Result<Option<u64>, BenchFault> {
-    let Some(word) = words.get(place) else {
+/// The next number, if the command line is that long.
+fn optional(words: &mut Args) -> Result<Option<u64>, BenchFault> {
+    let Some(word) = words.next() else {
         return Ok(None);
     };
     match word.parse() {
@@ -63,64 +61,52 @@ fn optional(words: &[String], place: usize) -> Result<Option<u64>, BenchFault> {
     }
 }
 
-fn number(words: &[String], place: usize) -> Result<u64, BenchFault> {
-    optional(words, place)?.ok_or(BenchFault::Usage)
+fn number(words: &mut Args) -> Result<u64, BenchFault> {
+    optional(words)?.ok_or(BenchFault::Usage)
 }
 
-fn threads(words: &[String], place: usize) -> Result<u32, BenchFault> {
-    match u32::try_from(number(words, place)?) {
+fn threads(words: &mut Args) -> Result<u32, BenchFault> {
+    match u32::try_from(number(words)?) {
         Ok(threads) => Ok(threads),
         Err(_) => Err(BenchFault::Threads),
     }
 }
 
-fn storm_plan(words: &[String]) -> Result<StormPlan, BenchFault> {
+fn storm_plan(words: &mut Args) -> Result<StormPlan, BenchFault> {
     Ok(StormPlan {
-        threads: threads(words, 1)?,
-        calls: number(words, 2)?,
-        seed: number(words, 3)?,
-        last: optional(words, 4)?,
+        threads: threads(words)?,
+        calls: number(words)?,
+        seed: number(words)?,
+        last: optional(words)?,
     })
 }
 
-fn way_of(words: &[String]) -> Result<Way, BenchFault> {
-    match word(words, 1) {
+fn way_of(words: &mut Args) -> Result<Way, BenchFault> {
+    match word(words)?.as_str() {
         "locked" => Ok(Way::Locked),
         "mutex" => Ok(Way::Mutex),
         _ => Err(BenchFault::Usage),
     }
 }
 
-fn lock_plan(words: &[String]) -> Result<LockPlan, BenchFault> {
+fn lock_plan(words: &mut Args) -> Result<LockPlan, BenchFault> {
     Ok(LockPlan {
         way: way_of(words)?,
-        threads: threads(words, 2)?,
-        calls: number(words, 3)?,
+        threads: threads(words)?,
+        calls: number(words)?,
     })
 }
 
-fn book_plan(words: &[String]) -> Result<BookPlan, BenchFault> {
+fn book_plan(words: &mut Args) -> Result<BookPlan, BenchFault> {
     Ok(BookPlan {
-        calls: optional(words, 1)?.unwrap_or(1000),
-        last: optional(words, 2)?.unwrap_or(u64::MAX),
+        calls: optional(words)?.unwrap_or(1000),
+        last: optional(words)?.unwrap_or(u64::MAX),
     })
 }
 
-/// The arguments after the program's name.
-fn given_words(rt: &HostRuntime) -> Result<Vec<String>, BenchFault> {
-    let Ok(mut given) = env::args(rt) else {
-        return Err(BenchFault::Memory);
-    };
-    let _program = given.next();
-    let mut words = Vec::new(rt.alloc());
-    for word in given {
-        words.push(word).or(Err(BenchFault::Memory))?;
-    }
-    Ok(words)
-}
-
-fn plan_of(words: &[String]) -> Result<Plan, BenchFault> {
-    match word(words, 0) {
+/// The plan of this kind, whose numbers are the next words.
+fn plan_of(kind: &str, words: &mut Args) -> Result<Plan, BenchFault> {
+    match kind {
         "storm" => Ok(Plan::Storm(storm_plan(words)?)),
         "lock" => Ok(Plan::Lock(lock_plan(words)?)),
         "book" => Ok(Plan::Book(book_plan(words)?)),
@@ -129,6 +115,12 @@ fn plan_of(words: &[String]) -> Result<Plan, BenchFault> {
 }
 
 pub(crate) fn read_plan(rt: &HostRuntime) -> Result<Plan, BenchFault> {
-    let words = given_words(rt)?;
-    plan_of(words.as_slice())
+    let Ok(mut words) = env::args(rt) else {
+        return Err(BenchFault::Memory);
+    };
+    let _program = words.next();
+    match words.next() {
+        Some(kind) => plan_of(kind.as_str(), &mut words),
+        None => Err(BenchFault::Usage),
+    }
 }

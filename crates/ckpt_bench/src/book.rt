@@ -1,29 +1,22 @@
 //! The cost of a book's log of calls.
 use crate::arguments::BookPlan;
 use crate::fault::BenchFault;
-use ckpt_ids::{Call, Config, FileId, Shape};
+use crate::opening::open;
+use ckpt_ids::{Call, FileId};
 use ckpt_locked::Book;
-use std::alloc::Global;
 
-/// The book that is measured.
-pub(crate) fn opened(alloc: Global) -> Result<Book, BenchFault> {
-    let Ok(config) = Config::new(1000, 0, 1, 600_000, 0, 1, false) else {
-        return Err(BenchFault::Open);
-    };
-    let Ok(shape) = Shape::new(alloc, &[1]) else {
-        return Err(BenchFault::Memory);
-    };
-    match Book::new(alloc, config, shape, 0, 1) {
-        Ok(book) => Ok(book),
-        Err(_) => Err(BenchFault::Open),
-    }
+/// Makes a call, and returns whether it was entered. A call that runs out of memory is not.
+// Compiled into its callers, so that what is measured is the book's call.
+#[inline(always)]
+pub(crate) fn is_entered(book: &mut Book, seat: u32, call: Call) -> bool {
+    book.apply(seat, call).is_ok()
 }
 
 /// Makes this many calls through the book.
 fn count_files(book: &mut Book, calls: u64) -> Result<(), BenchFault> {
     for number in 0..calls {
         let file = FileId(number);
-        if book.apply(0, Call::Count { file }).is_err() {
+        if !is_entered(book, 0, Call::Count { file }) {
             return Err(BenchFault::Full { calls: book.len() });
         }
     }
@@ -32,8 +25,7 @@ fn count_files(book: &mut Book, calls: u64) -> Result<(), BenchFault> {
 
 /// Makes the calls of a plan, and prints how many entries there are.
 pub(crate) fn fill(rt: &HostRuntime, plan: &BookPlan) -> Result<(), BenchFault> {
-    let mut book = opened(rt.alloc())?;
-    book.keep_last(plan.last);
+    let mut book = open(rt.alloc(), plan.last)?;
     count_files(&mut book, plan.calls)?;
     let (entries, held) = (book.len(), book.held());
     match println!(rt; "{entries} calls, {held} in memory") {

@@ -1,13 +1,11 @@
 //! How a thread of a storm chooses its calls.
+use crate::opening::PARALLELISM;
 use crate::random::Random;
 use ckpt_ids::{
     Answer, Call, CheckpointId, FileId, Files, Handed, Refusal, Reply, Shape, SubtaskId, Target,
     TickEnd,
 };
 use std::alloc::{AllocError, Global};
-
-/// The parallelism of the job's one vertex.
-pub(crate) const PARALLELISM: u64 = 4;
 
 /// The most files that one call fetches.
 const MOST_TAKEN: u64 = 4;
@@ -74,17 +72,22 @@ pub(crate) struct Caller {
 }
 
 impl Caller {
-    pub(crate) fn new(alloc: Global, seed: u64, seat: u32) -> Result<Caller, AllocError> {
+    pub(crate) fn new(alloc: Global, seed: u64, seat: u32) -> Caller {
         let own = u64::from(seat).wrapping_mul(0x2545_f491_4f6c_dd1d);
-        Ok(Caller {
+        Caller {
             alloc,
             random: Random::new(seed ^ own),
             seat,
             now: 0,
             newest: 0,
             written: 0,
-            fetched: Vec::with_capacity(alloc, MOST_FETCHED)?,
-        })
+            fetched: Vec::new(alloc),
+        }
+    }
+
+    /// Makes room for the files that it fetches.
+    pub(crate) fn make_room(&mut self) -> Result<(), AllocError> {
+        self.fetched.reserve(MOST_FETCHED)
     }
 
     /// The greatest number of a record in its answers.

@@ -29,47 +29,64 @@ pub(crate) enum BenchFault {
     Open,
 }
 
+/// A number in a message, and the text after it.
+type Numbered = (u64, &'static str);
+
 impl BenchFault {
     /// Prints the fault on standard error. If that fails too, only the status says so.
     pub(crate) fn tell(self, rt: &HostRuntime) {
+        let text = self.text();
+        let (first, second) = self.numbers();
+        let _ = eprint!(rt; "ckpt_bench: {text}");
+        tell_number(rt, first);
+        tell_number(rt, second);
+        let _ = eprintln!(rt;);
+    }
+
+    /// The text before the first number.
+    fn text(self) -> &'static str {
         match self {
-            BenchFault::Usage => line(rt, &[], USAGE),
-            BenchFault::Threads => line(rt, &[], "a lock has 1 to 64 threads"),
-            BenchFault::Memory => line(rt, &[], "out of memory"),
-            BenchFault::Output => line(rt, &[], "nothing can be printed"),
-            BenchFault::Clock => line(rt, &[], "the clock can't be read"),
-            BenchFault::Open => line(rt, &[], "the lock does not close"),
-            BenchFault::Full { calls } => line(rt, &[("no memory after ", calls)], " calls"),
-            BenchFault::Entries { entries } => {
-                line(rt, &[("the book has ", entries)], " entries");
-            }
-            BenchFault::Unread { place } => line(rt, &[("entry ", place)], " can't be read"),
-            BenchFault::Rule { seat, place } => {
-                let numbers = [
-                    ("the answer to call ", place),
-                    (" of seat ", u64::from(seat)),
-                ];
-                line(rt, &numbers, " breaks a rule");
-            }
-            BenchFault::Calls { seat, calls } => {
-                let numbers = [("the pass of seat ", u64::from(seat)), (" counts ", calls)];
-                line(rt, &numbers, " calls");
-            }
-            BenchFault::Answer { seat, place } => {
-                let numbers = [("entry ", place), (", of seat ", u64::from(seat))];
-                line(rt, &numbers, ", is answered otherwise in the replay");
-            }
+            BenchFault::Usage => USAGE,
+            BenchFault::Threads => "a lock has 1 to 64 threads",
+            BenchFault::Memory => "out of memory",
+            BenchFault::Output => "nothing can be printed",
+            BenchFault::Clock => "the clock can't be read",
+            BenchFault::Open => "the lock does not close",
+            BenchFault::Full { .. } => "no memory after ",
+            BenchFault::Rule { .. } => "the answer to call ",
+            BenchFault::Calls { .. } => "the pass of seat ",
+            BenchFault::Entries { .. } => "the book has ",
+            BenchFault::Answer { .. } | BenchFault::Unread { .. } => "entry ",
+        }
+    }
+
+    /// The numbers of the message.
+    fn numbers(self) -> (Option<Numbered>, Option<Numbered>) {
+        match self {
+            BenchFault::Full { calls } => (Some((calls, " calls")), None),
+            BenchFault::Entries { entries } => (Some((entries, " entries")), None),
+            BenchFault::Unread { place } => (Some((place, " can't be read")), None),
+            BenchFault::Rule { seat, place } => (
+                Some((place, " of seat ")),
+                Some((u64::from(seat), " breaks a rule")),
+            ),
+            BenchFault::Calls { seat, calls } => (
+                Some((u64::from(seat), " counts ")),
+                Some((calls, " calls")),
+            ),
+            BenchFault::Answer { seat, place } => (
+                Some((place, ", of seat ")),
+                Some((u64::from(seat), ", is answered otherwise in the replay")),
+            ),
+            _ => (None, None),
         }
     }
 }
 
-/// Prints a line: texts, each with a number after it, and the end.
-fn line(rt: &HostRuntime, numbers: &[(&str, u64)], end: &str) {
-    let _ = eprint!(rt; "ckpt_bench: ");
-    for (text, number) in numbers {
-        let _ = eprint!(rt; "{text}{number}");
+fn tell_number(rt: &HostRuntime, numbered: Option<Numbered>) {
+    if let Some((number, text)) = numbered {
+        let _ = eprint!(rt; "{number}{text}");
     }
-    let _ = eprintln!(rt; "{end}");
 }
 
 impl From<LockFault> for BenchFault {

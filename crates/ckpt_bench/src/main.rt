@@ -23,6 +23,7 @@ mod book;
 mod caller;
 mod fault;
 mod measure;
+mod opening;
 mod random;
 mod replay;
 mod storm;

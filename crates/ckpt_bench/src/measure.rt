@@ -1,7 +1,7 @@
 //! How long a call through a lock or a mutex takes.
 use crate::arguments::{LockPlan, Way};
-use crate::book::opened;
 use crate::fault::BenchFault;
+use crate::opening::open;
 use crate::{through_lock, through_mutex};
 use std::alloc::Global;
 use std::io;
@@ -18,27 +18,10 @@ fn make<R: Threads + Wait + Sync>(
     alloc: Global,
     plan: &LockPlan,
 ) -> Result<u64, BenchFault> {
-    let mut book = opened(alloc)?;
-    book.keep_last(LAST);
+    let book = open(alloc, LAST)?;
     match plan.way {
         Way::Locked => through_lock::run(rt, alloc, book, plan.threads, plan.calls),
         Way::Mutex => through_mutex::run(rt, alloc, book, plan.threads, plan.calls),
-    }
-}
-
-/// Makes the calls, and returns their number and the nanoseconds of one.
-fn timed<R: Threads + Wait + Sync>(
-    rt: &R,
-    host: &HostRuntime,
-    plan: &LockPlan,
-) -> Result<(u64, u128), BenchFault> {
-    let Ok(begun) = Instant::now(host) else {
-        return Err(BenchFault::Clock);
-    };
-    let made = make(rt, host.alloc(), plan)?;
-    match begun.elapsed(host) {
-        Ok(taken) => Ok((made, taken.as_nanos() / u128::from(made.max(1)))),
-        Err(_) => Err(BenchFault::Clock),
     }
 }
 
@@ -47,12 +30,19 @@ fn tell(host: &HostRuntime, threads: u32, made: u64, each: u128) -> io::Result<(
     eprintln!(host; "{each} ns a call")
 }
 
-/// Measures the calls of a plan, and prints the result.
+/// Measures the calls of a plan, and prints their number and the nanoseconds of one.
 pub(crate) fn measure<R: Threads + Wait + Sync>(
     rt: &R,
     host: &HostRuntime,
     plan: &LockPlan,
 ) -> Result<(), BenchFault> {
-    let (made, each) = timed(rt, host, plan)?;
+    let Ok(begun) = Instant::now(host) else {
+        return Err(BenchFault::Clock);
+    };
+    let made = make(rt, host.alloc(), plan)?;
+    let Ok(taken) = begun.elapsed(host) else {
+        return Err(BenchFault::Clock);
+    };
+    let each = taken.as_nanos() / u128::from(made.max(1));
     tell(host, plan.threads, made, each).or(Err(BenchFault::Output))
 }

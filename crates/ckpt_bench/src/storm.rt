@@ -1,34 +1,26 @@
 //! A storm of calls through a lock.
 use crate::arguments::StormPlan;
 use crate::fault::BenchFault;
-use crate::replay::{check, open};
+use crate::opening::open;
+use crate::replay::check;
 use crate::threads::{Task, run};
-use std::alloc::Global;
 use std::io;
 use std::sync::Wait;
 use std::thread::Threads;
 
-/// Runs the threads, and returns how many calls ran out of memory.
-fn returned<R: Threads + Wait + Sync>(
-    rt: &R,
-    alloc: Global,
-    plan: &StormPlan,
-) -> Result<u64, BenchFault> {
-    let mut book = open(alloc)?;
-    if let Some(last) = plan.last {
-        book.keep_last(last);
+/// Prints how many calls were made, and what was checked of their answers.
+fn tell_checked(rt: &HostRuntime, plan: &StormPlan) -> io::Result<()> {
+    let threads = plan.threads;
+    let calls = u64::from(threads).saturating_mul(plan.calls);
+    print!(rt; "{threads} threads, {calls} calls")?;
+    match plan.last {
+        None => print!(rt; ", each answered as its replay"),
+        Some(last) => print!(rt; ", the last {last} kept, each answered by the rules"),
     }
-    let (book, told) = run(rt, alloc, book, plan.threads, Task::Storm(*plan))?;
-    check(alloc, plan, &book, told.as_slice())
 }
 
 fn tell(rt: &HostRuntime, plan: &StormPlan, returned: u64) -> io::Result<()> {
-    let calls = u64::from(plan.threads).saturating_mul(plan.calls);
-    print!(rt; "{} threads, {calls} calls", plan.threads)?;
-    match plan.last {
-        None => print!(rt; ", each answered as its replay")?,
-        Some(last) => print!(rt; ", the last {last} kept, each answered by the rules")?,
-    }
+    tell_checked(rt, plan)?;
     if returned > 0 {
         print!(rt; "; {returned} found no memory and were made again")?;
     }
@@ -41,6 +33,9 @@ pub(crate) fn storm<R: Threads + Wait + Sync>(
     host: &HostRuntime,
     plan: &StormPlan,
 ) -> Result<(), BenchFault> {
-    let returned = returned(rt, host.alloc(), plan)?;
+    let alloc = host.alloc();
+    let book = open(alloc, plan.last.unwrap_or(u64::MAX))?;
+    let (book, mut told) = run(rt, alloc, book, plan.threads, Task::Storm(*plan))?;
+    let returned = check(alloc, plan, &book, told.as_mut_slice())?;
     tell(host, plan, returned).or(Err(BenchFault::Output))
 }

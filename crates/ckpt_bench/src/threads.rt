@@ -28,17 +28,17 @@ pub(crate) struct Ground {
     task: Task,
 }
 
-impl Work<Result<Told, AllocError>> for Ground {
+impl Work<Told> for Ground {
     ghost lock = { λ g. g.lock };
 
     /// Makes the calls of a thread, and returns its report.
-    fn work<R: Wait>(&self, rt: &R, pass: Pass) -> (Pass, Result<Told, AllocError>) {
+    fn work<R: Wait>(&self, rt: &R, pass: Pass) -> (Pass, Told) {
         match self.task {
             Task::Storm(plan) => work(rt, self.alloc, &self.lock, &self.board, plan, pass),
             Task::Measure { calls } => {
                 let pass = make(rt, &self.lock, pass, calls);
                 let told = Told::of(self.alloc, &pass);
-                (pass, Ok(told))
+                (pass, told)
             }
         }
     }
@@ -76,39 +76,23 @@ fn in_threads<R: Threads + Wait + Sync>(
 ) -> Result<(Book, Vec<Told>), BenchFault>
     requires { All (λ p. p.lock ≡ ground.lock) passes.items }
 {
-    let alloc = ground.alloc;
-    let reports = scatter(rt, &ground, passes)?;
-    let mut told = Vec::with_capacity(alloc, reports.len())?;
-    let passes = part(alloc, reports, &mut told)?;
+    let reports = work_on_each(rt, &ground, passes)?;
+    let (passes, told) = part(ground.alloc, reports)?;
     match ground.lock.close(rt, passes) {
         Ok(book) => Ok((book, told)),
         Err(_) => Err(BenchFault::Open),
     }
 }
 
-/// A pass after its thread's calls, and the thread's report.
-type Report = (Pass, Result<Told, AllocError>);
-
-/// Does the task with each pass in a thread of its own.
-fn scatter<R: Threads + Wait + Sync>(
-    rt: &R,
-    ground: &Ground,
-    passes: Vec<Pass>,
-) -> Result<Vec<Report>, AllocError>
-    requires { All (λ p. p.lock ≡ ground.now.lock) passes.items }
-    ensures { IfOk result (λ reports. All (λ r. r.0.lock ≡ ground.now.lock) reports.items) }
+/// Separates the passes from the threads' reports.
+fn part(alloc: Global, reports: Vec<(Pass, Told)>) -> Result<(Vec<Pass>, Vec<Told>), AllocError>
+    ensures { IfOk result (λ parts. map (λ r. r.0) reports.items ≡ parts.0.items) }
 {
-    work_on_each(rt, ground, passes)
-}
-
-/// Separates the passes from the other results.
-fn part(alloc: Global, reports: Vec<Report>, told: &mut Vec<Told>) -> Result<Vec<Pass>, AllocError>
-    ensures { IfOk result (λ passes. map (λ r. r.0) reports.items ≡ passes.items) }
-{
-    let mut passes = Vec::with_capacity(alloc, reports.len())?;
+    let mut passes = Vec::new(alloc);
+    let mut told = Vec::new(alloc);
     for report in reports {
         passes.push(report.0)?;
-        told.push(report.1?)?;
+        told.push(report.1)?;
     }
-    Ok(passes)
+    Ok((passes, told))
 }

@@ -3,6 +3,7 @@ ghost use Rattle.std.specs.Prelude.{◌≡◌};
 
 use crate::fault::BenchFault;
 use crate::threads::{Task, run as run_threads};
+use crate::worker::insist;
 use ckpt_ids::{Call, FileId};
 use ckpt_locked::{Book, Locked, Pass};
 use std::alloc::Global;
@@ -20,25 +21,16 @@ pub(crate) fn call_at(place: u64) -> Call {
     }
 }
 
-/// Makes a call with the pass, and returns the pass.
-fn ask<R: Wait>(rt: &R, lock: &Locked, pass: Pass, call: Call) -> Pass
-    requires { pass.lock ≡ lock.now }
-    ensures { result.lock ≡ lock.now }
-{
-    match lock.call(rt, pass, call) {
-        Ok((pass, _)) => pass,
-        Err((pass, _)) => pass,
-    }
-}
-
-/// Makes this many calls with the pass, in order.
+/// Makes this many calls with the pass, in order. One that runs out of memory is made again.
 pub(crate) fn make<R: Wait>(rt: &R, lock: &Locked, pass: Pass, calls: u64) -> Pass
     requires { pass.lock ≡ lock.now }
     ensures { result.lock ≡ lock.now }
 {
     let mut pass = pass;
+    let mut returned: u64 = 0;
     for place in 0..calls {
-        pass = ask(rt, lock, pass, call_at(place));
+        let (next, _answer) = insist(rt, lock, pass, call_at(place), &mut returned);
+        pass = next;
     }
     pass
 }
@@ -52,10 +44,6 @@ pub(crate) fn run<R: Threads + Wait + Sync>(
     threads: u32,
     calls: u64,
 ) -> Result<u64, BenchFault> {
-    let (_book, told) = run_threads(rt, alloc, book, threads, Task::Measure { calls })?;
-    let mut made: u64 = 0;
-    for told in &told {
-        made = made.saturating_add(told.calls);
-    }
-    Ok(made)
+    let (book, _told) = run_threads(rt, alloc, book, threads, Task::Measure { calls })?;
+    Ok(book.len())
 }

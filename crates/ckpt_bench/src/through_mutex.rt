@@ -1,16 +1,12 @@
 //! Calls through a mutex around a book, to compare with a lock.
+use crate::book::is_entered;
 use crate::fault::BenchFault;
 use crate::through_lock::call_at;
 use ckpt_locked::Book;
-use std::alloc::{AllocError, Global};
+use std::alloc::Global;
 use std::sync::{Mutex, Wait};
 use std::thread;
 use std::thread::Threads;
-
-/// The work of a thread, for each seat.
-trait Work {
-    fn work<R: Wait>(&self, rt: &R, seat: usize);
-}
 
 /// A mutex around the book, and how many calls each thread makes through it.
 #[derive(Drop)]
@@ -19,12 +15,13 @@ struct Desk {
     calls: u64,
 }
 
-impl Work for Desk {
+impl Desk {
+    /// The work of a thread.
     fn work<R: Wait>(&self, rt: &R, seat: usize) {
         let seat = (seat % 64) as u32;
         for place in 0..self.calls {
-            // A call that runs out of memory is not entered, so it is not counted.
-            let _ = self.mutex.lock(rt).apply(seat, call_at(place));
+            // A call that is not entered is not counted.
+            let _ = is_entered(&mut self.mutex.lock(rt), seat, call_at(place));
         }
     }
 }
@@ -42,17 +39,6 @@ pub(crate) fn run<R: Threads + Wait + Sync>(
         mutex: Mutex::new(book),
         calls,
     };
-    work_on_all(rt, alloc, &desk, threads as usize)?;
+    thread::map_indices(rt, alloc, threads as usize, &|seat| { desk.work(rt, seat) })?;
     Ok(desk.mutex.lock(rt).len())
-}
-
-/// Does the work for each seat in a thread of its own.
-fn work_on_all<R: Threads + Wait + Sync, W: Work + Sync>(
-    rt: &R,
-    alloc: Global,
-    desk: &W,
-    seats: usize,
-) -> Result<(), AllocError> {
-    thread::map_indices(rt, alloc, seats, &|seat| { desk.work(rt, seat) })?;
-    Ok(())
 }

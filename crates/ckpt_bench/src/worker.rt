@@ -6,7 +6,7 @@ use crate::caller::{Asked, Caller, Expected};
 use crate::fault::BenchFault;
 use ckpt_ids::{Answer, Call};
 use ckpt_locked::{Locked, Pass};
-use std::alloc::{AllocError, Global};
+use std::alloc::Global;
 use std::sync::Wait;
 use std::sync::atomic::{AtomicU64, Ordering};
 
@@ -25,6 +25,13 @@ impl Board {
             newest: AtomicU64::new(0),
         }
     }
+
+    /// Raises the number to the greatest of a thread.
+    fn rise(&self, newest: u64) {
+        if newest > self.newest.load(Ordering::SeqCst) {
+            self.newest.fetch_max(newest, Ordering::SeqCst);
+        }
+    }
 }
 
 /// The report of a thread.
@@ -34,7 +41,9 @@ pub(crate) struct Told {
     /// How many calls its pass has counted.
     pub(crate) calls: u64,
     /// The answers in order, if they are kept.
-    pub(crate) answers: Vec<Answer>,
+    answers: Vec<Answer>,
+    /// How many of the answers were compared.
+    compared: usize,
     /// How many calls ran out of memory.
     pub(crate) returned: u64,
     /// The fault, if the thread ended early.
@@ -42,14 +51,25 @@ pub(crate) struct Told {
 }
 
 impl Told {
-    /// The report on calls whose answers are not kept.
+    /// The report before any answer is kept.
     pub(crate) fn of(alloc: Global, pass: &Pass) -> Told {
         Told {
             seat: pass.seat(),
             calls: pass.calls(),
             answers: Vec::new(alloc),
+            compared: 0,
             returned: 0,
             fault: None,
+        }
+    }
+
+    /// Whether this is the next of the answers.
+    pub(crate) fn has_next(&mut self, expected: &Answer) -> bool {
+        let place = self.compared;
+        self.compared = place.saturating_add(1);
+        match self.answers.get(place) {
+            Some(answer) => answer == expected,
+            None => false,
         }
     }
 }
@@ -63,25 +83,21 @@ struct Worker {
 }
 
 impl Worker {
-    fn new(alloc: Global, plan: StormPlan, seat: u32) -> Result<Worker, AllocError> {
+    /// A thread with room for its answers. If there is no memory for it, the thread has a fault.
+    fn new(alloc: Global, plan: StormPlan, pass: &Pass) -> Worker {
         let room = match plan.last {
             None => plan.calls as usize,
             Some(_) => 0,
         };
-        Ok(Worker {
-            caller: Caller::new(alloc, plan.seed, seat)?,
-            told: Told {
-                seat,
-                calls: 0,
-                answers: Vec::with_capacity(alloc, room)?,
-                returned: 0,
-                fault: None,
-            },
-            plan,
-        })
+        let mut caller = Caller::new(alloc, plan.seed, pass.seat());
+        let mut told = Told::of(alloc, pass);
+        if caller.make_room().is_err() || told.answers.reserve(room).is_err() {
+            told.fault = Some(BenchFault::Memory);
+        }
+        Worker { caller, told, plan }
     }
 
-    /// Makes the call of this place, and returns a fault if there is one.
+    /// Makes the call of this place.
     fn step<R: Wait>(
         &mut self,
         rt: &R,
@@ -89,20 +105,21 @@ impl Worker {
         board: &Board,
         pass: Pass,
         place: u64,
-    ) -> (Pass, Result<(), BenchFault>)
+    ) -> Pass
         requires { pass.lock ≡ lock.now }
-        ensures { result.0.lock ≡ lock.now }
+        ensures { result.lock ≡ lock.now }
     {
         let Some(Asked { call, expected }) = self.ask(board, place) else {
-            return (pass, Err(BenchFault::Memory));
+            self.told.fault = Some(BenchFault::Memory);
+            return pass;
         };
         let (pass, answer) = insist(rt, lock, pass, call, &mut self.told.returned);
         self.told.calls = pass.calls();
-        let done = match answer {
+        self.told.fault = match answer {
             Some(answer) => self.hear(board, place, expected, answer),
-            None => Err(BenchFault::Memory),
+            None => Some(BenchFault::Memory),
         };
-        (pass, done)
+        pass
     }
 
     /// The call of this place. The last one of seat 0 ends the job.
@@ -119,36 +136,46 @@ impl Worker {
         None
     }
 
-    /// Keeps the answer to the call of this place.
+    /// Keeps the answer to the call of this place, and returns a fault if there is one.
     fn hear(
         &mut self,
         board: &Board,
         place: u64,
         expected: Expected,
         answer: Answer,
-    ) -> Result<(), BenchFault> {
+    ) -> Option<BenchFault> {
+        let fault = self.judge(board, place, expected, &answer);
+        if self.plan.last.is_some() {
+            return fault;
+        }
+        match self.told.answers.push(answer) {
+            Ok(()) => fault,
+            Err(_) => Some(BenchFault::Memory),
+        }
+    }
+
+    /// Compares an answer with what the thread knows, and returns a fault if there is one.
+    fn judge(
+        &mut self,
+        board: &Board,
+        place: u64,
+        expected: Expected,
+        answer: &Answer,
+    ) -> Option<BenchFault> {
         let (seat, calls) = (self.told.seat, self.told.calls);
-        let before = self.caller.newest();
-        if !self.caller.learn(&answer) || !expected.is_met(&answer) {
-            return Err(BenchFault::Rule { seat, place });
+        if !self.caller.learn(answer) || !expected.is_met(answer) {
+            return Some(BenchFault::Rule { seat, place });
         }
         if calls != place.wrapping_add(1) {
-            return Err(BenchFault::Calls { seat, calls });
+            return Some(BenchFault::Calls { seat, calls });
         }
-        if self.caller.newest() > before {
-            board
-                .newest
-                .fetch_max(self.caller.newest(), Ordering::SeqCst);
-        }
-        if self.plan.last.is_none() {
-            self.told.answers.push(answer).or(Err(BenchFault::Memory))?;
-        }
-        Ok(())
+        board.rise(self.caller.newest());
+        None
     }
 }
 
 /// Makes a call, again and again while it runs out of memory, and counts how often it did.
-fn insist<R: Wait>(
+pub(crate) fn insist<R: Wait>(
     rt: &R,
     lock: &Locked,
     pass: Pass,
@@ -181,21 +208,17 @@ pub(crate) fn work<R: Wait>(
     board: &Board,
     plan: StormPlan,
     pass: Pass,
-) -> (Pass, Result<Told, AllocError>)
+) -> (Pass, Told)
     requires { pass.lock ≡ lock.now }
     ensures { result.0.lock ≡ lock.now }
 {
-    let Ok(mut worker) = Worker::new(alloc, plan, pass.seat()) else {
-        return (pass, Err(AllocError));
-    };
+    let mut worker = Worker::new(alloc, plan, &pass);
     let mut pass = pass;
     for place in 0..plan.calls {
-        let (next, done) = worker.step(rt, lock, board, pass, place);
-        pass = next;
-        if let Err(fault) = done {
-            worker.told.fault = Some(fault);
+        if worker.told.fault.is_some() {
             break;
         }
+        pass = worker.step(rt, lock, board, pass, place);
     }
-    (pass, Ok(worker.told))
+    (pass, worker.told)
 }

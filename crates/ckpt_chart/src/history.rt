@@ -1,6 +1,6 @@
 //! The history of a job, in the order of its events. Moments are milliseconds.
 use crate::player::Subject;
-use crate::records::{Cause, acknowledge, close, find};
+use crate::records::{Cause, acknowledge, close};
 use ckpt_core::Core;
 use ckpt_ids::{Answer, CheckpointId, Choice, Kind, Reply, TickEnd};
 use ckpt_session::{AllEnd, Outcome};
@@ -73,6 +73,7 @@ pub(crate) struct Sample {
 #[derive(Drop)]
 pub(crate) struct History {
     alloc: Global,
+    is_begun: bool,
     pub(crate) start: u64,
     /// The greatest moment that the coordinator has seen.
     pub(crate) now: u64,
@@ -86,6 +87,23 @@ pub(crate) struct History {
 }
 
 impl Record {
+    /// This many acknowledgements were accepted. If `completes`, the last of them completed it.
+    pub(crate) fn acknowledge(
+        &mut self,
+        now: u64,
+        count: u64,
+        completes: bool,
+    ) -> Result<(), AllocError> {
+        for _ in 0..count {
+            self.acks.push(now)?;
+        }
+        if completes {
+            self.completed = Some(now);
+            self.ending = Ending::Retained;
+        }
+        Ok(())
+    }
+
     /// The moment from which the row of the record is free.
     pub(crate) fn last(&self, end: u64) -> u64 {
         let mut last = self.ended.unwrap_or(end);
@@ -97,12 +115,13 @@ impl Record {
 }
 
 impl History {
-    /// A job that starts at this moment.
-    pub(crate) fn begun(alloc: Global, now: u64) -> History {
+    /// The history of a job that has not started.
+    pub(crate) fn new(alloc: Global) -> History {
         History {
             alloc,
-            start: now,
-            now,
+            is_begun: false,
+            start: 0,
+            now: 0,
             accepted: 0,
             refused: 0,
             records: Vec::new(alloc),
@@ -111,23 +130,23 @@ impl History {
         }
     }
 
-    /// Keeps the outcome of a line. Leaves out lines that the script itself refused.
+    /// Whether the job has started.
+    pub(crate) fn is_begun(&self) -> bool {
+        self.is_begun
+    }
+
+    /// Keeps the outcome of a line of a job that has started. Leaves out lines that the script
+    /// itself refused.
     pub(crate) fn keep(
         &mut self,
         core: &Core,
         subject: Subject,
         outcome: Outcome,
     ) -> Result<(), AllocError> {
+        self.begin_at(subject.now);
         match outcome {
-            Outcome::Silent | Outcome::Refused(_) => return Ok(()),
-            Outcome::Answered(Answer::Refused(_)) => {
-                self.tally(subject.now, 0, 1);
-                return Ok(());
-            }
-            Outcome::Answered(Answer::Done(reply)) => {
-                self.tally(subject.now, 1, 0);
-                self.take_in(core, subject.id, &reply)?;
-            }
+            Outcome::Silent | Outcome::Refused(_) => Ok(()),
+            Outcome::Answered(answer) => self.answered(core, subject, &answer),
             Outcome::Acknowledged {
                 accepted,
                 refused,
@@ -135,9 +154,38 @@ impl History {
             } => {
                 self.tally(subject.now, accepted, refused);
                 self.acknowledged(core, subject.id, accepted, completion(end))?;
+                self.sample(core)
             }
         }
-        self.sample(core)
+    }
+
+    /// The first line that is kept is the accepted `start`.
+    fn begin_at(&mut self, now: u64) {
+        if !self.is_begun {
+            self.is_begun = true;
+            self.start = now;
+            self.now = now;
+        }
+    }
+
+    /// Keeps the answer to a call.
+    fn answered(
+        &mut self,
+        core: &Core,
+        subject: Subject,
+        answer: &Answer,
+    ) -> Result<(), AllocError> {
+        match answer {
+            Answer::Refused(_) => {
+                self.tally(subject.now, 0, 1);
+                Ok(())
+            }
+            Answer::Done(reply) => {
+                self.tally(subject.now, 1, 0);
+                self.take_in(core, subject.id, reply)?;
+                self.sample(core)
+            }
+        }
     }
 
     /// Counts an answered call of this moment, which is 0 if the call has none.
@@ -224,14 +272,8 @@ impl History {
         count: u64,
         completed: Option<u32>,
     ) -> Result<(), AllocError> {
-        let now = self.now;
-        if let Some(record) = find(&mut self.records, id) {
-            acknowledge(record, now, count)?;
-            if completed.is_some() {
-                record.completed = Some(now);
-                record.ending = Ending::Retained;
-            }
-        }
+        let completes = completed.is_some();
+        acknowledge(&mut self.records, id, self.now, count, completes)?;
         if let Some(dropped) = completed {
             self.close(core, Cause::Completion, dropped);
         }
@@ -246,7 +288,11 @@ impl History {
             waiting: core.files_waiting(),
             taken: core.files_taken(),
         };
-        if self.samples.last() != Some(&sample) {
+        let has_changed = match self.samples.last() {
+            Some(last) => *last != sample,
+            None => true,
+        };
+        if has_changed {
             self.samples.push(sample)?;
         }
         Ok(())

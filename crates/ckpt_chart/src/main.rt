@@ -17,6 +17,7 @@ mod scale;
 mod svg;
 
 use crate::fault::ChartFault;
+use crate::history::History;
 use crate::lanes::lay_in_rows;
 use crate::picture::drawn;
 use crate::player::Player;
@@ -48,11 +49,8 @@ fn has_fault(
     }
 }
 
-/// Draws the script, and returns how many lines had a fault.
-fn chart(rt: &HostRuntime) -> Result<u64, ChartFault> {
-    let mut script = Vec::new(rt.alloc());
-    let mut reader = rt.stdin();
-    reader.read_to_end(&mut script).or(Err(ChartFault::Read))?;
+/// Runs the lines of a script, and returns its history and how many lines had a fault.
+fn play(rt: &HostRuntime, script: &[u8]) -> Result<(History, u64), ChartFault> {
     let mut player = Player::new(rt.alloc());
     let mut faults: u64 = 0;
     let mut number: u64 = 0;
@@ -60,12 +58,28 @@ fn chart(rt: &HostRuntime) -> Result<u64, ChartFault> {
         number = number.saturating_add(1);
         faults = faults.saturating_add(u64::from(has_fault(rt, &mut player, number, line)?));
     }
-    let Some(mut history) = player.end() else {
+    Ok((player.end(), faults))
+}
+
+/// Draws the history of a job.
+fn draw(rt: &HostRuntime, mut history: History) -> Result<(), ChartFault> {
+    if !history.is_begun() {
         return Err(ChartFault::NotStarted);
-    };
+    }
     let rows = lay_in_rows(rt.alloc(), &mut history)?;
     let text = drawn(rt.alloc(), &history, rows)?;
-    print!(rt; "{text}").or(Err(ChartFault::Write))?;
+    print!(rt; "{text}").or(Err(ChartFault::Write))
+}
+
+/// Draws the script, and returns how many lines had a fault.
+fn chart(rt: &HostRuntime) -> Result<u64, ChartFault> {
+    let mut script = Vec::new(rt.alloc());
+    let mut reader = rt.stdin();
+    if reader.read_to_end(&mut script).is_err() {
+        return Err(ChartFault::Read);
+    }
+    let (history, faults) = play(rt, script.as_slice())?;
+    draw(rt, history)?;
     Ok(faults)
 }
 

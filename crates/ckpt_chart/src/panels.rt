@@ -1,10 +1,9 @@
 //! The bars of the records, and the numbers of files below them.
 use crate::history::{Ending, History, Record, Sample};
-use crate::picture::{Layout, style};
+use crate::picture::Layout;
 use crate::scale::{Scale, step};
-use crate::svg::{DARK, LIGHT, TEXT_END, number, numbered, stroke, swatch, text_from, words};
+use crate::svg::{DARK, LIGHT, Svg, TEXT_END};
 use ckpt_ids::Kind;
-use std::alloc::AllocError;
 
 const BAR: u64 = 160;
 
@@ -29,11 +28,19 @@ impl Count {
         }
     }
 
-    fn style(self) -> (&'static str, &'static str) {
+    fn name(self) -> &'static str {
         match self {
-            Count::InUse => ("in use", "#009e73"),
-            Count::Waiting => ("waiting for deletion", "#e69f00"),
-            Count::Taken => ("taken for deletion", "#7c3aed"),
+            Count::InUse => "in use",
+            Count::Waiting => "waiting for deletion",
+            Count::Taken => "taken for deletion",
+        }
+    }
+
+    fn colour(self) -> &'static str {
+        match self {
+            Count::InUse => "#009e73",
+            Count::Waiting => "#e69f00",
+            Count::Taken => "#7c3aed",
         }
     }
 }
@@ -41,48 +48,34 @@ impl Count {
 const COUNTS: [Count; 3] = [Count::InUse, Count::Waiting, Count::Taken];
 
 /// The bar of one record: pale until it is complete, and full from then on.
-pub(crate) fn bars(
-    out: &mut String,
-    layout: &Layout,
-    record: &Record,
-    named: bool,
-) -> Result<(), AllocError> {
+pub(crate) fn bars(svg: &mut Svg, layout: &Layout, record: &Record, named: bool) {
     let y = layout.row_top(record.row);
     let begin = layout.time.right(record.triggered);
     let end = layout.time.right(record.ended.unwrap_or(layout.time.to));
     match record.completed {
         Some(moment) => {
             let complete = layout.time.right(moment);
-            bar(out, (begin, complete), y, record.ending, PALE)?;
-            bar(out, (complete, end), y, record.ending, FULL)?;
+            bar(svg, (begin, complete), y, record.ending, PALE);
+            bar(svg, (complete, end), y, record.ending, FULL);
         }
-        None => bar(out, (begin, end), y, record.ending, PALE)?,
+        None => bar(svg, (begin, end), y, record.ending, PALE),
     }
-    acks(out, layout, record, y, named)?;
-    name(out, record, (begin, end), y, named)
+    acks(svg, layout, record, y, named);
+    if named {
+        name_beside(svg, record, y);
+    } else {
+        number_inside(svg, record, (begin, end), y);
+    }
 }
 
-fn bar(
-    out: &mut String,
-    across: (u64, u64),
-    y: u64,
-    ending: Ending,
-    opacity: &str,
-) -> Result<(), AllocError> {
+fn bar(svg: &mut Svg, across: (u64, u64), y: u64, ending: Ending, opacity: &str) {
     let (begin, end) = across;
     let width = end.saturating_sub(begin).max(20);
-    let (_, colour) = style(ending);
-    swatch(out, (begin, y), (width, BAR), colour, opacity)
+    svg.swatch((begin, y), (width, BAR), ending.colour(), opacity);
 }
 
 /// A line for each acknowledgement.
-fn acks(
-    out: &mut String,
-    layout: &Layout,
-    record: &Record,
-    y: u64,
-    named: bool,
-) -> Result<(), AllocError> {
+fn acks(svg: &mut Svg, layout: &Layout, record: &Record, y: u64, named: bool) {
     let how = if named {
         "stroke='#111827' stroke-width='16'"
     } else {
@@ -92,45 +85,35 @@ fn acks(
     let bottom = y.saturating_add(BAR + 20);
     for moment in &record.acks {
         let x = layout.time.right(*moment);
-        stroke(out, (x, top), (x, bottom), how)?;
+        svg.stroke((x, top), (x, bottom), how);
     }
-    Ok(())
 }
 
-/// The name of a record: beside its row. If records share rows, its number in its bar, if there is
-/// room.
-fn name(
-    out: &mut String,
-    record: &Record,
-    across: (u64, u64),
-    y: u64,
-    named: bool,
-) -> Result<(), AllocError> {
-    let (begin, end) = across;
+/// The name of a record, beside its row.
+fn name_beside(svg: &mut Svg, record: &Record, y: u64) {
+    let kind = match record.kind {
+        Kind::Checkpoint => "checkpoint ",
+        Kind::Savepoint => "savepoint ",
+    };
     let base = y.saturating_add(125);
+    svg.numbered((1030, base), "end", kind, record.id.0);
+}
+
+/// The number of a record, in its bar, if there is room.
+fn number_inside(svg: &mut Svg, record: &Record, across: (u64, u64), y: u64) {
+    let (begin, end) = across;
     let width = end.saturating_sub(begin);
-    if named {
-        let kind = match record.kind {
-            Kind::Checkpoint => "checkpoint ",
-            Kind::Savepoint => "savepoint ",
-        };
-        return numbered(out, (1030, base), "end", kind, record.id.0);
-    }
     if width > 350 {
         let x = begin.saturating_add(width / 2);
-        text_from(out, (x, base), 110, "middle", "#111827")?;
-        number(out, record.id.0)?;
-        out.push_str(TEXT_END)?;
+        let base = y.saturating_add(125);
+        svg.text_from((x, base), 110, "middle", "#111827");
+        svg.number(record.id.0);
+        svg.text(TEXT_END);
     }
-    Ok(())
 }
 
 /// The numbers of files over time.
-pub(crate) fn file_panel(
-    out: &mut String,
-    layout: &Layout,
-    history: &History,
-) -> Result<(), AllocError> {
+pub(crate) fn file_panel(svg: &mut Svg, layout: &Layout, history: &History) {
     let most = greatest(history);
     let step = step(most, 5);
     let count = Scale {
@@ -139,11 +122,11 @@ pub(crate) fn file_panel(
         begin: layout.files_bottom,
         length: layout.files_bottom.saturating_sub(layout.files_top),
     };
-    count_axis(out, layout, &count, step)?;
+    count_axis(svg, layout, &count, step);
     for kind in &COUNTS {
-        curve(out, layout, &count, history, *kind)?;
+        curve(svg, layout, &count, history, *kind);
     }
-    file_legend(out, layout)
+    file_legend(svg, layout);
 }
 
 fn greatest(history: &History) -> u64 {
@@ -158,12 +141,7 @@ fn greatest(history: &History) -> u64 {
     most
 }
 
-fn count_axis(
-    out: &mut String,
-    layout: &Layout,
-    count: &Scale,
-    step: u64,
-) -> Result<(), AllocError> {
+fn count_axis(svg: &mut Svg, layout: &Layout, count: &Scale, step: u64) {
     let left = layout.time.begin;
     let right = layout.time.right(layout.time.to);
     let mut value: u64 = 0;
@@ -171,61 +149,66 @@ fn count_axis(
         if value > count.to {
             break;
         }
-        count_line(out, (left, right), count.up(value), value)?;
+        count_line(svg, (left, right), count.up(value), value);
         value = value.saturating_add(step);
     }
     let corner = (left, layout.files_bottom);
-    stroke(out, (left, layout.files_top), corner, DARK)?;
-    layout.axis_below(out, layout.files_bottom)
+    svg.stroke((left, layout.files_top), corner, DARK);
+    layout.axis_below(svg, layout.files_bottom);
 }
 
 /// The line of a number of files.
-fn count_line(out: &mut String, across: (u64, u64), y: u64, value: u64) -> Result<(), AllocError> {
+fn count_line(svg: &mut Svg, across: (u64, u64), y: u64, value: u64) {
     let (left, right) = across;
-    stroke(out, (left, y), (right, y), LIGHT)?;
+    svg.stroke((left, y), (right, y), LIGHT);
     let at = (left.saturating_sub(70), y.saturating_add(45));
-    numbered(out, at, "end", "", value)
+    svg.numbered(at, "end", "", value);
 }
 
 /// The line of one count, as steps.
-fn curve(
-    out: &mut String,
-    layout: &Layout,
-    count: &Scale,
-    history: &History,
-    kind: Count,
-) -> Result<(), AllocError> {
-    let (_, colour) = kind.style();
-    curve_from(out, colour, layout.time.begin, count.up(0))?;
+fn curve(svg: &mut Svg, layout: &Layout, count: &Scale, history: &History, kind: Count) {
+    curve_from(svg, kind.colour(), layout.time.begin, count.up(0));
     for sample in &history.samples {
         let x = layout.time.right(sample.moment);
-        let y = count.up(kind.of(sample));
-        write!(out, "H{x}V{y}")?;
+        across_to(svg, x);
+        svg.text("V");
+        svg.number(count.up(kind.of(sample)));
     }
-    out.push_str("H")?;
-    number(out, layout.time.right(layout.time.to))?;
-    out.push_str("'/>\n")
+    across_to(svg, layout.time.right(layout.time.to));
+    svg.text("'/>\n");
 }
 
 /// Begins the line of a count, in this colour, at this place.
-fn curve_from(out: &mut String, colour: &str, x: u64, y: u64) -> Result<(), AllocError> {
-    write!(
-        out,
-        "<path fill='none' stroke='{colour}' stroke-width='24' d='M{x} {y}"
-    )
+fn curve_from(svg: &mut Svg, colour: &str, x: u64, y: u64) {
+    svg.texts(&[
+        "<path fill='none' stroke='",
+        colour,
+        "' stroke-width='24' d='M",
+    ]);
+    svg.number(x);
+    svg.text(" ");
+    svg.number(y);
 }
 
-fn file_legend(out: &mut String, layout: &Layout) -> Result<(), AllocError> {
+/// Goes on with a line, to the right, up to this place.
+fn across_to(svg: &mut Svg, x: u64) {
+    svg.text("H");
+    svg.number(x);
+}
+
+fn file_legend(svg: &mut Svg, layout: &Layout) {
     let y = layout.files_top.saturating_sub(150);
-    let middle = y.saturating_sub(45);
-    words(out, (250, y), 150, "start", "Number of files")?;
+    svg.words((250, y), 150, "start", "Number of files");
     let mut x: u64 = 2300;
     for kind in &COUNTS {
-        let (name, colour) = kind.style();
-        curve_from(out, colour, x, middle)?;
-        out.push_str("h320'/>\n")?;
-        words(out, (x.saturating_add(400), y), 130, "start", name)?;
+        line_meaning(svg, x, y, *kind);
         x = x.saturating_add(2300);
     }
-    Ok(())
+}
+
+/// The line of a count, and its name.
+fn line_meaning(svg: &mut Svg, x: u64, y: u64, kind: Count) {
+    curve_from(svg, kind.colour(), x, y.saturating_sub(45));
+    svg.text("h320'/>\n");
+    svg.words((x.saturating_add(400), y), 130, "start", kind.name());
 }

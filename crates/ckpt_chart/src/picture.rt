@@ -2,9 +2,7 @@
 use crate::history::{Ending, Event, History};
 use crate::panels::{bars, file_panel};
 use crate::scale::{Scale, first_multiple, step};
-use crate::svg::{
-    DARK, LIGHT, TEXT_END, element, number, numbered, stroke, swatch, text_from, words,
-};
+use crate::svg::{DARK, LIGHT, Svg, TEXT_END};
 use ckpt_ids::Choice;
 use std::alloc::{AllocError, Global};
 
@@ -12,6 +10,8 @@ use std::alloc::{AllocError, Global};
 const LEFT: u64 = 1100;
 
 const LENGTH: u64 = 8650;
+
+const MIDDLE: u64 = LEFT + LENGTH / 2;
 
 /// Where the rows of the records begin, from the top.
 const ROWS_TOP: u64 = 1750;
@@ -57,18 +57,21 @@ impl Layout {
     }
 
     /// A line at a moment, through both panels. Above the rows it begins at this height.
-    fn lines_at(&self, out: &mut String, x: u64, top: u64, how: &str) -> Result<(), AllocError> {
-        stroke(out, (x, top), (x, self.axis), how)?;
-        stroke(out, (x, self.files_top), (x, self.files_bottom), how)
+    fn lines_at(&self, svg: &mut Svg, x: u64, top: u64, how: &str) {
+        svg.stroke((x, top), (x, self.axis), how);
+        svg.stroke((x, self.files_top), (x, self.files_bottom), how);
     }
 
     /// The axis of time at the bottom of a panel, with its name.
-    pub(crate) fn axis_below(&self, out: &mut String, y: u64) -> Result<(), AllocError> {
+    pub(crate) fn axis_below(&self, svg: &mut Svg, y: u64) {
         let right = self.time.right(self.time.to);
-        stroke(out, (LEFT, y), (right, y), DARK)?;
-        let middle = LEFT.saturating_add(LENGTH / 2);
-        let at = (middle, y.saturating_add(380));
-        words(out, at, 130, "middle", "time, in milliseconds")
+        svg.stroke((LEFT, y), (right, y), DARK);
+        svg.words(
+            (MIDDLE, y.saturating_add(380)),
+            130,
+            "middle",
+            "time, in milliseconds",
+        );
     }
 }
 
@@ -97,19 +100,6 @@ fn laid_out(history: &History, rows: usize) -> Layout {
     }
 }
 
-/// The name and the colour of an ending.
-pub(crate) fn style(ending: Ending) -> (&'static str, &'static str) {
-    match ending {
-        Ending::Retained => ("retained", "#009e73"),
-        Ending::Subsumed => ("subsumed", "#56b4e9"),
-        Ending::Expired => ("expired", "#e69f00"),
-        Ending::Declined => ("declined", "#d55e00"),
-        Ending::Disposed => ("disposed", "#cc79a7"),
-        Ending::Dropped => ("dropped", "#6b7280"),
-        Ending::Pending => ("still pending", "#ffffff"),
-    }
-}
-
 const ENDINGS: [Ending; 7] = [
     Ending::Retained,
     Ending::Subsumed,
@@ -120,136 +110,152 @@ const ENDINGS: [Ending; 7] = [
     Ending::Pending,
 ];
 
+impl Ending {
+    fn name(self) -> &'static str {
+        match self {
+            Ending::Retained => "retained",
+            Ending::Subsumed => "subsumed",
+            Ending::Expired => "expired",
+            Ending::Declined => "declined",
+            Ending::Disposed => "disposed",
+            Ending::Dropped => "dropped",
+            Ending::Pending => "still pending",
+        }
+    }
+
+    pub(crate) fn colour(self) -> &'static str {
+        match self {
+            Ending::Retained => "#009e73",
+            Ending::Subsumed => "#56b4e9",
+            Ending::Expired => "#e69f00",
+            Ending::Declined => "#d55e00",
+            Ending::Disposed => "#cc79a7",
+            Ending::Dropped => "#6b7280",
+            Ending::Pending => "#ffffff",
+        }
+    }
+}
+
 /// The picture of a run whose records have their rows, of which there are this many, as SVG.
 pub(crate) fn drawn(alloc: Global, history: &History, rows: usize) -> Result<String, AllocError> {
     let layout = laid_out(history, rows);
-    let mut out = String::new(alloc);
-    head(&mut out, layout.height)?;
-    title(&mut out, history)?;
-    legend(&mut out, history)?;
-    time_axis(&mut out, &layout)?;
-    marks(&mut out, &layout, history)?;
+    let mut svg = Svg::new(alloc);
+    head(&mut svg, layout.height);
+    title(&mut svg, history);
+    legend(&mut svg, history);
+    time_axis(&mut svg, &layout);
+    marks(&mut svg, &layout, history);
     for record in &history.records {
-        bars(&mut out, &layout, record, history.is_named())?;
+        bars(&mut svg, &layout, record, history.is_named());
     }
-    file_panel(&mut out, &layout, history)?;
-    out.push_str("</svg>\n")?;
-    Ok(out)
+    file_panel(&mut svg, &layout, history);
+    svg.text("</svg>\n");
+    svg.finished()
 }
 
-fn head(out: &mut String, height: u64) -> Result<(), AllocError> {
-    let svg = "<svg xmlns='http://www.w3.org/2000/svg'";
-    let pixels = height / 10;
-    element(
-        out,
-        svg,
-        &[("width", 1000), ("height", pixels)],
-        &[" viewBox='0 0 10000 "],
-    )?;
-    number(out, height)?;
-    out.push_str("' font-family='DejaVu Sans, Verdana, sans-serif'>\n")?;
-    element(
-        out,
-        "<rect",
-        &[("width", 10000), ("height", height)],
-        &[" fill='#ffffff'/>\n"],
-    )
+fn head(svg: &mut Svg, height: u64) {
+    svg.element(
+        "<svg xmlns='http://www.w3.org/2000/svg'",
+        &[("width", 1000), ("height", height / 10)],
+    );
+    svg.text(" viewBox='0 0 10000 ");
+    svg.number(height);
+    svg.text("' font-family='DejaVu Sans, Verdana, sans-serif'>\n");
+    svg.element("<rect", &[("width", 10000), ("height", height)]);
+    svg.text(" fill='#ffffff'/>\n");
 }
 
-fn title(out: &mut String, history: &History) -> Result<(), AllocError> {
-    words(
-        out,
-        (250, 330),
-        200,
-        "start",
-        "Checkpoints and savepoints of a job",
-    )?;
-    text_from(out, (9750, 330), 130, "end", "#4b5563")?;
-    let count = history.records.len();
-    let accepted = history.accepted;
-    let refused = history.refused;
-    write!(
-        out,
-        "{count} records; {accepted} calls accepted, {refused} refused</text>\n"
-    )
+fn title(svg: &mut Svg, history: &History) {
+    let name = "Checkpoints and savepoints of a job";
+    svg.words((250, 330), 200, "start", name);
+    svg.text_from((9750, 330), 130, "end", "#4b5563");
+    svg.number(history.records.len() as u64);
+    svg.text(" records; ");
+    svg.number(history.accepted);
+    svg.text(" calls accepted, ");
+    svg.number(history.refused);
+    svg.texts(&[" refused", TEXT_END]);
 }
 
 /// The meaning of the colours and signs, and how many records ended in each way.
-fn legend(out: &mut String, history: &History) -> Result<(), AllocError> {
+fn legend(svg: &mut Svg, history: &History) {
     let mut x: u64 = 250;
     for ending in &ENDINGS {
-        let (name, colour) = style(*ending);
-        swatch(out, (x, 490), (140, 140), colour, "")?;
-        element(
-            out,
-            "<text",
-            &[("x", x.saturating_add(200)), ("y", 610), ("font-size", 130)],
-            &[" fill='#1f2937'>", name, ": "],
-        )?;
-        number(out, history.count(*ending))?;
-        out.push_str(TEXT_END)?;
+        colour_meaning(svg, x, *ending, history.count(*ending));
         x = x.saturating_add(1310);
     }
-    out.push_str(SIGNS)
+    svg.text(SIGNS);
+}
+
+/// The colour of an ending, and how many records ended so.
+fn colour_meaning(svg: &mut Svg, x: u64, ending: Ending, count: u64) {
+    svg.swatch((x, 490), (140, 140), ending.colour(), "");
+    let x = x.saturating_add(200);
+    svg.element("<text", &[("x", x), ("y", 610), ("font-size", 130)]);
+    svg.texts(&[" fill='#1f2937'>", ending.name(), ": "]);
+    svg.number(count);
+    svg.text(TEXT_END);
 }
 
 /// The axis of time, with its lines through both panels.
-fn time_axis(out: &mut String, layout: &Layout) -> Result<(), AllocError> {
+fn time_axis(svg: &mut Svg, layout: &Layout) {
     let step = step(layout.time.span(), 10);
     let mut moment = first_multiple(layout.time.from, step);
     for _ in 0..12u32 {
         if moment > layout.time.to {
             break;
         }
-        moment_line(out, layout, moment)?;
+        moment_line(svg, layout, moment);
         moment = moment.saturating_add(step);
     }
-    layout.axis_below(out, layout.axis)
+    layout.axis_below(svg, layout.axis);
 }
 
-fn moment_line(out: &mut String, layout: &Layout, moment: u64) -> Result<(), AllocError> {
+fn moment_line(svg: &mut Svg, layout: &Layout, moment: u64) {
     let x = layout.time.right(moment);
-    layout.lines_at(out, x, layout.rows_top, LIGHT)?;
-    let below = (x, layout.axis.saturating_add(180));
-    numbered(out, below, "middle", "", moment)?;
-    let foot = (x, layout.files_bottom.saturating_add(180));
-    numbered(out, foot, "middle", "", moment)
+    layout.lines_at(svg, x, layout.rows_top, LIGHT);
+    let below = layout.axis.saturating_add(180);
+    svg.numbered((x, below), "middle", "", moment);
+    let foot = layout.files_bottom.saturating_add(180);
+    svg.numbered((x, foot), "middle", "", moment);
 }
 
 /// The lines across all records. Their names are on four levels, so that near ones can be read.
-fn marks(out: &mut String, layout: &Layout, history: &History) -> Result<(), AllocError> {
+fn marks(svg: &mut Svg, layout: &Layout, history: &History) {
     let mut level: u64 = 0;
     for mark in &history.marks {
         let x = layout.time.right(mark.moment);
         let y = level.saturating_add(1130);
-        layout.lines_at(out, x, y, STOP)?;
-        mark_name(out, x, y, mark.event)?;
+        layout.lines_at(svg, x, y, STOP);
+        mark_name(svg, x, y, mark.event);
         level = level.saturating_add(150) % 600;
     }
-    Ok(())
 }
 
-fn mark_name(out: &mut String, x: u64, y: u64, event: Event) -> Result<(), AllocError> {
-    let (anchor, x) = if x > 8000 {
-        ("end", x.saturating_sub(40))
+fn mark_name(svg: &mut Svg, x: u64, y: u64, event: Event) {
+    if x > 8000 {
+        svg.text_from((x.saturating_sub(40), y), 120, "end", "#b91c1c");
     } else {
-        ("start", x.saturating_add(40))
-    };
-    text_from(out, (x, y), 120, anchor, "#b91c1c")?;
-    match event {
-        Event::FailedOver => out.push_str("failed over")?,
-        Event::Cancelled => out.push_str("cancelled")?,
-        Event::Restored(choice) => choice_name(out, choice)?,
+        svg.text_from((x.saturating_add(40), y), 120, "start", "#b91c1c");
     }
-    out.push_str(TEXT_END)
+    event_name(svg, event);
+    svg.text(TEXT_END);
 }
 
-fn choice_name(out: &mut String, choice: Choice) -> Result<(), AllocError> {
+fn event_name(svg: &mut Svg, event: Event) {
+    match event {
+        Event::FailedOver => svg.text("failed over"),
+        Event::Cancelled => svg.text("cancelled"),
+        Event::Restored(choice) => choice_name(svg, choice),
+    }
+}
+
+fn choice_name(svg: &mut Svg, choice: Choice) {
     let (name, id) = match choice {
         Choice::Checkpoint(id) => ("restored: checkpoint ", id),
         Choice::Savepoint(id) => ("restored: savepoint ", id),
-        Choice::Fresh => return out.push_str("restored: fresh"),
+        Choice::Fresh => return svg.text("restored: fresh"),
     };
-    out.push_str(name)?;
-    number(out, id.0)
+    svg.text(name);
+    svg.number(id.0);
 }

@@ -33,22 +33,20 @@ impl Subject {
 /// A script that is being run.
 #[derive(Drop)]
 pub(crate) struct Player {
-    alloc: Global,
     session: Session,
-    history: Option<History>,
+    history: History,
 }
 
 impl Player {
     pub(crate) fn new(alloc: Global) -> Player {
         Player {
-            alloc,
             session: Session::keyed(alloc, Secret::fixed()),
-            history: None,
+            history: History::new(alloc),
         }
     }
 
-    /// The history, or `None` if no job was started.
-    pub(crate) fn end(self) -> Option<History> {
+    /// The history. It is not begun if no job was started.
+    pub(crate) fn end(self) -> History {
         self.history
     }
 
@@ -56,16 +54,9 @@ impl Player {
     pub(crate) fn obey(&mut self, line: Line) -> Result<(), AllocError> {
         let subject = Subject::of(&line);
         let outcome = self.session.obey(line, &mut InOrder)?;
-        let Some(book) = self.session.book() else {
-            return Ok(());
-        };
-        match &mut self.history {
-            Some(history) => history.keep(book.core(), subject, outcome),
-            // This line was the accepted `start`.
-            None => {
-                self.history = Some(History::begun(self.alloc, subject.now));
-                Ok(())
-            }
+        match self.session.book() {
+            Some(book) => self.history.keep(book.core(), subject, outcome),
+            None => Ok(()),
         }
     }
 }

@@ -58,16 +58,20 @@ fn ending(cause: &Cause, id: CheckpointId, before: u32) -> Ending {
     }
 }
 
-/// The record with this number. Searches from the last, because most calls are about the last
+/// This many acknowledgements of the record with this number were accepted. If `completes`, the
+/// last of them completed it. Searches from the last record, because most calls are about the last
 /// records.
-pub(crate) fn find(records: &mut Vec<Record>, id: CheckpointId) -> Option<&mut Record> {
-    records.iter_mut().rev().find(|record| record.id == id)
-}
-
-/// This many acknowledgements of the record were accepted.
-pub(crate) fn acknowledge(record: &mut Record, now: u64, count: u64) -> Result<(), AllocError> {
-    for _ in 0..count {
-        record.acks.push(now)?;
+pub(crate) fn acknowledge(
+    records: &mut Vec<Record>,
+    id: CheckpointId,
+    now: u64,
+    count: u64,
+    completes: bool,
+) -> Result<(), AllocError> {
+    for record in records.iter_mut().rev() {
+        if record.id == id {
+            return record.acknowledge(now, count, completes);
+        }
     }
     Ok(())
 }

@@ -1,5 +1,5 @@
 //! The elements of a picture, as SVG text. Places are tenths of a pixel.
-use std::alloc::AllocError;
+use std::alloc::{AllocError, Global};
 
 /// How axes are drawn.
 pub(crate) const DARK: &str = "stroke='#111827' stroke-width='12'";
@@ -7,111 +7,107 @@ pub(crate) const DARK: &str = "stroke='#111827' stroke-width='12'";
 /// How the lines across a panel are drawn.
 pub(crate) const LIGHT: &str = "stroke='#e5e7eb' stroke-width='8'";
 
+/// The border of a box, and the end of its element.
+const BORDER: &str = " stroke='#374151' stroke-width='6'/>\n";
+
 /// Ends an element of text.
 pub(crate) const TEXT_END: &str = "</text>\n";
 
-/// Begins an element with these numbers as attributes, and goes on with the other texts.
-pub(crate) fn element(
-    out: &mut String,
-    begin: &str,
-    numbers: &[(&str, u64)],
-    others: &[&str],
-) -> Result<(), AllocError> {
-    out.push_str(begin)?;
-    for (name, value) in numbers {
-        write!(out, " {name}='{value}'")?;
+/// A picture while it is drawn. If memory runs out, the rest is drawn in vain, and only
+/// [`Svg::finished`] fails.
+#[derive(Drop)]
+pub(crate) struct Svg {
+    text: String,
+    is_whole: bool,
+}
+
+impl Svg {
+    pub(crate) fn new(alloc: Global) -> Svg {
+        Svg {
+            text: String::new(alloc),
+            is_whole: true,
+        }
     }
-    for text in others {
-        out.push_str(text)?;
+
+    /// The text of the picture. Fails if memory ran out while it was drawn.
+    pub(crate) fn finished(self) -> Result<String, AllocError> {
+        if self.is_whole {
+            Ok(self.text)
+        } else {
+            Err(AllocError)
+        }
     }
-    Ok(())
-}
 
-pub(crate) fn number(out: &mut String, value: u64) -> Result<(), AllocError> {
-    write!(out, "{value}")
-}
+    pub(crate) fn text(&mut self, text: &str) {
+        if self.text.push_str(text).is_err() {
+            self.is_whole = false;
+        }
+    }
 
-/// Begins a text in this colour that begins here, ends here (`end`) or is centred here (`middle`).
-pub(crate) fn text_from(
-    out: &mut String,
-    at: (u64, u64),
-    size: u64,
-    anchor: &str,
-    colour: &str,
-) -> Result<(), AllocError> {
-    let (x, y) = at;
-    element(
-        out,
-        "<text",
-        &[("x", x), ("y", y), ("font-size", size)],
-        &[" text-anchor='", anchor, "' fill='", colour, "'>"],
-    )
-}
+    pub(crate) fn number(&mut self, value: u64) {
+        if write!(self.text, "{value}").is_err() {
+            self.is_whole = false;
+        }
+    }
 
-/// A dark text.
-pub(crate) fn words(
-    out: &mut String,
-    at: (u64, u64),
-    size: u64,
-    anchor: &str,
-    text: &str,
-) -> Result<(), AllocError> {
-    text_from(out, at, size, anchor, "#1f2937")?;
-    out.push_str(text)?;
-    out.push_str(TEXT_END)
-}
+    pub(crate) fn texts(&mut self, texts: &[&str]) {
+        for text in texts {
+            self.text(text);
+        }
+    }
 
-/// A dark text that ends with a number.
-pub(crate) fn numbered(
-    out: &mut String,
-    at: (u64, u64),
-    anchor: &str,
-    text: &str,
-    value: u64,
-) -> Result<(), AllocError> {
-    text_from(out, at, 120, anchor, "#1f2937")?;
-    out.push_str(text)?;
-    number(out, value)?;
-    out.push_str(TEXT_END)
-}
+    /// Begins an element with these numbers as attributes.
+    pub(crate) fn element(&mut self, begin: &str, numbers: &[(&str, u64)]) {
+        self.text(begin);
+        for (name, value) in numbers {
+            self.attribute(name, *value);
+        }
+    }
 
-/// A box with a border. `opacity` is an attribute of its own, or empty.
-pub(crate) fn swatch(
-    out: &mut String,
-    at: (u64, u64),
-    size: (u64, u64),
-    colour: &str,
-    opacity: &str,
-) -> Result<(), AllocError> {
-    let (x, y) = at;
-    let (width, height) = size;
-    element(
-        out,
-        "<rect",
-        &[("x", x), ("y", y), ("width", width), ("height", height)],
-        &[
-            " fill='",
-            colour,
-            "'",
-            opacity,
-            " stroke='#374151' stroke-width='6'/>\n",
-        ],
-    )
-}
+    fn attribute(&mut self, name: &str, value: u64) {
+        self.texts(&[" ", name, "='"]);
+        self.number(value);
+        self.text("'");
+    }
 
-/// A straight line.
-pub(crate) fn stroke(
-    out: &mut String,
-    from: (u64, u64),
-    to: (u64, u64),
-    how: &str,
-) -> Result<(), AllocError> {
-    let (x, y) = from;
-    let (u, v) = to;
-    element(
-        out,
-        "<line",
-        &[("x1", x), ("y1", y), ("x2", u), ("y2", v)],
-        &[" ", how, "/>\n"],
-    )
+    /// Begins a text in this colour that begins here, ends here (`end`) or is centred here
+    /// (`middle`).
+    pub(crate) fn text_from(&mut self, at: (u64, u64), size: u64, anchor: &str, colour: &str) {
+        let (x, y) = at;
+        self.element("<text", &[("x", x), ("y", y), ("font-size", size)]);
+        self.texts(&[" text-anchor='", anchor, "' fill='", colour, "'>"]);
+    }
+
+    /// A dark text.
+    pub(crate) fn words(&mut self, at: (u64, u64), size: u64, anchor: &str, text: &str) {
+        self.text_from(at, size, anchor, "#1f2937");
+        self.texts(&[text, TEXT_END]);
+    }
+
+    /// A dark text that ends with a number.
+    pub(crate) fn numbered(&mut self, at: (u64, u64), anchor: &str, text: &str, value: u64) {
+        self.text_from(at, 120, anchor, "#1f2937");
+        self.text(text);
+        self.number(value);
+        self.text(TEXT_END);
+    }
+
+    /// A box with a border. `opacity` is an attribute of its own, or empty.
+    pub(crate) fn swatch(&mut self, at: (u64, u64), size: (u64, u64), colour: &str, opacity: &str) {
+        let (x, y) = at;
+        let (width, height) = size;
+        self.element(
+            "<rect",
+            &[("x", x), ("y", y), ("width", width), ("height", height)],
+        );
+        self.texts(&[" fill='", colour, "'", opacity, BORDER]);
+    }
+
+    /// A straight line.
+    pub(crate) fn stroke(&mut self, from: (u64, u64), to: (u64, u64), how: &str) {
+        let (x, y) = from;
+        let (u, v) = to;
+        self.element("<line", &[("x1", x), ("y1", y), ("x2", u), ("y2", v)]);
+        self.texts(&[" ", how, "/>\n"]);
+    }
 }
