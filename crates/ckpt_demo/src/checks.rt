@@ -9,7 +9,6 @@ use ckpt_core::Core;
 use ckpt_ids::{Call, FileId};
 use ckpt_locked::{Book, MOST_SEATS};
 use std::alloc::{AllocError, Global};
-use std::io;
 
 /// The seat of the calls that the checks make. No lock gives this seat.
 const CHECKER: u32 = MOST_SEATS;
@@ -46,11 +45,11 @@ fn tell_records(rt: &HostRuntime, counts: Counts) {
     tell_line(rt, &parts, " late acknowledgements");
 }
 
-fn tell_deletions(rt: &HostRuntime, counts: Counts, written: u64) {
+fn tell_deletions(rt: &HostRuntime, replay: &Replay, written: u64) {
     let parts = [
         ("files: ", written),
-        (" written, ", counts.deleted),
-        (" deleted, ", counts.failed),
+        (" written, ", replay.deleted.len() as u64),
+        (" deleted, ", replay.counts.failed),
     ];
     tell_line(rt, &parts, " deletions failed");
 }
@@ -101,41 +100,15 @@ fn show_all(book: &mut Book, core: &mut Core) -> Result<bool, DemoFault> {
     Ok(false)
 }
 
-/// Whether both count the same uses of each file, and hand out the same ones.
-fn are_files_same(book: &mut Book, replay: &mut Replay) -> Result<bool, DemoFault> {
-    let core = &mut replay.core;
-    Ok(
-        are_counts_same(book, core, &replay.registered)?
-            && are_counts_same(book, core, &replay.refused)?
-            && is_same(book, core, Call::Take { most: u64::MAX })?,
-    )
-}
-
-/// Whether both count the same uses of each of these files.
-fn are_counts_same(book: &mut Book, core: &mut Core, files: &[u64]) -> Result<bool, DemoFault> {
+/// Whether both count the same uses of each of these files, and hand out the same ones.
+fn are_files_same(book: &mut Book, core: &mut Core, files: &[u64]) -> Result<bool, DemoFault> {
     for file in files {
         let file = FileId(*file);
         if !is_same(book, core, Call::Count { file })? {
             return Ok(false);
         }
     }
-    Ok(true)
-}
-
-/// The files that the folder should have, in ascending order: those that were there before, those that the
-/// coordinator knows, and those of refused acknowledgements.
-fn expected(
-    alloc: Global,
-    before: &[u64],
-    known: &[u64],
-    refused: &[u64],
-) -> Result<Vec<u64>, AllocError> {
-    let mut files = Vec::new(alloc);
-    files.extend_from_slice(before)?;
-    files.extend_from_slice(known)?;
-    files.extend_from_slice(refused)?;
-    files.sort_unstable();
-    Ok(files)
+    is_same(book, core, Call::Take { most: u64::MAX })
 }
 
 /// The files that are not among the others. The others are in ascending order.
@@ -159,21 +132,22 @@ fn compare(rt: &HostRuntime, there: &[u64], expected: &[u64]) -> Result<bool, Al
     Ok(missing.is_empty() && more.is_empty())
 }
 
-/// Whether the folder has the files that it should have. Prints the others, and those of refused
-/// acknowledgements.
+/// Whether the folder has the files that it should have: those that were there before, those that
+/// the coordinator knows, and those of refused acknowledgements. Prints the others, and the last.
 fn is_folder_right(
     rt: &HostRuntime,
     folder: &str,
     replay: &Replay,
     before: &[u64],
 ) -> Result<bool, DemoFault> {
-    let refused = replay.refused.as_slice();
-    tell_files(rt, "files of refused acknowledgements", refused);
-    let known = without(rt.alloc(), &replay.registered, &replay.deleted)?;
-    let expected = expected(rt.alloc(), before, known.as_slice(), refused)?;
+    tell_files(rt, "files of refused acknowledgements", &replay.refused);
+    let mut expected = without(rt.alloc(), &replay.fresh, &replay.deleted)?;
+    let known = (expected.len() as u64).checked_sub(replay.refused.len() as u64);
+    expected.extend_from_slice(before)?;
+    expected.sort_unstable();
     let there = listed(rt, folder)?;
-    let same = compare(rt, there.as_slice(), expected.as_slice())?;
-    Ok(same && known.len() as u64 == count_files(&replay.core))
+    let same = compare(rt, &there, &expected)?;
+    Ok(same && known == Some(count_files(&replay.core)))
 }
 
 /// The number of files that the coordinator counts.
@@ -192,42 +166,17 @@ fn is_replay_same(
     let told = tell_the_same(ended.book.core(), &replay.core);
     let shown = show_all(&mut ended.book, &mut replay.core)?;
     write_script(rt, &ended.settings, &ended.book)?;
-    let counted = are_files_same(&mut ended.book, replay)?;
+    let counted = are_files_same(&mut ended.book, &mut replay.core, &replay.fresh)?;
     Ok(told && shown && counted)
 }
 
-fn word(holds: bool) -> &'static str {
-    if holds { "yes" } else { "no" }
-}
-
-fn tell_verdicts(rt: &HostRuntime, listed: bool, folder: bool, same: bool) -> io::Result<()> {
-    let verdicts = [
-        ("each call is in the list", listed),
-        ("the folder has the files that it should have", folder),
-        ("a replay of the list is the coordinator", same),
-    ];
-    for (what, holds) in &verdicts {
-        println!(rt; "{what}: {}", word(*holds))?;
+/// Prints a result on standard output.
+fn tell_verdict(rt: &HostRuntime, what: &str, holds: bool) -> Result<(), DemoFault> {
+    let word = if holds { "yes" } else { "no" };
+    match println!(rt; "{what}: {word}") {
+        Ok(()) => Ok(()),
+        Err(_) => Err(DemoFault::Output),
     }
-    Ok(())
-}
-
-/// Checks the run against its replay. Returns whether all checks pass.
-fn judge(
-    rt: &HostRuntime,
-    ended: &mut Ended,
-    replay: &mut Replay,
-    before: &[u64],
-) -> Result<bool, DemoFault> {
-    tell_calls(rt, ended.calls.as_slice());
-    tell_records(rt, replay.counts);
-    tell_deletions(rt, replay.counts, ended.written);
-    tell_files_left(rt, &replay.core);
-    let listed = sum(ended.calls.as_slice()) == ended.book.len();
-    let folder = is_folder_right(rt, ended.settings.folder.as_str(), replay, before)?;
-    let same = is_replay_same(rt, ended, replay)?;
-    tell_verdicts(rt, listed, folder, same).or(Err(DemoFault::Output))?;
-    Ok(listed && folder && same)
 }
 
 /// Checks the run in a folder that had these files before, and prints the results. Returns whether
@@ -238,5 +187,15 @@ pub(crate) fn check(
     before: &[u64],
 ) -> Result<bool, DemoFault> {
     let mut replay = Replay::of(rt.alloc(), &ended.settings, &ended.book)?;
-    judge(rt, ended, &mut replay, before)
+    tell_calls(rt, ended.calls.as_slice());
+    tell_records(rt, replay.counts);
+    tell_deletions(rt, &replay, ended.written);
+    tell_files_left(rt, &replay.core);
+    let listed = sum(ended.calls.as_slice()) == ended.book.len();
+    let folder = is_folder_right(rt, ended.settings.folder.as_str(), &replay, before)?;
+    let same = is_replay_same(rt, ended, &mut replay)?;
+    tell_verdict(rt, "each call is in the list", listed)?;
+    tell_verdict(rt, "the folder has the files that it should have", folder)?;
+    tell_verdict(rt, "a replay of the list is the coordinator", same)?;
+    Ok(listed && folder && same)
 }

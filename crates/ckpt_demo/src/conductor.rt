@@ -137,8 +137,10 @@ impl Desk {
             Act::RollBack(id) => Some(restore(now, Target::Savepoint(CheckpointId(id)), None)),
             Act::Rescale => {
                 let counters = (settings.counters / 2).max(1);
-                let shape = settings.shape(self.alloc, counters).ok()?;
-                Some(restore(now, Target::Latest, Some(shape)))
+                match settings.shape(self.alloc, counters) {
+                    Ok(shape) => Some(restore(now, Target::Latest, Some(shape))),
+                    Err(_) => None,
+                }
             }
             Act::Nothing => None,
         }

@@ -18,8 +18,13 @@ pub(crate) fn path_of(alloc: Global, folder: &str, file: FileId) -> Result<Strin
 /// The numbers that are names in a folder, in ascending order. Skips other names.
 pub(crate) fn listed(rt: &HostRuntime, folder: &str) -> Result<Vec<u64>, DemoFault> {
     let mut numbers = Vec::new(rt.alloc());
-    for entry in fs::read_dir(rt, folder).or(Err(DemoFault::Files))? {
-        let entry = entry.or(Err(DemoFault::Files))?;
+    let Ok(entries) = fs::read_dir(rt, folder) else {
+        return Err(DemoFault::Files);
+    };
+    for entry in entries {
+        let Ok(entry) = entry else {
+            return Err(DemoFault::Files);
+        };
         if let Ok(number) = entry.file_name().parse::<u64>() {
             numbers.push(number)?;
         }
@@ -31,7 +36,9 @@ pub(crate) fn listed(rt: &HostRuntime, folder: &str) -> Result<Vec<u64>, DemoFau
 /// Makes the folder if there is none, and returns the files in it. The coordinator does not know
 /// these.
 pub(crate) fn strangers(rt: &HostRuntime, folder: &str) -> Result<Vec<u64>, DemoFault> {
-    fs::create_dir_all(rt, folder).or(Err(DemoFault::Files))?;
+    if fs::create_dir_all(rt, folder).is_err() {
+        return Err(DemoFault::Files);
+    }
     let numbers = listed(rt, folder)?;
     tell_files(
         rt,

@@ -1,7 +1,6 @@
 //! The state that the threads of a run share.
 ghost use Rattle.std.specs.Prelude.{◌≡◌};
 
-use crate::clock::{Watch, wait};
 use crate::settings::Settings;
 use ckpt_ids::{Answer, Call, CheckpointId, Choice, FileId, Metadata, Reply, TickEnd};
 use ckpt_locked::{Locked, Pass};
@@ -9,6 +8,19 @@ use ckpt_workers::Gate;
 use std::alloc::Global;
 use std::sync::Wait;
 use std::sync::atomic::{AtomicU64, Ordering};
+use std::thread;
+use std::time::{Clock, Duration};
+
+/// The greatest moment, in milliseconds.
+const LAST: u64 = (1 << 62) - 1;
+
+/// The host's clock in milliseconds. If it can't be read, the greatest moment.
+pub(crate) fn read_clock(host: &HostRuntime) -> u64 {
+    match host.monotonic() {
+        Ok(time) => u64::try_from(time.as_millis()).unwrap_or(LAST),
+        Err(_) => LAST,
+    }
+}
 
 /// What follows from the answers so far. Threads read it without a call.
 #[derive(Drop)]
@@ -173,7 +185,8 @@ pub(crate) struct Ground {
     pub(crate) lock: Locked,
     pub(crate) board: Board,
     pub(crate) settings: Settings,
-    pub(crate) watch: Watch,
+    /// The host's clock at the start of the run.
+    pub(crate) start: u64,
     pub(crate) alloc: Global,
     /// How many tasks the job has at its start.
     pub(crate) tasks: u32,
@@ -232,11 +245,11 @@ impl Ground {
 
     /// Milliseconds since the run began.
     pub(crate) fn now(&self) -> u64 {
-        self.watch.now(&self.host)
+        read_clock(&self.host).saturating_sub(self.start)
     }
 
     /// Waits some milliseconds.
     pub(crate) fn wait(&self, milliseconds: u64) {
-        wait(&self.host, milliseconds);
+        thread::sleep(&self.host, Duration::from_millis(milliseconds));
     }
 }

@@ -14,8 +14,10 @@ pub(crate) fn tell_line(rt: &HostRuntime, parts: &[(&str, u64)], end: &str) {
 /// Prints how many files of a kind there are, and names the first ones.
 pub(crate) fn tell_files(rt: &HostRuntime, sort: &str, numbers: &[u64]) {
     let _ = eprint!(rt; "{sort}: {}", numbers.len());
-    for number in numbers.iter().take(MOST_NAMED) {
-        let _ = eprint!(rt; " {number}");
+    for place in 0..MOST_NAMED {
+        if let Some(number) = numbers.get(place) {
+            let _ = eprint!(rt; " {number}");
+        }
     }
     let more = if numbers.len() > MOST_NAMED {
         " .."

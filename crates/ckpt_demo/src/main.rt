@@ -10,7 +10,6 @@
 #![tactic(auto)]
 
 mod checks;
-mod clock;
 mod conductor;
 mod discarder;
 mod folder;
@@ -28,7 +27,7 @@ use crate::checks::check;
 use crate::folder::strangers;
 use crate::settings::{DemoFault, Settings};
 use crate::threads::run;
-use std::io::Read;
+use std::io;
 use std::process::ExitCode;
 use std::sync::Wait;
 use std::thread::Threads;
@@ -37,10 +36,10 @@ use std::thread::Threads;
 const NO_RUN: u8 = 2;
 
 fn read_settings(rt: &HostRuntime) -> Result<Settings, DemoFault> {
-    let mut text = Vec::new(rt.alloc());
-    let mut reader = rt.reader();
-    reader.read_to_end(&mut text).or(Err(DemoFault::Input))?;
-    Settings::read(rt.alloc(), &text)
+    match io::read_to_string(rt.alloc(), rt.reader()) {
+        Ok(text) => Settings::read(rt.alloc(), text.as_str()),
+        Err(_) => Err(DemoFault::Input),
+    }
 }
 
 /// Runs the job and checks it. Returns whether all checks pass.

@@ -13,7 +13,6 @@ pub(crate) struct Counts {
     pub(crate) expired: u64,
     pub(crate) declined: u64,
     pub(crate) late: u64,
-    pub(crate) deleted: u64,
     pub(crate) failed: u64,
 }
 
@@ -22,12 +21,13 @@ pub(crate) struct Counts {
 pub(crate) struct Replay {
     pub(crate) core: Core,
     pub(crate) counts: Counts,
-    /// The new files of accepted acknowledgements. No file is new in two acknowledgements.
-    pub(crate) registered: Vec<u64>,
+    /// The new files of all acknowledgements. No file is new in two of them.
+    pub(crate) fresh: Vec<u64>,
     /// The new files of refused acknowledgements, in ascending order. They stay in the folder for
     /// good.
     pub(crate) refused: Vec<u64>,
-    /// The files that were reported as deleted, in ascending order.
+    /// The files that were reported as deleted, in ascending order. None is of a refused
+    /// acknowledgement.
     pub(crate) deleted: Vec<u64>,
 }
 
@@ -43,15 +43,17 @@ pub(crate) fn answer(core: &mut Core, call: &Call) -> Result<Answer, DemoFault> 
 impl Replay {
     /// A coordinator as at the start of the run.
     fn open(alloc: Global, settings: &Settings) -> Result<Replay, DemoFault> {
-        let shape = settings.shape(alloc, settings.counters)?;
-        let core = Core::new(alloc, settings.config()?, shape, 0, 1);
-        Ok(Replay {
-            core: core.or(Err(DemoFault::Limits))?,
-            counts: Counts::none(),
-            registered: Vec::new(alloc),
-            refused: Vec::new(alloc),
-            deleted: Vec::new(alloc),
-        })
+        let (config, shape) = settings.job(alloc)?;
+        match Core::new(alloc, config, shape, 0, 1) {
+            Ok(core) => Ok(Replay {
+                core,
+                counts: Counts::none(),
+                fresh: Vec::new(alloc),
+                refused: Vec::new(alloc),
+                deleted: Vec::new(alloc),
+            }),
+            Err(_) => Err(DemoFault::Limits),
+        }
     }
 
     /// Makes the calls of the book.
@@ -67,26 +69,26 @@ impl Replay {
         Ok(replay)
     }
 
+    /// Makes a call, and notes what follows from its answer.
     fn make(&mut self, call: &Call) -> Result<(), DemoFault> {
-        match answer(&mut self.core, call)? {
+        let refused = match answer(&mut self.core, call)? {
             Answer::Done(reply) => {
                 self.counts.count(&reply);
-                self.note(call)
+                false
             }
-            Answer::Refused(_) => match call {
-                Call::Ack { fresh, .. } => push_all(&mut self.refused, fresh),
-                _ => Ok(()),
-            },
-        }
-    }
-
-    /// Notes the files of an accepted call.
-    fn note(&mut self, call: &Call) -> Result<(), DemoFault> {
+            Answer::Refused(_) => true,
+        };
         match call {
-            Call::Ack { fresh, .. } => push_all(&mut self.registered, fresh),
-            Call::Deleted { file } => Ok(self.deleted.push(file.0)?),
-            _ => Ok(()),
+            Call::Ack { fresh, .. } => {
+                push_all(&mut self.fresh, fresh)?;
+                if refused {
+                    push_all(&mut self.refused, fresh)?;
+                }
+            }
+            Call::Deleted { file } if !refused => self.deleted.push(file.0)?,
+            _ => {}
         }
+        Ok(())
     }
 }
 
@@ -105,7 +107,6 @@ impl Counts {
             expired: 0,
             declined: 0,
             late: 0,
-            deleted: 0,
             failed: 0,
         }
     }
@@ -120,7 +121,6 @@ impl Counts {
             Reply::Cancelled { dropped, .. } => add(&mut self.dropped, *dropped),
             Reply::DeclineAborted(_) | Reply::DeclineFailed(_) => add(&mut self.declined, 1),
             Reply::AckLate(_) => add(&mut self.late, 1),
-            Reply::Deleted(_) => add(&mut self.deleted, 1),
             Reply::Undeleted(_) => add(&mut self.failed, 1),
             _ => {}
         }

@@ -36,8 +36,7 @@ fn push_calls(alloc: Global, text: &mut String, book: &Book) -> Result<(), Alloc
 }
 
 fn script(alloc: Global, settings: &Settings, book: &Book) -> Result<String, DemoFault> {
-    let config = settings.config()?;
-    let shape = settings.shape(alloc, settings.counters)?;
+    let (config, shape) = settings.job(alloc)?;
     let mut text = String::new(alloc);
     push_opening(alloc, &mut text, &config, &shape)?;
     push_calls(alloc, &mut text, book)?;
@@ -51,5 +50,8 @@ pub(crate) fn write_script(
     book: &Book,
 ) -> Result<(), DemoFault> {
     let text = script(rt.alloc(), settings, book)?;
-    fs::write(rt, settings.script.as_str(), text.as_str()).or(Err(DemoFault::Files))
+    match fs::write(rt, settings.script.as_str(), text.as_str()) {
+        Ok(()) => Ok(()),
+        Err(_) => Err(DemoFault::Files),
+    }
 }

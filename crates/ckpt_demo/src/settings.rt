@@ -22,14 +22,22 @@ impl DemoFault {
     /// Prints the fault on standard error. If that fails too, only the status says so.
     pub(crate) fn tell(self, rt: &HostRuntime) {
         let _ = eprint!(rt; "ckpt_demo: ");
+        if let DemoFault::Setting { line } = self {
+            let _ = eprint!(rt; "line {line} ");
+        }
+        tell_line(rt, &[], self.text());
+    }
+
+    /// The fault in words. They follow the number of the line, if it has one.
+    fn text(self) -> &'static str {
         match self {
-            DemoFault::Input => tell_line(rt, &[], "the settings can't be read"),
-            DemoFault::Setting { line } => tell_line(rt, &[("line ", line)], " is no setting"),
-            DemoFault::Limits => tell_line(rt, &[], "the settings are outside their limits"),
-            DemoFault::Files => tell_line(rt, &[], FILES),
-            DemoFault::Output => tell_line(rt, &[], "nothing can be printed"),
-            DemoFault::Memory => tell_line(rt, &[], "out of memory"),
-            DemoFault::Open => tell_line(rt, &[], "the lock does not close"),
+            DemoFault::Input => "the settings can't be read",
+            DemoFault::Setting { .. } => "is no setting",
+            DemoFault::Limits => "the settings are outside their limits",
+            DemoFault::Files => FILES,
+            DemoFault::Output => "nothing can be printed",
+            DemoFault::Memory => "out of memory",
+            DemoFault::Open => "the lock does not close",
         }
     }
 }
@@ -68,17 +76,14 @@ pub(crate) struct Settings {
 }
 
 impl Settings {
-    /// Reads lines with a name and a value. Skips blank lines and lines that begin with `#`. A
-    /// setting that no line names has its default.
-    pub(crate) fn read(alloc: Global, text: &[u8]) -> Result<Settings, DemoFault> {
+    /// Reads lines with a name and a value. A setting that no line names has its default.
+    pub(crate) fn read(alloc: Global, text: &str) -> Result<Settings, DemoFault> {
         let mut settings = Settings::usual(alloc)?;
-        let text = str::from_utf8(text).or(Err(DemoFault::Input))?;
         let mut number: u64 = 0;
         for line in text.lines() {
             number = number.saturating_add(1);
-            if !line.is_empty() && !line.starts_with("#") {
-                let set = settings.set(alloc, line)?;
-                set.ok_or(DemoFault::Setting { line: number })?;
+            if !settings.set(alloc, line)? {
+                return Err(DemoFault::Setting { line: number });
             }
         }
         Ok(settings)
@@ -102,21 +107,27 @@ impl Settings {
         })
     }
 
-    /// Reads a line. Returns `None` if it is not a setting.
-    fn set(&mut self, alloc: Global, line: &str) -> Result<Option<()>, AllocError> {
+    /// Reads a line, or skips it if it is blank or begins with `#`. Returns `false` if it is
+    /// anything else than a setting.
+    fn set(&mut self, alloc: Global, line: &str) -> Result<bool, AllocError> {
+        if line.is_empty() || line.starts_with("#") {
+            return Ok(true);
+        }
         let Some((name, value)) = line.split_once(" ") else {
-            return Ok(None);
+            return Ok(false);
         };
         match name {
             "folder" => self.folder = String::from_str(alloc, value)?,
             "script" => self.script = String::from_str(alloc, value)?,
             _ => return Ok(self.set_number(name, value)),
         }
-        Ok(Some(()))
+        Ok(true)
     }
 
-    fn set_number(&mut self, name: &str, value: &str) -> Option<()> {
-        let number = value.parse().ok()?;
+    fn set_number(&mut self, name: &str, value: &str) -> bool {
+        let Ok(number) = value.parse::<u64>() else {
+            return false;
+        };
         match name {
             "duration" => self.duration = number,
             "interval" => self.interval = number,
@@ -128,9 +139,9 @@ impl Settings {
             "declines" => self.declines = number,
             "failures" => self.failures = number,
             "seed" => self.seed = number,
-            _ => return None,
+            _ => return false,
         }
-        Some(())
+        true
     }
 
     /// How many tasks the job has at its start.
@@ -139,18 +150,13 @@ impl Settings {
         u32::try_from(tasks).unwrap_or(u32::MAX)
     }
 
-    /// The configuration of the job.
-    pub(crate) fn config(&self) -> Result<Config, DemoFault> {
-        Config::new(
-            self.interval,
-            0,
-            4,
-            self.timeout,
-            1000,
-            self.retained,
-            false,
-        )
-        .or(Err(DemoFault::Limits))
+    /// The configuration of the job, and its shape at the start.
+    pub(crate) fn job(&self, alloc: Global) -> Result<(Config, Shape), DemoFault> {
+        let (interval, timeout, retained) = (self.interval, self.timeout, self.retained);
+        let Ok(config) = Config::new(interval, 0, 4, timeout, 1000, retained, false) else {
+            return Err(DemoFault::Limits);
+        };
+        Ok((config, self.shape(alloc, self.counters)?))
     }
 
     /// The shape of a job with this many counters.

@@ -15,13 +15,6 @@ use std::sync::Wait;
 /// The time between two reads of the board, in milliseconds.
 const PAUSE: u64 = 2;
 
-/// A record in which a task takes part.
-#[derive(Clone, Copy)]
-struct Demand {
-    id: CheckpointId,
-    subtask: SubtaskId,
-}
-
 /// A file that the task may reuse, if this record is the base of the next ones.
 #[derive(Clone, Copy)]
 struct Kept {
@@ -32,6 +25,7 @@ struct Kept {
 #[derive(Drop)]
 struct Task {
     dice: Dice,
+    /// A file of each record that the task wrote files for.
     kept: Vec<Kept>,
 }
 
@@ -45,66 +39,84 @@ impl Task {
 
     /// The part of a record: writes new files, and reuses one of the base. Returns `None` if the
     /// task declines, if a file can't be written, or if memory runs out.
-    fn part(&mut self, ground: &Ground, demand: &Demand) -> Option<Order> {
+    fn part(&mut self, ground: &Ground, id: CheckpointId, subtask: SubtaskId) -> Option<Order> {
         if self.dice.falls(ground.settings.declines) {
             return None;
         }
-        let reused = self.reused(ground).ok()?;
-        let fresh = written_files(ground, demand)?;
-        if let Some(file) = fresh.last().copied() {
-            let id = demand.id.0;
-            self.kept.push(Kept { id, file }).ok()?;
-        }
+        let Ok(reused) = self.reused(ground.alloc, ground.board.base()) else {
+            return None;
+        };
+        let fresh = self.written(ground, id, subtask)?;
         let (fresh, reused) = (Files::of(fresh), Files::of(reused));
-        Order::new(ground.now(), demand.id, demand.subtask, fresh, reused).ok()
+        match Order::new(ground.now(), id, subtask, fresh, reused) {
+            Ok(order) => Some(order),
+            Err(_) => None,
+        }
     }
 
-    /// A file of the base, if there is one. Forgets the files before it.
-    fn reused(&mut self, ground: &Ground) -> Result<Vec<FileId>, AllocError> {
-        let base = ground.board.base();
-        let (mut reused, mut kept) = (Vec::new(ground.alloc), Vec::new(ground.alloc));
-        for file in &self.kept {
-            if file.id >= base {
-                kept.push(*file)?;
-            }
-            if file.id == base {
-                reused.push(file.file)?;
+    /// The file of the base, if there is one.
+    fn reused(&self, alloc: Global, base: u64) -> Result<Vec<FileId>, AllocError> {
+        let mut reused = Vec::new(alloc);
+        for kept in &self.kept {
+            if kept.id == base {
+                reused.push(kept.file)?;
             }
         }
-        self.kept = kept;
         Ok(reused)
     }
 
-    /// Takes part in a record: acknowledges with files, or declines.
+    /// Writes the new files of a record, and keeps the last one.
+    fn written(
+        &mut self,
+        ground: &Ground,
+        id: CheckpointId,
+        subtask: SubtaskId,
+    ) -> Option<Vec<FileId>> {
+        let mut files = Vec::new(ground.alloc);
+        let Ok(text) = state(ground.alloc, id, subtask) else {
+            return None;
+        };
+        for _ in 0..ground.settings.files {
+            let file = ground.board.new_file();
+            if !is_written(ground, file, text.as_str()) || files.push(file).is_err() {
+                return None;
+            }
+        }
+        if let Some(file) = files.last() {
+            let kept = Kept {
+                id: id.0,
+                file: *file,
+            };
+            if self.kept.push(kept).is_err() {
+                return None;
+            }
+        }
+        Some(files)
+    }
+
+    /// Takes part in a record, if it is live and has a part for this seat: acknowledges with files,
+    /// or declines.
     fn take_part<R: Wait>(&mut self, rt: &R, ground: &Ground, pass: Pass, id: CheckpointId) -> Pass
         requires { pass.lock ≡ ground.now.lock }
         ensures { result.lock ≡ ground.now.lock }
     {
-        let (pass, demand) = look_up(rt, ground, pass, id);
-        match demand {
-            Some(demand) => self.serve(rt, ground, pass, &demand),
-            None => pass,
-        }
-    }
-
-    fn serve<R: Wait>(&mut self, rt: &R, ground: &Ground, pass: Pass, demand: &Demand) -> Pass
-        requires { pass.lock ≡ ground.now.lock }
-        ensures { result.lock ≡ ground.now.lock }
-    {
-        match self.part(ground, demand) {
+        let place = pass.seat();
+        let (pass, metadata) = ground.show(rt, pass, id);
+        let Some(metadata) = metadata else {
+            return pass;
+        };
+        let Some(subtask) = metadata.shape.nth(place) else {
+            return pass;
+        };
+        match self.part(ground, id, subtask) {
             Some(order) => acknowledge(rt, ground, pass, order),
-            None => decline(rt, ground, pass, demand),
+            None => {
+                let now = ground.now();
+                let (pass, _) = ground.ask(rt, pass, Call::Decline { now, id, subtask });
+                pass
+            }
         }
     }
-}
-
-fn decline<R: Wait>(rt: &R, ground: &Ground, pass: Pass, demand: &Demand) -> Pass
-    requires { pass.lock ≡ ground.now.lock }
-    ensures { result.lock ≡ ground.now.lock }
-{
-    let (now, id, subtask) = (ground.now(), demand.id, demand.subtask);
-    let (pass, _) = ground.ask(rt, pass, Call::Decline { now, id, subtask });
-    pass
 }
 
 /// Gives the order to a worker in this thread.
@@ -121,46 +133,22 @@ fn acknowledge<R: Wait>(rt: &R, ground: &Ground, pass: Pass, order: Order) -> Pa
     pass
 }
 
-/// Writes the new files of a record.
-fn written_files(ground: &Ground, demand: &Demand) -> Option<Vec<FileId>> {
-    let mut files = Vec::new(ground.alloc);
-    for _ in 0..ground.settings.files {
-        files.push(written(ground, demand)?).ok()?;
-    }
-    Some(files)
-}
-
 /// The content of a state file.
-fn state(alloc: Global, demand: &Demand) -> Result<String, AllocError> {
-    let SubtaskId { vertex, index } = demand.subtask;
-    format!(in alloc; "record {}, subtask {vertex}.{index}\n", demand.id.0)
+fn state(alloc: Global, id: CheckpointId, subtask: SubtaskId) -> Result<String, AllocError> {
+    let SubtaskId { vertex, index } = subtask;
+    format!(in alloc; "record {}, subtask {vertex}.{index}\n", id.0)
 }
 
-/// Writes a new state file.
-fn written(ground: &Ground, demand: &Demand) -> Option<FileId> {
-    let file = ground.board.new_file();
-    let path = path_of(ground.alloc, ground.settings.folder.as_str(), file).ok()?;
-    let text = state(ground.alloc, demand).ok()?;
-    fs::write(&ground.host, path.as_str(), text.as_str()).ok()?;
-    ground.board.note_written();
-    Some(file)
-}
-
-/// The part of the task with this seat, if the record is live and has a part for it.
-fn look_up<R: Wait>(rt: &R, ground: &Ground, pass: Pass, id: CheckpointId) -> (Pass, Option<Demand>)
-    requires { pass.lock ≡ ground.now.lock }
-    ensures { result.0.lock ≡ ground.now.lock }
-{
-    let place = pass.seat();
-    let (pass, metadata) = ground.show(rt, pass, id);
-    let subtask = match metadata {
-        Some(metadata) => metadata.shape.nth(place),
-        None => None,
+/// Writes a state file. Returns whether that succeeded.
+fn is_written(ground: &Ground, file: FileId, text: &str) -> bool {
+    let Ok(path) = path_of(ground.alloc, ground.settings.folder.as_str(), file) else {
+        return false;
     };
-    match subtask {
-        Some(subtask) => (pass, Some(Demand { id, subtask })),
-        None => (pass, None),
+    if fs::write(&ground.host, path.as_str(), text).is_err() {
+        return false;
     }
+    ground.board.note_written();
+    true
 }
 
 /// Takes part in each new record, until the run has ended.

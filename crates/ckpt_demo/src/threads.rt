@@ -1,10 +1,9 @@
 //! A thread for each pass.
 ghost use Rattle.std.specs.Prelude.{◌≡◌, All, IfOk, map};
 
-use crate::clock::Watch;
 use crate::conductor::conduct;
 use crate::discarder::discard;
-use crate::ground::{Board, Ground};
+use crate::ground::{Board, Ground, read_clock};
 use crate::roles::{OTHERS, Role};
 use crate::settings::{DemoFault, Settings};
 use crate::task::work;
@@ -53,8 +52,7 @@ pub(crate) struct Ended {
 
 /// The book of the job.
 fn open(alloc: Global, settings: &Settings) -> Result<Book, DemoFault> {
-    let config = settings.config()?;
-    let shape = settings.shape(alloc, settings.counters)?;
+    let (config, shape) = settings.job(alloc)?;
     Book::new(alloc, config, shape, 0, 1).or(Err(DemoFault::Limits))
 }
 
@@ -76,7 +74,7 @@ pub(crate) fn run<R: Threads + Wait + Sync>(
         lock,
         board: Board::new(settings.interval, greatest),
         settings,
-        watch: Watch::started(&host),
+        start: read_clock(&host),
         alloc: host.alloc(),
         tasks,
     };
@@ -96,38 +94,36 @@ fn scatter<R: Threads + Wait + Sync>(
     work_on_each(rt, ground, passes)
 }
 
-/// The returned passes.
-fn passes_of(alloc: Global, reports: Vec<(Pass, ())>) -> Result<Vec<Pass>, AllocError>
-    ensures { IfOk result (λ passes. map (λ r. r.0) reports.items ≡ passes.items) }
-{
-    let mut passes = Vec::with_capacity(alloc, reports.len())?;
-    for report in reports {
-        passes.push(report.0)?;
-    }
-    Ok(passes)
+/// The returned passes, and how many calls were made with each.
+#[derive(Drop)]
+struct Returned {
+    passes: Vec<Pass>,
+    calls: Vec<u64>,
 }
 
-/// How many calls were made with each pass.
-fn calls_with(alloc: Global, passes: &[Pass]) -> Result<Vec<u64>, AllocError> {
-    let mut calls = Vec::with_capacity(alloc, passes.len())?;
-    for pass in passes {
-        calls.push(pass.calls())?;
+fn unpack(alloc: Global, reports: Vec<(Pass, ())>) -> Result<Returned, AllocError>
+    ensures { IfOk result (λ returned. map (λ r. r.0) reports.items ≡ returned.passes.items) }
+{
+    let mut calls = Vec::with_capacity(alloc, reports.len())?;
+    let mut passes = Vec::with_capacity(alloc, reports.len())?;
+    for report in reports {
+        calls.push(report.0.calls())?;
+        passes.push(report.0)?;
     }
-    Ok(calls)
+    Ok(Returned { passes, calls })
 }
 
 /// Closes the lock.
 fn close<R: Wait>(rt: &R, ground: Ground, reports: Vec<(Pass, ())>) -> Result<Ended, DemoFault>
     requires { All (λ r. r.0.lock ≡ ground.lock) reports.items }
 {
-    let passes = passes_of(ground.alloc, reports)?;
-    let calls = calls_with(ground.alloc, passes.as_slice())?;
+    let returned = unpack(ground.alloc, reports)?;
     let written = ground.board.written();
-    match ground.lock.close(rt, passes) {
+    match ground.lock.close(rt, returned.passes) {
         Ok(book) => Ok(Ended {
             book,
             settings: ground.settings,
-            calls,
+            calls: returned.calls,
             written,
         }),
         Err(_) => Err(DemoFault::Open),

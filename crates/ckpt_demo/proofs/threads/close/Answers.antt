@@ -7,6 +7,6 @@ use Rattle.ckpt_demo.proofs.threads.close.Goals as goal
 pub close-requires : goal.close-requires
 close-requires g c = record {
   passes =
-      subst (All (λ (h : Hand). h.lock ≡ c.args.ground.lock)) c.in_ok-passes.ensures
+      subst (All (λ (h : Hand). h.lock ≡ c.args.ground.lock)) c.in_ok-returned.ensures
       (All-map (λ (h : Hand). h.lock ≡ c.args.ground.lock) (λ d. d.0) c.args.reports.items c.requires);
 }

@@ -1,7 +1,7 @@
--- The loop invariants of `passes_of`.
+-- The loop invariants of `unpack`.
 use Rattle.std.proofs.Common.{◌≡◌}
 use Rattle.std.specs.Prelude.{map}
-use Rattle.ckpt_demo.proofs.threads.passes_of.Given as goal
+use Rattle.ckpt_demo.proofs.threads.unpack.Given as goal
 
 abbrev pub invariant-loop-report : goal.invariant-loop-report
 invariant-loop-report l =
