@@ -8,7 +8,7 @@ use ckpt_locked::Book;
 /// Makes a call, and returns whether it was entered. A call that runs out of memory is not.
 // Compiled into its callers, so that what is measured is the book's call.
 #[inline(always)]
-pub(crate) fn is_entered(book: &mut Book, seat: u32, call: Call) -> bool {
+pub(crate) fn enter(book: &mut Book, seat: u32, call: Call) -> bool {
     book.apply(seat, call).is_ok()
 }
 
@@ -16,7 +16,7 @@ pub(crate) fn is_entered(book: &mut Book, seat: u32, call: Call) -> bool {
 fn count_files(book: &mut Book, calls: u64) -> Result<(), BenchFault> {
     for number in 0..calls {
         let file = FileId(number);
-        if !is_entered(book, 0, Call::Count { file }) {
+        if !enter(book, 0, Call::Count { file }) {
             return Err(BenchFault::Full { calls: book.len() });
         }
     }

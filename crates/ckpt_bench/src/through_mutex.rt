@@ -1,5 +1,5 @@
 //! Calls through a mutex around a book, to compare with a lock.
-use crate::book::is_entered;
+use crate::book::enter;
 use crate::fault::BenchFault;
 use crate::through_lock::call_at;
 use ckpt_locked::Book;
@@ -21,7 +21,7 @@ impl Desk {
         let seat = (seat % 64) as u32;
         for place in 0..self.calls {
             // A call that is not entered is not counted.
-            let _ = is_entered(&mut self.mutex.lock(rt), seat, call_at(place));
+            let _ = enter(&mut self.mutex.lock(rt), seat, call_at(place));
         }
     }
 }

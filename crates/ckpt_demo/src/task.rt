@@ -78,7 +78,7 @@ impl Task {
         };
         for _ in 0..ground.settings.files {
             let file = ground.board.new_file();
-            if !is_written(ground, file, text.as_str()) || files.push(file).is_err() {
+            if !write_state(ground, file, text.as_str()) || files.push(file).is_err() {
                 return None;
             }
         }
@@ -140,7 +140,7 @@ fn state(alloc: Global, id: CheckpointId, subtask: SubtaskId) -> Result<String, 
 }
 
 /// Writes a state file. Returns whether that succeeded.
-fn is_written(ground: &Ground, file: FileId, text: &str) -> bool {
+fn write_state(ground: &Ground, file: FileId, text: &str) -> bool {
     let Ok(path) = path_of(ground.alloc, ground.settings.folder.as_str(), file) else {
         return false;
     };
