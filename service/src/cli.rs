@@ -14,13 +14,13 @@ pub struct Cli {
 pub enum Command {
     /// Serve jobs over HTTP
     Serve(Serve),
-    /// Delete the files that a job hands out, which lie in a folder under their numbers
+    /// Delete the files that a job hands out, from a folder in which a file's number is its name
     Discard(Discard),
 }
 
 #[derive(Args)]
 pub struct Serve {
-    /// A configuration file in TOML; the options below go before it
+    /// A configuration file in TOML; the options below override it
     #[arg(long, value_name = "FILE")]
     pub config: Option<PathBuf>,
     /// Address and port [default: 127.0.0.1:7780]
@@ -29,16 +29,16 @@ pub struct Serve {
     /// An SQLite file, or postgres://.. [default: relkvanu.db]
     #[arg(long, value_name = "DATABASE")]
     pub database: Option<String>,
-    /// The SQLite file of the history; where it is deleted, it is made again from the log that is there [default: DATABASE.history]
+    /// The SQLite file of the history; if it is deleted, it is made again from the rest of the log [default: DATABASE.history]
     #[arg(long, value_name = "FILE")]
     pub history: Option<PathBuf>,
     /// The file of tokens: lines of 'read TOKEN' and 'write TOKEN'
     #[arg(long, value_name = "FILE")]
     pub token_file: Option<PathBuf>,
-    /// An image of a job is made after so many calls; 0: never, and the log is kept whole [default: 10000]
+    /// Make an image of a job after this many calls; 0 makes none and keeps the whole log [default: 10000]
     #[arg(long, value_name = "CALLS")]
     pub image_calls: Option<u64>,
-    /// Calls before its last image that a job's log keeps [default: 1000000]
+    /// How many calls before its last image a job's log keeps [default: 1000000]
     #[arg(long, value_name = "CALLS")]
     pub keep_calls: Option<u64>,
     /// The address that a standby names to clients [default: http://LISTEN]
@@ -60,10 +60,10 @@ pub struct Discard {
     /// A file whose first line is a write token
     #[arg(long, value_name = "FILE")]
     pub token_file: Option<PathBuf>,
-    /// What stands before a file's number in its name
+    /// The part of a file's name before its number
     #[arg(long, default_value = "")]
     pub prefix: String,
-    /// What stands after a file's number in its name
+    /// The part of a file's name after its number
     #[arg(long, default_value = "")]
     pub suffix: String,
     /// Stop when no file waits

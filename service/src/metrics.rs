@@ -156,7 +156,7 @@ impl Gauges {
                 "State files that are in use, wait for deletion, or were taken for it.",
                 &["job_name", "state"],
             )?,
-            pending: gauge("relkvanu_pending_records", "Records that subtasks are missing of.", &["job_name", "kind"])?,
+            pending: gauge("relkvanu_pending_records", "Records that wait for acknowledgements.", &["job_name", "kind"])?,
             log_calls: gauge(
                 "relkvanu_log_calls",
                 "Calls that the job's log has had: the place of the last.",
