@@ -1,5 +1,5 @@
 -- How many elements of a list pass a test.
-use Rattle.std.proofs.Common.{◌≡◌, ℕ, suc, ◌+◌, ◌<◌, ◌≤◌, Bool, true, false, cond, eqb, List, [], ◌∷◌, ◌++◌, filter, map, refl, sym, ap, subst, ◌∙◌, inl, inr, ⊎_elim, arith}
+use Rattle.std.proofs.Common.{◌≡◌, ℕ, suc, ◌+◌, ◌<◌, ◌≤◌, Bool, true, false, cond, eqb, List, [], ◌∷◌, ◌++◌, filter, length, map, refl, sym, ap, subst, ◌∙◌, inl, inr, ⊎_elim, arith}
 use Rattle.std.specs.Prelude.{count_by}
 use Rattle.std.proofs.lemmas.Bool.{cases_Bool, cases_lt, cond_both, cond-true, cond-false, eqb-true, eq-eqb}
 use Rattle.std.proofs.lemmas.List.Sums.{sum_by-append, sum_by-cons}
@@ -28,6 +28,19 @@ count_by_no p x xs e =
 pub count_by-none : {X : Type 0} (p : X → Bool) (xs : List X) → ((x : X) → IsIn x xs → p x ≡ false) → count_by p xs ≡ 0
 count_by-none p [] fails = refl
 count_by-none p (x ∷ xs) fails = count_by_no p x xs (fails x (inl refl)) ∙ count_by-none p xs (λ y h. fails y (inr h))
+
+-- the count is the length if each element passes
+pub count_by-all : {X : Type 0} (p : X → Bool) (xs : List X) → ((x : X) → IsIn x xs → p x ≡ true) → count_by p xs ≡ length xs
+count_by-all p [] passes = refl
+count_by-all p (x ∷ xs) passes = count_by_yes p x xs (passes x (inl refl)) ∙ ap suc (count_by-all p xs (λ y h. passes y (inr h)))
+
+-- two tests that agree on the elements count the same
+pub count_by-same : {X : Type 0} (p q : X → Bool) (xs : List X) → ((x : X) → IsIn x xs → p x ≡ q x) → count_by p xs ≡ count_by q xs
+count_by-same p q [] agree = refl
+count_by-same {X} p q (x ∷ xs) agree =
+    let one : Bool → ℕ = λ b. cond b 1 0 in
+    let here : one (p x) ≡ one (q x) = ap one (agree x (inl refl)) in
+    omega (arith, count_by-cons p x xs, count_by-cons q x xs, count_by-same p q xs (λ y h. agree y (inr h)))
 
 -- the count is above 0 if an element passes
 pub counted-from_IsIn : {X : Type 0} (p : X → Bool) (x : X) (xs : List X) → IsIn x xs → p x ≡ true → 0 < count_by p xs

@@ -1,7 +1,7 @@
 -- What holds of lists in order. The principle: two lists in a strict order that have the same elements are equal.
-use Rattle.std.proofs.Common.{◌≡◌, ℕ, zero, suc, length, get_or, ◌<◌, Bool, true, false, cond, List, [], ◌∷◌, ◌++◌, map, refl, sym, ap, subst, ◌∙◌, ◌⊎◌, inl, inr, ⊎_elim, arith, ◌||◌, ◌&&◌}
+use Rattle.std.proofs.Common.{◌≡◌, ℕ, zero, suc, length, get_or, ◌<◌, Bool, true, false, cond, eqb, List, [], ◌∷◌, ◌++◌, map, refl, sym, ap, subst, ◌∙◌, ◌⊎◌, inl, inr, ⊎_elim, arith, ◌||◌, ◌&&◌}
 use Rattle.std.specs.List.{filter, list_any, flat_map}
-use Rattle.std.proofs.lemmas.Bool.{cases_Bool, both_ways, cond-false, cond-true, or_cases, or_left, or_right}
+use Rattle.std.proofs.lemmas.Bool.{cases_Bool, both_ways, cond-false, cond-true, eq-eqb, eqb-true, or_cases, or_left, or_right}
 use Rattle.ckpt_ids.specs.Ordered.{IsIn, AreDistinct, ComesBefore, IsInOrder, put, put_once, in_order, in_order_once, IsStrictOrder}
 
 -- membership
@@ -43,6 +43,11 @@ IsIn-from_flat_map {X} {Y} f y (x ∷ xs) h =
     let later : IsIn y (flat_map f xs) → Found = λ (k : IsIn y (flat_map f xs)). let p = IsIn-from_flat_map f y xs k in (p.0, inr p.1, p.2) in
     ⊎_elim here later (IsIn-append_cases y (f x) (flat_map f xs) h)
 
+-- of a list with one element
+pub only_one : {X : Type 0} (x y : X) → IsIn x (y ∷ []) → x ≡ y
+only_one x y (inl e) = e
+only_one x y (inr n) = absurd n
+
 -- the place of an element
 pub IsIn-place : {X : Type 0} (x : X) (xs : List X) → IsIn x xs → (k : ℕ) × (k < length xs) × (get_or xs k x ≡ x)
 IsIn-place x [] h = absurd h
@@ -53,6 +58,10 @@ pub IsIn-get_or : {X : Type 0} (xs : List X) (k : ℕ) (d : X) → k < length xs
 IsIn-get_or [] k d h = absurd (omega arith)
 IsIn-get_or (x ∷ xs) zero d h = inl refl
 IsIn-get_or (x ∷ xs) (suc k) d h = inr (IsIn-get_or xs k d (omega arith))
+
+-- what a loop reads
+pub IsIn-at : {X : Type 0} (xs : List X) (i : ℕ) (x : X) → i < length xs → x ≡ get_or xs i x → IsIn x xs
+IsIn-at {X} xs i x within at = let P : X → Type 0 = λ y. IsIn y xs in subst P (sym at) (IsIn-get_or xs i x within)
 
 -- what a filter keeps
 pub IsIn-filter : {X : Type 0} (p : X → Bool) (x : X) (xs : List X) → IsIn x xs → p x ≡ true → IsIn x (filter p xs)
@@ -115,6 +124,25 @@ IsIn-from_list_any {X} p (y ∷ xs) h =
 pub list_any-none : {X : Type 0} (p : X → Bool) (xs : List X) → ((x : X) → IsIn x xs → p x ≡ false) → list_any p xs ≡ false
 list_any-none p [] f = refl
 list_any-none p (x ∷ xs) f = ap (λ b. b || list_any p xs) (f x (inl refl)) ∙ list_any-none p xs (λ y h. f y (inr h))
+
+-- and then each fails it
+pub fails-from_list_any : {X : Type 0} (p : X → Bool) (xs : List X) → list_any p xs ≡ false → (x : X) → IsIn x xs → p x ≡ false
+fails-from_list_any p xs none x h = ⊎_elim (λ (t : p x ≡ true). absurd (both_ways (list_any p xs) none (list_any-from_IsIn p x xs h t))) (λ (f : p x ≡ false). f) (cases_Bool (p x))
+
+-- the test for being in a list of numbers
+pub IsIn-from_test : (f : ℕ) (xs : List ℕ) → list_any (λ g. eqb f g) xs ≡ true → IsIn f xs
+IsIn-from_test f xs h =
+    let q = IsIn-from_list_any (λ g. eqb f g) xs h in
+    let P : ℕ → Type 0 = λ g. IsIn g xs in
+    subst P (sym (eqb-true f q.0 q.2)) q.1
+
+-- and the other way round
+pub test-from_IsIn : (f : ℕ) (xs : List ℕ) → IsIn f xs → list_any (λ g. eqb f g) xs ≡ true
+test-from_IsIn f xs h = list_any-from_IsIn (λ g. eqb f g) f xs h (eq-eqb f f refl)
+
+-- and if the test fails
+pub not_in-from_test : (f : ℕ) (xs : List ℕ) → list_any (λ g. eqb f g) xs ≡ false → IsIn f xs → ⊥
+not_in-from_test f xs e h = both_ways (list_any (λ g. eqb f g) xs) e (test-from_IsIn f xs h)
 
 -- order
 

@@ -1,5 +1,5 @@
--- What follows for a result from a test of it.
-use Rattle.std.proofs.Common.{Result, Ok, Err, OnOk, OnErr, ◌≡◌, true, false, refl}
+-- What follows for a result or an option from a test of it.
+use Rattle.std.proofs.Common.{Option, Some, None, IsSome, OnSome, Result, Ok, Err, OnOk, OnErr, ◌≡◌, true, false, refl}
 use Rattle.std.proofs.lemmas.Bool.{both_ways}
 use Rattle.std.specs.Result.{is_err}
 
@@ -7,6 +7,11 @@ use Rattle.std.specs.Result.{is_err}
 pub on_ok : {T E : Type 0} (r : Result T E) (P : Type 0) → is_err r ≡ false → OnOk r P → P
 on_ok (Ok x) P e h = h
 on_ok (Err x) P e h = absurd (both_ways true e refl)
+
+-- a fact that is known if there is a value
+pub on_some : {X : Type 0} (r : Option X) (P : Type 0) → IsSome r → OnSome r P → P
+on_some (Some x) P e h = h
+on_some None P e h = absurd (cc e)
 
 -- a known fact holds for each error
 pub on_each_error : {T E : Type 0} (r : Result T E) (P : Type 0) → P → OnErr r P
