@@ -2,7 +2,7 @@
 use Rattle.std.proofs.Common.{◌≡◌, ℕ, ◌+◌, Bool, true, false, not, cond, List, [], ◌∷◌, refl, sym, ap, subst, ◌∙◌, ⊎_elim, arith, ◌||◌, ◌&&◌}
 use Rattle.std.specs.Prelude.{count_by, filter}
 use Rattle.std.specs.List.{list_any}
-use Rattle.std.proofs.lemmas.Bool.{cases_Bool, or_parts}
+use Rattle.std.proofs.lemmas.Bool.{cases_Bool}
 use Rattle.std.proofs.lemmas.Bool.Decides.{nat_tests}
 use Rattle.ckpt_ids.specs.declared.subtask.SubtaskId.{SubtaskId}
 use Rattle.ckpt_ids.specs.declared.ack.Acked.{Acked}
@@ -10,6 +10,7 @@ use Rattle.ckpt_ids.specs.Ordered.{put}
 use Rattle.ckpt_ids.specs.Acknowledged.{acknowledges_before, put_ack}
 use Rattle.ckpt_ids.specs.Shapes.{subtasks, is_subtask, same_subtask}
 use Rattle.ckpt_ids.proofs.OrderLemmas.{same_subtask-Decides}
+use Rattle.ckpt_ids.proofs.OrderedLemmas.{fails-from_list_any, filter-all, list_any-none}
 use Rattle.ckpt_pending.proofs.SubtaskLemmas.{same_subtask-itself, same_subtask-other, IsInOrder-subtasks, IsIn-subtasks, count_by_one_more}
 
 -- some acknowledgement is of this subtask
@@ -30,10 +31,6 @@ pub list_any_same : {X : Type 0} (p q : X → Bool) (xs : List X) → ((x : X) �
 list_any_same p q [] f = refl
 list_any_same p q (x ∷ xs) f = ap (λ b. b || list_any p xs) (f x) ∙ ap (λ b. q x || b) (list_any_same p q xs f)
 
-list_any_nowhere : {X : Type 0} (p : X → Bool) (xs : List X) → ((x : X) → p x ≡ false) → list_any p xs ≡ false
-list_any_nowhere p [] f = refl
-list_any_nowhere p (x ∷ xs) f = ap (λ b. b || list_any p xs) (f x) ∙ list_any_nowhere p xs f
-
 pub list_any-filter : {X : Type 0} (p keep : X → Bool) (xs : List X) → list_any p (filter keep xs) ≡ list_any (λ x. p x && keep x) xs
 list_any-filter p keep [] = refl
 list_any-filter {X} p keep (x ∷ xs) =
@@ -45,13 +42,6 @@ list_any-filter {X} p keep (x ∷ xs) =
     (λ (e : keep x ≡ true). subst P (sym e) (ap (λ b. p x || b) rest ∙ kept (p x) (list_any (λ x. p x && keep x) xs)))
     (λ (e : keep x ≡ false). subst P (sym e) (rest ∙ gone (p x) (list_any (λ x. p x && keep x) xs)))
     (cases_Bool (keep x))
-
-pub filter_all : {X : Type 0} (p : X → Bool) (xs : List X) → list_any p xs ≡ false → filter (λ x. not (p x)) xs ≡ xs
-filter_all p [] h = refl
-filter_all {X} p (x ∷ xs) h =
-    let parts = or_parts (p x) (list_any p xs) h in
-    let P : Bool → Type 0 = λ b. cond (not b) (x ∷ filter (λ x. not (p x)) xs) (filter (λ x. not (p x)) xs) ≡ x ∷ xs in
-    subst P (sym parts.0) (ap (λ ys. x ∷ ys) (filter_all p xs parts.1))
 
 filter-put : {X : Type 0} (keep : X → Bool) (before : X → X → Bool) (x : X) (xs : List X) → keep x ≡ false → filter keep (put before x xs) ≡ filter keep xs
 filter-put {X} keep before x [] h = let P : Bool → Type 0 = λ b. cond b (x ∷ []) [] ≡ [] in subst P (sym h) refl
@@ -69,7 +59,7 @@ pub without_put : (s : SubtaskId) (files : List ℕ) (acks : List Acked) → ack
 without_put s files acks h =
     let one : Acked = record { subtask = s; files = files } in
     let keep : Acked → Bool = λ a. not (same_subtask s a.subtask) in
-    filter-put keep acknowledges_before one acks (ap not (same_subtask-itself s)) ∙ filter_all (λ (a : Acked). same_subtask s a.subtask) acks h
+    filter-put keep acknowledges_before one acks (ap not (same_subtask-itself s)) ∙ filter-all keep acks (λ a k. ap not (fails-from_list_any (λ (b : Acked). same_subtask s b.subtask) acks h a k))
 
 -- one subtask less is missing
 pub missing-put : (shape : List ℕ) (s : SubtaskId) (files : List ℕ) (acks : List Acked) → is_subtask shape s ≡ true → acked acks s ≡ false → count_by (λ t. not (acked (put_ack (record { subtask = s; files = files }) acks) t)) (subtasks shape) + 1 ≡ count_by (λ t. not (acked acks t)) (subtasks shape)
@@ -90,7 +80,7 @@ missing-without shape s acks h k =
     let is : SubtaskId → Bool = λ t. not (acked (filter keep acks) t) in
     let without : (t : SubtaskId) → acked (filter keep acks) t ≡ list_any (λ a. same_subtask t a.subtask && keep a) acks = λ t. list_any-filter (λ (a : Acked). same_subtask t a.subtask) keep acks in
     let contrary : (b : Bool) → (b && not b) ≡ false = λ b. grind (arith, nat_tests) in
-    let here : is s ≡ true = ap not (without s ∙ list_any_nowhere (λ (a : Acked). same_subtask s a.subtask && keep a) acks (λ a. contrary (same_subtask s a.subtask))) in
+    let here : is s ≡ true = ap not (without s ∙ list_any-none (λ (a : Acked). same_subtask s a.subtask && keep a) acks (λ a h. contrary (same_subtask s a.subtask))) in
     let kept : (t : SubtaskId) → (t ≡ s → ⊥) → (a : Acked) → (same_subtask t a.subtask && keep a) ≡ same_subtask t a.subtask = λ t ne a.
     let P : Bool → Type 0 = λ b. (b && keep a) ≡ b in
     let yes : same_subtask t a.subtask ≡ true → P (same_subtask t a.subtask) = λ (e : same_subtask t a.subtask ≡ true). subst P (sym e) (ap not (same_subtask-other s a.subtask (λ same. ne ((same_subtask-Decides t a.subtask).0 e ∙ sym same)))) in

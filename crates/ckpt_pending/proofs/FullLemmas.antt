@@ -1,5 +1,5 @@
 -- A record is full exactly if no subtask is missing.
-use Rattle.std.proofs.Common.{◌≡◌, suc, ◌+◌, Bool, true, false, not, List, [], ◌∷◌, map, length, refl, sym, ap, subst, ◌∙◌, ⊎_elim, arith}
+use Rattle.std.proofs.Common.{◌≡◌, Bool, true, false, not, List, [], ◌∷◌, map, length, refl, sym, ap, subst, ◌∙◌, ⊎_elim, arith}
 use Rattle.std.specs.Prelude.{count_by}
 use Rattle.std.proofs.lemmas.Bool.{cases_Bool, both_ways}
 use Rattle.ckpt_ids.specs.declared.subtask.SubtaskId.{SubtaskId}
@@ -11,7 +11,7 @@ use Rattle.ckpt_ids.specs.Records.{Record, missing, has_acknowledged, IsFull}
 use Rattle.ckpt_ids.proofs.OrderLemmas.{subtasks_in_order, same_subtask-Decides}
 use Rattle.ckpt_ids.proofs.OrderedLemmas.{same_from_members, IsInOrder-map, IsIn-map, IsIn-from_map, IsIn-from_list_any, list_any-from_IsIn}
 use Rattle.ckpt_pending.specs.Acknowledging.{IsPending}
-use Rattle.ckpt_pending.proofs.SubtaskLemmas.{IsInOrder-subtasks, IsIn-subtasks, none_counted, count_by-cons, one_if}
+use Rattle.ckpt_pending.proofs.SubtaskLemmas.{IsInOrder-subtasks, IsIn-subtasks, none_counted}
 use Rattle.ckpt_ids.proofs.CountLemmas.{count_by-none}
 
 -- a subtask of a full record has acknowledged
@@ -43,13 +43,3 @@ missing_from_full r full =
     let q = IsIn-from_map (λ (a : Acked). a.subtask) s r.acks (subst P (sym full) h) in
     let same : same_subtask s q.0.subtask ≡ true = (same_subtask-Decides s q.0.subtask).1 q.2 in
     ap not (list_any-from_IsIn (λ (a : Acked). same_subtask s a.subtask) q.0 r.acks q.1 same))
-
--- all are missing at first
-pub count_by_all : {X : Type 0} (p : X → Bool) (xs : List X) → ((x : X) → p x ≡ true) → count_by p xs ≡ length xs
-count_by_all p [] f = refl
-count_by_all p (x ∷ xs) f =
-    let rest : count_by p xs ≡ length xs = count_by_all p xs f in
-    let here : one_if (p x) ≡ 1 = ap one_if (f x) in
-    let all : count_by p (x ∷ xs) ≡ one_if (p x) + count_by p xs = count_by-cons p x xs in
-    let more : one_if (p x) + count_by p xs ≡ suc (length xs) = omega arith in
-    all ∙ more

@@ -9,17 +9,18 @@ use Rattle.ckpt_ids.specs.Ordered.{IsIn}
 use Rattle.ckpt_ids.specs.Acknowledged.{acknowledges_before, AreInSubtaskOrder, put_ack}
 use Rattle.ckpt_ids.specs.Shapes.{IsShape, subtasks, is_subtask, same_subtask}
 use Rattle.ckpt_ids.specs.Records.{Record, missing, has_acknowledged}
+use Rattle.ckpt_ids.proofs.CountLemmas.{count_by-all}
 use Rattle.ckpt_ids.proofs.OrderLemmas.{subtasks_in_order, same_subtask-Decides}
 use Rattle.ckpt_ids.proofs.OrderedLemmas.{IsIn-put_cases, IsIn-from_filter, IsInOrder-filter, IsInOrder-put_between, IsIn-from_list_any, list_any-from_IsIn}
 use Rattle.ckpt_ids.proofs.ShapeLemmas.{length-subtasks_from}
 use Rattle.ckpt_pending.specs.Acknowledging.{pending_record, without_ack, IsPending, IsDone, IsCounted}
 use Rattle.ckpt_pending.proofs.AckLemmas.{acked, missing-put, missing-without, without_put}
-use Rattle.ckpt_pending.proofs.FullLemmas.{count_by_all, full_from_missing}
+use Rattle.ckpt_pending.proofs.FullLemmas.{full_from_missing}
 
 pub IsCounted-new : (id : ℕ) (kind : Kind) (shape : List ℕ) (started count : ℕ) → IsShape shape → count ≡ length (subtasks shape) → IsCounted (pending_record id kind shape started []) count
 IsCounted-new id kind shape started count h e = record {
   pending = record { not_done = refl; no_pins = refl; has_shape = h; in_order = tt; expected = λ a k. absurd k };
-  counted = e ∙ sym (count_by_all (λ s. true) (subtasks shape) (λ s. refl));
+  counted = e ∙ sym (count_by-all (λ s. true) (subtasks shape) (λ s h. refl));
 }
 
 other_subtask : (s : SubtaskId) (a : Acked) (acks : List Acked) → acked acks s ≡ false → IsIn a acks → s ≡ a.subtask → ⊥

@@ -3,11 +3,11 @@ use Rattle.std.proofs.Common.{◌≡◌, ℕ, zero, suc, ◌+◌, ◌≤◌, Boo
 use Rattle.std.specs.Prelude.{count_by}
 use Rattle.std.specs.List.{list_any, range_with_len}
 use Rattle.std.proofs.lemmas.Bool.{cases_Bool, both_ways, or_left, or_right, and_parts, and_from, lt-ltb, leb-true, eq-eqb}
-use Rattle.std.proofs.lemmas.List.Sums.{sum_by-cons}
 use Rattle.ckpt_ids.specs.declared.subtask.SubtaskId.{SubtaskId}
 use Rattle.ckpt_ids.specs.Ordered.{IsIn, IsInOrder}
 use Rattle.ckpt_ids.specs.Acknowledged.{is_before}
 use Rattle.ckpt_ids.specs.Shapes.{subtasks, subtasks_from, is_subtask, same_subtask}
+use Rattle.ckpt_ids.proofs.CountLemmas.{count_by-cons, count_by-same}
 use Rattle.ckpt_ids.proofs.OrderLemmas.{subtasks_in_order, same_subtask-Decides}
 use Rattle.ckpt_ids.proofs.OrderedLemmas.{ComesBefore-from, ComesBefore-at, IsInOrder-append, IsInOrder-map, IsIn-from_map, IsIn-from_list_any, list_any-from_IsIn}
 use Rattle.ckpt_ids.proofs.ShapeLemmas.{is_subtask_from}
@@ -66,22 +66,12 @@ is_subtask-from_IsIn shape s h = list_any-from_IsIn (same_subtask s) s (subtasks
 abbrev pub one_if : Bool → ℕ
 one_if b = cond b 1 0
 
-pub count_by-cons : {X : Type 0} (p : X → Bool) (x : X) (xs : List X) → count_by p (x ∷ xs) ≡ one_if (p x) + count_by p xs
-count_by-cons p x xs = sum_by-cons (λ y. cond (p y) 1 0) x xs
-
-pub count_by_same : {X : Type 0} (p q : X → Bool) (xs : List X) → ((x : X) → IsIn x xs → q x ≡ p x) → count_by q xs ≡ count_by p xs
-count_by_same p q [] f = refl
-count_by_same {X} p q (x ∷ xs) f =
-    let rest : count_by q xs ≡ count_by p xs = count_by_same p q xs (λ y h. f y (inr h)) in
-    let here : one_if (q x) ≡ one_if (p x) = ap one_if (f x (inl refl)) in
-    omega (arith, count_by-cons p x xs, count_by-cons q x xs)
-
 -- q counts s no more, and else what p counts
 pub count_by_one_more : (p q : SubtaskId → Bool) (s : SubtaskId) (xs : List SubtaskId) → IsInOrder is_before xs → IsIn s xs → p s ≡ true → q s ≡ false → ((t : SubtaskId) → (t ≡ s → ⊥) → q t ≡ p t) → count_by q xs + 1 ≡ count_by p xs
 count_by_one_more p q s [] a h ps qs f = absurd h
 count_by_one_more p q s (x ∷ xs) a (inl e) ps qs f =
     let later : (t : SubtaskId) → IsIn t xs → q t ≡ p t = λ t k. f t (λ same. both_ways (is_before x x) (subtasks_in_order.irreflexive x) (ap (is_before x) (sym e ∙ sym same) ∙ ComesBefore-at is_before x t xs a.0 k)) in
-    let rest : count_by q xs ≡ count_by p xs = count_by_same p q xs later in
+    let rest : count_by q xs ≡ count_by p xs = count_by-same q p xs later in
     let px : one_if (p x) ≡ 1 = ap one_if (ap p (sym e) ∙ ps) in
     let qx : one_if (q x) ≡ 0 = ap one_if (ap q (sym e) ∙ qs) in
     omega (arith, count_by-cons p x xs, count_by-cons q x xs)

@@ -8,15 +8,12 @@ use Rattle.ckpt_ids.specs.Places.{BelongsAt, LiesAt}
 use Rattle.ckpt_ids.specs.Shapes.{same_subtask}
 use Rattle.ckpt_ids.specs.declared.ack.Acked.{Acked}
 use Rattle.ckpt_ids.specs.Records.{Record, missing, has_acknowledged}
+use Rattle.ckpt_ids.proofs.ResultLemmas.{on_some}
 use Rattle.ckpt_pending.specs.Acknowledging.{pending_record, subtask_of, without_ack, IsCounted}
 use Rattle.ckpt_pending.proofs.AckLemmas.{acked}
 use Rattle.ckpt_pending.proofs.PendingLemmas.{IsCounted-without, missing-without_ack, missing_bound}
 use Rattle.ckpt_pending.proofs.PlaceLemmas.{acked_nowhere, remove_at}
 use Rattle.ckpt_pending.proofs.pending.Pending.retract.Goals as goal
-
-on_some : {X : Type 0} (r : Option X) (P : Type 0) → IsSome r → OnSome r P → P
-on_some None P h k = absurd (cc h)
-on_some (Some x) P h k = k
 
 there : (s : SubtaskId) (acks : List Acked) (r : Result ℕ ℕ) → acked acks s ≡ true → IfErr r (BelongsAt is_before subtask_of s acks) → IsOk r
 there s acks (Ok place) h k = refl

@@ -1,17 +1,13 @@
 -- Answers the goals of `Store::dispose`.
-use Rattle.std.proofs.Common.{◌≡◌, ◌∙◌, ◌<◌, true, false, sym, ap, Option, Some, None, IsSome, OnSome, refl}
+use Rattle.std.proofs.Common.{◌≡◌, ◌∙◌, ◌<◌, true, false, sym, ap, Some, refl}
 use Rattle.std.specs.List.{remove}
 use Rattle.std.specs.VecDeque.{deque_len}
 use Rattle.std.proofs.lemmas.Bool.{both_ways, eq-eqb}
+use Rattle.ckpt_ids.proofs.ResultLemmas.{on_some}
 use Rattle.ckpt_store.specs.Storing.{has_savepoint}
 use Rattle.ckpt_store.proofs.RowLemmas.{has_place, none_place, remove-place}
 use Rattle.ckpt_store.proofs.StoreLemmas.{IsStored-dispose}
 use Rattle.ckpt_store.proofs.store.Store.dispose.Goals as goal
-
--- what a call with a result leaves
-on_some : {X P : Type 0} (o : Option X) → OnSome o P → IsSome o → P
-on_some (Some x) h there = h
-on_some None h there = absurd (both_ways false refl there)
 
 pub returns-in_default-clause-absent : goal.returns-in_default-clause-absent
 returns-in_default-clause-absent c =
@@ -27,7 +23,7 @@ pub invariant_of-self : goal.invariant_of-self
 invariant_of-self c =
     let unused : c.self.inside.base ≡ Some c.args.id → ⊥ = λ e. both_ways c.eq.result c.if-eq.false (c.eq.ensures ∙ rw e (eq-eqb c.args.id c.args.id refl)) in
     let within : c.in-Ok.place < deque_len c.self.inside.savepoints = rw c.self.inside.savepoints.ok.0 c.in-Ok.ensures.found.0 in
-    let removed : c.remove.new.self.items ≡ remove c.self.inside.savepoints.items c.in-Ok.place = on_some c.remove.result c.remove.ensures.items (c.remove.ensures.variant.1 within) in
+    let removed : c.remove.new.self.items ≡ remove c.self.inside.savepoints.items c.in-Ok.place = on_some c.remove.result _ (c.remove.ensures.variant.1 within) c.remove.ensures.items in
     rw (removed, remove-place c.args.id c.self.inside.savepoints.items c.in-Ok.place c.self.invariant.savepoints_rise c.in-Ok.ensures.found) (IsStored-dispose _ c.args.id _ c.self.invariant unused)
 
 pub returns-clause-absent : goal.returns-clause-absent
@@ -38,5 +34,5 @@ returns-clause-absent c =
 pub returns-clause-ok : goal.returns-clause-ok
 returns-clause-ok c =
     let within : c.in-Ok.place < deque_len c.self.inside.savepoints = rw c.self.inside.savepoints.ok.0 c.in-Ok.ensures.found.0 in
-    let removed : c.remove.new.self.items ≡ remove c.self.inside.savepoints.items c.in-Ok.place = on_some c.remove.result c.remove.ensures.items (c.remove.ensures.variant.1 within) in
+    let removed : c.remove.new.self.items ≡ remove c.self.inside.savepoints.items c.in-Ok.place = on_some c.remove.result _ (c.remove.ensures.variant.1 within) c.remove.ensures.items in
     rw (← c.self.view_is, removed, remove-place c.args.id c.self.inside.savepoints.items c.in-Ok.place c.self.invariant.savepoints_rise c.in-Ok.ensures.found) refl
