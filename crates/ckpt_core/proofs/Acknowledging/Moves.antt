@@ -15,7 +15,7 @@ use Rattle.ckpt_core.specs.Steps.{replaced}
 use Rattle.ckpt_core.specs.Inside.Grouped.{is_pin, pins, pins_of, with_pins, grouped, records_of}
 use Rattle.ckpt_core.proofs.Records.Counts.{map_same, map_itself}
 use Rattle.ckpt_core.proofs.Records.Grouped.{in_order-map}
-use Rattle.ckpt_core.proofs.Records.GroupMoves.{map-map}
+use Rattle.std.proofs.lemmas.Simd.{map-map}
 use Rattle.ckpt_core.proofs.Using.Order.{holds, from_holds}
 
 -- uses of a subtask more leave the pins

@@ -3,7 +3,7 @@ use Rattle.std.proofs.Common.{◌≡◌, ℕ, List, [], ◌∷◌, ◌++◌, tak
 use Rattle.std.specs.Prelude as prelude
 use Rattle.std.specs.Prelude.{find, IsSome}
 use Rattle.std.specs.Borrow.{Bor}
-use Rattle.std.specs.Option.{option_map, option_copied}
+use Rattle.std.specs.Option.{option_map, option_or, option_copied}
 use Rattle.ckpt_ids.specs.declared.ack.Metadata.{Metadata}
 use Rattle.ckpt_ids.specs.declared.call.Call.TheVariants as call
 use Rattle.ckpt_ids.specs.declared.reply.Reply.TheVariants as reply
@@ -20,7 +20,7 @@ use Rattle.ckpt_core.specs.Soundness.{id_before}
 use Rattle.ckpt_core.specs.State.{State, record_of}
 use Rattle.ckpt_core.specs.Steps.{Stepped, effect, take_files, without, show}
 use Rattle.ckpt_core.proofs.Records.Grouped.{apart-from_in_order}
-use Rattle.ckpt_core.proofs.Records.GroupLookups.{record_of-groups, first_found, first_found-some, first_found-none}
+use Rattle.ckpt_core.proofs.Records.GroupLookups.{record_of-groups}
 use Rattle.ckpt_core.proofs.Records.Lookups.{has_number}
 use Rattle.ckpt_core.proofs.Answering.StepCases.{step_accepted}
 use Rattle.ckpt_core.proofs.Answering.RefusalRows.{first_row-none}
@@ -78,29 +78,29 @@ counted_answers p file n sound accepted is = record {
 
 -- the metadata of a record
 
-either : (a b : Option Record) → elim a as (λ _. Option Record) [ Some r ↦ Some r | None ↦ b ] ≡ first_found a b
-either (Some r) b = sym (first_found-some r b)
-either None b = sym (first_found-none b)
+either : (a b : Option Record) → elim a as (λ _. Option Record) [ Some r ↦ Some r | None ↦ b ] ≡ option_or a b
+either (Some r) b = refl
+either None b = refl
 
-stored_found : (id : ℕ) (s : storing.Stored) → storing.record_of s id ≡ first_found (find (has_number id) s.checkpoints) (find (has_number id) s.savepoints)
+stored_found : (id : ℕ) (s : storing.Stored) → storing.record_of s id ≡ option_or (find (has_number id) s.checkpoints) (find (has_number id) s.savepoints)
 stored_found id s = either (find (has_number id) s.checkpoints) (find (has_number id) s.savepoints)
 
 -- a live record is pending or stored
 pub record_there : (p : Parts) (id : ℕ) → IsInOrder id_before (records_in p) →
-    record_of (state_of p) id ≡ first_found (option_map (with_pins p.registry) (find (has_number id) p.pending)) (storing.record_of p.store id)
+    record_of (state_of p) id ≡ option_or (option_map (with_pins p.registry) (find (has_number id) p.pending)) (storing.record_of p.store id)
 unfolding state_of
 record_there p id order =
     record_of-groups id p.registry p.pending p.store.checkpoints p.store.savepoints (apart-from_in_order (grouped p.registry p.pending p.store.checkpoints p.store.savepoints) order)
-    ∙ ap (first_found (option_map (with_pins p.registry) (find (has_number id) p.pending))) (sym (stored_found id p.store))
+    ∙ ap (option_or (option_map (with_pins p.registry) (find (has_number id) p.pending))) (sym (stored_found id p.store))
 
 pub pending_metadata : (p : Parts) (id : ℕ) (r : Record) (metadata : Metadata) → IsInOrder id_before (records_in p) → find (has_number id) p.pending ≡ Some r → metadata ≡ metadata_of r →
     option_map metadata_of (record_of (state_of p) id) ≡ Some metadata
 pending_metadata p id r metadata order there is =
-    ap (option_map metadata_of) (record_there p id order ∙ ap (λ o. first_found (option_map (with_pins p.registry) o) (storing.record_of p.store id)) there ∙ first_found-some (with_pins p.registry r) (storing.record_of p.store id))
+    ap (option_map metadata_of) (record_there p id order ∙ ap (λ o. option_or (option_map (with_pins p.registry) o) (storing.record_of p.store id)) there)
     ∙ ap (λ x. Some x) (sym is)
 
 pub stored_record : (p : Parts) (id : ℕ) → IsInOrder id_before (records_in p) → find (has_number id) p.pending ≡ None → record_of (state_of p) id ≡ storing.record_of p.store id
-stored_record p id order none = record_there p id order ∙ ap (λ o. first_found (option_map (with_pins p.registry) o) (storing.record_of p.store id)) none ∙ first_found-none (storing.record_of p.store id)
+stored_record p id order none = record_there p id order ∙ ap (λ o. option_or (option_map (with_pins p.registry) o) (storing.record_of p.store id)) none
 
 pub stored_metadata : (p : Parts) (id : ℕ) (r : Record) (metadata : Metadata) → IsInOrder id_before (records_in p) → find (has_number id) p.pending ≡ None → storing.record_of p.store id ≡ Some r → metadata ≡ metadata_of r →
     option_map metadata_of (record_of (state_of p) id) ≡ Some metadata

@@ -1,7 +1,7 @@
 -- What the table of refusals looks up in the records, found in the parts.
 use Rattle.std.proofs.Common.{◌≡◌, ℕ, ◌+◌, Bool, true, false, not, ◌&&◌, ◌||◌, eqb, List, [], ◌∷◌, length, refl, sym, ap, ◌∙◌, Option, Some, None, Bor}
 use Rattle.std.specs.Prelude.{count_by, find}
-use Rattle.std.specs.Option.{option_map, option_copied, is_none, is_some}
+use Rattle.std.specs.Option.{option_map, option_or, option_copied, is_none, is_some}
 use Rattle.std.proofs.lemmas.Bool.{both_ways}
 use Rattle.ckpt_ids.specs.declared.subtask.SubtaskId.{SubtaskId}
 use Rattle.ckpt_ids.specs.declared.reply.Refusal.{Refusal}
@@ -19,7 +19,7 @@ use Rattle.ckpt_core.specs.Inside.Parts.{AreSound, AreTied, records_in, state_of
 use Rattle.ckpt_core.proofs.Answering.RefusalRows.{rows_only}
 use Rattle.ckpt_core.proofs.Records.Grouped.{AreApart, apart-from_in_order}
 use Rattle.ckpt_core.proofs.Records.Lookups.{has_number, pending_of-groups}
-use Rattle.ckpt_core.proofs.Records.GroupLookups.{first_found, record_of-groups, savepoints-groups, done_savepoint-groups, first_found-some, first_found-none}
+use Rattle.ckpt_core.proofs.Records.GroupLookups.{record_of-groups, savepoints-groups, done_savepoint-groups}
 use Rattle.ckpt_core.proofs.Ending.Drops.{groups_of}
 
 apart_of : (p : Parts) → AreSound p → AreApart (grouped p.registry p.pending p.store.checkpoints p.store.savepoints)
@@ -42,11 +42,11 @@ unfolding state_of
 savepoints-parts p pending stored =
     savepoints-groups p.registry p.pending p.store.checkpoints p.store.savepoints (groups_of p pending stored)
 
-no_record-first : (f : Record → Record) (a b c : Option Record) → no_record (first_found (option_map f a) (first_found b c)) ≡ refuse_if (is_none a && is_none (elim b as (λ _. Option Record) [ Some r ↦ Some r | None ↦ c ])) NoSuchRecord
-no_record-first f (Some r) b c = ap no_record (first_found-some (f r) (first_found b c))
-no_record-first f None (Some r) c = ap no_record (first_found-none (first_found (Some r) c) ∙ first_found-some r c)
-no_record-first f None None (Some r) = ap no_record (first_found-none (first_found None (Some r)) ∙ first_found-none (Some r))
-no_record-first f None None None = ap no_record (first_found-none (first_found None None) ∙ first_found-none None)
+no_record-first : (f : Record → Record) (a b c : Option Record) → no_record (option_or (option_map f a) (option_or b c)) ≡ refuse_if (is_none a && is_none (elim b as (λ _. Option Record) [ Some r ↦ Some r | None ↦ c ])) NoSuchRecord
+no_record-first f (Some r) b c = refl
+no_record-first f None (Some r) c = refl
+no_record-first f None None (Some r) = refl
+no_record-first f None None None = refl
 
 pub no_record-parts : (p : Parts) (id : ℕ) → AreSound p → no_record (find (λ r. eqb r.id id) (records_in p)) ≡ refuse_if (is_none (find (λ r. eqb r.id id) p.pending) && is_none (record_of p.store id)) NoSuchRecord
 no_record-parts p id sound =

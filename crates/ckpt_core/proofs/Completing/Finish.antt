@@ -14,7 +14,8 @@ use Rattle.ckpt_core.specs.Steps.{replaced}
 use Rattle.ckpt_core.specs.Inside.Grouped.{is_pin, pins, with_pins, grouped, records_of}
 use Rattle.ckpt_core.proofs.Records.Counts.{map_same}
 use Rattle.ckpt_core.proofs.Records.Grouped.{AreApart, in_order-filter, in_order-map, in_order_same, apart-filter, apart-map, apart-append, apart_left, apart_between}
-use Rattle.ckpt_core.proofs.Records.GroupMoves.{filter-map, map-map, with_pins_kept}
+use Rattle.ckpt_core.proofs.Records.GroupMoves.{filter-map, with_pins_kept}
+use Rattle.std.proofs.lemmas.Simd.{map-map}
 use Rattle.ckpt_core.proofs.Acknowledging.Moves.{with_instead, id-with_instead, with_instead-other, with_instead-same, replaced_members, in_replaced, still_in_replaced}
 use Rattle.ckpt_core.proofs.Using.Order.{holds, from_holds, use_of_record, uses-filter}
 

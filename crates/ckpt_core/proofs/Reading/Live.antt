@@ -7,14 +7,16 @@ use Rattle.std.proofs.lemmas.Option.{slice_get_past}
 use Rattle.ckpt_ids.specs.Ordered.{IsIn, IsInOrder, in_order}
 use Rattle.ckpt_ids.specs.Records.{Record, Use}
 use Rattle.ckpt_ids.proofs.CountLemmas.{count_by_yes, count_by_no, count_by-none}
-use Rattle.ckpt_ids.proofs.OrderedLemmas.{ComesBefore-at, IsIn-append_left, IsIn-append_right, IsIn-append_cases, IsIn-map, IsIn-from_map, IsIn-in_order, IsIn-from_in_order}
+use Rattle.ckpt_ids.proofs.OrderedLemmas.{ComesBefore-at, IsIn-append_left, IsIn-append_right, IsIn-append_cases, IsIn-map, IsIn-from_map, IsIn-in_order, IsIn-from_in_order, list_any-none}
+use Rattle.ckpt_ids.proofs.PlaceLemmas.{find-none}
 use Rattle.ckpt_core.specs.declared.queries.Live.{Live}
 use Rattle.ckpt_core.specs.declared.parts.Parts.{Parts}
 use Rattle.ckpt_core.specs.Inside.Grouped.{with_pins, grouped}
 use Rattle.ckpt_core.specs.Inside.Parts.{AreSound, records_in, state_of}
 use Rattle.ckpt_core.specs.Reads.{live_of, sooner}
 use Rattle.ckpt_core.specs.Soundness.{IsSound, id_before}
-use Rattle.ckpt_core.proofs.Records.Counts.{IsIn-from_find, fails-from_find, find-none}
+use Rattle.ckpt_core.proofs.Records.Counts.{IsIn-from_find, fails-from_find}
+use Rattle.ckpt_core.proofs.Records.Replacing.{same_record}
 
 -- whether the number is at least this one
 abbrev pub is_from : ℕ → Record → Bool
@@ -51,16 +53,9 @@ first_found_in : (n : ℕ) (xs : List Record) (o : Option Record) → IsInOrder 
 first_found_in n xs None order e = λ r h. fails-from_find (is_from n) r xs e h
 first_found_in n xs (Some r) order e = let k = IsIn-from_find (is_from n) r xs e in ((r, k.0, k.1, refl), least_found n r xs order e)
 
-same_number : (xs : List Record) → IsInOrder id_before xs → (x y : Record) → IsIn x xs → IsIn y xs → x.id ≡ y.id → x ≡ y
-same_number [] order x y h k e = absurd h
-same_number (z ∷ xs) order x y (inl a) (inl b) e = a ∙ sym b
-same_number (z ∷ xs) order x y (inl a) (inr k) e = let below : z.id < y.id = ltb-true z.id y.id (ComesBefore-at id_before z y xs order.0 k) in let its : x.id ≡ z.id = ap (λ q. q.id) a in absurd (omega arith)
-same_number (z ∷ xs) order x y (inr h) (inl b) e = let below : z.id < x.id = ltb-true z.id x.id (ComesBefore-at id_before z x xs order.0 h) in let its : y.id ≡ z.id = ap (λ q. q.id) b in absurd (omega arith)
-same_number (z ∷ xs) order x y (inr h) (inr k) e = same_number xs order.1 x y h k e
-
 -- and it is no other
 found_is_first : (n : ℕ) (xs : List Record) (o : Option Live) → IsInOrder id_before xs → IsFirst n xs o → o ≡ option_map live_of (find (is_from n) xs)
-found_is_first n xs None order first = sym (ap (option_map live_of) (find-none (is_from n) xs first))
+found_is_first n xs None order first = sym (ap (option_map live_of) (find-none (is_from n) xs (list_any-none (is_from n) xs first)))
 found_is_first n xs (Some live) order first =
     let r : Record = first.0.0 in
     let Goal : Type 0 = ◌≡◌ {A = Option Live} (Some live) (option_map live_of (find (is_from n) xs)) in
@@ -70,7 +65,7 @@ found_is_first n xs (Some live) order first =
     let low : q.id ≤ r.id = least_found n q xs order e r first.0.1 first.0.2 in
     let high : live.id ≤ q.id = first.1 q k.0 k.1 in
     let its : live.id ≡ r.id = ap (λ l. l.id) first.0.3 in
-    let same : r ≡ q = same_number xs order r q first.0.1 k.0 (omega arith) in
+    let same : r ≡ q = same_record r q xs order first.0.1 k.0 (omega arith) in
     ap (λ l. Some l) (first.0.3 ∙ ap live_of same) ∙ sym (ap (option_map live_of) e) in
     elim (find (is_from n) xs) as (λ o. (find (is_from n) xs ≡ o → Goal)) [ None ↦ none | Some q ↦ some q ] refl
 

@@ -2,7 +2,7 @@
 use Rattle.std.proofs.Common.{◌≡◌, ℕ, Bool, true, false, ◌&&◌, cond, eqb, refl, sym, ap, ◌∙◌, Option, Some, None}
 use Rattle.std.specs.Borrow.{Bor}
 use Rattle.std.specs.Prelude.{find, is_some}
-use Rattle.std.specs.Option.{option_copied, option_map}
+use Rattle.std.specs.Option.{option_copied, option_map, option_or}
 use Rattle.std.proofs.lemmas.Bool.{and_parts, eqb-true}
 use Rattle.ckpt_ids.specs.Ordered.{IsIn, IsInOrder}
 use Rattle.ckpt_ids.specs.Records.{Record}
@@ -21,7 +21,6 @@ use Rattle.ckpt_core.specs.Soundness.{id_before}
 use Rattle.ckpt_core.specs.State.{State, is_pending, record_of}
 use Rattle.ckpt_core.proofs.Answering.Reads.{record_there, stored_record}
 use Rattle.ckpt_core.proofs.Records.Counts.{IsIn-from_find}
-use Rattle.ckpt_core.proofs.Records.GroupLookups.{first_found, first_found-some}
 use Rattle.ckpt_core.proofs.Records.Lookups.{has_number}
 
 -- the standing, by what is found
@@ -32,8 +31,7 @@ found_standing m id o = elim o as (λ _. Standing) [ Some r ↦ standing_of r | 
 pub pending_found : (p : Parts) (id : ℕ) (r : Record) → IsInOrder id_before (records_in p) → find (has_number id) p.pending ≡ Some r → record_of (state_of p) id ≡ Some (with_pins p.registry r)
 pending_found p id r order there =
     record_there p id order
-    ∙ ap (λ o. first_found (option_map (with_pins p.registry) o) (storing.record_of p.store id)) there
-    ∙ first_found-some (with_pins p.registry r) (storing.record_of p.store id)
+    ∙ ap (λ o. option_or (option_map (with_pins p.registry) o) (storing.record_of p.store id)) there
 
 -- what the store finds is done
 stored_done : (s : Stored) (id : ℕ) (r : Record) → IsStored s → storing.record_of s id ≡ Some r → r.done ≡ true

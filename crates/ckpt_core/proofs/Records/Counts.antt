@@ -68,11 +68,6 @@ fails-from_find {X} p x (y ∷ xs) e h =
     ⊎_elim (λ (same : x ≡ y). ap p same ∙ t) (λ (later : IsIn x xs). fails-from_find p x xs k later) h in
     ⊎_elim yes no (cases_Bool (p y))
 
--- if none passes, nothing is found
-pub find-none : {X : Type 0} (p : X → Bool) (xs : List X) → ((x : X) → IsIn x xs → p x ≡ false) → find p xs ≡ None
-find-none p [] f = refl
-find-none {X} p (x ∷ xs) f = ap (λ b. cond b (Some x) (find p xs)) (f x (inl refl)) ∙ find-none p xs (λ y h. f y (inr h))
-
 -- a change of elements that are kept
 pub map_same : {X Y : Type 0} (f g : X → Y) (xs : List X) → ((x : X) → IsIn x xs → f x ≡ g x) → map f xs ≡ map g xs
 map_same f g [] e = refl

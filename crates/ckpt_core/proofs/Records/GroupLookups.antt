@@ -1,9 +1,10 @@
 -- What is found in the records in rising number is found in the groups: done records, savepoints, the choice.
 use Rattle.std.proofs.Common.{◌≡◌, ℕ, suc, ◌+◌, ◌-◌, Bool, true, false, not, ◌&&◌, cond, eqb, List, [], ◌∷◌, ◌++◌, map, length, refl, sym, ap, subst, ◌∙◌, ⊎_elim, arith, Option, Some, None}
 use Rattle.std.specs.Prelude.{count_by, find, slice_get}
-use Rattle.std.specs.Option.{option_map}
+use Rattle.std.specs.Option.{option_map, option_or}
 use Rattle.std.specs.List.{filter, list_any}
 use Rattle.std.proofs.lemmas.List.{append-nil}
+use Rattle.std.proofs.lemmas.List.Folds.{find-append}
 use Rattle.std.proofs.lemmas.List.Elements.{filter-append}
 use Rattle.std.proofs.lemmas.Bool.{cases_Bool, both_ways, eqb-true, and_parts, and_from, and_left, and_right, not_from_false, not_from_true}
 use Rattle.ckpt_ids.specs.declared.numbers.Kind.TheVariants as kind
@@ -23,34 +24,14 @@ is_checkpoint-kind r e = ap (λ k. is_checkpoint (record r { kind = k })) e
 pub is_savepoint-kind : (r : Record) → r.kind ≡ kind.Savepoint → is_checkpoint r ≡ false
 is_savepoint-kind r e = ap (λ k. is_checkpoint (record r { kind = k })) e
 
--- one of two lists
-unfoldable pub first_found : {X : Type 0} → Option X → Option X → Option X
-first_found (Some x) o = Some x
-first_found None o = o
-
-pub first_found-some : {X : Type 0} (x : X) (o : Option X) → first_found (Some x) o ≡ Some x
-unfolding first_found
-first_found-some x o = refl
-
-pub first_found-none : {X : Type 0} (o : Option X) → first_found None o ≡ o
-unfolding first_found
-first_found-none o = refl
-
-pub find-append : {X : Type 0} (p : X → Bool) (xs ys : List X) → find p (xs ++ ys) ≡ first_found (find p xs) (find p ys)
-unfolding first_found
-find-append p [] ys = refl
-find-append {X} p (x ∷ xs) ys =
-    let P : Bool → Type 0 = λ b. cond b (Some x) (find p (xs ++ ys)) ≡ first_found (cond b (Some x) (find p xs)) (find p ys) in
-    ⊎_elim (λ (e : p x ≡ true). subst P (sym e) refl) (λ (e : p x ≡ false). subst P (sym e) (find-append p xs ys)) (cases_Bool (p x))
-
 -- the record of a number: pending, or a checkpoint, or a savepoint
 pub record_of-groups : (id : ℕ) (us : List Use) (pending checkpoints savepoints : List Record) → AreApart (grouped us pending checkpoints savepoints) →
-    find (has_number id) (records_of us pending checkpoints savepoints) ≡ first_found (option_map (with_pins us) (find (has_number id) pending)) (first_found (find (has_number id) checkpoints) (find (has_number id) savepoints))
+    find (has_number id) (records_of us pending checkpoints savepoints) ≡ option_or (option_map (with_pins us) (find (has_number id) pending)) (option_or (find (has_number id) checkpoints) (find (has_number id) savepoints))
 record_of-groups id us pending checkpoints savepoints apart =
     find-records_of (has_number id) id us pending checkpoints savepoints apart (λ r h. eqb-true r.id id h)
     ∙ find-append (has_number id) (map (with_pins us) pending) (checkpoints ++ savepoints)
-    ∙ ap (λ o. first_found o (find (has_number id) (checkpoints ++ savepoints))) (find-map (has_number id) (with_pins us) pending)
-    ∙ ap (first_found (option_map (with_pins us) (find (has_number id) pending))) (find-append (has_number id) checkpoints savepoints)
+    ∙ ap (λ o. option_or o (find (has_number id) (checkpoints ++ savepoints))) (find-map (has_number id) (with_pins us) pending)
+    ∙ ap (option_or (option_map (with_pins us) (find (has_number id) pending))) (find-append (has_number id) checkpoints savepoints)
 
 -- how many
 pub pending_checkpoints-groups : (us : List Use) (pending checkpoints savepoints : List Record) → AreGroups pending checkpoints savepoints →

@@ -36,10 +36,6 @@ filter-map {X} {Y} p f (x ∷ xs) =
     let P : Bool → Type 0 = λ b. cond b (f x ∷ filter p (map f xs)) (filter p (map f xs)) ≡ map f (cond b (x ∷ filter (λ y. p (f y)) xs) (filter (λ y. p (f y)) xs)) in
     ⊎_elim (λ (e : p (f x) ≡ true). subst P (sym e) (ap (λ ys. f x ∷ ys) rest)) (λ (e : p (f x) ≡ false). subst P (sym e) rest) (cases_Bool (p (f x)))
 
-pub map-map : {X Y Z : Type 0} (f : Y → Z) (g : X → Y) (xs : List X) → map f (map g xs) ≡ map (λ x. f (g x)) xs
-map-map f g [] = refl
-map-map f g (x ∷ xs) = ap (λ ys. f (g x) ∷ ys) (map-map f g xs)
-
 -- pins
 
 pub pins_kept : (keep : Use → Bool) (us : List Use) (id : ℕ) → ((u : Use) → IsIn u us → pins id u ≡ true → keep u ≡ true) → pins_of (filter keep us) id ≡ pins_of us id

@@ -7,13 +7,14 @@ use Rattle.std.proofs.lemmas.List.{length-append, length-map}
 use Rattle.ckpt_ids.specs.declared.numbers.Kind.TheVariants as kind
 use Rattle.ckpt_ids.specs.Ordered.{IsIn, put, in_order}
 use Rattle.ckpt_ids.specs.Records.{Record, Use}
-use Rattle.ckpt_ids.proofs.OrderedLemmas.{IsIn-append_cases, IsIn-in_order, IsIn-from_in_order}
+use Rattle.ckpt_ids.proofs.OrderedLemmas.{IsIn-append_cases, IsIn-in_order, IsIn-from_in_order, list_any-none}
+use Rattle.ckpt_ids.proofs.PlaceLemmas.{find-none}
 use Rattle.ckpt_core.specs.Soundness.{id_before}
 use Rattle.ckpt_core.specs.State.{is_pending}
 use Rattle.ckpt_core.specs.Refusals.{pending_of}
 use Rattle.ckpt_core.specs.Inside.Grouped.{with_pins, grouped, records_of}
 use Rattle.ckpt_ids.proofs.CountLemmas.{count_by-cons, count_by-append, count_by-map, count_by-in_order}
-use Rattle.ckpt_core.proofs.Records.Counts.{IsIn-from_find, fails-from_find, find-none}
+use Rattle.ckpt_core.proofs.Records.Counts.{IsIn-from_find, fails-from_find}
 use Rattle.ckpt_core.proofs.Records.Grouped.{AreApart}
 
 -- counts
@@ -60,7 +61,7 @@ find-one p x xs h t one =
 
 pub find_same : (p : Record → Bool) (xs ys : List Record) → ((z : Record) → IsIn z xs → IsIn z ys) → ((z : Record) → IsIn z ys → IsIn z xs) → ((y z : Record) → IsIn y xs → IsIn z xs → p y ≡ true → p z ≡ true → y ≡ z) → find p xs ≡ find p ys
 find_same p xs ys forth back one =
-    let none : find p ys ≡ None → find p xs ≡ find p ys = λ (e : find p ys ≡ None). find-none p xs (λ z h. fails-from_find p z ys e (forth z h)) ∙ sym e in
+    let none : find p ys ≡ None → find p xs ≡ find p ys = λ (e : find p ys ≡ None). find-none p xs (list_any-none p xs (λ z h. fails-from_find p z ys e (forth z h))) ∙ sym e in
     let some : (y : Record) → find p ys ≡ Some y → find p xs ≡ find p ys = λ y e.
     let k = IsIn-from_find p y ys e in
     find-one p y xs (back y k.0) k.1 (λ z h t. one z y h (back y k.0) t k.1) ∙ sym e in
@@ -81,7 +82,7 @@ find-records_of p id us pending checkpoints savepoints apart only =
     (λ y z h k a b. one_of_number g apart y z (IsIn-from_in_order id_before y g h) (IsIn-from_in_order id_before z g k) (only y a ∙ sym (only z b)))
 
 pub find-append_left : {X : Type 0} (p : X → Bool) (xs ys : List X) → ((y : X) → IsIn y ys → p y ≡ false) → find p (xs ++ ys) ≡ find p xs
-find-append_left p [] ys fails = find-none p ys fails
+find-append_left p [] ys fails = find-none p ys (list_any-none p ys fails)
 find-append_left p (x ∷ xs) ys fails = ap (λ o. cond (p x) (Some x) o) (find-append_left p xs ys fails)
 
 pub find-map : {X Y : Type 0} (p : Y → Bool) (f : X → Y) (xs : List X) → find p (map f xs) ≡ option_map f (find (λ x. p (f x)) xs)

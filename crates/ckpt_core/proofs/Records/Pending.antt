@@ -25,7 +25,7 @@ use Rattle.ckpt_core.specs.State.{is_checkpoint}
 use Rattle.ckpt_core.specs.Soundness.{id_before}
 use Rattle.ckpt_core.specs.Inside.PendingRecords.{acked, retracted, AreKept}
 use Rattle.ckpt_core.proofs.Records.Counts.{map_itself}
-use Rattle.ckpt_core.proofs.Records.GroupMoves.{map-map}
+use Rattle.std.proofs.lemmas.Simd.{map-map}
 
 -- the record of this number changed
 abbrev pub changed : ℕ → (Record → Record) → List Record → List Record

@@ -11,13 +11,14 @@ use Rattle.ckpt_ids.specs.Ordered.{IsIn}
 use Rattle.ckpt_ids.specs.Ascending.{ascending}
 use Rattle.ckpt_ids.specs.Records.{Record, uses, is_present, missing, has_acknowledged}
 use Rattle.ckpt_ids.specs.Shapes.{is_subtask}
-use Rattle.ckpt_ids.proofs.OrderedLemmas.{IsIn-append_left}
+use Rattle.ckpt_ids.proofs.OrderedLemmas.{IsIn-append_left, list_any-none}
+use Rattle.ckpt_ids.proofs.PlaceLemmas.{find-none}
 use Rattle.ckpt_core.specs.State.{State, is_pending, is_known, in_outbox}
 use Rattle.ckpt_core.specs.Refusals.{refusal, pending_of}
 use Rattle.ckpt_core.specs.Steps.{Stepped, replaced, with_records, completed_with, acknowledged_in, ack, effect, unless_refused, step}
 use Rattle.ckpt_core.specs.Soundness.{IsSound}
 use Rattle.ckpt_core.specs.Laws.{is_ack_pending, is_ack_taken, ShareNone, Part, ack_of, Exchange}
-use Rattle.ckpt_core.proofs.Records.Counts.{IsIn-from_find, fails-from_find, find-none}
+use Rattle.ckpt_core.proofs.Records.Counts.{IsIn-from_find, fails-from_find}
 use Rattle.ckpt_core.proofs.Using.Present.{IsHeld, IsHeld-from_present, present-from_IsHeld, not_held, absent-from_not_held}
 use Rattle.ckpt_core.proofs.Answering.Accepted.{IsAcceptedAck, accepted_ack, not_refused-ack}
 use Rattle.ckpt_core.proofs.Soundness.Acks.{with_ack}
@@ -133,8 +134,8 @@ accepted_before m now id p q r s k a apart k1 b =
       given = b.given;
       of_subtask = λ x e. ap (λ y. is_subtask y.shape q.subtask) (sym (same x e)) ∙ b.of_subtask w k1;
       first = λ x e. ap (λ y. has_acknowledged y q.subtask) (sym (same x e)) ∙ has_not_before r p.subtask q.subtask (ascending (p.fresh ++ p.reused)) (b.first w k1);
-      unknown = λ x e. find-none (is_known m) q.fresh not_known;
-      present = λ x e. find-none (λ f. not (is_present (uses m.records) f)) q.reused is_there;
+      unknown = λ x e. find-none (is_known m) q.fresh (list_any-none (is_known m) q.fresh not_known);
+      present = λ x e. find-none (λ f. not (is_present (uses m.records) f)) q.reused (list_any-none (λ f. not (is_present (uses m.records) f)) q.reused is_there);
     }
 
 -- the first, accepted before the second, is accepted after it
@@ -162,8 +163,8 @@ accepted_after m now id p q r s k ne a apart new k2 =
       given = a.given;
       of_subtask = λ x e. ap (λ y. is_subtask y.shape p.subtask) (sym (same x e)) ∙ a.of_subtask r k;
       first = λ x e. ap (λ y. has_acknowledged y p.subtask) (sym (same x e)) ∙ has_not_after r q.subtask p.subtask (ascending (q.fresh ++ q.reused)) ne (a.first r k);
-      unknown = λ x e. find-none (λ f. is_present (uses after) f || in_outbox m f) p.fresh not_known;
-      present = λ x e. find-none (λ f. not (is_present (uses after) f)) p.reused is_there;
+      unknown = λ x e. find-none (λ f. is_present (uses after) f || in_outbox m f) p.fresh (list_any-none (λ f. is_present (uses after) f || in_outbox m f) p.fresh not_known);
+      present = λ x e. find-none (λ f. not (is_present (uses after) f)) p.reused (list_any-none (λ f. not (is_present (uses after) f)) p.reused is_there);
     }
 
 -- no file is fresh in both

@@ -47,15 +47,15 @@ held-from_files_of f (Some r) rs there h =
     (r, there r refl, subst Q (sym q.2) (Holds-from_use q.0 r its_use))
 
 -- the record of a choice is live
-pub IsIn-from_chosen : (c : Choice) (m : State) (r : Record) → chosen c m ≡ Some r → IsIn r m.records
-IsIn-from_chosen (choice.Checkpoint id) m r e = (IsIn-from_find (λ s. eqb s.id id) r m.records e).0
-IsIn-from_chosen (choice.Savepoint id) m r e = (IsIn-from_find (λ s. eqb s.id id) r m.records e).0
-IsIn-from_chosen choice.Fresh m r e = absurd (cc)
+pub chosen_in : (m : State) (c : Choice) (r : Record) → chosen c m ≡ Some r → IsIn r m.records
+chosen_in m (choice.Checkpoint id) r e = (IsIn-from_find (λ s. eqb s.id id) r m.records e).0
+chosen_in m (choice.Savepoint id) r e = (IsIn-from_find (λ s. eqb s.id id) r m.records e).0
+chosen_in m choice.Fresh r e = absurd (cc)
 
 -- so what a new record pins is held
 pub held-from_pins : (m : State) (f : ℕ) → IsIn f (pins_now m) → IsHeld f m.records
 unfolding pins_now
-held-from_pins m f h = held-from_files_of f (chosen (choice_of m) m) m.records (λ r e. IsIn-from_chosen (choice_of m) m r e) h
+held-from_pins m f h = held-from_files_of f (chosen (choice_of m) m) m.records (chosen_in m (choice_of m)) h
 
 -- the files of a record are ascending
 ascending-files_of : (o : Option Record) → IsAscendingSet (files_of o)

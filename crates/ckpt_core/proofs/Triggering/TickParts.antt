@@ -82,11 +82,6 @@ savepoint_answers p q now id c accepted seen after new tied none = record {
 
 -- a start
 
--- what always holds also holds for an error
-pub on_err_from : {T E P : Type 0} (r : Result T E) → P → OnErr r P
-on_err_from (Ok x) h = tt
-on_err_from (Err e) h = h
-
 pub held_result : (p : Parts) (pending moment : ℕ) (h k : Hold) → moment ≡ max 0 p.clock.latest → h ≡ trigger.hold p.opened.config p.clock.due p.clock.completed moment pending → h ≡ k → held_at (state_of p) pending ≡ k
 unfolding state_of
 held_result p pending moment h k m e is =

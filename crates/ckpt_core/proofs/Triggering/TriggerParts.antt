@@ -28,7 +28,7 @@ use Rattle.ckpt_ids.proofs.CountLemmas.{count_by-cons}
 use Rattle.ckpt_core.proofs.Records.Counts.{IsIn-from_find}
 use Rattle.ckpt_core.proofs.Using.Order.{holds, from_holds, use_of_record}
 use Rattle.ckpt_core.proofs.Records.GroupMoves.{trigger_groups, trigger_uses, uses_of-triggered}
-use Rattle.ckpt_core.proofs.Soundness.Triggers.{ascending-pins}
+use Rattle.ckpt_core.proofs.Soundness.Triggers.{ascending-pins, chosen_in}
 
 -- every use is of a record with an earlier number
 pub older_uses : (p : Parts) → AreTied p → IsSound (state_of p) → (u : Use) → IsIn u p.registry → u.id < p.next
@@ -47,11 +47,6 @@ older_records p sound r h = sound.below_next r (IsIn-in_order id_before r (group
 pub older_pending : (p : Parts) → IsSound (state_of p) → (r : Record) → IsIn r p.pending → r.id < p.next
 older_pending p sound r h =
     older_records p sound (with_pins p.registry r) (IsIn-append_left (with_pins p.registry r) (map (with_pins p.registry) p.pending) (p.store.checkpoints ++ p.store.savepoints) (IsIn-map (with_pins p.registry) r p.pending h))
-
-chosen_in : (m : State) (c : Choice) (r : Record) → chosen c m ≡ Some r → IsIn r m.records
-chosen_in m (choice.Checkpoint id) r e = (IsIn-from_find (λ q. eqb q.id id) r m.records e).0
-chosen_in m (choice.Savepoint id) r e = (IsIn-from_find (λ q. eqb q.id id) r m.records e).0
-chosen_in m choice.Fresh r e = absurd (cc)
 
 -- a file of the choice is a use of a live record
 pub pin_used : (m : State) (f : ℕ) → IsIn f (pins_now m) → (u : Use) × IsIn u (uses m.records) × (u.file ≡ f)

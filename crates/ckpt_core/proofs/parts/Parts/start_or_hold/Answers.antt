@@ -1,13 +1,14 @@
 -- Answers the goals of `Parts::start_or_hold`.
 use Rattle.ckpt_rules.specs.declared.hold.Hold.TheVariants as hold
+use Rattle.ckpt_ids.proofs.ResultLemmas.{on_each_error}
 use Rattle.ckpt_core.specs.Inside.Parts.{state_of}
 use Rattle.std.proofs.Common.{ap}
 use Rattle.ckpt_core.specs.Steps.{start_or_hold}
-use Rattle.ckpt_core.proofs.Triggering.TickParts.{held_result, on_err_from, starts_now}
+use Rattle.ckpt_core.proofs.Triggering.TickParts.{held_result, starts_now}
 use Rattle.ckpt_core.proofs.parts.Parts.start_or_hold.Goals as goal
 
 pub returns-in_err-id-in-Go-clause-memory : goal.returns-in_err-id-in-Go-clause-memory
-returns-in_err-id-in-Go-clause-memory c = on_err_from c.from_residual.result (held_result c.args.self.now c.args.pending c.read-moment.result c.held.result hold.Go c.read-moment.ensures.value c.held.ensures c.in-Go.is)
+returns-in_err-id-in-Go-clause-memory c = on_each_error c.from_residual.result _ (held_result c.args.self.now c.args.pending c.read-moment.result c.held.result hold.Go c.read-moment.ensures.value c.held.ensures c.in-Go.is)
 
 pub returns-in-Interval-clause-ok : goal.returns-in-Interval-clause-ok
 unfolding start_or_hold

@@ -1,10 +1,10 @@
 -- Answers the goals of `Parts::trigger`.
 use Rattle.std.proofs.Common.{◌∙◌, sym, ap, subst, arith}
 use Rattle.std.proofs.lemmas.Result.{on_ok_weaker, on_err_weaker}
+use Rattle.ckpt_ids.proofs.ResultLemmas.{on_each_error}
 use Rattle.ckpt_core.specs.Soundness.{IsSound}
 use Rattle.ckpt_core.specs.State.{State}
 use Rattle.ckpt_core.specs.Steps.{triggered}
-use Rattle.ckpt_core.proofs.Triggering.TickParts.{on_err_from}
 use Rattle.ckpt_core.proofs.Triggering.TriggerParts.{ended_state, live_records}
 use Rattle.ckpt_core.proofs.parts.Parts.trigger.Goals as goal
 
@@ -13,7 +13,7 @@ make_room-requires c = let few = live_records c.args.self.now c.requires.sound i
 
 pub returns-in_err-make_room-clause-err : goal.returns-in_err-make_room-clause-err
 returns-in_err-make_room-clause-err c =
-    on_err_from c.from_residual-in_err-make_room.result (ended_state c.args.self.now c.make_room.new.self c.make_room.ensures.parts)
+    on_each_error c.from_residual-in_err-make_room.result _ (ended_state c.args.self.now c.make_room.new.self c.make_room.ensures.parts)
 
 pub add-requires-clause-sound : goal.add-requires-clause-sound
 add-requires-clause-sound c =
