@@ -9,7 +9,7 @@ use Rattle.ckpt_ids.specs.declared.reply.Answer.TheVariants.{Done}
 use Rattle.ckpt_ids.specs.declared.reply.Reply.TheVariants as reply
 use Rattle.ckpt_ids.specs.declared.subtask.SubtaskId.{SubtaskId}
 use Rattle.ckpt_ids.specs.Records.{Record, is_present}
-use Rattle.ckpt_ids.proofs.OrderedLemmas.{IsIn-from_filter, filter-same, AreDistinct-left, AreDistinct-filter}
+use Rattle.ckpt_ids.proofs.OrderedLemmas.{IsIn-from_filter, filter-same, AreDistinct-left, AreDistinct-filter, IsIn-from_test}
 use Rattle.ckpt_outbox.specs.Queues as queues
 use Rattle.ckpt_rules.specs.Moments.{Moments}
 use Rattle.ckpt_core.specs.declared.parts.Parts.{Parts}
@@ -19,7 +19,7 @@ use Rattle.ckpt_core.specs.Refusals.{refusal, pending_of}
 use Rattle.ckpt_core.specs.State.{State, is_known}
 use Rattle.ckpt_core.specs.Steps.{Stepped, ack, effect, step, unless_refused}
 use Rattle.ckpt_core.proofs.Answering.Accepted.{IsAcceptedAck, accepted_ack}
-use Rattle.ckpt_core.proofs.Ending.Released.{distinct-from_test, IsIn-from_test}
+use Rattle.ckpt_core.proofs.Ending.Released.{distinct-from_test}
 use Rattle.ckpt_ids.specs.Ordered.{AreDistinct}
 
 -- what an accepted acknowledgement does

@@ -1,18 +1,18 @@
 -- A record with one acknowledgement more, and a record that has all of them.
-use Rattle.std.proofs.Common.{◌≡◌, ℕ, Bool, true, false, not, ltb, eqb, List, [], ◌∷◌, map, refl, sym, ap, subst, ◌∙◌, ⊎_elim, arith}
-use Rattle.std.proofs.lemmas.Bool.{cases_Bool, both_ways, not-false, eqb-false}
+use Rattle.std.proofs.Common.{◌≡◌, ℕ, true, false, ltb, eqb, List, [], ◌∷◌, refl, sym, ap, subst, ◌∙◌, ⊎_elim, arith}
+use Rattle.std.proofs.lemmas.Bool.{cases_Bool, both_ways, eqb-false}
 use Rattle.ckpt_ids.specs.declared.subtask.SubtaskId.{SubtaskId}
 use Rattle.ckpt_ids.specs.declared.ack.Acked.{Acked}
 use Rattle.ckpt_ids.specs.Ordered.{IsIn, AreDistinct}
 use Rattle.ckpt_ids.specs.Acknowledged.{is_before, acknowledges_before, put_ack, AreInSubtaskOrder}
 use Rattle.ckpt_ids.specs.Ascending.{IsAscendingSet, ascending}
-use Rattle.ckpt_ids.specs.Records.{Record, missing, has_acknowledged, IsFull, acknowledged}
-use Rattle.ckpt_ids.specs.Shapes.{IsShape, subtasks, is_subtask, same_subtask}
+use Rattle.ckpt_ids.specs.Records.{Record, missing, has_acknowledged, acknowledged}
+use Rattle.ckpt_ids.specs.Shapes.{IsShape, is_subtask, same_subtask}
 use Rattle.ckpt_ids.proofs.AscendingLemmas.{numbers_in_order}
 use Rattle.ckpt_ids.proofs.OrderLemmas.{subtasks_in_order, same_subtask-Decides}
-use Rattle.ckpt_ids.proofs.OrderedLemmas.{IsIn-put_cases, IsInOrder-put, IsInOrder-put_between, IsIn-from_in_order, IsInOrder-map, IsIn-map, IsIn-from_map, IsIn-from_list_any, list_any-from_IsIn, same_from_members}
+use Rattle.ckpt_ids.proofs.OrderedLemmas.{IsIn-put_cases, IsInOrder-put, IsInOrder-put_between, IsIn-from_in_order, list_any-from_IsIn}
 use Rattle.ckpt_core.specs.Soundness.{IsRecord}
-use Rattle.ckpt_pending.proofs.SubtaskLemmas.{IsInOrder-subtasks, IsIn-subtasks, none_counted}
+use Rattle.ckpt_pending.proofs.FullLemmas.{full_from_missing}
 
 -- a subtask that has not acknowledged is that of no acknowledgement
 pub new_subtask : (r : Record) (s : SubtaskId) (a : Acked) → has_acknowledged r s ≡ false → IsIn a r.acks → s ≡ a.subtask → ⊥
@@ -63,21 +63,6 @@ acknowledged_pending r s files i pending a lacks =
       unpinned = λ e. absurd (both_ways r.done pending e);
     }
 
--- a record that lacks none has one acknowledgement of each subtask
-pub full-from_none_missing : (r : Record) → IsAcknowledged r → missing r ≡ 0 → IsFull r
-full-from_none_missing r i none =
-    let of : Acked → SubtaskId = λ a. a.subtask in
-    let lacks : SubtaskId → Bool = λ t. not (has_acknowledged r t) in
-    let forth : (t : SubtaskId) → IsIn t (map of r.acks) → IsIn t (subtasks r.shape) = λ t h.
-    let q = IsIn-from_map of t r.acks h in
-    IsIn-subtasks r.shape t (ap (is_subtask r.shape) q.2 ∙ i.acks_of_subtasks q.0 q.1) in
-    let back : (t : SubtaskId) → IsIn t (subtasks r.shape) → IsIn t (map of r.acks) = λ t h.
-    let has : has_acknowledged r t ≡ true = not-false (has_acknowledged r t) (none_counted lacks t (subtasks r.shape) none h) in
-    let q = IsIn-from_list_any (λ (a : Acked). same_subtask t a.subtask) r.acks has in
-    let P : SubtaskId → Type 0 = λ u. IsIn u (map of r.acks) in
-    subst P (sym ((same_subtask-Decides t (q.0).subtask).0 q.2)) (IsIn-map of q.0 r.acks q.1) in
-    same_from_members subtasks_in_order (map of r.acks) (subtasks r.shape) (IsInOrder-map acknowledges_before is_before of r.acks (λ a b h. h) i.acks_in_order) (IsInOrder-subtasks r.shape) forth back
-
 -- done, with no pins
 pub completed_is : (r : Record) → IsRecord r → (a : Record) → a.shape ≡ r.shape → IsAcknowledged a → missing a ≡ 0 → IsRecord (record a { done = true; pins = [] })
 completed_is r i a same k none = record {
@@ -87,6 +72,15 @@ completed_is r i a same k none = record {
   files = k.files;
   pins = tt;
   pending = λ e. absurd (both_ways true e refl);
-  full = λ _. full-from_none_missing a k none;
+  full = λ _.
+      full_from_missing (record a { done = false; pins = [] })
+      (record {
+        not_done = refl;
+        no_pins = refl;
+        has_shape = subst IsShape (sym same) i.shape;
+        in_order = k.acks_in_order;
+        expected = k.acks_of_subtasks;
+      })
+      none;
   unpinned = λ _. refl;
 }

@@ -9,10 +9,10 @@ use Rattle.std.proofs.lemmas.Bool.{both_ways, eq-eqb, ltb-false, or_parts, or_ca
 use Rattle.std.proofs.lemmas.List.{get_or_default}
 use Rattle.ckpt_ids.specs.Ordered.{IsIn, AreDistinct}
 use Rattle.ckpt_ids.specs.Ascending.{IsAscending, IsAscendingSet}
-use Rattle.ckpt_ids.proofs.OrderedLemmas.{ComesBefore-at, ComesBefore-from, IsIn-place, IsIn-get_or, IsIn-from_list_any, list_any-from_IsIn, AreDistinct-append, AreDistinct-left, AreDistinct-right, AreDistinct-apart, AreDistinct-from_order}
+use Rattle.ckpt_ids.proofs.OrderedLemmas.{ComesBefore-at, ComesBefore-from, IsIn-place, IsIn-get_or, IsIn-from_list_any, list_any-from_IsIn, AreDistinct-append, AreDistinct-left, AreDistinct-right, AreDistinct-apart, AreDistinct-from_order, IsIn-from_test, test-from_IsIn}
 use Rattle.ckpt_ids.proofs.AscendingLemmas.{ascending_at, numbers_in_order}
 use Rattle.ckpt_core.specs.Refusals.{has_repeats}
-use Rattle.ckpt_core.proofs.Ending.Released.{distinct-from_test, IsIn-from_test, test-from_IsIn}
+use Rattle.ckpt_core.proofs.Ending.Released.{distinct-from_test}
 
 -- the test of repeats
 

@@ -5,6 +5,7 @@ use Rattle.std.specs.List.{filter}
 use Rattle.std.proofs.lemmas.Bool.{lt-ltb, and_from, and_left, and_right, not_from_false}
 use Rattle.std.proofs.lemmas.List.{length-append, length-map}
 use Rattle.std.proofs.lemmas.List.Sums.{length-filter}
+use Rattle.std.proofs.Math.Bool.{or-false}
 use Rattle.ckpt_ids.specs.declared.numbers.Kind.TheVariants as kind
 use Rattle.ckpt_ids.specs.declared.subtask.SubtaskId.{SubtaskId}
 use Rattle.ckpt_ids.specs.Ordered.{IsIn}
@@ -21,13 +22,13 @@ use Rattle.ckpt_core.specs.State.{State, is_checkpoint, is_done_checkpoint, is_p
 use Rattle.ckpt_core.specs.Steps.{dropped_by, replaced, superseded, with_records}
 use Rattle.ckpt_core.proofs.Acknowledging.Moves.{replaced_members, still_in_replaced}
 use Rattle.ckpt_core.proofs.Acknowledging.States.{IsTaking, moved, taken_records}
-use Rattle.ckpt_core.proofs.Completing.Lists.{IsFinishing, is_past, later_in, noted_pending, noted_row, noted_savepoint, or_false, others, past_count, past_is_surplus}
+use Rattle.ckpt_core.proofs.Completing.Lists.{IsFinishing, is_past, later_in, noted_pending, noted_row, noted_savepoint, others, past_count, past_is_surplus}
 use Rattle.ckpt_core.proofs.Completing.Moves.{count_completed}
 use Rattle.ckpt_core.proofs.Completing.Taken.{taken_there, taken_apart, taken_groups, checkpoint_ending, ending_completes}
 use Rattle.ckpt_core.proofs.Records.Counts.{IsIn-from_find}
 use Rattle.ckpt_core.proofs.Records.GroupLookups.{is_checkpoint-kind, is_savepoint-kind}
-use Rattle.ckpt_core.proofs.Records.Lookups.{AreGroups, count_same, has_number}
-use Rattle.ckpt_ids.proofs.CountLemmas.{count_by-none}
+use Rattle.ckpt_core.proofs.Records.Lookups.{AreGroups, has_number}
+use Rattle.ckpt_ids.proofs.CountLemmas.{count_by-none, count_by-same}
 use Rattle.ckpt_core.specs.Inside.Moving.{taken_in}
 use Rattle.ckpt_core.proofs.Soundness.Completions.{completed}
 use Rattle.ckpt_core.proofs.Soundness.Acks.{with_ack}
@@ -56,7 +57,7 @@ superseded_pending : (m : State) (c x : Record) → is_checkpoint c ≡ true →
 superseded_pending m c x e pending =
     superseded_where m c x e
     ∙ ap (λ b. is_subsumed c.id x || b) (no_surplus m x (and_left x.done (is_checkpoint x) pending))
-    ∙ or_false (is_subsumed c.id x)
+    ∙ or-false (is_subsumed c.id x)
     ∙ pending_subsumed c.id x pending
 
 superseded_checkpoint : (m : State) (c x : Record) → is_checkpoint c ≡ true → x.done ≡ true → is_checkpoint x ≡ true → superseded m c x ≡ leb m.opening.config.retained (later_done m x)
@@ -140,7 +141,7 @@ later_same {p} {now} {id} {s} {fresh} {reused} {r} t checkpoint x =
     ap (λ b. (b && is_checkpoint y) && ltb x.id y.id) (g.not_done y (IsIn-from_filter (λ q. not (eqb q.id r.id)) y after.pending h).0)) in
     let no_savepoint : count_by later p.store.savepoints ≡ 0 = count_by-none later p.store.savepoints (λ y h.
     let k = g.savepoints_done y h in ap (λ b. b && ltb x.id y.id) (and_right y.done (is_checkpoint y) (is_savepoint-kind y k.1))) in
-    let of_row : count_by later row ≡ later_in row x = count_same later (λ y. ltb x.id y.id) row (λ y h.
+    let of_row : count_by later row ≡ later_in row x = count_by-same later (λ y. ltb x.id y.id) row (λ y h.
     let k = row_is_done t checkpoint y h in ap (λ b. b && ltb x.id y.id) (and_from y.done (is_checkpoint y) k.0 k.1)) in
     omega arith
 
@@ -198,10 +199,10 @@ superseded_count {p} {now} {id} {s} {fresh} {reused} {r} t checkpoint =
     let row : List Record = row_of p d in
     let left : List Record = others r.id after.pending in
     let f : IsFinishing after.registry after.pending p.store (with_ack r s fresh reused) d = finishing t checkpoint in
-    let all : count_by (superseded m c) m.records ≡ count_by (is_noted gone) m.records = count_same (superseded m c) (is_noted gone) m.records (superseded_is t checkpoint) in
+    let all : count_by (superseded m c) m.records ≡ count_by (is_noted gone) m.records = count_by-same (superseded m c) (is_noted gone) m.records (superseded_is t checkpoint) in
     let parts : count_by (is_noted gone) m.records ≡ count_by (is_noted gone) left + (count_by (is_noted gone) row + count_by (is_noted gone) p.store.savepoints) =
     count_completed (ending_completes t (checkpoint_ending t)) (is_noted gone) (λ y fs. refl) in
-    let of_pending : count_by (is_noted gone) left ≡ count_by (is_before d.id) left = count_same (is_noted gone) (is_before d.id) left (λ y h. noted_pending f y (IsIn-from_filter (λ q. not (eqb q.id r.id)) y after.pending h).0) in
-    let of_row : count_by (is_noted gone) row ≡ length (surplus p.store d) = count_same (is_noted gone) (is_past p.store.retained row) row (noted_row f) ∙ past_count p.store.retained row (row_rises t checkpoint) in
+    let of_pending : count_by (is_noted gone) left ≡ count_by (is_before d.id) left = count_by-same (is_noted gone) (is_before d.id) left (λ y h. noted_pending f y (IsIn-from_filter (λ q. not (eqb q.id r.id)) y after.pending h).0) in
+    let of_row : count_by (is_noted gone) row ≡ length (surplus p.store d) = count_by-same (is_noted gone) (is_past p.store.retained row) row (noted_row f) ∙ past_count p.store.retained row (row_rises t checkpoint) in
     let of_savepoints : count_by (is_noted gone) p.store.savepoints ≡ 0 = count_by-none (is_noted gone) p.store.savepoints (noted_savepoint f) in
     omega (arith, length-append (earlier d.id left) (surplus p.store d), length-map (filter (is_before d.id) left) (λ (q : Record). q.id), length-filter (is_before d.id) left)

@@ -6,6 +6,7 @@ use Rattle.std.specs.List.{filter}
 use Rattle.std.proofs.lemmas.Bool.{cases_Bool, both_ways, ltb-true, lt-ltb, le-ltb, ltb-false, lt-leb, le-leb, eqb-true, eq-eqb, ne_eqb, and_parts, or_left, not_from_false, false_from_ne_true}
 use Rattle.std.proofs.lemmas.List.Folds.{list_any-append}
 use Rattle.std.proofs.lemmas.List.Sums.{count_by-le-length}
+use Rattle.std.proofs.Math.Bool.{or-false}
 use Rattle.ckpt_ids.specs.Ordered.{IsIn, ComesBefore}
 use Rattle.ckpt_ids.specs.Records.{Record, Use}
 use Rattle.ckpt_ids.proofs.OrderedLemmas.{IsIn-append_cases, IsIn-append_left, IsIn-append_right, IsIn-map, IsIn-filter, IsIn-from_filter, ComesBefore-at, filter-all}
@@ -18,8 +19,8 @@ use Rattle.ckpt_core.specs.State.{is_checkpoint}
 use Rattle.ckpt_core.proofs.Records.Counts.{count_by_at_most_more}
 use Rattle.ckpt_core.proofs.Ending.Drops.{noted-from_IsIn, IsIn-from_noted}
 use Rattle.ckpt_core.proofs.Records.Grouped.{AreApart, apart_left, apart_right, apart_between}
-use Rattle.ckpt_core.proofs.Records.Lookups.{count_all, one_of_number}
-use Rattle.ckpt_ids.proofs.CountLemmas.{count_by_yes, count_by_no, count_by-none}
+use Rattle.ckpt_core.proofs.Records.Lookups.{one_of_number}
+use Rattle.ckpt_ids.proofs.CountLemmas.{count_by_yes, count_by_no, count_by-none, count_by-all}
 
 -- a row of records in rising number
 
@@ -35,10 +36,6 @@ past_where n y row x e = ap (λ b. is_noted (number_in (cond b (Some y.id) None)
 
 none_past : (n : ℕ) (row : List Record) (x : Record) → ltb n (length row) ≡ false → is_past n row x ≡ false
 none_past n row x e = ap (λ b. is_noted (number_in (cond b (lowest row) None)) x) e
-
-pub or_false : (b : Bool) → (b || false) ≡ b
-or_false true = refl
-or_false false = refl
 
 rises : (y x : Record) (row : List Record) → ComesBefore id_before y row → IsIn x row → y.id < x.id
 rises y x row c h = ltb-true y.id x.id (ComesBefore-at id_before y x row c h)
@@ -72,7 +69,7 @@ past_is_surplus n (y ∷ row) x order few some (inl same) =
     let later : Record → Bool = λ s. ltb x.id s.id in
     let its : x.id ≡ y.id = ap (λ s. s.id) same in
     let none : later y ≡ false = le-ltb x.id y.id (omega arith) in
-    let all : count_by later row ≡ length row = count_all later row (λ s h. lt-ltb x.id s.id (let lt : y.id < s.id = rises y s row order.0 h in omega arith)) in
+    let all : count_by later row ≡ length row = count_by-all later row (λ s h. lt-ltb x.id s.id (let lt : y.id < s.id = rises y s row order.0 h in omega arith)) in
     let count : later_in (y ∷ row) x ≡ length row = omega (arith, count_by_no later y row none, all) in
     ⊎_elim
     (λ (e : ltb n (length (y ∷ row)) ≡ true).
@@ -101,7 +98,7 @@ past_in_front n [] d x some h = absurd (both_ways (is_past n (d ∷ []) x) (none
 past_in_front n (y ∷ row) d x some h =
     let all : List Record = row ++ d ∷ [] in
     ⊎_elim
-    (λ (e : ltb n (length (y ∷ all)) ≡ true). (y, inl refl, eqb-true x.id y.id (sym (or_false (eqb x.id y.id)) ∙ sym (past_where n y all x e) ∙ h)))
+    (λ (e : ltb n (length (y ∷ all)) ≡ true). (y, inl refl, eqb-true x.id y.id (sym (or-false (eqb x.id y.id)) ∙ sym (past_where n y all x e) ∙ h)))
     (λ (e : ltb n (length (y ∷ all)) ≡ false). absurd (both_ways (is_past n (y ∷ all) x) (none_past n (y ∷ all) x e) h))
     (cases_Bool (ltb n (length (y ∷ all))))
 
@@ -176,7 +173,7 @@ noted_pending {us} {pending} {store} {r} {d} f x h =
     let not_past : is_past store.retained row x ≡ false = false_from_ne_true (is_past store.retained row x) (λ (k : is_past store.retained row x ≡ true).
     let y = past_in_front store.retained store.checkpoints d x f.some k in
     apart_between (map (with_pins us) pending) done f.apart (with_pins us x) y.0 (IsIn-map (with_pins us) x pending h) (IsIn-append_left y.0 store.checkpoints store.savepoints y.1) y.2) in
-    noted_parts (others d.id pending) store d x ∙ ap (λ b. first || b) not_past ∙ or_false first ∙ earlier_is us d.id pending done x f.apart h
+    noted_parts (others d.id pending) store d x ∙ ap (λ b. first || b) not_past ∙ or-false first ∙ earlier_is us d.id pending done x f.apart h
 
 -- of the completed ones, the first if there are too many
 pub noted_row : {us : List Use} {pending : List Record} {store : Stored} {r d : Record} → IsFinishing us pending store r d → (x : Record) → IsIn x (store.checkpoints ++ d ∷ []) → is_noted (superseded (others d.id pending) store d) x ≡ is_past store.retained (store.checkpoints ++ d ∷ []) x

@@ -16,11 +16,11 @@ use Rattle.ckpt_core.specs.State.{State, drop, kept, released_by, unpinned}
 use Rattle.ckpt_core.specs.Steps.{cleared, completed_with, dropped_by, replaced, superseded}
 use Rattle.ckpt_core.proofs.Acknowledging.Moves.{with_instead}
 use Rattle.ckpt_core.proofs.Completing.Lists.{others}
-use Rattle.ckpt_ids.proofs.CountLemmas.{count_by-map}
+use Rattle.ckpt_ids.proofs.CountLemmas.{count_by-map, count_by-same}
 use Rattle.ckpt_core.proofs.Ending.Drops.{stays, staying}
 use Rattle.ckpt_core.proofs.Completing.Finish.{finish_groups, finish_uses, ended_records, still_used}
 use Rattle.ckpt_core.proofs.Records.Grouped.{AreApart}
-use Rattle.ckpt_core.proofs.Records.Lookups.{count_same, count_by-records_of, one_of_number}
+use Rattle.ckpt_core.proofs.Records.Lookups.{count_by-records_of, one_of_number}
 
 -- the record d is the pending record with its number, done and without pins; it is among the done ones after
 pub record IsEnding (us : List Use) (pending checkpoints savepoints more_checkpoints more_savepoints : List Record) (r d : Record) : Type 0 where
@@ -123,7 +123,7 @@ count_completed {us} {pending} {checkpoints} {savepoints} {more_checkpoints} {mo
     ⊎_elim (λ (t : eqb x.id rd.id ≡ true). subst P (sym t) (sym (blind x []))) (λ (t : eqb x.id rd.id ≡ false). subst P (sym t) refl) (cases_Bool (eqb x.id rd.id)) in
     let same_kept : kept none (Some rd.id) all ≡ map end all = ap (map end) (filter-all (λ s. not (none s)) all (λ s h. refl)) in
     let whole : (xs : List Record) → staying [] xs ≡ xs = λ xs. filter-all (λ s. stays [] s.id) xs (λ s h. refl) in
-    count_same p (λ x. p (end x)) all as_before
+    count_by-same p (λ x. p (end x)) all as_before
     ∙ sym (count_by-map p end all)
     ∙ ap (count_by p) (sym same_kept ∙ kept_records c none [] (λ s h. refl))
     ∙ count_by-records_of p (after_end d.id [] us) (staying [] (others d.id pending)) (staying [] more_checkpoints) (staying [] more_savepoints) (λ x. blind x _)

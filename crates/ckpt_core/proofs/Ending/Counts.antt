@@ -9,9 +9,9 @@ use Rattle.ckpt_core.specs.Inside.Parts.{AreSound, records_in, state_of}
 use Rattle.ckpt_core.specs.State.{is_pending, is_checkpoint, is_done_checkpoint}
 use Rattle.ckpt_core.specs.Steps.{cancelled, dropped_by}
 use Rattle.ckpt_core.proofs.Records.GroupLookups.{is_checkpoint-kind, is_savepoint-kind, pending_checkpoints-groups, savepoints-groups}
-use Rattle.ckpt_core.proofs.Records.Lookups.{AreGroups, count_by-records_of, count_all, count_same}
+use Rattle.ckpt_core.proofs.Records.Lookups.{AreGroups, count_by-records_of}
 use Rattle.ckpt_core.proofs.Records.Pending.{count_by-others}
-use Rattle.ckpt_ids.proofs.CountLemmas.{count_by-none}
+use Rattle.ckpt_ids.proofs.CountLemmas.{count_by-none, count_by-same, count_by-all}
 
 limit_to : (pause at_once : ℕ) → at_once ≤ 64 → cond (ltb 0 pause) 1 at_once ≤ 64
 limit_to pause at_once h = ⊎_elim (λ (e : ltb 0 pause ≡ true). rw e (omega arith)) (λ (e : ltb 0 pause ≡ false). rw e h) (cases_Bool (ltb 0 pause))
@@ -53,7 +53,7 @@ unfolding state_of
 all_tests p e r = all_test (is_pending r) (is_done_checkpoint r) p.opened.config.keep_on_cancel e
 
 all_pending : {pending checkpoints savepoints : List Record} → AreGroups pending checkpoints savepoints → count_by is_pending pending ≡ length pending
-all_pending {pending} {checkpoints} {savepoints} groups = count_all is_pending pending (λ r h. not_from_false r.done (groups.not_done r h))
+all_pending {pending} {checkpoints} {savepoints} groups = count_by-all is_pending pending (λ r h. not_from_false r.done (groups.not_done r h))
 
 pub pending_counted : (p : Parts) → AreGroups p.pending p.store.checkpoints p.store.savepoints → p.opened.config.keep_on_cancel ≡ true → length p.pending ≡ dropped_by (state_of p) (cancelled (state_of p))
 unfolding state_of
@@ -62,17 +62,17 @@ pending_counted p groups e =
     let none_s : count_by is_pending p.store.savepoints ≡ 0 = count_by-none is_pending p.store.savepoints (λ r h. not_from_true r.done (groups.savepoints_done r h).0) in
     let whole : count_by is_pending (records_in p) ≡ length p.pending =
     count_by-records_of is_pending p.registry p.pending p.store.checkpoints p.store.savepoints (λ r. refl) ∙ omega (arith, none_c, none_s, all_pending groups) in
-    sym whole ∙ count_same is_pending (cancelled (state_of p)) (records_in p) (λ r h. kept_tests p e r)
+    sym whole ∙ count_by-same is_pending (cancelled (state_of p)) (records_in p) (λ r h. kept_tests p e r)
 
 pub all_counted : (p : Parts) → AreGroups p.pending p.store.checkpoints p.store.savepoints → p.opened.config.keep_on_cancel ≡ false → length p.pending + length p.store.checkpoints ≡ dropped_by (state_of p) (cancelled (state_of p))
 unfolding state_of
 all_counted p groups e =
     let test : Record → Bool = λ r. is_pending r || is_done_checkpoint r in
-    let all_p : count_by test p.pending ≡ length p.pending = count_all test p.pending (λ r h. ap (λ b. b || is_done_checkpoint r) (not_from_false r.done (groups.not_done r h))) in
+    let all_p : count_by test p.pending ≡ length p.pending = count_by-all test p.pending (λ r h. ap (λ b. b || is_done_checkpoint r) (not_from_false r.done (groups.not_done r h))) in
     let all_c : count_by test p.store.checkpoints ≡ length p.store.checkpoints =
-    count_all test p.store.checkpoints (λ r h. or_right (is_pending r) (is_done_checkpoint r) (and_from r.done (is_checkpoint r) (groups.checkpoints_done r h).0 (is_checkpoint-kind r (groups.checkpoints_done r h).1))) in
+    count_by-all test p.store.checkpoints (λ r h. or_right (is_pending r) (is_done_checkpoint r) (and_from r.done (is_checkpoint r) (groups.checkpoints_done r h).0 (is_checkpoint-kind r (groups.checkpoints_done r h).1))) in
     let none_s : count_by test p.store.savepoints ≡ 0 =
     count_by-none test p.store.savepoints (λ r h. ap (λ b. b || is_done_checkpoint r) (not_from_true r.done (groups.savepoints_done r h).0) ∙ and_right r.done (is_checkpoint r) (is_savepoint-kind r (groups.savepoints_done r h).1)) in
     let whole : count_by test (records_in p) ≡ length p.pending + length p.store.checkpoints =
     count_by-records_of test p.registry p.pending p.store.checkpoints p.store.savepoints (λ r. refl) ∙ omega (arith, all_p, all_c, none_s) in
-    sym whole ∙ count_same test (cancelled (state_of p)) (records_in p) (λ r h. all_tests p e r)
+    sym whole ∙ count_by-same test (cancelled (state_of p)) (records_in p) (λ r h. all_tests p e r)

@@ -1,12 +1,12 @@
 -- What is released: files that were present before and are not after, ascending, so each once. Lists with no number twice.
 use Rattle.std.proofs.Common.{◌≡◌, ℕ, Bool, true, false, not, ltb, eqb, List, [], ◌∷◌, map, refl, sym, subst}
 use Rattle.std.specs.List.{list_any}
-use Rattle.std.proofs.lemmas.Bool.{both_ways, eqb-true, eq-eqb, lt-ltb, not-true, not_from_false, or_parts}
+use Rattle.std.proofs.lemmas.Bool.{both_ways, eq-eqb, lt-ltb, not-true, not_from_false, or_parts}
 use Rattle.ckpt_ids.specs.Ordered.{IsIn, AreDistinct}
 use Rattle.ckpt_ids.specs.Ascending.{IsAscendingSet, ascending_set}
 use Rattle.ckpt_ids.specs.Records.{Record, Use, uses, count, is_present, released}
 use Rattle.ckpt_ids.proofs.AscendingLemmas.{numbers_in_order}
-use Rattle.ckpt_ids.proofs.OrderedLemmas.{IsIn-map, IsIn-from_map, IsIn-filter, IsIn-from_filter, IsInOrder-filter, IsInOrder-in_order_once, IsIn-in_order_once, IsIn-from_in_order_once, IsIn-from_list_any, list_any-from_IsIn}
+use Rattle.ckpt_ids.proofs.OrderedLemmas.{IsIn-map, IsIn-from_map, IsIn-filter, IsIn-from_filter, IsInOrder-filter, IsInOrder-in_order_once, IsIn-in_order_once, IsIn-from_in_order_once, list_any-from_IsIn}
 use Rattle.ckpt_core.specs.Refusals.{has_repeats}
 use Rattle.ckpt_core.proofs.Using.Present.{IsHeld-from_present, use-from_Holds}
 use Rattle.ckpt_ids.proofs.OrderedLemmas.{IsIn-flat_map}
@@ -62,18 +62,3 @@ distinct-from_test (x ∷ xs) e =
     let parts = or_parts (list_any (λ y. eqb x y) xs) (has_repeats xs) e in
     let new : IsIn x xs → ⊥ = λ (h : IsIn x xs). both_ways (list_any (λ y. eqb x y) xs) parts.0 (list_any-from_IsIn (λ y. eqb x y) x xs h (eq-eqb x x refl)) in
     (new, distinct-from_test xs parts.1)
-
--- the test for being in a list of numbers
-pub IsIn-from_test : (f : ℕ) (xs : List ℕ) → list_any (λ g. eqb f g) xs ≡ true → IsIn f xs
-IsIn-from_test f xs h =
-    let q = IsIn-from_list_any (λ g. eqb f g) xs h in
-    let P : ℕ → Type 0 = λ g. IsIn g xs in
-    subst P (sym (eqb-true f q.0 q.2)) q.1
-
--- and the other way round
-pub test-from_IsIn : (f : ℕ) (xs : List ℕ) → IsIn f xs → list_any (λ g. eqb f g) xs ≡ true
-test-from_IsIn f xs h = list_any-from_IsIn (λ g. eqb f g) f xs h (eq-eqb f f refl)
-
--- and if the test fails
-pub not_in-from_test : (f : ℕ) (xs : List ℕ) → list_any (λ g. eqb f g) xs ≡ false → IsIn f xs → ⊥
-not_in-from_test f xs e h = both_ways (list_any (λ g. eqb f g) xs) e (test-from_IsIn f xs h)

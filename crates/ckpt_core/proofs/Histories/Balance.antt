@@ -5,13 +5,12 @@ use Rattle.std.proofs.lemmas.List.{append-nil, append_assoc}
 use Rattle.ckpt_ids.specs.declared.call.Call.{Call}
 use Rattle.ckpt_ids.specs.Ordered.{IsIn}
 use Rattle.ckpt_ids.specs.Records.{uses, count, is_present}
-use Rattle.ckpt_ids.proofs.OrderedLemmas.{IsIn-append_left, IsIn-append_right, IsIn-append_cases}
+use Rattle.ckpt_ids.proofs.OrderedLemmas.{IsIn-append_left, IsIn-append_right, IsIn-append_cases, not_in-from_test}
 use Rattle.ckpt_core.specs.State.{State, Opening, opened}
 use Rattle.ckpt_core.specs.Steps.{step}
 use Rattle.ckpt_core.specs.Histories.{replay}
 use Rattle.ckpt_core.specs.Soundness.{IsSound}
 use Rattle.ckpt_core.specs.Laws.{CanOpen, AreCalls, along, one_if, registered_by, handed_by, deleted_by, new_by, ShareNone, NoneAgain, Balance, Handed, Accounted, UsedNoMore, Outbox}
-use Rattle.ckpt_core.proofs.Ending.Released.{not_in-from_test}
 use Rattle.ckpt_core.proofs.Records.Lists.{outbox_of}
 use Rattle.ckpt_core.proofs.Histories.Balances.{times_none}
 use Rattle.ckpt_core.proofs.Histories.StepBalances.{step_settled, newly_present}

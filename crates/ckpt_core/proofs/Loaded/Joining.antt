@@ -5,19 +5,15 @@ use Rattle.std.proofs.lemmas.Bool.{cases_Bool, cases_lt, both_ways, and_parts, n
 use Rattle.ckpt_ids.specs.Ordered.{IsIn, ComesBefore, IsInOrder}
 use Rattle.ckpt_ids.specs.Records.{Record}
 use Rattle.ckpt_ids.proofs.CountLemmas.{count_by-append, count_by_no, count_by_yes, counted-from_IsIn, IsIn-from_counted}
-use Rattle.ckpt_ids.proofs.OrderedLemmas.{ComesBefore-at, IsIn-append_left, IsIn-append_right, IsIn-append_cases, IsInOrder-append}
+use Rattle.ckpt_ids.proofs.OrderedLemmas.{ComesBefore-at, IsIn-append_left, IsIn-append_right, IsIn-append_cases, IsInOrder-append, only_one}
 use Rattle.ckpt_rules.specs.Trigger.{limit}
 use Rattle.ckpt_core.specs.State.{Opening, is_checkpoint, is_pending, is_done_checkpoint}
 use Rattle.ckpt_core.specs.Soundness.{IsRecord, id_before}
 use Rattle.ckpt_core.specs.Inside.SoundRecords.{AreSoundRecords, Joins, is_pending_checkpoint}
 
-only_one : (r x : Record) → IsIn x (r ∷ []) → x ≡ r
-only_one r x (inl e) = e
-only_one r x (inr n) = absurd n
-
 with_last : (P : Record → Type 0) (rs : List Record) (r : Record) → ((x : Record) → IsIn x rs → P x) → P r → (x : Record) → IsIn x (rs ++ r ∷ []) → P x
 with_last P rs r old last x h =
-    ⊎_elim (λ (k : IsIn x rs). old x k) (λ (k : IsIn x (r ∷ [])). subst P (sym (only_one r x k)) last) (IsIn-append_cases x rs (r ∷ []) h)
+    ⊎_elim (λ (k : IsIn x rs). old x k) (λ (k : IsIn x (r ∷ [])). subst P (sym (only_one x r k)) last) (IsIn-append_cases x rs (r ∷ []) h)
 
 at_most : (p : Record → Bool) (rs : List Record) (r : Record) (n : ℕ) → count_by p rs ≤ n → (p r ≡ true → count_by p rs < n) → count_by p (rs ++ r ∷ []) ≤ n
 at_most p rs r n le lt =
@@ -32,7 +28,7 @@ not_both r p d = both_ways r.done (not-true r.done (and_parts (is_pending r) (is
 
 pub joined_records : {o : Opening} {next : ℕ} {rs : List Record} {r : Record} → AreSoundRecords o next rs → Joins o next rs r → AreSoundRecords o next (rs ++ r ∷ [])
 joined_records {o} {next} {rs} {r} s j = record {
-  in_order = IsInOrder-append id_before rs (r ∷ []) s.in_order (tt, tt) (λ x y h k. let P : Record → Type 0 = λ z. id_before x z ≡ true in subst P (sym (only_one r y k)) (lt-ltb x.id r.id (j.above x h)));
+  in_order = IsInOrder-append id_before rs (r ∷ []) s.in_order (tt, tt) (λ x y h k. let P : Record → Type 0 = λ z. id_before x z ≡ true in subst P (sym (only_one y r k)) (lt-ltb x.id r.id (j.above x h)));
   from_first = with_last (λ x. o.first ≤ x.id) rs r s.from_first j.from_first;
   below_next = with_last (λ x. x.id < next) rs r s.below_next j.below_next;
   each = with_last IsRecord rs r s.each j.is_record;
@@ -44,14 +40,14 @@ joined_records {o} {next} {rs} {r} s j = record {
       let old_done : IsIn y rs → y.id < x.id = λ (i : IsIn y rs).
       ⊎_elim
       (λ (a : IsIn x rs). s.newer x y a i p d)
-      (λ (a : IsIn x (r ∷ [])). let P : Record → Type 0 = λ z. y.id < z.id in subst P (sym (only_one r x a)) (j.above y i))
+      (λ (a : IsIn x (r ∷ [])). let P : Record → Type 0 = λ z. y.id < z.id in subst P (sym (only_one x r a)) (j.above y i))
       (IsIn-append_cases x rs (r ∷ []) h) in
       let new_done : IsIn y (r ∷ []) → y.id < x.id = λ (i : IsIn y (r ∷ [])).
       let D : Record → Type 0 = λ z. is_done_checkpoint z ≡ true in
-      let its : is_done_checkpoint r ≡ true = subst D (only_one r y i) d in
+      let its : is_done_checkpoint r ≡ true = subst D (only_one y r i) d in
       ⊎_elim
       (λ (a : IsIn x rs). absurd (omega (arith, j.newer its, counted-from_IsIn is_pending_checkpoint x rs a p)))
-      (λ (a : IsIn x (r ∷ [])). let Q : Record → Type 0 = λ z. is_pending_checkpoint z ≡ true in absurd (not_both r (subst Q (only_one r x a) p) its))
+      (λ (a : IsIn x (r ∷ [])). let Q : Record → Type 0 = λ z. is_pending_checkpoint z ≡ true in absurd (not_both r (subst Q (only_one x r a) p) its))
       (IsIn-append_cases x rs (r ∷ []) h) in
       ⊎_elim old_done new_done (IsIn-append_cases y rs (r ∷ []) k);
 }

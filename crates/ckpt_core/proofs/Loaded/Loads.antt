@@ -5,7 +5,7 @@ use Rattle.std.specs.Option.{is_some, option_map}
 use Rattle.std.proofs.lemmas.Bool.{both_ways, and_left, and_right, leb-false}
 use Rattle.ckpt_ids.specs.Ordered.{IsIn}
 use Rattle.ckpt_ids.specs.Records.{Record, Use, missing}
-use Rattle.ckpt_ids.proofs.CountLemmas.{count_by-none}
+use Rattle.ckpt_ids.proofs.CountLemmas.{count_by-none, count_by-all}
 use Rattle.ckpt_pending.proofs.FullLemmas.{missing_from_full}
 use Rattle.ckpt_pending.specs.Acknowledging.{IsPending, pending_record}
 use Rattle.ckpt_rules.specs.Trigger.{limit}
@@ -24,7 +24,7 @@ use Rattle.ckpt_core.specs.State.{Opening, is_checkpoint, is_done_checkpoint, is
 use Rattle.ckpt_core.proofs.Reading.Live.{is_from}
 use Rattle.ckpt_core.proofs.Records.Counts.{IsIn-from_find, fails-from_find}
 use Rattle.ckpt_core.proofs.Records.GroupLookups.{is_checkpoint-kind, is_savepoint-kind}
-use Rattle.ckpt_core.proofs.Records.Lookups.{AreGroups, count_all, count_by-records_of}
+use Rattle.ckpt_core.proofs.Records.Lookups.{AreGroups, count_by-records_of}
 
 -- its number
 
@@ -56,7 +56,7 @@ done_checkpoints-groups us pending checkpoints savepoints groups =
     let p : Record → Bool = is_done_checkpoint in
     let none_p : count_by p pending ≡ 0 = count_by-none p pending (λ r h. and_left r.done (is_checkpoint r) (groups.not_done r h)) in
     let none_s : count_by p savepoints ≡ 0 = count_by-none p savepoints (λ r h. and_right r.done (is_checkpoint r) (is_savepoint-kind r (groups.savepoints_done r h).1)) in
-    let all_c : count_by p checkpoints ≡ length checkpoints = count_all p checkpoints (λ r h. ap (λ b. b && is_checkpoint r) (groups.checkpoints_done r h).0 ∙ is_checkpoint-kind r (groups.checkpoints_done r h).1) in
+    let all_c : count_by p checkpoints ≡ length checkpoints = count_by-all p checkpoints (λ r h. ap (λ b. b && is_checkpoint r) (groups.checkpoints_done r h).0 ∙ is_checkpoint-kind r (groups.checkpoints_done r h).1) in
     count_by-records_of p us pending checkpoints savepoints (λ r. refl) ∙ omega arith
 
 -- its acknowledgements

@@ -6,7 +6,7 @@ use Rattle.ckpt_ids.specs.Configuration.{IsWithinLimits}
 use Rattle.ckpt_ids.specs.Ordered.{AreDistinct, IsIn}
 use Rattle.ckpt_ids.specs.Records.{Record, Use, is_present, uses}
 use Rattle.ckpt_ids.specs.Shapes.{IsShape}
-use Rattle.ckpt_ids.proofs.OrderedLemmas.{AreDistinct-apart, AreDistinct-left, AreDistinct-right, IsIn-append_cases, IsIn-append_left, IsIn-append_right, IsIn-from_in_order, IsIn-in_order, IsIn-map}
+use Rattle.ckpt_ids.proofs.OrderedLemmas.{AreDistinct-apart, AreDistinct-left, AreDistinct-right, IsIn-append_cases, IsIn-append_left, IsIn-append_right, IsIn-from_in_order, IsIn-in_order, IsIn-map, IsIn-from_test}
 use Rattle.ckpt_outbox.specs.Queues.{Queues, is_in}
 use Rattle.ckpt_pending.specs.Acknowledging.{IsPending}
 use Rattle.ckpt_store.specs.Storing.{IsStored, Stored}
@@ -22,7 +22,6 @@ use Rattle.ckpt_core.specs.Refusals.{is_done_savepoint}
 use Rattle.ckpt_core.specs.Soundness.{id_before}
 use Rattle.ckpt_core.specs.State.{Opening, State}
 use Rattle.ckpt_core.proofs.Ending.Drops.{groups_of}
-use Rattle.ckpt_core.proofs.Ending.Released.{IsIn-from_test}
 use Rattle.ckpt_core.proofs.Loaded.Joining.{joins_from_sound, sound_front}
 use Rattle.ckpt_core.proofs.Records.Lists.{outbox_of, sound_from}
 use Rattle.ckpt_core.proofs.Records.Lookups.{done_in}

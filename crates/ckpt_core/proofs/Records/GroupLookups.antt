@@ -15,8 +15,8 @@ use Rattle.ckpt_core.specs.Soundness.{id_before}
 use Rattle.ckpt_core.specs.State.{is_pending, is_checkpoint, is_done_checkpoint, last_checkpoint}
 use Rattle.ckpt_core.specs.Inside.Grouped.{with_pins, grouped, records_of}
 use Rattle.ckpt_core.proofs.Records.Grouped.{AreApart, in_order-from_apart, apart_left, apart_right, same_records, in_order-filter}
-use Rattle.ckpt_core.proofs.Records.Lookups.{AreGroups, has_number, find-records_of, find-map, count_by-records_of, count_all, count_same}
-use Rattle.ckpt_ids.proofs.CountLemmas.{count_by-none}
+use Rattle.ckpt_core.proofs.Records.Lookups.{AreGroups, has_number, find-records_of, find-map, count_by-records_of}
+use Rattle.ckpt_ids.proofs.CountLemmas.{count_by-none, count_by-same, count_by-all}
 
 pub is_checkpoint-kind : (r : Record) → r.kind ≡ kind.Checkpoint → is_checkpoint r ≡ true
 is_checkpoint-kind r e = ap (λ k. is_checkpoint (record r { kind = k })) e
@@ -40,7 +40,7 @@ pending_checkpoints-groups us pending checkpoints savepoints groups =
     let p : Record → Bool = λ r. is_pending r && is_checkpoint r in
     let none_c : count_by p checkpoints ≡ 0 = count_by-none p checkpoints (λ r h. and_left (is_pending r) (is_checkpoint r) (not_from_true r.done (groups.checkpoints_done r h).0)) in
     let none_s : count_by p savepoints ≡ 0 = count_by-none p savepoints (λ r h. and_left (is_pending r) (is_checkpoint r) (not_from_true r.done (groups.savepoints_done r h).0)) in
-    let own : count_by p pending ≡ count_by is_checkpoint pending = count_same p is_checkpoint pending (λ r h. ap (λ b. b && is_checkpoint r) (not_from_false r.done (groups.not_done r h))) in
+    let own : count_by p pending ≡ count_by is_checkpoint pending = count_by-same p is_checkpoint pending (λ r h. ap (λ b. b && is_checkpoint r) (not_from_false r.done (groups.not_done r h))) in
     count_by-records_of p us pending checkpoints savepoints (λ r. refl) ∙ omega arith
 
 pub savepoints-groups : (us : List Use) (pending checkpoints savepoints : List Record) → AreGroups pending checkpoints savepoints →
@@ -48,7 +48,7 @@ pub savepoints-groups : (us : List Use) (pending checkpoints savepoints : List R
 savepoints-groups us pending checkpoints savepoints groups =
     let p : Record → Bool = λ r. not (is_checkpoint r) in
     let none_c : count_by p checkpoints ≡ 0 = count_by-none p checkpoints (λ r h. not_from_true (is_checkpoint r) (is_checkpoint-kind r (groups.checkpoints_done r h).1)) in
-    let all_s : count_by p savepoints ≡ length savepoints = count_all p savepoints (λ r h. not_from_false (is_checkpoint r) (is_savepoint-kind r (groups.savepoints_done r h).1)) in
+    let all_s : count_by p savepoints ≡ length savepoints = count_by-all p savepoints (λ r h. not_from_false (is_checkpoint r) (is_savepoint-kind r (groups.savepoints_done r h).1)) in
     count_by-records_of p us pending checkpoints savepoints (λ r. refl) ∙ omega arith
 
 -- two tests that imply one another

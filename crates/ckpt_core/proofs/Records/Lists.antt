@@ -9,17 +9,15 @@ use Rattle.ckpt_ids.specs.Ordered.{IsIn, IsInOrder, ComesBefore, AreDistinct}
 use Rattle.ckpt_ids.specs.Configuration.{IsWithinLimits}
 use Rattle.ckpt_ids.specs.Records.{Record, uses, is_present}
 use Rattle.ckpt_ids.specs.Shapes.{IsShape}
-use Rattle.ckpt_ids.proofs.OrderedLemmas.{IsIn-append_cases, IsInOrder-append, IsInOrder-filter, IsInOrder-map, ComesBefore-at}
+use Rattle.ckpt_ids.proofs.OrderedLemmas.{IsIn-append_cases, IsInOrder-append, IsInOrder-filter, IsInOrder-map, ComesBefore-at, IsIn-from_test, test-from_IsIn}
 use Rattle.ckpt_rules.specs.Trigger.{limit}
 use Rattle.ckpt_core.specs.declared.mode.Mode.TheVariants.{Running}
 use Rattle.ckpt_core.specs.State.{State, Opening, is_checkpoint, is_pending, is_done_checkpoint}
 use Rattle.ckpt_core.specs.Refusals.{is_done_savepoint}
 use Rattle.ckpt_core.specs.Soundness.{IsSound, IsRecord, id_before}
 pub use Rattle.ckpt_core.specs.Inside.SoundRecords.{AreSoundRecords, is_pending_checkpoint}
-use Rattle.ckpt_ids.proofs.CountLemmas.{count_by-append, count_by_yes, count_by_no}
+use Rattle.ckpt_ids.proofs.CountLemmas.{count_by-append, count_by_yes, count_by_no, count_by-same}
 use Rattle.ckpt_core.proofs.Records.Counts.{count_by-le, count_by-changed, IsIn-from_changed}
-use Rattle.ckpt_core.proofs.Ending.Released.{IsIn-from_test, test-from_IsIn}
-use Rattle.ckpt_pending.proofs.SubtaskLemmas.{count_by_same}
 
 -- of its outbox
 pub record IsSoundOutbox (records : List Record) (waiting taken : List ℕ) : Type 0 where
@@ -177,7 +175,7 @@ later_first p r rs c =
     let test : Record → Bool = λ s. p s && ltb r.id s.id in
     let not_itself : test r ≡ false = and_right (p r) (ltb r.id r.id) (le-ltb r.id r.id (omega arith)) in
     let all : (s : Record) → IsIn s rs → test s ≡ p s = λ s h. ap (λ b. p s && b) (ComesBefore-at id_before r s rs c h) ∙ and_true (p s) in
-    count_by_no test r rs not_itself ∙ count_by_same p test rs all
+    count_by_no test r rs not_itself ∙ count_by-same test p rs all
 
 -- one that comes after the first has as many after it without the first
 later_rest : (p : Record → Bool) (x r : Record) (rs : List Record) → x.id ≤ r.id → later p r (x ∷ rs) ≡ later p r rs
@@ -192,7 +190,7 @@ newest_at_most p n (x ∷ rs) a =
     let test : Record → Bool = λ r. p r && not (leb n (later p r (x ∷ rs))) in
     let test_rest : Record → Bool = λ r. p r && not (leb n (later p r rs)) in
     let same : (r : Record) → IsIn r rs → test r ≡ test_rest r = λ r h. let less : x.id < r.id = ltb-true x.id r.id (ComesBefore-at id_before x r rs a.0 h) in ap (λ k. p r && not (leb n k)) (later_rest p x r rs (omega arith)) in
-    let tail : count_by test rs ≡ count_by test_rest rs = count_by_same test_rest test rs same in
+    let tail : count_by test rs ≡ count_by test_rest rs = count_by-same test test_rest rs same in
     let rest : count_by test_rest rs ≤ n = newest_at_most p n rs a.1 in
     let fewer : count_by test_rest rs ≤ count_by p rs = count_by-le test_rest p rs (λ r h t. (and_parts (p r) (not (leb n (later p r rs))) t).0) in
     let yes : test x ≡ true → count_by test (x ∷ rs) ≤ n = λ (e : test x ≡ true).

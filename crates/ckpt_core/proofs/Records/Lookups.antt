@@ -1,5 +1,5 @@
 -- What is found in the records in rising number is found in the groups.
-use Rattle.std.proofs.Common.{◌≡◌, ℕ, suc, ◌+◌, Bool, true, false, ◌&&◌, cond, eqb, List, [], ◌∷◌, ◌++◌, map, length, refl, sym, ap, subst, ◌∙◌, inl, inr, ⊎_elim, arith, Some, None}
+use Rattle.std.proofs.Common.{◌≡◌, ℕ, suc, ◌+◌, Bool, true, false, ◌&&◌, cond, eqb, List, [], ◌∷◌, ◌++◌, map, length, refl, sym, ap, subst, ◌∙◌, inl, inr, ⊎_elim, Some, None}
 use Rattle.std.specs.Prelude.{count_by, find}
 use Rattle.std.specs.Option.{option_map}
 use Rattle.std.proofs.lemmas.Bool.{cases_Bool, both_ways, eqb-true, and_parts, and_left, not_from_false, not_from_true}
@@ -13,7 +13,7 @@ use Rattle.ckpt_core.specs.Soundness.{id_before}
 use Rattle.ckpt_core.specs.State.{is_pending}
 use Rattle.ckpt_core.specs.Refusals.{pending_of}
 use Rattle.ckpt_core.specs.Inside.Grouped.{with_pins, grouped, records_of}
-use Rattle.ckpt_ids.proofs.CountLemmas.{count_by-cons, count_by-append, count_by-map, count_by-in_order}
+use Rattle.ckpt_ids.proofs.CountLemmas.{count_by-append, count_by-map, count_by-in_order, count_by-same}
 use Rattle.ckpt_core.proofs.Records.Counts.{IsIn-from_find, fails-from_find}
 use Rattle.ckpt_core.proofs.Records.Grouped.{AreApart}
 
@@ -36,20 +36,12 @@ length-records_of us pending checkpoints savepoints =
     ∙ ap (λ n. n + length (checkpoints ++ savepoints)) (length-map pending (with_pins us))
     ∙ ap (λ n. length pending + n) (length-append checkpoints savepoints)
 
-pub count_same : {X : Type 0} (p q : X → Bool) (xs : List X) → ((x : X) → IsIn x xs → p x ≡ q x) → count_by p xs ≡ count_by q xs
-count_same p q [] agree = refl
-count_same p q (x ∷ xs) agree = count_by-cons p x xs ∙ ap (λ b. cond b 1 0 + count_by p xs) (agree x (inl refl)) ∙ ap (λ n. cond (q x) 1 0 + n) (count_same p q xs (λ y h. agree y (inr h))) ∙ sym (count_by-cons q x xs)
-
 pub count_by-records_of : (p : Record → Bool) (us : List Use) (pending checkpoints savepoints : List Record) → ((r : Record) → p (with_pins us r) ≡ p r) → count_by p (records_of us pending checkpoints savepoints) ≡ count_by p pending + (count_by p checkpoints + count_by p savepoints)
 count_by-records_of p us pending checkpoints savepoints same =
     count_by-in_order p id_before (grouped us pending checkpoints savepoints)
     ∙ count_by-append p (map (with_pins us) pending) (checkpoints ++ savepoints)
-    ∙ ap (λ n. n + count_by p (checkpoints ++ savepoints)) (count_by-map p (with_pins us) pending ∙ count_same (λ r. p (with_pins us r)) p pending (λ r h. same r))
+    ∙ ap (λ n. n + count_by p (checkpoints ++ savepoints)) (count_by-map p (with_pins us) pending ∙ count_by-same (λ r. p (with_pins us r)) p pending (λ r h. same r))
     ∙ ap (λ n. count_by p pending + n) (count_by-append p checkpoints savepoints)
-
-pub count_all : {X : Type 0} (p : X → Bool) (xs : List X) → ((x : X) → IsIn x xs → p x ≡ true) → count_by p xs ≡ length xs
-count_all p [] passes = refl
-count_all p (x ∷ xs) passes = count_by-cons p x xs ∙ ap (λ b. cond b 1 0 + count_by p xs) (passes x (inl refl)) ∙ ap (λ n. 1 + n) (count_all p xs (λ y h. passes y (inr h))) ∙ omega arith
 
 -- the one that passes a test
 

@@ -12,13 +12,12 @@ use Rattle.ckpt_ids.specs.declared.subtask.SubtaskId.{SubtaskId}
 use Rattle.ckpt_ids.specs.Ordered.{IsIn, IsInOrder}
 use Rattle.ckpt_ids.specs.Places.{LiesAt}
 use Rattle.ckpt_ids.specs.Records.{Record, has_acknowledged, acknowledged}
-use Rattle.ckpt_ids.proofs.CountLemmas.{count_by-cons, count_by-append, count_by-map}
+use Rattle.ckpt_ids.proofs.CountLemmas.{count_by-cons, count_by-append, count_by-map, count_by-same}
 use Rattle.ckpt_ids.proofs.OrderedLemmas.{IsIn-from_map, IsIn-from_filter, IsIn-append_cases, IsInOrder-append, IsInOrder-filter, IsInOrder-map, ComesBefore-at, filter-same, filter-filter}
 use Rattle.ckpt_ids.proofs.AscendingLemmas.{numbers_in_order}
 use Rattle.ckpt_ids.proofs.PlaceLemmas.{first_differs, get_or_any}
 use Rattle.ckpt_pending.specs.Acknowledging.{IsPending, without_ack}
 use Rattle.ckpt_pending.proofs.PendingLemmas.{without-with_ack}
-use Rattle.ckpt_pending.proofs.SubtaskLemmas.{count_by_same}
 use Rattle.ckpt_store.specs.Storing.{has_id, id_of}
 use Rattle.ckpt_store.proofs.RowLemmas.{find-place, remove-place}
 use Rattle.ckpt_core.specs.State.{is_checkpoint}
@@ -115,7 +114,7 @@ AreKept-changed id place f r w rs n kept at is new same kind pending =
     subst P (sym (set-place id f r w rs place kept.in_order at is new)) (record {
       in_order = IsInOrder-map id_before id_before one rs (λ q s h. ap (λ k. ltb k (one s).id) (number q) ∙ ap (ltb q.id) (number s) ∙ h) kept.in_order;
       pending = each;
-      counted = kept.counted ∙ sym (count_by-map is_checkpoint one rs ∙ count_by_same is_checkpoint (λ s. is_checkpoint (one s)) rs (λ s h. sort s));
+      counted = kept.counted ∙ sym (count_by-map is_checkpoint one rs ∙ count_by-same (λ s. is_checkpoint (one s)) is_checkpoint rs (λ s h. sort s));
     })
 
 -- one less

@@ -9,14 +9,14 @@ use Rattle.ckpt_ids.specs.Ordered.{IsIn, IsInOrder, AreDistinct}
 use Rattle.ckpt_ids.specs.Ascending.{ascending}
 use Rattle.ckpt_ids.specs.Records.{Record, uses, is_present, missing, has_acknowledged, acknowledged}
 use Rattle.ckpt_ids.specs.Shapes.{is_subtask}
-use Rattle.ckpt_ids.proofs.OrderedLemmas.{IsIn-append_cases, IsIn-from_in_order, filter-all}
+use Rattle.ckpt_ids.proofs.OrderedLemmas.{IsIn-append_cases, IsIn-from_in_order, filter-all, not_in-from_test}
 use Rattle.ckpt_core.specs.State.{State, is_checkpoint, is_pending, is_done_checkpoint, is_subsumed, is_surplus, is_known, in_outbox, kept, unpinned}
 use Rattle.ckpt_core.specs.Refusals.{pending_of}
 use Rattle.ckpt_core.specs.Steps.{replaced, with_records, superseded}
 use Rattle.ckpt_core.specs.Soundness.{IsSound, IsRecord, id_before}
 use Rattle.ckpt_core.proofs.Records.Counts.{count_by-changed, IsIn-from_changed, IsIn-from_find, fails-from_find}
 use Rattle.ckpt_core.proofs.Using.Present.{Holds, IsHeld, Holds-put_ack, absent-from_not_held, not_held}
-use Rattle.ckpt_core.proofs.Ending.Released.{distinct-from_test, not_in-from_test}
+use Rattle.ckpt_core.proofs.Ending.Released.{distinct-from_test}
 use Rattle.ckpt_core.proofs.Records.Lists.{AreSoundRecords, IsSoundOutbox, sound_from, records_of, outbox_of, is_pending_checkpoint, later, newest_at_most}
 use Rattle.ckpt_core.proofs.Records.Replacing.{put_in, IsReplacing, put_in_replaces, cond_same, replaced_records}
 use Rattle.ckpt_core.proofs.Records.Held.{held_after_put}

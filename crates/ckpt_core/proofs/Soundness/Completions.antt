@@ -6,12 +6,11 @@ use Rattle.std.proofs.lemmas.Bool.{cases_Bool, both_ways, not-true, not_from_fal
 use Rattle.ckpt_ids.specs.declared.subtask.SubtaskId.{SubtaskId}
 use Rattle.ckpt_ids.specs.Ordered.{IsIn, IsInOrder, AreDistinct}
 use Rattle.ckpt_ids.specs.Records.{Record, uses, is_present, missing}
-use Rattle.ckpt_ids.proofs.OrderedLemmas.{IsIn-append_left, IsIn-append_right, IsIn-append_cases, IsIn-from_filter, IsInOrder-map, AreDistinct-append, AreDistinct-left, AreDistinct-right, AreDistinct-apart, AreDistinct-filter}
+use Rattle.ckpt_ids.proofs.OrderedLemmas.{IsIn-append_left, IsIn-append_right, IsIn-append_cases, IsIn-from_filter, IsInOrder-map, AreDistinct-append, AreDistinct-left, AreDistinct-right, AreDistinct-apart, AreDistinct-filter, test-from_IsIn}
 use Rattle.ckpt_core.specs.declared.mode.Mode.TheVariants.{Running}
 use Rattle.ckpt_core.specs.State.{State, is_checkpoint, is_done_checkpoint, is_known, in_outbox, kept, unpinned, drop, released_by}
 use Rattle.ckpt_core.specs.Steps.{replaced, with_records, superseded, ack}
 use Rattle.ckpt_core.specs.Soundness.{IsSound, IsRecord, id_before}
-use Rattle.ckpt_core.proofs.Ending.Released.{test-from_IsIn}
 use Rattle.ckpt_core.proofs.Records.Lists.{AreSoundRecords, IsSoundOutbox, sound_from, records_of, outbox_of, is_pending_checkpoint}
 use Rattle.ckpt_core.proofs.Records.Replacing.{put_in, IsReplacing, put_in_replaces, unpinned_replaces, cond_same, replaced_records, completed_records}
 use Rattle.ckpt_core.proofs.Acknowledging.Records.{completed_is}

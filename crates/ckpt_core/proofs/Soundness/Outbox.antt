@@ -5,7 +5,7 @@ use Rattle.std.proofs.lemmas.Bool.{not-true, eqb-true, eqb-false}
 use Rattle.std.proofs.lemmas.List.{take-append-drop}
 use Rattle.ckpt_ids.specs.Ordered.{IsIn, AreDistinct}
 use Rattle.ckpt_ids.specs.Records.{Record}
-use Rattle.ckpt_ids.proofs.OrderedLemmas.{IsIn-append_left, IsIn-append_right, IsIn-append_cases, IsIn-from_filter, IsIn-from_list_any, AreDistinct-append, AreDistinct-left, AreDistinct-right, AreDistinct-apart, AreDistinct-filter}
+use Rattle.ckpt_ids.proofs.OrderedLemmas.{IsIn-append_left, IsIn-append_right, IsIn-append_cases, IsIn-from_filter, IsIn-from_list_any, AreDistinct-append, AreDistinct-left, AreDistinct-right, AreDistinct-apart, AreDistinct-filter, only_one}
 use Rattle.ckpt_core.specs.State.{State}
 use Rattle.ckpt_core.specs.Steps.{take_files, without}
 use Rattle.ckpt_core.specs.Soundness.{IsSound}
@@ -67,20 +67,19 @@ outbox_without rs f waiting taken o =
 outbox_back : (rs : List Record) (f : ℕ) (waiting taken : List ℕ) → IsSoundOutbox rs waiting taken → IsIn f taken → IsSoundOutbox rs (waiting ++ f ∷ []) (without f taken)
 outbox_back rs f waiting taken o there =
     let w = outbox_without rs f waiting taken o in
-    let only : (g : ℕ) → IsIn g (f ∷ []) → g ≡ f = λ g h. ⊎_elim (λ (e : g ≡ f). e) (λ (n : ⊥). absurd n) h in
     let P : ℕ → Type 0 = λ g. IsIn g taken in
-    let front : AreDistinct (waiting ++ f ∷ []) = AreDistinct-append waiting (f ∷ []) (AreDistinct-left waiting taken o.apart) (λ n. n, tt) (λ g h k. AreDistinct-apart waiting taken o.apart g h (subst P (sym (only g k)) there)) in
+    let front : AreDistinct (waiting ++ f ∷ []) = AreDistinct-append waiting (f ∷ []) (AreDistinct-left waiting taken o.apart) (λ n. n, tt) (λ g h k. AreDistinct-apart waiting taken o.apart g h (subst P (sym (only_one g f k)) there)) in
     let gone : (g : ℕ) → g ≡ f → IsIn g (without f taken) → ⊥ = λ g e h. eqb-false g f (not-true (eqb g f) (IsIn-from_filter (λ x. not (eqb x f)) g taken h).1) e in
     record {
       unused = λ g h.
           ⊎_elim
-          (λ (k : IsIn g (waiting ++ f ∷ [])). ⊎_elim (λ (i : IsIn g waiting). o.unused g (IsIn-append_left g waiting taken i)) (λ (i : IsIn g (f ∷ [])). o.unused g (IsIn-append_right g waiting taken (subst P (sym (only g i)) there))) (IsIn-append_cases g waiting (f ∷ []) k))
+          (λ (k : IsIn g (waiting ++ f ∷ [])). ⊎_elim (λ (i : IsIn g waiting). o.unused g (IsIn-append_left g waiting taken i)) (λ (i : IsIn g (f ∷ [])). o.unused g (IsIn-append_right g waiting taken (subst P (sym (only_one g f i)) there))) (IsIn-append_cases g waiting (f ∷ []) k))
           (λ (k : IsIn g (without f taken)). w.unused g (IsIn-append_right g waiting (without f taken) k))
           (IsIn-append_cases g (waiting ++ f ∷ []) (without f taken) h);
       apart = AreDistinct-append (waiting ++ f ∷ []) (without f taken) front (AreDistinct-right waiting (without f taken) w.apart) (λ g h k.
           ⊎_elim
           (λ (i : IsIn g waiting). AreDistinct-apart waiting (without f taken) w.apart g i k)
-          (λ (i : IsIn g (f ∷ [])). gone g (only g i) k)
+          (λ (i : IsIn g (f ∷ [])). gone g (only_one g f i) k)
           (IsIn-append_cases g waiting (f ∷ []) h));
     }
 

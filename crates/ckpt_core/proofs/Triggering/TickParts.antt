@@ -1,5 +1,5 @@
 -- What a tick does to the parts is what it does to the state.
-use Rattle.std.proofs.Common.{◌≡◌, ℕ, ◌+◌, ◌<◌, ◌≤◌, Bool, true, false, not, ◌&&◌, leb, ltb, List, [], ◌++◌, map, max, length, refl, sym, ap, ◌∙◌, ⊎_elim, arith, None, Result, Ok, Err, OnErr}
+use Rattle.std.proofs.Common.{◌≡◌, ℕ, ◌+◌, ◌<◌, ◌≤◌, Bool, true, false, not, ◌&&◌, leb, ltb, List, [], ◌++◌, map, max, length, refl, sym, ap, ◌∙◌, ⊎_elim, arith, None}
 use Rattle.std.specs.Prelude.{count_by}
 use Rattle.std.specs.List.{filter}
 use Rattle.std.specs.declared.vec.Vec.{Vec}
@@ -41,12 +41,12 @@ use Rattle.ckpt_core.proofs.Ending.Counts.{few_pending}
 use Rattle.ckpt_core.proofs.Triggering.TriggerParts.{limit_bound}
 use Rattle.ckpt_core.specs.declared.mode.Mode.TheVariants.{Running}
 use Rattle.ckpt_core.proofs.Records.Grouped.{AreApart, apart_left, apart_between}
-use Rattle.ckpt_core.proofs.Records.Lookups.{AreGroups, count_by-records_of, count_same, one_of_number, done_in}
+use Rattle.ckpt_core.proofs.Records.Lookups.{AreGroups, count_by-records_of, one_of_number, done_in}
 use Rattle.ckpt_core.proofs.Records.GroupLookups.{pending_checkpoints-groups}
 use Rattle.ckpt_core.proofs.Ending.Drops.{apart_in, numbers, noted-from_IsIn, IsIn-from_noted}
 use Rattle.ckpt_core.proofs.Soundness.Triggers.{new_record}
 use Rattle.ckpt_core.proofs.Triggering.TickStates.{started, starts_as, starts_done, starts_unused, stepped, tick_fails, tick_goes, tick_starts, ticked}
-use Rattle.ckpt_ids.proofs.CountLemmas.{count_by-none}
+use Rattle.ckpt_ids.proofs.CountLemmas.{count_by-none, count_by-same}
 use Rattle.ckpt_core.proofs.Answering.StepCases.{step_accepted}
 
 -- the clock
@@ -124,7 +124,7 @@ counted_in_pending p t u groups same none agree =
     let all : count_by t (records_in p) ≡ count_by t p.pending + (count_by t p.store.checkpoints + count_by t p.store.savepoints) = count_by-records_of t p.registry p.pending p.store.checkpoints p.store.savepoints same in
     let a : count_by t p.store.checkpoints ≡ 0 = count_by-none t p.store.checkpoints (λ r h. none r (groups.checkpoints_done r h).0) in
     let b : count_by t p.store.savepoints ≡ 0 = count_by-none t p.store.savepoints (λ r h. none r (groups.savepoints_done r h).0) in
-    let c : count_by t p.pending ≡ count_by u p.pending = count_same t u p.pending (λ r h. agree r (groups.not_done r h)) in
+    let c : count_by t p.pending ≡ count_by u p.pending = count_by-same t u p.pending (λ r h. agree r (groups.not_done r h)) in
     omega (arith, all, a, b, c)
 
 pub expired_counted : (p : Parts) (timeout moment : ℕ) → AreGroups p.pending p.store.checkpoints p.store.savepoints → timeout ≡ p.opened.config.timeout → moment ≡ max 0 p.clock.latest →

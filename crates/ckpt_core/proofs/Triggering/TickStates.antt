@@ -14,7 +14,7 @@ use Rattle.ckpt_ids.specs.declared.reply.Answer.TheVariants.{Done}
 use Rattle.ckpt_ids.specs.Ordered.{IsIn, IsInOrder}
 use Rattle.ckpt_ids.specs.Records.{Record, Use, uses, uses_of, is_present, released}
 use Rattle.ckpt_ids.proofs.AscendingLemmas.{numbers_in_order}
-use Rattle.ckpt_ids.proofs.OrderedLemmas.{IsIn-append_left, IsIn-append_right, IsIn-append_cases, IsIn-flat_map, IsIn-from_flat_map, IsInOrder-append, same_from_members, filter-all}
+use Rattle.ckpt_ids.proofs.OrderedLemmas.{IsIn-append_left, IsIn-append_right, IsIn-append_cases, IsIn-flat_map, IsIn-from_flat_map, IsInOrder-append, same_from_members, filter-all, IsIn-from_test}
 use Rattle.ckpt_rules.specs.declared.hold.Hold.{Hold}
 use Rattle.ckpt_rules.specs.declared.hold.Hold.TheVariants as hold
 use Rattle.ckpt_rules.specs.Trigger.{gap}
@@ -24,13 +24,12 @@ use Rattle.ckpt_core.specs.Inside.Expiring.{is_late, late_in}
 use Rattle.ckpt_core.specs.Inside.Starting.{Starts, held_at}
 use Rattle.ckpt_core.specs.Steps.{Stepped, triggered, start_or_hold, after_expiry, tick, failed_over, pending_checkpoints, dropped_by}
 use Rattle.ckpt_registry.proofs.ListLemmas.{count_by-filter}
-use Rattle.ckpt_ids.proofs.CountLemmas.{count_by-cons}
+use Rattle.ckpt_ids.proofs.CountLemmas.{count_by-cons, count_by-same}
 use Rattle.ckpt_core.proofs.Records.Counts.{map_itself}
 use Rattle.ckpt_core.proofs.Using.Present.{IsHeld, Holds, IsHeld-from_present, present-from_IsHeld, Holds-from_use}
-use Rattle.ckpt_core.proofs.Ending.Released.{ascending-released, before-from_released, after-from_released, IsIn-released, IsIn-from_test}
+use Rattle.ckpt_core.proofs.Ending.Released.{ascending-released, before-from_released, after-from_released, IsIn-released}
 use Rattle.ckpt_core.proofs.Records.Lists.{IsSoundOutbox}
 use Rattle.ckpt_core.proofs.Soundness.Triggers.{new_record, outbox_triggered, held-from_pins}
-use Rattle.ckpt_core.proofs.Records.Lookups.{count_same}
 use Rattle.ckpt_core.proofs.Ending.Drops.{drop_same}
 use Rattle.ckpt_core.proofs.Triggering.Pins.{pins_stay, pins_same}
 
@@ -257,7 +256,7 @@ pending_left m failures =
     count_by-filter_agree : (p q t : Record → Bool) (rs : List Record) → ((r : Record) → p r ≡ true → q r ≡ t r) → count_by p (filter q rs) ≡ count_by p (filter t rs)
     count_by-filter_agree p q t rs agree =
         let both : (r : Record) → (q r && p r) ≡ (t r && p r) = λ r. ⊎_elim (λ (e : p r ≡ true). ap (λ b. b && p r) (agree r e)) (λ (e : p r ≡ false). and_right (q r) (p r) e ∙ sym (and_right (t r) (p r) e)) (cases_Bool (p r)) in
-        count_by-filter p q rs ∙ count_same (λ r. q r && p r) (λ r. t r && p r) rs (λ r h. both r) ∙ sym (count_by-filter p t rs)
+        count_by-filter p q rs ∙ count_by-same (λ r. q r && p r) (λ r. t r && p r) rs (λ r h. both r) ∙ sym (count_by-filter p t rs)
 
 -- the whole tick
 

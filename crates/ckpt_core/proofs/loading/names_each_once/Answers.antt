@@ -1,19 +1,15 @@
 -- Answers the goals of `names_each_once`.
-use Rattle.std.proofs.Common.{◌≡◌, ℕ, ◌+◌, List, [], ◌∷◌, ◌++◌, take, sym, ap, subst, ◌∙◌, inl, inr, ⊎_elim}
+use Rattle.std.proofs.Common.{◌≡◌, ℕ, ◌+◌, List, [], ◌∷◌, ◌++◌, take, sym, ap, subst, ◌∙◌, ⊎_elim}
 use Rattle.std.proofs.lemmas.List.{take_all, take_more}
 use Rattle.std.proofs.lemmas.Bool.{both_ways}
 use Rattle.ckpt_ids.specs.declared.ack.Acked.{Acked}
 use Rattle.ckpt_ids.specs.Ascending.{IsAscendingSet}
 use Rattle.ckpt_ids.specs.Ordered.{IsIn}
-use Rattle.ckpt_ids.proofs.OrderedLemmas.{IsIn-append_cases, IsIn-get_or}
+use Rattle.ckpt_ids.proofs.OrderedLemmas.{IsIn-append_cases, IsIn-at, only_one}
 use Rattle.ckpt_core.proofs.loading.names_each_once.Goals as goal
 
 pub loop-acked-init : goal.loop-acked-init
 loop-acked-init c = λ a h. absurd h
-
-only_one : (b a : Acked) → IsIn a (b ∷ []) → a ≡ b
-only_one b a (inl e) = e
-only_one b a (inr n) = absurd n
 
 pub loop-acked-preserved : goal.loop-acked-preserved
 loop-acked-preserved c = λ a h.
@@ -24,15 +20,14 @@ loop-acked-preserved c = λ a h.
     let P : List Acked → Type 0 = λ xs. IsIn a xs in
     let Q : Acked → Type 0 = λ x. IsAscendingSet x.files in
     let set : IsAscendingSet b.files = c.rises.ensures.0 c.if-not-rises.false in
-    ⊎_elim (λ (k : IsIn a (take i items)). c.loop-acked.invariant a k) (λ (k : IsIn a (b ∷ [])). subst Q (sym (only_one b a k)) set) (IsIn-append_cases a (take i items) (b ∷ []) (subst P next h))
+    ⊎_elim (λ (k : IsIn a (take i items)). c.loop-acked.invariant a k) (λ (k : IsIn a (b ∷ [])). subst Q (sym (only_one a b k)) set) (IsIn-append_cases a (take i items) (b ∷ []) (subst P next h))
 
 pub returns-then-not-rises-clause-no : goal.returns-then-not-rises-clause-no
 returns-then-not-rises-clause-no c = λ e once.
     let items : List Acked = c.as_slice-acked-items.result.now in
     let b : Acked = c.acked-item.result in
-    let P : Acked → Type 0 = λ x. IsIn x items in
     let Q : List Acked → Type 0 = λ xs. IsIn b xs in
-    let there : IsIn b c.args.saved.now.metadata.acks = subst Q c.as_slice-acked-items.ensures.acks (subst P (sym c.acked-item.is) (IsIn-get_or items c.loop-acked.acked-index b c.loop-acked-test.true)) in
+    let there : IsIn b c.args.saved.now.metadata.acks = subst Q c.as_slice-acked-items.ensures.acks (IsIn-at items c.loop-acked.acked-index b c.loop-acked-test.true c.acked-item.is) in
     both_ways c.rises.result c.if-not-rises.true (c.rises.ensures.1 (once.files b there))
 
 pub returns-clause-yes : goal.returns-clause-yes

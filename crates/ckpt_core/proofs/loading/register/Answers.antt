@@ -8,7 +8,7 @@ use Rattle.ckpt_ids.specs.Ascending.{IsAscendingSet}
 use Rattle.ckpt_ids.specs.Ordered.{IsIn, in_order_once}
 use Rattle.ckpt_ids.specs.Records.{Use, Subtask, Pin, count, use_before}
 use Rattle.ckpt_ids.proofs.AscendingLemmas.{numbers_in_order}
-use Rattle.ckpt_ids.proofs.OrderedLemmas.{AreDistinct-from_order, IsIn-get_or}
+use Rattle.ckpt_ids.proofs.OrderedLemmas.{AreDistinct-from_order, IsIn-at}
 use Rattle.ckpt_registry.specs.Uses.{HasNoUse}
 use Rattle.ckpt_core.specs.Inside.Loading.{uses_of_acks, uses_held}
 use Rattle.ckpt_core.proofs.Using.Order.{holds}
@@ -19,10 +19,6 @@ use Rattle.ckpt_core.proofs.loading.register.Goals as goal
 next_of : (acks : List Acked) (i : ℕ) (a : Acked) → i < length acks → a ≡ get_or acks i a → take (i + 1) acks ≡ take i acks ++ a ∷ []
 next_of acks i a within at = take_more acks i a within ∙ ap (λ z. take i acks ++ z ∷ []) (sym at)
 
--- and is one of it
-one_of : (acks : List Acked) (i : ℕ) (a : Acked) → i < length acks → a ≡ get_or acks i a → IsIn a acks
-one_of acks i a within at = let P : Acked → Type 0 = λ b. IsIn b acks in subst P (sym at) (IsIn-get_or acks i a within)
-
 pub loop-acked-init : goal.loop-acked-init
 loop-acked-init c = sym (append-nil c.args.registry.now)
 
@@ -30,7 +26,7 @@ pub hold_files-requires-clause-each_once : goal.hold_files-requires-clause-each_
 hold_files-requires-clause-each_once c =
     let P : List Acked → Type 0 = λ xs. IsIn c.acked-item.result xs in
     let a : Acked = c.acked-item.result in
-    AreDistinct-from_order numbers_in_order a.files (c.requires.files a (subst P c.as_slice-acked-items.ensures.acks (one_of c.as_slice-acked-items.result.now c.loop-acked.acked-index a c.loop-acked-test.true c.acked-item.is)))
+    AreDistinct-from_order numbers_in_order a.files (c.requires.files a (subst P c.as_slice-acked-items.ensures.acks (IsIn-at c.as_slice-acked-items.result.now c.loop-acked.acked-index a c.loop-acked-test.true c.acked-item.is)))
 
 pub hold_files-requires-clause-below : goal.hold_files-requires-clause-below
 hold_files-requires-clause-below c = λ f h.

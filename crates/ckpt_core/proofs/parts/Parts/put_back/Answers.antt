@@ -1,9 +1,9 @@
 -- Answers the goals of `Parts::put_back`.
-use Rattle.std.proofs.Common.{◌≡◌, ℕ, ◌+◌, Bool, true, false, ◌||◌, List, [], ◌∷◌, ◌++◌, take, refl, sym, ap, subst, ◌∙◌, inl, inr, ⊎_elim}
+use Rattle.std.proofs.Common.{◌≡◌, ℕ, ◌+◌, Bool, true, false, ◌||◌, List, [], ◌∷◌, ◌++◌, take, refl, sym, ap, subst, ◌∙◌, ⊎_elim}
 use Rattle.std.proofs.lemmas.List.{take_all, take_more}
 use Rattle.ckpt_ids.specs.Ordered.{IsIn}
 use Rattle.ckpt_ids.specs.Records.{is_present}
-use Rattle.ckpt_ids.proofs.OrderedLemmas.{IsIn-append_cases}
+use Rattle.ckpt_ids.proofs.OrderedLemmas.{IsIn-append_cases, only_one}
 use Rattle.ckpt_core.specs.declared.parts.Parts.{Parts}
 use Rattle.ckpt_core.specs.Inside.Parts.{is_known_in}
 use Rattle.ckpt_core.proofs.Loaded.Reopened.{known_twice, one_more_waits}
@@ -21,10 +21,6 @@ returns-then-knows-clause-damaged c = λ e a.
 left_false : (a b : Bool) → (a || b) ≡ false → a ≡ false
 left_false true b e = e
 left_false false b e = refl
-
-only_one : (f g : ℕ) → IsIn f (g ∷ []) → f ≡ g
-only_one f g (inl e) = e
-only_one f g (inr n) = absurd n
 
 pub loop-file-preserved : goal.loop-file-preserved
 loop-file-preserved c =

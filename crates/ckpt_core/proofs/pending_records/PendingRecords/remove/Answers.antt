@@ -1,7 +1,8 @@
 -- Answers the goals of `PendingRecords::remove`.
-use Rattle.std.proofs.Common.{sym}
-use Rattle.ckpt_pending.proofs.AckLemmas.{filter_all}
+use Rattle.std.proofs.Common.{Bool, not, sym, ap}
 use Rattle.ckpt_store.specs.Storing.{has_id}
+use Rattle.ckpt_ids.specs.Records.{Record}
+use Rattle.ckpt_ids.proofs.OrderedLemmas.{fails-from_list_any, filter-all}
 use Rattle.ckpt_ids.proofs.PlaceLemmas.{find-none}
 use Rattle.ckpt_core.proofs.pending_records.PendingRecords.remove.Goals as goal
 
@@ -15,4 +16,6 @@ pub returns-in-None-clause-value : goal.returns-in-None-clause-value
 returns-in-None-clause-value c = sym (find-none (has_id c.args.id) c.args.self.now c.in-None.ensures.absent)
 
 pub returns-in-None-clause-rest : goal.returns-in-None-clause-rest
-returns-in-None-clause-rest c = sym (filter_all (has_id c.args.id) c.args.self.now c.in-None.ensures.absent)
+returns-in-None-clause-rest c =
+    let other : Record → Bool = λ r. not (has_id c.args.id r) in
+    sym (filter-all other c.args.self.now (λ r h. ap not (fails-from_list_any (has_id c.args.id) c.args.self.now c.in-None.ensures.absent r h)))
