@@ -12,7 +12,15 @@ use Rattle.ckpt_core.specs.Soundness.{IsSound}
 
 -- the record that was saved as this
 abbrev pub record_in : Saved → Record
-record_in s = record { id = s.metadata.id; kind = s.metadata.kind; done = s.metadata.done; shape = s.metadata.shape; started = s.metadata.started; acks = s.metadata.acks; pins = s.pins }
+record_in s = record {
+  id = s.metadata.id;
+  kind = s.metadata.kind;
+  done = s.metadata.done;
+  shape = s.metadata.shape;
+  started = s.metadata.started;
+  acks = s.metadata.acks;
+  pins = s.pins;
+}
 
 -- the state of an image
 abbrev pub state_in : Image → State

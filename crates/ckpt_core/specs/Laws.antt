@@ -57,11 +57,13 @@ ack_of now id p = Ack now id p.subtask p.fresh p.reused
 -- al. 2015: the order in which the tasks acknowledge does not matter.
 abbrev pub Exchange : State → ℕ → ℕ → Part → Part → Type 0
 Exchange m now id p q =
+    let first : Call = ack_of now id p in
+    let second : Call = ack_of now id q in
     (p.subtask ≡ q.subtask → ⊥)
     → ShareNone p.fresh q.reused
-    → is_ack_pending (step m (ack_of now id p)).1 ≡ true
-    → is_ack_taken (step (step m (ack_of now id p)).0 (ack_of now id q)).1 ≡ true
-    → ((step m (ack_of now id q)).1 ≡ (step m (ack_of now id p)).1) × (step (step m (ack_of now id q)).0 (ack_of now id p) ≡ step (step m (ack_of now id p)).0 (ack_of now id q))
+    → is_ack_pending (step m first).1 ≡ true
+    → is_ack_taken (step (step m first).0 second).1 ≡ true
+    → ((step m second).1 ≡ (step m first).1) × (step (step m second).0 first ≡ step (step m first).0 second)
 
 -- lists of calls
 
@@ -155,7 +157,9 @@ Outbox o calls =
 
 -- the acknowledgements of a number that a call adds to its record
 abbrev pub accepted_by : ℕ → State → Call → List Acked
-accepted_by id m (Ack now its_id subtask fresh reused) = if (its_id == id) && is_ack_taken (step m (Ack now its_id subtask fresh reused)).1 then record { subtask = subtask; files = ascending (fresh ++ reused) } ∷ [] else []
+accepted_by id m (Ack now its_id subtask fresh reused) =
+    let is_taken : Bool = is_ack_taken (step m (Ack now its_id subtask fresh reused)).1 in
+    if (its_id == id) && is_taken then record { subtask = subtask; files = ascending (fresh ++ reused) } ∷ [] else []
 accepted_by id m call = []
 
 -- a live record's acknowledgements are exactly the accepted ones of its number, by subtask; a done one has one of each subtask
@@ -203,7 +207,12 @@ names choice.Fresh = None
 abbrev pub ChoiceIsLive : Opening → List Call → Type 0
 ChoiceIsLive o calls =
     let m : State = replay (opened o) calls in
-    (id : ℕ) → names (choice_of m) ≡ Some id → (r : Record) × (record_of m id ≡ Some r) × (r.done ≡ true) × ((f : ℕ) → IsIn f (files_of (Some r)) → is_present (uses m.records) f ≡ true)
+    (id : ℕ)
+    → names (choice_of m) ≡ Some id
+    → (r : Record)
+    × (record_of m id ≡ Some r)
+    × (r.done ≡ true)
+    × ((f : ℕ) → IsIn f (files_of (Some r)) → is_present (uses m.records) f ≡ true)
 
 -- An acknowledgement for a pending record that reuses only files of the choice at that record's trigger is never refused
 -- FileGone. `call` triggers the record, after `before`; `calls` come after it.
@@ -218,4 +227,10 @@ Pinned o before call calls =
 
 -- for every call that triggers the record
 abbrev pub PinsStay : Type 0
-PinsStay = (o : Opening) (before : List Call) (call : Call) (calls : List Call) → CanOpen o → AreCalls before → IsCall call → AreCalls calls → Pinned o before call calls
+PinsStay =
+    (o : Opening) (before : List Call) (call : Call) (calls : List Call)
+    → CanOpen o
+    → AreCalls before
+    → IsCall call
+    → AreCalls calls
+    → Pinned o before call calls

@@ -75,7 +75,10 @@ repeated_file call = None
 
 -- the two rows on the files of an acknowledgement
 abbrev pub files_refusal : List ℕ → List ℕ → Option Refusal
-files_refusal fresh reused = first_some (refuse_if (nat_lt MOST_FILES (length fresh + length reused)) TooManyFiles ∷ refuse_if (has_repeats (fresh ++ reused)) RepeatedFile ∷ [])
+files_refusal fresh reused =
+    let too_many : Option Refusal = refuse_if (nat_lt MOST_FILES (length fresh + length reused)) TooManyFiles in
+    let repeated : Option Refusal = refuse_if (has_repeats (fresh ++ reused)) RepeatedFile in
+    first_some (too_many ∷ repeated ∷ [])
 
 -- never given to a record
 abbrev pub was_not_given : State → ℕ → Bool
@@ -117,7 +120,9 @@ name_taken m (Ack now id subtask fresh reused) = where_pending (pending_of m.rec
 name_taken m call = None
 
 abbrev pub file_gone : State → Call → Option Refusal
-file_gone m (Ack now id subtask fresh reused) = where_pending (pending_of m.records id) (named FileGone (find (λ f. not (is_present (uses m.records) f)) reused))
+file_gone m (Ack now id subtask fresh reused) =
+    let gone : Option ℕ = find (λ f. not (is_present (uses m.records) f)) reused in
+    where_pending (pending_of m.records id) (named FileGone gone)
 file_gone m call = None
 
 abbrev pub no_such_savepoint : State → Call → Option Refusal

@@ -7,7 +7,7 @@ use Rattle.ckpt_ids.specs.Ascending.{ascending}
 use Rattle.ckpt_ids.specs.Ordered.{in_order_once, put}
 use Rattle.ckpt_ids.specs.Records.{Record, Use, Subtask, released, use_before}
 use Rattle.ckpt_registry.specs.Uses.{after_end, triples}
-use Rattle.ckpt_store.specs.Storing.{by_id, completing}
+use Rattle.ckpt_store.specs.Storing.{Stored, by_id, completing}
 use Rattle.ckpt_core.specs.declared.parts.Parts.{Parts}
 use Rattle.ckpt_core.specs.Inside.Parts.{is_noted, present_in}
 use Rattle.ckpt_core.specs.Inside.PendingRecords.{acked}
@@ -31,7 +31,9 @@ with_waiting p files spare = record p { outbox = record p.outbox { waiting = p.o
 -- These uses are left. The files that this releases wait, in reserved places.
 -- Here and below, `after` has the room of what the parts keep.
 abbrev pub releasing : Parts → List Use → Parts → Parts
-releasing p left after = record (with_waiting p (released p.registry left) (p.outbox.spare - length (released p.registry left))) { registry = left; ended = after.ended }
+releasing p left after =
+    let gone : List ℕ = released p.registry left in
+    record (with_waiting p gone (p.outbox.spare - length gone)) { registry = left; ended = after.ended }
 
 -- the completed checkpoints are taken out of the store
 abbrev pub without_checkpoints : Parts → Parts → Parts
@@ -82,7 +84,8 @@ checkpoint_completed p done gone after = paused (handed_after (with_checkpoint p
 -- a savepoint is complete
 abbrev pub savepoint_completed : Parts → Record → Parts → Parts
 savepoint_completed p done after =
-    record (releasing p (after_end done.id [] p.registry) after) { store = record p.store { savepoints = put by_id done p.store.savepoints; spare = after.store.spare } }
+    let store : Stored = record p.store { savepoints = put by_id done p.store.savepoints; spare = after.store.spare } in
+    record (releasing p (after_end done.id [] p.registry) after) { store = store }
 
 -- the answer to its last acknowledgement
 abbrev pub completion : Parts → Record → List ℕ → Reply

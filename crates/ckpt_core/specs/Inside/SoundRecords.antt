@@ -38,7 +38,11 @@ pub record Joins (o : Opening) (next : ℕ) (rs : List Record) (r : Record) : Ty
 
 -- sound records stay sound with one that joins them
 abbrev pub JoinedAreSound : Type 0
-JoinedAreSound = (o : Opening) (next : ℕ) (rs : List Record) (r : Record) → AreSoundRecords o next rs → Joins o next rs r → AreSoundRecords o next (rs ++ r ∷ [])
+JoinedAreSound =
+    (o : Opening) (next : ℕ) (rs : List Record) (r : Record)
+    → AreSoundRecords o next rs
+    → Joins o next rs r
+    → AreSoundRecords o next (rs ++ r ∷ [])
 
 -- the last of sound records joins those before it
 abbrev pub LastJoins : Type 0
