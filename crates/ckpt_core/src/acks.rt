@@ -17,6 +17,8 @@ use ckpt_ids::{CheckpointId, FileId, Files, MOST_FILES, Reply, SubtaskId};
 use std::alloc::{AllocError, Global};
 
 /// The files of an acknowledgement, fresh and reused together.
+///
+/// Condition: they are at most [`MOST_FILES`].
 fn joined(alloc: Global, fresh: &Files, reused: &Files) -> Result<Files, AllocError>
     requires { length fresh.now + length reused.now ≤ MOST_FILES }
     ensures { IfOk result (λ files. files ≡ ascending (fresh.now ++ reused.now)) }
@@ -59,8 +61,7 @@ impl Parts {
         ensures fault { IfErr result (λ fault. fault ≡ Memory) }
         ensures memory { OnErr result (may_want_memory (state_of self.old) (call.Ack now id subtask fresh.now reused.now) ≡ true) }
     {
-        // what the store ensures, which ties its records to the state
-        let _ = self.store.base();
+        self.recall_store();
         // each answer is the last expression, so it needs no place beside the result
         match self.pending.place(id) {
             None => self.ack_late(now, id, subtask, fresh, reused),
@@ -76,6 +77,8 @@ impl Parts {
     }
 
     /// The pending record still waits for other subtasks.
+    ///
+    /// Condition: the record is at this place, and lacks `missing` acknowledgements, more than one.
     fn ack_waiting(
         &mut self,
         now: u64,
@@ -113,6 +116,8 @@ impl Parts {
 
     /// Adds an acknowledgement to its pending record, and its files to the registry. Fails only if
     /// memory runs out, and then changes nothing.
+    ///
+    /// Condition: the record is at this place.
     pub(crate) fn take_ack(
         &mut self,
         now: u64,
@@ -132,8 +137,7 @@ impl Parts {
         ensures in_order { IsInOrder id_before self.old.pending }
         ensures stored { IsStored self.old.store }
     {
-        // what the store and the pending records ensure, which ties them to the state
-        let _ = self.store.base();
+        self.recall_store();
         self.pending.recall();
         let files = joined(self.alloc, fresh, reused)?;
         self.pending.ack(place, subtask, files)?;

@@ -20,6 +20,8 @@ use ckpt_pending::Done;
 
 impl Parts {
     /// The pending record has waited for this subtask only, and completes.
+    ///
+    /// Condition: the record is at this place, and lacks one acknowledgement.
     pub(crate) fn ack_last(
         &mut self,
         now: u64,
@@ -67,6 +69,9 @@ impl Parts {
 
     /// Keeps a completed savepoint, and hands out what its end as a pending record releases. Takes
     /// no memory. Returns how many files were released.
+    ///
+    /// Conditions: the store has room for it, it is a savepoint, no other has its number, no number is
+    /// noted yet, and the outbox has room for the files in use and knows none of them.
     fn complete_savepoint(&mut self, done: Done) -> u64
         requires room { 1 ≤ self.old.store.spare }
         requires savepoint { done.kind ≡ kind.Savepoint }
@@ -88,6 +93,10 @@ impl Parts {
     /// Keeps a completed checkpoint, drops what it supersedes, and hands out what this and its end
     /// as a pending record release. Takes no memory. Returns how many records were dropped, and how
     /// many files were released.
+    ///
+    /// Conditions: the store has room for it, it is a checkpoint after those that are there, no number
+    /// is noted yet, there is room for the numbers of all records, and the outbox has room for the
+    /// files in use and knows none of them.
     fn complete_checkpoint(&mut self, done: Done) -> (u32, u64)
         requires room { 1 ≤ self.old.store.spare }
         requires checkpoint { done.kind ≡ kind.Checkpoint }
@@ -115,6 +124,9 @@ impl Parts {
     }
 
     /// Keeps a completed checkpoint, and notes the one that is past the number retained.
+    ///
+    /// Conditions: the store has room for it, it is a checkpoint after those that are there, and one
+    /// more number can be noted.
     fn keep(&mut self, done: Done)
         requires room { 1 ≤ self.old.store.spare }
         requires checkpoint { done.kind ≡ kind.Checkpoint }

@@ -8,6 +8,7 @@ ghost use Rattle.ckpt_core.specs.Coordinator.{IsCall, may_want_memory, open_faul
 ghost use Rattle.ckpt_core.specs.Inside.Parts.{Answers, AreSound, IsAccepted, Stays, is_report, never_fails, state_of};
 
 use crate::parts::Parts;
+use crate::recall::recall_shape;
 use crate::triggers::Ticked;
 use ckpt_hash::Secret;
 use ckpt_ids::{Call, Config, MOMENTS_END, NUMBERS_END, Refusal, Reply, Shape};
@@ -154,7 +155,7 @@ impl Core {
         ensures unchanged { OnErr result (self.new ≡ self.old) }
         ensures shape { IsCall call.now }
     {
-        recall_shape(call);
+        recall_call(call);
         if let Some(why) = self.parts.early_refusal(call) {
             return Err(CoreFault::Refused(why));
         }
@@ -168,7 +169,7 @@ impl Core {
 }
 
 /// Does nothing. Its contract says that the shape of a restore is a valid shape.
-fn recall_shape(call: &Call)
+fn recall_call(call: &Call)
     ensures { IsCall call.now }
 {
     if let Call::Restore {
@@ -176,7 +177,7 @@ fn recall_shape(call: &Call)
         ..
     } = call
     {
-        let _ = shape.size();
+        recall_shape(shape);
     }
 }
 

@@ -11,6 +11,8 @@ use ckpt_ids::CheckpointId;
 impl Parts {
     /// Releases the uses of the noted records, hands out the files that no record uses any more,
     /// and returns how many these are. Takes no memory.
+    ///
+    /// Condition: the outbox has room for the files in use, and knows none of them.
     #[inline(never)]
     pub(crate) fn hand_out(&mut self) -> u64
         requires unknown { AreInUseAlone self.old }
@@ -28,6 +30,8 @@ impl Parts {
     }
 
     /// The same, if the record `id` ends too and gives up its pins.
+    ///
+    /// Condition: as above.
     pub(crate) fn hand_out_after(&mut self, id: CheckpointId) -> u64
         requires unknown { AreInUseAlone self.old }
         requires room { present_in self.old.registry ≤ self.old.outbox.spare }
@@ -44,6 +48,8 @@ impl Parts {
     }
 
     /// Drops the noted pending records, and returns how many files were released. Takes no memory.
+    ///
+    /// Condition: no other records are noted.
     #[inline(always)]
     pub(crate) fn drop_noted(&mut self) -> u64
         requires tied { AreTied self.old }
@@ -94,6 +100,8 @@ impl Parts {
     }
 
     /// Takes all completed checkpoints out of the store and notes their numbers.
+    ///
+    /// Condition: there is room for their numbers.
     fn note_and_pop_checkpoints(&mut self)
         requires room { vec_len self.old.ended + length self.old.store.checkpoints ≤ vec_capacity self.old.ended }
         ensures parts { self.new ≡ without_checkpoints self.old self.new }

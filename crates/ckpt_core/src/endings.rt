@@ -87,6 +87,8 @@ impl Parts {
 
     /// Drops the records after the target. If the target is a savepoint, it becomes the base.
     /// Returns how many files were released.
+    ///
+    /// Condition: if the target is a savepoint, it is there.
     fn roll_back(&mut self, target: Target) -> u64
         requires sound { AreSound self.old }
         requires there { (id : ℕ) → target ≡ Savepoint id → is_done_savepoint (state_of self.old) id ≡ true }
@@ -102,6 +104,8 @@ impl Parts {
     }
 
     /// Drops all but the completed savepoints, of which one becomes the base.
+    ///
+    /// Condition: that one is there.
     fn drop_down_to(&mut self, id: CheckpointId) -> u64
         requires sound { AreSound self.old }
         requires there { is_done_savepoint (state_of self.old) id ≡ true }

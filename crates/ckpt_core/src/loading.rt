@@ -16,6 +16,7 @@ ghost use Rattle.ckpt_core.specs.Inside.SoundRecords.{AreSoundRecords, FrontIsSo
 
 use crate::image::{ImageFault, Saved};
 use crate::parts::Parts;
+use crate::recall::{recall_done, recall_limits, recall_pending};
 use crate::refusals::repeats;
 use ckpt_ids::{Acks, CheckpointId, Files, Kind, MOMENTS_END, MOST_SAVEPOINTS, Metadata};
 use ckpt_pending::{AckFault, Done, Pending};
@@ -255,10 +256,8 @@ impl Parts {
         ensures joins { OnOk result (JoinsParts self.old (record_in saved.now)) }
         ensures damaged { result ≡ Err ImageFault.Damaged → IsRecord (record_in saved.now) → ⊥ }
     {
-        // The contract of this call says that the configuration is within its limits.
-        let _ = self.opened.config.retained();
-        // The contract of this call says that the acknowledgements come from the record's subtasks.
-        let _ = pending.missing();
+        recall_limits(&self.opened.config);
+        recall_pending(&pending);
         match pending.finish() {
             Ok(done) => {
                 if !saved.metadata.done {
@@ -267,8 +266,7 @@ impl Parts {
                 if !saved.pins.is_empty() {
                     return Err(ImageFault::Damaged);
                 }
-                // The contract of this call says that each subtask has acknowledged.
-                let _ = done.id();
+                recall_done(&done);
                 self.load_done(done, saved)?;
             }
             Err(pending) => {
@@ -292,11 +290,9 @@ impl Parts {
         ensures tied { OnOk result (AreTied self.new) }
         ensures noted { OnOk result (self.new.ended.items ≡ self.old.ended.items) }
     {
-        // The contract of this call says that the configuration is within its limits.
-        let _ = self.opened.config.retained();
+        recall_limits(&self.opened.config);
         self.recall_groups();
-        // The contract of this call says that the record is done.
-        let _ = done.id();
+        recall_done(&done);
         match saved.metadata.kind {
             Kind::Checkpoint => self.load_checkpoint(done, &saved.metadata.acks),
             Kind::Savepoint => self.load_savepoint(done, &saved.metadata.acks),

@@ -7,6 +7,7 @@ ghost use Rattle.ckpt_core.specs.State.{opened};
 use crate::mode::Mode;
 use crate::parts::{Opened, Parts};
 use crate::pending_records::PendingRecords;
+use crate::recall::recall_shape;
 use ckpt_hash::Secret;
 use ckpt_ids::{Config, Shape};
 use ckpt_outbox::Outbox;
@@ -33,8 +34,7 @@ impl Parts {
         ensures sound { AreSound result }
         ensures state { state_of result ≡ opened (record { config = config; shape = shape; start = start; first = first }) }
     {
-        // The contract of this call says that the shape is within its limits.
-        let _ = shape.size();
+        recall_shape(&shape);
         Parts {
             alloc,
             clock: Clock::new(&config, start),

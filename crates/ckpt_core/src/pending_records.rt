@@ -8,6 +8,7 @@ ghost use Rattle.ckpt_ids.specs.Places.{LiesAt};
 ghost use Rattle.ckpt_store.specs.Storing.{has_id, id_of};
 
 use crate::queries::{Live, live_pending};
+use crate::recall::recall_pending;
 use ckpt_ids::{CheckpointId, Files, Kind, SubtaskId, place_of, take_out};
 use ckpt_pending::Pending;
 use std::alloc::{AllocError, Global};
@@ -82,6 +83,8 @@ impl PendingRecords {
     }
 
     /// The record at this place.
+    ///
+    /// Condition: there is one.
     #[inline(always)]
     pub(crate) fn at(&self, place: usize) -> &Pending
         requires { place < length self.now }
@@ -97,8 +100,7 @@ impl PendingRecords {
         ensures ok { OnOk result (self.new ≡ self.old ++ pending ∷ []) }
         ensures err { OnErr result (self.new ≡ self.old) }
     {
-        // its contract says that the record is pending
-        let _ = pending.id();
+        recall_pending(&pending);
         let added = usize::from(is_checkpoint(&pending));
         self.records.push_back(pending)?;
         self.checkpoints += added;
@@ -135,6 +137,8 @@ impl PendingRecords {
     }
 
     /// Takes out the record at this place. Takes no memory.
+    ///
+    /// Condition: there is one.
     pub(crate) fn take_out(&mut self, place: usize) -> Pending
         requires { place < length self.old }
         ensures value { slice_get self.old place ≡ Some result }

@@ -59,6 +59,8 @@ fn has_repeats(fresh: &Files, reused: &Files) -> bool
 }
 
 /// Whether a file is named twice. In ascending order its two places are neighbours.
+///
+/// Condition: the files are in ascending order.
 pub(crate) fn repeats(files: &[FileId]) -> bool
     requires { IsAscending files.now }
     ensures { result ≡ has_repeats files.now }
@@ -67,6 +69,8 @@ pub(crate) fn repeats(files: &[FileId]) -> bool
 }
 
 /// Whether a file is in both lists.
+///
+/// Condition: the fresh ones are in ascending order.
 fn share(fresh: &[FileId], reused: &[FileId]) -> bool
     requires { IsAscending fresh.now }
     ensures { result ≡ list_any (λ f. list_any (λ g. f == g) fresh.now) reused.now }
@@ -75,6 +79,8 @@ fn share(fresh: &[FileId], reused: &[FileId]) -> bool
 }
 
 /// Whether the file is one of these. Makes a binary search.
+///
+/// Condition: they are in ascending order.
 fn is_among(file: FileId, files: &[FileId]) -> bool
     requires { IsAscending files.now }
     ensures { result ≡ list_any (λ f. file == f) files.now }

@@ -12,6 +12,7 @@ use crate::image::{Image, ImageFault};
 use crate::mode::Mode;
 use crate::parts::{Opened, Parts};
 use crate::pending_records::PendingRecords;
+use crate::recall::{recall_limits, recall_shape};
 use ckpt_hash::Secret;
 use ckpt_ids::{CheckpointId, FileId, Files, Handed, LONGEST_DURATION, MOMENTS_END, NUMBERS_END};
 use ckpt_outbox::Outbox;
@@ -167,9 +168,8 @@ impl Parts {
         ensures held { OnOk result (CanHold (state_in image.now)) }
         ensures damaged { result ≡ Err ImageFault.Damaged → CanHold (state_in image.now) → ⊥ }
     {
-        // Their contracts say that the configuration and the shape are within their limits.
-        let _ = image.config.retained();
-        let _ = image.shape.size();
+        recall_limits(&image.config);
+        recall_shape(&image.shape);
         if !has_sound_numbers(image) {
             return Err(ImageFault::Damaged);
         }

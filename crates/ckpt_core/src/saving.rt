@@ -14,6 +14,8 @@ use ckpt_ids::{CheckpointId, Files};
 use std::alloc::AllocError;
 
 /// The number after that of a record.
+///
+/// Condition: that is below 2^62.
 fn number_after(id: CheckpointId) -> CheckpointId
     requires { id < 2 ^ 62 }
     ensures { result ≡ id + 1 }

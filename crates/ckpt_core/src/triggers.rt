@@ -67,6 +67,8 @@ impl Parts {
     }
 
     /// Adds a pending record with the next number, which pins the files of the choice.
+    ///
+    /// Conditions: the shape is that of the job, and there is room for the number among those that end.
     fn add(&mut self, kind: Kind, shape: Shape) -> Result<CheckpointId, AllocError>
         requires tied { AreTied self.old }
         requires sound { IsSound (state_of self.old) }
@@ -94,6 +96,8 @@ impl Parts {
     }
 
     /// Pins the files of the choice, if it is a record. Visits none of them.
+    ///
+    /// Conditions: record `id` has no pins yet, and each file of the choice has at most 2^32 - 2 uses.
     fn pin(&mut self, id: CheckpointId, choice: Choice) -> Result<(), AllocError>
         requires below { (f : ℕ) → IsIn f (files_chosen choice self.old.registry) → count self.old.registry f < 2 ^ 32 - 1 }
         requires unpinned { HasNoUse self.old.registry id Pin }
@@ -109,6 +113,8 @@ impl Parts {
     }
 
     /// Makes room for the number of one more live record among those that end.
+    ///
+    /// Condition: fewer than 2^32 records live.
     pub(crate) fn make_room(&mut self) -> Result<(), AllocError>
         requires { length (records_in self.old) < 2 ^ 32 }
         ensures room { OnOk result (length (records_in self.old) + 1 ≤ vec_capacity self.new.ended) }
@@ -205,6 +211,8 @@ impl Parts {
     }
 
     /// More checkpoints have failed in a row than the job tolerates: it fails over.
+    ///
+    /// Condition: this expiry says so.
     fn fail_expired(&mut self, expiry: Expiry) -> Ticked
         requires tied { AreTied self.old }
         requires sound { IsSound (state_of self.old) }

@@ -49,4 +49,4 @@ pub invariant_of-self-in-Undeleted : goal.invariant_of-self-in-Undeleted
 invariant_of-self-in-Undeleted c = sound_after c.self.inside.parts c.undeleted.new.self (Undeleted c.in-Undeleted.file) c.undeleted.result tt c.self.invariant c.undeleted.ensures.ok c.undeleted.ensures.err
 
 pub invariant_of-self-in_default-call : goal.invariant_of-self-in_default-call
-invariant_of-self-in_default-call c = sound_after c.self.inside.parts c.answer.new.self c.args.call.now c.answer.result c.recall_shape.ensures c.self.invariant c.answer.ensures.ok c.answer.ensures.err
+invariant_of-self-in_default-call c = sound_after c.self.inside.parts c.answer.new.self c.args.call.now c.answer.result c.recall_call.ensures c.self.invariant c.answer.ensures.ok c.answer.ensures.err

@@ -12,13 +12,13 @@ use Rattle.ckpt_core.proofs.parts.Parts.ack.Goals.{After-missing-missing}
 
 pub ack_late-requires-clause-ended : goal.ack_late-requires-clause-ended
 ack_late-requires-clause-ended c =
-    none_found c.args.self.now c.args.id c.requires.sound.sound c.place.ensures.pending c.base.ensures.stored (find-none (has_id c.args.id) c.args.self.now.pending c.in-None.ensures.absent)
+    none_found c.args.self.now c.args.id c.requires.sound.sound c.place.ensures.pending c.recall_store.ensures (find-none (has_id c.args.id) c.args.self.now.pending c.in-None.ensures.absent)
 
 found : (c : After-missing-missing) → find (has_id c.args.id) c.args.self.now.pending ≡ Some c.at.result.now
 found c = sym (find-place c.args.id c.args.self.now.pending c.in-Some.place c.place.ensures.in_order c.in-Some.ensures.found) ∙ c.at.ensures
 
 taking : (c : After-missing-missing) → IsTaking c.args.self.now c.args.now c.args.id c.args.subtask c.args.fresh.now c.args.reused.now c.at.result.now
-taking c = record { sound = c.requires.sound; accepted = c.requires.accepted; pending = c.place.ensures.pending; in_order = c.place.ensures.in_order; stored = c.base.ensures.stored; found = found c }
+taking c = record { sound = c.requires.sound; accepted = c.requires.accepted; pending = c.place.ensures.pending; in_order = c.place.ensures.in_order; stored = c.recall_store.ensures; found = found c }
 
 pub ack_waiting-requires-clause-waiting : goal.ack_waiting-requires-clause-waiting
 ack_waiting-requires-clause-waiting c = record { lacking = c.at.result.now; found = found (goal.at.ack_waiting-requires-clause-waiting c).After-missing-missing; counted = sym c.missing-missing.ensures.value }

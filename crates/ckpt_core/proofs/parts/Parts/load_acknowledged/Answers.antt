@@ -17,14 +17,14 @@ pub load_pending-requires-clause-newest : goal.load_pending-requires-clause-newe
 load_pending-requires-clause-newest c = λ r h.
     let s : Saved = c.args.saved.now in
     let j : Joins (opening_of c.args.self.now.opened) c.args.self.now.next (records_in c.args.self.now) (record_in s) =
-    c.requires.place (pending_is_record s c.args.pending c.requires.made c.missing.ensures.pending (c.in-Err.ensures.missing.0 refl) c.requires.once c.if-saved.false) in
+    c.requires.place (pending_is_record s c.args.pending c.requires.made c.recall_pending.ensures (c.in-Err.ensures.missing.0 refl) c.requires.once c.if-saved.false) in
     let its : c.in-Err.pending.id ≡ s.metadata.id = ap (λ (x : Record). x.id) (c.in-Err.ensures.pending ∙ c.requires.made) in
     let lt : r.id < s.metadata.id = j.above r h in
     omega (arith, its, lt)
 
 pub load_pending-requires-clause-few : goal.load_pending-requires-clause-few
 load_pending-requires-clause-few c =
-    let few = few_records (records_in c.args.self.now) c.retained.ensures.limits c.requires.sound in
+    let few = few_records (records_in c.args.self.now) c.recall_limits.ensures c.requires.sound in
     omega (arith, few)
 
 pub load_pending-requires-clause-below : goal.load_pending-requires-clause-below
@@ -32,10 +32,10 @@ load_pending-requires-clause-below c = λ f.
     let s : Saved = c.args.saved.now in
     let rs : List Record = records_in c.args.self.now in
     let j : Joins (opening_of c.args.self.now.opened) c.args.self.now.next rs (record_in s) =
-    c.requires.place (pending_is_record s c.args.pending c.requires.made c.missing.ensures.pending (c.in-Err.ensures.missing.0 refl) c.requires.once c.if-saved.false) in
+    c.requires.place (pending_is_record s c.args.pending c.requires.made c.recall_pending.ensures (c.in-Err.ensures.missing.0 refl) c.requires.once c.if-saved.false) in
     let same : record c.in-Err.pending { pins = s.pins } ≡ record_in s = pending_same s c.in-Err.pending (c.in-Err.ensures.pending ∙ c.requires.made) c.if-saved.false in
     let P : Record → Type 0 = λ x. count (uses (rs ++ x ∷ [])) f < 4294967295 in
-    subst P (sym same) (few_uses (rs ++ record_in s ∷ []) c.retained.ensures.limits (joined_records c.requires.sound j) f)
+    subst P (sym same) (few_uses (rs ++ record_in s ∷ []) c.recall_limits.ensures (joined_records c.requires.sound j) f)
 
 pub returns-in_ok-load_pending-in-Err-clause-state : goal.returns-in_ok-load_pending-in-Err-clause-state
 returns-in_ok-load_pending-in-Err-clause-state c =
@@ -46,4 +46,4 @@ returns-in_ok-load_pending-in-Err-clause-state c =
 
 pub returns-in_ok-load_pending-in-Err-clause-joins : goal.returns-in_ok-load_pending-in-Err-clause-joins
 returns-in_ok-load_pending-in-Err-clause-joins c =
-    c.requires.place (pending_is_record c.args.saved.now c.args.pending c.requires.made c.missing.ensures.pending (c.in-Err.ensures.missing.0 refl) c.requires.once c.if-saved.false)
+    c.requires.place (pending_is_record c.args.saved.now c.args.pending c.requires.made c.recall_pending.ensures (c.in-Err.ensures.missing.0 refl) c.requires.once c.if-saved.false)

@@ -27,7 +27,7 @@ load_checkpoint-requires-clause-fewer c =
     let p : Parts = c.args.self.now in
     let x : Record = c.args.done in
     let its : x.kind ≡ kind.Checkpoint = ap (λ (r : Record). r.kind) c.requires.done ∙ c.in-Checkpoint.is in
-    let yes : (x.done && is_checkpoint x) ≡ true = ap (λ b. b && is_checkpoint x) c.id.ensures.done.is_done ∙ is_checkpoint-kind x its in
+    let yes : (x.done && is_checkpoint x) ≡ true = ap (λ b. b && is_checkpoint x) c.recall_done.ensures.is_done ∙ is_checkpoint-kind x its in
     let counted = done_checkpoints-groups p.registry p.pending p.store.checkpoints p.store.savepoints (groups_of p c.recall_groups.ensures.pending c.recall_groups.ensures.stored) in
     omega (arith, counted, c.requires.joins.retained yes, c.requires.tied.retained)
 
@@ -38,11 +38,11 @@ load_checkpoint-requires-clause-files c =
 
 pub load_checkpoint-requires-clause-few : goal.load_checkpoint-requires-clause-few
 load_checkpoint-requires-clause-few c =
-    let few = few_records (records_in c.args.self.now) c.retained.ensures.limits c.requires.sound in
+    let few = few_records (records_in c.args.self.now) c.recall_limits.ensures c.requires.sound in
     omega (arith, few)
 
 pub load_checkpoint-requires-clause-below : goal.load_checkpoint-requires-clause-below
-load_checkpoint-requires-clause-below c = few_uses (records_in c.args.self.now ++ c.args.done ∷ []) c.retained.ensures.limits (joined_records c.requires.sound c.requires.joins)
+load_checkpoint-requires-clause-below c = few_uses (records_in c.args.self.now ++ c.args.done ∷ []) c.recall_limits.ensures (joined_records c.requires.sound c.requires.joins)
 
 pub load_savepoint-requires-clause-fewer : goal.load_savepoint-requires-clause-fewer
 load_savepoint-requires-clause-fewer c =
@@ -57,11 +57,11 @@ load_savepoint-requires-clause-files c =
 
 pub load_savepoint-requires-clause-few : goal.load_savepoint-requires-clause-few
 load_savepoint-requires-clause-few c =
-    let few = few_records (records_in c.args.self.now) c.retained.ensures.limits c.requires.sound in
+    let few = few_records (records_in c.args.self.now) c.recall_limits.ensures c.requires.sound in
     omega (arith, few)
 
 pub load_savepoint-requires-clause-below : goal.load_savepoint-requires-clause-below
-load_savepoint-requires-clause-below c = few_uses (records_in c.args.self.now ++ c.args.done ∷ []) c.retained.ensures.limits (joined_records c.requires.sound c.requires.joins)
+load_savepoint-requires-clause-below c = few_uses (records_in c.args.self.now ++ c.args.done ∷ []) c.recall_limits.ensures (joined_records c.requires.sound c.requires.joins)
 
 pub returns-in-Checkpoint-clause-state : goal.returns-in-Checkpoint-clause-state
 returns-in-Checkpoint-clause-state c =

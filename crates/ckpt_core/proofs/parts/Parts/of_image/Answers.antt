@@ -114,7 +114,7 @@ returns-clause-held c =
     let p2 : Parts = c.load_base.new.self in
     let e2 : state_of p2 ≡ record m { waiting = []; taken = [] } = after_base m p1 p2 e1 c.in_ok-load_base.ensures.state in
     let t2 : IsTold p2 (record m { waiting = []; taken = [] }) = told p2 (record m { waiting = []; taken = [] }) e2 in
-    can_hold_from m (c.has_sound_numbers.ensures.yes c.if-not-has_sound_numbers.false) c.retained.ensures.limits c.size.ensures.limits
+    can_hold_from m (c.has_sound_numbers.ensures.yes c.if-not-has_sound_numbers.false) c.recall_limits.ensures c.recall_shape.ensures
     (records_loaded m p0 (map record_in c.deref.result.now) e0 same c.in_ok-load_all.ensures.sound)
     (λ id e. let P : State → Type 0 = λ s. is_done_savepoint s id ≡ true in subst P e1 (c.in_ok-load_base.ensures.there id e))
     (idle_loaded m p2 t2 (c.is_idle.ensures.yes c.if-not-is_idle.false))
@@ -131,7 +131,7 @@ returns-clause-sound c =
     let p2 : Parts = c.load_base.new.self in
     let e2 : state_of p2 ≡ record m { waiting = []; taken = [] } = after_base m p1 p2 e1 c.in_ok-load_base.ensures.state in
     let t2 : IsTold p2 (record m { waiting = []; taken = [] }) = told p2 (record m { waiting = []; taken = [] }) e2 in
-    let can : CanHold m = can_hold_from m (c.has_sound_numbers.ensures.yes c.if-not-has_sound_numbers.false) c.retained.ensures.limits c.size.ensures.limits
+    let can : CanHold m = can_hold_from m (c.has_sound_numbers.ensures.yes c.if-not-has_sound_numbers.false) c.recall_limits.ensures c.recall_shape.ensures
     (records_loaded m p0 (map record_in c.deref.result.now) e0 same c.in_ok-load_all.ensures.sound)
     (λ id e. let P : State → Type 0 = λ s. is_done_savepoint s id ≡ true in subst P e1 (c.in_ok-load_base.ensures.there id e))
     (idle_loaded m p2 t2 (c.is_idle.ensures.yes c.if-not-is_idle.false))

@@ -15,12 +15,12 @@ use Rattle.ckpt_core.proofs.parts.Parts.take_ack.Goals as goal
 pub joined-requires : goal.joined-requires
 joined-requires c =
     let r = some_from _ c.requires.there in
-    (can_take c.args.self.now c.args.now c.args.id c.args.subtask c.args.fresh.now c.args.reused.now r.0 c.requires.sound c.requires.accepted c.recall.ensures.pending c.base.ensures.stored r.1).few
+    (can_take c.args.self.now c.args.now c.args.id c.args.subtask c.args.fresh.now c.args.reused.now r.0 c.requires.sound c.requires.accepted c.recall.ensures.pending c.recall_store.ensures r.1).few
 
 taken : (c : goal.After-ack-arg-1) → CanTake c.args.self.now c.args.now c.args.id c.args.subtask c.args.fresh.now c.args.reused.now
 taken c =
     let r = some_from _ c.requires.there in
-    can_take c.args.self.now c.args.now c.args.id c.args.subtask c.args.fresh.now c.args.reused.now r.0 c.requires.sound c.requires.accepted c.recall.ensures.pending c.base.ensures.stored r.1
+    can_take c.args.self.now c.args.now c.args.id c.args.subtask c.args.fresh.now c.args.reused.now r.0 c.requires.sound c.requires.accepted c.recall.ensures.pending c.recall_store.ensures r.1
 
 pub ack-requires-clause-expected : goal.ack-requires-clause-expected
 ack-requires-clause-expected c = λ r e. (taken c).expected r (sym (find-place c.args.id c.args.self.now.pending c.args.place c.recall.ensures.in_order c.requires.place) ∙ e)
@@ -28,7 +28,7 @@ ack-requires-clause-expected c = λ r e. (taken c).expected r (sym (find-place c
 using_files : (c : goal.After-use_files-arg-1) → CanTake c.args.self.now c.args.now c.args.id c.args.subtask c.args.fresh.now c.args.reused.now
 using_files c =
     let r = some_from _ c.requires.there in
-    can_take c.args.self.now c.args.now c.args.id c.args.subtask c.args.fresh.now c.args.reused.now r.0 c.requires.sound c.requires.accepted c.recall.ensures.pending c.base.ensures.stored r.1
+    can_take c.args.self.now c.args.now c.args.id c.args.subtask c.args.fresh.now c.args.reused.now r.0 c.requires.sound c.requires.accepted c.recall.ensures.pending c.recall_store.ensures r.1
 
 pub use_files-requires-clause-fresh_absent : goal.use_files-requires-clause-fresh_absent
 use_files-requires-clause-fresh_absent c = (using_files c).fresh_absent
@@ -66,7 +66,7 @@ pub returns-in-Err-clause-err : goal.returns-in-Err-clause-err
 returns-in-Err-clause-err c =
     let r = some_from _ c.requires.there in
     let p = c.args.self.now in
-    let t : CanTake p c.args.now c.args.id c.args.subtask c.args.fresh.now c.args.reused.now = can_take p c.args.now c.args.id c.args.subtask c.args.fresh.now c.args.reused.now r.0 c.requires.sound c.requires.accepted c.recall.ensures.pending c.base.ensures.stored r.1 in
+    let t : CanTake p c.args.now c.args.id c.args.subtask c.args.fresh.now c.args.reused.now = can_take p c.args.now c.args.id c.args.subtask c.args.fresh.now c.args.reused.now r.0 c.requires.sound c.requires.accepted c.recall.ensures.pending c.recall_store.ensures r.1 in
     let acked_is = c.in_ok-ack.ensures.ok c.args.id c.requires.place in
     let back : c.retract.new.self ≡ p.pending =
     c.retract.ensures c.args.id (lies_in_new c.args.id c.args.subtask c.in_ok-files.files p.pending c.ack.new.self c.args.place c.requires.place acked_is) ∙ ap (retracted c.args.id c.args.subtask) acked_is
@@ -76,7 +76,7 @@ returns-in-Err-clause-err c =
 pub see-requires : goal.see-requires
 see-requires c =
     let r = some_from _ c.requires.there in
-    (can_take c.args.self.now c.args.now c.args.id c.args.subtask c.args.fresh.now c.args.reused.now r.0 c.requires.sound c.requires.accepted c.recall.ensures.pending c.base.ensures.stored r.1).moment
+    (can_take c.args.self.now c.args.now c.args.id c.args.subtask c.args.fresh.now c.args.reused.now r.0 c.requires.sound c.requires.accepted c.recall.ensures.pending c.recall_store.ensures r.1).moment
 
 pub returns-clause-ok : goal.returns-clause-ok
 returns-clause-ok c =
