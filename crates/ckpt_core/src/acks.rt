@@ -1,5 +1,5 @@
 //! Acknowledgements of records that are pending.
-ghost use Rattle.std.specs.Prelude.{◌≡◌, ◌<◌, ◌≤◌, ◌+◌, ◌-◌, ◌++◌, ◌==◌, find, length, IfOk, OnOk, OnErr, IsSome, true, IfErr};
+ghost use Rattle.std.specs.Prelude.{◌≡◌, ◌<◌, ◌≤◌, ◌+◌, ◌++◌, ◌==◌, find, length, IfOk, OnOk, OnErr, IsSome, true, IfErr};
 ghost use Rattle.ckpt_ids.specs.declared.call.Call.TheVariants as call;
 ghost use Rattle.ckpt_core.specs.declared.coordinator.CoreFault.TheVariants.{Memory};
 ghost use Rattle.ckpt_core.specs.Coordinator.{may_want_memory};

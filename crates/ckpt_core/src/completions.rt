@@ -1,11 +1,10 @@
 //! The last acknowledgement of a record, which completes it.
-ghost use Rattle.std.specs.Prelude.{◌≡◌, ◌<◌, ◌≤◌, ◌+◌, ◌^◌, ◌++◌, ◌==◌, ℕ, not, filter, length, slice_get, [], IfOk, OnErr, Some, true, false, vec_capacity, vec_len, IfErr};
+ghost use Rattle.std.specs.Prelude.{◌≡◌, ◌<◌, ◌≤◌, ◌+◌, ◌^◌, ◌++◌, ℕ, length, slice_get, [], IfOk, OnErr, Some, true, false, vec_capacity, vec_len, IfErr};
 ghost use Rattle.ckpt_ids.specs.declared.call.Call.TheVariants as call;
 ghost use Rattle.ckpt_ids.specs.declared.numbers.Kind.TheVariants as kind;
 ghost use Rattle.ckpt_ids.specs.declared.reply.Reply.TheVariants as reply;
 ghost use Rattle.ckpt_core.specs.declared.coordinator.CoreFault.TheVariants.{Memory};
 ghost use Rattle.ckpt_core.specs.Inside.Completing.{IsMissing, superseded, surplus};
-ghost use Rattle.ckpt_core.specs.Inside.FileFacts.{is_known, is_present};
 ghost use Rattle.ckpt_core.specs.Inside.Moving.{checkpoint_completed, completion, savepoint_completed, with_checkpoint, without_pending};
 ghost use Rattle.ckpt_core.specs.Inside.Parts.{Answers, AreInUseAlone, AreSound, IsAccepted, Stays, present_in};
 ghost use Rattle.ckpt_core.specs.Inside.RecordFacts.{IsAbove, Record, has_savepoint};

@@ -1,5 +1,5 @@
 //! The coordinator as callers see it: how it is opened, and the call that makes all others.
-ghost use Rattle.std.specs.Prelude.{◌≡◌, ◌↔◌, true, false, None, Some, Err, IfOk, OnErr, IfErr};
+ghost use Rattle.std.specs.Prelude.{◌≡◌, ◌↔◌, true, false, Some, Err, IfOk, OnErr, IfErr};
 ghost use Rattle.std.specs.Result.{result_err};
 ghost use Rattle.ckpt_ids.specs.declared.reply.Answer.TheVariants.{Done};
 ghost use Rattle.ckpt_ids.specs.declared.reply.Refusal.{Refusal};

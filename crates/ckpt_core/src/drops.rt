@@ -1,6 +1,6 @@
 //! The end of records: their uses are released, and the files that nothing uses are handed out.
-ghost use Rattle.std.specs.Prelude.{◌≡◌, ◌-◌, ◌≤◌, ◌++◌, ◌||◌, ◌==◌, ◌≢◌, ◌+◌, [], true, false, find, length, map, Some, IsSome, vec_capacity, vec_len};
-ghost use Rattle.ckpt_core.specs.Inside.FileFacts.{after_end, is_known, is_present, released, without};
+ghost use Rattle.std.specs.Prelude.{◌≡◌, ◌≤◌, ◌++◌, ◌||◌, ◌==◌, ◌≢◌, ◌+◌, [], true, find, length, map, Some, IsSome, vec_capacity, vec_len};
+ghost use Rattle.ckpt_core.specs.Inside.FileFacts.{after_end, released, without};
 ghost use Rattle.ckpt_core.specs.Inside.Moving.{releasing, without_checkpoints};
 ghost use Rattle.ckpt_core.specs.Inside.Parts.{AreInUseAlone, AreSound, AreTied, Drops, NotesPendingOnly, is_noted, present_in, records_in};
 ghost use Rattle.ckpt_core.specs.Inside.RecordFacts.{IsInOrder, has_savepoint, id_before, is_done_checkpoint, is_pending};

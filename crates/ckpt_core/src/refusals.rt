@@ -1,9 +1,9 @@
 //! The tests of a call before it is made: what is refused, in the order of the rules.
-ghost use Rattle.std.specs.Prelude.{◌≡◌, ◌++◌, ◌+◌, ◌==◌, ℕ, List, find, not, nat_le, option_copied, option_map, Option, Some};
+ghost use Rattle.std.specs.Prelude.{◌≡◌, ◌++◌, ◌==◌, ℕ, List, find, not, nat_le, option_copied, option_map, Option, Some};
 ghost use Rattle.std.specs.List.{list_any};
 ghost use Rattle.std.specs.Result.{result_err};
 ghost use Rattle.ckpt_ids.specs.declared.call.Call.TheVariants.{Tick, Savepoint, Ack, Decline, Dispose, Restore, Cancel, Show};
-ghost use Rattle.ckpt_ids.specs.declared.reply.Refusal.TheVariants.{NotRunning, TooManyFiles, RepeatedFile, UnknownCheckpoint, NameTaken, FileGone, IdsUsedUp};
+ghost use Rattle.ckpt_ids.specs.declared.reply.Refusal.TheVariants.{NotRunning, UnknownCheckpoint, NameTaken, FileGone, IdsUsedUp};
 ghost use Rattle.ckpt_core.specs.Inside.FileFacts.{IsAscending, is_present};
 ghost use Rattle.ckpt_core.specs.Inside.Parts.{AreSound, early_refusal, is_known_in, part_refusal, records_in, state_of, with_pins};
 ghost use Rattle.ckpt_core.specs.Refusals.{files_refusal, has_repeats, is_cancelled, is_done_savepoint, is_foreign, is_running, moment_too_large, named, pending_of, refusal, refuse_if, savepoints, was_not_given};

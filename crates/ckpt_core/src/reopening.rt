@@ -1,6 +1,6 @@
 //! The parts of a coordinator, made from an image.
 
-ghost use Rattle.std.specs.Prelude.{◌≡◌, ◌≢◌, ◌<◌, ◌≤◌, ◌-◌, ◌++◌, ℕ, [], true, false, length, Err, None, Some, IfOk, OnOk, IsTrue};
+ghost use Rattle.std.specs.Prelude.{◌≡◌, ◌≢◌, ◌≤◌, ◌++◌, ℕ, [], true, false, length, Err, None, IfOk, OnOk, IsTrue};
 ghost use Rattle.ckpt_ids.specs.Ordered.{AreDistinct, IsIn};
 ghost use Rattle.ckpt_ids.specs.Records.{Record, is_present};
 ghost use Rattle.ckpt_core.specs.declared.mode.Mode.TheVariants.{Running};

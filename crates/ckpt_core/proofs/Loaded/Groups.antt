@@ -1,12 +1,13 @@
 -- A pending record that comes with acknowledgements and pins, and is newer than all others.
-use Rattle.std.proofs.Common.{◌≡◌, ℕ, ◌+◌, ◌<◌, ◌≤◌, false, ◌||◌, eqb, ltb, drop, List, [], ◌∷◌, ◌++◌, length, map, refl, sym, ap, subst, ◌∙◌, inl, inr, ⊎_elim, arith}
+use Rattle.std.proofs.Common.{◌≡◌, ℕ, ◌+◌, ◌<◌, ◌≤◌, ◌^◌, ◌-◌, false, ◌||◌, eqb, ltb, drop, List, [], ◌∷◌, ◌++◌, length, map, refl, sym, ap, subst, ◌∙◌, inl, inr, ⊎_elim, arith}
 use Rattle.std.specs.List.{list_any}
 use Rattle.std.proofs.lemmas.List.{append-nil, append_assoc, length-append, map-append}
 use Rattle.std.proofs.lemmas.List.Concat.{flat_map-append}
 use Rattle.std.proofs.lemmas.Bool.{ne_eqb, and_left, and_right, cond-false, le-ltb}
 use Rattle.ckpt_ids.specs.declared.ack.Acked.{Acked}
 use Rattle.ckpt_ids.specs.Ordered.{IsIn, in_order, put}
-use Rattle.ckpt_ids.specs.Records.{Record, Use, Pin, same_holder, uses, uses_of}
+use Rattle.ckpt_ids.specs.Records.{Record, Use, Pin, count, same_holder, uses, uses_of}
+use Rattle.ckpt_ids.specs.Ascending.{ascending}
 use Rattle.ckpt_ids.proofs.OrderedLemmas.{IsIn-append_left, IsIn-append_right, IsIn-append_cases, IsIn-map, IsIn-in_order, IsIn-from_flat_map}
 use Rattle.std.specs.Vec.{vec_capacity}
 use Rattle.ckpt_rules.specs.FailureCount.{FailureCount}
@@ -93,6 +94,35 @@ older_uses us rs id e newest u h =
     let lt : q.0.id < id = newest q.0 q.1 in
     let same : u.id ≡ q.0.id = use_of_record q.0 u q.2 in
     omega arith
+
+-- once room is made for the number of such a record, its uses may be registered: they are newer than those that are there
+pub older_registered : (p made : Parts) (id its_id : ℕ) → made ≡ record p { ended = made.ended } → AreTied p → ((r : Record) → IsIn r (records_in p) → r.id < id) → its_id ≡ id → (u : Use) → IsIn u made.registry → u.id < its_id
+older_registered p made id its_id room tied newest same u h =
+    let P : List Use → Type 0 = λ us. IsIn u us in
+    let there : IsIn u p.registry = subst P (ap (λ (q : Parts). q.registry) room) h in
+    omega (arith, same, older_uses p.registry (records_in p) id tied.uses_are newest u there)
+
+-- what is registered is what the record holds
+pub held_is : (us : List Use) (x : Record) (id : ℕ) (acks : List Acked) (files : List ℕ) → id ≡ x.id → acks ≡ x.acks → files ≡ x.pins → us ++ uses_held id acks files ≡ us ++ uses_held x.id x.acks x.pins
+held_is us x id acks files its_id its_acks its_pins =
+    ap (λ i. us ++ uses_held i acks files) its_id
+    ∙ ap (λ a. us ++ uses_held x.id a files) its_acks
+    ∙ ap (λ fs. us ++ uses_held x.id x.acks fs) its_pins
+
+-- a done record pins nothing
+pub none_pinned : (x : Record) (files none : List ℕ) → files ≡ ascending none → none ≡ [] → x.pins ≡ [] → files ≡ x.pins
+none_pinned x files none given empty no_pins = given ∙ ap ascending empty ∙ sym no_pins
+
+-- and no file has too many uses with them
+pub few_registered : (p made : Parts) (x : Record) (id : ℕ) (acks : List Acked) (files : List ℕ) → made ≡ record p { ended = made.ended } → AreTied p → id ≡ x.id → acks ≡ x.acks → files ≡ x.pins → ((f : ℕ) → count (uses (records_in p ++ x ∷ [])) f < 2 ^ 32 - 1) → (f : ℕ) → count (made.registry ++ uses_held id acks files) f < 2 ^ 32 - 1
+few_registered p made x id acks files room tied its_id its_acks its_pins below f =
+    let same : made.registry ≡ uses (records_in p) = ap (λ (q : Parts). q.registry) room ∙ tied.uses_are in
+    let all : made.registry ++ uses_held id acks files ≡ uses (records_in p ++ x ∷ []) =
+    held_is made.registry x id acks files its_id its_acks its_pins
+    ∙ ap (λ (us : List Use). us ++ uses_held x.id x.acks x.pins) same
+    ∙ sym (uses-loaded (records_in p) x) in
+    let P : List Use → Type 0 = λ us. count us f < 2 ^ 32 - 1 in
+    subst P (sym all) (below f)
 
 -- the parts with such a record more
 pub record HasMore (p q : Parts) (x : Record) (files : List ℕ) : Type 0 where

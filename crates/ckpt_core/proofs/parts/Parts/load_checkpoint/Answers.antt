@@ -1,11 +1,10 @@
 -- Answers the goals of `Parts::load_checkpoint`.
-use Rattle.std.proofs.Common.{◌≡◌, ℕ, ◌+◌, ◌<◌, ◌≤◌, ◌^◌, ◌-◌, max, [], ◌∷◌, ◌++◌, List, length, map, refl, sym, ap, subst, ◌∙◌, arith}
+use Rattle.std.proofs.Common.{◌≡◌, ℕ, ◌+◌, ◌<◌, ◌≤◌, max, [], ◌∷◌, ◌++◌, List, length, map, refl, ap, subst, ◌∙◌, arith}
 use Rattle.std.proofs.lemmas.Result.{on_ok_weaker}
 use Rattle.std.specs.Vec.{vec_capacity}
 use Rattle.ckpt_ids.specs.declared.ack.Acked.{Acked}
-use Rattle.ckpt_ids.specs.Ascending.{ascending}
 use Rattle.ckpt_ids.specs.Ordered.{IsIn}
-use Rattle.ckpt_ids.specs.Records.{Record, Use, count, uses}
+use Rattle.ckpt_ids.specs.Records.{Record}
 use Rattle.ckpt_ids.proofs.OrderedLemmas.{IsIn-append_left, IsIn-append_right, IsIn-in_order}
 use Rattle.ckpt_store.specs.Storing.{Stored, completing, retained_of}
 use Rattle.ckpt_core.specs.declared.parts.Parts.{Parts}
@@ -14,36 +13,16 @@ use Rattle.ckpt_core.specs.Inside.Loading.{uses_held}
 use Rattle.ckpt_core.specs.Inside.Moving.{with_room}
 use Rattle.ckpt_core.specs.Inside.Parts.{present_in, records_in}
 use Rattle.ckpt_core.specs.Soundness.{id_before}
-use Rattle.ckpt_core.proofs.Loaded.Groups.{HasCheckpoint, none_surplus, older_uses, records-checkpoint, tied-checkpoint, uses-loaded}
+use Rattle.ckpt_core.proofs.Loaded.Groups.{HasCheckpoint, none_surplus, records-checkpoint, tied-checkpoint, few_registered, held_is, none_pinned, older_registered}
 use Rattle.ckpt_core.proofs.parts.Parts.load_checkpoint.Goals as goal
 
 pub register-requires-clause-newest : goal.register-requires-clause-newest
-register-requires-clause-newest c = λ u h.
-    let p : Parts = c.args.self.now in
-    let same : c.make_room.new.self.registry ≡ p.registry = ap (λ (q : Parts). q.registry) c.in_ok-make_room.ensures.parts in
-    let P : List Use → Type 0 = λ us. IsIn u us in
-    omega (arith, c.id.ensures.value, older_uses p.registry (records_in p) c.args.done.id c.requires.tied.uses_are c.requires.newest u (subst P same h))
-
--- what the record holds, in its own words
-held_is : (us : List Use) (x : Record) (id : ℕ) (acks : List Acked) (files none : List ℕ) → id ≡ x.id → acks ≡ x.acks → x.pins ≡ [] → files ≡ ascending none → none ≡ [] → us ++ uses_held id acks files ≡ us ++ uses_held x.id x.acks x.pins
-held_is us x id acks files none its_id its_acks no_pins given empty =
-    ap (λ i. us ++ uses_held i acks files) its_id
-    ∙ ap (λ a. us ++ uses_held x.id a files) its_acks
-    ∙ ap (λ fs. us ++ uses_held x.id x.acks fs) (given ∙ ap ascending empty ∙ sym no_pins)
+register-requires-clause-newest c = older_registered c.args.self.now c.make_room.new.self c.args.done.id c.id.result c.in_ok-make_room.ensures.parts c.requires.tied c.requires.newest c.id.ensures.value
 
 pub register-requires-clause-below : goal.register-requires-clause-below
-register-requires-clause-below c = λ f.
-    let p : Parts = c.args.self.now in
-    let rs : List Record = records_in p in
-    let x : Record = c.args.done in
-    let us : List Use = c.make_room.new.self.registry in
-    let same : us ≡ uses rs = ap (λ (q : Parts). q.registry) c.in_ok-make_room.ensures.parts ∙ c.requires.tied.uses_are in
-    let all : us ++ uses_held c.id.result c.args.acks.now c.of-none.result ≡ uses (rs ++ x ∷ []) =
-    held_is us x c.id.result c.args.acks.now c.of-none.result c.new.result.items c.id.ensures.value c.requires.acks c.id.ensures.done.no_pins c.of-none.ensures c.new.ensures.items
-    ∙ ap (λ (vs : List Use). vs ++ uses_held x.id x.acks x.pins) same
-    ∙ sym (uses-loaded rs x) in
-    let P : List Use → Type 0 = λ vs. count vs f < 2 ^ 32 - 1 in
-    subst P (sym all) (c.requires.below f)
+register-requires-clause-below c =
+    few_registered c.args.self.now c.make_room.new.self c.args.done c.id.result c.args.acks.now c.of-none.result c.in_ok-make_room.ensures.parts c.requires.tied c.id.ensures.value c.requires.acks
+    (none_pinned c.args.done c.of-none.result c.new.result.items c.of-none.ensures c.new.ensures.items c.id.ensures.done.no_pins) c.requires.below
 
 pub complete-requires-clause-above : goal.complete-requires-clause-above
 complete-requires-clause-above c = λ r h.
@@ -54,13 +33,13 @@ complete-requires-clause-above c = λ r h.
     (IsIn-append_right r (map (with_pins p.registry) p.pending) (p.store.checkpoints ++ p.store.savepoints) (IsIn-append_left r p.store.checkpoints p.store.savepoints (subst P same h))))
 
 -- room was made, the uses were added, the store took the checkpoint, and room was made for the files
-has_checkpoint : (p made after q : Parts) (x : Record) (s t : Stored) (id : ℕ) (acks : List Acked) (files none : List ℕ)
+has_checkpoint : (p made after q : Parts) (x : Record) (s t : Stored) (id : ℕ) (acks : List Acked) (files : List ℕ)
     → made ≡ record p { ended = made.ended } → length (records_in p) + 1 ≤ vec_capacity made.ended
     → s ≡ record made.store { spare = s.spare } → t ≡ completing s x t.spare → length p.store.checkpoints < p.store.retained
-    → id ≡ x.id → acks ≡ x.acks → x.pins ≡ [] → files ≡ ascending none → none ≡ []
+    → id ≡ x.id → acks ≡ x.acks → files ≡ x.pins
     → after.registry ≡ made.registry ++ uses_held id acks files → after.pending ≡ made.pending → after.store ≡ t → after.opened ≡ made.opened → after.failures ≡ made.failures → after.ended ≡ made.ended
     → q ≡ with_room after 0 → HasCheckpoint p q x
-has_checkpoint p made after q x s t id acks files none parts room reserved completed fewer its_id its_acks no_pins given empty registry pending store opened failures ended ok =
+has_checkpoint p made after q x s t id acks files parts room reserved completed fewer its_id its_acks its_pins registry pending store opened failures ended ok =
     let same : q.registry ≡ after.registry = ap (λ (r : Parts). r.registry) ok in
     let present : present_in q.registry ≡ present_in after.registry = ap present_in same in
     let spare : q.outbox.spare ≡ max (present_in after.registry + 0) after.outbox.spare = ap (λ (r : Parts). r.outbox.spare) ok in
@@ -69,7 +48,7 @@ has_checkpoint p made after q x s t id acks files none parts room reserved compl
     let was : s.checkpoints ≡ p.store.checkpoints = ap (λ (w : Stored). w.checkpoints) reserved ∙ ap (λ (r : Parts). r.store.checkpoints) parts in
     let keeps : s.retained ≡ p.store.retained = ap (λ (w : Stored). w.retained) reserved ∙ ap (λ (r : Parts). r.store.retained) parts in
     record {
-      registry = same ∙ registry ∙ ap (λ (r : Parts). r.registry ++ uses_held id acks files) parts ∙ held_is p.registry x id acks files none its_id its_acks no_pins given empty;
+      registry = same ∙ registry ∙ ap (λ (r : Parts). r.registry ++ uses_held id acks files) parts ∙ held_is p.registry x id acks files its_id its_acks its_pins;
       pending = ap (λ (r : Parts). r.pending) ok ∙ pending ∙ ap (λ (r : Parts). r.pending) parts;
       checkpoints = ap (λ (w : Stored). w.checkpoints) stored ∙ ap (λ n. retained_of n (s.checkpoints ++ x ∷ [])) keeps ∙ ap (λ rs. retained_of p.store.retained (rs ++ x ∷ [])) was ∙ none_surplus p.store.retained p.store.checkpoints x fewer;
       savepoints = ap (λ (w : Stored). w.savepoints) stored ∙ ap (λ (w : Stored). w.savepoints) reserved ∙ ap (λ (r : Parts). r.store.savepoints) parts;
@@ -86,8 +65,9 @@ returns-clause-records c =
     let made : Parts = c.make_room.new.self in
     let after : Parts = record made { store = c.complete.new.self; registry = c.register.new.registry } in
     on_ok_weaker c.make_room_for_files.result
-    (λ (ok : c.make_room_for_files.new.self ≡ with_room after 0). records-checkpoint c.requires.newest (has_checkpoint p made after c.make_room_for_files.new.self c.args.done c.reserve.new.self c.complete.new.self c.id.result c.args.acks.now c.of-none.result c.new.result.items
-    c.in_ok-make_room.ensures.parts c.in_ok-make_room.ensures.room c.in_ok-reserve.ensures.kept c.complete.ensures.value c.requires.fewer c.id.ensures.value c.requires.acks c.id.ensures.done.no_pins c.of-none.ensures c.new.ensures.items
+    (λ (ok : c.make_room_for_files.new.self ≡ with_room after 0). records-checkpoint c.requires.newest (has_checkpoint p made after c.make_room_for_files.new.self c.args.done c.reserve.new.self c.complete.new.self c.id.result c.args.acks.now c.of-none.result
+    c.in_ok-make_room.ensures.parts c.in_ok-make_room.ensures.room c.in_ok-reserve.ensures.kept c.complete.ensures.value c.requires.fewer c.id.ensures.value c.requires.acks
+    (none_pinned c.args.done c.of-none.result c.new.result.items c.of-none.ensures c.new.ensures.items c.id.ensures.done.no_pins)
     c.in_ok-register.ensures refl refl refl refl refl ok))
     c.make_room_for_files.ensures.ok
 
@@ -97,7 +77,8 @@ returns-clause-tied c =
     let made : Parts = c.make_room.new.self in
     let after : Parts = record made { store = c.complete.new.self; registry = c.register.new.registry } in
     on_ok_weaker c.make_room_for_files.result
-    (λ (ok : c.make_room_for_files.new.self ≡ with_room after 0). tied-checkpoint c.requires.tied c.requires.newest (has_checkpoint p made after c.make_room_for_files.new.self c.args.done c.reserve.new.self c.complete.new.self c.id.result c.args.acks.now c.of-none.result c.new.result.items
-    c.in_ok-make_room.ensures.parts c.in_ok-make_room.ensures.room c.in_ok-reserve.ensures.kept c.complete.ensures.value c.requires.fewer c.id.ensures.value c.requires.acks c.id.ensures.done.no_pins c.of-none.ensures c.new.ensures.items
+    (λ (ok : c.make_room_for_files.new.self ≡ with_room after 0). tied-checkpoint c.requires.tied c.requires.newest (has_checkpoint p made after c.make_room_for_files.new.self c.args.done c.reserve.new.self c.complete.new.self c.id.result c.args.acks.now c.of-none.result
+    c.in_ok-make_room.ensures.parts c.in_ok-make_room.ensures.room c.in_ok-reserve.ensures.kept c.complete.ensures.value c.requires.fewer c.id.ensures.value c.requires.acks
+    (none_pinned c.args.done c.of-none.result c.new.result.items c.of-none.ensures c.new.ensures.items c.id.ensures.done.no_pins)
     c.in_ok-register.ensures refl refl refl refl refl ok))
     c.make_room_for_files.ensures.ok

@@ -1,10 +1,10 @@
 -- Answers the goals of `Parts::load_pending`.
-use Rattle.std.proofs.Common.{◌≡◌, ℕ, ◌+◌, ◌<◌, ◌≤◌, ◌^◌, ◌-◌, max, [], ◌∷◌, ◌++◌, List, length, map, refl, sym, ap, subst, ◌∙◌, arith}
+use Rattle.std.proofs.Common.{◌≡◌, ℕ, ◌+◌, ◌≤◌, max, [], ◌∷◌, ◌++◌, List, length, map, refl, ap, subst, ◌∙◌, arith}
 use Rattle.std.proofs.lemmas.Result.{on_ok_weaker}
 use Rattle.std.specs.Vec.{vec_capacity}
 use Rattle.ckpt_ids.specs.declared.ack.Acked.{Acked}
 use Rattle.ckpt_ids.specs.Ordered.{IsIn}
-use Rattle.ckpt_ids.specs.Records.{Record, Use, count, uses}
+use Rattle.ckpt_ids.specs.Records.{Record}
 use Rattle.ckpt_ids.proofs.OrderedLemmas.{IsIn-append_left, IsIn-in_order, IsIn-map}
 use Rattle.ckpt_core.specs.declared.parts.Parts.{Parts}
 use Rattle.ckpt_core.specs.Inside.Grouped.{grouped, with_pins}
@@ -12,30 +12,16 @@ use Rattle.ckpt_core.specs.Inside.Loading.{uses_held}
 use Rattle.ckpt_core.specs.Inside.Moving.{with_room}
 use Rattle.ckpt_core.specs.Inside.Parts.{present_in, records_in}
 use Rattle.ckpt_core.specs.Soundness.{id_before}
-use Rattle.ckpt_core.proofs.Loaded.Groups.{HasMore, older_uses, records-more, tied-more, uses-loaded}
+use Rattle.ckpt_core.proofs.Loaded.Groups.{HasMore, records-more, tied-more, few_registered, older_registered}
 use Rattle.ckpt_core.proofs.parts.Parts.load_pending.Goals as goal
 
 pub register-requires-clause-newest : goal.register-requires-clause-newest
-register-requires-clause-newest c = λ u h.
-    let p : Parts = c.args.self.now in
-    let same : c.make_room.new.self.registry ≡ p.registry = ap (λ (q : Parts). q.registry) c.in_ok-make_room.ensures.parts in
-    let P : List Use → Type 0 = λ us. IsIn u us in
-    omega (arith, c.id.ensures.value, older_uses p.registry (records_in p) c.args.pending.id c.requires.tied.uses_are c.requires.newest u (subst P same h))
+register-requires-clause-newest c = older_registered c.args.self.now c.make_room.new.self c.args.pending.id c.id.result c.in_ok-make_room.ensures.parts c.requires.tied c.requires.newest c.id.ensures.value
 
 pub register-requires-clause-below : goal.register-requires-clause-below
-register-requires-clause-below c = λ f.
-    let p : Parts = c.args.self.now in
-    let rs : List Record = records_in p in
+register-requires-clause-below c =
     let pins : List ℕ = c.args.pins.now in
-    let x : Record = record c.args.pending { pins = pins } in
-    let same : c.make_room.new.self.registry ≡ uses rs = ap (λ (q : Parts). q.registry) c.in_ok-make_room.ensures.parts ∙ c.requires.tied.uses_are in
-    let all : c.make_room.new.self.registry ++ uses_held c.id.result c.args.acks.now pins ≡ uses (rs ++ x ∷ []) =
-    ap (λ (us : List Use). us ++ uses_held c.id.result c.args.acks.now pins) same
-    ∙ ap (λ (id : ℕ). uses rs ++ uses_held id c.args.acks.now pins) c.id.ensures.value
-    ∙ ap (λ (acks : List Acked). uses rs ++ uses_held c.args.pending.id acks pins) c.requires.acks
-    ∙ sym (uses-loaded rs x) in
-    let P : List Use → Type 0 = λ us. count us f < 2 ^ 32 - 1 in
-    subst P (sym all) (c.requires.below f)
+    few_registered c.args.self.now c.make_room.new.self (record c.args.pending { pins = pins }) c.id.result c.args.acks.now pins c.in_ok-make_room.ensures.parts c.requires.tied c.id.ensures.value c.requires.acks refl c.requires.below
 
 pub add-requires : goal.add-requires
 add-requires c = record {
