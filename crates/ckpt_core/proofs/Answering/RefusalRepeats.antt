@@ -1,18 +1,20 @@
 -- A file that is named twice, in ascending lists: it is its own neighbour, or is in both lists.
-use Rattle.std.proofs.Common.{◌≡◌, ℕ, zero, suc, ◌+◌, ◌<◌, ◌≤◌, Bool, true, false, not, ◌||◌, ltb, eqb, List, [], ◌∷◌, ◌++◌, length, get_or, refl, sym, ap, subst, ◌∙◌, ⊎_elim, arith, MatchBool, Ok, Err, Result, add-one}
+use Rattle.std.proofs.Common.{◌≡◌, ℕ, zero, suc, ◌+◌, ◌<◌, ◌≤◌, Bool, true, false, not, ◌||◌, ltb, eqb, List, [], ◌∷◌, ◌++◌, length, get_or, refl, sym, ap, subst, ◌∙◌, ⊎_elim, arith, MatchBool, Result, add-one}
 use Rattle.std.specs.List.Sorted.{IsBinarySearchResult}
 use Rattle.std.specs.Ordering.{nat_cmp}
-use Rattle.std.proofs.lemmas.List.Sorted.{searched}
 use Rattle.std.specs.Result.{is_ok}
 use Rattle.std.specs.List.{list_any}
-use Rattle.std.proofs.lemmas.Bool.{both_ways, eq-eqb, ltb-false, or_parts, or_cases, cases_lt, or_left, or_right, true_from_ne_false, false_from_ne_true}
-use Rattle.std.proofs.lemmas.List.{get_or_default}
+use Rattle.std.proofs.lemmas.Bool.{both_ways, eq-eqb, ltb-false, or_parts, or_cases, or_left, or_right, true_from_ne_false, false_from_ne_true, ltb-true, lt-ltb}
 use Rattle.ckpt_ids.specs.Ordered.{IsIn, AreDistinct}
 use Rattle.ckpt_ids.specs.Ascending.{IsAscending, IsAscendingSet}
-use Rattle.ckpt_ids.proofs.OrderedLemmas.{ComesBefore-at, ComesBefore-from, IsIn-place, IsIn-get_or, IsIn-from_list_any, list_any-from_IsIn, AreDistinct-append, AreDistinct-left, AreDistinct-right, AreDistinct-apart, AreDistinct-from_order, IsIn-from_test, test-from_IsIn}
+use Rattle.ckpt_ids.specs.Counting.{times}
+use Rattle.ckpt_ids.proofs.OrderedLemmas.{ComesBefore-at, ComesBefore-from, IsIn-from_list_any, list_any-from_IsIn, AreDistinct-append, AreDistinct-left, AreDistinct-right, AreDistinct-apart, AreDistinct-from_order, IsIn-from_test, test-from_IsIn}
 use Rattle.ckpt_ids.proofs.AscendingLemmas.{ascending_at, numbers_in_order}
+use Rattle.ckpt_ids.proofs.CountLemmas.{times-from_IsIn, IsIn-from_times}
 use Rattle.ckpt_core.specs.Refusals.{has_repeats}
 use Rattle.ckpt_core.proofs.Ending.Released.{distinct-from_test}
+use Rattle.ckpt_core.proofs.Records.GroupLookups.{same_tests}
+use Rattle.ckpt_registry.proofs.PartLemmas.{times-from_search}
 
 -- the test of repeats
 
@@ -57,19 +59,13 @@ repeats-from_adjacent xs false a h =
 
 -- what a binary search returns
 pub among-from_search : (xs : List ℕ) (x : ℕ) (r : Result ℕ ℕ) → IsAscending xs → IsBinarySearchResult (λ y. nat_cmp y x) xs r → is_ok r ≡ list_any (λ f. eqb x f) xs
-among-from_search xs x (Ok i) a h =
-    let at : (i < length xs) × (get_or xs i 0 ≡ x) = searched xs x (Ok i) h (ascending_at xs a) in
-    let Here : ℕ → Type 0 = λ z. IsIn z xs in
-    sym (test-from_IsIn x xs (subst Here at.1 (IsIn-get_or xs i 0 at.0)))
-among-from_search xs x (Err i) a h =
-    let at : (i ≤ length xs) × ((k : ℕ) → k < i → get_or xs k 0 < x) × ((k : ℕ) → i ≤ k → k < length xs → x < get_or xs k 0) = searched xs x (Err i) h (ascending_at xs a) in
-    let absent : IsIn x xs → ⊥ = λ (q : IsIn x xs).
-    let place = IsIn-place x xs q in
-    let k : ℕ = place.0 in
-    let lt : k < length xs = place.1 in
-    let here : get_or xs k 0 ≡ x = get_or_default xs k 0 x lt ∙ place.2 in
-    ⊎_elim (λ (b : k < i). absurd (omega (arith, at.1 k b, here))) (λ (b : i ≤ k). absurd (omega (arith, at.2 k b lt, here))) (cases_lt k i) in
-    sym (false_from_ne_true (list_any (λ f. eqb x f) xs) (λ e. absent (IsIn-from_test x xs e)))
+among-from_search xs x r a h =
+    let counted : Bool = ltb 0 (times x xs) in
+    let among : Bool = list_any (λ f. eqb x f) xs in
+    times-from_search xs x r a h
+    ∙ same_tests counted among
+    (λ (e : counted ≡ true). test-from_IsIn x xs (IsIn-from_times x xs (ltb-true 0 (times x xs) e)))
+    (λ (e : among ≡ true). lt-ltb 0 (times x xs) (times-from_IsIn x xs (IsIn-from_test x xs e)))
 
 -- two lists
 
