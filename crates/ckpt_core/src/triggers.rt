@@ -190,6 +190,7 @@ impl Parts {
         requires sound { AreSound self.old }
         requires running { self.old.mode ≡ Running }
         ensures parts { self.new ≡ record self.old { ended = self.new.ended } }
+        ensures state { state_of self.new ≡ state_of self.old }
         ensures tied { AreTied self.new }
         ensures expired { IsExpiry self.new result }
     {

@@ -12,7 +12,7 @@ use Rattle.ckpt_ids.specs.declared.reply.Reply.TheVariants.{AckCompleted}
 use Rattle.ckpt_core.specs.declared.parts.Parts.{Parts}
 use Rattle.ckpt_core.specs.Inside.Parts.{Stays}
 use Rattle.ckpt_ids.proofs.ResultLemmas.{on_each_error}
-use Rattle.ckpt_core.proofs.Acknowledging.States.{roomier_accepted, roomier_sound, roomier_stays, taking_from}
+use Rattle.ckpt_core.proofs.Acknowledging.States.{IsRoomier, roomier_accepted, roomier_sound, roomier_stays, taking_from}
 use Rattle.ckpt_core.proofs.Completing.Answers.{checkpoint_answers, savepoint_answers}
 use Rattle.ckpt_core.proofs.Completing.Calls.{IsLast, CanComplete, can_complete, last_above, last_made, last_new, lies_taken, made_place, none_missing, order_taken}
 use Rattle.ckpt_core.proofs.parts.Parts.ack_last.Goals as goal
@@ -23,21 +23,29 @@ returns-in_err-reserve-clause-err c =
     on_each_error c.from_residual-in_err-reserve.result (Stays c.args.self.now (record c.make_room_for_files.new.self { store = c.reserve.new.self }))
     (roomier_stays (made_place c.args.self.now c.make_room_for_files.new.self c.len.result c.reserve.new.self c.in_ok-make_room_for_files.ensures.ok c.in_err-reserve.ensures.kept) c.requires.sound)
 
+-- room was made
+roomier_first : (c : goal.After-take_ack-arg-1) → IsRoomier c.args.self.now (record c.make_room_for_files.new.self { store = c.reserve.new.self })
+roomier_first c = made_place c.args.self.now c.make_room_for_files.new.self c.len.result c.reserve.new.self c.in_ok-make_room_for_files.ensures.ok c.in_ok-reserve.ensures.kept
+
 pub take_ack-requires-clause-sound : goal.take_ack-requires-clause-sound
-take_ack-requires-clause-sound c = roomier_sound (made_place c.args.self.now c.make_room_for_files.new.self c.len.result c.reserve.new.self c.in_ok-make_room_for_files.ensures.ok c.in_ok-reserve.ensures.kept) c.requires.sound
+take_ack-requires-clause-sound c = roomier_sound (roomier_first c) c.requires.sound
 
 pub take_ack-requires-clause-place : goal.take_ack-requires-clause-place
 take_ack-requires-clause-place c = subst (λ (p : Parts). LiesAt id_of c.args.id p.pending c.args.place) (sym c.in_ok-make_room_for_files.ensures.ok) c.requires.place
 
 pub take_ack-requires-clause-accepted : goal.take_ack-requires-clause-accepted
 take_ack-requires-clause-accepted c =
-    roomier_accepted c.args.now c.args.id c.args.subtask c.args.fresh.now c.args.reused.now (made_place c.args.self.now c.make_room_for_files.new.self c.len.result c.reserve.new.self c.in_ok-make_room_for_files.ensures.ok c.in_ok-reserve.ensures.kept) c.requires.accepted
+    roomier_accepted c.args.now c.args.id c.args.subtask c.args.fresh.now c.args.reused.now (roomier_first c) c.requires.accepted
 
 pub returns-in_err-take_ack-clause-err : goal.returns-in_err-take_ack-clause-err
 returns-in_err-take_ack-clause-err c =
     let P : Parts → Type 0 = λ x. Stays c.args.self.now x in
     on_each_error c.from_residual-in_err-take_ack.result (Stays c.args.self.now c.take_ack.new.self)
     (subst P (sym c.in_err-take_ack.ensures.err) (roomier_stays (made_place c.args.self.now c.make_room_for_files.new.self c.len.result c.reserve.new.self c.in_ok-make_room_for_files.ensures.ok c.in_ok-reserve.ensures.kept) c.requires.sound))
+
+-- and is there once the acknowledgement is taken
+roomier : (c : After-finish-arg-1) → IsRoomier c.args.self.now (record c.make_room_for_files.new.self { store = c.reserve.new.self })
+roomier c = made_place c.args.self.now c.make_room_for_files.new.self c.len.result c.reserve.new.self c.in_ok-make_room_for_files.ensures.ok c.in_ok-reserve.ensures.kept
 
 -- the record lies where it lay
 lies : (c : After-finish-arg-1) → LiesAt id_of c.args.id c.take_ack.new.self.pending c.args.place
@@ -60,12 +68,13 @@ same_found a b e = cc
 
 pub finish-done-requires-clause-full : goal.finish-done-requires-clause-full
 finish-done-requires-clause-full c = λ r e.
+    let at = (goal.at.finish-done-requires-clause-full c).After-finish-arg-1 in
     let none : IsMissing c.take_ack.new.self.pending c.args.id 0 =
     none_missing c.take_ack.new.self
-    (taking_from c.args.now c.args.subtask c.args.fresh.now c.args.reused.now (made_place c.args.self.now c.make_room_for_files.new.self c.len.result c.reserve.new.self c.in_ok-make_room_for_files.ensures.ok c.in_ok-reserve.ensures.kept) c.requires.sound c.requires.accepted
+    (taking_from c.args.now c.args.subtask c.args.fresh.now c.args.reused.now (roomier at) c.requires.sound c.requires.accepted
     c.in_ok-take_ack.ensures.pending c.in_ok-take_ack.ensures.in_order c.in_ok-take_ack.ensures.stored c.requires.last)
     c.requires.last.counted c.in_ok-take_ack.ensures.ok in
-    let same : none.lacking ≡ r = same_found none.lacking r (sym none.found ∙ sym (found (goal.at.finish-done-requires-clause-full c).After-finish-arg-1) ∙ e) in
+    let same : none.lacking ≡ r = same_found none.lacking r (sym none.found ∙ sym (found at) ∙ e) in
     ap missing (sym same) ∙ none.counted
 
 -- the record is complete once its last acknowledgement is taken and it is taken out
@@ -111,11 +120,11 @@ returns-in-Checkpoint-clause-ok c =
     let at = goal.at.returns-in-Checkpoint-clause-ok c in
     let l = last at.After-kind (lies at.After-finish-arg-1) (found at.After-finish-arg-1) in
     let done = c.complete_checkpoint-dropped.ensures in
-    checkpoint_answers c.complete_checkpoint-dropped.new.self (AckCompleted c.complete_checkpoint-dropped.result.0 c.complete_checkpoint-dropped.result.1) (made_place c.args.self.now c.make_room_for_files.new.self c.len.result c.reserve.new.self c.in_ok-make_room_for_files.ensures.ok c.in_ok-reserve.ensures.kept) l (sym c.in-Checkpoint.ensures) done.parts done.none_ended done.capacity done.reply
+    checkpoint_answers c.complete_checkpoint-dropped.new.self (AckCompleted c.complete_checkpoint-dropped.result.0 c.complete_checkpoint-dropped.result.1) (roomier at.After-finish-arg-1) l (sym c.in-Checkpoint.ensures) done.parts done.none_ended done.capacity done.reply
 
 pub returns-in-Savepoint-clause-ok : goal.returns-in-Savepoint-clause-ok
 returns-in-Savepoint-clause-ok c =
     let at = goal.at.returns-in-Savepoint-clause-ok c in
     let l = last at.After-kind (lies at.After-finish-arg-1) (found at.After-finish-arg-1) in
     let done = c.complete_savepoint-released.ensures in
-    savepoint_answers c.complete_savepoint-released.new.self (AckCompleted 0 c.complete_savepoint-released.result) (made_place c.args.self.now c.make_room_for_files.new.self c.len.result c.reserve.new.self c.in_ok-make_room_for_files.ensures.ok c.in_ok-reserve.ensures.kept) l (sym c.in-Savepoint.ensures) done.parts done.none_ended done.capacity done.reply
+    savepoint_answers c.complete_savepoint-released.new.self (AckCompleted 0 c.complete_savepoint-released.result) (roomier at.After-finish-arg-1) l (sym c.in-Savepoint.ensures) done.parts done.none_ended done.capacity done.reply

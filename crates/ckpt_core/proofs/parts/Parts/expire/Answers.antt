@@ -10,29 +10,28 @@ use Rattle.ckpt_core.specs.Memory.{answer_wants}
 use Rattle.ckpt_core.specs.Soundness.{IsSound}
 use Rattle.ckpt_core.specs.State.{State}
 use Rattle.ckpt_core.specs.Steps.{tick}
-use Rattle.ckpt_core.proofs.Triggering.TriggerParts.{ended_state}
 use Rattle.ckpt_core.proofs.parts.Parts.expire.Goals as goal
 
 pub fail_expired-requires-clause-sound : goal.fail_expired-requires-clause-sound
-fail_expired-requires-clause-sound c = subst IsSound (sym (ended_state c.args.self.now c.note_expired-expiry.new.self c.note_expired-expiry.ensures.parts)) c.requires.sound.sound
+fail_expired-requires-clause-sound c = subst IsSound (sym c.note_expired-expiry.ensures.state) c.requires.sound.sound
 
 pub returns-then-expiry-clause-ok : goal.returns-then-expiry-clause-ok
-returns-then-expiry-clause-ok c = ap tick (sym (ended_state c.args.self.now c.note_expired-expiry.new.self c.note_expired-expiry.ensures.parts)) ∙ c.fail_expired.ensures.tick
+returns-then-expiry-clause-ok c = ap tick (sym c.note_expired-expiry.ensures.state) ∙ c.fail_expired.ensures.tick
 
 pub start_and_drop-requires-clause-sound : goal.start_and_drop-requires-clause-sound
-start_and_drop-requires-clause-sound c = subst IsSound (sym (ended_state c.args.self.now c.note_expired-expiry.new.self c.note_expired-expiry.ensures.parts)) c.requires.sound.sound
+start_and_drop-requires-clause-sound c = subst IsSound (sym c.note_expired-expiry.ensures.state) c.requires.sound.sound
 
 pub returns-clause-ok : goal.returns-clause-ok
 returns-clause-ok c =
     let P : State → Type 0 = λ m. IfOk c.start_and_drop.result (λ (ticked : Ticked). tick m ≡ (state_of c.start_and_drop.new.self, answer.Done (reply.Ticked ticked.expired ticked.end))) in
-    subst P (ended_state c.args.self.now c.note_expired-expiry.new.self c.note_expired-expiry.ensures.parts) c.start_and_drop.ensures.ok
+    subst P c.note_expired-expiry.ensures.state c.start_and_drop.ensures.ok
 
 pub returns-clause-err : goal.returns-clause-err
 returns-clause-err c =
     let P : State → Type 0 = λ m. OnErr c.start_and_drop.result (state_of c.start_and_drop.new.self ≡ m) in
-    subst P (ended_state c.args.self.now c.note_expired-expiry.new.self c.note_expired-expiry.ensures.parts) c.start_and_drop.ensures.err
+    subst P c.note_expired-expiry.ensures.state c.start_and_drop.ensures.err
 
 pub returns-clause-memory : goal.returns-clause-memory
 returns-clause-memory c =
     let P : State → Type 0 = λ m. OnErr c.start_and_drop.result (answer_wants (call.Tick 0) (tick m).1 ≡ true) in
-    subst P (ended_state c.args.self.now c.note_expired-expiry.new.self c.note_expired-expiry.ensures.parts) c.start_and_drop.ensures.memory
+    subst P c.note_expired-expiry.ensures.state c.start_and_drop.ensures.memory

@@ -35,41 +35,43 @@ after_take before put after slice files n none_waits none_taken same count waits
       ap (λ (q : Queues). q.taken) ok ∙ ap (λ (xs : List ℕ). xs ++ take n put.waiting) none ∙ ap (take n) all ∙ take_all n files le,
     )
 
+abbrev waiting_in : Parts → List ℕ
+waiting_in p = p.outbox.waiting
+
+abbrev taken_in : Parts → List ℕ
+taken_in p = p.outbox.taken
+
+-- the outbox once both lists were put
+taken_once : (c : goal.In_ok-make_room_for_files) → (c.take.new.self.waiting ≡ []) × (c.take.new.self.taken ≡ c.args.taken.now)
+taken_once c =
+    after_take c.reserve.new.self c.put_back.new.self.outbox c.take.new.self c.as_slice.result.now c.args.taken.now c.len-2.result
+    (ap (λ (q : Queues). q.waiting) c.in_ok-reserve.ensures.ok ∙ c.requires.none_waits) (ap (λ (q : Queues). q.taken) c.in_ok-reserve.ensures.ok ∙ c.requires.none_taken)
+    c.as_slice.ensures.files c.len-2.ensures (ap waiting_in c.in_ok-put_back.ensures.parts) (ap taken_in c.in_ok-put_back.ensures.parts) c.in_ok-take.ensures.ok
+
+waits : (c : goal.In_ok-make_room_for_files) → waiting_in c.put_back-2.new.self ≡ c.args.waiting.now
+waits c =
+    ap waiting_in c.in_ok-put_back-2.ensures.parts ∙ ap (λ (q : Queues). q.waiting ++ c.as_slice-2.result.now) c.in_ok-reserve-2.ensures.ok ∙ ap (λ (xs : List ℕ). xs ++ c.as_slice-2.result.now) (taken_once c).0 ∙ c.as_slice-2.ensures
+
+takes : (c : goal.In_ok-make_room_for_files) → taken_in c.put_back-2.new.self ≡ c.args.taken.now
+takes c = ap taken_in c.in_ok-put_back-2.ensures.parts ∙ ap (λ (q : Queues). q.taken) c.in_ok-reserve-2.ensures.ok ∙ (taken_once c).1
+
 pub returns-clause-state : goal.returns-clause-state
 returns-clause-state c =
     let p : Parts = c.args.self.now in
-    let p2 : Parts = c.put_back.new.self in
     let p5 : Parts = c.put_back-2.new.self in
-    let w : Parts → List ℕ = λ r. r.outbox.waiting in
-    let t : Parts → List ℕ = λ r. r.outbox.taken in
-    let mid = after_take c.reserve.new.self p2.outbox c.take.new.self c.as_slice.result.now c.args.taken.now c.len-2.result
-    (ap (λ (q : Queues). q.waiting) c.in_ok-reserve.ensures.ok ∙ c.requires.none_waits) (ap (λ (q : Queues). q.taken) c.in_ok-reserve.ensures.ok ∙ c.requires.none_taken)
-    c.as_slice.ensures.files c.len-2.ensures (ap w c.in_ok-put_back.ensures.parts) (ap t c.in_ok-put_back.ensures.parts) c.in_ok-take.ensures.ok in
-    let waits : p5.outbox.waiting ≡ c.args.waiting.now =
-    ap w c.in_ok-put_back-2.ensures.parts ∙ ap (λ (q : Queues). q.waiting ++ c.as_slice-2.result.now) c.in_ok-reserve-2.ensures.ok ∙ ap (λ (xs : List ℕ). xs ++ c.as_slice-2.result.now) mid.0 ∙ c.as_slice-2.ensures in
-    let takes : p5.outbox.taken ≡ c.args.taken.now = ap t c.in_ok-put_back-2.ensures.parts ∙ ap (λ (q : Queues). q.taken) c.in_ok-reserve-2.ensures.ok ∙ mid.1 in
     let o : Queues = c.make_room_for_files.new.self.outbox in
     let frame : c.make_room_for_files.new.self ≡ record p { outbox = o } =
     c.in_ok-make_room_for_files.ensures.ok
     ∙ ap (λ (x : Queues). record p5 { outbox = x }) (ap (λ (r : Parts). r.outbox) (sym c.in_ok-make_room_for_files.ensures.ok))
     ∙ ap (λ (r : Parts). record r { outbox = o }) c.in_ok-put_back-2.ensures.parts
     ∙ ap (λ (r : Parts). record r { outbox = o }) c.in_ok-put_back.ensures.parts in
-    state_files p c.make_room_for_files.new.self o c.args.waiting.now c.args.taken.now frame (ap w c.in_ok-make_room_for_files.ensures.ok ∙ waits) (ap t c.in_ok-make_room_for_files.ensures.ok ∙ takes)
+    state_files p c.make_room_for_files.new.self o c.args.waiting.now c.args.taken.now frame (ap waiting_in c.in_ok-make_room_for_files.ensures.ok ∙ waits c) (ap taken_in c.in_ok-make_room_for_files.ensures.ok ∙ takes c)
 
 pub returns-clause-apart : goal.returns-clause-apart
 returns-clause-apart c =
     let p : Parts = c.args.self.now in
-    let p2 : Parts = c.put_back.new.self in
     let p5 : Parts = c.put_back-2.new.self in
-    let w : Parts → List ℕ = λ r. r.outbox.waiting in
-    let t : Parts → List ℕ = λ r. r.outbox.taken in
-    let mid = after_take c.reserve.new.self p2.outbox c.take.new.self c.as_slice.result.now c.args.taken.now c.len-2.result
-    (ap (λ (q : Queues). q.waiting) c.in_ok-reserve.ensures.ok ∙ c.requires.none_waits) (ap (λ (q : Queues). q.taken) c.in_ok-reserve.ensures.ok ∙ c.requires.none_taken)
-    c.as_slice.ensures.files c.len-2.ensures (ap w c.in_ok-put_back.ensures.parts) (ap t c.in_ok-put_back.ensures.parts) c.in_ok-take.ensures.ok in
-    let waits : p5.outbox.waiting ≡ c.args.waiting.now =
-    ap w c.in_ok-put_back-2.ensures.parts ∙ ap (λ (q : Queues). q.waiting ++ c.as_slice-2.result.now) c.in_ok-reserve-2.ensures.ok ∙ ap (λ (xs : List ℕ). xs ++ c.as_slice-2.result.now) mid.0 ∙ c.as_slice-2.ensures in
-    let takes : p5.outbox.taken ≡ c.args.taken.now = ap t c.in_ok-put_back-2.ensures.parts ∙ ap (λ (q : Queues). q.taken) c.in_ok-reserve-2.ensures.ok ∙ mid.1 in
-    let same : p2.registry ≡ p.registry = ap (λ (r : Parts). r.registry) c.in_ok-put_back.ensures.parts in
+    let same : c.put_back.new.self.registry ≡ p.registry = ap (λ (r : Parts). r.registry) c.in_ok-put_back.ensures.parts in
     let D : List ℕ → Type 0 = λ xs. AreDistinct xs in
     record {
       unused = λ f h.
@@ -79,5 +81,5 @@ returns-clause-apart c =
           (λ (k : IsIn f c.args.waiting.now). subst U same (c.in_ok-put_back-2.ensures.unused f (subst P (sym c.as_slice-2.ensures) k)))
           (λ (k : IsIn f c.args.taken.now). c.in_ok-put_back.ensures.unused f (subst P (sym c.as_slice.ensures.files) k))
           (IsIn-append_cases f c.args.waiting.now c.args.taken.now h);
-      apart = subst D (ap (λ (xs : List ℕ). xs ++ p5.outbox.taken) waits ∙ ap (λ (xs : List ℕ). c.args.waiting.now ++ xs) takes) c.in_ok-put_back-2.ensures.apart;
+      apart = subst D (ap (λ (xs : List ℕ). xs ++ p5.outbox.taken) (waits c) ∙ ap (λ (xs : List ℕ). c.args.waiting.now ++ xs) (takes c)) c.in_ok-put_back-2.ensures.apart;
     }

@@ -11,6 +11,7 @@ use Rattle.ckpt_core.proofs.Ending.Moves.{are_too_many}
 use Rattle.ckpt_core.proofs.Triggering.TickParts.{expiry_is, few_checkpoints, few_expired, few_failures, is_old, late_at_most}
 use Rattle.ckpt_core.proofs.parts.Parts.note_expired.Goals as goal
 use Rattle.ckpt_core.proofs.parts.Parts.note_expired.Goals.{then-late-gt0, else-late-gt0}
+use Rattle.ckpt_core.proofs.Triggering.TriggerParts.{state-ended}
 
 pub note_expired-late-requires : goal.note_expired-late-requires
 note_expired-late-requires c = record { room = omega (arith, room_to_note c.args.self.now (length c.args.self.now.pending) c.requires.sound (omega arith)) }
@@ -41,6 +42,9 @@ overflow_cast-left c =
 
 pub overflow_sub-left : goal.overflow_sub-left
 overflow_sub-left c = omega (arith, c.checkpoints.ensures, late_at_most c.args.self.now c.timeout-timeout.result c.read-moment.result c.note_expired-late.result c.note_expired-late.ensures.checkpoints)
+
+pub returns-clause-state : goal.returns-clause-state
+returns-clause-state c = state-ended c.args.self.now c.note_expired-late.new.ended
 
 pub returns-clause-expired : goal.returns-clause-expired
 returns-clause-expired c =

@@ -9,7 +9,7 @@ use Rattle.ckpt_core.specs.Inside.Parts.{state_of}
 use Rattle.ckpt_core.specs.Refusals.{is_done_savepoint}
 use Rattle.ckpt_core.specs.Soundness.{IsSound}
 use Rattle.ckpt_core.specs.State.{State}
-use Rattle.ckpt_core.proofs.Loaded.Reopened.{IsTold, after_base, after_files, after_records, can_hold_from, files_held, idle_held, idle_loaded, records_held, records_loaded, told}
+use Rattle.ckpt_core.proofs.Loaded.Reopened.{IsTold, after_files, can_hold_from, files_held, idle_held, idle_loaded, records_held, records_loaded, told, with_base, with_records}
 use Rattle.ckpt_core.proofs.Records.Lists.{records_of}
 use Rattle.ckpt_core.proofs.parts.Parts.of_image.Goals as goal
 
@@ -29,116 +29,57 @@ returns-in_err-load_all-clause-damaged c = λ h can.
     c.load_all.ensures.damaged bad (records_held m p0 (map record_in c.deref.result.now) e0 same (records_of can.sound))
 
 pub load_base-requires-clause-none : goal.load_base-requires-clause-none
-load_base-requires-clause-none c =
-    let m : State = state_in c.args.image.now in
-    let p0 : Parts = c.in_ok-parts.parts in
-    let e0 : state_of p0 ≡ emptied m = c.in_ok-parts.ensures.state in
-    let same : map record_in c.deref.result.now ≡ m.records = ap (map record_in) c.deref.ensures.value in
-    let p1 : Parts = c.load_all.new.self in
-    let e1 : state_of p1 ≡ record (emptied m) { records = m.records } = after_records m p0 p1 c.deref.result.now e0 c.in_ok-load_all.ensures.state same in
-    (told p1 (record (emptied m) { records = m.records }) e1).base
+load_base-requires-clause-none c = (told c.load_all.new.self _ (with_records c.args.image.now c.in_ok-parts.parts c.load_all.new.self c.deref.result.now c.in_ok-parts.ensures.state c.deref.ensures.value c.in_ok-load_all.ensures.state)).base
 
 pub returns-in_err-load_base-clause-damaged : goal.returns-in_err-load_base-clause-damaged
 returns-in_err-load_base-clause-damaged c = λ h can.
-    let m : State = state_in c.args.image.now in
-    let p0 : Parts = c.in_ok-parts.parts in
-    let e0 : state_of p0 ≡ emptied m = c.in_ok-parts.ensures.state in
-    let same : map record_in c.deref.result.now ≡ m.records = ap (map record_in) c.deref.ensures.value in
-    let p1 : Parts = c.load_all.new.self in
-    let e1 : state_of p1 ≡ record (emptied m) { records = m.records } = after_records m p0 p1 c.deref.result.now e0 c.in_ok-load_all.ensures.state same in
+    let loaded = with_records c.args.image.now c.in_ok-parts.parts c.load_all.new.self c.deref.result.now c.in_ok-parts.ensures.state c.deref.ensures.value c.in_ok-load_all.ensures.state in
     let bad : c.load_base.result ≡ Err Damaged = search rules in
-    c.load_base.ensures.damaged bad (λ id e. let P : State → Type 0 = λ s. is_done_savepoint s id ≡ true in subst P (sym e1) (can.sound.base id e))
+    c.load_base.ensures.damaged bad (λ id e. let P : State → Type 0 = λ s. is_done_savepoint s id ≡ true in subst P (sym loaded) (can.sound.base id e))
 
 pub returns-then-not-is_idle-clause-damaged : goal.returns-then-not-is_idle-clause-damaged
 returns-then-not-is_idle-clause-damaged c = λ h can.
-    let m : State = state_in c.args.image.now in
-    let p0 : Parts = c.in_ok-parts.parts in
-    let e0 : state_of p0 ≡ emptied m = c.in_ok-parts.ensures.state in
-    let same : map record_in c.deref.result.now ≡ m.records = ap (map record_in) c.deref.ensures.value in
-    let p1 : Parts = c.load_all.new.self in
-    let e1 : state_of p1 ≡ record (emptied m) { records = m.records } = after_records m p0 p1 c.deref.result.now e0 c.in_ok-load_all.ensures.state same in
-    let p2 : Parts = c.load_base.new.self in
-    let e2 : state_of p2 ≡ record m { waiting = []; taken = [] } = after_base m p1 p2 e1 c.in_ok-load_base.ensures.state in
-    let t2 : IsTold p2 (record m { waiting = []; taken = [] }) = told p2 (record m { waiting = []; taken = [] }) e2 in
-    c.is_idle.ensures.no c.if-not-is_idle.true (idle_held m p2 t2 can.sound.idle)
+    let based = with_base c.args.image.now c.in_ok-parts.parts c.load_all.new.self c.load_base.new.self c.deref.result.now c.in_ok-parts.ensures.state c.deref.ensures.value c.in_ok-load_all.ensures.state c.in_ok-load_base.ensures.state in
+    c.is_idle.ensures.no c.if-not-is_idle.true (idle_held (state_in c.args.image.now) c.load_base.new.self (told c.load_base.new.self _ based) can.sound.idle)
 
 pub load_files-requires-clause-none_waits : goal.load_files-requires-clause-none_waits
-load_files-requires-clause-none_waits c =
-    let m : State = state_in c.args.image.now in
-    let p0 : Parts = c.in_ok-parts.parts in
-    let e0 : state_of p0 ≡ emptied m = c.in_ok-parts.ensures.state in
-    let same : map record_in c.deref.result.now ≡ m.records = ap (map record_in) c.deref.ensures.value in
-    let p1 : Parts = c.load_all.new.self in
-    let e1 : state_of p1 ≡ record (emptied m) { records = m.records } = after_records m p0 p1 c.deref.result.now e0 c.in_ok-load_all.ensures.state same in
-    let p2 : Parts = c.load_base.new.self in
-    let e2 : state_of p2 ≡ record m { waiting = []; taken = [] } = after_base m p1 p2 e1 c.in_ok-load_base.ensures.state in
-    let t2 : IsTold p2 (record m { waiting = []; taken = [] }) = told p2 (record m { waiting = []; taken = [] }) e2 in
-    t2.waiting
+load_files-requires-clause-none_waits c = (told c.load_base.new.self _ (with_base c.args.image.now c.in_ok-parts.parts c.load_all.new.self c.load_base.new.self c.deref.result.now c.in_ok-parts.ensures.state c.deref.ensures.value c.in_ok-load_all.ensures.state c.in_ok-load_base.ensures.state)).waiting
 
 pub load_files-requires-clause-none_taken : goal.load_files-requires-clause-none_taken
-load_files-requires-clause-none_taken c =
-    let m : State = state_in c.args.image.now in
-    let p0 : Parts = c.in_ok-parts.parts in
-    let e0 : state_of p0 ≡ emptied m = c.in_ok-parts.ensures.state in
-    let same : map record_in c.deref.result.now ≡ m.records = ap (map record_in) c.deref.ensures.value in
-    let p1 : Parts = c.load_all.new.self in
-    let e1 : state_of p1 ≡ record (emptied m) { records = m.records } = after_records m p0 p1 c.deref.result.now e0 c.in_ok-load_all.ensures.state same in
-    let p2 : Parts = c.load_base.new.self in
-    let e2 : state_of p2 ≡ record m { waiting = []; taken = [] } = after_base m p1 p2 e1 c.in_ok-load_base.ensures.state in
-    let t2 : IsTold p2 (record m { waiting = []; taken = [] }) = told p2 (record m { waiting = []; taken = [] }) e2 in
-    t2.taken
+load_files-requires-clause-none_taken c = (told c.load_base.new.self _ (with_base c.args.image.now c.in_ok-parts.parts c.load_all.new.self c.load_base.new.self c.deref.result.now c.in_ok-parts.ensures.state c.deref.ensures.value c.in_ok-load_all.ensures.state c.in_ok-load_base.ensures.state)).taken
 
 pub returns-in_err-load_files-clause-damaged : goal.returns-in_err-load_files-clause-damaged
 returns-in_err-load_files-clause-damaged c = λ h can.
     let m : State = state_in c.args.image.now in
-    let p0 : Parts = c.in_ok-parts.parts in
-    let e0 : state_of p0 ≡ emptied m = c.in_ok-parts.ensures.state in
-    let same : map record_in c.deref.result.now ≡ m.records = ap (map record_in) c.deref.ensures.value in
-    let p1 : Parts = c.load_all.new.self in
-    let e1 : state_of p1 ≡ record (emptied m) { records = m.records } = after_records m p0 p1 c.deref.result.now e0 c.in_ok-load_all.ensures.state same in
-    let p2 : Parts = c.load_base.new.self in
-    let e2 : state_of p2 ≡ record m { waiting = []; taken = [] } = after_base m p1 p2 e1 c.in_ok-load_base.ensures.state in
-    let t2 : IsTold p2 (record m { waiting = []; taken = [] }) = told p2 (record m { waiting = []; taken = [] }) e2 in
+    let based = with_base c.args.image.now c.in_ok-parts.parts c.load_all.new.self c.load_base.new.self c.deref.result.now c.in_ok-parts.ensures.state c.deref.ensures.value c.in_ok-load_all.ensures.state c.in_ok-load_base.ensures.state in
     let bad : c.load_files.result ≡ Err Damaged = search rules in
     let Q : List Use → Type 0 = λ us. AreFilesApart us (m.waiting ++ m.taken) in
-    c.load_files.ensures.damaged bad (subst Q (sym (c.in_ok-load_base.ensures.tied.uses_are ∙ ap uses t2.records)) (files_held can))
+    c.load_files.ensures.damaged bad (subst Q (sym (c.in_ok-load_base.ensures.tied.uses_are ∙ ap uses (told c.load_base.new.self _ based).records)) (files_held can))
+
+-- once the files are loaded, each test has passed
+based : (c : goal.In_ok-load_files) → state_of c.load_base.new.self ≡ record (state_in c.args.image.now) { waiting = []; taken = [] }
+based c = with_base c.args.image.now c.in_ok-parts.parts c.load_all.new.self c.load_base.new.self c.deref.result.now c.in_ok-parts.ensures.state c.deref.ensures.value c.in_ok-load_all.ensures.state c.in_ok-load_base.ensures.state
+
+held : (c : goal.In_ok-load_files) → CanHold (state_in c.args.image.now)
+held c =
+    let m : State = state_in c.args.image.now in
+    let t : IsTold c.load_base.new.self (record m { waiting = []; taken = [] }) = told c.load_base.new.self _ (based c) in
+    let loaded = with_records c.args.image.now c.in_ok-parts.parts c.load_all.new.self c.deref.result.now c.in_ok-parts.ensures.state c.deref.ensures.value c.in_ok-load_all.ensures.state in
+    can_hold_from m (c.has_sound_numbers.ensures.yes c.if-not-has_sound_numbers.false) c.recall_limits.ensures c.recall_shape.ensures
+    (records_loaded m c.in_ok-parts.parts (map record_in c.deref.result.now) c.in_ok-parts.ensures.state (ap (map record_in) c.deref.ensures.value) c.in_ok-load_all.ensures.sound)
+    (λ id e. let P : State → Type 0 = λ s. is_done_savepoint s id ≡ true in subst P loaded (c.in_ok-load_base.ensures.there id e))
+    (idle_loaded m c.load_base.new.self t (c.is_idle.ensures.yes c.if-not-is_idle.false))
+    (let Q : List Use → Type 0 = λ us. AreFilesApart us (m.waiting ++ m.taken) in subst Q (c.in_ok-load_base.ensures.tied.uses_are ∙ ap uses t.records) c.in_ok-load_files.ensures.apart)
 
 pub returns-clause-held : goal.returns-clause-held
-returns-clause-held c =
-    let m : State = state_in c.args.image.now in
-    let p0 : Parts = c.in_ok-parts.parts in
-    let e0 : state_of p0 ≡ emptied m = c.in_ok-parts.ensures.state in
-    let same : map record_in c.deref.result.now ≡ m.records = ap (map record_in) c.deref.ensures.value in
-    let p1 : Parts = c.load_all.new.self in
-    let e1 : state_of p1 ≡ record (emptied m) { records = m.records } = after_records m p0 p1 c.deref.result.now e0 c.in_ok-load_all.ensures.state same in
-    let p2 : Parts = c.load_base.new.self in
-    let e2 : state_of p2 ≡ record m { waiting = []; taken = [] } = after_base m p1 p2 e1 c.in_ok-load_base.ensures.state in
-    let t2 : IsTold p2 (record m { waiting = []; taken = [] }) = told p2 (record m { waiting = []; taken = [] }) e2 in
-    can_hold_from m (c.has_sound_numbers.ensures.yes c.if-not-has_sound_numbers.false) c.recall_limits.ensures c.recall_shape.ensures
-    (records_loaded m p0 (map record_in c.deref.result.now) e0 same c.in_ok-load_all.ensures.sound)
-    (λ id e. let P : State → Type 0 = λ s. is_done_savepoint s id ≡ true in subst P e1 (c.in_ok-load_base.ensures.there id e))
-    (idle_loaded m p2 t2 (c.is_idle.ensures.yes c.if-not-is_idle.false))
-    (let Q : List Use → Type 0 = λ us. AreFilesApart us (m.waiting ++ m.taken) in subst Q (c.in_ok-load_base.ensures.tied.uses_are ∙ ap uses t2.records) c.in_ok-load_files.ensures.apart)
+returns-clause-held c = held c
 
 pub returns-clause-sound : goal.returns-clause-sound
 returns-clause-sound c =
-    let m : State = state_in c.args.image.now in
-    let p0 : Parts = c.in_ok-parts.parts in
-    let e0 : state_of p0 ≡ emptied m = c.in_ok-parts.ensures.state in
-    let same : map record_in c.deref.result.now ≡ m.records = ap (map record_in) c.deref.ensures.value in
-    let p1 : Parts = c.load_all.new.self in
-    let e1 : state_of p1 ≡ record (emptied m) { records = m.records } = after_records m p0 p1 c.deref.result.now e0 c.in_ok-load_all.ensures.state same in
-    let p2 : Parts = c.load_base.new.self in
-    let e2 : state_of p2 ≡ record m { waiting = []; taken = [] } = after_base m p1 p2 e1 c.in_ok-load_base.ensures.state in
-    let t2 : IsTold p2 (record m { waiting = []; taken = [] }) = told p2 (record m { waiting = []; taken = [] }) e2 in
-    let can : CanHold m = can_hold_from m (c.has_sound_numbers.ensures.yes c.if-not-has_sound_numbers.false) c.recall_limits.ensures c.recall_shape.ensures
-    (records_loaded m p0 (map record_in c.deref.result.now) e0 same c.in_ok-load_all.ensures.sound)
-    (λ id e. let P : State → Type 0 = λ s. is_done_savepoint s id ≡ true in subst P e1 (c.in_ok-load_base.ensures.there id e))
-    (idle_loaded m p2 t2 (c.is_idle.ensures.yes c.if-not-is_idle.false))
-    (let Q : List Use → Type 0 = λ us. AreFilesApart us (m.waiting ++ m.taken) in subst Q (c.in_ok-load_base.ensures.tied.uses_are ∙ ap uses t2.records) c.in_ok-load_files.ensures.apart) in
-    let e3 : state_of c.load_files.new.self ≡ m = after_files m p2 c.load_files.new.self e2 c.in_ok-load_files.ensures.state in
+    let state : state_of c.load_files.new.self ≡ state_in c.args.image.now = after_files (state_in c.args.image.now) c.load_base.new.self c.load_files.new.self (based c) c.in_ok-load_files.ensures.state in
+    let can : CanHold (state_in c.args.image.now) = held c in
     record {
       tied = c.in_ok-load_files.ensures.tied;
-      sound = subst IsSound (sym e3) can.sound;
+      sound = subst IsSound (sym state) can.sound;
       none_ended = c.in_ok-load_files.ensures.noted ∙ ap (λ (p : Parts). p.ended.items) c.load_base.ensures.rest ∙ c.in_ok-load_all.ensures.noted ∙ c.in_ok-parts.ensures.none_ended;
     }
