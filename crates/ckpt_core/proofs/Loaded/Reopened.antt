@@ -232,11 +232,11 @@ pub after_base : (m : State) (p1 p2 : Parts) → state_of p1 ≡ record (emptied
 after_base m p1 p2 e1 e2 = e2 ∙ ap (λ (s : State). record s { base = m.base }) e1
 
 -- the same from what each step ensures: the state once the records are loaded, and once the base is
-pub with_records : (i : Image) (p0 p1 : Parts) (slice : List Saved) → state_of p0 ≡ emptied (state_in i) → slice ≡ i.records.items → state_of p1 ≡ record (state_of p0) { records = map record_in slice } → state_of p1 ≡ record (emptied (state_in i)) { records = map record_in i.records.items }
-with_records i p0 p1 slice begun same loaded = after_records (state_in i) p0 p1 slice begun loaded (ap (map record_in) same)
+pub state_with_records : (i : Image) (p0 p1 : Parts) (slice : List Saved) → state_of p0 ≡ emptied (state_in i) → slice ≡ i.records.items → state_of p1 ≡ record (state_of p0) { records = map record_in slice } → state_of p1 ≡ record (emptied (state_in i)) { records = map record_in i.records.items }
+state_with_records i p0 p1 slice begun same loaded = after_records (state_in i) p0 p1 slice begun loaded (ap (map record_in) same)
 
-pub with_base : (i : Image) (p0 p1 p2 : Parts) (slice : List Saved) → state_of p0 ≡ emptied (state_in i) → slice ≡ i.records.items → state_of p1 ≡ record (state_of p0) { records = map record_in slice } → state_of p2 ≡ record (state_of p1) { base = i.base } → state_of p2 ≡ record (state_in i) { waiting = []; taken = [] }
-with_base i p0 p1 p2 slice begun same loaded based = after_base (state_in i) p1 p2 (with_records i p0 p1 slice begun same loaded) based
+pub state_with_base : (i : Image) (p0 p1 p2 : Parts) (slice : List Saved) → state_of p0 ≡ emptied (state_in i) → slice ≡ i.records.items → state_of p1 ≡ record (state_of p0) { records = map record_in slice } → state_of p2 ≡ record (state_of p1) { base = i.base } → state_of p2 ≡ record (state_in i) { waiting = []; taken = [] }
+state_with_base i p0 p1 p2 slice begun same loaded based = after_base (state_in i) p1 p2 (state_with_records i p0 p1 slice begun same loaded) based
 
 pub after_files : (m : State) (p2 p3 : Parts) → state_of p2 ≡ record m { waiting = []; taken = [] } → state_of p3 ≡ record (state_of p2) { waiting = m.waiting; taken = m.taken } → state_of p3 ≡ m
 after_files m p2 p3 e2 e3 = e3 ∙ ap (λ (s : State). record s { waiting = m.waiting; taken = m.taken }) e2
