@@ -20,8 +20,15 @@ pub record Configuration : Type 0 where
 
 -- the configuration with these values
 abbrev pub configured : (interval pause at_once timeout tolerable retained : ℕ) → Bool → Configuration
-configured interval pause at_once timeout tolerable retained keep_on_cancel =
-    record { interval = interval; pause = pause; at_once = at_once; timeout = timeout; tolerable = tolerable; retained = retained; keep_on_cancel = keep_on_cancel }
+configured interval pause at_once timeout tolerable retained keep_on_cancel = record {
+  interval = interval;
+  pause = pause;
+  at_once = at_once;
+  timeout = timeout;
+  tolerable = tolerable;
+  retained = retained;
+  keep_on_cancel = keep_on_cancel;
+}
 
 -- whether the values are within the limits, which are this project's own
 pub record IsWithinLimits (c : Configuration) : Type 0 where

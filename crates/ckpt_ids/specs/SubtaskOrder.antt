@@ -1,5 +1,5 @@
 -- The order of subtasks is strict, and their comparison goes by it. Both are facts that searches among acknowledgements cite.
-use Rattle.std.specs.Prelude.{◌≡◌, ℕ, ◌≤◌, true, false, ◌||◌, ◌&&◌, nat_lt, nat_eq}
+use Rattle.std.specs.Prelude.{◌≡◌, ℕ, ◌≤◌, Bool, true, false, ◌||◌, ◌&&◌, nat_lt, nat_eq}
 use Rattle.std.specs.Ordering.{nat_cmp, ordering_index, ordering_then}
 use Rattle.std.specs.declared.cmp.Ordering.{Ordering}
 use Rattle.std.specs.declared.cmp.Ordering.TheVariants.{Less, Equal, Greater}
@@ -15,6 +15,14 @@ same_parts s t e h =
     let make : ℕ → ℕ → SubtaskId = λ v i. record { vertex = v; index = i } in
     ap (λ v. make v s.index) e ∙ ap (make t.vertex) h
 
+-- The order and the comparison, from the two vertices a and b and the two indices c and d.
+
+abbrev comes_first : (a b c d : ℕ) → Bool
+comes_first a b c d = nat_lt a b || (nat_eq a b && nat_lt c d)
+
+abbrev compared : (a b c d : ℕ) → Ordering
+compared a b c d = ordering_then (nat_cmp a b) (nat_cmp c d)
+
 pub subtasks_in_order : IsStrictOrder is_before
 subtasks_in_order = record {
   irreflexive = λ s. irreflexive s.vertex s.index;
@@ -22,13 +30,13 @@ subtasks_in_order = record {
   total = λ s t h k. let parts = total s.vertex t.vertex s.index t.index h k in same_parts s t parts.0 parts.1;
 }
   where
-    irreflexive : (a b : ℕ) → (nat_lt a a || (nat_eq a a && nat_lt b b)) ≡ false
+    irreflexive : (a b : ℕ) → comes_first a a b b ≡ false
     irreflexive a b = grind (arith, nat_tests)
 
-    transitive : (a b c d e f : ℕ) → (nat_lt a b || (nat_eq a b && nat_lt d e)) ≡ true → (nat_lt b c || (nat_eq b c && nat_lt e f)) ≡ true → (nat_lt a c || (nat_eq a c && nat_lt d f)) ≡ true
+    transitive : (a b c d e f : ℕ) → comes_first a b d e ≡ true → comes_first b c e f ≡ true → comes_first a c d f ≡ true
     transitive a b c d e f h k = grind (arith, nat_tests)
 
-    total : (a b c d : ℕ) → (nat_lt a b || (nat_eq a b && nat_lt c d)) ≡ false → (nat_lt b a || (nat_eq b a && nat_lt d c)) ≡ false → (a ≡ b) × (c ≡ d)
+    total : (a b c d : ℕ) → comes_first a b c d ≡ false → comes_first b a d c ≡ false → (a ≡ b) × (c ≡ d)
     total a b c d h k = (grind (arith, nat_tests), grind (arith, nat_tests))
 
 -- by vertex, then by index
@@ -43,14 +51,14 @@ subtasks_searched = record {
   rises = λ s t u h. rises s.vertex t.vertex s.index t.index u.vertex u.index h;
 }
   where
-    less : (a b c d : ℕ) → ordering_then (nat_cmp a b) (nat_cmp c d) ≡ Less → (nat_lt a b || (nat_eq a b && nat_lt c d)) ≡ true
+    less : (a b c d : ℕ) → compared a b c d ≡ Less → comes_first a b c d ≡ true
     less a b c d h = grind (arith, nat_tests)
 
-    equal : (a b c d : ℕ) → ordering_then (nat_cmp a b) (nat_cmp c d) ≡ Equal → (a ≡ b) × (c ≡ d)
+    equal : (a b c d : ℕ) → compared a b c d ≡ Equal → (a ≡ b) × (c ≡ d)
     equal a b c d h = (grind (arith, nat_tests), grind (arith, nat_tests))
 
-    greater : (a b c d : ℕ) → ordering_then (nat_cmp a b) (nat_cmp c d) ≡ Greater → (nat_lt b a || (nat_eq b a && nat_lt d c)) ≡ true
+    greater : (a b c d : ℕ) → compared a b c d ≡ Greater → comes_first b a d c ≡ true
     greater a b c d h = grind (arith, nat_tests)
 
-    rises : (a b c d e f : ℕ) → (nat_lt a b || (nat_eq a b && nat_lt c d)) ≡ true → ordering_index (ordering_then (nat_cmp a e) (nat_cmp c f)) ≤ ordering_index (ordering_then (nat_cmp b e) (nat_cmp d f))
+    rises : (a b c d e f : ℕ) → comes_first a b c d ≡ true → ordering_index (compared a e c f) ≤ ordering_index (compared b e d f)
     rises a b c d e f h = grind (arith, nat_tests)

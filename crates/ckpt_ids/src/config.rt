@@ -1,6 +1,6 @@
 //! The configuration of a job, within its limits.
 
-ghost use Rattle.std.specs.Prelude.{◌≡◌, ◌^◌, ◌≤◌, ◌↔◌, Bool, true, false, IsErr, IsTrue, OnOk, IfOk};
+ghost use Rattle.std.specs.Prelude.{◌≡◌, ◌↔◌, false, IsErr, IfOk};
 ghost use Rattle.ckpt_ids.specs.Configuration.{Configuration, IsWithinLimits, configured, is_within_limits};
 
 use crate::limits::{

@@ -74,6 +74,8 @@ impl Handed {
     }
 
     /// The files without the first `count`. Works in place, and takes no memory.
+    ///
+    /// Condition: there are at least `count` files.
     pub fn rest(self, count: usize) -> Handed
         requires { count ≤ length self }
         ensures { result ≡ drop count self }

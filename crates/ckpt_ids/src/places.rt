@@ -50,6 +50,8 @@ impl Keyed for Acked {
 
 /// The place of the element with this key, or an `Err` with the place where one belongs. Mostly a
 /// caller wants the last or the end, so the last is compared before a binary search.
+///
+/// Condition: the row is in order by the key, each key once.
 #[inline(always)]
 pub fn place_of<T: Keyed>(row: &VecDeque<T>, key: T::Key) -> Result<usize, usize>
     requires { AreInOrderBy T.before T.key_of row.now.items }
@@ -80,6 +82,8 @@ fn place_below<T: Keyed>(row: &VecDeque<T>, key: T::Key) -> Result<usize, usize>
 
 /// Takes out the element at this place. Mostly it is the first or the last, which leave the others
 /// where they are.
+///
+/// Condition: the row has an element at this place.
 #[inline(always)]
 pub fn take_out<T>(row: &mut VecDeque<T>, place: usize) -> T
     requires { place < length row.old.items }

@@ -1,6 +1,6 @@
 //! The shape of a job: the parallelism of each vertex.
 
-ghost use Rattle.std.specs.Prelude.{◌≡◌, ℕ, ◌+◌, ◌≤◌, ◌^◌, ◌↔◌, ◌≢◌, Bool, true, false, Ok, Err, None, Some, IsTrue, IsOk, IfOk, OnOk, OnErr, sum, length, nat_le, slice_get, is_some};
+ghost use Rattle.std.specs.Prelude.{◌≡◌, ℕ, ◌↔◌, false, Err, IfOk, sum, length, nat_le, slice_get};
 ghost use Rattle.std.specs.Iterator.Adapters.{IterYieldsInOrder, IterYieldsInReverse};
 ghost use Rattle.std.specs.List.{list_all};
 ghost use Rattle.std.specs.Slice.Iter.{iter_rest};

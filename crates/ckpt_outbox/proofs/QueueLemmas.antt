@@ -1,15 +1,13 @@
 -- What holds of files that are distinct, and of their places.
 use Rattle.std.proofs.Common.{◌≡◌, ℕ, ◌+◌, length, arith, Bool, true, false, not, cond, ◌||◌, ◌==◌, List, [], ◌∷◌, ◌++◌, take, drop, refl, sym, ap, subst, ◌∙◌, ⊎_elim}
-use Rattle.std.proofs.lemmas.Bool.{cases_Bool, cases_eq, both_ways, eqb-true, eq-eqb, ne_eqb, or_parts, or_from, or_left, or_right, or_cases, false_from_ne_true}
+use Rattle.std.proofs.lemmas.Bool.{cases_Bool, both_ways, eqb-true, eq-eqb, ne_eqb, or_parts, or_from, or_left, or_right, or_cases, false_from_ne_true}
 use Rattle.std.proofs.lemmas.List.Folds.{list_any-append}
 use Rattle.std.proofs.lemmas.List.{take-append-drop}
 use Rattle.ckpt_ids.specs.Ordered.{IsIn, AreDistinct}
-use Rattle.ckpt_ids.proofs.OrderedLemmas.{list_any-from_IsIn, IsIn-from_list_any, AreDistinct-append, AreDistinct-apart, AreDistinct-filter, AreDistinct-left, AreDistinct-right}
+use Rattle.ckpt_ids.proofs.ComparisonLemmas.{eqb_turned}
+use Rattle.ckpt_ids.proofs.OrderedLemmas.{AreDistinct-append, AreDistinct-apart, AreDistinct-filter, AreDistinct-left, AreDistinct-right, IsIn-from_test, not_in-from_test, test-from_IsIn}
 use Rattle.std.specs.List.{list_any}
 use Rattle.ckpt_outbox.specs.Queues.{is_in, without}
-
-pub eqb_flip : (a b : ℕ) → (a == b) ≡ (b == a)
-eqb_flip a b = ⊎_elim (λ (e : a ≡ b). eq-eqb a b e ∙ sym (eq-eqb b a (sym e))) (λ (n : a ≡ b → ⊥). ne_eqb a b n ∙ sym (ne_eqb b a (λ e. n (sym e)))) (cases_eq a b)
 
 pub eqb_itself : (a : ℕ) → (a == a) ≡ true
 eqb_itself a = eq-eqb a a refl
@@ -31,21 +29,9 @@ not_in-parts x xs ys h = or_parts (is_in x xs) (is_in x ys) (sym (is_in-append x
 pub not_in-append : (x : ℕ) (xs ys : List ℕ) → is_in x xs ≡ false → is_in x ys ≡ false → is_in x (xs ++ ys) ≡ false
 not_in-append x xs ys h k = is_in-append x xs ys ∙ or_from (is_in x xs) (is_in x ys) h k
 
-pub is_in-from_IsIn : (x : ℕ) (xs : List ℕ) → IsIn x xs → is_in x xs ≡ true
-is_in-from_IsIn x xs h = list_any-from_IsIn (λ g. x == g) x xs h (eqb_itself x)
-
-pub IsIn-from_is_in : (x : ℕ) (xs : List ℕ) → is_in x xs ≡ true → IsIn x xs
-IsIn-from_is_in x xs h =
-    let found : (y : ℕ) × IsIn y xs × ((x == y) ≡ true) = IsIn-from_list_any (λ g. x == g) xs h in
-    let P : ℕ → Type 0 = λ y. IsIn y xs in
-    subst P (sym (eqb-true x found.0 found.2)) found.1
-
 -- what is not there, by the test
 pub not_in : (x : ℕ) (xs : List ℕ) → (IsIn x xs → ⊥) → is_in x xs ≡ false
-not_in x xs new = false_from_ne_true (is_in x xs) (λ h. new (IsIn-from_is_in x xs h))
-
-pub absent : (x : ℕ) (xs : List ℕ) → is_in x xs ≡ false → IsIn x xs → ⊥
-absent x xs e h = both_ways (is_in x xs) e (is_in-from_IsIn x xs h)
+not_in x xs new = false_from_ne_true (is_in x xs) (λ h. new (IsIn-from_test x xs h))
 
 -- two elements, one in the list and one not, differ
 pub apart : (x y : ℕ) (xs : List ℕ) → is_in x xs ≡ false → is_in y xs ≡ true → (x == y) ≡ false
@@ -54,10 +40,10 @@ apart x y xs h k = ne_eqb x y (λ e. both_ways (is_in y xs) (ap (λ z. is_in z x
 -- distinct files
 
 pub distinct-append : (xs ys : List ℕ) → AreDistinct xs → AreDistinct ys → ((x : ℕ) → is_in x xs ≡ true → is_in x ys ≡ false) → AreDistinct (xs ++ ys)
-distinct-append xs ys a b f = AreDistinct-append xs ys a b (λ x h k. absent x ys (f x (is_in-from_IsIn x xs h)) k)
+distinct-append xs ys a b f = AreDistinct-append xs ys a b (λ x h k. not_in-from_test x ys (f x (test-from_IsIn x xs h)) k)
 
 pub distinct-apart : (xs ys : List ℕ) → AreDistinct (xs ++ ys) → (x : ℕ) → is_in x xs ≡ true → is_in x ys ≡ false
-distinct-apart xs ys a x h = not_in x ys (AreDistinct-apart xs ys a x (IsIn-from_is_in x xs h))
+distinct-apart xs ys a x h = not_in x ys (AreDistinct-apart xs ys a x (IsIn-from_test x xs h))
 
 pub AreDistinct-swap : (xs ys : List ℕ) → AreDistinct (xs ++ ys) → AreDistinct (ys ++ xs)
 AreDistinct-swap xs ys a =
@@ -65,7 +51,7 @@ AreDistinct-swap xs ys a =
 
 pub AreDistinct-push : (x : ℕ) (xs : List ℕ) → AreDistinct xs → is_in x xs ≡ false → AreDistinct (xs ++ x ∷ [])
 AreDistinct-push x xs a h =
-    distinct-append xs (x ∷ []) a ((λ h. h), tt) (λ y k. or_from (y == x) false (eqb_flip y x ∙ apart x y xs h k) refl)
+    distinct-append xs (x ∷ []) a ((λ h. h), tt) (λ y k. or_from (y == x) false (eqb_turned y x ∙ apart x y xs h k) refl)
 
 -- what `without` keeps
 
@@ -93,7 +79,7 @@ pub without_absent : (f : ℕ) (xs : List ℕ) → is_in f xs ≡ false → with
 without_absent f [] h = refl
 without_absent f (y ∷ xs) h =
     let parts : ((f == y) ≡ false) × (is_in f xs ≡ false) = or_parts (f == y) (is_in f xs) h in
-    ap (λ b. cond (not b) (y ∷ without f xs) (without f xs)) (eqb_flip y f ∙ parts.0) ∙ ap (λ w. y ∷ w) (without_absent f xs parts.1)
+    ap (λ b. cond (not b) (y ∷ without f xs) (without f xs)) (eqb_turned y f ∙ parts.0) ∙ ap (λ w. y ∷ w) (without_absent f xs parts.1)
 
 -- the queues stay distinct
 
@@ -131,11 +117,11 @@ in_without x f (y ∷ xs) =
     let Q : Bool → Type 0 = λ b. cond b false (is_in x xs) ≡ cond b false ((x == y) || is_in x xs) in
     let R : Bool → Type 0 = λ b. ((x == y) || cond b false (is_in x xs)) ≡ cond b false ((x == y) || is_in x xs) in
     let gone : (y == f) ≡ true → P (y == f) = λ (k : (y == f) ≡ true).
-    let other : (f == x) ≡ false → (x == y) ≡ false = λ (e : (f == x) ≡ false). ap (λ z. x == z) (eqb-true y f k) ∙ eqb_flip x f ∙ e in
+    let other : (f == x) ≡ false → (x == y) ≡ false = λ (e : (f == x) ≡ false). ap (λ z. x == z) (eqb-true y f k) ∙ eqb_turned x f ∙ e in
     let same : Q (f == x) = ⊎_elim (λ (e : (f == x) ≡ true). subst Q (sym e) refl) (λ (e : (f == x) ≡ false). subst Q (sym e) (sym (ap (λ b. b || is_in x xs) (other e)))) (cases_Bool (f == x)) in
     subst P (sym k) (in_without x f xs ∙ same) in
     let kept : (y == f) ≡ false → P (y == f) = λ (k : (y == f) ≡ false).
-    let none : (f == x) ≡ true → ((x == y) || false) ≡ false = λ (e : (f == x) ≡ true). or_from (x == y) false (ap (λ z. z == y) (sym (eqb-true f x e)) ∙ eqb_flip f y ∙ k) refl in
+    let none : (f == x) ≡ true → ((x == y) || false) ≡ false = λ (e : (f == x) ≡ true). or_from (x == y) false (ap (λ z. z == y) (sym (eqb-true f x e)) ∙ eqb_turned f y ∙ k) refl in
     let same : R (f == x) = ⊎_elim (λ (e : (f == x) ≡ true). subst R (sym e) (none e)) (λ (e : (f == x) ≡ false). subst R (sym e) refl) (cases_Bool (f == x)) in
     subst P (sym k) (ap (λ b. (x == y) || b) (in_without x f xs) ∙ same) in
     ⊎_elim gone kept (cases_Bool (y == f))
@@ -149,14 +135,14 @@ length-without f (y ∷ xs) d h =
     let same : without f xs ≡ xs = without_absent f xs (ap (λ z. is_in z xs) (sym (eqb-true y f k)) ∙ not_in y xs d.0) in
     subst P (sym k) (omega (arith, ap length same)) in
     let kept : (y == f) ≡ false → P (y == f) = λ (k : (y == f) ≡ false).
-    let later : is_in f xs ≡ true = ap (λ b. b || is_in f xs) (sym (eqb_flip f y ∙ k)) ∙ h in
+    let later : is_in f xs ≡ true = ap (λ b. b || is_in f xs) (sym (eqb_turned f y ∙ k)) ∙ h in
     subst P (sym k) (omega (arith, length-without f xs d.1 later)) in
     ⊎_elim gone kept (cases_Bool (y == f))
 
 -- by the test of the queues
 pub list_any_flip : (x : ℕ) (xs : List ℕ) → is_in x xs ≡ list_any (λ g. g == x) xs
 list_any_flip x [] = refl
-list_any_flip x (y ∷ ys) = ap (λ b. b || is_in x ys) (eqb_flip x y) ∙ ap (λ b. (y == x) || b) (list_any_flip x ys)
+list_any_flip x (y ∷ ys) = ap (λ b. b || is_in x ys) (eqb_turned x y) ∙ ap (λ b. (y == x) || b) (list_any_flip x ys)
 
 -- a file that is taken does not wait
 pub taken_waits_not : (ws ts : List ℕ) (x : ℕ) → AreDistinct (ws ++ ts) → is_in x ts ≡ true → is_in x ws ≡ false
@@ -181,7 +167,7 @@ is_in-put x f ws ts =
     let waits : (b t : Bool) → P true b t = λ b t. elim b as (λ b. P true b t) [ true ↦ refl | false ↦ refl ] in
     let other : (b t : Bool) → P false b t = λ b t. elim b as (λ b. P false b t) [ true ↦ refl | false ↦ refl ] in
     let all : P (is_in x ws) (x == f) (is_in x ts) = elim (is_in x ws) as (λ a. P a (x == f) (is_in x ts)) [ true ↦ waits (x == f) (is_in x ts) | false ↦ other (x == f) (is_in x ts) ] in
-    is_in-append x (ws ++ f ∷ []) ts ∙ ap (λ b. b || is_in x ts) (is_in-append x ws (f ∷ [])) ∙ all ∙ ap (λ b. cond b true (is_in x ws || is_in x ts)) (eqb_flip x f)
+    is_in-append x (ws ++ f ∷ []) ts ∙ ap (λ b. b || is_in x ts) (is_in-append x ws (f ∷ [])) ∙ all ∙ ap (λ b. cond b true (is_in x ws || is_in x ts)) (eqb_turned x f)
     ∙ ap (λ b. cond (f == x) true b) (sym (is_in-append x ws ts))
 
 -- after the first that waits is taken

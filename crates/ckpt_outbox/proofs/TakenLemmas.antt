@@ -10,8 +10,9 @@ use Rattle.ckpt_ids.proofs.AscendingLemmas.{IsAscending-ascending, same_from_tim
 use Rattle.ckpt_ids.proofs.CountLemmas.{times-filter}
 use Rattle.ckpt_ids.proofs.OrderedLemmas.{AreDistinct-right}
 use Rattle.ckpt_outbox.specs.Places.{is_apart}
+use Rattle.ckpt_ids.proofs.ComparisonLemmas.{eqb_turned}
 use Rattle.ckpt_outbox.specs.Queues.{is_in}
-use Rattle.ckpt_outbox.proofs.QueueLemmas.{eqb_flip, not_in}
+use Rattle.ckpt_outbox.proofs.QueueLemmas.{not_in}
 use Rattle.ckpt_outbox.proofs.TicketLemmas.{tells_taken}
 
 abbrev one_if : Bool → ℕ
@@ -23,7 +24,7 @@ once_more f x xs apart same =
     let here : eqb f x ≡ true → P true = λ (e : eqb f x ≡ true). let none : one_if (is_in f xs) ≡ 0 = ap one_if (apart e) in omega (arith, same, none) in
     let there : P false = omega (arith, same) in
     let all : P (eqb f x) = ⊎_elim (λ (e : eqb f x ≡ true). subst P (sym e) (here e)) (λ (e : eqb f x ≡ false). subst P (sym e) there) (cases_Bool (eqb f x)) in
-    times-cons f x xs ∙ ap (λ b. one_if b + times f xs) (eqb_flip x f) ∙ all
+    times-cons f x xs ∙ ap (λ b. one_if b + times f xs) (eqb_turned x f) ∙ all
 
 apart_from : (x : ℕ) (xs : List ℕ) → AllByRecursion (λ y. eqb x y ≡ false) xs → is_in x xs ≡ false
 apart_from x [] a = refl

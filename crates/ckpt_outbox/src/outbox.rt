@@ -1,5 +1,5 @@
 //! The outbox: files that wait for deletion, and those that were fetched for it.
-ghost use Rattle.std.specs.Prelude.{◌≡◌, ◌≤◌, ◌<◌, ◌+◌, ◌-◌, ◌^◌, ◌↔◌, ◌++◌, ◌∷◌, ℕ, [], true, false, max, min, length, take, drop, slice_get, IsErr, IfOk, OnOk, OnErr};
+ghost use Rattle.std.specs.Prelude.{◌≡◌, ◌≤◌, ◌<◌, ◌+◌, ◌-◌, ◌↔◌, ◌++◌, ◌∷◌, ℕ, [], true, false, max, length, take, drop, slice_get, IsErr, IfOk, OnOk, OnErr};
 ghost use Rattle.std.specs.VecDeque.{deque_capacity};
 ghost use Rattle.ckpt_ids.specs.Ascending.{ascending};
 ghost use Rattle.ckpt_outbox.specs.Queues.{AreDistinct, Queues, is_in, is_known, is_taken, without};

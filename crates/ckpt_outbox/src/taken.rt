@@ -1,5 +1,5 @@
 //! The taken files: a list for contracts, and at run time their number.
-ghost use Rattle.std.specs.Prelude.{◌≡◌, ◌+◌, ◌<◌, ◌^◌, [], ◌∷◌, ◌++◌, true, false, length};
+ghost use Rattle.std.specs.Prelude.{◌≡◌, ◌+◌, ◌<◌, ◌^◌, [], ◌∷◌, ◌++◌, true, length};
 ghost use Rattle.std.specs.Option.{option_map_or};
 ghost use Rattle.ckpt_outbox.specs.Changes.{changed, unchanged};
 ghost use Rattle.ckpt_outbox.specs.Queues.{AreDistinct, is_in, without};

@@ -1,12 +1,11 @@
 //! A record that waits for acknowledgements.
 
-ghost use Rattle.std.specs.Prelude.{◌≡◌, ◌+◌, ◌↔◌, ◌<◌, ◌≤◌, Bool, true, false, not, [], filter, length, Ok, Err, IfOk, IfErr, OnOk, OnErr, IsOk, IsErr, option_copied};
+ghost use Rattle.std.specs.Prelude.{◌≡◌, ◌+◌, ◌↔◌, ◌<◌, ◌≤◌, true, false, [], length, Err, IfOk, IfErr, OnOk, OnErr, IsOk, IsErr, option_copied};
 ghost use Rattle.std.specs.List.{flat_map, insert};
-ghost use Rattle.ckpt_ids.specs.Acknowledged.{put_ack};
 ghost use Rattle.ckpt_ids.specs.Ascending.{ascending_set};
 ghost use Rattle.ckpt_ids.specs.Records.{Record, acknowledged, has_acknowledged, missing, metadata_of};
-ghost use Rattle.ckpt_ids.specs.Shapes.{is_subtask, same_subtask};
-ghost use Rattle.ckpt_pending.specs.Acknowledging.{HasAlready, IsPending, files_from, subtask_of, without_ack};
+ghost use Rattle.ckpt_ids.specs.Shapes.{is_subtask};
+ghost use Rattle.ckpt_pending.specs.Acknowledging.{HasAlready, IsPending, files_from, without_ack};
 
 use crate::done::Done;
 use ckpt_ids::{

@@ -82,6 +82,9 @@ impl<T: Drop> Recent<T> {
     }
 
     /// Puts an item at the end, into reserved room. Takes no memory.
+    ///
+    /// Conditions: [`Recent::make_room`] made room for the item, and the list has fewer than
+    /// 2^64 - 1 items.
     #[inline(always)]
     pub fn push_reserved(&mut self, item: T)
         requires room { 0 < self.old.room }

@@ -1,5 +1,5 @@
 -- What a change of what one record holds does to the uses that the row stands for.
-use Rattle.std.proofs.Common.{◌≡◌, ℕ, ◌+◌, ◌<◌, ◌≤◌, Bool, true, false, not, cond, eqb, ltb, ◌&&◌, ◌||◌, length, get_or, take, map, List, [], ◌∷◌, ◌++◌, refl, sym, ap, subst, ◌∙◌, ⊎_elim, arith, count_by, ◌⊎◌, inl, inr}
+use Rattle.std.proofs.Common.{◌≡◌, ℕ, ◌+◌, ◌<◌, ◌≤◌, Bool, true, false, not, cond, eqb, ltb, ◌&&◌, ◌||◌, length, get_or, take, List, [], ◌∷◌, ◌++◌, refl, sym, ap, subst, ◌∙◌, ⊎_elim, arith, count_by, ◌⊎◌, inl, inr}
 use Rattle.std.specs.List.{filter, flat_map}
 use Rattle.std.proofs.lemmas.Bool.{cases_Bool, cond-true, cond-false, cases_eq, eq-eqb, ne_eqb}
 use Rattle.std.proofs.lemmas.Bool.Decides.{nat_tests}
@@ -9,7 +9,6 @@ use Rattle.std.proofs.lemmas.List.Elements.{filter-append}
 use Rattle.std.proofs.lemmas.Grind.{flat_map-append}
 use Rattle.ckpt_ids.specs.Counting.{times}
 use Rattle.ckpt_ids.specs.Ordered.{IsIn}
-use Rattle.ckpt_ids.specs.Ascending.{IsAscendingSet}
 use Rattle.ckpt_ids.specs.Records.{Use, Subtask, count}
 use Rattle.ckpt_ids.proofs.CountLemmas.{count_by-append, count_by-map, times-append}
 use Rattle.ckpt_ids.proofs.OrderedLemmas.{IsIn-from_flat_map, IsIn-from_map, IsInOrder-filter, filter-all, filter-same, filter-none, filter-filter}
@@ -21,9 +20,6 @@ use Rattle.ckpt_registry.proofs.ListLemmas.{count_by-filter, count_by-filter_le}
 
 abbrev pub number : Holding → ℕ
 number h = h.id
-
-abbrev pub numbers : List Holding → List ℕ
-numbers hs = map number hs
 
 abbrev pub has_id : ℕ → Holding → Bool
 has_id id h = eqb h.id id
@@ -85,13 +81,6 @@ count-parts_of m id f =
 count_by-both : {X : Type 0} (p q : X → Bool) (xs : List X) → count_by p xs ≡ count_by p (filter q xs) + count_by p (filter (λ x. not (q x)) xs)
 count_by-both p q xs = sym (sum_by-filter_both q (λ x. not (q x)) (λ x. refl) (λ x. cond (p x) 1 0) xs)
 
-numbers-filter : (t : ℕ → Bool) (hs : List Holding) → numbers (filter (λ (h : Holding). t h.id) hs) ≡ filter t (numbers hs)
-numbers-filter t [] = refl
-numbers-filter t (h ∷ hs) =
-    let rest : List Holding = filter (λ (o : Holding). t o.id) hs in
-    let Goal : Bool → Type 0 = λ b. numbers (cond b (h ∷ rest) rest) ≡ cond b (h.id ∷ filter t (numbers hs)) (filter t (numbers hs)) in
-    ⊎_elim (λ (e : t h.id ≡ true). subst Goal (sym e) (ap (λ ks. h.id ∷ ks) (numbers-filter t hs))) (λ (e : t h.id ≡ false). subst Goal (sym e) (numbers-filter t hs)) (cases_Bool (t h.id))
-
 -- a record goes
 
 module _ (m n : Acknowledged) (id : ℕ) (gone : n.items ≡ filter (λ (h : Holding). not (eqb h.id id)) m.items) where
@@ -110,7 +99,7 @@ module _ (m n : Acknowledged) (id : ℕ) (gone : n.items ≡ filter (λ (h : Hol
       ap parts_in (ap (filter (has_id d)) gone ∙ filter-filter (has_id d) (λ (h : Holding). not (eqb h.id id)) m.items ∙ filter-same (λ (h : Holding). not (eqb h.id id) && eqb h.id d) (has_id d) m.items other)
 
   pub AreRising-gone : AreRising m.items → AreRising n.items
-  AreRising-gone a = subst AreRising (sym gone) (subst (λ ks. IsAscendingSet ks) (sym (numbers-filter (λ k. not (eqb k id)) m.items)) (IsInOrder-filter ltb (λ k. not (eqb k id)) (numbers m.items) a))
+  AreRising-gone a = subst AreRising (sym gone) (IsInOrder-filter (λ g h. ltb g.id h.id) (λ h. not (eqb h.id id)) m.items a)
 
 -- A record gets more parts. What it held is between the records of other numbers.
 

@@ -10,6 +10,7 @@ use Rattle.std.proofs.lemmas.List.Sums.{sum_by-cons}
 use Rattle.ckpt_ids.specs.Counting.{times}
 use Rattle.ckpt_ids.specs.Ordered.{IsIn}
 use Rattle.ckpt_ids.specs.Records.{Use, Pin, Subtask, count, same_holder}
+use Rattle.ckpt_ids.proofs.ComparisonLemmas.{eqb_turned}
 use Rattle.ckpt_ids.proofs.CountLemmas.{count_by-append, count_by-map, times-append}
 use Rattle.ckpt_ids.proofs.OrderedLemmas.{IsIn-from_filter, IsIn-from_flat_map, IsIn-from_map, IsIn-append_cases, filter-all, filter-none}
 use Rattle.ckpt_registry.specs.declared.holdings.Holding.{Holding}
@@ -94,9 +95,6 @@ AreKept-push m pinned one kept new = λ o h.
     ⊎_elim (λ (k : IsIn o pinned). kept o k) (λ (k : IsIn o (one ∷ [])). ⊎_elim (λ (e : o ≡ one). subst P (sym e) new) (λ (e : ⊥). absurd e) k) (IsIn-append_cases o pinned (one ∷ []) h)
 
 -- some no longer pin
-
-eqb_turned : (x y : ℕ) → eqb x y ≡ eqb y x
-eqb_turned x y = ⊎_elim (λ (e : x ≡ y). eq-eqb x y e ∙ sym (eq-eqb y x (sym e))) (λ (ne : x ≡ y → ⊥). ne_eqb x y ne ∙ sym (ne_eqb y x (λ e. ne (sym e)))) (cases_eq x y)
 
 owned_by_name : (owners : List ℕ) (u : Use) → is_owned owners u ≡ is_named owners u.id
 owned_by_name [] u = refl

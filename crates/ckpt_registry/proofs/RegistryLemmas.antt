@@ -8,6 +8,7 @@ use Rattle.std.specs.Ordering.{nat_cmp}
 use Rattle.std.proofs.lemmas.List.Sorted.{sum_by-IsPermutation}
 use Rattle.std.specs.Map.{lookup, keys_of}
 use Rattle.std.proofs.lemmas.Bool.{and_parts, cases_Bool, cases_lt, both_ways, cond-true, cond-false, ltb-true, ltb-false, lt-ltb, le-ltb, eq-eqb, eqb-true, eqb-false, not-true}
+use Rattle.std.proofs.Math.Bool.{or-false}
 use Rattle.std.proofs.lemmas.List.Elements.{filter-append}
 use Rattle.std.proofs.lemmas.Map.Keys.{IsDistinct-head, IsDistinct-tail}
 use Rattle.indexmap.specs.IndexMap.{index_map_len, IsUnique}
@@ -21,14 +22,14 @@ use Rattle.ckpt_ids.proofs.OrderLemmas.{uses_in_order}
 use Rattle.ckpt_registry.specs.Counters.{Counts, counter, counted_once, AreInRange}
 use Rattle.ckpt_registry.specs.declared.pins.Pinner.{Pinner}
 use Rattle.ckpt_registry.specs.Holdings.{Acknowledged, AreRising, Extends, parts_of, uses_in}
-use Rattle.ckpt_registry.specs.Pins.{IsKept, each_file, pinned_by, pins_in, pins_of_records}
+use Rattle.ckpt_registry.specs.Pins.{AreKept, IsKept, each_file, pinned_by, pins_in, pins_of_records}
 use Rattle.ckpt_registry.specs.Sound.{stored, in_use, AreCounted, StandsOnce, IsSound}
 use Rattle.ckpt_registry.specs.Uses.{IsEachOnce, HasNoUse, triples, files_by, is_owned, is_ended, without, after_end}
 use Rattle.ckpt_registry.specs.Parts.{files_in}
 use Rattle.ckpt_registry.proofs.PinLemmas.{pins_in-extended, pins_in-holder, pins_in-push, uses_in-holder}
-use Rattle.ckpt_registry.proofs.SoundLemmas.{AreCounted-acknowledged, AreCounted-pushed, count-stored, is_present-stored}
+use Rattle.ckpt_registry.proofs.SoundLemmas.{AreCounted-acknowledged, AreCounted-kept, AreCounted-pushed, count-stored, is_present-stored}
 use Rattle.ckpt_registry.proofs.HoldingLemmas.{count-used_by}
-use Rattle.ckpt_registry.proofs.CounterLemmas.{get-from_counter, counted_once-above, counted_once-zero, counted_once-le, above_from_counted_once, zero_from_counted_once}
+use Rattle.ckpt_registry.proofs.CounterLemmas.{AreInRange-unchanged, counter-unchanged, get-from_counter, counted_once-above, counted_once-zero, counted_once-le, above_from_counted_once, zero_from_counted_once}
 use Rattle.ckpt_ids.proofs.CountLemmas.{count_by-cons, count_by-append, count_by-map, counted-from_IsIn, IsIn-from_counted, times-from_IsIn, times_at_most_once, AreDistinct-from_times, IsIn-from_times}
 use Rattle.ckpt_registry.proofs.ListLemmas.{one_if, count_by-in_order_once, in_order_once-filter, count_by-added, in_order_once-added, count_by-filtered}
 use Rattle.ckpt_ids.specs.Counting.{times}
@@ -150,10 +151,6 @@ pub stored-without : (a : Acknowledged) (p : List Pinner) (b : Acknowledged) (q 
 stored-without a p b q owners h k =
     ap (λ us. us ++ pins_in b q) h ∙ ap (λ us. without owners (uses_in a.items) ++ us) k ∙ sym (filter-append (λ u. not (is_owned owners u)) (uses_in a.items) (pins_in a p))
 
-or_none : (x : Bool) → (x || false) ≡ x
-or_none true = refl
-or_none false = refl
-
 stays_other : (x y z : Bool) → z ≡ false → not x ≡ not (x || (y && z))
 stays_other true y z e = refl
 stays_other false true z e = ap not (sym e)
@@ -166,7 +163,7 @@ stays_pin false true z e = ap not (sym e)
 stays_pin false false z e = refl
 
 is_owned-one : (id : ℕ) (u : Use) → is_owned (id ∷ []) u ≡ eqb u.id id
-is_owned-one id u = or_none (eqb u.id id)
+is_owned-one id u = or-false (eqb u.id id)
 
 pub stored-after_end : (a : Acknowledged) (p : List Pinner) (b : Acknowledged) (q : List Pinner) (id : ℕ) (owners : List ℕ)
     → uses_in b.items ≡ without owners (uses_in a.items) → pins_in b q ≡ without owners (without (id ∷ []) (pins_in a p)) → stored b q ≡ after_end id owners (stored a p)
@@ -252,6 +249,21 @@ IsSound-acknowledged a p b m n room left id subtask files s ordered more adds ea
       once = StandsOnce-added a p b p id (Subtask subtask) files added s.once each unused;
       has_room = fits;
     }
+
+-- an acknowledgement ran out of memory, and left the uses as they were
+
+stored-kept : (a : Acknowledged) (p : List Pinner) (b : Acknowledged) → AreKept a p → Extends a b → uses_in b.items ≡ uses_in a.items → stored b p ≡ stored a p
+stored-kept a p b kept more same = ap (λ us. us ++ pins_in b p) same ∙ ap (λ us. uses_in a.items ++ us) (pins_in-extended a b p more kept)
+
+pub in_use-kept : (a : Acknowledged) (p : List Pinner) (b : Acknowledged) → AreKept a p → Extends a b → uses_in b.items ≡ uses_in a.items → in_use b p ≡ in_use a p
+in_use-kept a p b kept more same = ap (in_order_once use_before) (stored-kept a p b kept more same)
+
+pub IsSound-kept : (a : Acknowledged) (p : List Pinner) (b : Acknowledged) (m n : Counts) (room left : ℕ) → IsSound a p m room → AreRising b.items → Extends a b → uses_in b.items ≡ uses_in a.items → n.entries ≡ m.entries → index_map_len n ≤ left → IsSound b p n left
+IsSound-kept a p b m n room left s ordered more same entries fits = record {
+  parts = AreCounted-kept a b p m n more ordered same (counter-unchanged m n entries) (AreInRange-unchanged m n entries s.parts.range) s.parts;
+  once = subst StandsOnce (sym (stored-kept a p b s.parts.kept more same)) s.once;
+  has_room = fits;
+}
 
 module _ (a : Acknowledged) (p : List Pinner) (one : Pinner) (files : List ℕ) (pins : pinned_by a one ≡ files) where
   added-pinned : (t : Use → Bool) → count_by t (stored a (p ++ one ∷ [])) ≡ count_by t (stored a p) + count_by t (triples one.id Pin files)

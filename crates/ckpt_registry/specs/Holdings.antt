@@ -1,10 +1,9 @@
 -- The uses that the row of each record's holdings stands for.
-use Rattle.std.specs.Prelude.{ℕ, ◌+◌, ◌<◌, ◌≤◌, ◌==◌, Bool, List, ◌++◌, count_by, filter, length, map, ◌≡◌}
-use Rattle.std.specs.List.{HoldsAt, flat_map}
-use Rattle.std.specs.List.Sorted.{IsPartitionPoint}
+use Rattle.std.specs.Prelude.{ℕ, ◌+◌, ◌==◌, Bool, List, ◌++◌, count_by, filter, nat_lt, ◌≡◌}
+use Rattle.std.specs.List.{flat_map}
 use Rattle.std.specs.declared.collections.VecDeque.{VecDeque}
 use Rattle.std.specs.declared.alloc.Global.{Global}
-use Rattle.ckpt_ids.specs.Ascending.{IsAscendingSet}
+use Rattle.ckpt_ids.specs.Places.{AreInOrderBy}
 use Rattle.ckpt_ids.specs.Records.{Use, Subtask}
 use Rattle.ckpt_ids.specs.declared.subtask.SubtaskId.{SubtaskId}
 use Rattle.ckpt_registry.specs.declared.holdings.Holding.{Holding}
@@ -17,15 +16,7 @@ Acknowledged = VecDeque Holding Global
 
 -- each number is above all earlier ones
 abbrev pub AreRising : List Holding → Type 0
-AreRising held = IsAscendingSet (map (λ h. h.id) held)
-
--- the record of this number is at this place
-abbrev pub LiesAt : List Holding → ℕ → ℕ → Type 0
-LiesAt held id place = (place < length held) × HoldsAt (λ h. h.id ≡ id) held place
-
--- a record of this number belongs at this place: those before have lower numbers, all others higher ones
-abbrev pub BelongsAt : List Holding → ℕ → ℕ → Type 0
-BelongsAt held id place = (place ≤ length held) × IsPartitionPoint (λ h. h.id < id) (λ h. id < h.id) held place
+AreRising = AreInOrderBy nat_lt (λ h. h.id)
 
 -- what one record uses
 abbrev pub uses_by : ℕ → List Part → List Use

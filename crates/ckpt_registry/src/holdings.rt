@@ -1,8 +1,8 @@
 //! The acknowledgements of each record: a row of records, each with its parts.
-ghost use Rattle.std.specs.Prelude.{◌≡◌, ℕ, ◌<◌, ◌≤◌, ◌==◌, [], filter, insert, length, not, remove, slice_index_or, IfErr, IfNone, IfOk, IfSome, IsSome, OnErr, OnOk};
+ghost use Rattle.std.specs.Prelude.{◌≡◌, ℕ, ◌≤◌, ◌==◌, [], filter, insert, length, not, IfNone, IfSome, OnErr, OnOk};
 ghost use Rattle.ckpt_ids.specs.Counting.{times};
 ghost use Rattle.ckpt_registry.specs.Counters.{counter, AreInRange, AreLowered, HasRoom};
-ghost use Rattle.ckpt_registry.specs.Holdings.{Adds, AreRising, BelongsAt, Extends, LiesAt, parts_of, uses_in, uses_of_ack};
+ghost use Rattle.ckpt_registry.specs.Holdings.{Adds, AreRising, Extends, parts_of, uses_in, uses_of_ack};
 
 use crate::counters::{Counts, lower};
 use crate::parts::Parts;
@@ -54,23 +54,13 @@ pub(crate) fn lower_each(counts: &mut Counts, released: &mut Vec<FileId>, files:
     }
 }
 
-/// The place of a record, or an `Err` with the place where it belongs.
-#[inline(always)]
-fn place_in(acknowledged: &Acknowledged, id: CheckpointId) -> Result<usize, usize>
-    requires { AreRising acknowledged.now.items }
-    ensures found { IfOk result (LiesAt acknowledged.now.items id) }
-    ensures absent { IfErr result (BelongsAt acknowledged.now.items id) }
-{
-    place_of(acknowledged, id)
-}
-
 /// The parts of a record, or `None` if no subtask of it uses a file.
 pub(crate) fn parts_held(acknowledged: &Acknowledged, id: CheckpointId) -> Option<&Parts>
     requires { AreRising acknowledged.now.items }
     ensures some { IfSome result (λ parts. parts.now ≡ parts_of acknowledged.now id) }
     ensures none { IfNone result (parts_of acknowledged.now id ≡ []) }
 {
-    match place_in(acknowledged, id) {
+    match place_of(acknowledged, id) {
         Ok(place) => Some(&acknowledged[place].parts),
         Err(_) => None,
     }
@@ -83,7 +73,7 @@ pub(crate) fn remove(acknowledged: &mut Acknowledged, id: CheckpointId) -> Optio
     ensures parts { IfSome result (λ parts. parts ≡ parts_of acknowledged.old id) }
     ensures none { IfNone result (acknowledged.new.items ≡ acknowledged.old.items) }
 {
-    let Ok(place) = place_in(acknowledged, id) else {
+    let Ok(place) = place_of(acknowledged, id) else {
         return None;
     };
     let holding = take_out(acknowledged, place);
@@ -126,7 +116,7 @@ pub(crate) fn hold(
     if fresh.is_empty() && reused.is_empty() {
         return Ok(());
     }
-    match place_in(acknowledged, id) {
+    match place_of(acknowledged, id) {
         Ok(place) => {
             acknowledged[place].parts.push(subtask, fresh, reused)?;
             Ok(())

@@ -1,6 +1,6 @@
 //! The pins of records: files that they keep present, or a live record whose files they keep
 //! present.
-ghost use Rattle.std.specs.Prelude.{◌≡◌, ℕ, ◌+◌, ◌<◌, ◌≤◌, ◌^◌, ◌&&◌, ◌==◌, [], nat_lt, take, filter, not, vec_len, length, ◌++◌, IfOk, OnOk};
+ghost use Rattle.std.specs.Prelude.{◌≡◌, ℕ, ◌+◌, ◌<◌, ◌≤◌, ◌^◌, [], nat_lt, take, filter, not, length, ◌++◌, IfOk};
 ghost use Rattle.std.specs.Vec.{vec_capacity};
 ghost use Rattle.indexmap.specs.IndexMap.{index_map_len};
 ghost use Rattle.ckpt_ids.specs.Counting.{times};
@@ -34,6 +34,13 @@ pub(crate) struct Pinner {
 }
 
 impl Pinner {
+    /// Whether it pins all files of a live record, which are not counted one by one.
+    fn is_whole(&self) -> bool
+        ensures { result ≡ nat_lt 0 self.now.parts }
+    {
+        self.parts > 0
+    }
+
     /// Whether a file belongs to the live record that is pinned.
     fn pins(&self, acknowledged: &Acknowledged, file: FileId) -> bool
         requires rising { AreRising acknowledged.now.items }
@@ -74,7 +81,7 @@ fn searches(pinned: &[Pinner]) -> usize {
     let mut last = (CheckpointId(0), 0);
     for one in pinned {
         let search = (one.chosen, one.parts);
-        if one.parts > 0 && search != last {
+        if one.is_whole() && search != last {
             count = count.saturating_add(1);
         }
         last = search;
@@ -116,7 +123,7 @@ pub(crate) fn pin_all(
         files: room,
     };
     let is_searched = match pinned.last() {
-        Some(last) => last.parts > 0 && last.chosen == chosen,
+        Some(last) => last.is_whole() && last.chosen == chosen,
         None => false,
     };
     if !is_searched && searches(pinned) >= MOST_SEARCHES {
@@ -216,7 +223,7 @@ pub(crate) fn settle(
     ensures range { AreInRange counts.new }
 {
     for one in pinned.iter_mut() {
-        if one.chosen == chosen && one.parts > 0 {
+        if one.chosen == chosen && one.is_whole() {
             one.take(counts, parts);
         }
     }

@@ -111,8 +111,8 @@ impl Registry {
     /// Adds the uses of the acknowledgement of one subtask: one for each of its files. Fails only
     /// if memory runs out, and then adds none.
     ///
-    /// Conditions: the fresh files have no use yet, the reused ones have, and no file is named
-    /// twice. The subtask has not acknowledged this record.
+    /// Conditions: the fresh files have no use yet, each reused one has 1 to 2^32 - 2, and no file
+    /// is named twice. The subtask has not acknowledged this record.
     pub fn use_files(
         &mut self,
         id: CheckpointId,
@@ -149,7 +149,10 @@ impl Registry {
     }
 
     /// Adds the uses of the acknowledgement of one subtask, whether its files are present or not.
-    /// It serves to fill a registry again. Otherwise it is as [`Registry::use_files`].
+    /// It serves to fill a registry again. Fails only if memory runs out, and then adds none.
+    ///
+    /// Conditions: no file is named twice, and each has at most 2^32 - 2 uses. The subtask has not
+    /// acknowledged this record.
     pub fn hold_files(
         &mut self,
         id: CheckpointId,
@@ -182,7 +185,8 @@ impl Registry {
     /// may have no other use, if the record that used them was dropped after it was pinned. Fails
     /// only if memory runs out, and then adds none.
     ///
-    /// Conditions: each file is named once, and the record has no pins yet.
+    /// Conditions: each file is named once and has at most 2^32 - 2 uses, and the record has no pins
+    /// yet.
     pub fn pin_files(&mut self, id: CheckpointId, files: &Files) -> Result<(), AllocError>
         requires ascending { IsAscendingSet files.now }
         requires below { (f : ℕ) → IsIn f files.now → count self.old f < 2 ^ 32 - 1 }
@@ -211,7 +215,8 @@ impl Registry {
     /// same as [`Registry::pin_files`] with these files, and visits none of them, unless 64 other
     /// records are pinned so. Fails only if memory runs out, and then adds none.
     ///
-    /// Condition: record `id` has no pins yet. The other record may have no use.
+    /// Conditions: record `id` has no pins yet, and each file of the other record has at most
+    /// 2^32 - 2 uses. The other record may have no use.
     pub fn pin_record(&mut self, id: CheckpointId, chosen: CheckpointId) -> Result<(), AllocError>
         requires below { (f : ℕ) → IsIn f (files_by chosen self.old) → count self.old f < 2 ^ 32 - 1 }
         requires unpinned { HasNoUse self.old id Pin }

@@ -1,14 +1,14 @@
 //! The done records: retained checkpoints, savepoints and the base.
 
-ghost use Rattle.std.specs.Prelude.{◌≡◌, ℕ, ◌+◌, ◌-◌, ◌^◌, ◌↔◌, ◌<◌, ◌≤◌, Bool, true, false, not, nat_le, ◌==◌, [], ◌∷◌, ◌++◌, length, drop, filter, Ok, Err, Some, None, OnOk, OnErr};
+ghost use Rattle.std.specs.Prelude.{◌≡◌, ◌+◌, ◌^◌, ◌↔◌, ◌<◌, ◌≤◌, true, false, not, nat_le, ◌==◌, [], ◌∷◌, ◌++◌, length, drop, filter, Err, Some, None, OnOk, OnErr};
 ghost use Rattle.std.specs.List.{find};
 ghost use Rattle.std.specs.Option.{option_copied};
 ghost use Rattle.ckpt_ids.specs.declared.numbers.Kind.TheVariants as kind;
 ghost use Rattle.ckpt_ids.specs.Ordered.{put};
-ghost use Rattle.ckpt_store.specs.Storing.{Stored, IsStored, IsAbove, by_id, has_id, has_savepoint, completing, past_retained, lowest, choice_of, record_of};
+ghost use Rattle.ckpt_store.specs.Storing.{Stored, IsStored, IsAbove, by_id, has_savepoint, completing, past_retained, lowest, choice_of, record_of};
 
 use crate::places::{make_room, place_for};
-use ckpt_ids::{CheckpointId, Choice, Kind, place_of};
+use ckpt_ids::{CheckpointId, Choice, place_of};
 use ckpt_pending::Done;
 use std::alloc::{AllocError, Global};
 use std::collections::VecDeque;
@@ -62,6 +62,8 @@ impl Model for Store {
 
 impl Store {
     /// An empty store that keeps at most this many completed checkpoints. Takes no memory.
+    ///
+    /// Condition: it keeps at least 1.
     pub fn new(alloc: Global, retained: u32) -> Store
         requires { 1 ≤ retained }
         ensures { result ≡ record { retained = retained; checkpoints = []; savepoints = []; base = None; spare = result.spare } }
@@ -98,7 +100,7 @@ impl Store {
         ensures dropped { result ≡ past_retained self.old.retained (self.old.checkpoints ++ done ∷ []) }
         ensures room { self.old.spare ≤ self.new.spare + 1 }
     {
-        // Its contract says that the record is done and full.
+        // Does nothing. Its contract says that the record is done and full.
         let _ = done.id();
         self.clear_base();
         let dropped = if self.checkpoints.len() < self.retained as usize {
@@ -186,6 +188,8 @@ impl Store {
     }
 
     /// The job is rolled back to this savepoint.
+    ///
+    /// Condition: a completed savepoint has this number.
     pub fn set_base(&mut self, id: CheckpointId)
         requires { has_savepoint self.old id ≡ true }
         ensures { self.new ≡ record self.old { base = Some id } }

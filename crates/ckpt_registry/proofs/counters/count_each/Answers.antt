@@ -1,17 +1,14 @@
 -- Answers the goals of `count_each`.
-use Rattle.std.proofs.Common.{◌≡◌, ℕ, ◌+◌, ◌<◌, ◌^◌, List, length, get_or, Some, Option, unwrap_or, sym, ap, subst, ◌∙◌, arith, rules}
+use Rattle.std.proofs.Common.{◌≡◌, ℕ, ◌+◌, ◌<◌, ◌^◌, length, Some, Option, unwrap_or, ap, ◌∙◌, arith, rules}
 use Rattle.std.specs.Result.{IsOk}
 use Rattle.ckpt_ids.specs.Ordered.{IsIn}
-use Rattle.ckpt_ids.proofs.OrderedLemmas.{IsIn-get_or}
+use Rattle.ckpt_ids.proofs.OrderedLemmas.{IsIn-at}
 use Rattle.ckpt_registry.specs.Counters.{Counts, counter}
 use Rattle.ckpt_registry.proofs.CounterLemmas.{Sets, OnOk-at, counter_more, AreInRange-set, length_more, times_through}
 use Rattle.ckpt_registry.proofs.counters.count_each.Goals as goal
 
 abbrev value_of : Option ℕ → ℕ
 value_of o = unwrap_or o 0
-
-file_in : (xs : List ℕ) (i x : ℕ) → i < length xs → x ≡ get_or xs i x → IsIn x xs
-file_in xs i x within at = let P : ℕ → Type 0 = λ y. IsIn y xs in subst P (sym at) (IsIn-get_or xs i x within)
 
 pub overflow_add-count : goal.overflow_add-count
 overflow_add-count c =
@@ -20,7 +17,7 @@ overflow_add-count c =
     let file : ℕ = c.file-item.result in
     let within : i < length files = c.loop-file-test.true in
     let had : c.unwrap_or-count.result ≡ counter c.loop-file.counts file = c.unwrap_or-count.ensures ∙ ap value_of (c.copied.ensures ∙ c.get.ensures.value) in
-    let among : IsIn file files = file_in files i file within c.file-item.is in
+    let among : IsIn file files = IsIn-at files i file within c.file-item.is in
     let small : c.unwrap_or-count.result + 1 < 2 ^ 32 = omega (arith, had, c.loop-file.invariant.counted file, c.requires.fits file among, times_through files i file within c.file-item.is) in
     search rules
 
@@ -35,7 +32,7 @@ loop-file-preserved c =
     let before = c.loop-file.invariant in
     let within : i < length files = c.loop-file-test.true in
     let had : v ≡ counter m file = c.unwrap_or-count.ensures ∙ ap value_of (c.copied.ensures ∙ c.get.ensures.value) in
-    let among : IsIn file files = file_in files i file within c.file-item.is in
+    let among : IsIn file files = IsIn-at files i file within c.file-item.is in
     let small : v + 1 < 2 ^ 32 = omega (arith, had, before.counted file, c.requires.fits file among, times_through files i file within c.file-item.is) in
     let ok : IsOk c.insert.result = c.insert.ensures.succeeds (omega (arith, before.room)) in
     let sets : Sets m n file (Some (v + 1)) = (OnOk-at c.insert.result _ ok c.insert.ensures.updates).0 in

@@ -1,8 +1,8 @@
 -- Answers the goals of `count_reused`.
-use Rattle.std.proofs.Common.{◌≡◌, ℕ, ◌+◌, ◌<◌, ◌^◌, List, length, get_or, Some, Option, unwrap_or, sym, ap, subst, ◌∙◌, arith, rules}
+use Rattle.std.proofs.Common.{◌≡◌, ℕ, ◌+◌, ◌<◌, ◌^◌, length, Some, Option, unwrap_or, sym, ap, subst, ◌∙◌, arith, rules}
 use Rattle.std.specs.Option.{is_some}
 use Rattle.ckpt_ids.specs.Ordered.{IsIn}
-use Rattle.ckpt_ids.proofs.OrderedLemmas.{IsIn-get_or}
+use Rattle.ckpt_ids.proofs.OrderedLemmas.{IsIn-at}
 use Rattle.indexmap.specs.IndexMap.{index_map_len}
 use Rattle.ckpt_registry.specs.Counters.{Counts, counter}
 use Rattle.ckpt_registry.proofs.CounterLemmas.{Sets, counter_more, AreInRange-set, times_through}
@@ -13,9 +13,6 @@ abbrev value_of : Option ℕ → ℕ
 value_of o = unwrap_or o 0
 
 -- the counter of the file of this turn, and its bound
-file_in : (xs : List ℕ) (i x : ℕ) → i < length xs → x ≡ get_or xs i x → IsIn x xs
-file_in xs i x within at = let P : ℕ → Type 0 = λ y. IsIn y xs in subst P (sym at) (IsIn-get_or xs i x within)
-
 pub overflow_add-count : goal.overflow_add-count
 overflow_add-count c =
     let files = c.args.files.now in
@@ -23,7 +20,7 @@ overflow_add-count c =
     let file : ℕ = c.file-item.result in
     let within : i < length files = c.loop-file-test.true in
     let had : c.in-Some.count.now ≡ counter c.loop-file.counts file = ap value_of c.in-Some.ensures.value in
-    let among : IsIn file files = file_in files i file within c.file-item.is in
+    let among : IsIn file files = IsIn-at files i file within c.file-item.is in
     let small : c.in-Some.count.now + 1 < 2 ^ 32 = omega (arith, c.loop-file.invariant.counted file, c.requires.fits file among, times_through files i file within c.file-item.is) in
     search rules
 
@@ -35,7 +32,7 @@ loop-file-preserved c =
     let m = c.loop-file.counts in
     let before = c.loop-file.invariant in
     let within : i < length files = c.loop-file-test.true in
-    let among : IsIn file files = file_in files i file within c.file-item.is in
+    let among : IsIn file files = IsIn-at files i file within c.file-item.is in
     elim c.match-get_mut.branch [
       | in-Some w ↦
           let v : ℕ = w.in-Some.count.now in

@@ -1,18 +1,20 @@
 -- Answers the goals of `hold`.
-use Rattle.std.proofs.Common.{◌≡◌, ℕ, ◌+◌, ◌<◌, Bool, List, [], ◌∷◌, ◌++◌, length, get_or, suc, take, drop, ◌⊎◌, refl, sym, ap, subst, ◌∙◌, ⊎_elim, count_by}
-use Rattle.std.specs.List.Sorted.{IsPartitionPoint}
+use Rattle.std.proofs.Common.{◌≡◌, ℕ, ◌+◌, ◌<◌, Bool, List, [], ◌∷◌, ◌++◌, length, get_or, ltb, suc, take, drop, ◌⊎◌, refl, sym, ap, subst, ◌∙◌, ⊎_elim, count_by}
 use Rattle.std.specs.VecDeque.{deque_with_item}
 use Rattle.std.proofs.lemmas.List.{append-nil, set_split, take-append-drop}
 use Rattle.ckpt_ids.specs.Ordered.{IsIn}
+use Rattle.ckpt_ids.specs.Places.{BelongsAt}
 use Rattle.ckpt_ids.specs.Records.{Use, Subtask}
+use Rattle.ckpt_ids.proofs.AscendingLemmas.{numbers_in_order}
 use Rattle.ckpt_ids.proofs.OrderedLemmas.{IsIn-append_left, IsIn-append_right}
+use Rattle.ckpt_ids.proofs.PlaceLemmas.{apart_from}
 use Rattle.ckpt_ids.proofs.ResultLemmas.{on_each_error}
 use Rattle.ckpt_registry.specs.declared.holdings.Holding.{Holding}
 use Rattle.ckpt_registry.specs.Holdings.{Acknowledged, AreRising, Extends, uses_by, uses_in}
 use Rattle.ckpt_registry.specs.Uses.{triples}
 use Rattle.ckpt_registry.specs.Parts.{Part, files_of}
 use Rattle.ckpt_registry.proofs.HoldingLemmas.{Extends-grown, number, parts_in, uses-grown, uses-same}
-use Rattle.ckpt_registry.proofs.PlaceLemmas.{apart_at, apart_from, rising_insert, rising_same, split_at}
+use Rattle.ckpt_registry.proofs.PlaceLemmas.{apart_at, rising_insert, rising_same, split_at}
 use Rattle.ckpt_registry.proofs.holdings.hold.Goals as goal
 
 -- a record that holds parts gets more
@@ -24,7 +26,7 @@ module _ (m : Acknowledged) (id place : ℕ) (h : Holding) (v : List Part) (more
   after = deque_with_item m place new
 
   had : m.items ≡ take place m.items ++ ((h ∷ []) ++ drop (suc place) m.items)
-  had = split_at id place m.items h within is
+  had = split_at place m.items h within is
 
   has : after.items ≡ take place m.items ++ new ∷ drop (suc place) m.items
   has = set_split m.items place new within
@@ -36,10 +38,10 @@ module _ (m : Acknowledged) (id place : ℕ) (h : Holding) (v : List Part) (more
   parts = grown ∙ ap (λ ps. ps ++ more) (sym (append-nil h.parts))
 
   pushed_ordered : AreRising after.items
-  pushed_ordered = subst (λ hs. AreRising hs) (sym has) (rising_same id place m.items h within is new a refl)
+  pushed_ordered = subst (λ hs. AreRising hs) (sym has) (rising_same place m.items h within is new a refl)
 
   pushed_extends : Extends m after
-  pushed_extends = Extends-grown m after id (take place m.items) (h ∷ []) (drop (suc place) m.items) new more had has own all parts (apart_at id place m.items h within is a own)
+  pushed_extends = Extends-grown m after id (take place m.items) (h ∷ []) (drop (suc place) m.items) new more had has own all parts (λ x side e. apart_at place m.items h within is a x side (e ∙ sym own))
 
   pushed_uses : (p : Use → Bool) → count_by p (uses_in after.items) ≡ count_by p (uses_in m.items) + count_by p (uses_by id more)
   pushed_uses = uses-grown m after id (take place m.items) (h ∷ []) (drop (suc place) m.items) new more had has own all parts
@@ -90,12 +92,12 @@ returns-in_ok-push-in-Ok-clause-ok c = λ p.
     ∙ ap (λ (us : List Use). count_by p (uses_in m.items) + count_by p us) (append-nil (triples c.args.id (Subtask c.args.subtask) (files_of part)))
 
 -- a record that holds nothing gets its first part
-module _ (m n : Acknowledged) (place : ℕ) (new : Holding) (more : List Part) (parted : IsPartitionPoint (λ h. h.id < new.id) (λ h. new.id < h.id) m.items place) (has : n.items ≡ take place m.items ++ new ∷ drop place m.items) (is : new.parts ≡ more) where
+module _ (m n : Acknowledged) (place : ℕ) (new : Holding) (more : List Part) (belongs : BelongsAt ltb number new.id m.items place) (has : n.items ≡ take place m.items ++ new ∷ drop place m.items) (is : new.parts ≡ more) where
   inserted_extends : Extends m n
   inserted_extends =
       let apart : (x : Holding) → IsIn x (take place m.items) ⊎ IsIn x (drop place m.items) → x.id ≡ new.id → ⊥ = λ x side.
       let among : IsIn x (take place m.items ++ drop place m.items) = ⊎_elim (λ (k : IsIn x (take place m.items)). IsIn-append_left x (take place m.items) (drop place m.items) k) (λ (k : IsIn x (drop place m.items)). IsIn-append_right x (take place m.items) (drop place m.items) k) side in
-      apart_from new.id place m.items parted x (subst (λ hs. IsIn x hs) (take-append-drop place m.items) among) in
+      apart_from number numbers_in_order new.id m.items place belongs x (subst (λ hs. IsIn x hs) (take-append-drop place m.items) among) in
       Extends-grown m n new.id (take place m.items) [] (drop place m.items) new more (sym (take-append-drop place m.items)) has refl (λ x k. absurd k) is apart
 
   inserted_uses : (p : Use → Bool) → count_by p (uses_in n.items) ≡ count_by p (uses_in m.items) + count_by p (uses_by new.id more)
@@ -103,14 +105,13 @@ module _ (m n : Acknowledged) (place : ℕ) (new : Holding) (more : List Part) (
 
 pub returns-in_ok-add-in-Err-clause-ordered : goal.returns-in_ok-add-in-Err-clause-ordered
 returns-in_ok-add-in-Err-clause-ordered c =
-    let absent = c.in-Err.ensures.absent in
     let new : Holding = record { id = c.args.id; parts = c.replace-parts.result } in
-    subst (λ hs. AreRising hs) (sym c.in_ok-add-in-Err.ensures.ok) (rising_insert new c.args.acknowledged.now.items c.in-Err.place c.requires.ordered absent.0 absent.1)
+    subst (λ hs. AreRising hs) (sym c.in_ok-add-in-Err.ensures.ok) (rising_insert new c.args.acknowledged.now.items c.in-Err.place c.requires.ordered c.in-Err.ensures.absent)
 
 pub returns-in_ok-add-in-Err-clause-extends : goal.returns-in_ok-add-in-Err-clause-extends
 returns-in_ok-add-in-Err-clause-extends c =
     let new : Holding = record { id = c.args.id; parts = c.replace-parts.result } in
-    inserted_extends c.args.acknowledged.now c.add.new.acknowledged c.in-Err.place new _ c.in-Err.ensures.absent.1 c.in_ok-add-in-Err.ensures.ok refl
+    inserted_extends c.args.acknowledged.now c.add.new.acknowledged c.in-Err.place new _ c.in-Err.ensures.absent c.in_ok-add-in-Err.ensures.ok refl
 
 pub returns-in_ok-add-in-Err-clause-ok : goal.returns-in_ok-add-in-Err-clause-ok
 returns-in_ok-add-in-Err-clause-ok c = λ p.
@@ -118,5 +119,5 @@ returns-in_ok-add-in-Err-clause-ok c = λ p.
     let part : Part = record { subtask = c.args.subtask; fresh = c.args.fresh.now; reused = c.args.reused.now } in
     let new : Holding = record { id = c.args.id; parts = c.replace-parts.result } in
     let one : new.parts ≡ part ∷ [] = c.replace-parts.ensures.value ∙ c.in_ok-push-in-Err.ensures.ok ∙ ap (λ (ps : List Part). ps ++ part ∷ []) c.requires.spare in
-    inserted_uses m c.add.new.acknowledged c.in-Err.place new (part ∷ []) c.in-Err.ensures.absent.1 c.in_ok-add-in-Err.ensures.ok one p
+    inserted_uses m c.add.new.acknowledged c.in-Err.place new (part ∷ []) c.in-Err.ensures.absent c.in_ok-add-in-Err.ensures.ok one p
     ∙ ap (λ (us : List Use). count_by p (uses_in m.items) + count_by p us) (append-nil (triples c.args.id (Subtask c.args.subtask) (files_of part)))

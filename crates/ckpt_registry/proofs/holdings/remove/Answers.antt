@@ -1,27 +1,22 @@
 -- Answers the goals of `remove`.
 use Rattle.std.proofs.Common.{eqb, not, ap, sym, ◌∙◌}
 use Rattle.std.proofs.lemmas.Bool.{ne_eqb}
+use Rattle.ckpt_ids.proofs.AscendingLemmas.{numbers_in_order}
 use Rattle.ckpt_ids.proofs.OrderedLemmas.{filter-all}
+use Rattle.ckpt_ids.proofs.PlaceLemmas.{apart_from}
 use Rattle.ckpt_registry.specs.declared.holdings.Holding.{Holding}
 use Rattle.ckpt_registry.proofs.HoldingLemmas.{number}
-use Rattle.ckpt_registry.proofs.PlaceLemmas.{apart_from, parts_found, remove_found}
+use Rattle.ckpt_registry.proofs.PlaceLemmas.{parts_found, remove_found}
 use Rattle.ckpt_registry.proofs.holdings.remove.Goals as goal
 
 pub returns-in_default-clause-gone : goal.returns-in_default-clause-gone
 returns-in_default-clause-gone c =
     let hs = c.args.acknowledged.now.items in
-    sym (filter-all (λ (h : Holding). not (eqb h.id c.args.id)) hs (λ h k. ap not (ne_eqb h.id c.args.id (apart_from c.args.id c.in_default.field-0 hs c.in_default.ensures.absent.1 h k))))
+    sym (filter-all (λ (h : Holding). not (eqb h.id c.args.id)) hs (λ h k. ap not (ne_eqb h.id c.args.id (apart_from number numbers_in_order c.args.id hs c.in_default.field-0 c.in_default.ensures.absent h k))))
 
 pub returns-clause-gone : goal.returns-clause-gone
-returns-clause-gone c =
-    let found = c.in-Ok.ensures.found in
-    let at = c.take_out-holding.ensures in
-    let h = c.take_out-holding.result in
-    at.rest ∙ remove_found c.args.id c.in-Ok.place c.args.acknowledged.now.items h found.0 at.value c.requires (ap number at.value ∙ found.1 h)
+returns-clause-gone c = c.take_out-holding.ensures.rest ∙ remove_found c.args.id c.in-Ok.place c.args.acknowledged.now.items c.requires c.in-Ok.ensures.found
 
 pub returns-clause-parts : goal.returns-clause-parts
 returns-clause-parts c =
-    let found = c.in-Ok.ensures.found in
-    let at = c.take_out-holding.ensures in
-    let h = c.take_out-holding.result in
-    sym (parts_found c.args.id c.in-Ok.place c.args.acknowledged.now.items h found.0 at.value c.requires (ap number at.value ∙ found.1 h))
+    sym (parts_found c.args.id c.in-Ok.place c.args.acknowledged.now.items c.requires c.in-Ok.ensures.found c.take_out-holding.result c.take_out-holding.ensures.value)

@@ -1,6 +1,6 @@
 -- Answers the goals of `settle`.
 use Rattle.std.proofs.Common.{◌≡◌, ℕ, ◌+◌, ◌<◌, ◌≤◌, List, ◌++◌, cond, eqb, length, get_or, take, drop, set, ap, sym, subst, ◌∙◌, refl, inl, inr, arith, length-append}
-use Rattle.std.proofs.lemmas.Bool.{eqb-true, eqb-false, cond-true}
+use Rattle.std.proofs.lemmas.Bool.{eqb-true, eqb-false, ltb-true, ltb-false, cond-true}
 use Rattle.std.proofs.lemmas.List.{append-nil, take_all, drop_all, set-get_or}
 use Rattle.std.proofs.lemmas.List.Sums.{sum_by_more, sum_by-take-le}
 use Rattle.indexmap.specs.IndexMap.{index_map_len}
@@ -11,7 +11,7 @@ use Rattle.ckpt_registry.specs.Counters.{Counts, counter, AreInRange}
 use Rattle.ckpt_registry.specs.Pins.{AreSettled, IsKept, IsSettled, IsTaken, each_file, pins_on}
 use Rattle.ckpt_registry.proofs.PinLemmas.{item_left, left_more, pins_on-none, settled_more}
 use Rattle.ckpt_registry.proofs.pins.settle.Goals as goal
-use Rattle.ckpt_registry.proofs.pins.settle.Goals.{then-eq+then-one-gt0, else-eq, else-eq-via-then-eq+else-one-gt0, else-eq-via-else-eq}
+use Rattle.ckpt_registry.proofs.pins.settle.Goals.{then-eq+then-is_whole, else-eq, else-eq-via-then-eq+else-is_whole, else-eq-via-else-eq}
 
 pub take-requires-clause-kept : goal.take-requires-clause-kept
 take-requires-clause-kept c =
@@ -25,6 +25,9 @@ take-requires-clause-kept c =
     let P : Pinner → Type 0 = λ x. IsKept c.args.parts.now x in
     let on : (get_or now i d).chosen ≡ c.args.chosen = eqb-true (get_or now i d).chosen c.args.chosen (sym c.eq.ensures ∙ c.if-eq.true) in
     subst P (sym same) (c.requires.kept (get_or old i d) (IsIn-get_or old i d (omega (arith, within, before.same_length))) (ap (λ (x : Pinner). x.chosen) (sym same) ∙ on))
+
+pub take-requires-clause-pins : goal.take-requires-clause-pins
+take-requires-clause-pins c = ltb-true 0 (get_or c.loop-one.one-items c.loop-one.one-index c.one-item.result).parts (sym c.is_whole.ensures ∙ c.if-is_whole.true)
 
 pub take-requires-clause-fits : goal.take-requires-clause-fits
 take-requires-clause-fits c = λ f.
@@ -67,12 +70,12 @@ loop-one-preserved c =
     let P : List Pinner → Type 0 = λ xs. AreSettled c.args.chosen parts (take (i + 1) old) (take (i + 1) xs) in
     (subst P (sym is) (settled_more c.args.chosen parts old now i d within before.same_length before.left (get_or now i d) before.settled new), ap (drop (i + 1)) is ∙ left_more c.args.chosen parts old now i d within before.same_length before.left (get_or now i d)) in
     elim c.if-eq.branch [
-      | then-eq+then-one-gt0 w ↦
+      | then-eq+then-is_whole w ↦
           let y = w.take.new.self in
           let on_it : (get_or now i d).chosen ≡ c.args.chosen = eqb-true (get_or now i d).chosen c.args.chosen (sym c.eq.ensures ∙ w.if-eq.true) in
           let T : Pinner → Type 0 = λ o. IsTaken parts o y in
           let N : Pinner → Type 0 = λ o. 0 < o.parts in
-          let new : IsSettled c.args.chosen parts (get_or old i d) y = inl (ap (λ (x : Pinner). x.chosen) (sym same) ∙ on_it, subst N same w.if-one-gt0.true, subst T same w.take.ensures.taken) in
+          let new : IsSettled c.args.chosen parts (get_or old i d) y = inl (ap (λ (x : Pinner). x.chosen) (sym same) ∙ on_it, subst N same (ltb-true 0 (get_or now i d).parts (sym w.is_whole.ensures ∙ w.if-is_whole.true)), subst T same w.take.ensures.taken) in
           let P : List Pinner → Type 0 = λ xs. AreSettled c.args.chosen parts (take (i + 1) old) (take (i + 1) xs) in
           let counts : (f : ℕ) → counter c.if-eq.counts f ≡ counter w.take.new.counts f = λ f. ap (λ (m : Counts). counter m f) w.counts-is in
           let here : (f : ℕ) → on (get_or old i d) f ≡ times f (each_file (take (get_or now i d).parts parts)) = λ f. ap (λ o. on o f) (sym same) ∙ cond-true (eqb (get_or now i d).chosen c.args.chosen) (times f (each_file (take (get_or now i d).parts parts))) 0 (sym c.eq.ensures ∙ w.if-eq.true) in
@@ -92,7 +95,7 @@ loop-one-preserved c =
           let entries : index_map_len c.if-eq.counts ≡ index_map_len c.loop-one.counts = ap (λ (m : Counts). index_map_len m) w.counts-is in
           let none : (c.if-eq.one-items ≡ now) × ((get_or old i d).chosen ≡ c.args.chosen → (get_or old i d).parts ≡ 0) =
           elim w.else-eq.branch [
-            | else-eq-via-then-eq+else-one-gt0 v ↦ (w.one-items-is ∙ v.one-items-is ∙ set-get_or now i d, λ e. let moved : (get_or now i d).parts ≡ (get_or old i d).parts = ap (λ (x : Pinner). x.parts) same in omega (arith, v.if-one-gt0.false, moved))
+            | else-eq-via-then-eq+else-is_whole v ↦ (w.one-items-is ∙ v.one-items-is ∙ set-get_or now i d, λ e. let moved : (get_or now i d).parts ≡ (get_or old i d).parts = ap (λ (x : Pinner). x.parts) same in omega (arith, ltb-false 0 (get_or now i d).parts (sym v.is_whole.ensures ∙ v.if-is_whole.false), moved))
             | else-eq-via-else-eq v ↦ (w.one-items-is ∙ v.one-items-is ∙ set-get_or now i d, λ e. absurd (eqb-false (get_or now i d).chosen c.args.chosen (sym c.eq.ensures ∙ v.if-eq.false) (ap (λ (x : Pinner). x.chosen) same ∙ e)))
           ] in
           let after = stays c.if-eq.one-items none.0 (inr (same, none.1)) in

@@ -1,5 +1,5 @@
 -- Answers the goals of `Pending::retract`.
-use Rattle.std.proofs.Common.{◌≡◌, ◌∙◌, ℕ, ◌+◌, ◌<◌, ◌≤◌, ◌↔◌, true, not, refl, sym, ap, subst, List, length, Option, Some, None, IsSome, OnSome, Result, Ok, Err, IfOk, IfErr, IsOk, arith, rules}
+use Rattle.std.proofs.Common.{◌≡◌, ◌∙◌, ℕ, ◌+◌, ◌<◌, ◌≤◌, ◌↔◌, true, not, refl, sym, ap, subst, List, length, Option, IsSome, OnSome, Result, Ok, Err, IfOk, IfErr, IsOk, arith, rules}
 use Rattle.std.specs.List.{filter, remove}
 use Rattle.std.proofs.lemmas.Bool.{both_ways}
 use Rattle.ckpt_ids.specs.declared.subtask.SubtaskId.{SubtaskId}

@@ -13,12 +13,11 @@ use Rattle.ckpt_registry.specs.declared.pins.Pinner.{Pinner}
 use Rattle.ckpt_registry.specs.Counters.{counter}
 use Rattle.ckpt_registry.specs.Holdings.{uses_in, Adds}
 use Rattle.ckpt_registry.specs.Pins.{pins_in}
-use Rattle.ckpt_registry.specs.Sound.{in_use, stored, StandsOnce}
+use Rattle.ckpt_registry.specs.Sound.{in_use}
 use Rattle.ckpt_registry.specs.Uses.{HasNoUse, triples}
-use Rattle.ckpt_registry.proofs.CounterLemmas.{AreInRange-unchanged, counter-unchanged}
+use Rattle.ckpt_registry.proofs.CounterLemmas.{counter-unchanged}
 use Rattle.ckpt_registry.proofs.PinLemmas.{pins_in-extended}
-use Rattle.ckpt_registry.proofs.RegistryLemmas.{IsSound-acknowledged, below-in_use, below_more, count-in_use, in_use-added, stored-acknowledged}
-use Rattle.ckpt_registry.proofs.SoundLemmas.{AreCounted-kept}
+use Rattle.ckpt_registry.proofs.RegistryLemmas.{IsSound-acknowledged, IsSound-kept, below-in_use, below_more, count-in_use, in_use-added, in_use-kept, stored-acknowledged}
 use Rattle.ckpt_registry.proofs.registry.Registry.hold_files.Goals as goal
 
 pub count_each-requires-clause-fits : goal.count_each-requires-clause-fits
@@ -41,29 +40,15 @@ count_each-requires-clause-fits c = λ f h.
 pub invariant_of-self-in_err-hold : goal.invariant_of-self-in_err-hold
 invariant_of-self-in_err-hold c =
     let r = c.self.inside in
-    let p : List Pinner = r.pinned.items in
-    let held = c.hold.new.acknowledged in
     let e = c.in_err-hold.ensures in
-    let same : stored held p ≡ stored r.acknowledged p = ap (λ us. us ++ pins_in held p) e.err ∙ ap (λ us. uses_in r.acknowledged.items ++ us) (pins_in-extended r.acknowledged held p e.extends c.self.invariant.0.parts.kept) in
-    let entries : index_map_len c.reserve.new.self ≡ index_map_len r.counts = ap (λ (es : List (ℕ × ℕ)). length es) c.in_ok-reserve.ensures.entries in (
-      record {
-        parts = AreCounted-kept r.acknowledged held p r.counts c.reserve.new.self e.extends e.ordered e.err (counter-unchanged r.counts c.reserve.new.self c.in_ok-reserve.ensures.entries)
-            (AreInRange-unchanged r.counts c.reserve.new.self c.in_ok-reserve.ensures.entries c.self.invariant.0.parts.range) c.self.invariant.0.parts;
-        once = subst StandsOnce (sym same) c.self.invariant.0.once;
-        has_room = omega (arith, entries, c.in_ok-reserve.ensures.ok, c.len.ensures, c.capacity.ensures, c.in_ok-reserve-2.ensures.ok);
-      },
-      e.spare,
-      c.self.invariant.2,
-    )
+    let fits : index_map_len c.reserve.new.self ≤ vec_capacity c.reserve-2.new.self = omega (arith, c.in_ok-reserve.ensures.ok, c.len.ensures, c.capacity.ensures, c.in_ok-reserve-2.ensures.ok) in
+    (IsSound-kept r.acknowledged r.pinned.items c.hold.new.acknowledged r.counts c.reserve.new.self (vec_capacity r.released) (vec_capacity c.reserve-2.new.self) c.self.invariant.0 e.ordered e.extends e.err c.in_ok-reserve.ensures.entries fits, e.spare, c.self.invariant.2)
 
 pub returns-in_err-hold-clause-err : goal.returns-in_err-hold-clause-err
 returns-in_err-hold-clause-err c =
     let r = c.self.inside in
-    let p : List Pinner = r.pinned.items in
-    let held = c.hold.new.acknowledged in
     let e = c.in_err-hold.ensures in
-    let same : stored held p ≡ stored r.acknowledged p = ap (λ us. us ++ pins_in held p) e.err ∙ ap (λ us. uses_in r.acknowledged.items ++ us) (pins_in-extended r.acknowledged held p e.extends c.self.invariant.0.parts.kept) in
-    on_each_error c.from_residual-in_err-hold.result _ (ap (in_order_once use_before) same ∙ c.self.view_is)
+    on_each_error c.from_residual-in_err-hold.result _ (in_use-kept r.acknowledged r.pinned.items c.hold.new.acknowledged c.self.invariant.0.parts.kept e.extends e.err ∙ c.self.view_is)
 
 pub invariant_of-self-2 : goal.invariant_of-self-2
 invariant_of-self-2 c =

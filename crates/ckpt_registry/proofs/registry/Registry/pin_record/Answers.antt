@@ -1,8 +1,9 @@
 -- Answers the goals of `Registry::pin_record`.
-use Rattle.std.proofs.Common.{refl, ◌≡◌, ℕ, ◌+◌, ◌<◌, ◌^◌, ◌-◌, ◌++◌, List, [], ◌∷◌, length, take, sym, ap, subst, ◌∙◌, arith}
+use Rattle.std.proofs.Common.{◌≡◌, ℕ, ◌+◌, ◌<◌, ◌^◌, ◌-◌, ◌++◌, List, [], ◌∷◌, take, sym, ap, subst, ◌∙◌, arith}
 use Rattle.std.specs.Vec.{vec_capacity}
 use Rattle.std.specs.declared.alloc.Global.{Global}
 use Rattle.std.specs.declared.vec.Vec.{Vec}
+use Rattle.std.proofs.lemmas.List.{nil_from_length}
 use Rattle.ckpt_ids.specs.Counting.{times}
 use Rattle.ckpt_ids.specs.Ordered.{IsIn, in_order_once}
 use Rattle.ckpt_ids.specs.Records.{Use, Pin, count, use_before}
@@ -16,10 +17,6 @@ use Rattle.ckpt_registry.specs.Parts.{Part, files_in}
 use Rattle.ckpt_registry.proofs.HoldingLemmas.{count-parts_of}
 use Rattle.ckpt_registry.proofs.RegistryLemmas.{IsEachOnce-files_by, IsSound-pinned, below-in_use, below_more, count-in_use, files_by-in_use, in_use-none, in_use-pinned}
 use Rattle.ckpt_registry.proofs.registry.Registry.pin_record.Goals as goal
-
-no_parts : (ps : List Part) → length ps ≡ 0 → ps ≡ []
-no_parts [] e = refl
-no_parts (p ∷ ps) e = absurd (omega (arith, e))
 
 -- no file of the record has as many uses as a counter can have
 fits : (a : Acknowledged) (p : List Pinner) (us : List Use) (chosen : ℕ) → in_use a p ≡ us → ((f : ℕ) → count (in_use a p) f < 2 ^ 32) → ((f : ℕ) → IsIn f (files_by chosen us) → count us f < 2 ^ 32 - 1) → (f : ℕ) → count (in_use a p) f + times f (files_by chosen us) < 2 ^ 32
@@ -40,7 +37,7 @@ pub returns-in_default-clause-ok : goal.returns-in_default-clause-ok
 returns-in_default-clause-ok c = none_pinned c.self.inside.acknowledged c.self.inside.pinned.items c.args.self.now c.args.id c.args.chosen c.self.view_is c.in_default.ensures.none
 
 pub returns-then-len-eq0-clause-ok : goal.returns-then-len-eq0-clause-ok
-returns-then-len-eq0-clause-ok c = none_pinned c.self.inside.acknowledged c.self.inside.pinned.items c.args.self.now c.args.id c.args.chosen c.self.view_is (sym c.in-Some.ensures.some ∙ no_parts c.in-Some.parts.now (omega arith))
+returns-then-len-eq0-clause-ok c = none_pinned c.self.inside.acknowledged c.self.inside.pinned.items c.args.self.now c.args.id c.args.chosen c.self.view_is (sym c.in-Some.ensures.some ∙ nil_from_length c.in-Some.parts.now (omega arith))
 
 pub pin_all-one-requires-clause-present : goal.pin_all-one-requires-clause-present
 pin_all-one-requires-clause-present c = λ f h.
