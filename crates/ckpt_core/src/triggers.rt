@@ -119,6 +119,7 @@ impl Parts {
         requires { length (records_in self.old) < 2 ^ 32 }
         ensures room { OnOk result (length (records_in self.old) + 1 ≤ vec_capacity self.new.ended) }
         ensures parts { self.new ≡ record self.old { ended = self.new.ended } }
+        ensures state { state_of self.new ≡ state_of self.old }
         ensures noted { self.new.ended.items ≡ self.old.ended.items }
         ensures capacity { vec_capacity self.old.ended ≤ vec_capacity self.new.ended }
     {

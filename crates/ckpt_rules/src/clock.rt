@@ -65,6 +65,8 @@ impl Clock {
 
     /// A clock with these moments: the greatest one seen, the one before which no checkpoint
     /// starts, and the last completion since the job was started, if there was one.
+    ///
+    /// Condition: each is within its limit, so that a sum with a duration fits 64 bits.
     pub fn of(latest: u64, due: u64, completed: Option<u64>) -> Clock
         requires { IsInRange (record { latest = latest; due = due; completed = completed }) }
         ensures { result ≡ record { latest = latest; due = due; completed = completed } }

@@ -185,9 +185,6 @@ undone_state p x added pending us sound new after removed same =
     ap (λ ps. record p { pending = ps; registry = us }) (removed ∙ ap (filter (λ r. not (eqb r.id p.next))) after ∙ trigger_undone p sound x new)
     ∙ ap (λ vs. record p { registry = vs }) same
 
-pub ended_state : (p q : Parts) → q ≡ record p { ended = q.ended } → state_of q ≡ state_of p
-ended_state p q e = ap state_of e ∙ state-ended p q.ended
-
 -- the record that a trigger makes
 pub made_record : (p : Parts) (kind : Kind) (shape : List ℕ) (started : ℕ) (x : Record) → x ≡ record { id = p.next; kind = kind; done = false; shape = shape; started = started; acks = []; pins = [] } → shape ≡ unwrap_or p.reshaped p.opened.shape → started ≡ max 0 p.clock.latest → x ≡ new_record p kind
 made_record p kind shape started x e s t =

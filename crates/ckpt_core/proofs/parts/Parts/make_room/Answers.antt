@@ -3,6 +3,7 @@ use Rattle.std.proofs.Common.{arith}
 use Rattle.std.proofs.lemmas.Result.{on_ok_weaker}
 use Rattle.ckpt_core.proofs.Records.Lookups.{length-records_of}
 use Rattle.ckpt_core.proofs.parts.Parts.make_room.Goals as goal
+use Rattle.ckpt_core.proofs.Triggering.TriggerParts.{state-ended}
 
 pub overflow_add-live : goal.overflow_add-live
 overflow_add-live c = let p = c.args.self.now in omega (arith, length-records_of p.registry p.pending p.store.checkpoints p.store.savepoints, c.requires)
@@ -17,3 +18,6 @@ pub returns-clause-room : goal.returns-clause-room
 returns-clause-room c =
     let p = c.args.self.now in
     on_ok_weaker c.reserve.result (λ h. omega (arith, length-records_of p.registry p.pending p.store.checkpoints p.store.savepoints, h)) c.reserve.ensures.ok
+
+pub returns-clause-state : goal.returns-clause-state
+returns-clause-state c = state-ended c.args.self.now c.reserve.new.self
