@@ -1,9 +1,10 @@
 -- The parts after each call are those of the lemmas.
-use Rattle.std.proofs.Common.{◌≡◌, ◌∙◌, Some, ap, sym, subst}
+use Rattle.std.proofs.Common.{◌≡◌, ◌∙◌, ap, sym, subst}
+use Rattle.std.proofs.lemmas.Option.{same_Some}
 use Rattle.std.specs.Prelude.{find, slice_get}
 use Rattle.ckpt_ids.specs.Ordered.{IsInOrder}
 use Rattle.ckpt_ids.specs.Places.{LiesAt}
-use Rattle.ckpt_ids.specs.Records.{Record, missing}
+use Rattle.ckpt_ids.specs.Records.{missing}
 use Rattle.ckpt_store.specs.Storing.{has_id, id_of}
 use Rattle.ckpt_store.proofs.RowLemmas.{find-place}
 use Rattle.ckpt_core.specs.Inside.Completing.{IsMissing}
@@ -63,9 +64,6 @@ found c =
 pub finish-done-requires-clause-there : goal.finish-done-requires-clause-there
 finish-done-requires-clause-there c = (lies (goal.at.finish-done-requires-clause-there c).After-finish-arg-1).0
 
-same_found : (a b : Record) → Some a ≡ Some b → a ≡ b
-same_found a b e = cc
-
 pub finish-done-requires-clause-full : goal.finish-done-requires-clause-full
 finish-done-requires-clause-full c = λ r e.
     let at = (goal.at.finish-done-requires-clause-full c).After-finish-arg-1 in
@@ -74,7 +72,7 @@ finish-done-requires-clause-full c = λ r e.
     (taking_from c.args.now c.args.subtask c.args.fresh.now c.args.reused.now (roomier at) c.requires.sound c.requires.accepted
     c.in_ok-take_ack.ensures.pending c.in_ok-take_ack.ensures.in_order c.in_ok-take_ack.ensures.stored c.requires.last)
     c.requires.last.counted c.in_ok-take_ack.ensures.ok in
-    let same : none.lacking ≡ r = same_found none.lacking r (sym none.found ∙ sym (found at) ∙ e) in
+    let same : none.lacking ≡ r = same_Some none.lacking r (sym none.found ∙ sym (found at) ∙ e) in
     ap missing (sym same) ∙ none.counted
 
 -- the record is complete once its last acknowledgement is taken and it is taken out
