@@ -47,14 +47,6 @@ use Rattle.ckpt_core.proofs.Stepping.Acknowledged.{acknowledged_is_taken, acked_
 done_not_pending : (r : Record) → r.done ≡ true → is_pending r ≡ false
 done_not_pending r done = ap not done
 
--- a failed job does not run
-failed_not_running : Failed ≡ Running → ⊥
-failed_not_running e = cc
-
--- nor does a cancelled one
-cancelled_not_running : Cancelled ≡ Running → ⊥
-cancelled_not_running e = cc
-
 -- failing over, whatever the failures
 failed_over_is : (m : State) (call : Call) (failures : ℕ) → IsPlain m call (failed_over (record m { failures = failures })) []
 unfolding failed_over drop
@@ -63,7 +55,7 @@ failed_over_is m call failures = dropped_is m call (record (settings m) { mode =
   savepoints = λ _ r _ done _. inl (done_not_pending r done);
   base = λ s. s.base;
   idle = λ _. inr (λ r e. e);
-  failures = λ _ e. absurd (failed_not_running e);
+  failures = λ _ e. absurd (cc);
 })
 
 -- a start, or what holds it back
@@ -191,7 +183,7 @@ cancel_is m call = dropped_is m call (record (settings m) { mode = Cancelled; ba
   savepoints = λ _ r _ done savepoint. inl (done_savepoint_stays r (not m.opening.config.keep_on_cancel) done savepoint);
   base = λ _ id e. absurd (cc);
   idle = λ _. inr (λ r e. or_left (is_pending r) (r.done && is_checkpoint r && not m.opening.config.keep_on_cancel) e);
-  failures = λ _ e. absurd (cancelled_not_running e);
+  failures = λ _ e. absurd (cc);
 })
 
 -- an acknowledgement that is taken registers its fresh files
