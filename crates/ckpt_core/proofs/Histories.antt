@@ -11,5 +11,4 @@ pub mod Replays
 pub mod Savepoints
 pub mod Spreads
 pub mod StepBalances
-pub mod StepViews
 pub mod Takings

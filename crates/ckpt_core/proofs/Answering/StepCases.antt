@@ -1,11 +1,11 @@
 -- A step is a refusal, or the effect of the call.
-use Rattle.std.proofs.Common.{◌≡◌, ap, Some, None}
+use Rattle.std.proofs.Common.{◌≡◌, refl, ap, Option, Some, None}
 use Rattle.ckpt_ids.specs.declared.call.Call.{Call}
 use Rattle.ckpt_ids.specs.declared.reply.Refusal.{Refusal}
 use Rattle.ckpt_ids.specs.declared.reply.Answer.TheVariants.{Refused}
 use Rattle.ckpt_core.specs.State.{State}
 use Rattle.ckpt_core.specs.Refusals.{refusal, moment_of}
-use Rattle.ckpt_core.specs.Steps.{effect, at_moment, unless_refused, step}
+use Rattle.ckpt_core.specs.Steps.{Stepped, effect, at_moment, unless_refused, step}
 
 pub step_refused : (m : State) (call : Call) (why : Refusal) → refusal m call ≡ Some why → step m call ≡ (m, Refused why)
 unfolding step
@@ -14,3 +14,12 @@ step_refused m call why e = ap (unless_refused m call) e
 pub step_accepted : (m : State) (call : Call) → refusal m call ≡ None → step m call ≡ effect (at_moment m (moment_of call)) call
 unfolding step
 step_accepted m call e = ap (unless_refused m call) e
+
+-- what holds of a refusal and of the effect holds of the step
+pub step_by : (m : State) (call : Call) (P : Stepped → Type 0) → ((why : Refusal) → refusal m call ≡ Some why → P (m, Refused why)) → (refusal m call ≡ None → P (effect (at_moment m (moment_of call)) call)) → P (step m call)
+unfolding step
+step_by m call P refused accepted = by_refusal (refusal m call) refl
+  where
+    by_refusal : (o : Option Refusal) → refusal m call ≡ o → P (unless_refused m call o)
+    by_refusal None e = accepted e
+    by_refusal (Some why) e = refused why e

@@ -1,8 +1,9 @@
 -- The acknowledgements of a live record are exactly the accepted ones of its number.
 use Rattle.std.proofs.Common.{◌≡◌, ℕ, ◌<◌, ◌≤◌, ◌&&◌, eqb, List, [], ◌∷◌, ◌++◌, refl, sym, ap, subst, ◌∙◌, inl, inr, ⊎_elim, arith}
-use Rattle.std.specs.Prelude.{Option, None}
+use Rattle.std.specs.Prelude.{Option}
 use Rattle.std.proofs.lemmas.Bool.{and_from, and_left, and_right, eq-eqb, ne_eqb, cond-true, cond-false}
 use Rattle.std.proofs.lemmas.List.{append-nil, append_assoc}
+use Rattle.ckpt_ids.specs.declared.subtask.SubtaskId.{SubtaskId}
 use Rattle.ckpt_ids.specs.declared.ack.Acked.{Acked}
 use Rattle.ckpt_ids.specs.declared.call.Call.{Call}
 use Rattle.ckpt_ids.specs.declared.call.Call.TheVariants.{Ack}
@@ -15,12 +16,13 @@ use Rattle.ckpt_core.specs.State.{State, Opening, opened}
 use Rattle.ckpt_core.specs.Steps.{step}
 use Rattle.ckpt_core.specs.Histories.{replay}
 use Rattle.ckpt_core.specs.Soundness.{IsSound}
-use Rattle.ckpt_core.specs.Laws.{CanOpen, AreCalls, Part, ack_of, is_ack_taken, along, accepted_by, Acknowledgements}
+use Rattle.ckpt_core.specs.Laws.{CanOpen, AreCalls, is_ack_taken, along, accepted_by, Acknowledgements}
 use Rattle.ckpt_core.proofs.Acknowledging.Records.{new_subtask}
 use Rattle.ckpt_core.proofs.Reordering.ExchangeLemmas.{acks_commute}
-use Rattle.ckpt_core.proofs.Histories.Moves.{IsMoved, IsTriggered, moved_from, disposed_of, IsNoAck}
+use Rattle.ckpt_core.proofs.Histories.Moves.{IsMoved, IsTriggered, moved_from}
 use Rattle.ckpt_core.proofs.Histories.Takings.{IsTaken, taken_from, taken_id}
-use Rattle.ckpt_core.proofs.Histories.StepViews.{step_moves, IsPassedOver, IsTakenBy, ack_seen}
+use Rattle.ckpt_core.proofs.Stepping.Changes.{IsPassedOver, IsTakenBy, passed_moves}
+use Rattle.ckpt_core.proofs.Stepping.Walk.{step_is}
 use Rattle.ckpt_core.proofs.Histories.Numbers.{next_rises}
 use Rattle.ckpt_core.proofs.Soundness.Calls.{step_keeps}
 use Rattle.ckpt_core.proofs.Soundness.Histories.{opening_is_sound, replay_is_sound}
@@ -40,19 +42,14 @@ pub record AreAccepted (m : State) (so_far : ℕ → List Acked) : Type 0 where
 abbrev and_then : (ℕ → List Acked) → State → Call → ℕ → List Acked
 and_then so_far m call id = so_far id ++ accepted_by id m call
 
--- a call that is no acknowledgement adds none
-none_accepted : (id : ℕ) (m : State) (call : Call) → IsNoAck call → accepted_by id m call ≡ []
-none_accepted id m (Ack now its_id subtask fresh reused) n = absurd n
-none_accepted id m call n = refl
-
 -- if none is added, they stay
 as_before : (so_far : ℕ → List Acked) (id : ℕ) (m : State) (call : Call) → accepted_by id m call ≡ [] → so_far id ≡ and_then so_far m call id
 as_before so_far id m call none = sym (ap (λ xs. so_far id ++ xs) none ∙ append-nil (so_far id))
 
--- a call that is no acknowledgement
-moved_accepted : (m : State) (call : Call) (d : Option ℕ) (so_far : ℕ → List Acked) → IsNoAck call → IsMoved m d (step m call).0.records → AreAccepted m so_far → AreAccepted (step m call).0 (and_then so_far m call)
-moved_accepted m call d so_far n i a =
-    let same : (id : ℕ) → so_far id ≡ and_then so_far m call id = λ id. as_before so_far id m call (none_accepted id m call n) in
+-- a call that adds none
+moved_accepted : (m : State) (call : Call) {d : Option ℕ} (so_far : ℕ → List Acked) → ((id : ℕ) → accepted_by id m call ≡ []) → IsMoved m d (step m call).0.records → AreAccepted m so_far → AreAccepted (step m call).0 (and_then so_far m call)
+moved_accepted m call so_far none i a =
+    let same : (id : ℕ) → so_far id ≡ and_then so_far m call id = λ id. as_before so_far id m call (none id) in
     record {
       live = λ r h.
           ⊎_elim
@@ -63,30 +60,25 @@ moved_accepted m call d so_far n i a =
     }
 
 -- an acknowledgement that changes no record
-passed_accepted : (m : State) (now id : ℕ) (p : Part) (so_far : ℕ → List Acked) → IsPassedOver m now id p → AreAccepted m so_far → AreAccepted (step m (ack_of now id p)).0 (and_then so_far m (ack_of now id p))
-passed_accepted m now id p so_far i a =
-    let call : Call = ack_of now id p in
-    let its : Acked = record { subtask = p.subtask; files = ascending (p.fresh ++ p.reused) } in
-    let none : (k : ℕ) → accepted_by k m call ≡ [] = λ k. cond-false (eqb id k && is_ack_taken (step m call).1) (its ∷ []) [] (and_right (eqb id k) (is_ack_taken (step m call).1) i.not_taken) in
-    let same : (k : ℕ) → so_far k ≡ and_then so_far m call k = λ k. as_before so_far k m call (none k) in
-    let There : Record → List Record → Type 0 = λ r rs. IsIn r rs in
-    record {
-      live = λ r h. a.live r (subst (There r) i.records h) ∙ ap (in_order acknowledges_before) (same r.id);
-      later = λ k h. sym (same k) ∙ a.later k (let up : m.next ≤ ((step m call).0).next = next_rises m call in omega arith);
-    }
+passed_accepted : (m : State) (now id : ℕ) (subtask : SubtaskId) (fresh reused : List ℕ) (so_far : ℕ → List Acked) → IsPassedOver m (step m (Ack now id subtask fresh reused)) → AreAccepted m so_far → AreAccepted (step m (Ack now id subtask fresh reused)).0 (and_then so_far m (Ack now id subtask fresh reused))
+passed_accepted m now id subtask fresh reused so_far i a =
+    let call : Call = Ack now id subtask fresh reused in
+    let its : Acked = record { subtask = subtask; files = ascending (fresh ++ reused) } in
+    moved_accepted m call so_far (λ k. cond-false (eqb id k && is_ack_taken (step m call).1) (its ∷ []) [] (and_right (eqb id k) (is_ack_taken (step m call).1) i.not_taken)) (passed_moves i) a
 
 -- an acknowledgement that is taken by a pending record
-taken_accepted : (m : State) (now id : ℕ) (p : Part) (q : Record) (so_far : ℕ → List Acked) → IsSound m → IsTakenBy m now id p q → AreAccepted m so_far → AreAccepted (step m (ack_of now id p)).0 (and_then so_far m (ack_of now id p))
-taken_accepted m now id p q so_far s i a =
-    let call : Call = ack_of now id p in
-    let its : Acked = record { subtask = p.subtask; files = ascending (p.fresh ++ p.reused) } in
-    let t : IsTaken m q its (step m call).0.records = i.taken in
+taken_accepted : (m : State) (now id : ℕ) (subtask : SubtaskId) (fresh reused : List ℕ) (so_far : ℕ → List Acked) → IsSound m → IsTakenBy m id subtask fresh reused (step m (Ack now id subtask fresh reused)) → AreAccepted m so_far → AreAccepted (step m (Ack now id subtask fresh reused)).0 (and_then so_far m (Ack now id subtask fresh reused))
+taken_accepted m now id subtask fresh reused so_far s i a =
+    let call : Call = Ack now id subtask fresh reused in
+    let its : Acked = record { subtask = subtask; files = ascending (fresh ++ reused) } in
+    let q : Record = i.q in
+    let t : IsTaken m.records q its (step m call).0.records = i.taken in
     let there : IsIn q m.records = (i.acking).there in
     let passes : (k : ℕ) → k ≡ id → accepted_by k m call ≡ its ∷ [] = λ k e. cond-true (eqb id k && is_ack_taken (step m call).1) (its ∷ []) [] (and_from (eqb id k) (is_ack_taken (step m call).1) (eq-eqb id k (sym e)) i.is_taken) in
     let other : (k : ℕ) → (k ≡ id → ⊥) → accepted_by k m call ≡ [] = λ k ne. cond-false (eqb id k && is_ack_taken (step m call).1) (its ∷ []) [] (and_left (eqb id k) (is_ack_taken (step m call).1) (ne_eqb id k (λ e. ne (sym e)))) in
     let is_new : (x : Acked) → IsIn x (so_far q.id) → x.subtask ≡ its.subtask → ⊥ = λ x h e.
     let In : List Acked → Type 0 = λ xs. IsIn x xs in
-    new_subtask q p.subtask x (i.acking).first (subst In (sym (a.live q there)) (IsIn-in_order acknowledges_before x (so_far q.id) h)) (sym e) in
+    new_subtask q subtask x (i.acking).first (subst In (sym (a.live q there)) (IsIn-in_order acknowledges_before x (so_far q.id) h)) (sym e) in
     let new_id : (t.new).id ≡ q.id = taken_id t there in
     let of_new : (t.new).acks ≡ in_order acknowledges_before (and_then so_far m call (t.new).id) =
     t.acks ∙ ap (put_ack its) (a.live q there) ∙ sym (in_order_push its (so_far q.id) is_new) ∙ ap (λ xs. in_order acknowledges_before (so_far q.id ++ xs)) (sym (passes q.id i.its_id)) ∙ ap (λ k. in_order acknowledges_before (and_then so_far m call k)) (sym new_id) in
@@ -107,12 +99,11 @@ taken_accepted m now id p q so_far s i a =
 -- each call
 step_accepts : (m : State) (call : Call) (so_far : ℕ → List Acked) → IsSound m → AreAccepted m so_far → AreAccepted (step m call).0 (and_then so_far m call)
 step_accepts m (Ack now id subtask fresh reused) so_far s a =
-    let p : Part = record { subtask = subtask; fresh = fresh; reused = reused } in
     ⊎_elim
-    (λ (i : IsPassedOver m now id p). passed_accepted m now id p so_far i a)
-    (λ (i : (q : Record) × IsTakenBy m now id p q). taken_accepted m now id p i.0 so_far s i.1 a)
-    (ack_seen m now id p s)
-step_accepts m call so_far s a = ⊎_elim (λ i. moved_accepted m call None so_far tt i a) (λ i. moved_accepted m call (disposed_of call) so_far tt i.1 a) (step_moves m call s tt)
+    (λ i. passed_accepted m now id subtask fresh reused so_far i a)
+    (λ i. taken_accepted m now id subtask fresh reused so_far s i a)
+    ((step_is m (Ack now id subtask fresh reused)).records s)
+step_accepts m call so_far s a = moved_accepted m call so_far (λ _. refl) ((step_is m call).records s) a
 
 -- each list of calls
 acks_along : (m : State) (calls : List Call) (so_far : ℕ → List Acked) → IsSound m → AreCalls calls → AreAccepted m so_far → (r : Record) → IsIn r (replay m calls).records → r.acks ≡ in_order acknowledges_before (so_far r.id ++ along (accepted_by r.id) m calls)

@@ -6,7 +6,9 @@ use Rattle.std.proofs.lemmas.Bool.{not_from_false}
 use Rattle.std.proofs.lemmas.List.{append-nil, append_assoc, map-id}
 use Rattle.ckpt_ids.specs.declared.numbers.Kind.{Kind}
 use Rattle.ckpt_ids.specs.declared.call.Call.{Call}
-use Rattle.ckpt_ids.specs.declared.call.Call.TheVariants.{Ack, Dispose}
+use Rattle.ckpt_ids.specs.declared.call.Call.TheVariants.{Dispose}
+use Rattle.ckpt_ids.specs.declared.reply.Answer.{Answer}
+use Rattle.ckpt_ids.specs.declared.reply.Answer.TheVariants.{Refused}
 use Rattle.ckpt_ids.specs.Ordered.{IsIn}
 use Rattle.ckpt_ids.specs.Records.{Record}
 use Rattle.ckpt_ids.proofs.OrderedLemmas.{IsIn-append_left, IsIn-append_cases}
@@ -39,14 +41,14 @@ moved_from {m} {disposed} {after} i y h =
     let old : IsIn y left → IsIn y m.records = λ (k : IsIn y left). let x = IsIn-from_changed (λ (r : Record). r) i.keep y m.records k in let P : Record → Type 0 = λ z. IsIn z m.records in subst P (sym x.3) x.1 in
     ⊎_elim (λ k. inl (old k)) (λ k. inr (i.triggered y k)) (IsIn-append_cases y left i.new (subst There i.records h))
 
--- a done savepoint is there after, unless it is the one disposed
-pub savepoint_moved : {m : State} {disposed : Option ℕ} {after : List Record} → IsMoved m disposed after → (r : Record) → IsIn r m.records → r.done ≡ true → is_checkpoint r ≡ false → IsIn r after ⊎ (disposed ≡ Some r.id)
-savepoint_moved {m} {disposed} {after} i r h done savepoint =
+-- a done savepoint is there after, if it is not the one disposed of
+pub savepoint_moved : {m : State} {disposed : Option ℕ} {after : List Record} → IsMoved m disposed after → (r : Record) → IsIn r m.records → r.done ≡ true → is_checkpoint r ≡ false → (disposed ≡ Some r.id → ⊥) → IsIn r after
+savepoint_moved {m} {disposed} {after} i r h done savepoint other =
     let There : List Record → Type 0 = λ rs. IsIn r rs in
     let left : List Record = map (λ r. r) (filter i.keep m.records) in
     ⊎_elim
-    (λ (k : i.keep r ≡ true). inl (subst There (sym i.records) (IsIn-append_left r left i.new (IsIn-changed (λ (x : Record). x) i.keep r m.records h k))))
-    (λ (k : disposed ≡ Some r.id). inr k)
+    (λ (k : i.keep r ≡ true). subst There (sym i.records) (IsIn-append_left r left i.new (IsIn-changed (λ (x : Record). x) i.keep r m.records h k)))
+    (λ (k : disposed ≡ Some r.id). absurd (other k))
     (i.savepoints r h done savepoint)
 
 -- nothing is done to the records
@@ -96,12 +98,12 @@ moves_at m latest disposed after i = record {
   savepoints = i.savepoints;
 }
 
--- the number that a call disposes of
+-- the number that a call disposes of, if it is accepted
 abbrev pub disposed_of : Call → Option ℕ
 disposed_of (Dispose id) = Some id
 disposed_of call = None
 
--- a call that is no acknowledgement
-abbrev pub IsNoAck : Call → Type 0
-IsNoAck (Ack now id subtask fresh reused) = ⊥
-IsNoAck call = Unit {0}
+-- and with this answer
+abbrev pub disposed_by : Call → Answer → Option ℕ
+disposed_by (Dispose id) (Refused why) = None
+disposed_by call answer = disposed_of call

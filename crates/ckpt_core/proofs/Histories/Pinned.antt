@@ -12,15 +12,16 @@ use Rattle.ckpt_ids.specs.Records.{Record, uses, is_present, has_acknowledged}
 use Rattle.ckpt_ids.specs.Shapes.{is_subtask}
 use Rattle.ckpt_core.specs.State.{State, Opening, opened, is_pending, is_known, choice_of, chosen, files_of, pins_now}
 use Rattle.ckpt_core.specs.Refusals.{refusal, refuse_if, first_some, has_repeats, pending_of, was_not_given, is_foreign, is_repeat, named, where_pending}
-use Rattle.ckpt_core.specs.Steps.{step}
+use Rattle.ckpt_core.specs.Steps.{Stepped, step}
 use Rattle.ckpt_core.specs.Histories.{replay}
 use Rattle.ckpt_core.specs.Soundness.{IsSound, IsCall}
-use Rattle.ckpt_core.specs.Laws.{CanOpen, AreCalls, Part, given_by, Pinned}
+use Rattle.ckpt_core.specs.Laws.{CanOpen, AreCalls, given_by, Pinned}
 use Rattle.ckpt_core.proofs.Records.Counts.{IsIn-from_find}
 use Rattle.ckpt_core.proofs.Using.Present.{present-from_IsHeld}
-use Rattle.ckpt_core.proofs.Histories.Moves.{IsMoved, IsTriggered, moved_from, disposed_of}
+use Rattle.ckpt_core.proofs.Histories.Moves.{IsMoved, IsTriggered, moved_from}
 use Rattle.ckpt_core.proofs.Histories.Takings.{taken_from, taken_id}
-use Rattle.ckpt_core.proofs.Histories.StepViews.{step_moves, IsPassedOver, IsTakenBy, ack_seen}
+use Rattle.ckpt_core.proofs.Stepping.Changes.{IsPassedOver, IsTakenBy, passed_moves}
+use Rattle.ckpt_core.proofs.Stepping.Walk.{step_is}
 use Rattle.ckpt_core.proofs.Histories.Numbers.{step_gives, next_rises}
 use Rattle.ckpt_core.proofs.Soundness.Calls.{step_keeps}
 use Rattle.ckpt_core.proofs.Soundness.Histories.{replay_is_sound}
@@ -31,29 +32,26 @@ pub record HasPins (m : State) (number : ℕ) (pins : List ℕ) : Type 0 where
   pub has : (y : Record) → IsIn y m.records → y.id ≡ number → y.done ≡ false → y.pins ≡ pins
 
 -- what a step leaves of the pending records: they were there with their pins, or were triggered
-abbrev Came : State → State → Type 0
-Came m n = (y : Record) → IsIn y n.records → y.done ≡ false → ((x : Record) × IsIn x m.records × (x.done ≡ false) × (y.id ≡ x.id) × (y.pins ≡ x.pins)) ⊎ IsTriggered m y
+abbrev Came : State → List Record → Type 0
+Came m after = (y : Record) → IsIn y after → y.done ≡ false → ((x : Record) × IsIn x m.records × (x.done ≡ false) × (y.id ≡ x.id) × (y.pins ≡ x.pins)) ⊎ IsTriggered m y
 
--- a call that is no acknowledgement
-moved_came : (m : State) (d : Option ℕ) (n : State) → IsMoved m d n.records → Came m n
-moved_came m d n i y h e = ⊎_elim (λ (k : IsIn y m.records). inl (y, k, e, refl, refl)) (λ (k : IsTriggered m y). inr k) (moved_from i y h)
+-- if the step drops some and triggers some
+moved_came : {m : State} {d : Option ℕ} {after : List Record} → IsMoved m d after → Came m after
+moved_came {m} i y h e = ⊎_elim (λ (k : IsIn y m.records). inl (y, k, e, refl, refl)) (λ (k : IsTriggered m y). inr k) (moved_from i y h)
 
 -- each call
-step_came : (m : State) (call : Call) → IsSound m → Came m (step m call).0
+step_came : (m : State) (call : Call) → IsSound m → Came m (step m call).0.records
 step_came m (Ack now id subtask fresh reused) s y h e =
-    let p : Part = record { subtask = subtask; fresh = fresh; reused = reused } in
-    let Goal : Type 0 = ((x : Record) × IsIn x m.records × (x.done ≡ false) × (y.id ≡ x.id) × (y.pins ≡ x.pins)) ⊎ IsTriggered m y in
-    let There : List Record → Type 0 = λ rs. IsIn y rs in
-    let same : IsPassedOver m now id p → Goal = λ (i : IsPassedOver m now id p). inl (y, subst There i.records h, e, refl, refl) in
-    let taken : (q : Record) × IsTakenBy m now id p q → Goal = λ (i : (q : Record) × IsTakenBy m now id p q).
-    let t = (i.1).taken in
-    let a = (i.1).acking in
+    let x : Stepped = step m (Ack now id subtask fresh reused) in
+    let taken : IsTakenBy m id subtask fresh reused x → Came m x.0.records = λ (i : IsTakenBy m id subtask fresh reused x) y h e.
+    let t = i.taken in
+    let a = i.acking in
     ⊎_elim
-    (λ (k : y ≡ t.new). inl (i.0, a.there, a.pending, ap (λ z. z.id) k ∙ taken_id t a.there, ap (λ z. z.pins) k ∙ t.pins (ap (λ z. z.done) (sym k) ∙ e)))
-    (λ (k : (y.id ≡ (i.0).id → ⊥) × IsIn y m.records). inl (y, k.1, e, refl, refl))
+    (λ (k : y ≡ t.new). inl (i.q, a.there, a.pending, ap (λ z. z.id) k ∙ taken_id t a.there, ap (λ z. z.pins) k ∙ t.pins (ap (λ z. z.done) (sym k) ∙ e)))
+    (λ (k : (y.id ≡ (i.q).id → ⊥) × IsIn y m.records). inl (y, k.1, e, refl, refl))
     (taken_from t y h) in
-    ⊎_elim same taken (ack_seen m now id p s)
-step_came m call s y h e = ⊎_elim (λ i. moved_came m None (step m call).0 i y h e) (λ i. moved_came m (disposed_of call) (step m call).0 i.1 y h e) (step_moves m call s tt)
+    ⊎_elim (λ (i : IsPassedOver m x). moved_came (passed_moves i)) taken ((step_is m (Ack now id subtask fresh reused)).records s) y h e
+step_came m call s y h e = moved_came ((step_is m call).records s) y h e
 
 -- the pins stay as long as the record is pending: through one call
 step_has_pins : (m : State) (call : Call) (number : ℕ) (pins : List ℕ) → IsSound m → HasPins m number pins → HasPins (step m call).0 number pins

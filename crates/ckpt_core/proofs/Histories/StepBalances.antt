@@ -5,12 +5,12 @@ use Rattle.std.proofs.lemmas.Bool.{cond-true}
 use Rattle.ckpt_ids.specs.declared.call.Call.{Call}
 use Rattle.ckpt_ids.specs.declared.call.Call.TheVariants.{Ack, Deleted, Undeleted}
 use Rattle.ckpt_ids.specs.Ordered.{IsIn}
-use Rattle.ckpt_ids.specs.Records.{Record, uses, is_present}
+use Rattle.ckpt_ids.specs.Records.{uses, is_present}
 use Rattle.ckpt_core.specs.State.{State, is_known}
 use Rattle.ckpt_core.specs.Steps.{step}
 use Rattle.ckpt_core.specs.Soundness.{IsSound}
-use Rattle.ckpt_core.specs.Laws.{Part, ack_of, is_ack_taken, one_if, registered_by, handed_by, deleted_by, new_by}
-use Rattle.ckpt_core.proofs.Histories.StepViews.{IsPassedOver, IsTakenBy, ack_seen}
+use Rattle.ckpt_core.specs.Laws.{is_ack_taken, one_if, registered_by, handed_by, deleted_by, new_by}
+use Rattle.ckpt_core.proofs.Stepping.Changes.{IsPassedOver, IsTakenBy}
 use Rattle.ckpt_core.proofs.Stepping.Files.{registers, hands, deletes, IsSettled}
 use Rattle.ckpt_core.proofs.Stepping.Walk.{registered_taken, step_is}
 use Rattle.ckpt_ids.specs.Counting.{times}
@@ -45,19 +45,18 @@ present_before false b c n k e t = let one : one_if b ≡ 1 = ap one_if t in let
 -- through each call
 pub newly_present : (m : State) (call : Call) (f : ℕ) → IsSound m → is_present (uses (step m call).0.records) f ≡ true → IsIn f (new_by m call) ⊎ (is_present (uses m.records) f ≡ true)
 newly_present m (Ack now id subtask fresh reused) f s h =
-    let p : Part = record { subtask = subtask; fresh = fresh; reused = reused } in
-    let call : Call = ack_of now id p in
+    let call : Call = Ack now id subtask fresh reused in
     let Goal : Type 0 = IsIn f (new_by m call) ⊎ (is_present (uses m.records) f ≡ true) in
-    let passed : IsPassedOver m now id p → Goal = λ (i : IsPassedOver m now id p). inr (ap (λ rs. is_present (uses rs) f) (sym i.records) ∙ h) in
-    let taken : (q : Record) × IsTakenBy m now id p q → Goal = λ (i : (q : Record) × IsTakenBy m now id p q).
-    let registered : registered_by m call ≡ fresh = registered_taken (step m call).1 fresh (filter (λ g. not (is_known m g)) fresh) (i.1).is_taken in
-    let new : new_by m call ≡ fresh = cond-true (is_ack_taken (step m call).1) fresh [] (i.1).is_taken in
+    let passed : IsPassedOver m (step m call) → Goal = λ (i : IsPassedOver m (step m call)). inr (ap (λ rs. is_present (uses rs) f) (sym i.records) ∙ h) in
+    let taken : IsTakenBy m id subtask fresh reused (step m call) → Goal = λ (i : IsTakenBy m id subtask fresh reused (step m call)).
+    let registered : registered_by m call ≡ fresh = registered_taken (step m call).1 fresh (filter (λ g. not (is_known m g)) fresh) i.is_taken in
+    let new : new_by m call ≡ fresh = cond-true (is_ack_taken (step m call).1) fresh [] i.is_taken in
     let In : List ℕ → Type 0 = λ xs. IsIn f xs in
     ⊎_elim
     (λ (k : 0 < times f (registered_by m call)). inl (subst In (registered ∙ sym new) (IsIn-from_times f (registered_by m call) k)))
     (λ (k : is_present (uses m.records) f ≡ true). inr k)
     (present_before (is_present (uses m.records) f) (is_present (uses (step m call).0.records) f) true (times f (registered_by m call)) (times f (handed_by m call)) ((step_settled m call s).even f) h) in
-    ⊎_elim passed taken (ack_seen m now id p s)
+    ⊎_elim passed taken ((step_is m call).records s)
 newly_present m call f s h =
     ⊎_elim (λ (k : 0 < 0). absurd (omega arith)) (λ (k : is_present (uses m.records) f ≡ true). inr k)
     (present_before (is_present (uses m.records) f) (is_present (uses (step m call).0.records) f) true 0 (times f (handed_by m call)) ((step_settled m call s).even f) h)

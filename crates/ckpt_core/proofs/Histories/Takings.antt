@@ -17,45 +17,45 @@ use Rattle.ckpt_core.proofs.Soundness.Acks.{IsAcking, with_ack, nothing_dropped}
 use Rattle.ckpt_core.proofs.Soundness.Completions.{completed, having, ending, staying, left_by, left_is}
 
 -- one acknowledgement more in a pending record
-pub record IsTaken (m : State) (q : Record) (a : Acked) (after : List Record) : Type 0 where
+pub record IsTaken (rs : List Record) (q : Record) (a : Acked) (after : List Record) : Type 0 where
   pub change : Record → Record
   pub keep : Record → Bool
   pub new : Record
-  pub records : after ≡ map change (filter keep m.records)
-  pub replaces : IsReplacing change q new m.records
+  pub records : after ≡ map change (filter keep rs)
+  pub replaces : IsReplacing change q new rs
   pub acks : new.acks ≡ put_ack a q.acks
   pub pins : new.done ≡ false → new.pins ≡ q.pins
-  pub savepoints : (r : Record) → IsIn r m.records → r.done ≡ true → is_checkpoint r ≡ false → keep r ≡ true
+  pub savepoints : (r : Record) → IsIn r rs → r.done ≡ true → is_checkpoint r ≡ false → keep r ≡ true
 
 -- a record after it is the new one, or one of the others
-pub taken_from : {m : State} {q : Record} {a : Acked} {after : List Record} (i : IsTaken m q a after) → (y : Record) → IsIn y after → (y ≡ i.new) ⊎ ((y.id ≡ q.id → ⊥) × IsIn y m.records)
-taken_from {m} {q} {a} {after} i y h =
-    let There : List Record → Type 0 = λ rs. IsIn y rs in
-    let P : Record → Type 0 = λ z. IsIn z m.records in
-    let x = IsIn-from_changed i.change i.keep y m.records (subst There i.records h) in
+pub taken_from : {rs : List Record} {q : Record} {a : Acked} {after : List Record} (i : IsTaken rs q a after) → (y : Record) → IsIn y after → (y ≡ i.new) ⊎ ((y.id ≡ q.id → ⊥) × IsIn y rs)
+taken_from {rs} {q} {a} {after} i y h =
+    let There : List Record → Type 0 = λ xs. IsIn y xs in
+    let P : Record → Type 0 = λ z. IsIn z rs in
+    let x = IsIn-from_changed i.change i.keep y rs (subst There i.records h) in
     ⊎_elim
     (λ (c : (x.0 ≡ q) × (i.change x.0 ≡ i.new)). inl (x.3 ∙ c.1))
     (λ (c : ((x.0).id ≡ q.id → ⊥) × (i.change x.0 ≡ x.0)). let same : y ≡ x.0 = x.3 ∙ c.1 in inr (λ e. c.0 (ap (λ z. z.id) (sym same) ∙ e), subst P (sym same) x.1))
     ((i.replaces).cases x.0 x.1)
 
 -- the record put in has the number of the old one
-pub taken_id : {m : State} {q : Record} {a : Acked} {after : List Record} (i : IsTaken m q a after) → IsIn q m.records → (i.new).id ≡ q.id
-taken_id {m} {q} {a} {after} i there =
+pub taken_id : {rs : List Record} {q : Record} {a : Acked} {after : List Record} (i : IsTaken rs q a after) → IsIn q rs → (i.new).id ≡ q.id
+taken_id {rs} {q} {a} {after} i there =
     ⊎_elim
     (λ (c : (q ≡ q) × (i.change q ≡ i.new)). ap (λ z. z.id) (sym c.1) ∙ (i.replaces).same q)
     (λ (c : (q.id ≡ q.id → ⊥) × (i.change q ≡ q)). absurd (c.0 refl))
     ((i.replaces).cases q there)
 
 -- a done savepoint is there after
-pub savepoint_kept : {m : State} {q : Record} {a : Acked} {after : List Record} → IsTaken m q a after → q.done ≡ false → (r : Record) → IsIn r m.records → r.done ≡ true → is_checkpoint r ≡ false → IsIn r after
-savepoint_kept {m} {q} {a} {after} i pending r h done savepoint =
-    let There : List Record → Type 0 = λ rs. IsIn r rs in
-    let P : Record → Type 0 = λ z. IsIn z (map i.change (filter i.keep m.records)) in
+pub savepoint_kept : {rs : List Record} {q : Record} {a : Acked} {after : List Record} → IsTaken rs q a after → q.done ≡ false → (r : Record) → IsIn r rs → r.done ≡ true → is_checkpoint r ≡ false → IsIn r after
+savepoint_kept {rs} {q} {a} {after} i pending r h done savepoint =
+    let There : List Record → Type 0 = λ xs. IsIn r xs in
+    let P : Record → Type 0 = λ z. IsIn z (map i.change (filter i.keep rs)) in
     let itself : i.change r ≡ r = ⊎_elim (λ (c : (r ≡ q) × (i.change r ≡ i.new)). absurd (both_ways q.done pending (ap (λ z. z.done) (sym c.0) ∙ done))) (λ (c : (r.id ≡ q.id → ⊥) × (i.change r ≡ r)). c.1) ((i.replaces).cases r h) in
-    subst There (sym i.records) (subst P itself (IsIn-changed i.change i.keep r m.records h (i.savepoints r h done savepoint)))
+    subst There (sym i.records) (subst P itself (IsIn-changed i.change i.keep r rs h (i.savepoints r h done savepoint)))
 
 -- the record is pending still
-pub taken_pending : (m : State) (q : Record) (subtask : SubtaskId) (fresh reused : List ℕ) → IsSound m → IsAcking m q subtask fresh reused → IsTaken m q (record { subtask = subtask; files = ascending (fresh ++ reused) }) (replaced m.records (with_ack q subtask fresh reused))
+pub taken_pending : (m : State) (q : Record) (subtask : SubtaskId) (fresh reused : List ℕ) → IsSound m → IsAcking m q subtask fresh reused → IsTaken m.records q (record { subtask = subtask; files = ascending (fresh ++ reused) }) (replaced m.records (with_ack q subtask fresh reused))
 taken_pending m q subtask fresh reused s a =
     let w : Record = with_ack q subtask fresh reused in
     record {
@@ -81,7 +81,7 @@ not_superseded m q c r g pending h done savepoint =
     ap (λ z. not (superseded n c z)) itself ∙ not_from_false (superseded n c r) none
 
 -- the record is completed
-pub taken_completed : (m : State) (q : Record) (subtask : SubtaskId) (fresh reused : List ℕ) → IsSound m → IsAcking m q subtask fresh reused → IsTaken m q (record { subtask = subtask; files = ascending (fresh ++ reused) }) (left_by m (completed q subtask fresh reused))
+pub taken_completed : (m : State) (q : Record) (subtask : SubtaskId) (fresh reused : List ℕ) → IsSound m → IsAcking m q subtask fresh reused → IsTaken m.records q (record { subtask = subtask; files = ascending (fresh ++ reused) }) (left_by m (completed q subtask fresh reused))
 taken_completed m q subtask fresh reused s a =
     let c : Record = completed q subtask fresh reused in
     let g : IsReplacing (put_in c) q c m.records = put_in_replaces q c m.records s.in_order a.there refl in

@@ -1,6 +1,6 @@
 -- No answer depends on the order in which files were fetched.
 use Rattle.std.proofs.Common.{◌≡◌, ℕ, ◌+◌, max, Bool, true, false, not, ◌&&◌, ◌||◌, cond, ltb, eqb, List, [], ◌∷◌, ◌++◌, take, refl, sym, ap, subst, ◌∙◌, ⊎_elim}
-use Rattle.std.specs.Prelude.{count_by, find, length, Option, Some, None}
+use Rattle.std.specs.Prelude.{count_by, length, Option, Some, None}
 use Rattle.std.specs.Prelude as prelude
 use Rattle.std.specs.List.{filter, list_any}
 use Rattle.std.proofs.lemmas.Bool.{cases_Bool, both_ways}
@@ -34,6 +34,7 @@ use Rattle.ckpt_core.specs.Refusals.{refusal, moment_of, pending_of, first_some,
 use Rattle.ckpt_core.specs.Steps.{Stepped, with_records, dropped_by, triggered, failed_over, pending_checkpoints, start_or_hold, after_expiry, tick, replaced, superseded, cleared, completed_with, acknowledged_in, ack, dropping, failures_with, fails_the_job, decline_pending, decline, dispose, restarted, restore, cancel, take_files, without, effect, at_moment, unless_refused, step}
 use Rattle.ckpt_core.specs.Histories.{answers}
 use Rattle.ckpt_core.specs.Images.{AreAlike, GoesOnAs}
+use Rattle.ckpt_core.proofs.Records.Lookups.{find_agree}
 
 -- the same files, in whatever order
 abbrev Same : List ℕ → List ℕ → Type 0
@@ -87,10 +88,6 @@ same_outbox m t u e f =
 same_known : (m : State) (t u : List ℕ) → Same t u → (f : ℕ) → is_known (with_taken m t) f ≡ is_known (with_taken m u) f
 same_known m t u e f = ap (λ b. is_present (uses m.records) f || b) (same_outbox m t u e f)
 
-same_find : (p q : ℕ → Bool) (xs : List ℕ) → ((x : ℕ) → p x ≡ q x) → find p xs ≡ find q xs
-same_find p q [] e = refl
-same_find p q (x ∷ xs) e = ap (λ b. cond b (Some x) (find p xs)) (e x) ∙ ap (λ o. cond (q x) (Some x) o) (same_find p q xs e)
-
 -- the table of refusals
 same_refusal : (m : State) (t u : List ℕ) (call : Call) → Same t u → refusal (with_taken m t) call ≡ refusal (with_taken m u) call
 unfolding refusal
@@ -99,7 +96,7 @@ same_refusal m t u (Savepoint now) e = refl
 same_refusal m t u (Ack now id subtask fresh reused) e =
     let call : Call = Ack now id subtask fresh reused in
     let n : State = with_taken m u in
-    let row : name_taken (with_taken m t) call ≡ name_taken n call = ap (λ o. where_pending (pending_of m.records id) (named NameTaken o)) (same_find (is_known (with_taken m t)) (is_known n) fresh (same_known m t u e)) in
+    let row : name_taken (with_taken m t) call ≡ name_taken n call = ap (λ o. where_pending (pending_of m.records id) (named NameTaken o)) (find_agree (is_known (with_taken m t)) (is_known n) fresh (λ f _. same_known m t u e f)) in
     ap (λ o. first_some (moment_too_large (moment_of call) ∷ not_running n call ∷ too_many_files call ∷ repeated_file call ∷ unknown_checkpoint n call ∷ unknown_subtask n call ∷ already_acknowledged n call
     ∷ o ∷ file_gone n call ∷ no_such_savepoint n call ∷ in_use n call ∷ too_many_savepoints n call ∷ not_taken n call ∷ no_such_record n call ∷ ids_used_up n call ∷ [])) row
 same_refusal m t u (Decline now id subtask) e = refl

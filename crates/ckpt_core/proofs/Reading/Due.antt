@@ -17,8 +17,7 @@ use Rattle.ckpt_core.specs.Reads.{NoneIsEarlyFrom, NoneTriggersBefore, next_due,
 use Rattle.ckpt_core.specs.Refusals.{refusal}
 use Rattle.ckpt_core.specs.State.{State, drop, is_checkpoint, is_expired}
 use Rattle.ckpt_core.specs.Steps.{Stepped, after_expiry, dropped_by, effect, failed_over, pending_checkpoints, start_or_hold, step, tick}
-use Rattle.ckpt_core.proofs.Answering.StepCases.{step_accepted, step_refused}
-use Rattle.ckpt_core.proofs.Histories.StepViews.{refused_or_not}
+use Rattle.ckpt_core.proofs.Answering.StepCases.{step_by}
 
 -- what each hold says about the moment
 abbrev Tells : ℕ → ℕ → ℕ → Hold → Type 0
@@ -67,10 +66,7 @@ tick_is m now P refused failed starts =
     let going : Q (after_expiry rest (dropped_by seen expired)) =
     starts rest (dropped_by seen expired) (hold m.opening.config m.due m.completed t (pending_checkpoints rest)) (hold_tells m.opening.config m.due m.completed t (pending_checkpoints rest)) in
     let done : Q (tick seen) = cond_both fails (failed_over counted, _) (after_expiry rest (dropped_by seen expired)) Q (λ _. failed (dropped_by seen expired)) (λ _. going) in
-    ⊎_elim
-    (λ (e : (why : Refusal) × (refusal m (Tick now) ≡ Some why)). subst Q (sym (step_refused m (Tick now) e.0 e.1)) (refused e.0))
-    (λ (e : refusal m (Tick now) ≡ None). subst Q (sym (step_accepted m (Tick now) e)) done)
-    (refused_or_not (refusal m (Tick now)))
+    step_by m (Tick now) Q (λ why _. refused why) (λ _. done)
 
 pub none_before : (m : State) → NoneTriggersBefore m (next_due m)
 none_before m now before =

@@ -28,8 +28,8 @@ use Rattle.ckpt_core.proofs.Records.Held.{held_or_named, held_still}
 use Rattle.ckpt_core.proofs.Reordering.ExchangeLemmas.{has_not_after, pending_of_replaced}
 use Rattle.ckpt_core.proofs.Reordering.Exchange.{step_ack, left_pending, exchange}
 use Rattle.ckpt_ids.proofs.CountLemmas.{counted-from_IsIn}
-use Rattle.ckpt_core.proofs.Answering.StepCases.{step_refused}
-use Rattle.ckpt_core.proofs.Histories.StepViews.{acknowledged_is_taken}
+use Rattle.ckpt_core.proofs.Answering.StepCases.{step_refused, step_accepted, step_by}
+use Rattle.ckpt_core.proofs.Stepping.Acknowledged.{acknowledged_is_taken}
 
 -- the record lacks this subtask
 abbrev pub Lacks : Record → NewFile → Type 0
@@ -159,26 +159,11 @@ present_after m now id r a f s found ne =
     (cases_Bool (is_present (uses m.records) f)))
     (cases_Bool (is_present (uses after) f))
 
-cases_refusal : (o : Option Refusal) → (o ≡ None) ⊎ ((why : Refusal) × (o ≡ Some why))
-cases_refusal None = inl refl
-cases_refusal (Some why) = inr (why, refl)
-
--- the first of two is refused, or leaves the record pending
-first_of_two : (m : State) (now id : ℕ) (a b : NewFile) (wa : Awaits m id a) → Awaits m id b → (a.subtask ≡ b.subtask → ⊥) → ((why : Refusal) × (step m (ack_with now id a) ≡ (m, Refused why))) ⊎ Left m now id wa.r a
-first_of_two m now id a b wa wb ne =
-    let call : Call = ack_with now id a in
-    ⊎_elim
-    (λ (e : refusal m call ≡ None). inr (left m now id wa.r a b wa.found (same_record wa wb) ne e))
-    (λ (e : (why : Refusal) × (refusal m call ≡ Some why)). inl (e.0, step_refused m call e.0 e.1))
-    (cases_refusal (refusal m call))
-
--- so a fact holds if it holds for a refusal and for an answer that leaves the record pending
+-- a fact holds of the first of two if it holds of a refusal and of an answer that leaves the record pending
 after_first : (m : State) (now id : ℕ) (a b : NewFile) (wa : Awaits m id a) → Awaits m id b → (a.subtask ≡ b.subtask → ⊥) → (P : Stepped → Type 0) → ((why : Refusal) → P (m, Refused why)) → P (after_new m now wa.r a, Done (reply.AckPending (missing (with_new wa.r a)))) → P (step m (ack_with now id a))
 after_first m now id a b wa wb ne P refused pending =
-    ⊎_elim
-    (λ (e : (why : Refusal) × (step m (ack_with now id a) ≡ (m, Refused why))). subst P (sym e.1) (refused e.0))
-    (λ (e : Left m now id wa.r a). subst P (sym e) pending)
-    (first_of_two m now id a b wa wb ne)
+    let call : Call = ack_with now id a in
+    step_by m call P (λ why _. refused why) (λ e. subst P (sym (left m now id wa.r a b wa.found (same_record wa wb) ne e) ∙ step_accepted m call e) pending)
 
 -- the other is awaited after the first
 pub awaits_after : (m : State) (now id : ℕ) (a b : NewFile) → IsSound m → Awaits m id a → Awaits m id b → (a.subtask ≡ b.subtask → ⊥) → Awaits (step m (ack_with now id a)).0 id b

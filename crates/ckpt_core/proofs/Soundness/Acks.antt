@@ -1,4 +1,4 @@
--- An acknowledgement of a pending record keeps a coordinator sound, whether it completes the record or not, and so does a late one.
+-- An acknowledgement that leaves its record pending keeps a coordinator sound; and lemmas on one that completes it, for Completions.
 use Rattle.std.proofs.Common.{◌≡◌, ℕ, ◌≤◌, Bool, true, false, not, ◌&&◌, ◌||◌, cond, ltb, leb, eqb, List, [], ◌∷◌, ◌++◌, map, refl, sym, ap, subst, ◌∙◌, inl, inr, ⊎_elim, arith}
 use Rattle.std.specs.Prelude.{count_by, Option, Some, None}
 use Rattle.std.specs.List.{filter, list_any}

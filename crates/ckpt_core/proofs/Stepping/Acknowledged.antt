@@ -24,9 +24,8 @@ pub record IsAcked (m : State) (q : Record) (subtask : SubtaskId) (fresh reused 
   pub opening : (x.0).opening ≡ m.opening
   pub next : (x.0).next ≡ m.next
   pub gives_none : given_as x.1 ≡ []
-  pub is_taken : is_ack_taken x.1 ≡ true
   pub sound : IsSound m → IsSound x.0
-  pub taken : IsSound m → IsTaken m q (record { subtask = subtask; files = ascending (fresh ++ reused) }) (x.0).records
+  pub taken : IsSound m → IsTaken m.records q (record { subtask = subtask; files = ascending (fresh ++ reused) }) (x.0).records
   pub spreads : IsSound m → IsSpread m.records m.waiting m.taken x.0 fresh
 
 -- The record is completed, with these settings after.
@@ -36,7 +35,6 @@ completed_is m q subtask fresh reused failures completed_at base a none base_lef
   opening = refl;
   next = refl;
   gives_none = refl;
-  is_taken = refl;
   sound = λ s. completed_is_sound m q (completed q subtask fresh reused) failures completed_at base s (completing m q subtask fresh reused s a none) (base_left s) (few s);
   taken = λ s. taken_completed m q subtask fresh reused s a;
   spreads = λ s. completed_spreads m q subtask fresh reused failures completed_at base s a;
@@ -57,6 +55,13 @@ completion_is m q subtask fresh reused a none =
       | kind.Savepoint ↦ λ e. completed_is m q subtask fresh reused _ _ _ a none (left (is_savepoint-kind c e)) (λ s runs. omega (arith, s.failures runs))
     ] refl
 
+-- its answer is AckPending or AckCompleted
+pub acknowledged_is_taken : (m : State) (w : Record) → is_ack_taken (acknowledged_in m w).1 ≡ true
+unfolding acknowledged_in completed_with
+acknowledged_is_taken m w =
+    let c : Record = record w { done = true } in
+    cond_both (eqb (missing w) 0) (completed_with (having m c) c) (with_records m (replaced m.records w), _) (λ (x : Stepped). is_ack_taken x.1 ≡ true) (λ _. refl) (λ _. refl)
+
 -- an accepted acknowledgement of a pending record
 pub acked_is : (m : State) (q : Record) (subtask : SubtaskId) (fresh reused : List ℕ) → IsAcking m q subtask fresh reused → IsAcked m q subtask fresh reused (acknowledged_in m (with_ack q subtask fresh reused))
 unfolding acknowledged_in
@@ -69,7 +74,6 @@ acked_is m q subtask fresh reused a =
       opening = refl;
       next = refl;
       gives_none = refl;
-      is_taken = refl;
       sound = λ s. ack_pending_is_sound m q subtask fresh reused s a e;
       taken = λ s. taken_pending m q subtask fresh reused s a;
       spreads = λ s. pending_spreads m q subtask fresh reused s a;

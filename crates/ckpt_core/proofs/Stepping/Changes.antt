@@ -1,13 +1,18 @@
--- What a call that is no acknowledgement changes: nothing, by a drop of records with new settings, or by a trigger.
-use Rattle.std.proofs.Common.{◌≡◌, ◌≢◌, ℕ, ◌+◌, ◌≤◌, Bool, true, false, not, ◌&&◌, eqb, List, [], ◌∷◌, length, refl, sym, ap, subst, ◌∙◌, ◌⊎◌, inl, inr, ⊎_elim}
+-- What any call changes; and what one that is no acknowledgement changes: nothing, the outbox, or records, by a drop with new settings or by a trigger.
+use Rattle.std.proofs.Common.{◌≡◌, ◌≢◌, ℕ, ◌+◌, ◌≤◌, Bool, true, false, not, ◌&&◌, eqb, List, [], ◌∷◌, ◌++◌, length, refl, sym, ap, subst, ◌∙◌, ◌⊎◌, inl, inr, ⊎_elim}
 use Rattle.std.specs.Prelude.{Option, Some, None}
 use Rattle.std.specs.Prelude as prelude
 use Rattle.std.specs.List.{list_any}
 use Rattle.std.proofs.lemmas.Bool.{not-true, not_from_false, and_parts, eqb-true}
+use Rattle.ckpt_ids.specs.declared.subtask.SubtaskId.{SubtaskId}
 use Rattle.ckpt_ids.specs.declared.numbers.Kind.{Kind}
 use Rattle.ckpt_ids.specs.declared.call.Call.{Call}
+use Rattle.ckpt_ids.specs.declared.call.Call.TheVariants.{Ack}
+use Rattle.ckpt_ids.specs.declared.reply.Refusal.{Refusal}
 use Rattle.ckpt_ids.specs.declared.reply.Answer.{Answer}
+use Rattle.ckpt_ids.specs.declared.reply.Answer.TheVariants.{Refused}
 use Rattle.ckpt_ids.specs.Ordered.{IsIn}
+use Rattle.ckpt_ids.specs.Ascending.{ascending}
 use Rattle.ckpt_ids.specs.Records.{Record}
 use Rattle.ckpt_ids.specs.Shapes.{IsShape}
 use Rattle.ckpt_core.specs.declared.mode.Mode.{Mode}
@@ -15,23 +20,47 @@ use Rattle.ckpt_core.specs.declared.mode.Mode.TheVariants.{Running}
 use Rattle.ckpt_core.specs.State.{State, is_checkpoint, is_pending, drop, pins_now}
 use Rattle.ckpt_core.specs.Steps.{Stepped, triggered}
 use Rattle.ckpt_core.specs.Soundness.{IsSound, IsCall}
-use Rattle.ckpt_core.specs.Laws.{given_as}
+use Rattle.ckpt_core.specs.Laws.{given_as, is_ack_taken}
 use Rattle.ckpt_core.proofs.Records.Lists.{sound_from, records_of, outbox_of, filtered_records}
 use Rattle.ckpt_core.proofs.Soundness.Drops.{is_savepoint, savepoint_stays, idle_stays, none_pending_left, outbox_filtered}
-use Rattle.ckpt_core.proofs.Histories.Moves.{IsMoved, unmoved, dropped_moves, triggered_moves, moves_at, disposed_of, IsNoAck}
+use Rattle.ckpt_core.proofs.Soundness.Acks.{IsAcking}
+use Rattle.ckpt_core.proofs.Histories.Moves.{IsMoved, unmoved, dropped_moves, triggered_moves, moves_at, disposed_of, disposed_by}
+use Rattle.ckpt_core.proofs.Histories.Takings.{IsTaken}
 use Rattle.ckpt_core.proofs.Histories.Spreads.{IsSpread, unspread, drop_spreads, trigger_spreads}
-use Rattle.ckpt_core.proofs.Stepping.Files.{registers, hands, deletes, IsSettled, spread_settled}
+use Rattle.ckpt_core.proofs.Stepping.Files.{registers, hands, deletes, IsSettled, spread_settled, refused_registers, refused_hands, refused_deletes}
 
 -- it gives no number, or the next one
 abbrev pub Gives : State → State → List ℕ → Type 0
 Gives m n given = ((given ≡ []) × (n.next ≡ m.next)) ⊎ ((given ≡ m.next ∷ []) × (n.next ≡ m.next + 1))
+
+-- an acknowledgement that changes no record
+pub record IsPassedOver (m : State) (x : Stepped) : Type 0 where
+  pub records : (x.0).records ≡ m.records
+  pub not_taken : is_ack_taken x.1 ≡ false
+
+-- so it moves none
+pub passed_moves : {m : State} {x : Stepped} → IsPassedOver m x → IsMoved m None (x.0).records
+passed_moves {m} i = let After : List Record → Type 0 = IsMoved m None in subst After (sym i.records) (unmoved m None)
+
+-- one that is taken by the pending record of its number
+pub record IsTakenBy (m : State) (id : ℕ) (subtask : SubtaskId) (fresh reused : List ℕ) (x : Stepped) : Type 0 where
+  pub q : Record
+  pub its_id : q.id ≡ id
+  pub acking : IsAcking m q subtask fresh reused
+  pub taken : IsTaken m.records q (record { subtask = subtask; files = ascending (fresh ++ reused) }) (x.0).records
+  pub is_taken : is_ack_taken x.1 ≡ true
+
+-- what a call does to the records
+abbrev pub ChangesRecords : State → Call → Stepped → Type 0
+ChangesRecords m (Ack now id subtask fresh reused) x = IsPassedOver m x ⊎ IsTakenBy m id subtask fresh reused x
+ChangesRecords m call x = IsMoved m (disposed_by call x.1) (x.0).records
 
 -- what any call changes, whatever its answer
 pub record IsStep (m : State) (call : Call) (x : Stepped) : Type 0 where
   pub opening : (x.0).opening ≡ m.opening
   pub gives : Gives m x.0 (given_as x.1)
   pub sound : IsCall call → IsSound m → IsSound x.0
-  pub moves : IsNoAck call → IsSound m → IsMoved m (disposed_of call) (x.0).records
+  pub records : IsSound m → ChangesRecords m call x
   pub files : IsSound m → IsSettled m x.0 (registers m call x.1) (hands m call x.0) (deletes call x.1)
 
 -- what a call changes that is no acknowledgement and takes no file out of the outbox
@@ -43,8 +72,8 @@ pub record IsPlain (m : State) (call : Call) (n : State) (given : List ℕ) : Ty
   pub spreads : IsSpread m.records m.waiting m.taken n []
 
 -- it registers and deletes nothing
-pub plain_step : {m : State} {call : Call} (x : Stepped) → IsPlain m call x.0 (given_as x.1) → registers m call x.1 ≡ [] → hands m call x.0 ≡ prelude.drop (length m.waiting) x.0.waiting → deletes call x.1 ≡ [] → IsStep m call x
-plain_step {m} {call} x p registered handed deleted =
+pub plain_step : {m : State} {call : Call} (x : Stepped) → IsPlain m call x.0 (given_as x.1) → (IsMoved m (disposed_of call) (x.0).records → ChangesRecords m call x) → registers m call x.1 ≡ [] → hands m call x.0 ≡ prelude.drop (length m.waiting) x.0.waiting → deletes call x.1 ≡ [] → IsStep m call x
+plain_step {m} {call} x p moved registered handed deleted =
     let WithIn : List ℕ → Type 0 = λ xs. IsSettled m x.0 xs (prelude.drop (length m.waiting) x.0.waiting) [] in
     let WithOut : List ℕ → Type 0 = λ xs. IsSettled m x.0 (registers m call x.1) xs [] in
     let WithDeleted : List ℕ → Type 0 = λ xs. IsSettled m x.0 (registers m call x.1) (hands m call x.0) xs in
@@ -52,7 +81,7 @@ plain_step {m} {call} x p registered handed deleted =
       opening = p.opening;
       gives = p.gives;
       sound = p.sound;
-      moves = λ _. p.moves;
+      records = λ s. moved (p.moves s);
       files = λ _. subst WithDeleted (sym deleted) (subst WithOut (sym handed) (subst WithIn (sym registered) (spread_settled p.spreads)));
     }
 
@@ -76,13 +105,22 @@ unchanged m call = record {
   spreads = unspread m;
 }
 
+-- a refused call changes no record
+refused_records : (m : State) (call : Call) (why : Refusal) → ChangesRecords m call (m, Refused why)
+refused_records m (Ack now id subtask fresh reused) why = inl (record { records = refl; not_taken = refl })
+refused_records m call why = unmoved m (disposed_by call (Refused why))
+
+-- nor anything else
+pub refusal_step : (m : State) (call : Call) (why : Refusal) → IsStep m call (m, Refused why)
+refusal_step m call why = plain_step (m, Refused why) (unchanged m call) (λ _. refused_records m call why) (refused_registers m call why) (refused_hands m call) (refused_deletes call why)
+
 -- the outbox alone changes
-pub outbox_step : (m : State) (call : Call) (waiting taken : List ℕ) (answer : Answer) → given_as answer ≡ [] → (IsSound m → IsSound (record m { waiting = waiting; taken = taken })) → (IsSound m → IsSettled m (record m { waiting = waiting; taken = taken }) (registers m call answer) (hands m call (record m { waiting = waiting; taken = taken })) (deletes call answer)) → IsStep m call (record m { waiting = waiting; taken = taken }, answer)
-outbox_step m call waiting taken answer none sound files = record {
+pub outbox_step : (m : State) (call : Call) (waiting taken : List ℕ) (answer : Answer) → given_as answer ≡ [] → ChangesRecords m call (record m { waiting = waiting; taken = taken }, answer) → (IsSound m → IsSound (record m { waiting = waiting; taken = taken })) → (IsSound m → IsSettled m (record m { waiting = waiting; taken = taken }) (registers m call answer) (hands m call (record m { waiting = waiting; taken = taken })) (deletes call answer)) → IsStep m call (record m { waiting = waiting; taken = taken }, answer)
+outbox_step m call waiting taken answer none records sound files = record {
   opening = refl;
   gives = inl (none, refl);
   sound = λ _. sound;
-  moves = λ _ _. unmoved m (disposed_of call);
+  records = λ _. records;
   files = files;
 }
 

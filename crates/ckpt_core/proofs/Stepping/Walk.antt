@@ -12,9 +12,8 @@ use Rattle.ckpt_ids.specs.declared.call.Target.{Target}
 use Rattle.ckpt_ids.specs.declared.call.Call.{Call}
 use Rattle.ckpt_ids.specs.declared.call.Call.TheVariants.{Tick, Savepoint, Ack, Decline, Dispose, Restore, Cancel, Take, Deleted, Undeleted, Show, Count}
 use Rattle.ckpt_ids.specs.declared.reply.Reply.TheVariants as reply
-use Rattle.ckpt_ids.specs.declared.reply.Refusal.{Refusal}
 use Rattle.ckpt_ids.specs.declared.reply.Answer.{Answer}
-use Rattle.ckpt_ids.specs.declared.reply.Answer.TheVariants.{Done, Refused}
+use Rattle.ckpt_ids.specs.declared.reply.Answer.TheVariants.{Done}
 use Rattle.ckpt_ids.specs.Ordered.{IsIn}
 use Rattle.ckpt_ids.specs.Records.{Record}
 use Rattle.ckpt_ids.specs.Shapes.{IsShape}
@@ -24,35 +23,29 @@ use Rattle.ckpt_rules.specs.declared.hold.Hold.TheVariants.{Interval, AtOnce, Pa
 use Rattle.ckpt_core.specs.declared.mode.Mode.TheVariants.{Running, Failed, Cancelled}
 use Rattle.ckpt_core.specs.State.{State, is_checkpoint, is_pending, is_expired, is_known, record_of, drop, pins_now}
 use Rattle.ckpt_core.specs.Refusals.{refusal, moment_of, pending_of, is_done_savepoint, is_number, savepoints}
-use Rattle.ckpt_core.specs.Steps.{Stepped, pending_checkpoints, dropped_by, triggered, failed_over, start_or_hold, after_expiry, tick, ack, failures_with, fails_the_job, decline, decline_pending, dropping, dispose, restore, restarted, rolled_back, cancel, cancelled, take_files, without, show, effect, at_moment, unless_refused, step}
+use Rattle.ckpt_core.specs.Steps.{Stepped, pending_checkpoints, dropped_by, triggered, failed_over, start_or_hold, after_expiry, tick, ack, failures_with, fails_the_job, decline, decline_pending, dropping, dispose, restore, restarted, rolled_back, cancel, cancelled, take_files, without, show, effect, at_moment, step}
 use Rattle.ckpt_core.specs.Soundness.{IsSound}
 use Rattle.ckpt_core.specs.Laws.{given_as, is_ack_taken, registered_as}
 use Rattle.ckpt_core.proofs.Records.Counts.{IsIn-from_find}
 use Rattle.ckpt_core.proofs.Records.Replacing.{same_record}
 use Rattle.ckpt_core.proofs.Ending.Released.{distinct-from_test}
 use Rattle.ckpt_core.proofs.Answering.Accepted.{IsAcceptedAck, accepted_tick, accepted_savepoint, accepted_ack, accepted_decline, accepted_dispose, accepted_restore, accepted_restore_savepoint, accepted_cancel, accepted_deleted, accepted_undeleted}
+use Rattle.ckpt_core.proofs.Answering.StepCases.{step_by}
 use Rattle.ckpt_core.proofs.Soundness.Drops.{is_savepoint, moment_is_sound}
 use Rattle.ckpt_core.proofs.Soundness.Triggers.{checkpoint_is_sound, savepoint_is_sound, fewer-from_go, few_failures, expired_is_pending}
-use Rattle.ckpt_core.proofs.Soundness.Acks.{acking, acking_at}
+use Rattle.ckpt_core.proofs.Soundness.Acks.{with_ack, acking, acking_at}
 use Rattle.ckpt_core.proofs.Soundness.Completions.{late_is_sound}
 use Rattle.ckpt_core.proofs.Soundness.Outbox.{take_is_sound, deleted_is_sound, undeleted_is_sound}
 use Rattle.ckpt_core.proofs.Triggering.Pins.{pins_stay}
+use Rattle.ckpt_core.proofs.Histories.Moves.{unmoved}
 use Rattle.ckpt_core.proofs.Histories.Spreads.{late_spreads}
-use Rattle.ckpt_core.proofs.Stepping.Changes.{IsStep, IsPlain, settings, plain_step, plain_at, unchanged, outbox_step, dropped_is, triggered_is}
-use Rattle.ckpt_core.proofs.Stepping.Files.{IsSettled, hands, spread_settled, take_settled, deleted_settled, undeleted_settled, refused_registers, refused_hands, refused_deletes}
-use Rattle.ckpt_core.proofs.Stepping.Acknowledged.{acked_is}
+use Rattle.ckpt_core.proofs.Stepping.Changes.{IsStep, IsPlain, settings, plain_step, plain_at, unchanged, refusal_step, outbox_step, dropped_is, triggered_is}
+use Rattle.ckpt_core.proofs.Stepping.Files.{IsSettled, hands, spread_settled, take_settled, deleted_settled, undeleted_settled}
+use Rattle.ckpt_core.proofs.Stepping.Acknowledged.{acknowledged_is_taken, acked_is}
 
 -- a done record is not pending
 done_not_pending : (r : Record) → r.done ≡ true → is_pending r ≡ false
 done_not_pending r done = ap not done
-
--- a failed job does not run
-failed_not_running : Failed ≡ Running → ⊥
-failed_not_running e = cc
-
--- nor does a cancelled one
-cancelled_not_running : Cancelled ≡ Running → ⊥
-cancelled_not_running e = cc
 
 -- failing over, whatever the failures
 failed_over_is : (m : State) (call : Call) (failures : ℕ) → IsPlain m call (failed_over (record m { failures = failures })) []
@@ -62,7 +55,7 @@ failed_over_is m call failures = dropped_is m call (record (settings m) { mode =
   savepoints = λ _ r _ done _. inl (done_not_pending r done);
   base = λ s. s.base;
   idle = λ _. inr (λ r e. e);
-  failures = λ _ e. absurd (failed_not_running e);
+  failures = λ _ e. absurd (cc);
 })
 
 -- a start, or what holds it back
@@ -190,7 +183,7 @@ cancel_is m call = dropped_is m call (record (settings m) { mode = Cancelled; ba
   savepoints = λ _ r _ done savepoint. inl (done_savepoint_stays r (not m.opening.config.keep_on_cancel) done savepoint);
   base = λ _ id e. absurd (cc);
   idle = λ _. inr (λ r e. or_left (is_pending r) (r.done && is_checkpoint r && not m.opening.config.keep_on_cancel) e);
-  failures = λ _ e. absurd (cancelled_not_running e);
+  failures = λ _ e. absurd (cc);
 })
 
 -- an acknowledgement that is taken registers its fresh files
@@ -206,50 +199,47 @@ ack_is m now id subtask fresh reused None a e = record {
   opening = refl;
   gives = inl (refl, refl);
   sound = λ _ s. late_is_sound (record m { latest = max now m.latest }) subtask fresh reused (moment_is_sound m now s a.moment) (distinct-from_test (fresh ++ reused) a.once);
-  moves = λ n. absurd n;
+  records = λ _. inl (record { records = refl; not_taken = refl });
   files = λ _. spread_settled (late_spreads (record m { latest = max now m.latest }) subtask fresh reused);
 }
 ack_is m now id subtask fresh reused (Some q) a e =
     let n : State = record m { latest = max now m.latest } in
-    let i = acked_is n q subtask fresh reused (acking_at m (max now m.latest) q subtask fresh reused (acking m now id subtask fresh reused q a e)) in
+    let k = acking m now id subtask fresh reused q a e in
+    let i = acked_is n q subtask fresh reused (acking_at m (max now m.latest) q subtask fresh reused k) in
     let x : Stepped = ack n (Some q) subtask fresh reused in
+    let is_taken : is_ack_taken x.1 ≡ true = acknowledged_is_taken n (with_ack q subtask fresh reused) in
+    let found = IsIn-from_find (λ r. is_pending r && eqb r.id id) q m.records e in
     let unknown : List ℕ = filter (λ f. not (is_known m f)) fresh in
     let Any : List ℕ → Type 0 = λ xs. IsSettled m x.0 xs (hands m (Ack now id subtask fresh reused) x.0) [] in
     record {
       opening = i.opening;
       gives = inl (i.gives_none, i.next);
       sound = λ _ s. i.sound (moment_is_sound m now s a.moment);
-      moves = λ no. absurd no;
-      files = λ s. subst Any (sym (registered_taken x.1 fresh unknown i.is_taken)) (spread_settled (i.spreads (moment_is_sound m now s a.moment)));
+      records = λ s. inr (record { q = q; its_id = eqb-true q.id id (and_parts (is_pending q) (eqb q.id id) found.1).1; acking = k; taken = i.taken (moment_is_sound m now s a.moment); is_taken = is_taken });
+      files = λ s. subst Any (sym (registered_taken x.1 fresh unknown is_taken)) (spread_settled (i.spreads (moment_is_sound m now s a.moment)));
     }
 
 -- a Show says something of a record, or refuses
 show_is : (m : State) (id : ℕ) (o : Option Record) → IsStep m (Show id) (m, show o)
-show_is m id None = plain_step (m, show None) (unchanged m (Show id)) refl refl refl
-show_is m id (Some r) = plain_step (m, show (Some r)) (unchanged m (Show id)) refl refl refl
+show_is m id None = plain_step (m, show None) (unchanged m (Show id)) (λ i. i) refl refl refl
+show_is m id (Some r) = plain_step (m, show (Some r)) (unchanged m (Show id)) (λ i. i) refl refl refl
 
 -- each accepted call
-pub effect_is : (m : State) (call : Call) → refusal m call ≡ None → IsStep m call (effect (at_moment m (moment_of call)) call)
-unfolding effect take_files
-effect_is m (Tick now) e = let a = accepted_tick m now e in plain_step _ (plain_at (λ s. moment_is_sound m now s a.moment) (tick_is (record m { latest = max now m.latest }) (Tick now) a.running a.room)) refl refl refl
-effect_is m (Savepoint now) e = let a = accepted_savepoint m now e in plain_step _ (plain_at (λ s. moment_is_sound m now s (a.0).moment) (savepoint_is (record m { latest = max now m.latest }) (Savepoint now) (a.0).running (a.0).room a.1)) refl refl refl
+effect_is : (m : State) (call : Call) → refusal m call ≡ None → IsStep m call (effect (at_moment m (moment_of call)) call)
+unfolding effect take_files dispose dropping
+effect_is m (Tick now) e = let a = accepted_tick m now e in plain_step _ (plain_at (λ s. moment_is_sound m now s a.moment) (tick_is (record m { latest = max now m.latest }) (Tick now) a.running a.room)) (λ i. i) refl refl refl
+effect_is m (Savepoint now) e = let a = accepted_savepoint m now e in plain_step _ (plain_at (λ s. moment_is_sound m now s (a.0).moment) (savepoint_is (record m { latest = max now m.latest }) (Savepoint now) (a.0).running (a.0).room a.1)) (λ i. i) refl refl refl
 effect_is m (Ack now id subtask fresh reused) e = ack_is m now id subtask fresh reused (pending_of m.records id) (accepted_ack m now id subtask fresh reused e) refl
-effect_is m (Decline now id subtask) e = plain_step _ (plain_at (λ s. moment_is_sound m now s (accepted_decline m now id subtask e)) (decline_is (record m { latest = max now m.latest }) (Decline now id subtask) id (pending_of m.records id) refl)) refl refl refl
-effect_is m (Dispose id) e = plain_step _ (dispose_is m id (accepted_dispose m id e).1) refl refl refl
-effect_is m (Restore now target shape) e = plain_step _ (plain_at (λ s. moment_is_sound m now s (accepted_restore m now target shape e)) (restore_is m now target shape e (max now m.latest))) refl refl refl
-effect_is m (Cancel now) e = plain_step _ (plain_at (λ s. moment_is_sound m now s (accepted_cancel m now e)) (cancel_is (record m { latest = max now m.latest }) (Cancel now))) refl refl refl
-effect_is m (Take most) e = outbox_step m (Take most) (prelude.drop most m.waiting) (m.taken ++ take most m.waiting) (Done (reply.Taken (take most m.waiting))) refl (take_is_sound m most) (λ _. take_settled m most)
-effect_is m (Deleted file) e = outbox_step m (Deleted file) m.waiting (without file m.taken) (Done (reply.Deleted file)) refl (deleted_is_sound m file) (λ s. deleted_settled m file s (accepted_deleted m file e))
-effect_is m (Undeleted file) e = outbox_step m (Undeleted file) (m.waiting ++ file ∷ []) (without file m.taken) (Done (reply.Undeleted file)) refl (λ s. undeleted_is_sound m file s (accepted_undeleted m file e)) (λ _. undeleted_settled m file)
+effect_is m (Decline now id subtask) e = plain_step _ (plain_at (λ s. moment_is_sound m now s (accepted_decline m now id subtask e)) (decline_is (record m { latest = max now m.latest }) (Decline now id subtask) id (pending_of m.records id) refl)) (λ i. i) refl refl refl
+effect_is m (Dispose id) e = plain_step _ (dispose_is m id (accepted_dispose m id e).1) (λ i. i) refl refl refl
+effect_is m (Restore now target shape) e = plain_step _ (plain_at (λ s. moment_is_sound m now s (accepted_restore m now target shape e)) (restore_is m now target shape e (max now m.latest))) (λ i. i) refl refl refl
+effect_is m (Cancel now) e = plain_step _ (plain_at (λ s. moment_is_sound m now s (accepted_cancel m now e)) (cancel_is (record m { latest = max now m.latest }) (Cancel now))) (λ i. i) refl refl refl
+effect_is m (Take most) e = outbox_step m (Take most) (prelude.drop most m.waiting) (m.taken ++ take most m.waiting) (Done (reply.Taken (take most m.waiting))) refl (unmoved m None) (take_is_sound m most) (λ _. take_settled m most)
+effect_is m (Deleted file) e = outbox_step m (Deleted file) m.waiting (without file m.taken) (Done (reply.Deleted file)) refl (unmoved m None) (deleted_is_sound m file) (λ s. deleted_settled m file s (accepted_deleted m file e))
+effect_is m (Undeleted file) e = outbox_step m (Undeleted file) (m.waiting ++ file ∷ []) (without file m.taken) (Done (reply.Undeleted file)) refl (unmoved m None) (λ s. undeleted_is_sound m file s (accepted_undeleted m file e)) (λ _. undeleted_settled m file)
 effect_is m (Show id) e = show_is m id (record_of m id)
-effect_is m (Count file) e = plain_step _ (unchanged m (Count file)) refl refl refl
-
--- a refused call changes nothing
-unless_refused_is : (m : State) (call : Call) (o : Option Refusal) → refusal m call ≡ o → IsStep m call (unless_refused m call o)
-unless_refused_is m call None e = effect_is m call e
-unless_refused_is m call (Some why) e = plain_step (m, Refused why) (unchanged m call) (refused_registers m call why) (refused_hands m call) (refused_deletes call why)
+effect_is m (Count file) e = plain_step _ (unchanged m (Count file)) (λ i. i) refl refl refl
 
 -- each call
 pub step_is : (m : State) (call : Call) → IsStep m call (step m call)
-unfolding step
-step_is m call = unless_refused_is m call (refusal m call) refl
+step_is m call = step_by m call (λ x. IsStep m call x) (λ why _. refusal_step m call why) (effect_is m call)
