@@ -11,31 +11,17 @@ use Rattle.ckpt_core.specs.Steps.{step}
 use Rattle.ckpt_core.specs.Soundness.{IsSound}
 use Rattle.ckpt_core.specs.Laws.{is_ack_taken, one_if, registered_by, handed_by, deleted_by, new_by}
 use Rattle.ckpt_core.proofs.Stepping.Changes.{IsPassedOver, IsTakenBy}
-use Rattle.ckpt_core.proofs.Stepping.Files.{registers, hands, deletes, IsSettled}
+use Rattle.ckpt_core.proofs.Stepping.Files.{IsSettled}
 use Rattle.ckpt_core.proofs.Stepping.Walk.{registered_taken, step_is}
 use Rattle.ckpt_ids.specs.Counting.{times}
 use Rattle.ckpt_ids.proofs.CountLemmas.{IsIn-from_times}
 
--- what a step registers, hands out and deletes is what its answer and the state after say
-registered_is : (m : State) (call : Call) → registers m call (step m call).1 ≡ registered_by m call
-registered_is m (Ack now id subtask fresh reused) = refl
-registered_is m call = refl
-
-handed_is : (m : State) (call : Call) → hands m call (step m call).0 ≡ handed_by m call
-handed_is m (Undeleted file) = refl
-handed_is m call = refl
-
-deleted_is : (m : State) (call : Call) → deletes call (step m call).1 ≡ deleted_by m call
-deleted_is m (Deleted file) = refl
-deleted_is m call = refl
-
--- each call
+-- each call: by computation it registers, hands out and deletes what the laws say
 pub step_settled : (m : State) (call : Call) → IsSound m → IsSettled m (step m call).0 (registered_by m call) (handed_by m call) (deleted_by m call)
-step_settled m call s =
-    let WithIn : List ℕ → Type 0 = λ xs. IsSettled m (step m call).0 xs (hands m call (step m call).0) (deletes call (step m call).1) in
-    let WithOut : List ℕ → Type 0 = λ xs. IsSettled m (step m call).0 (registered_by m call) xs (deletes call (step m call).1) in
-    let WithDeleted : List ℕ → Type 0 = λ xs. IsSettled m (step m call).0 (registered_by m call) (handed_by m call) xs in
-    subst WithDeleted (deleted_is m call) (subst WithOut (handed_is m call) (subst WithIn (registered_is m call) ((step_is m call).files s)))
+step_settled m (Ack now id subtask fresh reused) s = (step_is m (Ack now id subtask fresh reused)).files s
+step_settled m (Undeleted file) s = (step_is m (Undeleted file)).files s
+step_settled m (Deleted file) s = (step_is m (Deleted file)).files s
+step_settled m call s = (step_is m call).files s
 
 -- a file that is present after was present before, or is newly named: by the balance of one file
 present_before : (a b c : Bool) (n k : ℕ) → n + one_if a ≡ k + one_if b → b ≡ true → (0 < n) ⊎ (a ≡ true)
