@@ -1,5 +1,5 @@
 -- When a tick may trigger, as far as the interval and the pause decide.
-use Rattle.std.proofs.Common.{◌≡◌, ℕ, ◌+◌, ◌<◌, ◌≤◌, max, Bool, false, ◌&&◌, cond, ltb, leb, refl, sym, subst, ⊎_elim, arith, Option, Some, None}
+use Rattle.std.proofs.Common.{◌≡◌, ℕ, ◌+◌, ◌<◌, ◌≤◌, max, Bool, false, ◌&&◌, cond, ltb, leb, refl, arith, Option, None}
 use Rattle.std.specs.Prelude.{count_by, ⊤}
 use Rattle.std.proofs.lemmas.Bool.{cond_both, ltb-true, ltb-false}
 use Rattle.ckpt_ids.specs.declared.call.Call.TheVariants.{Tick}
@@ -14,7 +14,6 @@ use Rattle.ckpt_rules.specs.declared.hold.Hold.{Hold}
 use Rattle.ckpt_rules.specs.declared.hold.Hold.TheVariants.{Interval, AtOnce, Pause, Go}
 use Rattle.ckpt_rules.specs.Trigger.{hold, limit, pause_ends}
 use Rattle.ckpt_core.specs.Reads.{NoneIsEarlyFrom, NoneTriggersBefore, next_due, triggered_one, was_early}
-use Rattle.ckpt_core.specs.Refusals.{refusal}
 use Rattle.ckpt_core.specs.State.{State, drop, is_checkpoint, is_expired}
 use Rattle.ckpt_core.specs.Steps.{Stepped, after_expiry, dropped_by, effect, failed_over, pending_checkpoints, start_or_hold, step, tick}
 use Rattle.ckpt_core.proofs.Answering.StepCases.{step_by}
