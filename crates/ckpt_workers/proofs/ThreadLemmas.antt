@@ -285,10 +285,6 @@ IsCounting-all hands book count made of h = record {
   tally = h.tally;
 }
 
-pub map_twice : {X Y Z : Type 0} (f : X → Y) (g : Y → Z) (xs : List X) → map g (map f xs) ≡ map (λ x. g (f x)) xs
-map_twice f g [] = refl
-map_twice f g (x ∷ xs) = ap (λ l. g (f x) ∷ l) (map_twice f g xs)
-
 -- the passes of new shares belong to the lock
 pub shares_are : (lock : Lock) (n : ℕ) (shares : List Share) → map (λ (s : Share). s.pass) shares ≡ newcomers lock n → All (λ (s : Share). s.pass.lock ≡ lock) shares
 shares_are lock n shares passes = λ k d below.
