@@ -15,7 +15,7 @@ use Rattle.ckpt_lines.specs.Keywords.{keyword_of}
 use Rattle.ckpt_lines.specs.Reading.{line_of, row, number_line, job_line, ack_line, decline_line, restore_line, config_line, retention_place, ended}
 use Rattle.ckpt_texts.specs.Texts.{spaced}
 use Rattle.ckpt_texts.specs.MetadataTexts.{subtask_bytes}
-use Rattle.ckpt_call_lines.specs.CallTexts.{call_text, triggers_text, limits_text, subtask_text, fresh_text, reused_text, line_of_call, config_text, line_of_config, job_text, start_text, retention_text, parallelisms, Fits, FitsSubtask, FitsCall, IsReadAs}
+use Rattle.ckpt_call_lines.specs.CallTexts.{call_text, triggers_text, limits_text, subtask_text, files_text, line_of_call, config_text, line_of_config, job_text, start_text, retention_text, parallelisms, Fits, FitsSubtask, FitsCall, IsReadAs}
 use Rattle.ckpt_call_lines.proofs.LineLemmas.{Each, from_all, IsPlain, IsWritten, last, next, each_next, each_before, plain_by, reading-written}
 use Rattle.ckpt_call_lines.proofs.NumberWords.{subtask_word, plain_number, plain_numbers, plain_subtask, plain_files, number_place-decimal, subtask_place-word, target_place-decimal, target_place-latest, each-numbers, file_places-words}
 
@@ -176,14 +176,14 @@ sub s = append_assoc (decimal s.vertex) (codes ".") (decimal s.index)
 parts_4 : (a b c d : List ℕ) → a ++ b ++ c ++ d ≡ a ++ (b ++ (c ++ d))
 parts_4 a b c d = append_assoc (a ++ b) c d ∙ append_assoc a b (c ++ d)
 
-parts_6 : (a b c d e f : List ℕ) → a ++ b ++ c ++ d ++ e ++ f ≡ a ++ (b ++ (c ++ (d ++ (e ++ f))))
-parts_6 a b c d e f = append_assoc (a ++ b ++ c ++ d) e f ∙ append_assoc (a ++ b ++ c) d (e ++ f) ∙ parts_4 a b c (d ++ (e ++ f))
+parts_5 : (a b c d e : List ℕ) → a ++ b ++ c ++ d ++ e ≡ a ++ (b ++ (c ++ (d ++ e)))
+parts_5 a b c d e = append_assoc (a ++ b ++ c) d e ∙ parts_4 a b c (d ++ e)
 
 ack_parts : (now id : ℕ) (s : SubtaskId) (fresh reused : List ℕ)
     → call_text (call.Ack now id s fresh reused) ≡ codes "ack" ++ 32 ∷ (decimal now ++ 32 ∷ (decimal id ++ 32 ∷ (subtask_word s ++ (flat_map (λ f. 32 ∷ 43 ∷ decimal f) fresh ++ flat_map (λ f. 32 ∷ 61 ∷ decimal f) reused))))
 unfolding call_text
 ack_parts now id s fresh reused =
-    parts_6 (codes "ack") (spaced now) (spaced id) (subtask_text s) (flat_map fresh_text fresh) (flat_map reused_text reused)
+    parts_5 (codes "ack") (spaced now) (spaced id) (subtask_text s) (files_text fresh reused)
     ∙ ap (λ (w : List ℕ). codes "ack" ++ 32 ∷ (decimal now ++ 32 ∷ (decimal id ++ 32 ∷ (w ++ (flat_map (λ f. 32 ∷ 43 ∷ decimal f) fresh ++ flat_map (λ f. 32 ∷ 61 ∷ decimal f) reused))))) (sub s)
 
 decline_parts : (now id : ℕ) (s : SubtaskId) → call_text (call.Decline now id s) ≡ codes "decline" ++ 32 ∷ (decimal now ++ 32 ∷ (decimal id ++ 32 ∷ subtask_word s))

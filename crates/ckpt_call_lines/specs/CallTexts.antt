@@ -27,6 +27,10 @@ fresh_text file = codes " +" ++ decimal file
 abbrev pub reused_text : ℕ → List ℕ
 reused_text file = codes " =" ++ decimal file
 
+-- the new files, and then the reused ones
+abbrev pub files_text : List ℕ → List ℕ → List ℕ
+files_text fresh reused = flat_map fresh_text fresh ++ flat_map reused_text reused
+
 -- the parallelisms, or none if the shape stays
 abbrev pub parallelisms : Option (List ℕ) → List ℕ
 parallelisms None = []
@@ -36,7 +40,7 @@ parallelisms (Some shape) = shape
 unfoldable pub call_text : Call → List ℕ
 call_text (call.Tick now) = codes "tick" ++ spaced now
 call_text (call.Savepoint now) = codes "savepoint" ++ spaced now
-call_text (call.Ack now id s fresh reused) = codes "ack" ++ spaced now ++ spaced id ++ subtask_text s ++ flat_map fresh_text fresh ++ flat_map reused_text reused
+call_text (call.Ack now id s fresh reused) = codes "ack" ++ spaced now ++ spaced id ++ subtask_text s ++ files_text fresh reused
 call_text (call.Decline now id s) = codes "decline" ++ spaced now ++ spaced id ++ subtask_text s
 call_text (call.Dispose id) = codes "dispose" ++ spaced id
 call_text (call.Restore now t shape) = codes "restore" ++ spaced now ++ target_text t ++ flat_map spaced (parallelisms shape)

@@ -12,7 +12,7 @@ pub fn config_line(alloc: Global, config: &Config) -> Result<String, AllocError>
     ensures text { IfOk result (λ text. string_bytes text ≡ config_text config.now) }
     ensures read { IfOk result (λ text. IsReadAs (line_of_config config.now) (string_bytes text)) }
 {
-    // Its contract has the limits.
+    // The contract of this read says that the values are within their limits.
     let _ = config.interval();
     let mut text = String::new(alloc);
     write_config(&mut text, config)?;
@@ -62,7 +62,7 @@ pub fn job_line(alloc: Global, shape: &Shape) -> Result<String, AllocError>
     ensures text { IfOk result (λ text. string_bytes text ≡ job_text shape.now) }
     ensures read { IfOk result (λ text. IsReadAs (Job shape.now) (string_bytes text)) }
 {
-    // Its contract says that it has a vertex.
+    // The contract of this read says that it is a shape.
     let _ = shape.size();
     let mut text = String::from_str(alloc, "job")?;
     write_shape(&mut text, shape)?;

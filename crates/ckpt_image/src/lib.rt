@@ -9,6 +9,7 @@ pub mod laws;
 mod lists;
 mod members;
 mod reading;
+mod recall;
 mod records;
 mod values;
 mod writing;

@@ -1,6 +1,6 @@
 //! How lists of numbers are read: files, and the parallelisms of a shape.
 
-ghost use Rattle.std.specs.Prelude.{◌≡◌, option_and_then};
+ghost use Rattle.std.specs.Prelude.{option_and_then};
 ghost use Rattle.ckpt_image.specs.Images.{Reads};
 ghost use Rattle.ckpt_image.specs.Members.{files_of, list_of, number_of, shape_of};
 ghost use Rattle.serde_json.specs.Find.{get};

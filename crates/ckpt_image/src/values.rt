@@ -1,7 +1,7 @@
 //! How single values of an image are read: numbers, words and the configuration. Each is the member of
 //! an object under a key.
 
-ghost use Rattle.std.specs.Prelude.{◌≡◌, ◌^◌, option_and_then};
+ghost use Rattle.std.specs.Prelude.{◌^◌, option_and_then};
 ghost use Rattle.ckpt_image.specs.Images.{Reads};
 ghost use Rattle.ckpt_image.specs.Members.{config_of, kind_of, mode_of, number_below, number_of, optional_of, state_of, version_of};
 ghost use Rattle.serde_json.specs.Find.{get};

@@ -17,6 +17,7 @@ ghost use Rattle.ckpt_image.specs.Images.{image_read};
 ghost use Rattle.ckpt_image.specs.Written.{ack_data, clock_data, config_data, early_members, image_bytes, image_data, later_members, mode_name, naturals, opening_data, optional, outbox_data, record_data};
 
 use crate::members::VERSION;
+use crate::recall::{recall_files, recall_shape};
 use ckpt_core::{Image, Mode, Saved};
 use ckpt_ids::{Acked, Acks, CheckpointId, Config, Handed};
 use ckpt_texts::metadata::{files_value, kind_name, shape_value, state_name};
@@ -60,8 +61,7 @@ fn put_later(
 {
     put(object, alloc, "version", Value::from(VERSION))?;
     put(object, alloc, "shape", shape_value(alloc, &image.shape)?)?;
-    // The contract of this call says that it is a shape.
-    let _ = image.shape.vertices();
+    recall_shape(&image.shape);
     put(
         object,
         alloc,
@@ -107,8 +107,7 @@ fn opening_value(alloc: Global, image: &Image) -> Result<Value, AllocError>
 {
     let config = config_value(alloc, &image.config)?;
     let shape = shape_value(alloc, &image.first_shape)?;
-    // The contract of this call says that it is a shape.
-    let _ = image.first_shape.vertices();
+    recall_shape(&image.first_shape);
     json!(in alloc; {"config": config, "first": image.first, "shape": shape, "start": image.start})
 }
 
@@ -134,8 +133,7 @@ fn outbox_value(alloc: Global, image: &Image) -> Result<Value, AllocError>
     ensures taken { OnOk result (IsAscending image.now.taken) }
 {
     let taken = files_value(alloc, &image.taken)?;
-    // The contract of this read says that they are in ascending order.
-    let _ = image.taken.as_slice();
+    recall_files(&image.taken);
     let waiting = handed_value(alloc, &image.waiting)?;
     json!(in alloc; {"taken": taken, "waiting": waiting})
 }
@@ -168,11 +166,9 @@ fn record_value(alloc: Global, saved: &Saved) -> Result<Value, AllocError>
 {
     let acks = acks_value(alloc, &saved.metadata.acks)?;
     let pins = files_value(alloc, &saved.pins)?;
-    // The contract of this read says that they are in ascending order.
-    let _ = saved.pins.as_slice();
+    recall_files(&saved.pins);
     let shape = shape_value(alloc, &saved.metadata.shape)?;
-    // The contract of this call says that it is a shape.
-    let _ = saved.metadata.shape.vertices();
+    recall_shape(&saved.metadata.shape);
     let id = number_of(saved.metadata.id);
     let kind = kind_name(saved.metadata.kind);
     let state = state_name(saved.metadata.done);
@@ -205,8 +201,7 @@ fn ack_value(alloc: Global, acked: &Acked) -> Result<Value, AllocError>
     ensures fits { OnOk result (AckFits acked.now) }
 {
     let files = files_value(alloc, &acked.files)?;
-    // The contract of this read says that they are in ascending order.
-    let _ = acked.files.as_slice();
+    recall_files(&acked.files);
     let index = acked.subtask.index;
     let vertex = acked.subtask.vertex;
     json!(in alloc; {"files": files, "index": index, "vertex": vertex})

@@ -1,10 +1,8 @@
 -- A subtask's word: the part before its first dot, and the part after it.
-use Rattle.std.proofs.Common.{◌≡◌, ℕ, ◌+◌, ◌-◌, ◌≤◌, Bool, true, false, cond, ltb, ltb-false, List, [], length, take, drop, Option, Some, None, option_and_then, refl, ap, arith, length-drop}
+use Rattle.std.proofs.Common.{◌≡◌, ℕ, ◌+◌, ◌-◌, ◌≤◌, Bool, true, false, cond, ltb, ltb-false, List, [], length, take, drop, Option, Some, None, refl, ap, arith, length-drop}
 use Rattle.std.specs.List.{position_or_len}
-use Rattle.std.specs.Option.{option_map}
 use Rattle.std.proofs.lemmas.List.{take_all, drop_all}
-use Rattle.ckpt_ids.specs.declared.subtask.SubtaskId.{SubtaskId}
-use Rattle.ckpt_lines.specs.Values.{is_dot, number_of, part_of, subtask_of}
+use Rattle.ckpt_lines.specs.Values.{is_dot, joined, number_of, part_of, subtask_of}
 
 abbrev dot_place : List ℕ → ℕ
 dot_place word = position_or_len is_dot word
@@ -12,9 +10,6 @@ dot_place word = position_or_len is_dot word
 -- where `position` finds the first dot
 abbrev pub dot_found : List ℕ → Option ℕ
 dot_found word = cond (ltb (dot_place word) (length word)) (Some (dot_place word)) None
-
-abbrev pub joined : Option ℕ → Option ℕ → Option SubtaskId
-joined vertex index = option_and_then (λ (v : ℕ). option_map (λ (i : ℕ). record { vertex = v; index = i }) index) vertex
 
 joined-none : (vertex : Option ℕ) → joined vertex None ≡ None
 joined-none None = refl

@@ -44,6 +44,15 @@ meaning (line.Show id) = Ok (Call (call.Show id))
 meaning (line.Count file) = Ok (Call (call.Count file))
 meaning (line.All now id threads first) = Ok (All now id threads first)
 
+-- whether the line says a call of the coordinator
+abbrev pub says_a_call : Line → Bool
+says_a_call line.Skip = false
+says_a_call (line.Config interval pause at_once timeout tolerable retained keep_on_cancel) = false
+says_a_call (line.Job parallelisms) = false
+says_a_call (line.Start now) = false
+says_a_call (line.All now id threads first) = false
+says_a_call line = true
+
 -- a `restore` in a new shape, for which memory is taken
 abbrev pub has_new_shape : Line → Bool
 has_new_shape (line.Restore now target (p ∷ ps)) = true

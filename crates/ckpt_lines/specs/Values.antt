@@ -34,9 +34,13 @@ part_of word = option_and_then small (number_of word)
 abbrev pub is_dot : ℕ → Bool
 is_dot byte = byte == 46
 
+-- the subtask of this vertex and this index, if both are there
+abbrev pub joined : Option ℕ → Option ℕ → Option SubtaskId
+joined vertex index = option_and_then (λ v. option_map (λ i. record { vertex = v; index = i }) index) vertex
+
 -- two such numbers with a dot between them
 unfoldable pub subtask_of : List ℕ → Option SubtaskId
-subtask_of word = option_and_then (λ vertex. option_map (λ index. record { vertex = vertex; index = index }) (part_of (after_first is_dot word))) (part_of (before_first is_dot word))
+subtask_of word = joined (part_of (before_first is_dot word)) (part_of (after_first is_dot word))
 
 abbrev pub number : List ℕ → Result ℕ LineFault
 number word = ok_or (number_of word) fault.Number

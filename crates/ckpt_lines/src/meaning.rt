@@ -1,11 +1,11 @@
 //! What a line says: a call of the coordinator, or another kind of line.
 
 ghost use Rattle.std.specs.Prelude.{◌≡◌, ◌≢◌, ◌↔◌, [], true, false, Ok, Err, IfOk};
-ghost use Rattle.ckpt_lines.specs.Meanings.{has_new_shape, is_new_shape, meaning, new_shape};
+ghost use Rattle.ckpt_lines.specs.Meanings.{has_new_shape, is_new_shape, meaning, new_shape, restoring, says_a_call};
 
 use crate::line::Line;
 use crate::numbers::Numbers;
-use ckpt_ids::{Call, CheckpointId, Shape, ShapeFault};
+use ckpt_ids::{Call, CheckpointId, Shape, ShapeFault, Target};
 use std::alloc::Global;
 
 /// What a line of a script says. Moments and durations are milliseconds.
@@ -63,7 +63,7 @@ impl Line {
     /// Returns [`ShapeFault::BadShape`] exactly for a `restore` whose parallelisms [`Shape::new`]
     /// refuses as a shape. Returns [`ShapeFault::Memory`] if memory runs out, and only for a
     /// `restore` with parallelisms.
-    #[tactic(auto, unfolding(crate::specs::Meanings::meaning, crate::specs::Meanings::restoring))]
+    #[tactic(auto, unfolding(crate::specs::Meanings::meaning))]
     #[inline(always)]
     pub fn meaning(self, alloc: Global) -> Result<Meaning, ShapeFault>
         ensures value { IfOk result (λ said. meaning self ≡ Ok said) }
@@ -71,28 +71,6 @@ impl Line {
         ensures memory { result ≡ Err ShapeFault.Memory → has_new_shape self ≡ true }
     {
         let call = match self {
-            Line::Skip => return Ok(Meaning::Skip),
-            Line::Config {
-                interval,
-                pause,
-                at_once,
-                timeout,
-                tolerable,
-                retained,
-                keep_on_cancel,
-            } => {
-                return Ok(Meaning::Config {
-                    interval,
-                    pause,
-                    at_once,
-                    timeout,
-                    tolerable,
-                    retained,
-                    keep_on_cancel,
-                });
-            }
-            Line::Job { parallelisms } => return Ok(Meaning::Job { parallelisms }),
-            Line::Start { now } => return Ok(Meaning::Start { now }),
             Line::Tick { now } => Call::Tick { now },
             Line::Savepoint { now } => Call::Savepoint { now },
             Line::Ack {
@@ -114,33 +92,77 @@ impl Line {
                 now,
                 target,
                 parallelisms,
-            } => Call::Restore {
-                now,
-                target,
-                shape: new_shape(alloc, &parallelisms)?,
-            },
+            } => restore_call(alloc, now, target, &parallelisms)?,
             Line::Cancel { now } => Call::Cancel { now },
             Line::Take { most } => Call::Take { most },
             Line::Deleted { file } => Call::Deleted { file },
             Line::Undeleted { file } => Call::Undeleted { file },
             Line::Show { id } => Call::Show { id },
             Line::Count { file } => Call::Count { file },
+            other => return Ok(other.other_meaning()),
+        };
+        Ok(Meaning::Call(call))
+    }
+
+    /// What this line says, if that is not a call.
+    #[tactic(auto, unfolding(crate::specs::Meanings::meaning))]
+    #[inline(always)]
+    fn other_meaning(self) -> Meaning
+        requires { says_a_call self ≡ false }
+        ensures { meaning self ≡ Ok result }
+    {
+        match self {
+            Line::Skip => Meaning::Skip,
+            Line::Config {
+                interval,
+                pause,
+                at_once,
+                timeout,
+                tolerable,
+                retained,
+                keep_on_cancel,
+            } => Meaning::Config {
+                interval,
+                pause,
+                at_once,
+                timeout,
+                tolerable,
+                retained,
+                keep_on_cancel,
+            },
+            Line::Job { parallelisms } => Meaning::Job { parallelisms },
+            Line::Start { now } => Meaning::Start { now },
             Line::All {
                 now,
                 id,
                 threads,
                 first,
-            } => {
-                return Ok(Meaning::All {
-                    now,
-                    id,
-                    threads,
-                    first,
-                });
-            }
-        };
-        Ok(Meaning::Call(call))
+            } => Meaning::All {
+                now,
+                id,
+                threads,
+                first,
+            },
+            _ => unreachable!(),
+        }
     }
+}
+
+/// The call of a `restore` line with these parallelisms.
+#[tactic(auto, unfolding(crate::specs::Meanings::restoring))]
+#[inline(always)]
+fn restore_call(
+    alloc: Global,
+    now: u64,
+    target: Target,
+    parallelisms: &Numbers,
+) -> Result<Call, ShapeFault>
+    ensures value { IfOk result (λ call. restoring now target parallelisms.now ≡ Ok (Meaning.Call call)) }
+    ensures refused { (result ≡ Err ShapeFault.BadShape) ↔ (restoring now target parallelisms.now ≡ Err ShapeFault.BadShape) }
+    ensures memory { result ≡ Err ShapeFault.Memory → parallelisms.now ≢ [] }
+{
+    let shape = new_shape(alloc, parallelisms)?;
+    Ok(Call::Restore { now, target, shape })
 }
 
 /// The shape of these parallelisms, or `None` if the list is empty.

@@ -7,7 +7,7 @@ use native.Mathlib.Decide.{ℕ_discrete}
 use lib.ListN.{get_elem?}
 use lib.Seq.{set-get_or}
 use prog.Atomic.{either}
-use Rattle.atomic_table.specs.Table.{State, Me, keeps, takes, gives, stepped, opening, Allows, Splits, Joins, carried_after, Valid}
+use Rattle.atomic_table.specs.Table.{State, keeps, takes, gives, stepped, opening, Allows, Splits, Joins, carried_after, Valid}
 use Rattle.atomic_table.proofs.Lists.{set_else, set_again, set_here, at_snoc, at_set, at_longer, exchanged}
 use Rattle.ckpt_locked.specs.declared.book.Entry.{Entry}
 use Rattle.ckpt_locked.specs.declared.view.Base.{Base}

@@ -42,23 +42,33 @@ abbrev pub no_claim : Claim
 no_claim = claim (record { book = no_book; seats = 0 }) 0 [] []
 
 -- the five states of a seat, and the state of a seat that is used up
-abbrev pub fresh : Base → View
-fresh base = record { live = true; numbered = false; mine = claim base 0 [] []; queued = false; ticket = 0; turn = false; found = []; claims = false; other = no_claim }
-
 abbrev pub idle : Claim → View
-idle c = record { live = true; numbered = true; mine = c; queued = false; ticket = 0; turn = false; found = []; claims = false; other = no_claim }
+idle c = record {
+  live = true;
+  numbered = true;
+  mine = c;
+  queued = false;
+  ticket = 0;
+  turn = false;
+  found = [];
+  claims = false;
+  other = no_claim;
+}
+
+abbrev pub fresh : Base → View
+fresh base = record (idle (claim base 0 [] [])) { numbered = false }
 
 abbrev pub waiting : Claim → ℕ → View
-waiting c t = record { live = true; numbered = true; mine = c; queued = true; ticket = t; turn = false; found = []; claims = false; other = no_claim }
+waiting c t = record (idle c) { queued = true; ticket = t }
 
 abbrev pub serving : Claim → ℕ → List Entry → View
-serving c t log = record { live = true; numbered = true; mine = c; queued = true; ticket = t; turn = true; found = log; claims = false; other = no_claim }
+serving c t log = record (waiting c t) { turn = true; found = log }
 
 abbrev pub showing : Claim → ℕ → List Entry → Claim → View
-showing c t log d = record { live = true; numbered = true; mine = c; queued = true; ticket = t; turn = true; found = log; claims = true; other = d }
+showing c t log d = record (serving c t log) { claims = true; other = d }
 
 abbrev pub spent : View
-spent = record { live = false; numbered = false; mine = no_claim; queued = false; ticket = 0; turn = false; found = []; claims = false; other = no_claim }
+spent = record (idle no_claim) { live = false; numbered = false }
 
 -- it has seen a prefix of the history, and its calls are all those of its number there
 pub record Claimed (base : Base) (log : List Entry) (c : Claim) : Type 0 where

@@ -4,7 +4,7 @@
 //! polls for a while. Otherwise it sleeps on a word of its own, its perch. Then it makes its call
 //! on the book in its slot, counts the entry, and passes the turn on. It wakes the thread with the
 //! next ticket, and one that will soon have its turn, if they sleep.
-ghost use Rattle.std.specs.Prelude.{◌≡◌, ◌+◌, ◌^◌, ◌<◌, ◌≤◌, [], ◌∷◌, length, Some, IfErr, IfOk};
+ghost use Rattle.std.specs.Prelude.{◌≡◌, ◌+◌, ◌^◌, ◌<◌, ◌≤◌, [], length, Some, IfErr, IfOk};
 ghost use Rattle.ckpt_locked.specs.Books.{History};
 ghost use Rattle.ckpt_locked.specs.Turns.{kept, grown, idle, waiting, Called};
 ghost use Rattle.ckpt_locked.specs.Locks.{IsTurns, IsOut, HasBook, CameTo, Asked, Entered, found_with};
@@ -164,7 +164,8 @@ fn apply_in(slot: &mut Option<Book>, number: u32, call: Call) -> Result<Answer, 
 {
     let Some(book) = slot else { unreachable!() };
     let answer = book.apply(number, call)?;
-    let _len = book.len();
+    // The contract of this read says that the book has fewer than 2^64 entries.
+    let _ = book.len();
     Ok(answer)
 }
 

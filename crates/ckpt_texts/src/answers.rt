@@ -1,25 +1,11 @@
 //! The text of an answer: a reply or a refusal.
-ghost use Rattle.std.specs.Prelude.{◌≡◌, ◌++◌, IfOk, OnOk, string_bytes};
+ghost use Rattle.std.specs.Prelude.{◌≡◌, ◌++◌, OnOk, string_bytes};
 ghost use Rattle.ckpt_texts.specs.Texts.{answer_bytes};
 
 use crate::refusals::write_refusal;
 use crate::replies::write_reply;
 use ckpt_ids::Answer;
 use std::alloc::{AllocError, Global};
-
-/// Room for most lines, which then allocate once.
-const USUAL_LENGTH: usize = 64;
-
-/// The printed line of an answer, with its newline.
-///
-/// Fails only if memory runs out.
-pub fn answer_text(alloc: Global, answer: &Answer) -> Result<String, AllocError>
-    ensures { IfOk result (λ text. string_bytes text ≡ answer_bytes answer.now) }
-{
-    let mut text = String::with_capacity(alloc, USUAL_LENGTH)?;
-    write_answer(alloc, &mut text, answer)?;
-    Ok(text)
-}
 
 /// Appends the printed line of an answer, with its newline.
 ///

@@ -1,8 +1,8 @@
 //! The printed texts of the coordinator: one line for each answer, and the metadata of a record as
 //! JSON.
 //!
-//! [`answer_text`] returns the line, [`write_answer`] appends it, and [`metadata_text`] returns the
-//! JSON. `specs/Texts.antt` and `specs/MetadataTexts.antt` define them byte for byte.
+//! [`write_answer`] appends the line, and [`metadata_text`] returns the JSON. `specs/Texts.antt` and
+//! `specs/MetadataTexts.antt` define them byte for byte.
 #![tactic(auto)]
 
 pub mod answers;
@@ -11,5 +11,5 @@ mod numbers;
 mod refusals;
 mod replies;
 
-pub use answers::{answer_text, write_answer};
+pub use answers::write_answer;
 pub use metadata::metadata_text;

@@ -10,7 +10,7 @@ use Rattle.ckpt_workers.specs.contracts.shares.Share as Share
 call_send : IsSend Call.the_row
 call_send = search (sendable, crosses) depth 80 fits 20000
 
-answer_send : IsSend Answer.the_row
+pub answer_send : IsSend Answer.the_row
 answer_send = search (sendable, crosses) depth 80 fits 20000
 
 pub share_send : IsSend Share.the_row

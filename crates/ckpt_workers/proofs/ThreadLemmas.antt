@@ -1,7 +1,6 @@
 -- A list of calls, made by threads over a lock.
-use Rattle.std.proofs.Common.{◌≡◌, ℕ, zero, suc, ◌+◌, ◌-◌, ◌/◌, ◌%◌, ◌<◌, ◌≤◌, ◌≢◌, cond, eqb, eq-eqb, List, [], ◌∷◌, ◌++◌, length, get_or, refl, sym, ap, ◌∙◌, subst, arith, append_assoc, append-nil, length-append, All}
-use Rattle.std.specs.Prelude.{map, not, None}
-use Rattle.std.proofs.lemmas.List.Sums.{count_by-le-length}
+use Rattle.std.proofs.Common.{◌≡◌, ℕ, zero, suc, ◌+◌, ◌-◌, ◌/◌, ◌%◌, ◌<◌, cond, eq-eqb, List, [], ◌∷◌, ◌++◌, length, get_or, refl, sym, ap, ◌∙◌, subst, arith, append_assoc, append-nil, length-append, All}
+use Rattle.std.specs.Prelude.{map, None}
 use mathlib.Core.Logic.{dite}
 use native.Mathlib.Decide.{ℕ_discrete}
 use Rattle.std.proofs.lemmas.List.{append_cancel_left, get_or-append_right, get_or-map, get_or_append_left, length-map, nil_from_length}
@@ -19,11 +18,11 @@ use Rattle.ckpt_workers.specs.declared.team.Made as team
 use Rattle.ckpt_workers.specs.Deals.{IsDeal, IsDealOf, IsTallied, turns_of}
 use Rattle.ckpt_workers.specs.Shifts.{Exchange, MadeAll, answers_in, calls_in}
 use Rattle.ckpt_workers.specs.Spreads.{AreWorked, IsWorked}
-use Rattle.ckpt_workers.specs.Teams.{IsTally, IsTeamwork, dealt_to, is_accepted}
+use Rattle.ckpt_workers.specs.Teams.{IsTally, IsTeamwork, dealt_to}
 use Rattle.ckpt_workers.proofs.Dealing.{length-dealt_to, turns_of-within}
 use Rattle.std.proofs.Math.Nat.{mod-lt}
 use Rattle.ckpt_workers.proofs.DealLemmas.{IsRead, IsRead-all, IsRead-none, IsRead-push}
-use Rattle.ckpt_workers.proofs.SeatLemmas.{after, after-append, answers_by-append, answers_by-none, calls_by-append}
+use Rattle.ckpt_workers.proofs.SeatLemmas.{after, answers_by-append, answers_by-none, calls_by-append}
 use Rattle.ckpt_workers.proofs.TeamLemmas.{IsCounted, IsTally-push}
 
 -- the book of the hand's lock
@@ -284,10 +283,6 @@ IsCounting-all hands book count made of h = record {
   dealt = IsRead-all hands h.told count h.as_many of h.read;
   tally = h.tally;
 }
-
-pub map_twice : {X Y Z : Type 0} (f : X → Y) (g : Y → Z) (xs : List X) → map g (map f xs) ≡ map (λ x. g (f x)) xs
-map_twice f g [] = refl
-map_twice f g (x ∷ xs) = ap (λ l. g (f x) ∷ l) (map_twice f g xs)
 
 -- the passes of new shares belong to the lock
 pub shares_are : (lock : Lock) (n : ℕ) (shares : List Share) → map (λ (s : Share). s.pass) shares ≡ newcomers lock n → All (λ (s : Share). s.pass.lock ≡ lock) shares

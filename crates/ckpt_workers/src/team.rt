@@ -1,7 +1,7 @@
 //! Teams that make a list of calls, and the one that makes them in order.
 ghost use Rattle.std.specs.Prelude.{◌≡◌, ◌+◌, ◌^◌, ◌<◌, ◌≤◌, ◌++◌, if◌then◌else◌, IfOk, OnOk};
 ghost use Rattle.std.specs.Option.{option_or};
-ghost use Rattle.ckpt_locked.specs.Books.{answer_to, calls_of, entered};
+ghost use Rattle.ckpt_locked.specs.Books.{calls_of};
 ghost use Rattle.ckpt_workers.specs.Teams.{IsOneMore, IsTeamwork, is_accepted};
 ghost use Rattle.ckpt_core.specs.Interleavings.{completed_by};
 

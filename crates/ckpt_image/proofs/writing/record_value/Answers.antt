@@ -3,8 +3,8 @@ use Rattle.ckpt_image.proofs.writing.record_value.Goals as goal
 
 pub returns-in-Ok-json-14-clause-fits : goal.returns-in-Ok-json-14-clause-fits
 returns-in-Ok-json-14-clause-fits c = record {
-  shape = c.vertices.ensures.limits;
+  shape = c.recall_shape.ensures;
   order = c.in_ok-acks.ensures.order;
   acks = c.in_ok-acks.ensures.fits;
-  pins = c.as_slice.ensures.ascending;
+  pins = c.recall_files.ensures;
 }

@@ -1,13 +1,10 @@
 -- Answers the goals of `compare_all`.
-use Rattle.std.proofs.Common.{◌≡◌, ◌++◌, [], ◌∷◌, List, length, refl, subst, sym, ap, ◌∙◌, append_assoc, arith, All}
+use Rattle.std.proofs.Common.{◌≡◌, ◌++◌, [], ◌∷◌, List, subst, sym, ap, ◌∙◌, append_assoc, arith, All}
+use Rattle.std.proofs.lemmas.List.{nil_from_length}
 use Rattle.std.proofs.lemmas.List.Elements.{All-cons}
 use Rattle.ckpt_locked.specs.Locks.{Hand, SeenIn}
 use Rattle.ckpt_locked.specs.Turns.{Sat}
 use Rattle.ckpt_locked.proofs.lock.compare_all.Goals as goal
-
-empty : (l : List Hand) → length l ≡ 0 → l ≡ []
-empty [] e = refl
-empty (x ∷ xs) e = absurd (omega arith)
 
 pub loop-pass-preserved : goal.loop-pass-preserved
 loop-pass-preserved c =
@@ -24,6 +21,6 @@ pub returns : goal.returns
 returns c =
     let i = c.loop-pass.invariant in
     let long = c.loop-pass.passes.ok in
-    let none = empty c.loop-pass.passes.items (omega (arith, c.in_default.ensures.cases.0)) in
+    let none = nil_from_length c.loop-pass.passes.items (omega (arith, c.in_default.ensures.cases.0)) in
     let all : c.args.passes.items ≡ i.2.0 = i.2.1 ∙ ap (λ (l : List Hand). l ++ i.2.0) none in
     subst (All (SeenIn c.args.seat.now.me.0.found)) (sym all) i.2.2

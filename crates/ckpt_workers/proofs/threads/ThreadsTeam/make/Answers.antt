@@ -3,6 +3,10 @@ use Rattle.std.proofs.Common.{◌≡◌, ◌<◌, length, map, sym, ap, ◌∙�
 use denote.Param.Send.{sendable}
 use Rattle.std.proofs.Crossing.{crosses}
 use Rattle.std.proofs.lemmas.List.{length-map}
+use Rattle.std.proofs.lemmas.Simd.{map-map}
+use Rattle.std.specs.declared.alloc.Global.{Global}
+use Rattle.std.specs.declared.vec.Vec.{Vec}
+use Rattle.ckpt_ids.specs.declared.reply.Answer.{Answer}
 use Rattle.ckpt_locked.specs.declared.view.Base.{Base}
 use Rattle.ckpt_locked.specs.Locks.{GivenBack, Lock, newcomers}
 use Rattle.ckpt_locked.proofs.Crossings.{locked_sync}
@@ -11,7 +15,7 @@ use Rattle.ckpt_workers.specs.declared.shares.Report.{Report}
 use Rattle.ckpt_workers.specs.declared.shares.Share.{Share}
 use Rattle.ckpt_workers.specs.Deals.{IsTallied}
 use Rattle.ckpt_workers.specs.Teams.{IsTeamwork}
-use Rattle.ckpt_workers.proofs.ThreadLemmas.{IsDealOf-worked, IsTeamwork-threads, map_twice, reports_are, shares_are}
+use Rattle.ckpt_workers.proofs.ThreadLemmas.{IsDealOf-worked, IsTeamwork-threads, reports_are, shares_are}
 use Rattle.ckpt_workers.proofs.threads.ThreadsTeam.make.Goals as goal
 
 pub deal-requires : goal.deal-requires
@@ -59,7 +63,7 @@ counted-requires-clause-dealt g c =
     let many : length reports.items ≡ length shares.items = omega (arith, c.in_ok-reports.ensures.count, shares.ok, reports.ok) in
     let count : c.len-count.result ≡ length c.args.calls.items = omega (arith, c.len-count.ensures, c.args.calls.ok) in
     IsDealOf-worked shares.items reports.items c.args.calls.items (map (λ a. a.items) c.deref.result.now) c.len-count.result many c.in_ok-reports.ensures.each c.in_ok-shares.ensures.calls
-    (ap (map (λ a. a.items)) (c.deref.ensures.value ∙ c.in_ok-passes.ensures.answers) ∙ map_twice (λ (r : Report). r.answers) (λ a. a.items) reports.items) count
+    (ap (map (λ a. a.items)) (c.deref.ensures.value ∙ c.in_ok-passes.ensures.answers) ∙ map-map (λ (a : Vec Answer Global). a.items) (λ (r : Report). r.answers) reports.items) count
 
 pub returns : goal.returns
 returns g c =
@@ -74,7 +78,7 @@ returns g c =
     let seats : lock.base.seats ≡ c.args.threads = ap (λ (b : Base). b.seats) is in
     let passes : map (λ (s : Share). s.pass) shares.items ≡ newcomers lock lock.base.seats = c.in_ok-shares.ensures.passes ∙ c.in_ok-lock.ensures.passes ∙ ap (newcomers lock) (sym seats) in
     let back : GivenBack lock c.in-Ok.book (map (λ (r : Report). r.pass) reports.items) = subst (GivenBack lock c.in-Ok.book) c.in_ok-passes.ensures.passes c.in-Ok.ensures.book in
-    let hands = ap (map (λ a. a.items)) (c.deref.ensures.value ∙ c.in_ok-passes.ensures.answers) ∙ map_twice (λ (r : Report). r.answers) (λ a. a.items) reports.items in
+    let hands = ap (map (λ a. a.items)) (c.deref.ensures.value ∙ c.in_ok-passes.ensures.answers) ∙ map-map (λ (a : Vec Answer Global). a.items) (λ (r : Report). r.answers) reports.items in
     let tallied : IsTallied (map (λ (r : Report). r.answers.items) reports.items) (length calls) made = subst (λ n. IsTallied (map (λ (r : Report). r.answers.items) reports.items) n made) count (subst (λ l. IsTallied l c.len-count.result made) hands c.counted.ensures.tallied) in
     let work : IsTeamwork lock.base.book calls lock.base.seats made =
     IsTeamwork-threads lock calls shares.items reports.items c.in-Ok.book made passes c.in_ok-shares.ensures.calls many c.in_ok-reports.ensures.each back c.counted.ensures.book tallied in
