@@ -9,9 +9,10 @@ use Rattle.ckpt_ids.specs.declared.ack.Metadata.{Metadata}
 use Rattle.ckpt_ids.specs.declared.subtask.SubtaskId.{SubtaskId}
 use Rattle.ckpt_ids.specs.Acknowledged.{acknowledges_before, is_before, AreInSubtaskOrder}
 use Rattle.ckpt_ids.specs.Shapes.{is_subtask, same_subtask, subtasks}
+use Rattle.ckpt_ids.proofs.CountLemmas.{count_by-cons, count_by-same}
 use Rattle.ckpt_ids.proofs.OrderLemmas.{subtasks_in_order, same_subtask-Decides}
 use Rattle.ckpt_ids.proofs.OrderedLemmas.{ComesBefore-at, IsIn-from_list_any}
-use Rattle.ckpt_pending.proofs.SubtaskLemmas.{IsIn-subtasks, IsInOrder-subtasks, count_by-cons, count_by_one_more, count_by_same, is_subtask-from_IsIn, one_if, same_subtask-itself, same_subtask-other}
+use Rattle.ckpt_pending.proofs.SubtaskLemmas.{IsIn-subtasks, IsInOrder-subtasks, count_by_one_more, is_subtask-from_IsIn, one_if, same_subtask-itself, same_subtask-other}
 use Rattle.ckpt_texts.specs.MetadataTexts.{missing, missing_subtasks}
 
 abbrev is_acked : List Acked → SubtaskId → Bool
@@ -55,7 +56,7 @@ acknowledged_and_missing shape (a ∷ acks) order =
     omega (arith, front))
     (λ (h : is_subtask shape a.subtask ≡ false).
     let same : count_by (is_missing (a ∷ acks)) (subtasks shape) ≡ count_by (is_missing acks) (subtasks shape) =
-    count_by_same (is_missing acks) (is_missing (a ∷ acks)) (subtasks shape)
+    count_by-same (is_missing (a ∷ acks)) (is_missing acks) (subtasks shape)
     (λ t there. others t (λ e. both_ways (is_subtask shape a.subtask) h (ap (is_subtask shape) (sym e) ∙ is_subtask-from_IsIn shape t there))) in
     let no_more : one_if (is_subtask shape a.subtask) ≡ 0 = ap one_if h in
     omega (arith, front))
