@@ -13,20 +13,17 @@ use Rattle.ckpt_core.specs.declared.coordinator.CoreFault.TheVariants.{Refused, 
 use Rattle.ckpt_core.specs.Refusals.{refusal}
 use Rattle.ckpt_core.specs.State.{State}
 use Rattle.ckpt_core.specs.Steps.{step, effect, take_files, Stepped, unless_refused}
+use Rattle.ckpt_core.proofs.Answering.StepCases.{step_refused}
 use Rattle.ckpt_embed.specs.Buffers.{files_in, StandsInFront}
 use Rattle.ckpt_embed.specs.Told.{fault_told, refusal_told, told, no_memory}
 use Rattle.ckpt_embed.specs.declared.answer.Answer.{Answer}
-
-pub refused_step : (m : State) (call : Call) (why : Why) → refusal m call ≡ Some why → step m call ≡ (m, Refused-answer why)
-unfolding step
-refused_step m call why is = ap (unless_refused m call) is
 
 pub fault_answered : (m m' : State) (call : Call) (r : Result Reply CoreFault) (f : CoreFault) → r ≡ Err f
     → ((why : Why) → (r ≡ Err (Refused why)) ↔ (refusal m call ≡ Some why))
     → OnErr r (m' ≡ m) → (fault_told f).code ≢ no_memory
     → (m' ≡ (step m call).0) × (fault_told f ≡ told (step m call).1)
 fault_answered m m' call r (Refused why) is refused stays other =
-    let stepped = sym (refused_step m call why ((refused why).0 is)) in
+    let stepped = sym (step_refused m call why ((refused why).0 is)) in
     (subst (λ (r' : Result Reply CoreFault). OnErr r' (m' ≡ m)) is stays ∙ ap (λ (s : Stepped). s.0) stepped, ap (λ (s : Stepped). told s.1) stepped)
 fault_answered m m' call r Memory is refused stays other = absurd (other refl)
 
@@ -35,7 +32,7 @@ pub fault_in_front : (m : State) (call : Call) (r : Result Reply CoreFault) (f :
     → ((why : Why) → (r ≡ Err (Refused why)) ↔ (refusal m call ≡ Some why))
     → (fault_told f).code ≢ no_memory → StandsInFront (files_in (step m call).1) old old
 fault_in_front m call r (Refused why) old is refused other =
-    let stepped : Refused-answer why ≡ (step m call).1 = ap (λ (s : Stepped). s.1) (sym (refused_step m call why ((refused why).0 is))) in
+    let stepped : Refused-answer why ≡ (step m call).1 = ap (λ (s : Stepped). s.1) (sym (step_refused m call why ((refused why).0 is))) in
     subst (λ (a : ids.Answer). StandsInFront (files_in a) old old) stepped (refl, refl)
 fault_in_front m call r Memory old is refused other = absurd (other refl)
 
@@ -55,7 +52,7 @@ pub fault_told_as : (T : ids.Answer → Answer) → ((why : Why) → T (Refused-
     → ((why : Why) → (r ≡ Err (Refused why)) ↔ (refusal m call ≡ Some why))
     → (fault_told f).code ≢ no_memory → fault_told f ≡ T (step m call).1
 fault_told_as T gives m call r (Refused why) is refused other =
-    sym (gives why) ∙ ap (λ (s : Stepped). T s.1) (sym (refused_step m call why ((refused why).0 is)))
+    sym (gives why) ∙ ap (λ (s : Stepped). T s.1) (sym (step_refused m call why ((refused why).0 is)))
 fault_told_as T gives m call r Memory is refused other = absurd (other refl)
 
 takes_some : (m : State) (n : ℕ) → refusal m (call.Take n) ≡ None → length (files_in (step m (call.Take n)).1) ≡ min n (length m.waiting)

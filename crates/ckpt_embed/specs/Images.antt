@@ -25,14 +25,19 @@ BringsImage m old new answer = answer.code ≡ 0 → StandsInFront (image_bytes 
 abbrev pub Tells : List ℕ → State → Type 0
 Tells bytes m = IsUtf8 bytes × (image_read bytes ≡ Some m) × CanHold m
 
+-- the bytes are no such text
+abbrev pub TellsNothing : List ℕ → Type 0
+TellsNothing bytes = (m : State) → Tells bytes m → ⊥
+
 -- a closed handle is opened in the state that the bytes describe
 abbrev pub IsOpenedSaved : Option State → Option State → List ℕ → Answer → Type 0
 IsOpenedSaved old new bytes answer = (m : State) → old ≡ None → answer.code ≢ no_memory → Tells bytes m → (answer ≡ done 0 0 0) × (new ≡ Some m)
 
 -- if the bytes describe no such state, a closed handle stays closed, and says so
 abbrev pub IsNotOpenedSaved : Option State → Option State → List ℕ → Answer → Type 0
-IsNotOpenedSaved old new bytes answer = old ≡ None → answer.code ≢ no_memory → ((m : State) → Tells bytes m → ⊥) → (answer ≡ bad_argument bad_image) × (new ≡ None)
+IsNotOpenedSaved old new bytes answer =
+    old ≡ None → answer.code ≢ no_memory → TellsNothing bytes → (answer ≡ bad_argument bad_image) × (new ≡ None)
 
 -- the bytes describe no such state, unless memory ran out
 abbrev pub IsWhyNotSaved : List ℕ → Answer → Type 0
-IsWhyNotSaved bytes answer = answer.code ≢ no_memory → (answer ≡ bad_argument bad_image) × ((m : State) → Tells bytes m → ⊥)
+IsWhyNotSaved bytes answer = answer.code ≢ no_memory → (answer ≡ bad_argument bad_image) × TellsNothing bytes

@@ -1,6 +1,6 @@
 -- Why a handle is not opened.
 use Rattle.std.specs.Prelude.{◌≡◌, ◌≢◌, ℕ, true, not, if◌then◌else◌, List, Option, Some, None}
-use Rattle.ckpt_ids.specs.Configuration.{Configuration, is_within_limits}
+use Rattle.ckpt_ids.specs.Configuration.{Configuration, configured, is_within_limits}
 use Rattle.ckpt_ids.specs.Shapes.{is_shape}
 use Rattle.ckpt_core.specs.declared.coordinator.OpenFault.{OpenFault}
 use Rattle.ckpt_core.specs.declared.coordinator.OpenFault.TheVariants.{MomentTooLarge, BadFirst}
@@ -11,7 +11,7 @@ use Rattle.ckpt_embed.specs.declared.opening.Settings.{Settings}
 use Rattle.ckpt_embed.specs.Told.{bad_config, bad_shape, bad_moment, bad_first, bad_argument, already_open, done, no_memory}
 
 abbrev pub configuration_of : Settings → Configuration
-configuration_of s = record { interval = s.interval; pause = s.pause; at_once = s.at_once; timeout = s.timeout; tolerable = s.tolerable; retained = s.retained; keep_on_cancel = s.keep_on_cancel }
+configuration_of s = configured s.interval s.pause s.at_once s.timeout s.tolerable s.retained s.keep_on_cancel
 
 abbrev pub fault_number : Option OpenFault → Option ℕ
 fault_number None = None

@@ -1,6 +1,6 @@
 //! Saves a coordinator into a caller's buffer, and opens a handle with an image.
 
-ghost use Rattle.std.specs.Prelude.{◌≡◌, ◌≢◌, None, Some, IfOk, IfErr, length, string_bytes};
+ghost use Rattle.std.specs.Prelude.{◌≡◌, ◌≢◌, Some, IfOk, IfErr, length, string_bytes};
 ghost use Rattle.core.specs.Str.{IsUtf8};
 ghost use Rattle.ckpt_core.specs.Images.{settled, state_in};
 ghost use Rattle.ckpt_core.specs.State.{State};
@@ -10,7 +10,7 @@ ghost use Rattle.ckpt_embed.specs.Buffers.{StandsInFront};
 ghost use Rattle.ckpt_embed.specs.Calls.{HasNoNumbers, StaysAsItWas, StaysClosed};
 ghost use Rattle.ckpt_embed.specs.Images.{BringsImage, IsNotOpenedSaved, IsOpenedSaved, IsSaveTold, IsWhyNotSaved, Tells, saved_told};
 ghost use Rattle.ckpt_embed.specs.Opening.{StaysOpen};
-ghost use Rattle.ckpt_embed.specs.Told.{bad_argument, bad_image, no_memory};
+ghost use Rattle.ckpt_embed.specs.Told.{bad_argument};
 
 use crate::answer::Answer;
 use crate::handle::Handle;

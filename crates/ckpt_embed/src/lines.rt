@@ -1,6 +1,6 @@
 //! Makes the call of a script's line through a handle, and says which kind of line it is.
 
-ghost use Rattle.std.specs.Prelude.{◌≡◌, ◌≢◌, ◌||◌, ◌≤◌, true, length, Ok, Err, Some, IfOk, IfErr};
+ghost use Rattle.std.specs.Prelude.{◌≡◌, ◌≢◌, ◌||◌, true, length, Ok, Err, Some, IfOk, IfErr};
 ghost use Rattle.ckpt_ids.specs.declared.call.Call.TheVariants as call;
 ghost use Rattle.ckpt_core.specs.Memory.{may_want_memory};
 ghost use Rattle.ckpt_core.specs.State.{State};

@@ -2,10 +2,9 @@
 //! opening.
 
 ghost use Rattle.std.specs.Prelude.{◌≡◌, ◌≢◌, ◌≤◌, None, Ok, Err, IsOk, IfOk, IfErr, length, string_bytes};
-ghost use Rattle.ckpt_ids.specs.declared.call.Call.{Call as Asked};
 ghost use Rattle.ckpt_lines.specs.declared.limits.TheConstants.{LONGEST_LINE};
 ghost use Rattle.ckpt_lines.specs.declared.line.Line.TheVariants as line;
-ghost use Rattle.ckpt_call_lines.specs.CallTexts.{IsReadAs, call_text, config_text, job_text, line_of_call, line_of_config, start_text};
+ghost use Rattle.ckpt_call_lines.specs.CallTexts.{IsReadAs, config_text, job_text, line_of_config, start_text};
 ghost use Rattle.ckpt_embed.specs.Buffers.{StandsInFront};
 ghost use Rattle.ckpt_embed.specs.Calls.{HasNoNumbers, IsWhyNoCall};
 ghost use Rattle.ckpt_embed.specs.Opening.{IsWhyNot, OpeningWantsMemory, bad_opening, configuration_of, opening_of};

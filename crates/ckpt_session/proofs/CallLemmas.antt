@@ -1,5 +1,5 @@
 -- What a line says that was read as a call.
-use Rattle.std.proofs.Common.{◌≡◌, ℕ, List, Result, ap, refl}
+use Rattle.std.proofs.Common.{◌≡◌, ℕ, Result, refl}
 use Rattle.ckpt_ids.specs.declared.call.Call.{Call}
 use Rattle.ckpt_lines.specs.declared.fault.LineFault.{LineFault}
 use Rattle.ckpt_lines.specs.declared.line.Line.{Line}

@@ -2,6 +2,7 @@
 ghost use Rattle.std.specs.Prelude.{◌≡◌, ◌≤◌, ◌<◌, ◌^◌, ◌+◌, Some, length, IfOk, OnOk};
 ghost use Rattle.std.specs.List.{list_any};
 ghost use Rattle.ckpt_ids.specs.Shapes.{same_subtask};
+ghost use Rattle.ckpt_core.specs.Soundness.{IsSound};
 ghost use Rattle.ckpt_locked.specs.Books.{state_of_book};
 ghost use Rattle.ckpt_texts.specs.MetadataTexts.{missing_subtasks};
 ghost use Rattle.ckpt_session.specs.AllLines.{ack_with, missing_now, pending_metadata, shown_pending, acks_for, told_of, all_of, all_obeyed};
@@ -70,9 +71,8 @@ impl AllLine {
         if u64::MAX - self.first < last {
             return Ok((book, Outcome::Refused(ScriptRefusal::FilesUsedUp)));
         }
-        // The contract of this read says that the state is sound. Then the calls have the same
-        // outcome in every order.
-        let _ = book.core();
+        // In a sound state the calls have the same outcome in every order.
+        recall_sound(&book);
         let acks = self.acks(alloc, &missing)?;
         let mut made = team.make(book, acks, self.threads as u32)?;
         let outcome = self.tell(alloc, &mut made)?;
@@ -130,13 +130,20 @@ impl AllLine {
     }
 }
 
+/// Does nothing. Its contract says that the state is sound.
+fn recall_sound(book: &Book)
+    ensures { IsSound (state_of_book book.now) }
+{
+    let _ = book.core();
+}
+
 /// The metadata of the record with this number, if it is pending. Asks for it by a call.
 fn pending_metadata(book: &mut Book, id: CheckpointId) -> Result<Option<Metadata>, AllocError>
     ensures state { OnOk result (state_of_book book.new ≡ state_of_book book.old) }
     ensures value { IfOk result (λ metadata. metadata ≡ pending_metadata (state_of_book book.old) id) }
 {
-    // The contract of this read says that the state is sound. Then a number has one record.
-    let _ = book.core();
+    // In a sound state a number has one record.
+    recall_sound(book);
     match book.apply(LINE_SEAT, Call::Show { id }) {
         Ok(answer) => Ok(pending(answer)),
         Err(_) => Err(AllocError),

@@ -11,7 +11,7 @@ use crate::all::{AllLine, LINE_SEAT};
 use crate::outcome::{Outcome, ScriptRefusal};
 use crate::texts::{write_fault, write_not_started, write_outcome};
 use ckpt_core::Secret;
-use ckpt_ids::{Call, Config, Shape, ShapeFault};
+use ckpt_ids::{Call, CheckpointId, Config, Shape, ShapeFault};
 use ckpt_lines::{Line, LineFault, Meaning, Numbers, parse_line, usual_call};
 use ckpt_locked::Book;
 use ckpt_texts::write_answer;
@@ -262,11 +262,19 @@ impl Session {
         ensures told { OnErr result ((self.new.config ≡ self.old.config) × (self.new.shape ≡ self.old.shape)) }
         ensures memory { meant ≡ Err ShapeFault.Memory → is_err result ≡ true }
     {
-        let meaning = match meant {
-            Ok(meaning) => meaning,
-            Err(ShapeFault::BadShape) => return Ok(self.refuse_shape()),
-            Err(ShapeFault::Memory) => return Err(AllocError),
-        };
+        match meant {
+            Ok(meaning) => self.carry_out(meaning, team),
+            Err(ShapeFault::BadShape) => Ok(self.refuse_shape()),
+            Err(ShapeFault::Memory) => Err(AllocError),
+        }
+    }
+
+    /// Does what a line says.
+    #[tactic(auto, unfolding(crate::specs::Sessions::obeyed))]
+    fn carry_out<T: Team>(&mut self, meaning: Meaning, team: &mut T) -> Result<Outcome, AllocError>
+        ensures done { IfOk result (λ outcome. (self.new, outcome) ≡ obeyed self.old (Ok meaning)) }
+        ensures told { OnErr result ((self.new.config ≡ self.old.config) × (self.new.shape ≡ self.old.shape)) }
+    {
         match meaning {
             Meaning::Call(call) => self.answer(call),
             Meaning::Skip => Ok(Outcome::Silent),
@@ -297,15 +305,7 @@ impl Session {
                 id,
                 threads,
                 first,
-            } => {
-                let all = AllLine {
-                    moment: now,
-                    id,
-                    threads,
-                    first,
-                };
-                self.call_all(&all, team)
-            }
+            } => self.call_all(now, id, threads, first, team),
         }
     }
 
@@ -396,12 +396,26 @@ impl Session {
     /// Makes the calls of an `all` line.
     #[tactic(auto, unfolding(crate::specs::Sessions::all_called))]
     #[inline(never)]
-    fn call_all<T: Team>(&mut self, line: &AllLine, team: &mut T) -> Result<Outcome, AllocError>
-        ensures done { IfOk result (λ outcome. (self.new, outcome) ≡ all_called self.old self.old.core line.now) }
+    fn call_all<T: Team>(
+        &mut self,
+        now: u64,
+        id: CheckpointId,
+        threads: u64,
+        first: u64,
+        team: &mut T,
+    ) -> Result<Outcome, AllocError>
+        ensures done { IfOk result (λ outcome. (self.new, outcome)
+            ≡ all_called self.old self.old.core (record { moment = now; id = id; threads = threads; first = first })) }
         ensures told { OnErr result ((self.new.config ≡ self.old.config) × (self.new.shape ≡ self.old.shape)) }
     {
         let Some(book) = self.book.take() else {
             return Ok(Outcome::Refused(ScriptRefusal::NotStarted));
+        };
+        let line = AllLine {
+            moment: now,
+            id,
+            threads,
+            first,
         };
         let (book, outcome) = line.obey(self.alloc, book, team)?;
         self.book = Some(book);

@@ -1,7 +1,6 @@
 -- Answers the goals of `pending_metadata`.
-use Rattle.std.proofs.Common.{ap, subst, ◌∙◌}
+use Rattle.std.proofs.Common.{ap, ◌∙◌}
 use Rattle.ckpt_ids.specs.declared.call.Call.TheVariants.{Show}
-use Rattle.ckpt_core.specs.Soundness.{IsSound}
 use Rattle.ckpt_locked.specs.declared.limits.TheConstants.{MOST_SEATS}
 use Rattle.ckpt_locked.specs.Books.{state_of_book}
 use Rattle.ckpt_session.specs.AllLines.{shown_pending}
@@ -16,4 +15,4 @@ returns-in-Ok-clause-state c =
 pub returns-in-Ok-clause-value : goal.returns-in-Ok-clause-value
 returns-in-Ok-clause-value c =
     c.pending.ensures ∙ ap shown_pending (c.in-Ok.ensures.answer ∙ answer_to-step c.args.book.now (Show c.args.id))
-    ∙ shown_is (state_of_book c.args.book.now) c.args.id (subst IsSound c.core.ensures.replay c.core.ensures.sound)
+    ∙ shown_is (state_of_book c.args.book.now) c.args.id c.recall_sound.ensures

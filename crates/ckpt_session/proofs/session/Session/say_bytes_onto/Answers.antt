@@ -1,10 +1,10 @@
 -- Answers the goals of `Session::say_bytes_onto`.
-use Rattle.std.proofs.Common.{◌≡◌, ◌++◌, List, ℕ, ap, sym, ◌∙◌}
+use Rattle.std.proofs.Common.{◌≡◌, ◌++◌, ap, sym, ◌∙◌}
 use Rattle.std.specs.Prelude.{string_bytes}
 use Rattle.std.proofs.lemmas.Result.{on_ok_weaker}
 use Rattle.ckpt_lines.specs.Reading.{reading}
 use Rattle.ckpt_session.specs.ScriptTexts.{outcome_bytes}
-use Rattle.ckpt_session.specs.Sessions.{Said, called, said}
+use Rattle.ckpt_session.specs.Sessions.{Said, called}
 use Rattle.ckpt_session.proofs.CallLemmas.{said_call}
 use Rattle.ckpt_session.proofs.session.Session.say_bytes_onto.Goals as goal
 
