@@ -9,7 +9,7 @@ use Rattle.ckpt_ids.specs.declared.ack.Metadata.{Metadata}
 use Rattle.ckpt_ids.specs.declared.subtask.SubtaskId.{SubtaskId}
 use Rattle.ckpt_ids.specs.Acknowledged.{acknowledges_before, is_before, AreInSubtaskOrder}
 use Rattle.ckpt_ids.specs.Shapes.{is_subtask, same_subtask, subtasks}
-use Rattle.ckpt_ids.proofs.CountLemmas.{count_by-cons, count_by-same}
+use Rattle.ckpt_ids.proofs.CountLemmas.{count_by-all, count_by-cons, count_by-same}
 use Rattle.ckpt_ids.proofs.OrderLemmas.{subtasks_in_order, same_subtask-Decides}
 use Rattle.ckpt_ids.proofs.OrderedLemmas.{ComesBefore-at, IsIn-from_list_any}
 use Rattle.ckpt_pending.proofs.SubtaskLemmas.{IsIn-subtasks, IsInOrder-subtasks, count_by_one_more, is_subtask-from_IsIn, one_if, same_subtask-itself, same_subtask-other}
@@ -32,15 +32,9 @@ acked_once a acks order = ⊎_elim twice (λ (h : is_acked acks a.subtask ≡ fa
         let later : is_before a.subtask q.0.subtask ≡ true = ComesBefore-at acknowledges_before a q.0 acks order.0 q.1 in
         absurd (both_ways (is_before a.subtask a.subtask) (subtasks_in_order.irreflexive a.subtask) (ap (is_before a.subtask) same ∙ later))
 
-all_missing : (subtasks : List SubtaskId) → count_by (is_missing []) subtasks ≡ length subtasks
-all_missing [] = refl
-all_missing (s ∷ subtasks) =
-    let rest : count_by (is_missing []) subtasks ≡ length subtasks = all_missing subtasks in
-    omega (arith, count_by-cons (is_missing []) s subtasks)
-
 pub acknowledged_and_missing : (shape : List ℕ) (acks : List Acked) → AreInSubtaskOrder acks → count_by (λ a. is_subtask shape a.subtask) acks + count_by (is_missing acks) (subtasks shape) ≡ length (subtasks shape)
 acknowledged_and_missing shape [] order =
-    let all : count_by (is_missing []) (subtasks shape) ≡ length (subtasks shape) = all_missing (subtasks shape) in
+    let all : count_by (is_missing []) (subtasks shape) ≡ length (subtasks shape) = count_by-all (is_missing []) (subtasks shape) (λ s h. refl) in
     omega (arith, all)
 acknowledged_and_missing shape (a ∷ acks) order =
     let rest : count_by (λ b. is_subtask shape b.subtask) acks + count_by (is_missing acks) (subtasks shape) ≡ length (subtasks shape) = acknowledged_and_missing shape acks order.1 in
