@@ -1,5 +1,4 @@
 //! State files in a folder.
-ghost use Rattle.std.specs.Prelude.{◌≡◌};
 
 use crate::ground::Ground;
 use crate::lines::tell_files;

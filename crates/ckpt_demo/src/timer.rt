@@ -1,5 +1,4 @@
 //! The moments at which the timer ticks.
-ghost use Rattle.std.specs.Prelude.{◌≡◌};
 
 use crate::ground::Ground;
 use ckpt_workers::Moments;

@@ -1,5 +1,4 @@
 //! One successful run of each function that the coordinator itself does not call.
-ghost use Rattle.std.specs.Prelude.{◌≡◌};
 
 use ckpt_ids::{CheckpointId, FileId, Files, Kind, Shape, SubtaskId};
 use ckpt_outbox::Outbox;

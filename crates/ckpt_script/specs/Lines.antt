@@ -41,7 +41,9 @@ pub record TakesPart (bytes rest part : List ℕ) : Type 0 where
 -- the place of the first newline
 abbrev pub FindsNewline : List ℕ → Option ℕ → Type 0
 FindsNewline bytes None = has_newline bytes ≡ false
-FindsNewline bytes (Some place) = (place < length bytes) × (has_newline (take place bytes) ≡ false) × (bytes ≡ take place bytes ++ newline ∷ drop (place + 1) bytes)
+FindsNewline bytes (Some place) =
+    let line : List ℕ = take place bytes in
+    (place < length bytes) × (has_newline line ≡ false) × (bytes ≡ line ++ newline ∷ drop (place + 1) bytes)
 
 -- A part of what was read went to the line: everything up to a newline, which is dropped, or all of it if there is no
 -- newline.
