@@ -31,7 +31,7 @@ impl Parts {
 
     /// The same, if the record `id` ends too and gives up its pins.
     ///
-    /// Condition: as above.
+    /// Condition: the outbox has room for the files in use, and knows none of them.
     pub(crate) fn hand_out_after(&mut self, id: CheckpointId) -> u64
         requires unknown { AreInUseAlone self.old }
         requires room { present_in self.old.registry ≤ self.old.outbox.spare }
