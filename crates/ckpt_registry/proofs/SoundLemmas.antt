@@ -10,7 +10,7 @@ use Rattle.ckpt_registry.specs.declared.holdings.Holding.{Holding}
 use Rattle.ckpt_registry.specs.declared.pins.Pinner.{Pinner}
 use Rattle.ckpt_registry.specs.Counters.{Counts, counter, counted_once, AreInRange}
 use Rattle.ckpt_registry.specs.Holdings.{Acknowledged, AreRising, Extends, parts_of, uses_in}
-use Rattle.ckpt_registry.specs.Pins.{AreKept, AreSettled, IsKept, is_named, own_in, own_of, pinned_by, pins_in, pins_of_records, pins_on}
+use Rattle.ckpt_registry.specs.Pins.{AreKept, AreSettled, IsKept, is_named, own_files, own_in, own_of, pinned_by, pins_in, pins_of_records, pins_on}
 use Rattle.ckpt_registry.specs.Sound.{AreCounted, stored}
 use Rattle.ckpt_registry.specs.Uses.{is_owned, triples, without, without_record}
 use Rattle.ckpt_registry.specs.Parts.{files_in}
@@ -53,18 +53,15 @@ AreCounted-unpinned m p q owners counts after s kept lowered range =
 
 -- a record is removed that some pin
 module _ (m n : Acknowledged) (c : ℕ) (p q : List Pinner) (counts after : Counts) (s : AreCounted m p counts) (others : (d : ℕ) → (d ≡ c → ⊥) → parts_of n d ≡ parts_of m d) (settled : AreSettled c (parts_of m c) p q) where
-  pub pins_in-gone : pins_in n q ≡ pins_in m p
-  pins_in-gone = pins_in-settled m n c others p q s.kept settled
-
   pub AreCounted-gone : AreRising n.items → uses_in n.items ≡ without_record c (uses_in m.items) → ((f : ℕ) → count (uses_in m.items) f ≡ times f (files_in (parts_of m c)) + count (uses_in n.items) f)
       → ((f : ℕ) → counter after f + times f (files_in (parts_of m c)) ≡ counter counts f + pins_on c (parts_of m c) f p) → AreInRange after → AreCounted n q after
   AreCounted-gone ordered uses split moved range = record {
     ordered = ordered;
     kept = AreKept-settled m n c others p q s.kept settled;
-    counted = λ f. omega (arith, s.counted f, split f, moved f, own_in-settled m c f p q s.kept settled);
+    counted = λ f. omega (arith, s.counted f, split f, moved f, own_in-settled c f (parts_of m c) p q settled);
     range = range;
     below = λ f.
-        let same : count (pins_in n q) f ≡ count (pins_in m p) f = ap (λ us. count us f) pins_in-gone in
+        let same : count (pins_in n q) f ≡ count (pins_in m p) f = ap (λ us. count us f) (pins_in-settled m n c others p q settled) in
         omega (arith, same, split f, s.below f, count_by-append (λ (u : Use). eqb u.file f) (uses_in n.items) (pins_in n q), count_by-append (λ (u : Use). eqb u.file f) (uses_in m.items) (pins_in m p));
   }
 
@@ -111,21 +108,21 @@ AreCounted-acknowledged m n p counts after files more ordered adds raised range 
 }
 
 -- one more pins
-pub AreCounted-pushed : (m : Acknowledged) (p : List Pinner) (one : Pinner) (counts after : Counts) → IsKept (parts_of m one.chosen) one → ((f : ℕ) → counter after f ≡ counter counts f + times f one.files.items) → AreInRange after
-    → ((f : ℕ) → count (stored m p) f + times f (pinned_by m one) < 2 ^ 32) → AreCounted m p counts → AreCounted m (p ++ one ∷ []) after
+pub AreCounted-pushed : (m : Acknowledged) (p : List Pinner) (one : Pinner) (counts after : Counts) → IsKept m one.pins → ((f : ℕ) → counter after f ≡ counter counts f + times f (own_files one.pins)) → AreInRange after
+    → ((f : ℕ) → count (stored m p) f + times f (pinned_by m one.pins) < 2 ^ 32) → AreCounted m p counts → AreCounted m (p ++ one ∷ []) after
 AreCounted-pushed m p one counts after new raised range fits s = record {
   ordered = s.ordered;
   kept = AreKept-push m p one s.kept new;
   counted = λ f. omega (arith, s.counted f, raised f, own_in-push f p one);
   range = range;
   below = λ f.
-      let pushed : count (pins_in m (p ++ one ∷ [])) f ≡ count (pins_in m p ++ triples one.id Pin (pinned_by m one)) f = ap (λ us. count us f) (pins_in-push m p one) in
+      let pushed : count (pins_in m (p ++ one ∷ [])) f ≡ count (pins_in m p ++ triples one.id Pin (pinned_by m one.pins)) f = ap (λ us. count us f) (pins_in-push m p one) in
       omega (
         arith,
         pushed,
         fits f,
-        count-triples_of one.id f (pinned_by m one),
-        count_by-append (λ (u : Use). eqb u.file f) (pins_in m p) (triples one.id Pin (pinned_by m one)),
+        count-triples_of one.id f (pinned_by m one.pins),
+        count_by-append (λ (u : Use). eqb u.file f) (pins_in m p) (triples one.id Pin (pinned_by m one.pins)),
         count_by-append (λ (u : Use). eqb u.file f) (uses_in m.items) (pins_in m (p ++ one ∷ [])),
         count_by-append (λ (u : Use). eqb u.file f) (uses_in m.items) (pins_in m p),
       );

@@ -5,20 +5,16 @@ use Rattle.ckpt_ids.proofs.CountLemmas.{times-from_IsIn}
 use Rattle.ckpt_registry.specs.declared.pins.Pinner.{Pinner}
 use Rattle.ckpt_registry.specs.Counters.{counter, counted_once}
 use Rattle.ckpt_registry.specs.Holdings.{Acknowledged, parts_of}
-use Rattle.ckpt_registry.specs.Pins.{AreSettled, IsKept, pins_on}
+use Rattle.ckpt_registry.specs.Pins.{AreSettled, pins_on}
 use Rattle.ckpt_registry.specs.Parts.{Part, files_in}
 use Rattle.ckpt_registry.proofs.CounterLemmas.{AreReleased-none}
 use Rattle.ckpt_registry.proofs.HoldingLemmas.{AreRising-gone, count-gone, count-parts_of, parts_of-gone, uses_in-gone}
-use Rattle.ckpt_registry.proofs.PinLemmas.{pins_on-le}
-use Rattle.ckpt_registry.proofs.SoundLemmas.{AreCounted-gone, AreCounted-unchanged, count-stored, counted_once-settled, pins_in-gone}
+use Rattle.ckpt_registry.proofs.PinLemmas.{pins_in-settled, pins_on-le}
+use Rattle.ckpt_registry.proofs.SoundLemmas.{AreCounted-gone, AreCounted-unchanged, count-stored, counted_once-settled}
 use Rattle.ckpt_registry.proofs.releases.drop_uses.Goals as goal
 
 pub settle-requires-clause-kept : goal.settle-requires-clause-kept
-settle-requires-clause-kept c = λ one h e.
-    let m : Acknowledged = c.args.acknowledged.now in
-    let is : parts_of m one.chosen ≡ c.in-Some.parts = ap (parts_of m) e ∙ sym c.in-Some.ensures.parts in
-    let P : List Part → Type 0 = λ ps. IsKept ps one in
-    subst P is (c.requires.counted.kept one h)
+settle-requires-clause-kept c = (c.args.acknowledged.now, sym c.in-Some.ensures.parts, c.requires.counted.kept)
 
 pub settle-requires-clause-present : goal.settle-requires-clause-present
 settle-requires-clause-present c = λ f h.
@@ -70,7 +66,7 @@ returns-in-Some-clause-pins c =
     let q : List Pinner = c.settle.new.pinned.items in
     let is : c.in-Some.parts ≡ parts_of m id = c.in-Some.ensures.parts in
     let P : List Part → Type 0 = λ ps. AreSettled id ps p q in
-    pins_in-gone m n id p q c.args.counts.now c.lower_each.new.counts c.requires.counted (parts_of-gone m n id c.remove.ensures.gone) (subst P is c.settle.ensures.settled)
+    pins_in-settled m n id (parts_of-gone m n id c.remove.ensures.gone) p q (subst P is c.settle.ensures.settled)
 
 pub returns-in-Some-clause-released : goal.returns-in-Some-clause-released
 returns-in-Some-clause-released c =
