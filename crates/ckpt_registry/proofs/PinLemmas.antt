@@ -1,8 +1,7 @@
 -- What the pins of records come to, and how they change with the records.
 use Rattle.std.proofs.Common.{◌≡◌, ℕ, ◌+◌, ◌<◌, ◌≤◌, Bool, true, false, not, cond, eqb, ltb, List, [], ◌∷◌, ◌++◌, length, get_or, take, drop, set, refl, sym, ap, subst, ◌∙◌, ◌⊎◌, inl, inr, ⊎_elim, arith, ◌||◌, append_assoc, length-append}
 use Rattle.std.specs.List.{filter}
-use Rattle.std.specs.declared.alloc.Global.{Global}
-use Rattle.std.specs.declared.vec.Vec.{Vec}
+use Rattle.std.specs.Vec.{vec_capacity}
 use Rattle.std.proofs.lemmas.Bool.{cases_Bool, cases_eq, cond-true, cond-false, eq-eqb, ne_eqb, eqb-true}
 use Rattle.std.proofs.lemmas.Grind.{flat_map-append}
 use Rattle.std.proofs.lemmas.List.{append-nil, drop_at, drop_more, get_or_at, length-drop, take_at, take_more, take_more_set, get_or-drop, drop-set-lt, drop-drop}
@@ -21,7 +20,7 @@ use Rattle.ckpt_registry.specs.declared.pins.Pinner.{Pinner}
 use Rattle.ckpt_registry.specs.declared.pins.Pins.{Pins}
 use Rattle.ckpt_registry.specs.declared.pins.Pins.TheVariants.{Record, Files}
 use Rattle.ckpt_registry.specs.Holdings.{Acknowledged, Extends, parts_of, uses_by, uses_in}
-use Rattle.ckpt_registry.specs.Pins.{AreKept, AreSettled, IsKept, IsRoomFor, IsSettled, each_file, first_of, is_named, own_files, own_in, own_of, parts_on, parts_pinned, pinned_by, pins_in, pins_of_records, pins_on}
+use Rattle.ckpt_registry.specs.Pins.{AreKept, AreSettled, IsKept, IsSettled, each_file, first_of, is_named, own_files, own_in, own_of, parts_pinned, pinned_by, pins_in, pins_of_records}
 use Rattle.ckpt_registry.specs.Uses.{is_owned, triples, without}
 use Rattle.ckpt_registry.specs.Parts.{Part, files_in, files_of}
 use Rattle.ckpt_registry.proofs.HoldingLemmas.{count-parts_of}
@@ -80,8 +79,8 @@ IsKept-extended : (m n : Acknowledged) (pins : Pins) → Extends m n → IsKept 
 IsKept-extended m n (Record first room) more kept =
     let e = more first.id in
     let longer : length (parts_of n first.id) ≡ length (parts_of m first.id) + length e.0 = ap (λ ps. length ps) e.1 ∙ length-append (parts_of m first.id) e.0 in
-    let R : List Part → Type 0 = λ ps. IsRoomFor (files_in ps) room in
-    (omega (arith, kept.0, longer), subst R (sym (parts_pinned-extended m n (Record first room) more kept)) kept.1)
+    let same : length (files_in (first_of n first)) ≡ length (files_in (first_of m first)) = ap (λ ps. length (files_in ps)) (parts_pinned-extended m n (Record first room) more kept) in
+    (omega (arith, kept.0, longer), kept.1, omega (arith, kept.2, same))
 IsKept-extended m n (Files own) more kept = tt
 
 pub AreKept-extended : (m n : Acknowledged) (pinned : List Pinner) → Extends m n → AreKept m pinned → AreKept n pinned
@@ -158,30 +157,6 @@ AreSettled-push c ps [] (x ∷ ns) o n all same new = absurd all
 AreSettled-push c ps (x ∷ os) [] o n all same new = absurd all
 AreSettled-push c ps (x ∷ os) (y ∷ ns) o n all same new = (all.0, all.1, AreSettled-push c ps os ns o n all.2 same new)
 
--- pins of another record are none of this one, and those of this one are in its first parts
-
-pub parts_on-other : (c : ℕ) (ps : List Part) (first : FirstParts) (room : Vec ℕ Global) → (first.id ≡ c → ⊥) → parts_on c ps (Record first room) ≡ []
-parts_on-other c ps first room ne = cond-false (eqb first.id c) (take first.parts ps) [] (ne_eqb first.id c ne)
-
-pub parts_on-here : (c : ℕ) (ps : List Part) (first : FirstParts) (room : Vec ℕ Global) → first.id ≡ c → parts_on c ps (Record first room) ≡ take first.parts ps
-parts_on-here c ps first room e = cond-true (eqb first.id c) (take first.parts ps) [] (eq-eqb first.id c e)
-
-times_on-le : (m : Acknowledged) (c f : ℕ) (pins : Pins) → times f (each_file (parts_on c (parts_of m c) pins)) ≤ times f (each_file (parts_pinned m pins))
-times_on-le m c f (Record first room) =
-    let P : List Part → Type 0 = λ ps. times f (each_file ps) ≤ times f (each_file (first_of m first)) in
-    let here : first.id ≡ c → P (parts_on c (parts_of m c) (Record first room)) = λ (e : first.id ≡ c).
-    subst P (sym (parts_on-here c (parts_of m c) first room e ∙ ap (λ d. take first.parts (parts_of m d)) (sym e))) (omega arith) in
-    let other : (first.id ≡ c → ⊥) → P (parts_on c (parts_of m c) (Record first room)) = λ (ne : first.id ≡ c → ⊥). subst P (sym (parts_on-other c (parts_of m c) first room ne)) (omega arith) in
-    ⊎_elim here other (cases_eq first.id c)
-times_on-le m c f (Files own) = omega arith
-
-pub pins_on-le : (m : Acknowledged) (c f : ℕ) (pinned : List Pinner) → pins_on c (parts_of m c) f pinned ≤ pins_of_records m f pinned
-pins_on-le m c f [] = omega arith
-pins_on-le m c f (one ∷ pinned) =
-    let on : Pinner → ℕ = λ o. times f (each_file (parts_on c (parts_of m c) o.pins)) in
-    let all : Pinner → ℕ = λ o. times f (each_file (parts_pinned m o.pins)) in
-    omega (arith, times_on-le m c f one.pins, pins_on-le m c f pinned, sum_by-cons on one pinned, sum_by-cons all one pinned)
-
 module _ (m n : Acknowledged) (c : ℕ) (others : (d : ℕ) → (d ≡ c → ⊥) → parts_of n d ≡ parts_of m d) where
   first_of-other : (first : FirstParts) → (first.id ≡ c → ⊥) → first_of n first ≡ first_of m first
   first_of-other first ne = ap (take first.parts) (others first.id ne)
@@ -202,7 +177,7 @@ module _ (m n : Acknowledged) (c : ℕ) (others : (d : ℕ) → (d ≡ c → ⊥
   IsKept-settled : (o x : Pins) → IsKept m o → IsSettled c (parts_of m c) o x → IsKept n x
   IsKept-settled (Record first room) (Files own) kept s = tt
   IsKept-settled (Record first room) (Record now left) kept s =
-      let P : List Part → Type 0 = λ ps. (first.parts ≤ length ps) × IsRoomFor (files_in (take first.parts ps)) room in
+      let P : List Part → Type 0 = λ ps. (first.parts ≤ length ps) × (room.items ≡ []) × (length (files_in (take first.parts ps)) ≤ vec_capacity room) in
       subst (IsKept n) (sym s.1) (subst P (sym (others first.id s.0)) kept)
   IsKept-settled (Files own) x kept s = subst (IsKept n) (sym s) tt
 
@@ -214,28 +189,26 @@ module _ (m n : Acknowledged) (c : ℕ) (others : (d : ℕ) → (d ≡ c → ⊥
       let P : Pinner → Type 0 = λ p. IsKept n p.pins in
       ⊎_elim (λ (e : y ≡ x). subst P (sym e) (IsKept-settled o.pins x.pins (kept o (inl refl)) all.1)) (λ (k : IsIn y ns). AreKept-settled os ns (λ p q. kept p (inr q)) all.2 y k) h
 
-own-settled : (c f : ℕ) (parts : List Part) (o x : Pins) → IsSettled c parts o x → times f (own_files x) ≡ times f (own_files o) + times f (each_file (parts_on c parts o))
-own-settled c f parts (Record first room) (Files own) s =
-    let on : times f (each_file (parts_on c parts (Record first room))) ≡ times f (each_file (take first.parts parts)) = ap (λ ps. times f (each_file ps)) (parts_on-here c parts first room s.0) in
-    omega (arith, on, ap (times f) s.1)
-own-settled c f parts (Record first room) (Record now left) s =
-    let other : times f (each_file (parts_on c parts (Record first room))) ≡ 0 = ap (λ ps. times f (each_file ps)) (parts_on-other c parts first room s.0) in
-    omega (arith, other)
-own-settled c f parts (Files own) x s = let same : times f (own_files x) ≡ times f own.items = ap (λ p. times f (own_files p)) s in omega (arith, same)
+-- the files that become a pinner's own are those that it pins of the record
+own-settled : (m : Acknowledged) (c f : ℕ) (o x : Pins) → IsSettled c (parts_of m c) o x
+    → (times f (own_files o) ≤ times f (own_files x)) × (times f (own_files x) ≤ times f (own_files o) + times f (each_file (parts_pinned m o)))
+own-settled m c f (Record first room) (Files own) s =
+    let same : times f own.items ≡ times f (each_file (first_of m first)) = ap (times f) (s.1 ∙ ap (λ d. each_file (take first.parts (parts_of m d))) (sym s.0)) in
+    (omega arith, omega (arith, same))
+own-settled m c f (Record first room) (Record now left) s = (omega arith, omega arith)
+own-settled m c f (Files own) x s = let same : times f (own_files x) ≡ times f own.items = ap (λ p. times f (own_files p)) s in (omega (arith, same), omega (arith, same))
 
-pub own_in-settled : (c f : ℕ) (parts : List Part) (os ns : List Pinner) → AreSettled c parts os ns → times f (own_in ns) ≡ times f (own_in os) + pins_on c parts f os
-own_in-settled c f parts [] [] all = refl
-own_in-settled c f parts [] (x ∷ ns) all = absurd all
-own_in-settled c f parts (o ∷ os) [] all = absurd all
-own_in-settled c f parts (o ∷ os) (x ∷ ns) all =
-    omega (
-      arith,
-      own-settled c f parts o.pins x.pins all.1,
-      own_in-settled c f parts os ns all.2,
-      sum_by-cons (λ (p : Pinner). times f (each_file (parts_on c parts p.pins))) o os,
-      times-append f (own_files x.pins) (own_in ns),
-      times-append f (own_files o.pins) (own_in os),
-    )
+pub own_in-settled : (m : Acknowledged) (c f : ℕ) (os ns : List Pinner) → AreSettled c (parts_of m c) os ns → (times f (own_in os) ≤ times f (own_in ns)) × (times f (own_in ns) ≤ times f (own_in os) + pins_of_records m f os)
+own_in-settled m c f [] [] all = (omega arith, omega arith)
+own_in-settled m c f [] (x ∷ ns) all = absurd all
+own_in-settled m c f (o ∷ os) [] all = absurd all
+own_in-settled m c f (o ∷ os) (x ∷ ns) all =
+    let here = own-settled m c f o.pins x.pins all.1 in
+    let rest = own_in-settled m c f os ns all.2 in
+    let more = sum_by-cons (λ (p : Pinner). times f (each_file (parts_pinned m p.pins))) o os in
+    let new = times-append f (own_files x.pins) (own_in ns) in
+    let old = times-append f (own_files o.pins) (own_in os) in
+    (omega (arith, here.0, rest.0, new, old), omega (arith, here.1, rest.1, more, new, old))
 
 -- one pinner more has been looked at
 module _ (chosen : ℕ) (parts : List Part) (old now : List Pinner) (i : ℕ) (d : Pinner) (within : i < length now) (same_length : length now ≡ length old) (left : drop i now ≡ drop i old) where

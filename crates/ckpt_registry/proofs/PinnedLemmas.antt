@@ -13,7 +13,7 @@ use Rattle.ckpt_ids.proofs.OrderedLemmas.{ComesBefore-at, ComesBefore-from, IsIn
 use Rattle.ckpt_ids.proofs.SetLemmas.{ascending-from_dedup}
 use Rattle.ckpt_registry.specs.declared.pins.Pinner.{Pinner}
 use Rattle.ckpt_registry.specs.Holdings.{Acknowledged, uses_in}
-use Rattle.ckpt_registry.specs.Pins.{each_file, named_by, named_files, own_files, parts_pinned, pinned_by, pins_in}
+use Rattle.ckpt_registry.specs.Pins.{each_file, named_by, own_files, parts_pinned, pinned_by, pins_in}
 use Rattle.ckpt_registry.specs.Sound.{in_use, stored}
 use Rattle.ckpt_registry.specs.Uses.{pins_by, triples}
 use Rattle.ckpt_registry.specs.Parts.{files_in}
@@ -56,6 +56,9 @@ files_in_order id (u ∷ us) order pins =
 pins_by-ascending : (id : ℕ) (us : List Use) → IsInOrder use_before us → IsAscendingSet (pins_by id us)
 pins_by-ascending id us order = files_in_order id (filter (pins_it id) us) (IsInOrder-filter use_before (pins_it id) us order) (λ u h. (IsIn-from_filter (pins_it id) u us h).1)
 
+abbrev named_one : Acknowledged → Pinner → List ℕ
+named_one m one = files_in (parts_pinned m one.pins) ++ own_files one.pins
+
 -- what the pinners of the record name is what it pins
 pub named-pins : (m : Acknowledged) (p : List Pinner) (id : ℕ) → ascending_set (named_by m id p) ≡ pins_by id (in_use m p)
 named-pins m p id =
@@ -63,7 +66,7 @@ named-pins m p id =
     let all : List ℕ = named_by m id p in
     let us : List Use = in_use m p in
     let forth : (z : ℕ) → IsIn z all → IsIn z (pins_by id us) = λ z h.
-    let q = IsIn-from_flat_map (λ (o : Pinner). named_files m o.pins) z (filter its p) h in
+    let q = IsIn-from_flat_map (named_one m) z (filter its p) h in
     let one : Pinner = q.0 in
     let k = IsIn-from_filter its one p q.1 in
     let held : IsIn z (pinned_by m one.pins) = ⊎_elim
@@ -89,12 +92,12 @@ named-pins m p id =
     let w = IsIn-from_map (λ (f : ℕ). record { id = one.id; holder = Pin; file = f }) u (pinned_by m one.pins) r.2 in
     let same : z ≡ w.0 = q.2 ∙ ap (λ (v : Use). v.file) w.2 in
     let mine : its one ≡ true = ap (λ i. eqb i id) (sym (ap (λ (v : Use). v.id) w.2)) ∙ both.0 in
-    let held : IsIn w.0 (named_files m one.pins) = ⊎_elim
+    let held : IsIn w.0 (named_one m one) = ⊎_elim
     (λ (i : IsIn w.0 (each_file (parts_pinned m one.pins))). IsIn-append_left w.0 (files_in (parts_pinned m one.pins)) (own_files one.pins) (IsIn-from_in_order_once ltb w.0 (files_in (parts_pinned m one.pins)) i))
     (λ (i : IsIn w.0 (own_files one.pins)). IsIn-append_right w.0 (files_in (parts_pinned m one.pins)) (own_files one.pins) i)
     (IsIn-append_cases w.0 (each_file (parts_pinned m one.pins)) (own_files one.pins) w.1) in
     let P : ℕ → Type 0 = λ f. IsIn f all in
-    subst P (sym same) (IsIn-flat_map (λ (o : Pinner). named_files m o.pins) one w.0 (filter its p) (IsIn-filter its one p r.1 mine) held) in
+    subst P (sym same) (IsIn-flat_map (named_one m) one w.0 (filter its p) (IsIn-filter its one p r.1 mine) held) in
     same_from_members numbers_in_order (ascending_set all) (pins_by id us) (IsInOrder-in_order_once numbers_in_order all) (pins_by-ascending id us (IsInOrder-in_order_once uses_in_order (stored m p)))
     (λ z h. forth z (IsIn-from_in_order_once ltb z all h))
     (λ z h. IsIn-in_order_once numbers_in_order z all (back z h))

@@ -1,9 +1,7 @@
 -- The files that records pin: those of a live record, or their own.
-use Rattle.std.specs.Prelude.{◌≡◌, ℕ, ◌≤◌, ◌==◌, Bool, List, [], ◌∷◌, ◌++◌, ◌≢◌, filter, take, length, nat_lt, if◌then◌else◌}
+use Rattle.std.specs.Prelude.{◌≡◌, ℕ, ◌≤◌, ◌==◌, Bool, List, [], ◌∷◌, ◌++◌, ◌≢◌, filter, take, length, nat_lt}
 use Rattle.std.specs.List.{flat_map, list_any, sum_by}
 use Rattle.std.specs.Vec.{vec_capacity}
-use Rattle.std.specs.declared.alloc.Global.{Global}
-use Rattle.std.specs.declared.vec.Vec.{Vec}
 use Rattle.ckpt_ids.specs.Ascending.{ascending_set}
 use Rattle.ckpt_ids.specs.Counting.{times}
 use Rattle.ckpt_ids.specs.Ordered.{IsIn}
@@ -38,17 +36,13 @@ own_files (Files own) = own.items
 abbrev pub pinned_by : Acknowledged → Pins → List ℕ
 pinned_by m pins = each_file (parts_pinned m pins) ++ own_files pins
 
--- the same; a file of several parts is there once for each
-abbrev pub named_files : Acknowledged → Pins → List ℕ
-named_files m pins = files_in (parts_pinned m pins) ++ own_files pins
-
 -- it says whether the file is in one of the first parts of the record
 abbrev pub IsLook : Acknowledged → ℕ → Look → Type 0
 IsLook m f look = look.found ≡ nat_lt 0 (times f (files_in (first_of m look.first)))
 
--- the pins of a record
+-- the pins of a record; a file of several parts is there once for each
 abbrev pub named_by : Acknowledged → ℕ → List Pinner → List ℕ
-named_by m id pinned = flat_map (λ one. named_files m one.pins) (filter (λ one. one.id == id) pinned)
+named_by m id pinned = flat_map (λ one. files_in (parts_pinned m one.pins) ++ own_files one.pins) (filter (λ one. one.id == id) pinned)
 
 -- the pins as uses
 abbrev pub pins_in : Acknowledged → List Pinner → List Use
@@ -62,14 +56,9 @@ own_in pinned = flat_map (λ one. own_files one.pins) pinned
 abbrev pub pins_of_records : Acknowledged → ℕ → List Pinner → ℕ
 pins_of_records m f pinned = sum_by (λ one. times f (each_file (parts_pinned m one.pins))) pinned
 
--- an empty list with room for these files
-pub record IsRoomFor (files : List ℕ) (room : Vec ℕ Global) : Type 0 where
-  pub empty : room.items ≡ []
-  pub fits : length files ≤ vec_capacity room
-
 -- Whoever pins a record pins parts that it has, and keeps room for their files.
 abbrev pub IsKept : Acknowledged → Pins → Type 0
-IsKept m (Record first room) = (first.parts ≤ length (parts_of m first.id)) × IsRoomFor (files_in (first_of m first)) room
+IsKept m (Record first room) = (first.parts ≤ length (parts_of m first.id)) × (room.items ≡ []) × (length (files_in (first_of m first)) ≤ vec_capacity room)
 IsKept m (Files own) = Unit {0}
 
 abbrev pub AreKept : Acknowledged → List Pinner → Type 0
@@ -82,15 +71,6 @@ is_named owners id = list_any (λ owner. owner == id) owners
 -- the files that these records pinned one by one
 abbrev pub own_of : List ℕ → List Pinner → List ℕ
 own_of owners pinned = own_in (filter (λ one. is_named owners one.id) pinned)
-
--- those of the parts of this record that are pinned
-abbrev pub parts_on : ℕ → List Part → Pins → List Part
-parts_on chosen parts (Record first room) = if first.id == chosen then take first.parts parts else []
-parts_on chosen parts (Files own) = []
-
--- how often these pin a file as one of the parts of this record
-abbrev pub pins_on : ℕ → List Part → ℕ → List Pinner → ℕ
-pins_on chosen parts f pinned = sum_by (λ one. times f (each_file (parts_on chosen parts one.pins))) pinned
 
 -- pins of this record become pins of the files, and all others stay
 abbrev pub IsSettled : ℕ → List Part → Pins → Pins → Type 0

@@ -1,6 +1,7 @@
 //! The pins of records: files that they keep present, or a live record whose files they keep
 //! present.
-ghost use Rattle.std.specs.Prelude.{◌≡◌, ℕ, ◌+◌, ◌<◌, ◌≤◌, ◌^◌, [], nat_lt, filter, not, length, IfOk};
+ghost use Rattle.std.specs.Prelude.{◌≡◌, ℕ, ◌+◌, ◌<◌, ◌≤◌, ◌^◌, [], ◌++◌, filter, not, length, IfOk};
+ghost use Rattle.std.specs.Vec.{vec_capacity};
 ghost use Rattle.indexmap.specs.IndexMap.{index_map_len};
 ghost use Rattle.ckpt_ids.specs.Ascending.{ascending_set};
 ghost use Rattle.ckpt_ids.specs.Counting.{times};
@@ -8,7 +9,7 @@ ghost use Rattle.ckpt_ids.specs.Ordered.{IsIn};
 ghost use Rattle.ckpt_registry.specs.Counters.{counter, AreInRange, AreLowered, HasRoom};
 ghost use Rattle.ckpt_registry.specs.Holdings.{Acknowledged, AreRising, parts_of};
 ghost use Rattle.ckpt_registry.specs.Parts.{files_in};
-ghost use Rattle.ckpt_registry.specs.Pins.{AreKept, AreSettled, IsKept, IsLook, IsRoomFor, IsSettled, each_file, first_of, is_named, named_by, named_files, own_files, own_in, own_of, parts_on, pinned_by, pins_of_records, pins_on};
+ghost use Rattle.ckpt_registry.specs.Pins.{AreKept, AreSettled, IsKept, IsLook, IsSettled, each_file, is_named, named_by, own_files, own_in, own_of, parts_pinned, pinned_by, pins_of_records};
 
 use crate::counters::{Counts, count_reused};
 use crate::holdings::{Acknowledged, lower_each, parts_held};
@@ -54,7 +55,7 @@ impl Pins {
     fn files<'a>(&'a self, acknowledged: &'a Acknowledged) -> &'a [FileId]
         requires rising { AreRising acknowledged.now.items }
         requires kept { IsKept acknowledged.now self.now }
-        ensures { result.now ≡ named_files acknowledged.now self.now }
+        ensures { result.now ≡ files_in (parts_pinned acknowledged.now self.now) ++ own_files self.now }
     {
         match self {
             Pins::Record { first, .. } => match parts_held(acknowledged, first.id) {
@@ -68,12 +69,11 @@ impl Pins {
     /// If these are pins of this record, which had these parts, its files are counted one by one
     /// from now on. Takes no memory.
     fn settle(&mut self, counts: &mut Counts, chosen: CheckpointId, parts: &Parts)
-        requires kept { (m : Acknowledged) × (parts_of m chosen ≡ parts.now) × IsKept m self.old }
+        requires kept { (m : Acknowledged) × (parts_of m chosen ≡ parts.now) × IsKept m self.old × ((f : ℕ) → counter counts.old f + times f (each_file (parts_pinned m self.old)) < 2 ^ 32) }
         requires present { (f : ℕ) → IsIn f (files_in parts.now) → 0 < counter counts.old f }
-        requires fits { (f : ℕ) → counter counts.old f + times f (each_file (parts_on chosen parts.now self.old)) < 2 ^ 32 }
         requires range { AreInRange counts.old }
         ensures settled { IsSettled chosen parts.now self.old self.new }
-        ensures counted { (f : ℕ) → counter counts.new f ≡ counter counts.old f + times f (each_file (parts_on chosen parts.now self.old)) }
+        ensures counted { (f : ℕ) → counter counts.new f + times f (own_files self.old) ≡ counter counts.old f + times f (own_files self.new) }
         ensures len { index_map_len counts.new ≡ index_map_len counts.old }
         ensures range { AreInRange counts.new }
     {
@@ -107,7 +107,8 @@ impl Pins {
 
 /// Counts these files, each once, and returns them in this room. Takes no memory.
 fn count_once(counts: &mut Counts, files: &[FileId], room: Vec<FileId>) -> Vec<FileId>
-    requires room { IsRoomFor files.now room }
+    requires empty { room.items ≡ [] }
+    requires room { length files.now ≤ vec_capacity room }
     requires present { (f : ℕ) → IsIn f files.now → 0 < counter counts.old f }
     requires fits { (f : ℕ) → counter counts.old f + times f (ascending_set files.now) < 2 ^ 32 }
     requires range { AreInRange counts.old }
@@ -152,7 +153,8 @@ pub(crate) fn pin_all(
     parts: &Parts,
     room: Vec<FileId>,
 ) -> Pins
-    requires room { IsRoomFor (files_in parts.now) room }
+    requires empty { room.items ≡ [] }
+    requires room { length (files_in parts.now) ≤ vec_capacity room }
     requires present { (f : ℕ) → IsIn f (files_in parts.now) → 0 < counter counts.old f }
     requires fits { (f : ℕ) → counter counts.old f + times f (each_file parts.now) < 2 ^ 32 }
     requires range { AreInRange counts.old }
@@ -262,12 +264,11 @@ pub(crate) fn settle(
     chosen: CheckpointId,
     parts: &Parts,
 )
-    requires kept { (m : Acknowledged) × (parts_of m chosen ≡ parts.now) × AreKept m pinned.old.items }
+    requires kept { (m : Acknowledged) × (parts_of m chosen ≡ parts.now) × AreKept m pinned.old.items × ((f : ℕ) → counter counts.old f + pins_of_records m f pinned.old.items < 2 ^ 32) }
     requires present { (f : ℕ) → IsIn f (files_in parts.now) → 0 < counter counts.old f }
-    requires fits { (f : ℕ) → counter counts.old f + pins_on chosen parts.now f pinned.old.items < 2 ^ 32 }
     requires range { AreInRange counts.old }
     ensures settled { AreSettled chosen parts.now pinned.old.items pinned.new.items }
-    ensures counted { (f : ℕ) → counter counts.new f ≡ counter counts.old f + pins_on chosen parts.now f pinned.old.items }
+    ensures counted { (f : ℕ) → counter counts.new f + times f (own_in pinned.old.items) ≡ counter counts.old f + times f (own_in pinned.new.items) }
     ensures len { index_map_len counts.new ≡ index_map_len counts.old }
     ensures range { AreInRange counts.new }
 {
