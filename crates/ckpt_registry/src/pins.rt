@@ -33,8 +33,8 @@ pub(crate) struct Pinner {
 /// What a record pins.
 #[derive(Debug, Drop)]
 pub(crate) enum Pins {
-    /// All files of a live record, which uses each of them. So they are not counted. Once that
-    /// record is dropped, they are, in this room.
+    /// All files of a live record. It uses each of them, so they are not counted. Once it is
+    /// dropped they are, and this room takes them.
     Record {
         first: FirstParts,
         room: Vec<FileId>,
@@ -66,10 +66,10 @@ impl Pins {
         }
     }
 
-    /// If these are pins of this record, which had these parts, its files are counted one by one
-    /// from now on. Takes no memory.
+    /// If these are the pins of a dropped record, which had these parts, its files are counted one
+    /// by one from now on. Takes no memory.
     fn settle(&mut self, counts: &mut Counts, chosen: CheckpointId, parts: &Parts)
-        requires kept { (m : Acknowledged) × (parts_of m chosen ≡ parts.now) × IsKept m self.old × ((f : ℕ) → counter counts.old f + times f (each_file (parts_pinned m self.old)) < 2 ^ 32) }
+        requires kept { (before : Acknowledged) × (parts_of before chosen ≡ parts.now) × IsKept before self.old × ((f : ℕ) → counter counts.old f + times f (each_file (parts_pinned before self.old)) < 2 ^ 32) }
         requires present { (f : ℕ) → IsIn f (files_in parts.now) → 0 < counter counts.old f }
         requires range { AreInRange counts.old }
         ensures settled { IsSettled chosen parts.now self.old self.new }
@@ -87,7 +87,7 @@ impl Pins {
     }
 
     /// Gives up the pins. Returns the list that is then spare, empty.
-    fn given_up(self, counts: &mut Counts, released: &mut Vec<FileId>) -> Vec<FileId>
+    fn give_up(self, counts: &mut Counts, released: &mut Vec<FileId>) -> Vec<FileId>
         requires counted { (f : ℕ) → times f (own_files self) ≤ counter counts.old f }
         requires range { AreInRange counts.old }
         requires room { HasRoom counts.old released.old }
@@ -141,6 +141,17 @@ fn searches(pinned: &[Pinner]) -> usize {
     count
 }
 
+/// Whether one more pin of these parts shares the search of the last pin.
+fn is_searched(pinned: &[Pinner], first: &FirstParts) -> bool {
+    let Some(last) = pinned.last() else {
+        return false;
+    };
+    match &last.pins {
+        Pins::Record { first: other, .. } => other == first,
+        Pins::Files(_) => false,
+    }
+}
+
 /// The pins of all files of a live record, which has these parts, in room for the files.
 ///
 /// Mostly the record is pinned as a whole, and none of its files is visited. Each record that is
@@ -168,16 +179,7 @@ pub(crate) fn pin_all(
         id: chosen,
         parts: parts.len(),
     };
-    let is_searched = match pinned.last() {
-        Some(
-            Pinner {
-                pins: Pins::Record { first: last, .. },
-                ..
-            },
-        ) => *last == first,
-        _ => false,
-    };
-    if !is_searched && searches(pinned) >= MOST_SEARCHES {
+    if !is_searched(pinned, &first) && searches(pinned) >= MOST_SEARCHES {
         return Pins::Files(count_once(counts, parts.files(), room));
     }
     Pins::Record { first, room }
@@ -264,7 +266,7 @@ pub(crate) fn settle(
     chosen: CheckpointId,
     parts: &Parts,
 )
-    requires kept { (m : Acknowledged) × (parts_of m chosen ≡ parts.now) × AreKept m pinned.old.items × ((f : ℕ) → counter counts.old f + pins_of_records m f pinned.old.items < 2 ^ 32) }
+    requires kept { (before : Acknowledged) × (parts_of before chosen ≡ parts.now) × AreKept before pinned.old.items × ((f : ℕ) → counter counts.old f + pins_of_records before f pinned.old.items < 2 ^ 32) }
     requires present { (f : ℕ) → IsIn f (files_in parts.now) → 0 < counter counts.old f }
     requires range { AreInRange counts.old }
     ensures settled { AreSettled chosen parts.now pinned.old.items pinned.new.items }
@@ -297,7 +299,7 @@ pub(crate) fn unpin(
     for _ in 0..pinned.len() {
         if owners.contains(&pinned[place].id) {
             let one = pinned.remove(place);
-            *room = one.pins.given_up(counts, released);
+            *room = one.pins.give_up(counts, released);
         } else {
             place += 1;
         }

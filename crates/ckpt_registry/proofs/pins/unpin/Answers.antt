@@ -32,8 +32,8 @@ remove-one-requires c =
     let below : c.loop.counter < length old = omega (arith, c.loop-test.true, c.len-end.ensures, c.args.pinned.now.ok.0) in
     omega (arith, c.loop.pinned.ok.0, walk_within c.args.owners.now old c.loop.pinned.items c.loop.counter c.loop.place c.loop.invariant.row c.loop.invariant.place below)
 
-pub given_up-requires-clause-counted : goal.given_up-requires-clause-counted
-given_up-requires-clause-counted c = λ f.
+pub give_up-requires-clause-counted : goal.give_up-requires-clause-counted
+give_up-requires-clause-counted c = λ f.
     let owners = c.args.owners.now in
     let old : List Pinner = c.args.pinned.now.items in
     let row : List Pinner = c.loop.pinned.items in
@@ -46,11 +46,11 @@ given_up-requires-clause-counted c = λ f.
     let on : cond (goes owners one) (times f (own_files one.pins)) 0 ≡ times f (own_files one.pins) = cond-true (goes owners one) (times f (own_files one.pins)) 0 (sym c.contains.ensures.value ∙ c.if-contains.true) in
     omega (arith, same, on, c.loop.invariant.lowered.lowered f, c.requires.counted f, own_of-more f owners old i one below here, own_of-le f owners (i + 1) old)
 
-pub given_up-requires-clause-range : goal.given_up-requires-clause-range
-given_up-requires-clause-range c = c.loop.invariant.lowered.range
+pub give_up-requires-clause-range : goal.give_up-requires-clause-range
+give_up-requires-clause-range c = c.loop.invariant.lowered.range
 
-pub given_up-requires-clause-room : goal.given_up-requires-clause-room
-given_up-requires-clause-room c = HasRoom-released c.args.counts.now c.loop.counts c.args.released.now c.loop.released c.requires.room c.loop.invariant.lowered.released
+pub give_up-requires-clause-room : goal.give_up-requires-clause-room
+give_up-requires-clause-room c = HasRoom-released c.args.counts.now c.loop.counts c.args.released.now c.loop.released c.requires.room c.loop.invariant.lowered.released
 
 pub overflow_add-place : goal.overflow_add-place
 overflow_add-place c =
@@ -82,12 +82,12 @@ loop-preserved c =
           let taken : w.remove-one.result ≡ one = is_item row place w.remove-one.result one (walk_within owners old row i place c.loop.invariant.row c.loop.invariant.place below) w.remove-one.ensures.value c.index.ensures in
           let on : (f : ℕ) → cond (goes owners one) (times f (own_files one.pins)) 0 ≡ times f (own_files one.pins) = λ f. cond-true (goes owners one) (times f (own_files one.pins)) 0 e in
           let same : (f : ℕ) → times f (own_files w.remove-one.result.pins) ≡ times f (own_files one.pins) = λ f. ap (λ (o : Pinner). times f (own_files o.pins)) taken in
-          let step = AreLowered-then before (λ f. times f (own_files w.remove-one.result.pins)) after m c.loop.counts w.given_up.new.counts out c.loop.released w.given_up.new.released (λ f. omega (arith, more f, on f, same f)) c.loop.invariant.lowered w.given_up.ensures.lowered in
+          let step = AreLowered-then before (λ f. times f (own_files w.remove-one.result.pins)) after m c.loop.counts w.give_up.new.counts out c.loop.released w.give_up.new.released (λ f. omega (arith, more f, on f, same f)) c.loop.invariant.lowered w.give_up.ensures.lowered in
           record {
             row = ap (λ (v : Vec Pinner Global). v.items) w.pinned-is ∙ w.remove-one.ensures.by_index.2 ∙ walked_out owners old row i place one c.loop.invariant.row c.loop.invariant.place c.index.ensures below e;
             place = w.place-is ∙ place_same owners old row i place one c.loop.invariant.row c.loop.invariant.place c.index.ensures below e;
-            lowered = subst (λ (n : Counts). Goal n c.if-contains.released) (sym w.counts-is) (subst (Goal w.given_up.new.counts) (sym w.released-is) step);
-            no_files = ap (λ (v : Released). v.items) w.room-is ∙ w.given_up.ensures.no_files;
+            lowered = subst (λ (n : Counts). Goal n c.if-contains.released) (sym w.counts-is) (subst (Goal w.give_up.new.counts) (sym w.released-is) step);
+            no_files = ap (λ (v : Released). v.items) w.room-is ∙ w.give_up.ensures.no_files;
           }
       | else-contains w ↦
           let e : goes owners one ≡ false = sym c.contains.ensures.value ∙ w.if-contains.false in
