@@ -10,6 +10,7 @@ ghost use Rattle.ckpt_registry.specs.Counters.{counter, AreInRange, AreLowered, 
 ghost use Rattle.ckpt_registry.specs.Holdings.{Acknowledged, AreRising, parts_of};
 ghost use Rattle.ckpt_registry.specs.Parts.{files_in};
 ghost use Rattle.ckpt_registry.specs.Pins.{AreKept, AreSettled, IsKept, IsLook, IsSettled, each_file, is_named, named_by, own_files, own_in, own_of, parts_pinned, pinned_by, pins_of_records};
+ghost use Rattle.ckpt_registry.specs.Sound.{AreCounted};
 
 use crate::counters::{Counts, count_reused};
 use crate::holdings::{Acknowledged, lower_each, parts_held};
@@ -266,9 +267,7 @@ pub(crate) fn settle(
     chosen: CheckpointId,
     parts: &Parts,
 )
-    requires kept { (before : Acknowledged) × (parts_of before chosen ≡ parts.now) × AreKept before pinned.old.items × ((f : ℕ) → counter counts.old f + pins_of_records before f pinned.old.items < 2 ^ 32) }
-    requires present { (f : ℕ) → IsIn f (files_in parts.now) → 0 < counter counts.old f }
-    requires range { AreInRange counts.old }
+    requires { (before : Acknowledged) × (parts_of before chosen ≡ parts.now) × AreCounted before pinned.old.items counts.old }
     ensures settled { AreSettled chosen parts.now pinned.old.items pinned.new.items }
     ensures counted { (f : ℕ) → counter counts.new f + times f (own_in pinned.old.items) ≡ counter counts.old f + times f (own_in pinned.new.items) }
     ensures len { index_map_len counts.new ≡ index_map_len counts.old }

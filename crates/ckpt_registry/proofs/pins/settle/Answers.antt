@@ -3,12 +3,15 @@ use Rattle.std.proofs.Common.{◌≡◌, ℕ, ◌+◌, ◌<◌, ◌^◌, List, [
 use Rattle.std.proofs.lemmas.List.{length-set, take_more, take_more_set}
 use Rattle.std.proofs.lemmas.List.Sums.{sum_by_more, sum_by-take-le}
 use Rattle.ckpt_ids.specs.Counting.{times}
+use Rattle.ckpt_ids.proofs.CountLemmas.{times-from_IsIn}
 use Rattle.ckpt_ids.proofs.OrderedLemmas.{IsIn-get_or}
 use Rattle.ckpt_registry.specs.declared.pins.Pinner.{Pinner}
 use Rattle.ckpt_registry.specs.Counters.{counter}
 use Rattle.ckpt_registry.specs.Holdings.{Acknowledged, parts_of}
-use Rattle.ckpt_registry.specs.Parts.{Part}
+use Rattle.ckpt_registry.specs.Parts.{Part, files_in}
 use Rattle.ckpt_registry.specs.Pins.{AreSettled, IsKept, IsSettled, each_file, own_files, own_in, parts_pinned}
+use Rattle.ckpt_registry.proofs.HoldingLemmas.{count-parts_of}
+use Rattle.ckpt_registry.proofs.SoundLemmas.{count-stored}
 use Rattle.ckpt_registry.proofs.PinLemmas.{item_left, left_more, own_in-push, own_in-settled, settled_more}
 use Rattle.ckpt_registry.proofs.pins.settle.Goals as goal
 
@@ -22,24 +25,25 @@ settle-requires-clause-kept c =
     let within : i < length now = omega (arith, c.loop-one-test.true, c.loop-one.auto.one-items) in
     let here : i < length old = omega (arith, within, before.same_length) in
     let same : get_or now i d ≡ get_or old i d = item_left c.args.chosen c.args.parts.now old now i d within before.same_length before.left in
-    let k = c.requires.kept in
+    let k = c.requires in
     let m : Acknowledged = k.0 in
     let P : Pinner → Type 0 = λ o. IsKept m o.pins in
     let S : List Part → Type 0 = λ ps. AreSettled c.args.chosen ps (take i old) (take i now) in
     let settled : S (parts_of m c.args.chosen) = subst S (sym k.1) before.settled in
     let held : ℕ → Pinner → ℕ = λ f o. times f (each_file (parts_pinned m o.pins)) in
     let fits : (f : ℕ) → counter c.loop-one.counts f + held f (get_or now i d) < 2 ^ 32 = λ f.
-    omega (arith, ap (held f) same, before.counted f, (own_in-settled m c.args.chosen f (take i old) (take i now) settled).1, k.3 f, sum_by_more (held f) old i d here, sum_by-take-le (held f) old (i + 1)) in
-    (m, k.1, subst P (sym same) (k.2 (get_or old i d) (IsIn-get_or old i d here)), fits)
+    omega (arith, ap (held f) same, before.counted f, (own_in-settled m c.args.chosen f (take i old) (take i now) settled).1, count-stored m old c.args.counts.now k.2 f, k.2.below f, sum_by_more (held f) old i d here, sum_by-take-le (held f) old (i + 1)) in
+    (m, k.1, subst P (sym same) (k.2.kept (get_or old i d) (IsIn-get_or old i d here)), fits)
 
 pub settle-requires-clause-present : goal.settle-requires-clause-present
 settle-requires-clause-present c = λ f h.
     let i = c.loop-one.one-index in
     let old : List Pinner = take i c.args.pinned.now.items in
     let now : List Pinner = take i c.loop-one.one-items in
-    let k = c.requires.kept in
+    let k = c.requires in
+    let same : times f (files_in c.args.parts.now) ≡ times f (files_in (parts_of k.0 c.args.chosen)) = ap (λ ps. times f (files_in ps)) (sym k.1) in
     let S : List Part → Type 0 = λ ps. AreSettled c.args.chosen ps old now in
-    omega (arith, c.loop-one.invariant.counted f, (own_in-settled k.0 c.args.chosen f old now (subst S (sym k.1) c.loop-one.invariant.settled)).0, c.requires.present f h)
+    omega (arith, c.loop-one.invariant.counted f, (own_in-settled k.0 c.args.chosen f old now (subst S (sym k.1) c.loop-one.invariant.settled)).0, k.2.counted f, count-parts_of k.0 c.args.chosen f, same, times-from_IsIn f (files_in c.args.parts.now) h)
 
 pub loop-one-preserved : goal.loop-one-preserved
 loop-one-preserved c =

@@ -13,18 +13,8 @@ use Rattle.ckpt_registry.proofs.PinLemmas.{own_in-settled, pins_in-settled}
 use Rattle.ckpt_registry.proofs.SoundLemmas.{AreCounted-gone, AreCounted-unchanged, count-stored, counted_once-settled}
 use Rattle.ckpt_registry.proofs.releases.drop_uses.Goals as goal
 
-pub settle-requires-clause-kept : goal.settle-requires-clause-kept
-settle-requires-clause-kept c =
-    let m : Acknowledged = c.args.acknowledged.now in
-    let p : List Pinner = c.args.pinned.now.items in
-    (m, sym c.in-Some.ensures.parts, c.requires.counted.kept, λ f. omega (arith, count-stored m p c.args.counts.now c.requires.counted f, c.requires.counted.below f))
-
-pub settle-requires-clause-present : goal.settle-requires-clause-present
-settle-requires-clause-present c = λ f h.
-    let m : Acknowledged = c.args.acknowledged.now in
-    let is : c.in-Some.parts ≡ parts_of m c.args.id = c.in-Some.ensures.parts in
-    let same : times f (files_in c.in-Some.parts) ≡ times f (files_in (parts_of m c.args.id)) = ap (λ ps. times f (files_in ps)) is in
-    omega (arith, same, times-from_IsIn f (files_in c.in-Some.parts) h, count-parts_of m c.args.id f, c.requires.counted.counted f)
+pub settle-requires : goal.settle-requires
+settle-requires c = (c.args.acknowledged.now, sym c.in-Some.ensures.parts, c.requires.counted)
 
 -- what `settle` says of the record's parts
 settled_as : (m : Acknowledged) (id : ℕ) (parts : List Part) (p q : List Pinner) → parts ≡ parts_of m id → AreSettled id parts p q → AreSettled id (parts_of m id) p q
