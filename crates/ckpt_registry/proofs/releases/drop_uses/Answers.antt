@@ -1,7 +1,6 @@
 -- Answers the goals of `drop_uses`.
 use Rattle.std.proofs.Common.{◌≡◌, ℕ, ◌+◌, List, sym, ap, subst, ◌∙◌, arith}
 use Rattle.ckpt_ids.specs.Counting.{times}
-use Rattle.ckpt_ids.proofs.CountLemmas.{times-from_IsIn}
 use Rattle.ckpt_registry.specs.declared.pins.Pinner.{Pinner}
 use Rattle.ckpt_registry.specs.Counters.{counter, counted_once}
 use Rattle.ckpt_registry.specs.Holdings.{Acknowledged, parts_of}
@@ -10,7 +9,7 @@ use Rattle.ckpt_registry.specs.Parts.{Part, files_in}
 use Rattle.ckpt_registry.proofs.CounterLemmas.{AreReleased-none}
 use Rattle.ckpt_registry.proofs.HoldingLemmas.{AreRising-gone, count-gone, count-parts_of, parts_of-gone, uses_in-gone}
 use Rattle.ckpt_registry.proofs.PinLemmas.{own_in-settled, pins_in-settled}
-use Rattle.ckpt_registry.proofs.SoundLemmas.{AreCounted-gone, AreCounted-unchanged, count-stored, counted_once-settled}
+use Rattle.ckpt_registry.proofs.SoundLemmas.{AreCounted-gone, AreCounted-unchanged, counted_once-settled}
 use Rattle.ckpt_registry.proofs.releases.drop_uses.Goals as goal
 
 pub settle-requires : goal.settle-requires
