@@ -86,6 +86,10 @@ IsKept-extended m n (Files own) more kept = tt
 pub AreKept-extended : (m n : Acknowledged) (pinned : List Pinner) → Extends m n → AreKept m pinned → AreKept n pinned
 AreKept-extended m n pinned more kept = λ one h. IsKept-extended m n one.pins more (kept one h)
 
+-- what one of the pinners keeps
+pub IsKept-at : (m : Acknowledged) (pinned : List Pinner) (i : ℕ) (one : Pinner) → AreKept m pinned → i < length pinned → one ≡ get_or pinned i one → IsKept m one.pins
+IsKept-at m pinned i one kept within at = let P : Pinner → Type 0 = λ o. IsIn o pinned in kept one (subst P (sym at) (IsIn-get_or pinned i one within))
+
 -- one more pins
 
 pub pins_in-push : (m : Acknowledged) (pinned : List Pinner) (one : Pinner) → pins_in m (pinned ++ one ∷ []) ≡ pins_in m pinned ++ triples one.id Pin (pinned_by m one.pins)
@@ -142,10 +146,6 @@ own_in-parts f owners (one ∷ pinned) =
     let kept : Goal false = omega (arith, rest, times-append f (own_files one.pins) (own_in no), times-append f (own_files one.pins) (own_in pinned)) in
     ⊎_elim (λ (e : goes owners one ≡ true). subst Goal (sym e) gone) (λ (e : goes owners one ≡ false). subst Goal (sym e) kept) (cases_Bool (goes owners one))
 
--- a place in the row
-pub IsKept-at : (m : Acknowledged) (pinned : List Pinner) (i : ℕ) (one : Pinner) → AreKept m pinned → i < length pinned → one ≡ get_or pinned i one → IsKept m one.pins
-IsKept-at m pinned i one kept within at = let P : Pinner → Type 0 = λ o. IsIn o pinned in kept one (subst P (sym at) (IsIn-get_or pinned i one within))
-
 pub AreKept-filter : (m : Acknowledged) (t : Pinner → Bool) (pinned : List Pinner) → AreKept m pinned → AreKept m (filter t pinned)
 AreKept-filter m t pinned kept = λ one h. kept one (IsIn-from_filter t one pinned h).0
 
@@ -164,7 +164,7 @@ module _ (m n : Acknowledged) (c : ℕ) (others : (d : ℕ) → (d ≡ c → ⊥
   pinned_by-settled : (o x : Pins) → IsSettled c (parts_of m c) o x → pinned_by n x ≡ pinned_by m o
   pinned_by-settled (Record first room) (Files own) s =
       s.1 ∙ ap (λ d. each_file (take first.parts (parts_of m d))) (sym s.0) ∙ sym (append-nil (each_file (first_of m first)))
-  pinned_by-settled (Record first room) (Record now left) s = ap (pinned_by n) s.1 ∙ ap (λ ps. each_file ps ++ []) (first_of-other first s.0)
+  pinned_by-settled (Record first room) (Record same left) s = ap (pinned_by n) s.1 ∙ ap (λ ps. each_file ps ++ []) (first_of-other first s.0)
   pinned_by-settled (Files own) x s = ap (pinned_by n) s
 
   pub pins_in-settled : (os ns : List Pinner) → AreSettled c (parts_of m c) os ns → pins_in n ns ≡ pins_in m os
@@ -176,7 +176,7 @@ module _ (m n : Acknowledged) (c : ℕ) (others : (d : ℕ) → (d ≡ c → ⊥
 
   IsKept-settled : (o x : Pins) → IsKept m o → IsSettled c (parts_of m c) o x → IsKept n x
   IsKept-settled (Record first room) (Files own) kept s = tt
-  IsKept-settled (Record first room) (Record now left) kept s =
+  IsKept-settled (Record first room) (Record same left) kept s =
       let P : List Part → Type 0 = λ ps. (first.parts ≤ length ps) × (room.items ≡ []) × (length (files_in (take first.parts ps)) ≤ vec_capacity room) in
       subst (IsKept n) (sym s.1) (subst P (sym (others first.id s.0)) kept)
   IsKept-settled (Files own) x kept s = subst (IsKept n) (sym s) tt
@@ -195,7 +195,7 @@ own-settled : (m : Acknowledged) (c f : ℕ) (o x : Pins) → IsSettled c (parts
 own-settled m c f (Record first room) (Files own) s =
     let same : times f own.items ≡ times f (each_file (first_of m first)) = ap (times f) (s.1 ∙ ap (λ d. each_file (take first.parts (parts_of m d))) (sym s.0)) in
     (omega arith, omega (arith, same))
-own-settled m c f (Record first room) (Record now left) s = (omega arith, omega arith)
+own-settled m c f (Record first room) (Record same left) s = (omega arith, omega arith)
 own-settled m c f (Files own) x s = let same : times f (own_files x) ≡ times f own.items = ap (λ p. times f (own_files p)) s in (omega (arith, same), omega (arith, same))
 
 pub own_in-settled : (m : Acknowledged) (c f : ℕ) (os ns : List Pinner) → AreSettled c (parts_of m c) os ns → (times f (own_in os) ≤ times f (own_in ns)) × (times f (own_in ns) ≤ times f (own_in os) + pins_of_records m f os)

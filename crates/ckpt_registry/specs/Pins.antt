@@ -75,7 +75,7 @@ own_of owners pinned = own_in (filter (λ one. is_named owners one.id) pinned)
 -- pins of this record become pins of the files, and all others stay
 abbrev pub IsSettled : ℕ → List Part → Pins → Pins → Type 0
 IsSettled chosen parts (Record first room) (Files own) = (first.id ≡ chosen) × (own.items ≡ each_file (take first.parts parts))
-IsSettled chosen parts (Record first room) (Record now left) = (first.id ≢ chosen) × (Record now left ≡ Record first room)
+IsSettled chosen parts (Record first room) (Record same left) = (first.id ≢ chosen) × (Record same left ≡ Record first room)
 IsSettled chosen parts (Files own) after = after ≡ Files own
 
 abbrev pub AreSettled : ℕ → List Part → List Pinner → List Pinner → Type 0
