@@ -1,7 +1,8 @@
 -- What the pins of records come to, and how they change with the records.
-use Rattle.std.proofs.Common.{◌≡◌, ℕ, ◌+◌, ◌<◌, ◌≤◌, Bool, true, false, not, cond, eqb, ltb, List, [], ◌∷◌, ◌++◌, length, get_or, take, drop, set, refl, sym, ap, subst, ◌∙◌, ◌⊎◌, inl, inr, ⊎_elim, arith, ◌||◌, append_assoc, length-append}
+use Rattle.std.proofs.Common.{◌≡◌, ℕ, ◌+◌, ◌<◌, ◌≤◌, Bool, true, false, not, cond, eqb, ltb, List, [], ◌∷◌, ◌++◌, length, get_or, take, drop, set, refl, sym, ap, subst, ◌∙◌, inl, inr, ⊎_elim, arith, ◌||◌, append_assoc, length-append}
 use Rattle.std.specs.List.{filter}
-use Rattle.std.proofs.lemmas.Bool.{cases_Bool, cases_eq, cond-true, cond-false, eq-eqb, ne_eqb, eqb-true}
+use Rattle.std.specs.Vec.{vec_capacity}
+use Rattle.std.proofs.lemmas.Bool.{cases_Bool, cond-true, cond-false}
 use Rattle.std.proofs.lemmas.Grind.{flat_map-append}
 use Rattle.std.proofs.lemmas.List.{append-nil, drop_at, drop_more, get_or_at, length-drop, take_at, take_more, take_more_set, get_or-drop, drop-set-lt, drop-drop}
 use Rattle.std.proofs.lemmas.List.{take-append-le}
@@ -12,11 +13,14 @@ use Rattle.ckpt_ids.specs.Ordered.{IsIn}
 use Rattle.ckpt_ids.specs.Records.{Use, Pin, Subtask, count, same_holder}
 use Rattle.ckpt_ids.proofs.ComparisonLemmas.{eqb_turned}
 use Rattle.ckpt_ids.proofs.CountLemmas.{count_by-append, count_by-map, times-append}
-use Rattle.ckpt_ids.proofs.OrderedLemmas.{IsIn-from_filter, IsIn-from_flat_map, IsIn-from_map, IsIn-append_cases, filter-all, filter-none}
+use Rattle.ckpt_ids.proofs.OrderedLemmas.{IsIn-from_filter, IsIn-from_flat_map, IsIn-from_map, IsIn-get_or, IsIn-append_cases, filter-all, filter-none}
 use Rattle.ckpt_registry.specs.declared.holdings.Holding.{Holding}
+use Rattle.ckpt_registry.specs.declared.pins.FirstParts.{FirstParts}
 use Rattle.ckpt_registry.specs.declared.pins.Pinner.{Pinner}
+use Rattle.ckpt_registry.specs.declared.pins.Pins.{Pins}
+use Rattle.ckpt_registry.specs.declared.pins.Pins.TheVariants.{Record, Files}
 use Rattle.ckpt_registry.specs.Holdings.{Acknowledged, Extends, parts_of, uses_by, uses_in}
-use Rattle.ckpt_registry.specs.Pins.{AreKept, AreSettled, IsKept, IsSettled, IsTaken, each_file, is_named, own_in, own_of, parts_pinned, pinned_by, pins_in, pins_of_records, pins_on}
+use Rattle.ckpt_registry.specs.Pins.{AreKept, AreSettled, IsKept, IsSettled, each_file, first_of, is_named, own_files, own_in, own_of, parts_pinned, pinned_by, pins_in, pins_of_records}
 use Rattle.ckpt_registry.specs.Uses.{is_owned, triples, without}
 use Rattle.ckpt_registry.specs.Parts.{Part, files_in, files_of}
 use Rattle.ckpt_registry.proofs.HoldingLemmas.{count-parts_of}
@@ -31,15 +35,15 @@ count-triples_of id f files = count_by-map (λ (u : Use). eqb u.file f) (λ (x :
 pub count-pins_in : (m : Acknowledged) (pinned : List Pinner) (f : ℕ) → count (pins_in m pinned) f ≡ pins_of_records m f pinned + times f (own_in pinned)
 count-pins_in m [] f = refl
 count-pins_in m (one ∷ pinned) f =
-    let whole : count (pins_in m (one ∷ pinned)) f ≡ count (triples one.id Pin (pinned_by m one)) f + count (pins_in m pinned) f = count_by-append (λ (u : Use). eqb u.file f) (triples one.id Pin (pinned_by m one)) (pins_in m pinned) in
+    let whole : count (pins_in m (one ∷ pinned)) f ≡ count (triples one.id Pin (pinned_by m one.pins)) f + count (pins_in m pinned) f = count_by-append (λ (u : Use). eqb u.file f) (triples one.id Pin (pinned_by m one.pins)) (pins_in m pinned) in
     omega (
       arith,
       whole,
-      count-triples_of one.id f (pinned_by m one),
-      times-append f (each_file (parts_pinned m one)) one.files.items,
+      count-triples_of one.id f (pinned_by m one.pins),
+      times-append f (each_file (parts_pinned m one.pins)) (own_files one.pins),
       count-pins_in m pinned f,
-      sum_by-cons (λ (o : Pinner). times f (each_file (parts_pinned m o))) one pinned,
-      times-append f one.files.items (own_in pinned),
+      sum_by-cons (λ (o : Pinner). times f (each_file (parts_pinned m o.pins))) one pinned,
+      times-append f (own_files one.pins) (own_in pinned),
     )
 
 -- a record that is pinned is live, so each of its files has a use
@@ -50,48 +54,55 @@ times_each f n parts none =
     let zero_times : times f (files_in (take n parts)) ≡ 0 = omega (arith, few, none) in
     times-ascending_set f (files_in (take n parts)) ∙ ap (λ t. one_if (ltb 0 t)) zero_times
 
+times_pinned-none : (m : Acknowledged) (f : ℕ) (pins : Pins) → count (uses_in m.items) f ≡ 0 → times f (each_file (parts_pinned m pins)) ≡ 0
+times_pinned-none m f (Record first room) none = times_each f first.parts (parts_of m first.id) (omega (arith, none, count-parts_of m first.id f))
+times_pinned-none m f (Files own) none = refl
+
 pub pins_of_records-none : (m : Acknowledged) (f : ℕ) (pinned : List Pinner) → count (uses_in m.items) f ≡ 0 → pins_of_records m f pinned ≡ 0
 pins_of_records-none m f [] none = refl
 pins_of_records-none m f (one ∷ pinned) none =
-    let here : times f (each_file (parts_pinned m one)) ≡ 0 = times_each f one.parts (parts_of m one.chosen) (omega (arith, none, count-parts_of m one.chosen f)) in
-    omega (arith, here, pins_of_records-none m f pinned none, sum_by-cons (λ (o : Pinner). times f (each_file (parts_pinned m o))) one pinned)
+    omega (arith, times_pinned-none m f one.pins none, pins_of_records-none m f pinned none, sum_by-cons (λ (o : Pinner). times f (each_file (parts_pinned m o.pins))) one pinned)
 
 -- records that get more parts
 
-parts_pinned-extended : (m n : Acknowledged) (one : Pinner) → Extends m n → IsKept (parts_of m one.chosen) one → parts_pinned n one ≡ parts_pinned m one
-parts_pinned-extended m n one more kept = let e = more one.chosen in ap (take one.parts) e.1 ∙ take-append-le one.parts (parts_of m one.chosen) e.0 kept.within
+parts_pinned-extended : (m n : Acknowledged) (pins : Pins) → Extends m n → IsKept m pins → parts_pinned n pins ≡ parts_pinned m pins
+parts_pinned-extended m n (Record first room) more kept = let e = more first.id in ap (take first.parts) e.1 ∙ take-append-le first.parts (parts_of m first.id) e.0 kept.0
+parts_pinned-extended m n (Files own) more kept = refl
 
 pub pins_in-extended : (m n : Acknowledged) (pinned : List Pinner) → Extends m n → AreKept m pinned → pins_in n pinned ≡ pins_in m pinned
 pins_in-extended m n [] more kept = refl
 pins_in-extended m n (one ∷ pinned) more kept =
-    let here : pinned_by n one ≡ pinned_by m one = ap (λ ps. each_file ps ++ one.files.items) (parts_pinned-extended m n one more (kept one (inl refl))) in
-    ap (λ fs. triples one.id Pin fs ++ pins_in n pinned) here ∙ ap (λ us. triples one.id Pin (pinned_by m one) ++ us) (pins_in-extended m n pinned more (λ o h. kept o (inr h)))
+    let here : pinned_by n one.pins ≡ pinned_by m one.pins = ap (λ ps. each_file ps ++ own_files one.pins) (parts_pinned-extended m n one.pins more (kept one (inl refl))) in
+    ap (λ fs. triples one.id Pin fs ++ pins_in n pinned) here ∙ ap (λ us. triples one.id Pin (pinned_by m one.pins) ++ us) (pins_in-extended m n pinned more (λ o h. kept o (inr h)))
+
+IsKept-extended : (m n : Acknowledged) (pins : Pins) → Extends m n → IsKept m pins → IsKept n pins
+IsKept-extended m n (Record first room) more kept =
+    let e = more first.id in
+    let longer : length (parts_of n first.id) ≡ length (parts_of m first.id) + length e.0 = ap (λ ps. length ps) e.1 ∙ length-append (parts_of m first.id) e.0 in
+    let same : length (files_in (first_of n first)) ≡ length (files_in (first_of m first)) = ap (λ ps. length (files_in ps)) (parts_pinned-extended m n (Record first room) more kept) in
+    (omega (arith, kept.0, longer), kept.1, omega (arith, kept.2, same))
+IsKept-extended m n (Files own) more kept = tt
 
 pub AreKept-extended : (m n : Acknowledged) (pinned : List Pinner) → Extends m n → AreKept m pinned → AreKept n pinned
-AreKept-extended m n pinned more kept = λ one h.
-    let k = kept one h in
-    let e = more one.chosen in
-    let longer : length (parts_of n one.chosen) ≡ length (parts_of m one.chosen) + length e.0 = ap (λ ps. length ps) e.1 ∙ length-append (parts_of m one.chosen) e.0 in
-    let same : length (files_in (take one.parts (parts_of n one.chosen))) ≡ length (files_in (take one.parts (parts_of m one.chosen))) = ap (λ ps. length (files_in ps)) (parts_pinned-extended m n one more k) in
-    record {
-      within = omega (arith, k.within, longer);
-      none_own = k.none_own;
-      room = λ lt. omega (arith, k.room lt, same);
-    }
+AreKept-extended m n pinned more kept = λ one h. IsKept-extended m n one.pins more (kept one h)
+
+-- what one of the pinners keeps
+pub IsKept-at : (m : Acknowledged) (pinned : List Pinner) (i : ℕ) (one : Pinner) → AreKept m pinned → i < length pinned → one ≡ get_or pinned i one → IsKept m one.pins
+IsKept-at m pinned i one kept within at = let P : Pinner → Type 0 = λ o. IsIn o pinned in kept one (subst P (sym at) (IsIn-get_or pinned i one within))
 
 -- one more pins
 
-pub pins_in-push : (m : Acknowledged) (pinned : List Pinner) (one : Pinner) → pins_in m (pinned ++ one ∷ []) ≡ pins_in m pinned ++ triples one.id Pin (pinned_by m one)
-pins_in-push m pinned one = flat_map-append (λ o. triples o.id Pin (pinned_by m o)) pinned (one ∷ []) ∙ ap (λ us. pins_in m pinned ++ us) (append-nil (triples one.id Pin (pinned_by m one)))
+pub pins_in-push : (m : Acknowledged) (pinned : List Pinner) (one : Pinner) → pins_in m (pinned ++ one ∷ []) ≡ pins_in m pinned ++ triples one.id Pin (pinned_by m one.pins)
+pins_in-push m pinned one = flat_map-append (λ o. triples o.id Pin (pinned_by m o.pins)) pinned (one ∷ []) ∙ ap (λ us. pins_in m pinned ++ us) (append-nil (triples one.id Pin (pinned_by m one.pins)))
 
-pub own_in-push : (f : ℕ) (pinned : List Pinner) (one : Pinner) → times f (own_in (pinned ++ one ∷ [])) ≡ times f (own_in pinned) + times f one.files.items
+pub own_in-push : (f : ℕ) (pinned : List Pinner) (one : Pinner) → times f (own_in (pinned ++ one ∷ [])) ≡ times f (own_in pinned) + times f (own_files one.pins)
 own_in-push f pinned one =
-    let joined : own_in (pinned ++ one ∷ []) ≡ own_in pinned ++ one.files.items = flat_map-append (λ o. o.files.items) pinned (one ∷ []) ∙ ap (λ us. own_in pinned ++ us) (append-nil one.files.items) in
-    ap (times f) joined ∙ times-append f (own_in pinned) one.files.items
+    let joined : own_in (pinned ++ one ∷ []) ≡ own_in pinned ++ own_files one.pins = flat_map-append (λ o. own_files o.pins) pinned (one ∷ []) ∙ ap (λ us. own_in pinned ++ us) (append-nil (own_files one.pins)) in
+    ap (times f) joined ∙ times-append f (own_in pinned) (own_files one.pins)
 
-pub AreKept-push : (m : Acknowledged) (pinned : List Pinner) (one : Pinner) → AreKept m pinned → IsKept (parts_of m one.chosen) one → AreKept m (pinned ++ one ∷ [])
+pub AreKept-push : (m : Acknowledged) (pinned : List Pinner) (one : Pinner) → AreKept m pinned → IsKept m one.pins → AreKept m (pinned ++ one ∷ [])
 AreKept-push m pinned one kept new = λ o h.
-    let P : Pinner → Type 0 = λ x. IsKept (parts_of m x.chosen) x in
+    let P : Pinner → Type 0 = λ x. IsKept m x.pins in
     ⊎_elim (λ (k : IsIn o pinned). kept o k) (λ (k : IsIn o (one ∷ [])). ⊎_elim (λ (e : o ≡ one). subst P (sym e) new) (λ (e : ⊥). absurd e) k) (IsIn-append_cases o pinned (one ∷ []) h)
 
 -- some no longer pin
@@ -109,11 +120,11 @@ goes owners one = is_named owners one.id
 pub pins_in-filter : (m : Acknowledged) (owners : List ℕ) (pinned : List Pinner) → pins_in m (filter (λ one. not (is_named owners one.id)) pinned) ≡ without owners (pins_in m pinned)
 pins_in-filter m owners [] = refl
 pins_in-filter m owners (one ∷ pinned) =
-    let here : List Use = triples one.id Pin (pinned_by m one) in
+    let here : List Use = triples one.id Pin (pinned_by m one.pins) in
     let stays : Use → Bool = λ u. not (is_owned owners u) in
     let both : without owners (pins_in m (one ∷ pinned)) ≡ without owners here ++ without owners (pins_in m pinned) = filter-append stays here (pins_in m pinned) in
     let rest = pins_in-filter m owners pinned in
-    let same : (u : Use) → IsIn u here → stays u ≡ not (goes owners one) = λ u h. ap not (owned_by_name owners u ∙ ap (is_named owners) (triples-id one.id (pinned_by m one) u h)) in
+    let same : (u : Use) → IsIn u here → stays u ≡ not (goes owners one) = λ u h. ap not (owned_by_name owners u ∙ ap (is_named owners) (triples-id one.id (pinned_by m one.pins) u h)) in
     let Goal : Bool → Type 0 = λ b. pins_in m (cond (not b) (one ∷ filter (λ o. not (is_named owners o.id)) pinned) (filter (λ o. not (is_named owners o.id)) pinned)) ≡ without owners (pins_in m (one ∷ pinned)) in
     let gone : goes owners one ≡ true → Goal (goes owners one) = λ (e : goes owners one ≡ true).
     let none : without owners here ≡ [] = filter-none stays here (λ u h. same u h ∙ ap not e) in
@@ -131,8 +142,8 @@ own_in-parts f owners (one ∷ pinned) =
     let no : List Pinner = filter (λ o. not (is_named owners o.id)) pinned in
     let rest : times f (own_in yes) + times f (own_in no) ≡ times f (own_in pinned) = own_in-parts f owners pinned in
     let Goal : Bool → Type 0 = λ b. times f (own_in (cond b (one ∷ yes) yes)) + times f (own_in (cond (not b) (one ∷ no) no)) ≡ times f (own_in (one ∷ pinned)) in
-    let gone : Goal true = omega (arith, rest, times-append f one.files.items (own_in yes), times-append f one.files.items (own_in pinned)) in
-    let kept : Goal false = omega (arith, rest, times-append f one.files.items (own_in no), times-append f one.files.items (own_in pinned)) in
+    let gone : Goal true = omega (arith, rest, times-append f (own_files one.pins) (own_in yes), times-append f (own_files one.pins) (own_in pinned)) in
+    let kept : Goal false = omega (arith, rest, times-append f (own_files one.pins) (own_in no), times-append f (own_files one.pins) (own_in pinned)) in
     ⊎_elim (λ (e : goes owners one ≡ true). subst Goal (sym e) gone) (λ (e : goes owners one ≡ false). subst Goal (sym e) kept) (cases_Bool (goes owners one))
 
 pub AreKept-filter : (m : Acknowledged) (t : Pinner → Bool) (pinned : List Pinner) → AreKept m pinned → AreKept m (filter t pinned)
@@ -140,99 +151,64 @@ AreKept-filter m t pinned kept = λ one h. kept one (IsIn-from_filter t one pinn
 
 -- a record is removed that some pin
 
-pub AreSettled-push : (c : ℕ) (ps : List Part) (os ns : List Pinner) (o n : Pinner) → AreSettled c ps os ns → IsSettled c ps o n → AreSettled c ps (os ++ o ∷ []) (ns ++ n ∷ [])
-AreSettled-push c ps [] [] o n all new = (new, tt)
-AreSettled-push c ps [] (x ∷ ns) o n all new = absurd all
-AreSettled-push c ps (x ∷ os) [] o n all new = absurd all
-AreSettled-push c ps (x ∷ os) (y ∷ ns) o n all new = (all.0, AreSettled-push c ps os ns o n all.1 new)
-
-pub pins_on-le : (m : Acknowledged) (c f : ℕ) (pinned : List Pinner) → pins_on c (parts_of m c) f pinned ≤ pins_of_records m f pinned
-pins_on-le m c f [] = omega arith
-pins_on-le m c f (one ∷ pinned) =
-    let on : Pinner → ℕ = λ o. cond (eqb o.chosen c) (times f (each_file (take o.parts (parts_of m c)))) 0 in
-    let all : Pinner → ℕ = λ o. times f (each_file (parts_pinned m o)) in
-    let here : on one ≤ all one = ⊎_elim
-    (λ (e : eqb one.chosen c ≡ true). let at : on one ≡ times f (each_file (take one.parts (parts_of m c))) = cond-true (eqb one.chosen c) _ 0 e in let same : times f (each_file (take one.parts (parts_of m c))) ≡ all one = ap (λ d. times f (each_file (take one.parts (parts_of m d)))) (sym (eqb-true one.chosen c e)) in omega arith)
-    (λ (e : eqb one.chosen c ≡ false). let at : on one ≡ 0 = cond-false (eqb one.chosen c) (times f (each_file (take one.parts (parts_of m c)))) 0 e in omega arith)
-    (cases_Bool (eqb one.chosen c)) in
-    omega (arith, here, pins_on-le m c f pinned, sum_by-cons on one pinned, sum_by-cons all one pinned)
+pub AreSettled-push : (c : ℕ) (ps : List Part) (os ns : List Pinner) (o n : Pinner) → AreSettled c ps os ns → n.id ≡ o.id → IsSettled c ps o.pins n.pins → AreSettled c ps (os ++ o ∷ []) (ns ++ n ∷ [])
+AreSettled-push c ps [] [] o n all same new = (same, new, tt)
+AreSettled-push c ps [] (x ∷ ns) o n all same new = absurd all
+AreSettled-push c ps (x ∷ os) [] o n all same new = absurd all
+AreSettled-push c ps (x ∷ os) (y ∷ ns) o n all same new = (all.0, all.1, AreSettled-push c ps os ns o n all.2 same new)
 
 module _ (m n : Acknowledged) (c : ℕ) (others : (d : ℕ) → (d ≡ c → ⊥) → parts_of n d ≡ parts_of m d) where
-  parts_pinned-other : (one : Pinner) → (one.chosen ≡ c → one.parts ≡ 0) → parts_pinned n one ≡ parts_pinned m one
-  parts_pinned-other one none =
-      ⊎_elim (λ (e : one.chosen ≡ c). ap (λ k. take k (parts_of n one.chosen)) (none e) ∙ ap (λ k. take k (parts_of m one.chosen)) (sym (none e))) (λ (ne : one.chosen ≡ c → ⊥). ap (take one.parts) (others one.chosen ne)) (cases_eq one.chosen c)
+  first_of-other : (first : FirstParts) → (first.id ≡ c → ⊥) → first_of n first ≡ first_of m first
+  first_of-other first ne = ap (take first.parts) (others first.id ne)
 
-  pinned_by-settled : (o x : Pinner) → IsKept (parts_of m o.chosen) o → IsSettled c (parts_of m c) o x → (x.id ≡ o.id) × (pinned_by n x ≡ pinned_by m o)
-  pinned_by-settled o x kept (inl t) =
-      let taken : IsTaken (parts_of m c) o x = t.2 in
-      let none : pinned_by n x ≡ x.files.items = ap (λ k. each_file (take k (parts_of n x.chosen)) ++ x.files.items) taken.none in
-      let own : pinned_by m o ≡ each_file (parts_pinned m o) = ap (λ fs. each_file (parts_pinned m o) ++ fs) (kept.none_own t.1) ∙ append-nil (each_file (parts_pinned m o)) in
-      let same : each_file (take o.parts (parts_of m c)) ≡ each_file (parts_pinned m o) = ap (λ d. each_file (take o.parts (parts_of m d))) (sym t.0) in
-      (taken.id, none ∙ taken.files ∙ same ∙ sym own)
-  pinned_by-settled o x kept (inr s) =
-      let as_before : pinned_by n x ≡ pinned_by n o = ap (pinned_by n) s.0 in
-      (ap (λ (p : Pinner). p.id) s.0, as_before ∙ ap (λ ps. each_file ps ++ o.files.items) (parts_pinned-other o s.1))
+  pinned_by-settled : (o x : Pins) → IsSettled c (parts_of m c) o x → pinned_by n x ≡ pinned_by m o
+  pinned_by-settled (Record first room) (Files own) s =
+      s.1 ∙ ap (λ d. each_file (take first.parts (parts_of m d))) (sym s.0) ∙ sym (append-nil (each_file (first_of m first)))
+  pinned_by-settled (Record first room) (Record same left) s = ap (pinned_by n) s.1 ∙ ap (λ ps. each_file ps ++ []) (first_of-other first s.0)
+  pinned_by-settled (Files own) x s = ap (pinned_by n) s
 
-  pub pins_in-settled : (os ns : List Pinner) → AreKept m os → AreSettled c (parts_of m c) os ns → pins_in n ns ≡ pins_in m os
-  pins_in-settled [] [] kept all = refl
-  pins_in-settled [] (x ∷ ns) kept all = absurd all
-  pins_in-settled (o ∷ os) [] kept all = absurd all
-  pins_in-settled (o ∷ os) (x ∷ ns) kept all =
-      let here = pinned_by-settled o x (kept o (inl refl)) all.0 in
-      ap (λ id. triples id Pin (pinned_by n x) ++ pins_in n ns) here.0 ∙ ap (λ fs. triples o.id Pin fs ++ pins_in n ns) here.1 ∙ ap (λ us. triples o.id Pin (pinned_by m o) ++ us) (pins_in-settled os ns (λ p h. kept p (inr h)) all.1)
+  pub pins_in-settled : (os ns : List Pinner) → AreSettled c (parts_of m c) os ns → pins_in n ns ≡ pins_in m os
+  pins_in-settled [] [] all = refl
+  pins_in-settled [] (x ∷ ns) all = absurd all
+  pins_in-settled (o ∷ os) [] all = absurd all
+  pins_in-settled (o ∷ os) (x ∷ ns) all =
+      ap (λ id. triples id Pin (pinned_by n x.pins) ++ pins_in n ns) all.0 ∙ ap (λ fs. triples o.id Pin fs ++ pins_in n ns) (pinned_by-settled o.pins x.pins all.1) ∙ ap (λ us. triples o.id Pin (pinned_by m o.pins) ++ us) (pins_in-settled os ns all.2)
 
-  kept-settled : (o x : Pinner) → IsKept (parts_of m o.chosen) o → IsSettled c (parts_of m c) o x → IsKept (parts_of n x.chosen) x
-  kept-settled o x kept (inl t) =
-      let taken : IsTaken (parts_of m c) o x = t.2 in
-      record { within = omega (arith, taken.none); none_own = λ lt. absurd (omega (arith, taken.none)); room = λ lt. absurd (omega (arith, taken.none)) }
-  kept-settled o x kept (inr s) =
-      let P : Pinner → Type 0 = λ p. IsKept (parts_of n p.chosen) p in
-      let zero_or : (o.chosen ≡ c) ⊎ (o.chosen ≡ c → ⊥) = cases_eq o.chosen c in
-      let at : o.chosen ≡ c → IsKept (parts_of n o.chosen) o = λ (e : o.chosen ≡ c). let z = s.1 e in record { within = omega (arith, z); none_own = λ lt. absurd (omega (arith, z)); room = λ lt. absurd (omega (arith, z)) } in
-      let Q : List Part → Type 0 = λ ps. IsKept ps o in
-      let off : (o.chosen ≡ c → ⊥) → IsKept (parts_of n o.chosen) o = λ (ne : o.chosen ≡ c → ⊥). subst Q (sym (others o.chosen ne)) kept in
-      subst P (sym s.0) (⊎_elim at off zero_or)
+  IsKept-settled : (o x : Pins) → IsKept m o → IsSettled c (parts_of m c) o x → IsKept n x
+  IsKept-settled (Record first room) (Files own) kept s = tt
+  IsKept-settled (Record first room) (Record same left) kept s =
+      let P : List Part → Type 0 = λ ps. (first.parts ≤ length ps) × (room.items ≡ []) × (length (files_in (take first.parts ps)) ≤ vec_capacity room) in
+      subst (IsKept n) (sym s.1) (subst P (sym (others first.id s.0)) kept)
+  IsKept-settled (Files own) x kept s = subst (IsKept n) (sym s) tt
 
   pub AreKept-settled : (os ns : List Pinner) → AreKept m os → AreSettled c (parts_of m c) os ns → AreKept n ns
   AreKept-settled [] [] kept all = λ x h. absurd h
   AreKept-settled [] (x ∷ ns) kept all = absurd all
   AreKept-settled (o ∷ os) [] kept all = absurd all
   AreKept-settled (o ∷ os) (x ∷ ns) kept all = λ y h.
-      let P : Pinner → Type 0 = λ p. IsKept (parts_of n p.chosen) p in
-      ⊎_elim (λ (e : y ≡ x). subst P (sym e) (kept-settled o x (kept o (inl refl)) all.0)) (λ (k : IsIn y ns). AreKept-settled os ns (λ p q. kept p (inr q)) all.1 y k) h
+      let P : Pinner → Type 0 = λ p. IsKept n p.pins in
+      ⊎_elim (λ (e : y ≡ x). subst P (sym e) (IsKept-settled o.pins x.pins (kept o (inl refl)) all.1)) (λ (k : IsIn y ns). AreKept-settled os ns (λ p q. kept p (inr q)) all.2 y k) h
 
-pub pins_on-none : (c f : ℕ) (parts : List Part) (o : Pinner) → (o.chosen ≡ c → o.parts ≡ 0) → cond (eqb o.chosen c) (times f (each_file (take o.parts parts))) 0 ≡ 0
-pins_on-none c f parts o none =
-    let held : ℕ = times f (each_file (take o.parts parts)) in
-    let at : o.chosen ≡ c → cond (eqb o.chosen c) held 0 ≡ 0 = λ (e : o.chosen ≡ c). cond-true (eqb o.chosen c) held 0 (eq-eqb o.chosen c e) ∙ ap (λ k. times f (each_file (take k parts))) (none e) in
-    let off : (o.chosen ≡ c → ⊥) → cond (eqb o.chosen c) held 0 ≡ 0 = λ (ne : o.chosen ≡ c → ⊥). cond-false (eqb o.chosen c) held 0 (ne_eqb o.chosen c ne) in
-    ⊎_elim at off (cases_eq o.chosen c)
+-- the files that become a pinner's own are those that it pins of the record
+own-settled : (m : Acknowledged) (c f : ℕ) (o x : Pins) → IsSettled c (parts_of m c) o x
+    → (times f (own_files o) ≤ times f (own_files x)) × (times f (own_files x) ≤ times f (own_files o) + times f (each_file (parts_pinned m o)))
+own-settled m c f (Record first room) (Files own) s =
+    let same : times f own.items ≡ times f (each_file (first_of m first)) = ap (times f) (s.1 ∙ ap (λ d. each_file (take first.parts (parts_of m d))) (sym s.0)) in
+    (omega arith, omega (arith, same))
+own-settled m c f (Record first room) (Record same left) s = (omega arith, omega arith)
+own-settled m c f (Files own) x s = let same : times f (own_files x) ≡ times f own.items = ap (λ p. times f (own_files p)) s in (omega (arith, same), omega (arith, same))
 
-own-settled : (m : Acknowledged) (c f : ℕ) (o x : Pinner) → IsKept (parts_of m o.chosen) o → IsSettled c (parts_of m c) o x → times f x.files.items ≡ times f o.files.items + cond (eqb o.chosen c) (times f (each_file (take o.parts (parts_of m c)))) 0
-own-settled m c f o x kept (inl t) =
-    let taken : IsTaken (parts_of m c) o x = t.2 in
-    let now : times f x.files.items ≡ times f (each_file (take o.parts (parts_of m c))) = ap (times f) taken.files in
-    let was : times f o.files.items ≡ 0 = ap (times f) (kept.none_own t.1) in
-    let on : cond (eqb o.chosen c) (times f (each_file (take o.parts (parts_of m c)))) 0 ≡ times f (each_file (take o.parts (parts_of m c))) = cond-true (eqb o.chosen c) _ 0 (eq-eqb o.chosen c t.0) in
-    omega arith
-own-settled m c f o x kept (inr s) =
-    let now : times f x.files.items ≡ times f o.files.items = ap (λ (p : Pinner). times f p.files.items) s.0 in
-    omega (arith, now, pins_on-none c f (parts_of m c) o s.1)
-
-pub own_in-settled : (m : Acknowledged) (c f : ℕ) (os ns : List Pinner) → AreKept m os → AreSettled c (parts_of m c) os ns → times f (own_in ns) ≡ times f (own_in os) + pins_on c (parts_of m c) f os
-own_in-settled m c f [] [] kept all = refl
-own_in-settled m c f [] (x ∷ ns) kept all = absurd all
-own_in-settled m c f (o ∷ os) [] kept all = absurd all
-own_in-settled m c f (o ∷ os) (x ∷ ns) kept all =
-    let on : Pinner → ℕ = λ p. cond (eqb p.chosen c) (times f (each_file (take p.parts (parts_of m c)))) 0 in
-    omega (
-      arith,
-      own-settled m c f o x (kept o (inl refl)) all.0,
-      own_in-settled m c f os ns (λ p h. kept p (inr h)) all.1,
-      sum_by-cons on o os,
-      times-append f x.files.items (own_in ns),
-      times-append f o.files.items (own_in os),
-    )
+pub own_in-settled : (m : Acknowledged) (c f : ℕ) (os ns : List Pinner) → AreSettled c (parts_of m c) os ns → (times f (own_in os) ≤ times f (own_in ns)) × (times f (own_in ns) ≤ times f (own_in os) + pins_of_records m f os)
+own_in-settled m c f [] [] all = (omega arith, omega arith)
+own_in-settled m c f [] (x ∷ ns) all = absurd all
+own_in-settled m c f (o ∷ os) [] all = absurd all
+own_in-settled m c f (o ∷ os) (x ∷ ns) all =
+    let here = own-settled m c f o.pins x.pins all.1 in
+    let rest = own_in-settled m c f os ns all.2 in
+    let more = sum_by-cons (λ (p : Pinner). times f (each_file (parts_pinned m p.pins))) o os in
+    let new = times-append f (own_files x.pins) (own_in ns) in
+    let old = times-append f (own_files o.pins) (own_in os) in
+    (omega (arith, here.0, rest.0, new, old), omega (arith, here.1, rest.1, more, new, old))
 
 -- one pinner more has been looked at
 module _ (chosen : ℕ) (parts : List Part) (old now : List Pinner) (i : ℕ) (d : Pinner) (within : i < length now) (same_length : length now ≡ length old) (left : drop i now ≡ drop i old) where
@@ -244,32 +220,32 @@ module _ (chosen : ℕ) (parts : List Part) (old now : List Pinner) (i : ℕ) (d
   pub left_more : (y : Pinner) → drop (i + 1) (set now i y) ≡ drop (i + 1) old
   left_more y = drop-set-lt (i + 1) now i y (omega arith) ∙ sym (drop-drop 1 i now) ∙ ap (drop 1) left ∙ drop-drop 1 i old
 
-  pub settled_more : (y : Pinner) → AreSettled chosen parts (take i old) (take i now) → IsSettled chosen parts (get_or old i d) y → AreSettled chosen parts (take (i + 1) old) (take (i + 1) (set now i y))
-  settled_more y all new =
+  pub settled_more : (y : Pinner) → AreSettled chosen parts (take i old) (take i now) → y.id ≡ (get_or old i d).id → IsSettled chosen parts (get_or old i d).pins y.pins → AreSettled chosen parts (take (i + 1) old) (take (i + 1) (set now i y))
+  settled_more y all same new =
       let P : List Pinner → Type 0 = λ os. AreSettled chosen parts os (take (i + 1) (set now i y)) in
       let Q : List Pinner → Type 0 = λ ns. AreSettled chosen parts (take i old ++ get_or old i d ∷ []) ns in
-      subst P (sym (take_more old i d (omega (arith, within, same_length)))) (subst Q (sym (take_more_set now i y within)) (AreSettled-push chosen parts (take i old) (take i now) (get_or old i d) y all new))
+      subst P (sym (take_more old i d (omega (arith, within, same_length)))) (subst Q (sym (take_more_set now i y within)) (AreSettled-push chosen parts (take i old) (take i now) (get_or old i d) y all same new))
 
 -- the files of the pinners that are removed, for one pinner more
 
-own_of-push : (f : ℕ) (owners : List ℕ) (pinned : List Pinner) (one : Pinner) → times f (own_of owners (pinned ++ one ∷ [])) ≡ times f (own_of owners pinned) + cond (goes owners one) (times f one.files.items) 0
+own_of-push : (f : ℕ) (owners : List ℕ) (pinned : List Pinner) (one : Pinner) → times f (own_of owners (pinned ++ one ∷ [])) ≡ times f (own_of owners pinned) + cond (goes owners one) (times f (own_files one.pins)) 0
 own_of-push f owners pinned one =
     let yes : List Pinner = filter (goes owners) pinned in
     let split : filter (goes owners) (pinned ++ one ∷ []) ≡ yes ++ cond (goes owners one) (one ∷ []) [] = filter-append (goes owners) pinned (one ∷ []) in
-    let Goal : Bool → Type 0 = λ b. times f (own_in (yes ++ cond b (one ∷ []) [])) ≡ times f (own_in yes) + cond b (times f one.files.items) 0 in
+    let Goal : Bool → Type 0 = λ b. times f (own_in (yes ++ cond b (one ∷ []) [])) ≡ times f (own_in yes) + cond b (times f (own_files one.pins)) 0 in
     let gone : Goal true = own_in-push f yes one in
     let kept : Goal false = let none : times f (own_in (yes ++ [])) ≡ times f (own_in yes) = ap (λ os. times f (own_in os)) (append-nil yes) in omega arith in
     let at : Goal (goes owners one) = ⊎_elim (λ (e : goes owners one ≡ true). subst Goal (sym e) gone) (λ (e : goes owners one ≡ false). subst Goal (sym e) kept) (cases_Bool (goes owners one)) in
     ap (λ os. times f (own_in os)) split ∙ at
 
 pub own_of-more : (f : ℕ) (owners : List ℕ) (pinned : List Pinner) (i : ℕ) (one : Pinner) → i < length pinned → one ≡ get_or pinned i one
-    → times f (own_of owners (take (i + 1) pinned)) ≡ times f (own_of owners (take i pinned)) + cond (goes owners one) (times f one.files.items) 0
+    → times f (own_of owners (take (i + 1) pinned)) ≡ times f (own_of owners (take i pinned)) + cond (goes owners one) (times f (own_files one.pins)) 0
 own_of-more f owners pinned i one within at =
     let more : take (i + 1) pinned ≡ take i pinned ++ one ∷ [] = take_more pinned i one within ∙ ap (λ o. take i pinned ++ o ∷ []) (sym at) in
     ap (λ os. times f (own_of owners os)) more ∙ own_of-push f owners (take i pinned) one
 
 pub own_of-le : (f : ℕ) (owners : List ℕ) (n : ℕ) (pinned : List Pinner) → times f (own_of owners (take n pinned)) ≤ times f (own_in pinned)
-own_of-le f owners n pinned = omega (arith, own_in-parts f owners (take n pinned), times_of_take (λ (o : Pinner). o.files.items) f n pinned)
+own_of-le f owners n pinned = omega (arith, own_in-parts f owners (take n pinned), times_of_take (λ (o : Pinner). own_files o.pins) f n pinned)
 
 -- A walk over a row of pinners takes those out who go. It has seen the first i, and the others come after those that stay.
 
@@ -333,6 +309,6 @@ uses_in-holder held u h =
 
 pub pins_in-holder : (m : Acknowledged) (pinned : List Pinner) (u : Use) → IsIn u (pins_in m pinned) → same_holder u.holder Pin ≡ true
 pins_in-holder m pinned u h =
-    let one = IsIn-from_flat_map (λ (o : Pinner). triples o.id Pin (pinned_by m o)) u pinned h in
-    let file = IsIn-from_map (λ (x : ℕ). record { id = one.0.id; holder = Pin; file = x }) u (pinned_by m one.0) one.2 in
+    let one = IsIn-from_flat_map (λ (o : Pinner). triples o.id Pin (pinned_by m o.pins)) u pinned h in
+    let file = IsIn-from_map (λ (x : ℕ). record { id = one.0.id; holder = Pin; file = x }) u (pinned_by m one.0.pins) one.2 in
     ap (λ (v : Use). same_holder v.holder Pin) file.2

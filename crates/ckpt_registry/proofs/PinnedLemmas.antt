@@ -13,7 +13,7 @@ use Rattle.ckpt_ids.proofs.OrderedLemmas.{ComesBefore-at, ComesBefore-from, IsIn
 use Rattle.ckpt_ids.proofs.SetLemmas.{ascending-from_dedup}
 use Rattle.ckpt_registry.specs.declared.pins.Pinner.{Pinner}
 use Rattle.ckpt_registry.specs.Holdings.{Acknowledged, uses_in}
-use Rattle.ckpt_registry.specs.Pins.{each_file, named_by, parts_pinned, pinned_by, pins_in}
+use Rattle.ckpt_registry.specs.Pins.{each_file, named_by, own_files, parts_pinned, pinned_by, pins_in}
 use Rattle.ckpt_registry.specs.Sound.{in_use, stored}
 use Rattle.ckpt_registry.specs.Uses.{pins_by, triples}
 use Rattle.ckpt_registry.specs.Parts.{files_in}
@@ -57,7 +57,7 @@ pins_by-ascending : (id : ℕ) (us : List Use) → IsInOrder use_before us → I
 pins_by-ascending id us order = files_in_order id (filter (pins_it id) us) (IsInOrder-filter use_before (pins_it id) us order) (λ u h. (IsIn-from_filter (pins_it id) u us h).1)
 
 abbrev named_one : Acknowledged → Pinner → List ℕ
-named_one m one = files_in (parts_pinned m one) ++ one.files.items
+named_one m one = files_in (parts_pinned m one.pins) ++ own_files one.pins
 
 -- what the pinners of the record name is what it pins
 pub named-pins : (m : Acknowledged) (p : List Pinner) (id : ℕ) → ascending_set (named_by m id p) ≡ pins_by id (in_use m p)
@@ -69,12 +69,12 @@ named-pins m p id =
     let q = IsIn-from_flat_map (named_one m) z (filter its p) h in
     let one : Pinner = q.0 in
     let k = IsIn-from_filter its one p q.1 in
-    let held : IsIn z (pinned_by m one) = ⊎_elim
-    (λ (i : IsIn z (files_in (parts_pinned m one))). IsIn-append_left z (each_file (parts_pinned m one)) one.files.items (IsIn-in_order_once numbers_in_order z (files_in (parts_pinned m one)) i))
-    (λ (i : IsIn z one.files.items). IsIn-append_right z (each_file (parts_pinned m one)) one.files.items i)
-    (IsIn-append_cases z (files_in (parts_pinned m one)) one.files.items q.2) in
+    let held : IsIn z (pinned_by m one.pins) = ⊎_elim
+    (λ (i : IsIn z (files_in (parts_pinned m one.pins))). IsIn-append_left z (each_file (parts_pinned m one.pins)) (own_files one.pins) (IsIn-in_order_once numbers_in_order z (files_in (parts_pinned m one.pins)) i))
+    (λ (i : IsIn z (own_files one.pins)). IsIn-append_right z (each_file (parts_pinned m one.pins)) (own_files one.pins) i)
+    (IsIn-append_cases z (files_in (parts_pinned m one.pins)) (own_files one.pins) q.2) in
     let make : ℕ → Use = λ f. record { id = one.id; holder = Pin; file = f } in
-    let among : IsIn (make z) (pins_in m p) = IsIn-flat_map (λ (o : Pinner). triples o.id Pin (pinned_by m o)) one (make z) p k.0 (IsIn-map make z (pinned_by m one) held) in
+    let among : IsIn (make z) (pins_in m p) = IsIn-flat_map (λ (o : Pinner). triples o.id Pin (pinned_by m o.pins)) one (make z) p k.0 (IsIn-map make z (pinned_by m one.pins) held) in
     let there : IsIn (make z) us = IsIn-in_order_once uses_in_order (make z) (stored m p) (IsIn-append_right (make z) (uses_in m.items) (pins_in m p) among) in
     let passes : pins_it id (make z) ≡ true = ap (λ b. b && true) k.1 in
     IsIn-map (λ (u : Use). u.file) (make z) (filter (pins_it id) us) (IsIn-filter (pins_it id) (make z) us there passes) in
@@ -87,15 +87,15 @@ named-pins m p id =
     (λ (i : IsIn u (uses_in m.items)). absurd (both_ways (same_holder u.holder Pin) (uses_in-holder m.items u i) both.1))
     (λ (i : IsIn u (pins_in m p)). i)
     (IsIn-append_cases u (uses_in m.items) (pins_in m p) (IsIn-from_in_order_once use_before u (stored m p) k.0)) in
-    let r = IsIn-from_flat_map (λ (o : Pinner). triples o.id Pin (pinned_by m o)) u p among in
+    let r = IsIn-from_flat_map (λ (o : Pinner). triples o.id Pin (pinned_by m o.pins)) u p among in
     let one : Pinner = r.0 in
-    let w = IsIn-from_map (λ (f : ℕ). record { id = one.id; holder = Pin; file = f }) u (pinned_by m one) r.2 in
+    let w = IsIn-from_map (λ (f : ℕ). record { id = one.id; holder = Pin; file = f }) u (pinned_by m one.pins) r.2 in
     let same : z ≡ w.0 = q.2 ∙ ap (λ (v : Use). v.file) w.2 in
     let mine : its one ≡ true = ap (λ i. eqb i id) (sym (ap (λ (v : Use). v.id) w.2)) ∙ both.0 in
     let held : IsIn w.0 (named_one m one) = ⊎_elim
-    (λ (i : IsIn w.0 (each_file (parts_pinned m one))). IsIn-append_left w.0 (files_in (parts_pinned m one)) one.files.items (IsIn-from_in_order_once ltb w.0 (files_in (parts_pinned m one)) i))
-    (λ (i : IsIn w.0 one.files.items). IsIn-append_right w.0 (files_in (parts_pinned m one)) one.files.items i)
-    (IsIn-append_cases w.0 (each_file (parts_pinned m one)) one.files.items w.1) in
+    (λ (i : IsIn w.0 (each_file (parts_pinned m one.pins))). IsIn-append_left w.0 (files_in (parts_pinned m one.pins)) (own_files one.pins) (IsIn-from_in_order_once ltb w.0 (files_in (parts_pinned m one.pins)) i))
+    (λ (i : IsIn w.0 (own_files one.pins)). IsIn-append_right w.0 (files_in (parts_pinned m one.pins)) (own_files one.pins) i)
+    (IsIn-append_cases w.0 (each_file (parts_pinned m one.pins)) (own_files one.pins) w.1) in
     let P : ℕ → Type 0 = λ f. IsIn f all in
     subst P (sym same) (IsIn-flat_map (named_one m) one w.0 (filter its p) (IsIn-filter its one p r.1 mine) held) in
     same_from_members numbers_in_order (ascending_set all) (pins_by id us) (IsInOrder-in_order_once numbers_in_order all) (pins_by-ascending id us (IsInOrder-in_order_once uses_in_order (stored m p)))

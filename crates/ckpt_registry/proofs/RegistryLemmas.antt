@@ -22,7 +22,7 @@ use Rattle.ckpt_ids.proofs.OrderLemmas.{uses_in_order}
 use Rattle.ckpt_registry.specs.Counters.{Counts, counter, counted_once, AreInRange}
 use Rattle.ckpt_registry.specs.declared.pins.Pinner.{Pinner}
 use Rattle.ckpt_registry.specs.Holdings.{Acknowledged, AreRising, Extends, parts_of, uses_in}
-use Rattle.ckpt_registry.specs.Pins.{AreKept, IsKept, each_file, pinned_by, pins_in, pins_of_records}
+use Rattle.ckpt_registry.specs.Pins.{AreKept, IsKept, each_file, own_files, pinned_by, pins_in, pins_of_records}
 use Rattle.ckpt_registry.specs.Sound.{stored, in_use, AreCounted, StandsOnce, IsSound}
 use Rattle.ckpt_registry.specs.Uses.{IsEachOnce, HasNoUse, triples, files_by, is_owned, is_ended, without, after_end}
 use Rattle.ckpt_registry.specs.Parts.{files_in}
@@ -265,17 +265,17 @@ IsSound-kept a p b m n room left s ordered more same entries fits = record {
   has_room = fits;
 }
 
-module _ (a : Acknowledged) (p : List Pinner) (one : Pinner) (files : List ℕ) (pins : pinned_by a one ≡ files) where
+module _ (a : Acknowledged) (p : List Pinner) (one : Pinner) (files : List ℕ) (pins : pinned_by a one.pins ≡ files) where
   added-pinned : (t : Use → Bool) → count_by t (stored a (p ++ one ∷ [])) ≡ count_by t (stored a p) + count_by t (triples one.id Pin files)
   added-pinned = stored-pinned a p (p ++ one ∷ []) (triples one.id Pin files) (pins_in-push a p one ∙ ap (λ fs. pins_in a p ++ triples one.id Pin fs) pins)
 
   pub in_use-pinned : in_use a (p ++ one ∷ []) ≡ in_order_once use_before (in_use a p ++ triples one.id Pin files)
   in_use-pinned = in_use-added a p a (p ++ one ∷ []) one.id Pin files added-pinned
 
-  pub IsSound-pinned : (m n : Counts) (room left : ℕ) → IsSound a p m room → IsKept (parts_of a one.chosen) one → IsEachOnce files → HasNoUse (in_use a p) one.id Pin
-      → ((f : ℕ) → counter n f ≡ counter m f + times f one.files.items) → AreInRange n → index_map_len n ≤ left → ((f : ℕ) → count (in_use a p) f + times f files < 2 ^ 32) → IsSound a (p ++ one ∷ []) n left
+  pub IsSound-pinned : (m n : Counts) (room left : ℕ) → IsSound a p m room → IsKept a one.pins → IsEachOnce files → HasNoUse (in_use a p) one.id Pin
+      → ((f : ℕ) → counter n f ≡ counter m f + times f (own_files one.pins)) → AreInRange n → index_map_len n ≤ left → ((f : ℕ) → count (in_use a p) f + times f files < 2 ^ 32) → IsSound a (p ++ one ∷ []) n left
   IsSound-pinned m n room left s kept each unused raised range fits small = record {
-    parts = AreCounted-pushed a p one m n kept raised range (λ f. let same : times f (pinned_by a one) ≡ times f files = ap (times f) pins in omega (arith, same, small f, s.once (λ (u : Use). eqb u.file f))) s.parts;
+    parts = AreCounted-pushed a p one m n kept raised range (λ f. let same : times f (pinned_by a one.pins) ≡ times f files = ap (times f) pins in omega (arith, same, small f, s.once (λ (u : Use). eqb u.file f))) s.parts;
     once = StandsOnce-added a p a (p ++ one ∷ []) one.id Pin files added-pinned s.once each unused;
     has_room = fits;
   }

@@ -10,14 +10,14 @@ use Rattle.ckpt_registry.specs.declared.holdings.Holding.{Holding}
 use Rattle.ckpt_registry.specs.declared.pins.Pinner.{Pinner}
 use Rattle.ckpt_registry.specs.Counters.{Counts, counter, counted_once, AreInRange}
 use Rattle.ckpt_registry.specs.Holdings.{Acknowledged, AreRising, Extends, parts_of, uses_in}
-use Rattle.ckpt_registry.specs.Pins.{AreKept, AreSettled, IsKept, is_named, own_in, own_of, pinned_by, pins_in, pins_of_records, pins_on}
+use Rattle.ckpt_registry.specs.Pins.{AreKept, AreSettled, IsKept, is_named, own_files, own_in, own_of, pinned_by, pins_in, pins_of_records}
 use Rattle.ckpt_registry.specs.Sound.{AreCounted, stored}
 use Rattle.ckpt_registry.specs.Uses.{is_owned, triples, without, without_record}
 use Rattle.ckpt_registry.specs.Parts.{files_in}
 use Rattle.ckpt_registry.proofs.CounterLemmas.{counted_once-above, counted_once-zero}
 use Rattle.ckpt_registry.proofs.HoldingLemmas.{has_id, parts_in}
 use Rattle.ckpt_registry.proofs.ListLemmas.{count_by-filter_le}
-use Rattle.ckpt_registry.proofs.PinLemmas.{AreKept-extended, AreKept-filter, AreKept-push, AreKept-settled, count-pins_in, count-triples_of, own_in-parts, own_in-push, own_in-settled, pins_in-extended, pins_in-filter, pins_in-push, pins_in-settled, pins_of_records-none, pins_on-le}
+use Rattle.ckpt_registry.proofs.PinLemmas.{AreKept-extended, AreKept-filter, AreKept-push, AreKept-settled, count-pins_in, count-triples_of, own_in-parts, own_in-push, own_in-settled, pins_in-extended, pins_in-filter, pins_in-push, pins_in-settled, pins_of_records-none}
 
 -- the count of a file: its counter, and the pins of records that pin a live record
 pub count-stored : (m : Acknowledged) (p : List Pinner) (counts : Counts) → AreCounted m p counts → (f : ℕ) → count (stored m p) f ≡ counter counts f + pins_of_records m f p
@@ -53,29 +53,28 @@ AreCounted-unpinned m p q owners counts after s kept lowered range =
 
 -- a record is removed that some pin
 module _ (m n : Acknowledged) (c : ℕ) (p q : List Pinner) (counts after : Counts) (s : AreCounted m p counts) (others : (d : ℕ) → (d ≡ c → ⊥) → parts_of n d ≡ parts_of m d) (settled : AreSettled c (parts_of m c) p q) where
-  pub pins_in-gone : pins_in n q ≡ pins_in m p
-  pins_in-gone = pins_in-settled m n c others p q s.kept settled
-
   pub AreCounted-gone : AreRising n.items → uses_in n.items ≡ without_record c (uses_in m.items) → ((f : ℕ) → count (uses_in m.items) f ≡ times f (files_in (parts_of m c)) + count (uses_in n.items) f)
-      → ((f : ℕ) → counter after f + times f (files_in (parts_of m c)) ≡ counter counts f + pins_on c (parts_of m c) f p) → AreInRange after → AreCounted n q after
+      → ((f : ℕ) → counter after f + times f (files_in (parts_of m c)) + times f (own_in p) ≡ counter counts f + times f (own_in q)) → AreInRange after → AreCounted n q after
   AreCounted-gone ordered uses split moved range = record {
     ordered = ordered;
     kept = AreKept-settled m n c others p q s.kept settled;
-    counted = λ f. omega (arith, s.counted f, split f, moved f, own_in-settled m c f p q s.kept settled);
+    counted = λ f. omega (arith, s.counted f, split f, moved f);
     range = range;
     below = λ f.
-        let same : count (pins_in n q) f ≡ count (pins_in m p) f = ap (λ us. count us f) pins_in-gone in
+        let same : count (pins_in n q) f ≡ count (pins_in m p) f = ap (λ us. count us f) (pins_in-settled m n c others p q settled) in
         omega (arith, same, split f, s.below f, count_by-append (λ (u : Use). eqb u.file f) (uses_in n.items) (pins_in n q), count_by-append (λ (u : Use). eqb u.file f) (uses_in m.items) (pins_in m p));
   }
 
 -- if a record is removed, its pinners are counted, for files that had a counter
-pub counted_once-settled : (m : Acknowledged) (p : List Pinner) (counts after : Counts) (c f : ℕ) → AreCounted m p counts → counter after f ≡ counter counts f + pins_on c (parts_of m c) f p → counted_once after f ≡ counted_once counts f
-counted_once-settled m p counts after c f s raised =
+pub counted_once-settled : (m : Acknowledged) (p q : List Pinner) (counts after : Counts) (c f : ℕ) → AreCounted m p counts → AreSettled c (parts_of m c) p q → counter after f + times f (own_in p) ≡ counter counts f + times f (own_in q)
+    → counted_once after f ≡ counted_once counts f
+counted_once-settled m p q counts after c f s settled raised =
+    let own = own_in-settled m c f p q settled in
     let some : 0 < counter counts f → counted_once after f ≡ counted_once counts f = λ (h : 0 < counter counts f).
-    counted_once-above after f (omega (arith, h, raised)) ∙ sym (counted_once-above counts f h) in
+    counted_once-above after f (omega (arith, h, raised, own.0)) ∙ sym (counted_once-above counts f h) in
     let none : counter counts f ≤ 0 → counted_once after f ≡ counted_once counts f = λ (h : counter counts f ≤ 0).
     let pins : pins_of_records m f p ≡ 0 = pins_of_records-none m f p (omega (arith, s.counted f, h)) in
-    counted_once-zero after f (omega (arith, raised, h, pins, pins_on-le m c f p)) ∙ sym (counted_once-zero counts f (omega (arith, h))) in
+    counted_once-zero after f (omega (arith, raised, h, pins, own.1)) ∙ sym (counted_once-zero counts f (omega (arith, h))) in
     ⊎_elim some none (cases_lt 0 (counter counts f))
 
 -- records have other parts after those that they had, and the same uses
@@ -111,21 +110,21 @@ AreCounted-acknowledged m n p counts after files more ordered adds raised range 
 }
 
 -- one more pins
-pub AreCounted-pushed : (m : Acknowledged) (p : List Pinner) (one : Pinner) (counts after : Counts) → IsKept (parts_of m one.chosen) one → ((f : ℕ) → counter after f ≡ counter counts f + times f one.files.items) → AreInRange after
-    → ((f : ℕ) → count (stored m p) f + times f (pinned_by m one) < 2 ^ 32) → AreCounted m p counts → AreCounted m (p ++ one ∷ []) after
+pub AreCounted-pushed : (m : Acknowledged) (p : List Pinner) (one : Pinner) (counts after : Counts) → IsKept m one.pins → ((f : ℕ) → counter after f ≡ counter counts f + times f (own_files one.pins)) → AreInRange after
+    → ((f : ℕ) → count (stored m p) f + times f (pinned_by m one.pins) < 2 ^ 32) → AreCounted m p counts → AreCounted m (p ++ one ∷ []) after
 AreCounted-pushed m p one counts after new raised range fits s = record {
   ordered = s.ordered;
   kept = AreKept-push m p one s.kept new;
   counted = λ f. omega (arith, s.counted f, raised f, own_in-push f p one);
   range = range;
   below = λ f.
-      let pushed : count (pins_in m (p ++ one ∷ [])) f ≡ count (pins_in m p ++ triples one.id Pin (pinned_by m one)) f = ap (λ us. count us f) (pins_in-push m p one) in
+      let pushed : count (pins_in m (p ++ one ∷ [])) f ≡ count (pins_in m p ++ triples one.id Pin (pinned_by m one.pins)) f = ap (λ us. count us f) (pins_in-push m p one) in
       omega (
         arith,
         pushed,
         fits f,
-        count-triples_of one.id f (pinned_by m one),
-        count_by-append (λ (u : Use). eqb u.file f) (pins_in m p) (triples one.id Pin (pinned_by m one)),
+        count-triples_of one.id f (pinned_by m one.pins),
+        count_by-append (λ (u : Use). eqb u.file f) (pins_in m p) (triples one.id Pin (pinned_by m one.pins)),
         count_by-append (λ (u : Use). eqb u.file f) (uses_in m.items) (pins_in m (p ++ one ∷ [])),
         count_by-append (λ (u : Use). eqb u.file f) (uses_in m.items) (pins_in m p),
       );

@@ -1,14 +1,16 @@
 //! The pins of records: files that they keep present, or a live record whose files they keep
 //! present.
-ghost use Rattle.std.specs.Prelude.{◌≡◌, ℕ, ◌+◌, ◌<◌, ◌≤◌, ◌^◌, [], nat_lt, take, filter, not, length, ◌++◌, IfOk};
+ghost use Rattle.std.specs.Prelude.{◌≡◌, ℕ, ◌+◌, ◌<◌, ◌≤◌, ◌^◌, [], ◌++◌, filter, not, length, IfOk};
 ghost use Rattle.std.specs.Vec.{vec_capacity};
 ghost use Rattle.indexmap.specs.IndexMap.{index_map_len};
+ghost use Rattle.ckpt_ids.specs.Ascending.{ascending_set};
 ghost use Rattle.ckpt_ids.specs.Counting.{times};
 ghost use Rattle.ckpt_ids.specs.Ordered.{IsIn};
 ghost use Rattle.ckpt_registry.specs.Counters.{counter, AreInRange, AreLowered, HasRoom};
-ghost use Rattle.ckpt_registry.specs.Holdings.{AreRising, parts_of};
+ghost use Rattle.ckpt_registry.specs.Holdings.{Acknowledged, AreRising, parts_of};
 ghost use Rattle.ckpt_registry.specs.Parts.{files_in};
-ghost use Rattle.ckpt_registry.specs.Pins.{AreKept, AreSettled, IsKept, IsLook, IsTaken, each_file, is_named, named_by, own_in, own_of, parts_pinned, pins_of_records, pins_on};
+ghost use Rattle.ckpt_registry.specs.Pins.{AreKept, AreSettled, IsKept, IsLook, IsSettled, each_file, is_named, named_by, own_files, own_in, own_of, parts_pinned, pinned_by, pins_of_records};
+ghost use Rattle.ckpt_registry.specs.Sound.{AreCounted};
 
 use crate::counters::{Counts, count_reused};
 use crate::holdings::{Acknowledged, lower_each, parts_held};
@@ -16,77 +18,139 @@ use crate::parts::{MOST_FILES, Parts, emptied, write};
 use crate::sorting::sort;
 use ckpt_ids::{CheckpointId, FileId};
 use std::alloc::{AllocError, Global};
+use std::mem::replace;
 
 /// A count searches at most this many records for pins. A search in a record of 4096 subtasks takes
 /// some 60 microseconds.
 const MOST_SEARCHES: usize = 64;
 
-/// The pins of a record: all files of a live record, as it is now, or a list of files.
+/// A record that pins files.
 #[derive(Debug, Drop)]
 pub(crate) struct Pinner {
     pub(crate) id: CheckpointId,
-    /// The record whose files are pinned. It uses each of them while it is live.
-    pub(crate) chosen: CheckpointId,
-    /// The number of parts of that record; 0 if the files are counted one by one.
-    pub(crate) parts: usize,
-    /// Files that are counted one by one, or room for those of the pinned record.
-    pub(crate) files: Vec<FileId>,
+    pub(crate) pins: Pins,
 }
 
-impl Pinner {
-    /// Whether it pins all files of a live record, which are not counted one by one.
-    fn is_whole(&self) -> bool
-        ensures { result ≡ nat_lt 0 self.now.parts }
-    {
-        self.parts > 0
-    }
+/// What a record pins.
+#[derive(Debug, Drop)]
+pub(crate) enum Pins {
+    /// All files of a live record. It uses each of them, so they are not counted. Once it is
+    /// dropped they are, and this room takes them.
+    Record {
+        first: FirstParts,
+        room: Vec<FileId>,
+    },
+    /// Files that are counted one by one.
+    Files(Vec<FileId>),
+}
 
-    /// Whether a file belongs to the live record that is pinned.
-    fn pins(&self, acknowledged: &Acknowledged, file: FileId) -> bool
+/// The first parts of a live record, which may get more.
+#[derive(Clone, Copy, Debug, Drop, PartialEq, Eq)]
+pub(crate) struct FirstParts {
+    pub(crate) id: CheckpointId,
+    pub(crate) parts: usize,
+}
+
+impl Pins {
+    /// The files that are pinned. A file of several parts is there once for each.
+    fn files<'a>(&'a self, acknowledged: &'a Acknowledged) -> &'a [FileId]
         requires rising { AreRising acknowledged.now.items }
-        requires within { self.now.parts ≤ length (parts_of acknowledged.now self.now.chosen) }
-        ensures { result ≡ nat_lt 0 (times file (files_in (parts_pinned acknowledged.now self.now))) }
+        requires kept { IsKept acknowledged.now self.now }
+        ensures { result.now ≡ files_in (parts_pinned acknowledged.now self.now) ++ own_files self.now }
     {
-        match parts_held(acknowledged, self.chosen) {
-            Some(parts) => parts.has(self.parts, file),
-            None => false,
+        match self {
+            Pins::Record { first, .. } => match parts_held(acknowledged, first.id) {
+                Some(parts) => parts.files_of_first(first.parts),
+                None => &[],
+            },
+            Pins::Files(own) => own.as_slice(),
         }
     }
 
-    /// From now on the files of the pinned record are counted one by one, in the room that was kept
-    /// for them. Takes no memory.
-    fn take(&mut self, counts: &mut Counts, parts: &Parts)
-        requires kept { IsKept parts.now self.old }
-        requires pins { 0 < self.old.parts }
+    /// If these are the pins of a dropped record, which had these parts, its files are counted one
+    /// by one from now on. Takes no memory.
+    fn settle(&mut self, counts: &mut Counts, chosen: CheckpointId, parts: &Parts)
+        requires kept { (before : Acknowledged) × (parts_of before chosen ≡ parts.now) × IsKept before self.old × ((f : ℕ) → counter counts.old f + times f (each_file (parts_pinned before self.old)) < 2 ^ 32) }
         requires present { (f : ℕ) → IsIn f (files_in parts.now) → 0 < counter counts.old f }
-        requires fits { (f : ℕ) → counter counts.old f + times f (each_file (take self.old.parts parts.now)) < 2 ^ 32 }
         requires range { AreInRange counts.old }
-        ensures taken { IsTaken parts.now self.old self.new }
-        ensures counted { (f : ℕ) → counter counts.new f ≡ counter counts.old f + times f (each_file (take self.old.parts parts.now)) }
+        ensures settled { IsSettled chosen parts.now self.old self.new }
+        ensures counted { (f : ℕ) → counter counts.new f + times f (own_files self.old) ≡ counter counts.old f + times f (own_files self.new) }
         ensures len { index_map_len counts.new ≡ index_map_len counts.old }
         ensures range { AreInRange counts.new }
     {
-        write(&mut self.files, parts.files_of_first(self.parts));
-        sort(&mut self.files);
-        self.files.dedup();
-        self.parts = 0;
-        count_reused(counts, &self.files);
+        if let Pins::Record { first, room } = self
+            && first.id == chosen
+        {
+            let alloc = *room.allocator();
+            let room = replace(room, Vec::new(alloc));
+            *self = Pins::Files(count_once(counts, parts.files_of_first(first.parts), room));
+        }
     }
+
+    /// Gives up the pins. Returns the list that is then spare, empty.
+    fn give_up(self, counts: &mut Counts, released: &mut Vec<FileId>) -> Vec<FileId>
+        requires counted { (f : ℕ) → times f (own_files self) ≤ counter counts.old f }
+        requires range { AreInRange counts.old }
+        requires room { HasRoom counts.old released.old }
+        ensures lowered { AreLowered (λ f. times f (own_files self)) counts.old released.old counts.new released.new }
+        ensures no_files { result.items ≡ [] }
+    {
+        let files = match self {
+            Pins::Record { room, .. } => room,
+            Pins::Files(own) => {
+                lower_each(counts, released, &own);
+                own
+            }
+        };
+        emptied(files, MOST_FILES)
+    }
+}
+
+/// Counts these files, each once, and returns them in this room. Takes no memory.
+fn count_once(counts: &mut Counts, files: &[FileId], room: Vec<FileId>) -> Vec<FileId>
+    requires empty { room.items ≡ [] }
+    requires room { length files.now ≤ vec_capacity room }
+    requires present { (f : ℕ) → IsIn f files.now → 0 < counter counts.old f }
+    requires fits { (f : ℕ) → counter counts.old f + times f (ascending_set files.now) < 2 ^ 32 }
+    requires range { AreInRange counts.old }
+    ensures files { result.items ≡ ascending_set files.now }
+    ensures counted { (f : ℕ) → counter counts.new f ≡ counter counts.old f + times f (ascending_set files.now) }
+    ensures len { index_map_len counts.new ≡ index_map_len counts.old }
+    ensures range { AreInRange counts.new }
+{
+    let mut own = room;
+    write(&mut own, files);
+    sort(&mut own);
+    own.dedup();
+    count_reused(counts, &own);
+    own
 }
 
 /// How many searches a count makes: one in each record that is pinned as a whole. Consecutive pins
 /// of the same one share a search.
 fn searches(pinned: &[Pinner]) -> usize {
     let mut count: usize = 0;
-    let mut last = (CheckpointId(0), 0);
+    let mut last = None;
     for one in pinned {
-        let search = (one.chosen, one.parts);
-        if one.is_whole() && search != last {
-            count = count.saturating_add(1);
+        if let Pins::Record { first, .. } = &one.pins {
+            if last != Some(*first) {
+                count = count.saturating_add(1);
+            }
+            last = Some(*first);
         }
-        last = search;
     }
     count
+}
+
+/// Whether one more pin of these parts shares the search of the last pin.
+fn is_searched(pinned: &[Pinner], first: &FirstParts) -> bool {
+    let Some(last) = pinned.last() else {
+        return false;
+    };
+    match &last.pins {
+        Pins::Record { first: other, .. } => other == first,
+        Pins::Files(_) => false,
+    }
 }
 
 /// The pins of all files of a live record, which has these parts, in room for the files.
@@ -97,39 +161,29 @@ fn searches(pinned: &[Pinner]) -> usize {
 pub(crate) fn pin_all(
     counts: &mut Counts,
     pinned: &[Pinner],
-    id: CheckpointId,
     chosen: CheckpointId,
     parts: &Parts,
     room: Vec<FileId>,
-) -> Pinner
-    requires some { 0 < length parts.now }
+) -> Pins
     requires empty { room.items ≡ [] }
     requires room { length (files_in parts.now) ≤ vec_capacity room }
     requires present { (f : ℕ) → IsIn f (files_in parts.now) → 0 < counter counts.old f }
     requires fits { (f : ℕ) → counter counts.old f + times f (each_file parts.now) < 2 ^ 32 }
     requires range { AreInRange counts.old }
-    ensures id { result.id ≡ id }
-    ensures chosen { result.chosen ≡ chosen }
-    ensures kept { IsKept parts.now result }
-    ensures pinned { each_file (take result.parts parts.now) ++ result.files.items ≡ each_file parts.now }
-    ensures counted { (f : ℕ) → counter counts.new f ≡ counter counts.old f + times f result.files.items }
+    ensures kept { (m : Acknowledged) → parts_of m chosen ≡ parts.now → IsKept m result }
+    ensures pinned { (m : Acknowledged) → parts_of m chosen ≡ parts.now → pinned_by m result ≡ each_file parts.now }
+    ensures counted { (f : ℕ) → counter counts.new f ≡ counter counts.old f + times f (own_files result) }
     ensures len { index_map_len counts.new ≡ index_map_len counts.old }
     ensures range { AreInRange counts.new }
 {
-    let mut one = Pinner {
-        id,
-        chosen,
+    let first = FirstParts {
+        id: chosen,
         parts: parts.len(),
-        files: room,
     };
-    let is_searched = match pinned.last() {
-        Some(last) => last.is_whole() && last.chosen == chosen,
-        None => false,
-    };
-    if !is_searched && searches(pinned) >= MOST_SEARCHES {
-        one.take(counts, parts);
+    if !is_searched(pinned, &first) && searches(pinned) >= MOST_SEARCHES {
+        return Pins::Files(count_once(counts, parts.files(), room));
     }
-    one
+    Pins::Record { first, room }
 }
 
 /// The files that a record pins. A file of several parts is there once for each. Fails only if
@@ -147,10 +201,7 @@ pub(crate) fn files_pinned(
     let mut all = Vec::new(alloc);
     for one in pinned {
         if one.id == id {
-            if let Some(parts) = parts_held(acknowledged, one.chosen) {
-                all.extend_from_slice(parts.files_of_first(one.parts))?;
-            }
-            all.extend_from_slice(&one.files)?;
+            all.extend_from_slice(one.pins.files(acknowledged))?;
         }
     }
     Ok(all)
@@ -159,28 +210,27 @@ pub(crate) fn files_pinned(
 /// Whether a file is in one of the first parts of a live record.
 #[derive(Clone, Copy, Drop)]
 struct Look {
-    chosen: CheckpointId,
-    parts: usize,
+    first: FirstParts,
     found: bool,
 }
 
 /// Whether a file belongs to the live record that is pinned. Many records may pin the same one, so
 /// if the last search was in this record, its result is used again.
-fn looked(acknowledged: &Acknowledged, one: &Pinner, last: Look, file: FileId) -> Look
+fn looked(acknowledged: &Acknowledged, first: FirstParts, last: Look, file: FileId) -> Look
     requires rising { AreRising acknowledged.now.items }
-    requires within { one.now.parts ≤ length (parts_of acknowledged.now one.now.chosen) }
+    requires within { first.parts ≤ length (parts_of acknowledged.now first.id) }
     requires last { IsLook acknowledged.now file last }
     ensures look { IsLook acknowledged.now file result }
-    ensures found { result.found ≡ nat_lt 0 (times file (files_in (parts_pinned acknowledged.now one.now))) }
+    ensures first { result.first ≡ first }
 {
-    if one.chosen == last.chosen && one.parts == last.parts {
+    if first == last.first {
         return last;
     }
-    Look {
-        chosen: one.chosen,
-        parts: one.parts,
-        found: one.pins(acknowledged, file),
-    }
+    let found = match parts_held(acknowledged, first.id) {
+        Some(parts) => parts.has(first.parts, file),
+        None => false,
+    };
+    Look { first, found }
 }
 
 /// How many of these pin a live record that has this file.
@@ -191,16 +241,20 @@ pub(crate) fn pins_of(acknowledged: &Acknowledged, pinned: &[Pinner], file: File
     ensures { result ≡ pins_of_records acknowledged.now file pinned.now }
 {
     let mut pins: u32 = 0;
-    // Each part has a file.
+    // No file is in the first 0 parts of a record.
     let mut last = Look {
-        chosen: CheckpointId(0),
-        parts: 0,
+        first: FirstParts {
+            id: CheckpointId(0),
+            parts: 0,
+        },
         found: false,
     };
     for one in pinned {
-        last = looked(acknowledged, one, last, file);
-        if last.found {
-            pins += 1;
+        if let Pins::Record { first, .. } = &one.pins {
+            last = looked(acknowledged, *first, last, file);
+            if last.found {
+                pins += 1;
+            }
         }
     }
     pins
@@ -213,19 +267,14 @@ pub(crate) fn settle(
     chosen: CheckpointId,
     parts: &Parts,
 )
-    requires kept { (one : Pinner) → IsIn one pinned.old.items → one.chosen ≡ chosen → IsKept parts.now one }
-    requires present { (f : ℕ) → IsIn f (files_in parts.now) → 0 < counter counts.old f }
-    requires fits { (f : ℕ) → counter counts.old f + pins_on chosen parts.now f pinned.old.items < 2 ^ 32 }
-    requires range { AreInRange counts.old }
+    requires { (before : Acknowledged) × (parts_of before chosen ≡ parts.now) × AreCounted before pinned.old.items counts.old }
     ensures settled { AreSettled chosen parts.now pinned.old.items pinned.new.items }
-    ensures counted { (f : ℕ) → counter counts.new f ≡ counter counts.old f + pins_on chosen parts.now f pinned.old.items }
+    ensures counted { (f : ℕ) → counter counts.new f + times f (own_in pinned.old.items) ≡ counter counts.old f + times f (own_in pinned.new.items) }
     ensures len { index_map_len counts.new ≡ index_map_len counts.old }
     ensures range { AreInRange counts.new }
 {
     for one in pinned.iter_mut() {
-        if one.chosen == chosen && one.is_whole() {
-            one.take(counts, parts);
-        }
+        one.pins.settle(counts, chosen, parts);
     }
 }
 
@@ -249,8 +298,7 @@ pub(crate) fn unpin(
     for _ in 0..pinned.len() {
         if owners.contains(&pinned[place].id) {
             let one = pinned.remove(place);
-            lower_each(counts, released, &one.files);
-            *room = emptied(one.files, MOST_FILES);
+            *room = one.pins.give_up(counts, released);
         } else {
             place += 1;
         }

@@ -9,7 +9,7 @@ ghost use Rattle.ckpt_registry.specs.Uses.{IsEachOnce, HasNoUse, after_end, file
 use crate::counters::{Counts, count_each, count_fresh, count_reused};
 use crate::holdings::{Acknowledged, hold, parts_held};
 use crate::parts::Parts;
-use crate::pins::{Pinner, files_pinned, pin_all, pins_of, unpin};
+use crate::pins::{Pinner, Pins, files_pinned, pin_all, pins_of, unpin};
 use crate::releases::release_each;
 use crate::sorting::sort;
 use ckpt_hash::Secret;
@@ -200,12 +200,8 @@ impl Registry {
         self.released.reserve(self.counts.capacity())?;
         let files = files.as_slice();
         let own = Vec::from_slice(alloc, files)?;
-        self.pinned.push(Pinner {
-            id,
-            chosen: id,
-            parts: 0,
-            files: own,
-        })?;
+        let pins = Pins::Files(own);
+        self.pinned.push(Pinner { id, pins })?;
         count_each(&mut self.counts, files);
         Ok(())
     }
@@ -226,17 +222,14 @@ impl Registry {
         let Some(parts) = parts_held(&self.acknowledged, chosen) else {
             return Ok(());
         };
-        if parts.len() == 0 {
-            return Ok(());
-        }
         let alloc = *self.released.allocator();
         // Room for the files. They are written if the other record is dropped first, since a drop
         // may take no memory. Until then nothing touches this room.
         self.room.reserve(parts.files().len())?;
         self.pinned.reserve(1)?;
         let room = replace(&mut self.room, Vec::new(alloc));
-        let one = pin_all(&mut self.counts, &self.pinned, id, chosen, parts, room);
-        self.pinned.push_reserved(one);
+        let pins = pin_all(&mut self.counts, &self.pinned, chosen, parts, room);
+        self.pinned.push_reserved(Pinner { id, pins });
         Ok(())
     }
 

@@ -1,8 +1,9 @@
 -- The loop invariants of `settle`.
 use Rattle.std.proofs.Common.{◌≡◌, ℕ, ◌+◌, take, drop, length}
 use Rattle.indexmap.specs.IndexMap.{index_map_len}
+use Rattle.ckpt_ids.specs.Counting.{times}
 use Rattle.ckpt_registry.specs.Counters.{counter, AreInRange}
-use Rattle.ckpt_registry.specs.Pins.{AreSettled, pins_on}
+use Rattle.ckpt_registry.specs.Pins.{AreSettled, own_in}
 use Rattle.ckpt_registry.proofs.pins.settle.Given as goal
 
 abbrev pub invariant-loop-one : goal.invariant-loop-one
@@ -10,7 +11,7 @@ invariant-loop-one l = record {
   settled : AreSettled l.chosen l.parts (take l.one-index l.fn.pinned.items) (take l.one-index l.one-items);
   left : drop l.one-index l.one-items ≡ drop l.one-index l.fn.pinned.items;
   same_length : length l.one-items ≡ length l.fn.pinned.items;
-  counted : (f : ℕ) → counter l.counts f ≡ counter l.fn.counts f + pins_on l.chosen l.parts f (take l.one-index l.fn.pinned.items);
+  counted : (f : ℕ) → counter l.counts f + times f (own_in (take l.one-index l.fn.pinned.items)) ≡ counter l.fn.counts f + times f (own_in (take l.one-index l.one-items));
   len : index_map_len l.counts ≡ index_map_len l.fn.counts;
   range : AreInRange l.counts;
 }

@@ -7,7 +7,7 @@ use Rattle.std.proofs.lemmas.List.{append-nil, drop_all, get_or_default, take_al
 use Rattle.ckpt_ids.specs.Counting.{times}
 use Rattle.ckpt_registry.specs.declared.pins.Pinner.{Pinner}
 use Rattle.ckpt_registry.specs.Counters.{Counts, Released, AreLowered}
-use Rattle.ckpt_registry.specs.Pins.{own_of}
+use Rattle.ckpt_registry.specs.Pins.{own_files, own_of}
 use Rattle.ckpt_registry.proofs.PinLemmas.{goes, own_of-more, own_of-le, place_next, place_same, staying, walk_within, walked_on, walked_one, walked_out}
 use Rattle.ckpt_registry.proofs.CounterLemmas.{AreLowered-none, AreLowered-same, AreLowered-then, HasRoom-released}
 use Rattle.ckpt_registry.proofs.pins.unpin.Goals as goal
@@ -32,8 +32,8 @@ remove-one-requires c =
     let below : c.loop.counter < length old = omega (arith, c.loop-test.true, c.len-end.ensures, c.args.pinned.now.ok.0) in
     omega (arith, c.loop.pinned.ok.0, walk_within c.args.owners.now old c.loop.pinned.items c.loop.counter c.loop.place c.loop.invariant.row c.loop.invariant.place below)
 
-pub lower_each-requires-clause-counted : goal.lower_each-requires-clause-counted
-lower_each-requires-clause-counted c = λ f.
+pub give_up-requires-clause-counted : goal.give_up-requires-clause-counted
+give_up-requires-clause-counted c = λ f.
     let owners = c.args.owners.now in
     let old : List Pinner = c.args.pinned.now.items in
     let row : List Pinner = c.loop.pinned.items in
@@ -42,15 +42,15 @@ lower_each-requires-clause-counted c = λ f.
     let below : i < length old = omega (arith, c.loop-test.true, c.len-end.ensures, c.args.pinned.now.ok.0) in
     let here : one ≡ get_or old i one = walked_one owners old row i c.loop.place one c.loop.invariant.row c.loop.invariant.place c.index.ensures below in
     let taken : c.remove-one.result ≡ one = is_item row c.loop.place c.remove-one.result one (walk_within owners old row i c.loop.place c.loop.invariant.row c.loop.invariant.place below) c.remove-one.ensures.value c.index.ensures in
-    let same : times f c.deref.result.now ≡ times f one.files.items = ap (times f) c.deref.ensures.value ∙ ap (λ (o : Pinner). times f o.files.items) taken in
-    let on : cond (goes owners one) (times f one.files.items) 0 ≡ times f one.files.items = cond-true (goes owners one) (times f one.files.items) 0 (sym c.contains.ensures.value ∙ c.if-contains.true) in
+    let same : times f (own_files c.remove-one.result.pins) ≡ times f (own_files one.pins) = ap (λ (o : Pinner). times f (own_files o.pins)) taken in
+    let on : cond (goes owners one) (times f (own_files one.pins)) 0 ≡ times f (own_files one.pins) = cond-true (goes owners one) (times f (own_files one.pins)) 0 (sym c.contains.ensures.value ∙ c.if-contains.true) in
     omega (arith, same, on, c.loop.invariant.lowered.lowered f, c.requires.counted f, own_of-more f owners old i one below here, own_of-le f owners (i + 1) old)
 
-pub lower_each-requires-clause-range : goal.lower_each-requires-clause-range
-lower_each-requires-clause-range c = c.loop.invariant.lowered.range
+pub give_up-requires-clause-range : goal.give_up-requires-clause-range
+give_up-requires-clause-range c = c.loop.invariant.lowered.range
 
-pub lower_each-requires-clause-room : goal.lower_each-requires-clause-room
-lower_each-requires-clause-room c = HasRoom-released c.args.counts.now c.loop.counts c.args.released.now c.loop.released c.requires.room c.loop.invariant.lowered.released
+pub give_up-requires-clause-room : goal.give_up-requires-clause-room
+give_up-requires-clause-room c = HasRoom-released c.args.counts.now c.loop.counts c.args.released.now c.loop.released c.requires.room c.loop.invariant.lowered.released
 
 pub overflow_add-place : goal.overflow_add-place
 overflow_add-place c =
@@ -74,24 +74,24 @@ loop-preserved c =
     let here : one ≡ get_or old i one = walked_one owners old row i place one c.loop.invariant.row c.loop.invariant.place c.index.ensures below in
     let before : ℕ → ℕ = λ f. times f (own_of owners (take i old)) in
     let after : ℕ → ℕ = λ f. times f (own_of owners (take (i + 1) old)) in
-    let more : (f : ℕ) → after f ≡ before f + cond (goes owners one) (times f one.files.items) 0 = λ f. own_of-more f owners old i one below here in
+    let more : (f : ℕ) → after f ≡ before f + cond (goes owners one) (times f (own_files one.pins)) 0 = λ f. own_of-more f owners old i one below here in
     let Goal : Counts → Released → Type 0 = λ n last. AreLowered after m out n last in
     elim c.if-contains.branch [
       | then-contains w ↦
           let e : goes owners one ≡ true = sym c.contains.ensures.value ∙ w.if-contains.true in
           let taken : w.remove-one.result ≡ one = is_item row place w.remove-one.result one (walk_within owners old row i place c.loop.invariant.row c.loop.invariant.place below) w.remove-one.ensures.value c.index.ensures in
-          let on : (f : ℕ) → cond (goes owners one) (times f one.files.items) 0 ≡ times f one.files.items = λ f. cond-true (goes owners one) (times f one.files.items) 0 e in
-          let same : (f : ℕ) → times f w.deref.result.now ≡ times f one.files.items = λ f. ap (times f) w.deref.ensures.value ∙ ap (λ (o : Pinner). times f o.files.items) taken in
-          let step = AreLowered-then before (λ f. times f w.deref.result.now) after m c.loop.counts w.lower_each.new.counts out c.loop.released w.lower_each.new.released (λ f. omega (arith, more f, on f, same f)) c.loop.invariant.lowered w.lower_each.ensures in
+          let on : (f : ℕ) → cond (goes owners one) (times f (own_files one.pins)) 0 ≡ times f (own_files one.pins) = λ f. cond-true (goes owners one) (times f (own_files one.pins)) 0 e in
+          let same : (f : ℕ) → times f (own_files w.remove-one.result.pins) ≡ times f (own_files one.pins) = λ f. ap (λ (o : Pinner). times f (own_files o.pins)) taken in
+          let step = AreLowered-then before (λ f. times f (own_files w.remove-one.result.pins)) after m c.loop.counts w.give_up.new.counts out c.loop.released w.give_up.new.released (λ f. omega (arith, more f, on f, same f)) c.loop.invariant.lowered w.give_up.ensures.lowered in
           record {
             row = ap (λ (v : Vec Pinner Global). v.items) w.pinned-is ∙ w.remove-one.ensures.by_index.2 ∙ walked_out owners old row i place one c.loop.invariant.row c.loop.invariant.place c.index.ensures below e;
             place = w.place-is ∙ place_same owners old row i place one c.loop.invariant.row c.loop.invariant.place c.index.ensures below e;
-            lowered = subst (λ (n : Counts). Goal n c.if-contains.released) (sym w.counts-is) (subst (Goal w.lower_each.new.counts) (sym w.released-is) step);
-            no_files = ap (λ (v : Released). v.items) w.room-is ∙ w.emptied.ensures;
+            lowered = subst (λ (n : Counts). Goal n c.if-contains.released) (sym w.counts-is) (subst (Goal w.give_up.new.counts) (sym w.released-is) step);
+            no_files = ap (λ (v : Released). v.items) w.room-is ∙ w.give_up.ensures.no_files;
           }
       | else-contains w ↦
           let e : goes owners one ≡ false = sym c.contains.ensures.value ∙ w.if-contains.false in
-          let off : (f : ℕ) → cond (goes owners one) (times f one.files.items) 0 ≡ 0 = λ f. cond-false (goes owners one) (times f one.files.items) 0 e in
+          let off : (f : ℕ) → cond (goes owners one) (times f (own_files one.pins)) 0 ≡ 0 = λ f. cond-false (goes owners one) (times f (own_files one.pins)) 0 e in
           let step = AreLowered-same before after m c.loop.counts out c.loop.released (λ f. omega (arith, more f, off f)) c.loop.invariant.lowered in
           record {
             row = ap (λ (v : Vec Pinner Global). v.items) w.pinned-is ∙ walked_on owners old row i place one c.loop.invariant.row c.loop.invariant.place c.index.ensures below e;

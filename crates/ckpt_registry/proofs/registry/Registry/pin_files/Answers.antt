@@ -6,9 +6,9 @@ use Rattle.ckpt_ids.specs.Counting.{times}
 use Rattle.ckpt_ids.specs.Ordered.{IsIn, in_order_once}
 use Rattle.ckpt_ids.specs.Records.{Use, Pin, count, use_before}
 use Rattle.ckpt_registry.specs.declared.pins.Pinner.{Pinner}
+use Rattle.ckpt_registry.specs.declared.pins.Pins.TheVariants.{Files}
 use Rattle.ckpt_registry.specs.Counters.{counter}
-use Rattle.ckpt_registry.specs.Holdings.{Acknowledged, parts_of}
-use Rattle.ckpt_registry.specs.Pins.{IsKept}
+use Rattle.ckpt_registry.specs.Holdings.{Acknowledged}
 use Rattle.ckpt_registry.specs.Sound.{IsSound, in_use}
 use Rattle.ckpt_registry.specs.Uses.{HasNoUse, IsEachOnce, triples}
 use Rattle.ckpt_registry.proofs.CounterLemmas.{AreInRange-unchanged, counter-unchanged}
@@ -43,7 +43,7 @@ invariant_of-self-2 c =
     let files = c.args.files.now in
     let room = vec_capacity r.released in
     let left = vec_capacity c.reserve-2.new.self in
-    let one : Pinner = record { id = c.args.id; chosen = c.args.id; parts = 0; files = c.in_ok-own.own } in
+    let one : Pinner = record { id = c.args.id; pins = Files c.in_ok-own.own } in
     let own : c.in_ok-own.own.items ≡ files = c.in_ok-own.ensures.items ∙ c.as_slice-files.ensures.files in
     let each : IsEachOnce files = AreDistinct-from_order numbers_in_order files c.requires.ascending in
     let H : List Use → Type 0 = λ us. HasNoUse us c.args.id Pin in
@@ -56,10 +56,9 @@ invariant_of-self-2 c =
     omega (arith, once, c.count_each.ensures.counted f, counter-unchanged r.counts c.reserve.new.self c.in_ok-reserve.ensures.entries f) in
     let places : length c.as_slice-files.result.now ≡ length files = ap (λ (xs : List ℕ). length xs) c.as_slice-files.ensures.files in
     let fits : index_map_len c.count_each.new.counts ≤ left = omega (arith, places, c.count_each.ensures.len, c.in_ok-reserve.ensures.ok, c.len.ensures, c.capacity.ensures, c.in_ok-reserve-2.ensures.ok) in
-    let kept : IsKept (parts_of a c.args.id) one = record { within = omega arith; none_own = λ lt. absurd (omega (arith, lt)); room = λ lt. absurd (omega (arith, lt)) } in
     let P : List Pinner → Type 0 = λ ps. IsSound a ps c.count_each.new.counts left in (
       subst P (sym c.in_ok-push.ensures.items)
-          (IsSound-pinned a p one files own r.counts c.count_each.new.counts room left c.self.invariant.0 kept each (subst H (sym c.self.view_is) c.requires.unpinned) raised c.count_each.ensures.range fits (subst Q (sym c.self.view_is) small)),
+          (IsSound-pinned a p one files own r.counts c.count_each.new.counts room left c.self.invariant.0 tt each (subst H (sym c.self.view_is) c.requires.unpinned) raised c.count_each.ensures.range fits (subst Q (sym c.self.view_is) small)),
       c.self.invariant.1,
       c.self.invariant.2,
     )
@@ -68,7 +67,7 @@ pub returns-clause-ok : goal.returns-clause-ok
 returns-clause-ok c =
     let r = c.self.inside in
     let files = c.args.files.now in
-    let one : Pinner = record { id = c.args.id; chosen = c.args.id; parts = 0; files = c.in_ok-own.own } in
+    let one : Pinner = record { id = c.args.id; pins = Files c.in_ok-own.own } in
     let own : c.in_ok-own.own.items ≡ files = c.in_ok-own.ensures.items ∙ c.as_slice-files.ensures.files in
     ap (in_use r.acknowledged) c.in_ok-push.ensures.items ∙ in_use-pinned r.acknowledged r.pinned.items one files own ∙ ap (λ (us : List Use). in_order_once use_before (us ++ triples c.args.id Pin files)) c.self.view_is
 

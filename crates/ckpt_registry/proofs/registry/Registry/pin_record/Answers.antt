@@ -1,16 +1,15 @@
 -- Answers the goals of `Registry::pin_record`.
-use Rattle.std.proofs.Common.{◌≡◌, ℕ, ◌+◌, ◌<◌, ◌^◌, ◌-◌, ◌++◌, List, [], ◌∷◌, take, sym, ap, subst, ◌∙◌, arith}
+use Rattle.std.proofs.Common.{◌≡◌, ℕ, ◌+◌, ◌<◌, ◌^◌, ◌-◌, ◌++◌, List, [], ◌∷◌, sym, ap, subst, ◌∙◌, arith}
 use Rattle.std.specs.Vec.{vec_capacity}
 use Rattle.std.specs.declared.alloc.Global.{Global}
 use Rattle.std.specs.declared.vec.Vec.{Vec}
-use Rattle.std.proofs.lemmas.List.{nil_from_length}
 use Rattle.ckpt_ids.specs.Counting.{times}
 use Rattle.ckpt_ids.specs.Ordered.{IsIn, in_order_once}
 use Rattle.ckpt_ids.specs.Records.{Use, Pin, count, use_before}
 use Rattle.ckpt_ids.proofs.CountLemmas.{times-from_IsIn}
 use Rattle.ckpt_registry.specs.declared.pins.Pinner.{Pinner}
 use Rattle.ckpt_registry.specs.Holdings.{Acknowledged, parts_of}
-use Rattle.ckpt_registry.specs.Pins.{IsKept, each_file, pinned_by}
+use Rattle.ckpt_registry.specs.Pins.{each_file, pinned_by}
 use Rattle.ckpt_registry.specs.Sound.{IsSound, in_use}
 use Rattle.ckpt_registry.specs.Uses.{HasNoUse, files_by, triples}
 use Rattle.ckpt_registry.specs.Parts.{Part, files_in}
@@ -36,18 +35,15 @@ none_pinned a p us id chosen view empty =
 pub returns-in_default-clause-ok : goal.returns-in_default-clause-ok
 returns-in_default-clause-ok c = none_pinned c.self.inside.acknowledged c.self.inside.pinned.items c.args.self.now c.args.id c.args.chosen c.self.view_is c.in_default.ensures.none
 
-pub returns-then-len-eq0-clause-ok : goal.returns-then-len-eq0-clause-ok
-returns-then-len-eq0-clause-ok c = none_pinned c.self.inside.acknowledged c.self.inside.pinned.items c.args.self.now c.args.id c.args.chosen c.self.view_is (sym c.in-Some.ensures.some ∙ nil_from_length c.in-Some.parts.now (omega arith))
-
-pub pin_all-one-requires-clause-present : goal.pin_all-one-requires-clause-present
-pin_all-one-requires-clause-present c = λ f h.
+pub pin_all-pins-requires-clause-present : goal.pin_all-pins-requires-clause-present
+pin_all-pins-requires-clause-present c = λ f h.
     let r = c.self.inside in
     let parts : List Part = c.in-Some.parts.now in
     let same : times f (files_in parts) ≡ times f (files_in (parts_of r.acknowledged c.args.chosen)) = ap (λ ps. times f (files_in ps)) c.in-Some.ensures.some in
     omega (arith, same, times-from_IsIn f (files_in parts) h, count-parts_of r.acknowledged c.args.chosen f, c.self.invariant.0.parts.counted f)
 
-pub pin_all-one-requires-clause-fits : goal.pin_all-one-requires-clause-fits
-pin_all-one-requires-clause-fits c = λ f.
+pub pin_all-pins-requires-clause-fits : goal.pin_all-pins-requires-clause-fits
+pin_all-pins-requires-clause-fits c = λ f.
     let r = c.self.inside in
     let a : Acknowledged = r.acknowledged in
     let p : List Pinner = r.pinned.items in
@@ -66,16 +62,13 @@ invariant_of-self-2 c =
     let chosen = c.args.chosen in
     let room = vec_capacity r.released in
     let named : List ℕ = files_by chosen c.args.self.now in
-    let one : Pinner = c.pin_all-one.result in
-    let new = c.pin_all-one.new.counts in
-    let at : parts_of a one.chosen ≡ c.in-Some.parts.now = ap (parts_of a) c.pin_all-one.ensures.chosen ∙ sym c.in-Some.ensures.some in
-    let pins : pinned_by a one ≡ named = ap (λ (ps : List Part). each_file (take one.parts ps) ++ one.files.items) at ∙ c.pin_all-one.ensures.pinned ∙ ap each_file c.in-Some.ensures.some ∙ sym (files_by-in_use a p chosen) ∙ ap (files_by chosen) c.self.view_is in
-    let K : List Part → Type 0 = λ ps. IsKept ps one in
-    let H : ℕ → Type 0 = λ id. HasNoUse (in_use a p) id Pin in
+    let one : Pinner = record { id = c.args.id; pins = c.pin_all-pins.result } in
+    let new = c.pin_all-pins.new.counts in
+    let pins : pinned_by a one.pins ≡ named = c.pin_all-pins.ensures.pinned a (sym c.in-Some.ensures.some) ∙ ap each_file c.in-Some.ensures.some ∙ sym (files_by-in_use a p chosen) ∙ ap (files_by chosen) c.self.view_is in
     let V : List Use → Type 0 = λ us. HasNoUse us c.args.id Pin in
     let P : List Pinner → Type 0 = λ ps. IsSound a ps new room in (
       subst P (sym (c.push_reserved.ensures.items ∙ ap (λ (ps : List Pinner). ps ++ one ∷ []) c.reserve-2.ensures.items))
-          (IsSound-pinned a p one named pins r.counts new room room c.self.invariant.0 (subst K (sym at) c.pin_all-one.ensures.kept) (IsEachOnce-files_by chosen c.args.self.now) (subst H (sym c.pin_all-one.ensures.id) (subst V (sym c.self.view_is) c.requires.unpinned)) c.pin_all-one.ensures.counted c.pin_all-one.ensures.range (omega (arith, c.self.invariant.0.has_room, c.pin_all-one.ensures.len)) (fits a p c.args.self.now chosen c.self.view_is (below-in_use a p r.counts room c.self.invariant.0) c.requires.below)),
+          (IsSound-pinned a p one named pins r.counts new room room c.self.invariant.0 (c.pin_all-pins.ensures.kept a (sym c.in-Some.ensures.some)) (IsEachOnce-files_by chosen c.args.self.now) (subst V (sym c.self.view_is) c.requires.unpinned) c.pin_all-pins.ensures.counted c.pin_all-pins.ensures.range (omega (arith, c.self.invariant.0.has_room, c.pin_all-pins.ensures.len)) (fits a p c.args.self.now chosen c.self.view_is (below-in_use a p r.counts room c.self.invariant.0) c.requires.below)),
       c.self.invariant.1,
       ap (λ (v : Vec ℕ Global). v.items) c.replace-room.ensures.after ∙ c.new.ensures.items,
     )
@@ -87,7 +80,6 @@ returns-clause-ok c =
     let p : List Pinner = r.pinned.items in
     let chosen = c.args.chosen in
     let named : List ℕ = files_by chosen c.args.self.now in
-    let one : Pinner = c.pin_all-one.result in
-    let at : parts_of a one.chosen ≡ c.in-Some.parts.now = ap (parts_of a) c.pin_all-one.ensures.chosen ∙ sym c.in-Some.ensures.some in
-    let pins : pinned_by a one ≡ named = ap (λ (ps : List Part). each_file (take one.parts ps) ++ one.files.items) at ∙ c.pin_all-one.ensures.pinned ∙ ap each_file c.in-Some.ensures.some ∙ sym (files_by-in_use a p chosen) ∙ ap (files_by chosen) c.self.view_is in
-    ap (in_use a) (c.push_reserved.ensures.items ∙ ap (λ (ps : List Pinner). ps ++ one ∷ []) c.reserve-2.ensures.items) ∙ in_use-pinned a p one named pins ∙ ap (λ (us : List Use). in_order_once use_before (us ++ triples one.id Pin named)) c.self.view_is ∙ ap (λ (id : ℕ). in_order_once use_before (c.args.self.now ++ triples id Pin named)) c.pin_all-one.ensures.id
+    let one : Pinner = record { id = c.args.id; pins = c.pin_all-pins.result } in
+    let pins : pinned_by a one.pins ≡ named = c.pin_all-pins.ensures.pinned a (sym c.in-Some.ensures.some) ∙ ap each_file c.in-Some.ensures.some ∙ sym (files_by-in_use a p chosen) ∙ ap (files_by chosen) c.self.view_is in
+    ap (in_use a) (c.push_reserved.ensures.items ∙ ap (λ (ps : List Pinner). ps ++ one ∷ []) c.reserve-2.ensures.items) ∙ in_use-pinned a p one named pins ∙ ap (λ (us : List Use). in_order_once use_before (us ++ triples c.args.id Pin named)) c.self.view_is

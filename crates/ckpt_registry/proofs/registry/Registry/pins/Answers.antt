@@ -1,10 +1,13 @@
 -- Answers the goals of `Registry::pins`.
-use Rattle.std.proofs.Common.{List, ℕ, ap, subst, ◌∙◌}
+use Rattle.std.proofs.Common.{List, ℕ, sym, ap, subst, ◌∙◌}
 use Rattle.std.specs.List.Sorted.{IsPermutation}
-use Rattle.ckpt_registry.specs.Pins.{named_by}
+use Rattle.ckpt_registry.specs.Pins.{AreKept, named_by}
 use Rattle.ckpt_registry.specs.Uses.{pins_by}
 use Rattle.ckpt_registry.proofs.PinnedLemmas.{pins-from_dedup}
 use Rattle.ckpt_registry.proofs.registry.Registry.pins.Goals as goal
+
+pub files_pinned-requires-clause-kept : goal.files_pinned-requires-clause-kept
+files_pinned-requires-clause-kept c = subst (AreKept c.self.inside.acknowledged) (sym c.deref.ensures.value) c.self.invariant.0.parts.kept
 
 pub returns : goal.returns
 returns c =
