@@ -1,13 +1,14 @@
 -- Answers the goals of `pins_of`.
 use Rattle.std.proofs.Common.{◌≡◌, ℕ, ◌+◌, ◌<◌, ◌^◌, ap, sym, subst, ◌∙◌, arith, rules, ltb, get_or}
 use Rattle.std.proofs.lemmas.List.Sums.{sum_by_more, sum_by-take-le}
-use Rattle.ckpt_ids.specs.Counting.{times}
+use Rattle.ckpt_ids.specs.Counting.{one_if, times}
 use Rattle.ckpt_ids.specs.Ordered.{IsIn}
 use Rattle.ckpt_ids.proofs.OrderedLemmas.{IsIn-get_or}
 use Rattle.ckpt_registry.specs.declared.pins.Pinner.{Pinner}
 use Rattle.ckpt_registry.specs.Pins.{each_file, parts_pinned}
 use Rattle.ckpt_registry.specs.Parts.{files_in}
-use Rattle.ckpt_registry.proofs.ListLemmas.{one_if, one_if-true, one_if-false, times-ascending_set}
+use Rattle.ckpt_ids.proofs.CountLemmas.{one_if-true, one_if-false}
+use Rattle.ckpt_registry.proofs.ListLemmas.{times-ascending_set}
 use Rattle.ckpt_registry.proofs.pins.pins_of.Goals as goal
 use Rattle.ckpt_registry.proofs.pins.pins_of.Goals.{then-last, else-last}
 
