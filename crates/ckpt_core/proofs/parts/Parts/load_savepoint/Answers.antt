@@ -69,7 +69,7 @@ has_savepoint_more p made after q x s t id acks files parts room reserved comple
       room = omega (arith, capacity, room);
     }
 
-more : (c : goal.After-make_room_for_files) → OnOk c.make_room_for_files.result (HasSavepoint c.args.self.now c.make_room_for_files.new.self c.args.done)
+more : (c : goal.After-drop-none-2) → OnOk c.make_room_for_files.result (HasSavepoint c.args.self.now c.make_room_for_files.new.self c.args.done)
 more c =
     let p : Parts = c.args.self.now in
     let made : Parts = c.make_room.new.self in
