@@ -19,18 +19,17 @@ use Rattle.ckpt_core.specs.Soundness.{IsSound}
 use Rattle.ckpt_core.specs.Laws.{is_ack_pending, is_ack_taken, ShareNone, Part, ack_of, Exchange}
 use Rattle.ckpt_core.proofs.Records.Counts.{IsIn-from_find, fails-from_find}
 use Rattle.ckpt_core.proofs.Using.Present.{IsHeld, IsHeld-from_present, present-from_IsHeld, not_held, absent-from_not_held}
+use Rattle.ckpt_core.proofs.Acknowledging.Late.{ack_step}
 use Rattle.ckpt_core.proofs.Answering.Accepted.{IsAcceptedAck, accepted_ack, not_refused-ack}
-use Rattle.ckpt_core.proofs.Answering.StepCases.{not_refused-from_answer, step_accepted, step_by}
+use Rattle.ckpt_core.proofs.Answering.StepCases.{not_refused-from_answer, step_by}
 use Rattle.ckpt_core.proofs.Soundness.Acks.{with_ack}
 use Rattle.ckpt_core.proofs.Records.Held.{held_or_named, held_named, held_still}
 use Rattle.ckpt_core.proofs.Reordering.ExchangeLemmas.{acks_commute, has_not_before, has_not_after, missing_one_less, replaced_twice, pending_of_replaced}
 
 -- what an accepted acknowledgement of a pending record does
 pub step_ack : (m : State) (now id : ℕ) (p : Part) (r : Record) → refusal m (ack_of now id p) ≡ None → pending_of m.records id ≡ Some r → step m (ack_of now id p) ≡ acknowledged_in (record m { latest = max now m.latest }) (with_ack r p.subtask p.fresh p.reused)
-unfolding effect ack
-step_ack m now id p r e k =
-    let n : State = record m { latest = max now m.latest } in
-    step_accepted m (ack_of now id p) e ∙ ap (λ o. ack n o p.subtask p.fresh p.reused) k
+unfolding ack
+step_ack m now id p r = ack_step m now id p.subtask p.fresh p.reused (Some r)
 
 -- one that leaves the record pending
 pub left_pending : (n : State) (w : Record) → eqb (missing w) 0 ≡ false → acknowledged_in n w ≡ (with_records n (replaced n.records w), Done (reply.AckPending (missing w)))
