@@ -22,6 +22,7 @@ impl Random {
         mixed ^ (mixed >> 31)
     }
 
+    /// Condition: the bound is above 0.
     pub(crate) fn below(&mut self, bound: u64) -> u64
         requires { 0 < bound }
         ensures { result < bound }

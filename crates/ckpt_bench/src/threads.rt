@@ -69,6 +69,8 @@ pub(crate) fn run<R: Threads + Wait + Sync>(
 }
 
 /// Runs a thread for each pass, and closes the lock.
+///
+/// Condition: the passes are of the lock.
 fn in_threads<R: Threads + Wait + Sync>(
     rt: &R,
     ground: Ground,

@@ -22,6 +22,8 @@ pub(crate) fn call_at(place: u64) -> Call {
 }
 
 /// Makes this many calls with the pass, in order. One that runs out of memory is made again.
+///
+/// Condition: the pass is of the lock.
 pub(crate) fn make<R: Wait>(rt: &R, lock: &Locked, pass: Pass, calls: u64) -> Pass
     requires { pass.lock ≡ lock.now }
     ensures { result.lock ≡ lock.now }

@@ -98,6 +98,8 @@ impl Worker {
     }
 
     /// Makes the call of this place.
+    ///
+    /// Condition: the pass is of the lock.
     fn step<R: Wait>(
         &mut self,
         rt: &R,
@@ -175,6 +177,8 @@ impl Worker {
 }
 
 /// Makes a call, again and again while it runs out of memory, and counts how often it did.
+///
+/// Condition: the pass is of the lock.
 pub(crate) fn insist<R: Wait>(
     rt: &R,
     lock: &Locked,
@@ -201,6 +205,8 @@ pub(crate) fn insist<R: Wait>(
 }
 
 /// Makes the calls of one thread, in order, until there is a fault.
+///
+/// Condition: the pass is of the lock.
 pub(crate) fn work<R: Wait>(
     rt: &R,
     alloc: Global,

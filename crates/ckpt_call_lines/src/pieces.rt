@@ -1,6 +1,5 @@
 //! Parts of lines. Their contracts also say what the types of numbers allow, for reading them back.
 ghost use Rattle.std.specs.Prelude.{◌≡◌, ◌++◌, ◌<◌, ◌^◌, flat_map, decimal, All, OnOk, string_bytes};
-ghost use Rattle.ckpt_ids.specs.Ascending.{IsAscending};
 ghost use Rattle.ckpt_texts.specs.Texts.{spaced};
 ghost use Rattle.ckpt_call_lines.specs.CallTexts.{Fits, FitsFiles, FitsSubtask, FitsTarget, fresh_text, reused_text, subtask_text, target_text};
 
@@ -16,19 +15,12 @@ pub(crate) fn write_number(text: &mut String, words: &str, number: u64) -> Resul
     write!(text, "{number}")
 }
 
-/// Does nothing. Its contract says that the files are in ascending order.
-fn recall_files(files: &Files)
-    ensures { IsAscending files.now }
-{
-    let _ = files.as_slice();
-}
-
 /// Appends the new files.
 pub(crate) fn write_fresh(text: &mut String, files: &Files) -> Result<(), AllocError>
     ensures text { OnOk result (string_bytes text.new ≡ string_bytes text.old ++ flat_map fresh_text files.now) }
     ensures fit { OnOk result (FitsFiles files.now) }
 {
-    recall_files(files);
+    files.recall();
     for place in 0..files.len() {
         if let Some(file) = files.get(place) {
             write_number(text, " +", file.0)?;
@@ -42,7 +34,7 @@ pub(crate) fn write_reused(text: &mut String, files: &Files) -> Result<(), Alloc
     ensures text { OnOk result (string_bytes text.new ≡ string_bytes text.old ++ flat_map reused_text files.now) }
     ensures fit { OnOk result (FitsFiles files.now) }
 {
-    recall_files(files);
+    files.recall();
     for place in 0..files.len() {
         if let Some(file) = files.get(place) {
             write_number(text, " =", file.0)?;

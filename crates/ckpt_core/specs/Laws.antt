@@ -24,7 +24,7 @@ use Rattle.ckpt_core.specs.Refusals.{refusal}
 use Rattle.ckpt_core.specs.Steps.{step}
 use Rattle.ckpt_core.specs.Histories.{replay}
 use Rattle.ckpt_core.specs.Soundness.{IsCall}
-use Rattle.ckpt_ids.specs.Counting.{times}
+use Rattle.ckpt_ids.specs.Counting.{one_if, times}
 
 -- the answer AckPending
 abbrev pub is_ack_pending : Answer → Bool
@@ -83,9 +83,6 @@ AreCalls (call ∷ calls) = IsCall call × AreCalls calls
 abbrev pub along : {X : Type 0} → (State → Call → List X) → State → List Call → List X
 along by m [] = []
 along by m (call ∷ calls) = by m call ++ along by (step m call).0 calls
-
-abbrev pub one_if : Bool → ℕ
-one_if b = if b then 1 else 0
 
 -- The files that a call registers: of an acknowledgement that is accepted for a pending record the fresh ones, of a late
 -- one those of them that were not known before it.

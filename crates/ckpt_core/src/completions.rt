@@ -55,8 +55,9 @@ impl Parts {
         }
     }
 
-    /// Takes out the pending record at this place, which has all of its acknowledgements. Takes no
-    /// memory.
+    /// Takes out the pending record at this place, as a done one. Takes no memory.
+    ///
+    /// Conditions: there is one, and it has all of its acknowledgements.
     fn finish(&mut self, place: usize) -> Done
         requires there { place < length self.old.pending }
         requires full { (r : Record) → slice_get self.old.pending place ≡ Some r → missing r ≡ 0 }

@@ -24,8 +24,10 @@ use ckpt_registry::Registry;
 use ckpt_rules::limit_of;
 use std::alloc::{AllocError, Global};
 
-/// Adds the uses of a record that is newer than all records with uses. Fails only if memory runs
-/// out.
+/// Adds the uses of a record. Fails only if memory runs out.
+///
+/// Conditions: the uses that are there are in order and of older records, no list names a file
+/// twice, and no file gets more than 2^32 - 2 uses.
 pub(crate) fn register(
     registry: &mut Registry,
     id: CheckpointId,
@@ -68,8 +70,11 @@ pub(crate) fn acknowledged(alloc: Global, metadata: &Metadata) -> Result<Pending
 }
 
 impl Parts {
-    /// Adds a pending record that is newer than all others, with the files that it pins. Fails only
-    /// if memory runs out.
+    /// Adds a pending record, with the files that it pins. Fails only if memory runs out.
+    ///
+    /// Conditions: the parts are tied, and have fewer than 2^32 records, all of them older. The
+    /// record has these acknowledgements. No list names a file twice, and no file gets more than
+    /// 2^32 - 2 uses.
     pub(crate) fn load_pending(
         &mut self,
         pending: Pending,
@@ -95,7 +100,11 @@ impl Parts {
         self.make_room_for_files(0)
     }
 
-    /// Adds a done checkpoint that is newer than all other records. Fails only if memory runs out.
+    /// Adds a done checkpoint. Fails only if memory runs out.
+    ///
+    /// Conditions: the parts are tied and without a base, and have fewer than 2^32 records, all of
+    /// them older, and fewer checkpoints than are retained. The record is a checkpoint with these
+    /// acknowledgements. None of them names a file twice, and no file gets more than 2^32 - 2 uses.
     pub(crate) fn load_checkpoint(&mut self, done: Done, acks: &Acks) -> Result<(), AllocError>
         requires tied { AreTied self.old }
         requires newest { (r : Record) → IsIn r (records_in self.old) → r.id < done.id }
@@ -120,7 +129,11 @@ impl Parts {
         self.make_room_for_files(0)
     }
 
-    /// Adds a done savepoint that is newer than all other records. Fails only if memory runs out.
+    /// Adds a done savepoint. Fails only if memory runs out.
+    ///
+    /// Conditions: the parts are tied, and have fewer than 2^32 records, all of them older, and
+    /// fewer than 2^32 - 1 done savepoints. The record is a savepoint with these acknowledgements.
+    /// None of them names a file twice, and no file gets more than 2^32 - 2 uses.
     pub(crate) fn load_savepoint(&mut self, done: Done, acks: &Acks) -> Result<(), AllocError>
         requires tied { AreTied self.old }
         requires newest { (r : Record) → IsIn r (records_in self.old) → r.id < done.id }
@@ -182,6 +195,8 @@ fn is_before(moment: u64, end: u64) -> bool
 impl Parts {
     /// Whether a record may follow those that are there, by its number, its moment and the limits
     /// on their numbers.
+    ///
+    /// Condition: the records that are there are sound.
     fn may_join(&self, saved: &Saved) -> bool
         requires { HaveSoundRecords self.now }
         ensures yes { IsTrue result → IsRecord (record_in saved.now) → JoinsParts self.now (record_in saved.now) }
@@ -200,6 +215,8 @@ impl Parts {
     }
 
     /// Whether one more record of this kind is within the limits on how many there are.
+    ///
+    /// Condition: the records that are there are sound.
     fn has_room_for(&self, saved: &Saved) -> bool
         requires { HaveSoundRecords self.now }
         ensures yes { IsTrue result → HasRoom (opening_of self.now.opened) (records_in self.now) (record_in saved.now) }
@@ -222,6 +239,8 @@ impl Parts {
     }
 
     /// Adds a record behind those that are there.
+    ///
+    /// Conditions: the parts are tied and without a base, and their records are sound.
     pub(crate) fn load(&mut self, saved: &Saved) -> Result<(), ImageFault>
         requires tied { AreTied self.old }
         requires sound { HaveSoundRecords self.old }
@@ -243,6 +262,10 @@ impl Parts {
     }
 
     /// Adds a record, which has its acknowledgements.
+    ///
+    /// Conditions: those of [`Parts::load`]. `pending` has the acknowledgements of the saved
+    /// record, which names no file twice in a list, and may follow the others if it is sound by
+    /// itself.
     fn load_acknowledged(&mut self, pending: Pending, saved: &Saved) -> Result<(), ImageFault>
         requires tied { AreTied self.old }
         requires sound { HaveSoundRecords self.old }
@@ -280,6 +303,8 @@ impl Parts {
     }
 
     /// Adds a done record. Fails only if memory runs out.
+    ///
+    /// Conditions: those of [`Parts::load`]. `done` is the saved record, and may follow the others.
     fn load_done(&mut self, done: Done, saved: &Saved) -> Result<(), AllocError>
         requires tied { AreTied self.old }
         requires sound { HaveSoundRecords self.old }
@@ -300,6 +325,8 @@ impl Parts {
     }
 
     /// Adds records, one after the other.
+    ///
+    /// Conditions: the parts are tied, and have no record and no base.
     pub(crate) fn load_all(&mut self, records: &[Saved]) -> Result<(), ImageFault>
         requires tied { AreTied self.old }
         requires none { records_in self.old ≡ [] }

@@ -7,7 +7,6 @@ ghost use Rattle.ckpt_core.specs.State.{opened};
 use crate::mode::Mode;
 use crate::parts::{Opened, Parts};
 use crate::pending_records::PendingRecords;
-use crate::recall::recall_shape;
 use ckpt_hash::Secret;
 use ckpt_ids::{Config, Shape};
 use ckpt_outbox::Outbox;
@@ -20,6 +19,8 @@ impl Parts {
     /// The parts of a coordinator that is opened now, at `start` in milliseconds, and whose first
     /// record has the number `first`. The files' numbers are hashed under the secret. Takes no
     /// memory.
+    ///
+    /// Conditions: `start` is below 2^62, and `first` is at least 1 and below 2^62.
     pub(crate) fn new(
         alloc: Global,
         config: Config,
@@ -34,7 +35,7 @@ impl Parts {
         ensures sound { AreSound result }
         ensures state { state_of result ≡ opened (record { config = config; shape = shape; start = start; first = first }) }
     {
-        recall_shape(&shape);
+        shape.recall();
         Parts {
             alloc,
             clock: Clock::new(&config, start),

@@ -93,8 +93,9 @@ impl PendingRecords {
         &self.records[place]
     }
 
-    /// Adds a record with a greater number than all others. Fails only if memory runs out, and then
-    /// adds none.
+    /// Adds a record. Fails only if memory runs out, and then adds none.
+    ///
+    /// Condition: its number is greater than all others.
     pub(crate) fn add(&mut self, pending: Pending) -> Result<(), AllocError>
         requires newest { (r : Record) → IsIn r self.old → r.id < pending.id }
         ensures ok { OnOk result (self.new ≡ self.old ++ pending ∷ []) }
@@ -108,7 +109,9 @@ impl PendingRecords {
     }
 
     /// Adds the acknowledgement of a subtask, with all files of its part, to the record at this
-    /// place, which lacks it. Fails only if memory runs out, and then changes nothing.
+    /// place. Fails only if memory runs out, and then changes nothing.
+    ///
+    /// Conditions: there is one, its shape has the subtask, and it lacks this acknowledgement.
     pub(crate) fn ack(
         &mut self,
         place: usize,
@@ -126,8 +129,9 @@ impl PendingRecords {
         }
     }
 
-    /// Takes back the acknowledgement of a subtask in the record at this place, which has it. Takes
-    /// no memory.
+    /// Takes back the acknowledgement of a subtask in the record at this place. Takes no memory.
+    ///
+    /// Conditions: there is one, and it has this acknowledgement.
     pub(crate) fn retract(&mut self, place: usize, subtask: SubtaskId)
         requires there { place < length self.old }
         requires acknowledged { (r : Record) → slice_get self.old place ≡ Some r → has_acknowledged r subtask ≡ true }
@@ -217,7 +221,9 @@ impl PendingRecords {
         least
     }
 
-    /// Notes the numbers of all records in room that is there. Takes no memory.
+    /// Notes the numbers of all records. Takes no memory.
+    ///
+    /// Condition: there is room for as many numbers as there are records.
     pub(crate) fn note_all(&self, ended: &mut Vec<CheckpointId>)
         requires room { vec_len ended.old + length self.now ≤ vec_capacity ended.old }
         ensures items { ended.new.items ≡ ended.old.items ++ map (λ r. r.id) self.now }
@@ -229,7 +235,9 @@ impl PendingRecords {
     }
 
     /// Notes the numbers of the records that started `timeout` milliseconds before `moment` or
-    /// earlier, in reserved room. Returns how many of these are checkpoints. Takes no memory.
+    /// earlier. Returns how many of these are checkpoints. Takes no memory.
+    ///
+    /// Condition: there is room for as many numbers as there are records.
     pub(crate) fn note_expired(
         &self,
         moment: u64,
@@ -251,8 +259,9 @@ impl PendingRecords {
         checkpoints
     }
 
-    /// Notes the numbers of the checkpoints before this number in room that is there. Takes no
-    /// memory.
+    /// Notes the numbers of the checkpoints before this number. Takes no memory.
+    ///
+    /// Condition: there is room for as many numbers as there are records.
     pub(crate) fn note_subsumed(&self, id: CheckpointId, ended: &mut Vec<CheckpointId>)
         requires room { vec_len ended.old + length self.now ≤ vec_capacity ended.old }
         ensures items { ended.new.items ≡ ended.old.items ++ map (λ r. r.id) (filter (λ r. is_checkpoint r && nat_lt r.id id) self.now) }

@@ -111,6 +111,7 @@ impl Parts {
         self.clock.due(&self.opened.config)
     }
 
+    /// Condition: the parts are sound.
     fn oldest_expiry(&self) -> Option<u64>
         requires { AreSound self.now }
         ensures { IsNextExpiry (state_of self.now) result }
@@ -121,6 +122,7 @@ impl Parts {
         Some(started + timeout)
     }
 
+    /// Condition: the parts are sound.
     fn live(&self, place: usize) -> Option<Live>
         requires { AreSound self.now }
         ensures { result ≡ option_map live_of (slice_get (records_in self.now) place) }
@@ -134,6 +136,8 @@ impl Parts {
     }
 
     /// The first live record from this number on.
+    ///
+    /// Condition: the numbers of the live records rise.
     pub(crate) fn first_from(&self, id: CheckpointId) -> Option<Live>
         requires { IsInOrder id_before (records_in self.now) }
         ensures { result ≡ option_map live_of (find (λ r. nat_le id r.id) (records_in self.now)) }
@@ -159,6 +163,7 @@ impl Parts {
         Some(live_done(done))
     }
 
+    /// Condition: the parts are sound.
     fn files_in_use(&self) -> u64
         requires { AreSound self.now }
         ensures { result ≡ present_in (uses (state_of self.now).records) }
@@ -166,6 +171,7 @@ impl Parts {
         self.registry.present()
     }
 
+    /// Condition: the parts are sound.
     fn missing(&self, id: CheckpointId) -> Option<u32>
         requires { AreSound self.now }
         ensures { result ≡ option_map missing (pending_of (records_in self.now) id) }

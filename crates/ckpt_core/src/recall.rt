@@ -46,7 +46,7 @@ pub(crate) fn recall_limits(config: &Config)
 pub(crate) fn recall_shape(shape: &Shape)
     ensures { IsShape shape.now }
 {
-    let _ = shape.size();
+    shape.recall();
 }
 
 /// A pending record is not done, and each of its acknowledgements comes from a subtask of its shape.

@@ -90,6 +90,7 @@ impl Core {
 }
 
 impl Parts {
+    /// Condition: the parts are sound.
     fn standing(&self, id: CheckpointId) -> Standing
         requires { AreSound self.now }
         ensures { result ≡ standing (state_of self.now) id }
@@ -117,6 +118,7 @@ impl Parts {
         }
     }
 
+    /// Condition: the parts are sound.
     fn files_of(&self, id: CheckpointId, subtask: SubtaskId) -> Option<&[FileId]>
         requires { AreSound self.now }
         ensures { option_copied result ≡ option_and_then (λ r. files_from r subtask) (record_of (state_of self.now) id) }
@@ -127,6 +129,7 @@ impl Parts {
         self.store.get(id)?.files_of(subtask)
     }
 
+    /// Condition: the parts are sound.
     fn pins_of_pending(&self, id: CheckpointId) -> Result<Files, AllocError>
         requires { AreSound self.now }
         ensures { IfOk result (λ files. files ≡ pins_in (pending_of (records_in self.now) id)) }

@@ -12,7 +12,7 @@ use crate::image::{Image, ImageFault};
 use crate::mode::Mode;
 use crate::parts::{Opened, Parts};
 use crate::pending_records::PendingRecords;
-use crate::recall::{recall_limits, recall_shape};
+use crate::recall::recall_limits;
 use ckpt_hash::Secret;
 use ckpt_ids::{CheckpointId, FileId, Files, Handed, LONGEST_DURATION, MOMENTS_END, NUMBERS_END};
 use ckpt_outbox::Outbox;
@@ -50,8 +50,10 @@ fn has_sound_numbers(image: &Image) -> bool
 }
 
 impl Parts {
-    /// The parts of an image without its records, its base and its files. Its moments, numbers and
-    /// failures are within their limits. Fails only if memory runs out.
+    /// The parts of an image without its records, its base and its files. Fails only if memory runs
+    /// out.
+    ///
+    /// Condition: its moments, numbers and failures are within their limits.
     pub(crate) fn begun(alloc: Global, image: &Image, secret: Secret) -> Result<Parts, AllocError>
         requires { HasSoundNumbers (state_in image.now) }
         ensures state { IfOk result (λ parts. state_of parts ≡ emptied (state_in image.now)) }
@@ -85,6 +87,8 @@ impl Parts {
     }
 
     /// Takes the savepoint that the job was rolled back to. The records are loaded.
+    ///
+    /// Conditions: the parts are tied, and have no base yet.
     pub(crate) fn load_base(&mut self, base: Option<CheckpointId>) -> Result<(), ImageFault>
         requires tied { AreTied self.old }
         requires none { self.old.store.base ≡ None }
@@ -118,6 +122,8 @@ impl Parts {
     }
 
     /// Adds files at the end of waiting, in reserved room, if none of them is known.
+    ///
+    /// Condition: there is room for all of them.
     pub(crate) fn put_back(&mut self, files: &[FileId]) -> Result<(), ImageFault>
         requires room { length files.now ≤ self.old.outbox.spare }
         ensures parts { OnOk result (self.new ≡ with_more_waiting self.old files.now) }
@@ -136,8 +142,10 @@ impl Parts {
         Ok(())
     }
 
-    /// Takes the files that wait and those that were fetched into the empty outbox. The records are
+    /// Takes the files that wait and those that were fetched into the outbox. The records are
     /// loaded.
+    ///
+    /// Conditions: the parts are tied, and the outbox is empty.
     pub(crate) fn load_files(&mut self, waiting: &Handed, taken: &Files) -> Result<(), ImageFault>
         requires tied { AreTied self.old }
         requires none_waits { self.old.outbox.waiting ≡ [] }
@@ -169,7 +177,7 @@ impl Parts {
         ensures damaged { result ≡ Err ImageFault.Damaged → CanHold (state_in image.now) → ⊥ }
     {
         recall_limits(&image.config);
-        recall_shape(&image.shape);
+        image.shape.recall();
         if !has_sound_numbers(image) {
             return Err(ImageFault::Damaged);
         }

@@ -25,6 +25,8 @@ fn number_after(id: CheckpointId) -> CheckpointId
 
 impl Parts {
     /// The files that a live record pins. Fails only if memory runs out.
+    ///
+    /// Condition: the parts are sound.
     fn pins_of(&self, id: CheckpointId, done: bool) -> Result<Files, AllocError>
         requires { AreSound self.now }
         ensures { IfOk result (λ pins. (r : Record) → IsIn r (records_in self.now) → r.id ≡ id → r.done ≡ done → pins ≡ r.pins) }
@@ -37,6 +39,8 @@ impl Parts {
     }
 
     /// The image of a live record. Fails only if memory runs out.
+    ///
+    /// Conditions: the parts are sound, and a live record has this number.
     fn save(&self, id: CheckpointId, done: bool) -> Result<Saved, AllocError>
         requires sound { AreSound self.now }
         requires there { IsSome (record_of (state_of self.now) id) }
@@ -49,6 +53,8 @@ impl Parts {
 
     /// The images of all live records, in ascending order of their numbers. Fails only if memory
     /// runs out.
+    ///
+    /// Condition: the parts are sound.
     fn saved(&self) -> Result<Vec<Saved>, AllocError>
         requires { AreSound self.now }
         ensures { IfOk result (λ saved. map record_in saved.items ≡ records_in self.now) }
@@ -65,6 +71,8 @@ impl Parts {
     }
 
     /// The state as an image. Fails only if memory runs out.
+    ///
+    /// Condition: the parts are sound.
     pub(crate) fn image(&self) -> Result<Image, AllocError>
         requires { AreSound self.now }
         ensures value { IfOk result (λ image. state_in image ≡ settled (state_of self.now)) }

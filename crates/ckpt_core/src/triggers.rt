@@ -50,6 +50,8 @@ impl Parts {
 
     /// Triggers a record of this kind, with the next number, at the greatest moment seen. It pins
     /// the files of the choice. If memory runs out, nothing has changed.
+    ///
+    /// Conditions: the parts are tied, the state is sound, and a number is left.
     #[inline(never)]
     fn trigger(&mut self, kind: Kind) -> Result<CheckpointId, AllocError>
         requires tied { AreTied self.old }
@@ -131,6 +133,8 @@ impl Parts {
     }
 
     /// Triggers a savepoint.
+    ///
+    /// Conditions: the parts are sound, and the call is accepted.
     #[inline(never)]
     pub(crate) fn savepoint(&mut self, now: u64) -> Result<Reply, CoreFault>
         requires sound { AreSound self.old }
@@ -152,6 +156,8 @@ impl Parts {
 
     /// Time has passed: records that are too old expire, and a checkpoint is triggered if nothing
     /// holds it back. Only a trigger takes memory. If memory runs out, nothing has changed.
+    ///
+    /// Conditions: the parts are sound, and the call is accepted.
     pub(crate) fn tick(&mut self, now: u64) -> Result<Ticked, AllocError>
         requires sound { AreSound self.old }
         requires accepted { IsAccepted self.old (call.Tick now) }
@@ -169,6 +175,8 @@ impl Parts {
     }
 
     /// What a tick does once the moment is seen.
+    ///
+    /// Conditions: the parts are sound, the job runs, and a number is left.
     fn expire(&mut self) -> Result<Ticked, AllocError>
         requires sound { AreSound self.old }
         requires running { self.old.mode ≡ Running }
@@ -187,6 +195,8 @@ impl Parts {
     }
 
     /// Notes the numbers of the records that have expired, and returns what follows from them.
+    ///
+    /// Conditions: the parts are sound, and the job runs.
     fn note_expired(&mut self) -> Expiry
         requires sound { AreSound self.old }
         requires running { self.old.mode ≡ Running }
@@ -235,6 +245,9 @@ impl Parts {
 
     /// Triggers a checkpoint if nothing holds it back, and then drops what has expired. If memory
     /// runs out, nothing has changed.
+    ///
+    /// Conditions: the parts are tied, the state is sound, a number is left, and what has expired
+    /// was noted and is tolerable.
     fn start_and_drop(&mut self, expiry: Expiry) -> Result<Ticked, AllocError>
         requires tied { AreTied self.old }
         requires sound { IsSound (state_of self.old) }
@@ -263,6 +276,8 @@ impl Parts {
     }
 
     /// Triggers a checkpoint if nothing holds it back while this many are pending.
+    ///
+    /// Conditions: the parts are tied, the state is sound, and a number is left.
     fn start_or_hold(&mut self, pending: u32) -> Result<TickEnd, AllocError>
         requires tied { AreTied self.old }
         requires sound { IsSound (state_of self.old) }

@@ -113,6 +113,8 @@ impl Desk {
 
     /// Makes the next call, and returns the one after it and its moment. By then the records that
     /// were triggered have ended.
+    ///
+    /// Condition: the pass is of the lock.
     fn act<R: Wait>(&mut self, rt: &R, ground: &Ground, now: u64, pass: Pass) -> Pass
         requires { pass.lock ≡ ground.now.lock }
         ensures { result.lock ≡ ground.now.lock }
@@ -147,6 +149,8 @@ impl Desk {
     }
 
     /// Prints the progress of the run.
+    ///
+    /// Condition: the pass is of the lock.
     fn tell<R: Wait>(&mut self, rt: &R, ground: &Ground, pass: Pass) -> Pass
         requires { pass.lock ≡ ground.now.lock }
         ensures { result.lock ≡ ground.now.lock }
@@ -179,6 +183,8 @@ fn restore(now: u64, target: Target, shape: Option<Shape>) -> Call {
 }
 
 /// Counts the given records that are live.
+///
+/// Condition: the pass is of the lock.
 fn count<R: Wait>(
     rt: &R,
     ground: &Ground,
@@ -224,6 +230,8 @@ fn tell_progress(ground: &Ground, known: u64, used: u64, pending: u64) {
 }
 
 /// Conducts the run to its end, which is the cancel of the job.
+///
+/// Condition: the pass is of the lock.
 pub(crate) fn conduct<R: Wait>(rt: &R, ground: &Ground, mut pass: Pass) -> Pass
     requires { pass.lock ≡ ground.now.lock }
     ensures { result.lock ≡ ground.now.lock }

@@ -17,6 +17,8 @@ const PAUSE: u64 = 20;
 const LAST_ROUNDS: u32 = 200;
 
 /// Takes files, deletes them and reports each. Returns how many it took.
+///
+/// Condition: the pass is of the lock.
 fn round<R: Wait>(rt: &R, ground: &Ground, pass: Pass, disk: &mut Disk<'_, R>) -> (Pass, u64)
     requires { pass.lock ≡ ground.now.lock }
     ensures { result.0.lock ≡ ground.now.lock }
@@ -33,6 +35,8 @@ fn round<R: Wait>(rt: &R, ground: &Ground, pass: Pass, disk: &mut Disk<'_, R>) -
 }
 
 /// Goes on until the run has ended and no file waits.
+///
+/// Condition: the pass is of the lock.
 pub(crate) fn discard<R: Wait>(rt: &R, ground: &Ground, mut pass: Pass) -> Pass
     requires { pass.lock ≡ ground.now.lock }
     ensures { result.lock ≡ ground.now.lock }

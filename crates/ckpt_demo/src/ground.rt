@@ -216,6 +216,8 @@ impl Gate for Ground {
 
 impl Ground {
     /// Makes a call. Returns no answer if it was refused or ran out of memory.
+    ///
+    /// Condition: the pass is of the lock.
     pub(crate) fn ask<R: Wait>(&self, rt: &R, pass: Pass, call: Call) -> (Pass, Option<Reply>)
         requires { pass.lock ≡ self.now.lock }
         ensures { result.0.lock ≡ self.now.lock }
@@ -227,6 +229,8 @@ impl Ground {
     }
 
     /// The metadata of a live record.
+    ///
+    /// Condition: the pass is of the lock.
     pub(crate) fn show<R: Wait>(
         &self,
         rt: &R,

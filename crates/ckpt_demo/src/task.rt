@@ -96,6 +96,8 @@ impl Task {
 
     /// Takes part in a record, if it is live and has a part for this seat: acknowledges with files,
     /// or declines.
+    ///
+    /// Condition: the pass is of the lock.
     fn take_part<R: Wait>(&mut self, rt: &R, ground: &Ground, pass: Pass, id: CheckpointId) -> Pass
         requires { pass.lock ≡ ground.now.lock }
         ensures { result.lock ≡ ground.now.lock }
@@ -120,6 +122,8 @@ impl Task {
 }
 
 /// Gives the order to a worker in this thread.
+///
+/// Condition: the pass is of the lock.
 fn acknowledge<R: Wait>(rt: &R, ground: &Ground, pass: Pass, order: Order) -> Pass
     requires { pass.lock ≡ ground.now.lock }
     ensures { result.lock ≡ ground.now.lock }
@@ -152,6 +156,8 @@ fn write_state(ground: &Ground, file: FileId, text: &str) -> bool {
 }
 
 /// Takes part in each new record, until the run has ended.
+///
+/// Condition: the pass is of the lock.
 pub(crate) fn work<R: Wait>(rt: &R, ground: &Ground, mut pass: Pass) -> Pass
     requires { pass.lock ≡ ground.now.lock }
     ensures { result.lock ≡ ground.now.lock }

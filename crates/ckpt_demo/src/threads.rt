@@ -30,6 +30,8 @@ impl Work<()> for Ground {
 }
 
 /// Ticks until the run has ended.
+///
+/// Condition: the pass is of the lock.
 fn tick<R: Wait>(rt: &R, ground: &Ground, pass: Pass) -> Pass
     requires { pass.lock ≡ ground.now.lock }
     ensures { result.lock ≡ ground.now.lock }
@@ -83,6 +85,8 @@ pub(crate) fn run<R: Threads + Wait + Sync>(
 }
 
 /// Does the work of a run with each pass in a thread of its own.
+///
+/// Condition: the passes are of the lock.
 fn scatter<R: Threads + Wait + Sync>(
     rt: &R,
     ground: &Ground,
@@ -114,6 +118,8 @@ fn unpack(alloc: Global, reports: Vec<(Pass, ())>) -> Result<Returned, AllocErro
 }
 
 /// Closes the lock.
+///
+/// Condition: the passes are of the lock.
 fn close<R: Wait>(rt: &R, ground: Ground, reports: Vec<(Pass, ())>) -> Result<Ended, DemoFault>
     requires { All (λ r. r.0.lock ≡ ground.lock) reports.items }
 {

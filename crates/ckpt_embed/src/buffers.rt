@@ -58,7 +58,9 @@ pub fn show(alloc: Global, handle: &mut Handle, id: u64, json: &mut [u8]) -> Ans
     answer
 }
 
-/// Fetches at most `most` files. The buffer has a place for each.
+/// Fetches at most `most` files.
+///
+/// Condition: the buffer has a place for each.
 pub(crate) fn take_from(core: &mut Core, most: u64, files: &mut [u64]) -> Answer
     requires fits { length (files_in (step core.old (call.Take most)).1) ≤ length files.old }
     ensures answered { IsStepTold core.old core.new (call.Take most) result }
@@ -74,7 +76,9 @@ pub(crate) fn take_from(core: &mut Core, most: u64, files: &mut [u64]) -> Answer
     }
 }
 
-/// The answer for a reply. Writes its files to the start of a buffer that is long enough.
+/// The answer for a reply. Writes its files to the start of a buffer.
+///
+/// Condition: the buffer has a place for each.
 fn with_files(reply: &Reply, files: &mut [u64]) -> Answer
     requires fits { length (files_of_reply reply.now) ≤ length files.old }
     ensures told { result ≡ reply_told reply.now }
@@ -87,7 +91,9 @@ fn with_files(reply: &Reply, files: &mut [u64]) -> Answer
     Answer::of_reply(reply)
 }
 
-/// Writes files to the start of a buffer that has a place for each.
+/// Writes files to the start of a buffer.
+///
+/// Condition: the buffer has a place for each.
 pub(crate) fn write_files(list: &[FileId], files: &mut [u64])
     requires fits { length list.now ≤ length files.old }
     ensures { StandsInFront list.now files.old files.new }

@@ -6,7 +6,7 @@ use Rattle.std.proofs.lemmas.Bool.{cases_Bool, cases_lt, ltb-true, ltb-false, le
 use Rattle.std.proofs.lemmas.List.Sorted.{IsNonDecreasingBy-from_sort, sum_by-IsPermutation}
 use Rattle.ckpt_ids.specs.Ordered.{AreDistinct, IsIn, put, IsStrictOrder}
 use Rattle.ckpt_ids.specs.Ascending.{IsAscending, IsAscendingSet, ascending}
-use Rattle.ckpt_ids.specs.Counting.{times}
+use Rattle.ckpt_ids.specs.Counting.{one_if, times}
 use Rattle.ckpt_ids.proofs.CountLemmas.{count_by-append, count_by-cons, count_by_yes, IsIn-from_times}
 use Rattle.ckpt_ids.proofs.OrderedLemmas.{ComesBefore-at, ComesBefore-from, IsIn-get_or, IsIn-place, IsIn-put_cases}
 
@@ -18,7 +18,7 @@ numbers_in_order = record {
   total = λ x y a b. omega (arith, ltb-false x y a, ltb-false y x b);
 }
 
-pub times-cons : (z x : ℕ) (xs : List ℕ) → times z (x ∷ xs) ≡ cond (eqb x z) 1 0 + times z xs
+pub times-cons : (z x : ℕ) (xs : List ℕ) → times z (x ∷ xs) ≡ one_if (eqb x z) + times z xs
 times-cons z x xs = count_by-cons (λ y. eqb y z) x xs
 
 times-cons_same : (z : ℕ) (xs : List ℕ) → times z (z ∷ xs) ≡ suc (times z xs)
@@ -30,7 +30,7 @@ least_first x y ys a (inr h) = leb-true y x (ComesBefore-at leb y x ys a.0 h)
 
 tail_times : (x y z : ℕ) (xs ys : List ℕ) → x ≡ y → times z (x ∷ xs) ≡ times z (y ∷ ys) → times z xs ≡ times z ys
 tail_times x y z xs ys same e =
-    let once : ℕ → ℕ = λ w. cond (eqb w z) 1 0 in
+    let once : ℕ → ℕ = λ w. one_if (eqb w z) in
     let b : once x ≡ once y = ap once same in
     omega (arith, times-cons z x xs, times-cons z y ys)
 
@@ -94,7 +94,7 @@ IsAscending-from_sorted xs h = IsAscending-from_non_decreasing xs (IsNonDecreasi
 pub ascending-from_sort : (xs ys : List ℕ) → IsPermutation xs ys → IsSorted nat_cmp ys → ys ≡ ascending xs
 ascending-from_sort xs ys p s =
     same_from_times ys (ascending xs) (IsAscending-from_sorted ys s) (IsAscending-ascending xs)
-    (λ z. sum_by-IsPermutation (λ x. cond (eqb x z) 1 0) xs ys p ∙ sym (times-ascending z xs))
+    (λ z. sum_by-IsPermutation (λ x. one_if (eqb x z)) xs ys p ∙ sym (times-ascending z xs))
 
 -- an ascending list is its own ascending order
 pub ascending_already : (xs : List ℕ) → IsAscending xs → xs ≡ ascending xs

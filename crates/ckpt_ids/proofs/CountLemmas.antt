@@ -2,27 +2,31 @@
 use Rattle.std.proofs.Common.{◌≡◌, ℕ, suc, ◌+◌, ◌<◌, ◌≤◌, Bool, true, false, cond, eqb, List, [], ◌∷◌, ◌++◌, filter, length, map, refl, sym, ap, subst, ◌∙◌, inl, inr, ⊎_elim, arith}
 use Rattle.std.specs.Prelude.{count_by}
 use Rattle.std.proofs.lemmas.Bool.{cases_Bool, cases_lt, cond_both, cond-true, cond-false, eqb-true, eq-eqb}
-use Rattle.std.proofs.lemmas.List.Sums.{sum_by-append, sum_by-cons}
-use Rattle.ckpt_ids.specs.Counting.{times}
+use Rattle.std.proofs.lemmas.List.Sums.{sum_by-append, sum_by-cons, sum_by_push}
+use Rattle.ckpt_ids.specs.Counting.{one_if, times}
 use Rattle.ckpt_ids.specs.Ordered.{AreDistinct, IsIn, put, in_order}
 
+pub one_if-true : (b : Bool) → b ≡ true → one_if b ≡ 1
+one_if-true b e = ap one_if e
+
+pub one_if-false : (b : Bool) → b ≡ false → one_if b ≡ 0
+one_if-false b e = ap one_if e
+
 -- one more element at the start
-pub count_by-cons : {X : Type 0} (p : X → Bool) (x : X) (xs : List X) → count_by p (x ∷ xs) ≡ cond (p x) 1 0 + count_by p xs
-count_by-cons p x xs = sum_by-cons (λ y. cond (p y) 1 0) x xs
+pub count_by-cons : {X : Type 0} (p : X → Bool) (x : X) (xs : List X) → count_by p (x ∷ xs) ≡ one_if (p x) + count_by p xs
+count_by-cons p x xs = sum_by-cons (λ y. one_if (p y)) x xs
+
+-- and at the end
+pub count_by_push : {X : Type 0} (p : X → Bool) (xs : List X) (x : X) → count_by p (xs ++ x ∷ []) ≡ count_by p xs + one_if (p x)
+count_by_push p xs x = sum_by_push (λ y. one_if (p y)) xs x
 
 -- an element that passes counts once
 pub count_by_yes : {X : Type 0} (p : X → Bool) (x : X) (xs : List X) → p x ≡ true → count_by p (x ∷ xs) ≡ suc (count_by p xs)
-count_by_yes p x xs e =
-    let one : Bool → ℕ = λ b. cond b 1 0 in
-    let here : one (p x) ≡ 1 = ap one e in
-    omega (arith, count_by-cons p x xs)
+count_by_yes p x xs e = omega (arith, count_by-cons p x xs, one_if-true (p x) e)
 
 -- one that fails does not count
 pub count_by_no : {X : Type 0} (p : X → Bool) (x : X) (xs : List X) → p x ≡ false → count_by p (x ∷ xs) ≡ count_by p xs
-count_by_no p x xs e =
-    let one : Bool → ℕ = λ b. cond b 1 0 in
-    let here : one (p x) ≡ 0 = ap one e in
-    omega (arith, count_by-cons p x xs)
+count_by_no p x xs e = omega (arith, count_by-cons p x xs, one_if-false (p x) e)
 
 -- the count is 0 if no element passes
 pub count_by-none : {X : Type 0} (p : X → Bool) (xs : List X) → ((x : X) → IsIn x xs → p x ≡ false) → count_by p xs ≡ 0
@@ -37,9 +41,8 @@ count_by-all p (x ∷ xs) passes = count_by_yes p x xs (passes x (inl refl)) ∙
 -- two tests that agree on the elements count the same
 pub count_by-same : {X : Type 0} (p q : X → Bool) (xs : List X) → ((x : X) → IsIn x xs → p x ≡ q x) → count_by p xs ≡ count_by q xs
 count_by-same p q [] agree = refl
-count_by-same {X} p q (x ∷ xs) agree =
-    let one : Bool → ℕ = λ b. cond b 1 0 in
-    let here : one (p x) ≡ one (q x) = ap one (agree x (inl refl)) in
+count_by-same p q (x ∷ xs) agree =
+    let here : one_if (p x) ≡ one_if (q x) = ap one_if (agree x (inl refl)) in
     omega (arith, count_by-cons p x xs, count_by-cons q x xs, count_by-same p q xs (λ y h. agree y (inr h)))
 
 -- the count is above 0 if an element passes
@@ -59,7 +62,7 @@ IsIn-from_counted {X} p (x ∷ xs) h =
 
 -- two lists together
 pub count_by-append : {X : Type 0} (p : X → Bool) (xs ys : List X) → count_by p (xs ++ ys) ≡ count_by p xs + count_by p ys
-count_by-append p xs ys = sum_by-append (λ x. cond (p x) 1 0) xs ys
+count_by-append p xs ys = sum_by-append (λ x. one_if (p x)) xs ys
 
 -- of changed elements
 pub count_by-map : {X Y : Type 0} (p : Y → Bool) (f : X → Y) (xs : List X) → count_by p (map f xs) ≡ count_by (λ x. p (f x)) xs
@@ -69,11 +72,10 @@ count_by-map {X} {Y} p f (x ∷ xs) =
     omega (arith, count_by-cons p (f x) (map f xs), count_by-cons here x xs, count_by-map p f xs)
 
 -- an element that is put in its place
-pub count_by-put : {X : Type 0} (p : X → Bool) (before : X → X → Bool) (x : X) (xs : List X) → count_by p (put before x xs) ≡ cond (p x) 1 0 + count_by p xs
+pub count_by-put : {X : Type 0} (p : X → Bool) (before : X → X → Bool) (x : X) (xs : List X) → count_by p (put before x xs) ≡ one_if (p x) + count_by p xs
 count_by-put p before x [] = count_by-cons p x []
 count_by-put {X} p before x (y ∷ ys) =
-    let one : Bool → ℕ = λ b. cond b 1 0 in
-    let Counted : List X → Type 0 = λ zs. count_by p zs ≡ one (p x) + count_by p (y ∷ ys) in
+    let Counted : List X → Type 0 = λ zs. count_by p zs ≡ one_if (p x) + count_by p (y ∷ ys) in
     let later : Counted (y ∷ put before x ys) = omega (arith, count_by-cons p y (put before x ys), count_by-cons p y ys, count_by-put p before x ys) in
     cond_both (before y x) (y ∷ put before x ys) (x ∷ y ∷ ys) Counted (λ _. later) (λ _. count_by-cons p x (y ∷ ys))
 

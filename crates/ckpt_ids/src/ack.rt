@@ -48,7 +48,9 @@ impl Model for Acks {
 impl Acks {
     ghost use Rattle.ckpt_ids.specs.Acknowledged.{AreInSubtaskOrder};
 
-    /// A list of these acknowledgements, which are in the order of their subtasks. Takes no memory.
+    /// A list of these acknowledgements. Takes no memory.
+    ///
+    /// Condition: they are in the order of their subtasks, at most one of each.
     pub fn of(list: Vec<Acked>) -> Acks
         requires { AreInSubtaskOrder list.items }
         ensures { result ≡ list.items }

@@ -69,6 +69,8 @@ pub fn place_of<T: Keyed>(row: &VecDeque<T>, key: T::Key) -> Result<usize, usize
 }
 
 /// The same for a key below the last. The first is compared before a binary search.
+///
+/// Condition: the row is in order by the key, each key once.
 fn place_below<T: Keyed>(row: &VecDeque<T>, key: T::Key) -> Result<usize, usize>
     requires { AreInOrderBy T.before T.key_of row.now.items }
     ensures found { IfOk result (LiesAt T.key_of key row.now.items) }

@@ -167,6 +167,14 @@ impl Shape {
             size: *size,
         })
     }
+
+    /// Does nothing. Its contract says that the parallelisms are within the limits of a shape.
+    #[inline(always)]
+    pub fn recall(&self)
+        ensures { IsShape self.now }
+    {
+        let _size = self.size;
+    }
 }
 
 impl<'a> IntoIterator for &'a Shape {

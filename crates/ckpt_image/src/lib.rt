@@ -9,7 +9,6 @@ pub mod laws;
 mod lists;
 mod members;
 mod reading;
-mod recall;
 mod records;
 mod values;
 mod writing;

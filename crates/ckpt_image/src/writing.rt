@@ -17,7 +17,6 @@ ghost use Rattle.ckpt_image.specs.Images.{image_read};
 ghost use Rattle.ckpt_image.specs.Written.{ack_data, clock_data, config_data, early_members, image_bytes, image_data, later_members, mode_name, naturals, opening_data, optional, outbox_data, record_data};
 
 use crate::members::VERSION;
-use crate::recall::{recall_files, recall_shape};
 use ckpt_core::{Image, Mode, Saved};
 use ckpt_ids::{Acked, Acks, CheckpointId, Config, Handed};
 use ckpt_texts::metadata::{files_value, kind_name, shape_value, state_name};
@@ -47,6 +46,8 @@ fn image_value(alloc: Global, image: &Image) -> Result<Value, AllocError>
 }
 
 /// Puts the members from `opening` on, from the last to the first.
+///
+/// Condition: there are no members yet.
 fn put_later(
     object: &mut Map<String, Value>,
     alloc: Global,
@@ -61,7 +62,7 @@ fn put_later(
 {
     put(object, alloc, "version", Value::from(VERSION))?;
     put(object, alloc, "shape", shape_value(alloc, &image.shape)?)?;
-    recall_shape(&image.shape);
+    image.shape.recall();
     put(
         object,
         alloc,
@@ -73,6 +74,8 @@ fn put_later(
 }
 
 /// Puts the members up to `next`, from the last to the first, before the others.
+///
+/// Condition: exactly the others are there.
 fn put_early(
     object: &mut Map<String, Value>,
     alloc: Global,
@@ -107,7 +110,7 @@ fn opening_value(alloc: Global, image: &Image) -> Result<Value, AllocError>
 {
     let config = config_value(alloc, &image.config)?;
     let shape = shape_value(alloc, &image.first_shape)?;
-    recall_shape(&image.first_shape);
+    image.first_shape.recall();
     json!(in alloc; {"config": config, "first": image.first, "shape": shape, "start": image.start})
 }
 
@@ -133,7 +136,7 @@ fn outbox_value(alloc: Global, image: &Image) -> Result<Value, AllocError>
     ensures taken { OnOk result (IsAscending image.now.taken) }
 {
     let taken = files_value(alloc, &image.taken)?;
-    recall_files(&image.taken);
+    image.taken.recall();
     let waiting = handed_value(alloc, &image.waiting)?;
     json!(in alloc; {"taken": taken, "waiting": waiting})
 }
@@ -166,9 +169,9 @@ fn record_value(alloc: Global, saved: &Saved) -> Result<Value, AllocError>
 {
     let acks = acks_value(alloc, &saved.metadata.acks)?;
     let pins = files_value(alloc, &saved.pins)?;
-    recall_files(&saved.pins);
+    saved.pins.recall();
     let shape = shape_value(alloc, &saved.metadata.shape)?;
-    recall_shape(&saved.metadata.shape);
+    saved.metadata.shape.recall();
     let id = number_of(saved.metadata.id);
     let kind = kind_name(saved.metadata.kind);
     let state = state_name(saved.metadata.done);
@@ -201,7 +204,7 @@ fn ack_value(alloc: Global, acked: &Acked) -> Result<Value, AllocError>
     ensures fits { OnOk result (AckFits acked.now) }
 {
     let files = files_value(alloc, &acked.files)?;
-    recall_files(&acked.files);
+    acked.files.recall();
     let index = acked.subtask.index;
     let vertex = acked.subtask.vertex;
     json!(in alloc; {"files": files, "index": index, "vertex": vertex})

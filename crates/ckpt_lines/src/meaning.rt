@@ -104,7 +104,9 @@ impl Line {
         Ok(Meaning::Call(call))
     }
 
-    /// What this line says, if that is not a call.
+    /// What this line says, which is not a call.
+    ///
+    /// Condition: it is none.
     #[tactic(auto, unfolding(crate::specs::Meanings::meaning))]
     #[inline(always)]
     fn other_meaning(self) -> Meaning
@@ -112,7 +114,6 @@ impl Line {
         ensures { meaning self ≡ Ok result }
     {
         match self {
-            Line::Skip => Meaning::Skip,
             Line::Config {
                 interval,
                 pause,
@@ -143,7 +144,8 @@ impl Line {
                 threads,
                 first,
             },
-            _ => unreachable!(),
+            // The only other line that is no call.
+            _ => Meaning::Skip,
         }
     }
 }

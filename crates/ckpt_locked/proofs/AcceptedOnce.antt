@@ -5,11 +5,12 @@ use Rattle.std.proofs.lemmas.Bool.{both_ways, cases_Bool, or_left}
 use Rattle.ckpt_ids.specs.declared.ack.Acked.{Acked}
 use Rattle.ckpt_ids.specs.declared.subtask.SubtaskId.{SubtaskId}
 use Rattle.ckpt_ids.specs.Acknowledged.{AreInSubtaskOrder, acknowledges_before, is_before}
+use Rattle.ckpt_ids.specs.Counting.{one_if}
 use Rattle.ckpt_ids.specs.Ordered.{IsIn, ComesBefore, in_order}
 use Rattle.ckpt_ids.specs.Shapes.{is_subtask, same_subtask}
 use Rattle.ckpt_ids.proofs.OrderLemmas.{same_subtask-Decides, subtasks_in_order}
 use Rattle.ckpt_ids.proofs.OrderedLemmas.{ComesBefore-at, IsIn-in_order}
-use Rattle.ckpt_core.specs.Laws.{Acknowledgements, one_if}
+use Rattle.ckpt_core.specs.Laws.{Acknowledgements}
 use Rattle.ckpt_core.specs.Soundness.{IsSound}
 use Rattle.ckpt_ids.proofs.CountLemmas.{count_by-in_order, count_by_no, count_by_yes, count_by-none}
 use Rattle.ckpt_locked.specs.Books.{History, calls_of, state_of_book}

@@ -3,11 +3,12 @@ use Rattle.std.specs.Prelude.{◌≡◌, ℕ, true, List, ◌∷◌, ◌++◌, c
 use Rattle.ckpt_ids.specs.declared.ack.Acked.{Acked}
 use Rattle.ckpt_ids.specs.declared.call.Call.{Call}
 use Rattle.ckpt_ids.specs.declared.subtask.SubtaskId.{SubtaskId}
+use Rattle.ckpt_ids.specs.Counting.{one_if}
 use Rattle.ckpt_ids.specs.Ordered.{IsIn}
 use Rattle.ckpt_ids.specs.Records.{Record, IsFull}
 use Rattle.ckpt_ids.specs.Shapes.{is_subtask, same_subtask}
 use Rattle.ckpt_core.specs.State.{State, opened}
-use Rattle.ckpt_core.specs.Laws.{along, accepted_by, one_if, Pinned, Savepoints, UsedNoMore}
+use Rattle.ckpt_core.specs.Laws.{along, accepted_by, Pinned, Savepoints, UsedNoMore}
 use Rattle.ckpt_locked.specs.Books.{History, calls_of, state_of_book}
 
 -- each done record has exactly one acknowledgement of each subtask, and no other

@@ -140,11 +140,13 @@ impl Locked {
         }
     }
 
-    /// Waits for its turn, and makes a call with a pass of this lock.
+    /// Waits for its turn, and makes a call with a pass.
     ///
     /// After the call the log of the book begins with everything that the pass had seen, and ends
     /// with this call. The answer is that of the call after the entries before it. Fails only if
     /// memory runs out. Then the caller gets the pass and the call back unchanged.
+    ///
+    /// Condition: the pass is of this lock.
     pub fn call<R: Wait>(
         &self,
         rt: &R,
@@ -190,11 +192,12 @@ impl Locked {
         }
     }
 
-    /// Ends the lock and its passes, and returns the book, with the calls of all passes. The passes
-    /// are those of this lock. May wait.
+    /// Ends the lock and its passes, and returns the book, with the calls of all passes. May wait.
     ///
     /// Returns the lock and the passes in a [`MissingPass`], unchanged, exactly if there are fewer
     /// passes than seats.
+    ///
+    /// Condition: the passes are of this lock.
     pub fn close<R: Wait>(self, rt: &R, mut passes: Vec<Pass>) -> Result<Book, MissingPass>
         requires passes { All (λ p. p.lock ≡ self) passes.items }
         ensures all { IfOk result (λ book. self.base.seats ≤ length passes.items) }
@@ -224,6 +227,8 @@ impl Locked {
 }
 
 /// Takes the book out of the returned slots.
+///
+/// Condition: there is one slot, and a book in it.
 fn book_in(mut slots: Vec<Option<Book>>) -> Book
     requires one { (book : _) × (slots.items ≡ Some book ∷ []) }
     ensures { slots.items ≡ Some result ∷ [] }
@@ -235,6 +240,9 @@ fn book_in(mut slots: Vec<Option<Book>>) -> Book
 }
 
 /// Takes this number, which is the next one.
+///
+/// Conditions: the seat is of this table, which is a lock's, and has no number yet. The lock has
+/// more seats than the number.
 fn take_number<R: Wait>(rt: &R, shared: &Shared, seat: &mut Seat, number: u32)
     requires table { (seat.old.table_id ≡ shared.now.table_id) × IsTurns shared.now.table_id }
     requires fresh { (seat.old.me ≡ (fresh seat.old.me.0.mine.base, [])) × (number < seat.old.me.0.mine.base.seats) }
@@ -256,6 +264,9 @@ fn take_number<R: Wait>(rt: &R, shared: &Shared, seat: &mut Seat, number: u32)
 }
 
 /// A pass with this number, which is the next one.
+///
+/// Conditions: the seat is of this table, which is a lock's, and has no number yet. The lock has
+/// more seats than the number.
 fn new_pass<R: Wait>(rt: &R, shared: &Shared, first: &mut Seat, number: u32) -> Pass
     requires table { (first.old.table_id ≡ shared.now.table_id) × IsTurns shared.now.table_id }
     requires fresh { (first.old.me ≡ (fresh first.old.me.0.mine.base, [])) × (number < first.old.me.0.mine.base.seats) }
@@ -272,6 +283,9 @@ fn new_pass<R: Wait>(rt: &R, shared: &Shared, first: &mut Seat, number: u32) -> 
 }
 
 /// A pass for each seat, in reserved room.
+///
+/// Conditions: the seat is of this table, which is a lock's, and has no number yet. The lock has
+/// this many seats. No pass is there yet, and room for all of them.
 fn give_out<R: Wait>(
     rt: &R,
     shared: &Shared,
@@ -291,6 +305,9 @@ fn give_out<R: Wait>(
 }
 
 /// Joins another pass to the seat that has its turn with this ticket, and compares the two.
+///
+/// Conditions: the seat is of this table, which is a lock's, has its turn with this ticket, and has
+/// taken the book out of its slot. The pass is of this lock.
 fn compare(shared: &Shared, seat: &mut Seat, other: Pass, _ticket: u64)
     requires table { (seat.old.table_id ≡ shared.now.table_id) × IsTurns shared.now.table_id }
     requires out { IsOut seat.old.me _ticket }
@@ -309,6 +326,9 @@ fn compare(shared: &Shared, seat: &mut Seat, other: Pass, _ticket: u64)
 }
 
 /// Compares the seat that has its turn with each other pass.
+///
+/// Conditions: the seat is of this table, which is a lock's, has its turn with this ticket, and has
+/// taken the book out of its slot. The passes are of this lock.
 fn compare_all(shared: &Shared, seat: &mut Seat, mut passes: Vec<Pass>, ticket: u64)
     requires table { (seat.old.table_id ≡ shared.now.table_id) × IsTurns shared.now.table_id }
     requires out { IsOut seat.old.me ticket }

@@ -51,6 +51,8 @@ const NEAR: u64 = 3;
 const AHEAD: u64 = 3;
 
 /// Waits until the ticket is served.
+///
+/// Conditions: the seat is of this table, which is a lock's, and has drawn this ticket.
 fn wait<R: Wait>(rt: &R, shared: &Shared, seat: &mut Seat, ticket: u64)
     requires table { (seat.old.table_id ≡ shared.now.table_id) × IsTurns shared.now.table_id }
     requires waiting { seat.old.me ≡ (waiting seat.old.me.0.mine ticket, []) }
@@ -81,6 +83,8 @@ fn wait<R: Wait>(rt: &R, shared: &Shared, seat: &mut Seat, ticket: u64)
 
 /// Marks the perch, checks once more, sleeps until it is woken, and removes its mark. The thread
 /// that passes the turn first raises `SERVED` and then removes the mark, so no wake is lost.
+///
+/// Conditions: the seat is of this table, which is a lock's, and the perch is one of its 64.
 fn rest<R: Wait>(rt: &R, shared: &Shared, seat: &mut Seat, ticket: u64, perch: usize)
     requires table { (seat.old.table_id ≡ shared.now.table_id) × IsTurns shared.now.table_id }
     requires perch { (4 ≤ perch) × (perch < 68) }
@@ -111,6 +115,8 @@ fn mark_of(ticket: u64) -> u64 {
 
 /// Wakes the seat with this ticket, if it sleeps or is about to: its turn has come. Without its
 /// mark it does not fall asleep any more.
+///
+/// Condition: the seat is of this table, which is a lock's.
 fn rouse(shared: &Shared, seat: &mut Seat, ticket: u64)
     requires table { (seat.old.table_id ≡ shared.now.table_id) × IsTurns shared.now.table_id }
     ensures same { (seat.new.table_id ≡ seat.old.table_id) × (seat.new.me ≡ seat.old.me) }
@@ -125,6 +131,8 @@ fn rouse(shared: &Shared, seat: &mut Seat, ticket: u64)
 
 /// Wakes the seat with this ticket before its turn, if it sleeps. Its mark stays. So the thread
 /// that passes the turn to it wakes it then, even if this thread is cut off here.
+///
+/// Condition: the table is a lock's.
 fn rouse_early(shared: &Shared, ticket: u64)
     requires { IsTurns shared.now.table_id }
 {
@@ -136,6 +144,8 @@ fn rouse_early(shared: &Shared, ticket: u64)
 
 /// Wakes the seat whose turn comes after this ticket, and the one that should be awake when its
 /// turn comes.
+///
+/// Condition: the seat is of this table, which is a lock's.
 fn rouse_next(shared: &Shared, seat: &mut Seat, ticket: u64)
     requires table { (seat.old.table_id ≡ shared.now.table_id) × IsTurns shared.now.table_id }
     ensures same { (seat.new.table_id ≡ seat.old.table_id) × (seat.new.me ≡ seat.old.me) }
@@ -145,6 +155,8 @@ fn rouse_next(shared: &Shared, seat: &mut Seat, ticket: u64)
 }
 
 /// Draws a ticket and waits for its turn. Then the seat has the book.
+///
+/// Conditions: the seat is of this table, which is a lock's, and has no ticket.
 pub fn enter<R: Wait>(rt: &R, shared: &Shared, seat: &mut Seat) -> u64
     requires table { (seat.old.table_id ≡ shared.now.table_id) × IsTurns shared.now.table_id }
     requires idle { seat.old.me ≡ (idle seat.old.me.0.mine, []) }
@@ -157,6 +169,8 @@ pub fn enter<R: Wait>(rt: &R, shared: &Shared, seat: &mut Seat) -> u64
 }
 
 /// Makes a call on the book in a slot.
+///
+/// Condition: there is one.
 fn apply_in(slot: &mut Option<Book>, number: u32, call: Call) -> Result<Answer, Call>
     requires { (book : History) × (slot.old ≡ Some book) }
     ensures made { (book : History) → slot.old ≡ Some book → IfOk result (λ answer. Entered book number call slot.new answer) }
@@ -170,6 +184,9 @@ fn apply_in(slot: &mut Option<Book>, number: u32, call: Call) -> Result<Answer, 
 }
 
 /// Makes a call on the book in its slot. The ticket is for the clauses alone.
+///
+/// Conditions: the seat is of this table, which is a lock's, has its turn with this ticket, and has
+/// not changed the book.
 pub fn ask(
     shared: &Shared,
     seat: &mut Seat,
@@ -188,6 +205,9 @@ pub fn ask(
 
 /// Counts the new entry of the book, and passes the turn on. The last two arguments are for the
 /// clauses alone.
+///
+/// Conditions: the seat is of this table, which is a lock's, has this number and its turn with this
+/// ticket, and has made this call on the book. The book has fewer than 2^64 entries with it.
 pub fn commit(shared: &Shared, seat: &mut Seat, ticket: u64, _number: u32, _call: &Snapshot<Call>)
     requires table { (seat.old.table_id ≡ shared.now.table_id) × IsTurns shared.now.table_id }
     requires number { _number ≡ seat.old.me.0.mine.number }
@@ -201,7 +221,10 @@ pub fn commit(shared: &Shared, seat: &mut Seat, ticket: u64, _number: u32, _call
     rouse_next(shared, seat, ticket);
 }
 
-/// Passes the turn on. The book has not changed.
+/// Passes the turn on.
+///
+/// Conditions: the seat is of this table, which is a lock's, has its turn with this ticket, and has
+/// not changed the book.
 pub fn leave(shared: &Shared, seat: &mut Seat, ticket: u64)
     requires table { (seat.old.table_id ≡ shared.now.table_id) × IsTurns shared.now.table_id }
     requires book { HasBook seat.old.me ticket (kept seat.old.me.0.mine.base seat.old.me.0.found) }
@@ -213,6 +236,9 @@ pub fn leave(shared: &Shared, seat: &mut Seat, ticket: u64)
 }
 
 /// Takes the book for good. The ticket is for the clauses alone.
+///
+/// Conditions: the seat is of this table, which is a lock's, has its turn with this ticket, and has
+/// not changed the book.
 pub fn take(shared: &Shared, seat: &mut Seat, _ticket: u64) -> Book
     requires table { (seat.old.table_id ≡ shared.now.table_id) × IsTurns shared.now.table_id }
     requires book { HasBook seat.old.me _ticket (kept seat.old.me.0.mine.base seat.old.me.0.found) }

@@ -4,7 +4,7 @@ use Rattle.std.specs.Prelude.{Option, is_some}
 use Rattle.std.specs.List.{IsDistinct, AllByRecursion}
 use Rattle.std.proofs.lemmas.Bool.{cases_Bool, eqb-true}
 use Rattle.ckpt_ids.specs.Ascending.{ascending}
-use Rattle.ckpt_ids.specs.Counting.{times}
+use Rattle.ckpt_ids.specs.Counting.{one_if, times}
 use Rattle.ckpt_ids.specs.Ordered.{AreDistinct}
 use Rattle.ckpt_ids.proofs.AscendingLemmas.{IsAscending-ascending, same_from_times, times-ascending, times-cons}
 use Rattle.ckpt_ids.proofs.CountLemmas.{times-filter}
@@ -14,9 +14,6 @@ use Rattle.ckpt_ids.proofs.ComparisonLemmas.{eqb_turned}
 use Rattle.ckpt_outbox.specs.Queues.{is_in}
 use Rattle.ckpt_outbox.proofs.QueueLemmas.{not_in}
 use Rattle.ckpt_outbox.proofs.TicketLemmas.{tells_taken}
-
-abbrev one_if : Bool → ℕ
-one_if b = cond b 1 0
 
 once_more : (f x : ℕ) (xs : List ℕ) → (eqb f x ≡ true → is_in f xs ≡ false) → times f xs ≡ one_if (is_in f xs) → times f (x ∷ xs) ≡ one_if (is_in f (x ∷ xs))
 once_more f x xs apart same =

@@ -113,6 +113,8 @@ impl Outbox {
     }
 
     /// Puts one file at the end of waiting.
+    ///
+    /// Conditions: a place is reserved for it, and the outbox does not know it.
     fn put_one(&mut self, file: FileId)
         requires room { 0 < self.old.spare }
         requires unknown { is_known self.old file ≡ false }
@@ -141,6 +143,8 @@ impl Outbox {
     }
 
     /// Moves the first file of waiting to the end of taken, and returns it. Takes no memory.
+    ///
+    /// Condition: a file waits.
     fn take_one(&mut self) -> FileId
         requires { 0 < length self.old.waiting }
         ensures first { self.old.waiting ≡ result ∷ self.new.waiting }

@@ -25,6 +25,8 @@ pub(crate) fn next_ticket(waiting: &VecDeque<FileId>, front: u64) -> u64
 }
 
 /// Whether the file is at the place that its ticket says.
+///
+/// Condition: if the file waits, `drawn` is the ticket of its place.
 fn waits(waiting: &VecDeque<FileId>, front: u64, file: FileId, drawn: u64) -> bool
     requires { (place : ℕ) → place < length waiting.now.items → get_or waiting.now.items place 0 ≡ file → drawn ≡ ticket front place }
     ensures { result ≡ is_in file waiting.now.items }
@@ -36,6 +38,8 @@ fn waits(waiting: &VecDeque<FileId>, front: u64, file: FileId, drawn: u64) -> bo
 }
 
 /// Whether the file is taken. One look-up.
+///
+/// Condition: each file that waits has the ticket of its place.
 pub(crate) fn is_taken(index: &Index, waiting: &VecDeque<FileId>, front: u64, file: FileId) -> bool
     requires { IsTicketed (hash.get nat_eq index.now) front waiting.now.items }
     ensures { result ≡ is_apart (hash.get nat_eq index.now) waiting.now.items file }
@@ -47,6 +51,8 @@ pub(crate) fn is_taken(index: &Index, waiting: &VecDeque<FileId>, front: u64, fi
 }
 
 /// Stores the ticket of a file in room that the index keeps. Takes no memory.
+///
+/// Condition: there is such room.
 pub(crate) fn note(index: &mut Index, file: FileId, drawn: u64)
     requires { 0 < spare index.old }
     ensures tickets { Updates nat_eq index.old index.new file (Some drawn) }
@@ -58,6 +64,8 @@ pub(crate) fn note(index: &mut Index, file: FileId, drawn: u64)
 
 /// Gives a taken file the next ticket, and returns whether it was taken. One look-up. Takes no
 /// memory.
+///
+/// Condition: each file that waits has the ticket of its place.
 pub(crate) fn draw_again(
     index: &mut Index,
     waiting: &VecDeque<FileId>,
@@ -81,6 +89,8 @@ pub(crate) fn draw_again(
 
 /// The files of the index that are not at the places that their tickets say, in the order of the
 /// index. Fails only if memory runs out.
+///
+/// Condition: each file that waits has the ticket of its place.
 pub(crate) fn taken_in(
     alloc: Global,
     index: &Index,

@@ -86,6 +86,8 @@ impl Taken {
     }
 
     /// The file was fetched.
+    ///
+    /// Condition: fewer than 2^64 - 1 files are taken.
     pub(crate) fn push(&mut self, file: FileId)
         requires few { length self.old + 1 < 2 ^ 64 }
         ensures { self.new ≡ self.old ++ file ∷ [] }
@@ -95,6 +97,8 @@ impl Taken {
     }
 
     /// This taken file was reported.
+    ///
+    /// Conditions: the file is there, and none is there twice.
     pub(crate) fn remove(&mut self, file: FileId)
         requires distinct { AreDistinct self.old }
         requires there { is_in file self.old ≡ true }

@@ -1,5 +1,5 @@
 -- The subtasks of a shape are in strict order, so each is there once.
-use Rattle.std.proofs.Common.{◌≡◌, ℕ, zero, suc, ◌+◌, ◌≤◌, Bool, true, false, cond, ltb, leb, eqb, List, [], ◌∷◌, map, refl, sym, ap, subst, ◌∙◌, inl, inr, ⊎_elim, arith, ◌&&◌}
+use Rattle.std.proofs.Common.{◌≡◌, ℕ, zero, suc, ◌+◌, ◌≤◌, Bool, true, false, ltb, leb, eqb, List, [], ◌∷◌, map, refl, sym, ap, subst, ◌∙◌, inl, inr, ⊎_elim, arith, ◌&&◌}
 use Rattle.std.specs.Prelude.{count_by}
 use Rattle.std.specs.List.{list_any, range_with_len}
 use Rattle.std.proofs.lemmas.Bool.{cases_Bool, both_ways, or_left, or_right, and_parts, and_from, lt-ltb, leb-true, eq-eqb}
@@ -7,7 +7,8 @@ use Rattle.ckpt_ids.specs.declared.subtask.SubtaskId.{SubtaskId}
 use Rattle.ckpt_ids.specs.Ordered.{IsIn, IsInOrder}
 use Rattle.ckpt_ids.specs.Acknowledged.{is_before}
 use Rattle.ckpt_ids.specs.Shapes.{subtasks, subtasks_from, is_subtask, same_subtask}
-use Rattle.ckpt_ids.proofs.CountLemmas.{count_by-cons, count_by-same}
+use Rattle.ckpt_ids.specs.Counting.{one_if}
+use Rattle.ckpt_ids.proofs.CountLemmas.{count_by-cons, count_by_yes, count_by_no, count_by-same, counted-from_IsIn}
 use Rattle.ckpt_ids.proofs.OrderLemmas.{subtasks_in_order, same_subtask-Decides}
 use Rattle.ckpt_ids.proofs.OrderedLemmas.{ComesBefore-from, ComesBefore-at, IsInOrder-append, IsInOrder-map, IsIn-from_map, IsIn-from_list_any, list_any-from_IsIn}
 use Rattle.ckpt_ids.proofs.ShapeLemmas.{is_subtask_from}
@@ -63,18 +64,13 @@ is_subtask-from_IsIn shape s h = list_any-from_IsIn (same_subtask s) s (subtasks
 
 -- counting in a list in strict order
 
-abbrev pub one_if : Bool → ℕ
-one_if b = cond b 1 0
-
 -- q counts s no more, and else what p counts
 pub count_by_one_more : (p q : SubtaskId → Bool) (s : SubtaskId) (xs : List SubtaskId) → IsInOrder is_before xs → IsIn s xs → p s ≡ true → q s ≡ false → ((t : SubtaskId) → (t ≡ s → ⊥) → q t ≡ p t) → count_by q xs + 1 ≡ count_by p xs
 count_by_one_more p q s [] a h ps qs f = absurd h
 count_by_one_more p q s (x ∷ xs) a (inl e) ps qs f =
     let later : (t : SubtaskId) → IsIn t xs → q t ≡ p t = λ t k. f t (λ same. both_ways (is_before x x) (subtasks_in_order.irreflexive x) (ap (is_before x) (sym e ∙ sym same) ∙ ComesBefore-at is_before x t xs a.0 k)) in
     let rest : count_by q xs ≡ count_by p xs = count_by-same q p xs later in
-    let px : one_if (p x) ≡ 1 = ap one_if (ap p (sym e) ∙ ps) in
-    let qx : one_if (q x) ≡ 0 = ap one_if (ap q (sym e) ∙ qs) in
-    omega (arith, count_by-cons p x xs, count_by-cons q x xs)
+    omega (arith, count_by_yes p x xs (ap p (sym e) ∙ ps), count_by_no q x xs (ap q (sym e) ∙ qs))
 count_by_one_more p q s (x ∷ xs) a (inr h) ps qs f =
     let rest : count_by q xs + 1 ≡ count_by p xs = count_by_one_more p q s xs a.1 h ps qs f in
     let other : x ≡ s → ⊥ = λ same. both_ways (is_before x x) (subtasks_in_order.irreflexive x) (ap (is_before x) same ∙ ComesBefore-at is_before x s xs a.0 h) in
@@ -83,8 +79,4 @@ count_by_one_more p q s (x ∷ xs) a (inr h) ps qs f =
 
 -- what is counted nowhere
 pub none_counted : {X : Type 0} (p : X → Bool) (x : X) (xs : List X) → count_by p xs ≡ 0 → IsIn x xs → p x ≡ false
-none_counted p x [] e h = absurd h
-none_counted {X} p x (y ∷ xs) e (inl same) =
-    let one : p y ≡ true → p x ≡ false = λ (t : p y ≡ true). let here : one_if (p y) ≡ 1 = ap one_if t in absurd (omega (arith, count_by-cons p y xs)) in
-    ⊎_elim one (λ (t : p y ≡ false). ap p same ∙ t) (cases_Bool (p y))
-none_counted p x (y ∷ xs) e (inr h) = none_counted p x xs (omega (arith, count_by-cons p y xs)) h
+none_counted p x xs e h = ⊎_elim (λ (t : p x ≡ true). absurd (omega (arith, counted-from_IsIn p x xs h t))) (λ (t : p x ≡ false). t) (cases_Bool (p x))

@@ -51,7 +51,9 @@ impl Keyed for Done {
 }
 
 impl Done {
-    /// Makes a pending record a complete one. None of its subtasks is missing. Takes no memory.
+    /// Makes a pending record a complete one. Takes no memory.
+    ///
+    /// Conditions: the record is as a pending one is kept, and none of its subtasks is missing.
     pub(crate) fn of(full: Pending) -> Done
         requires pending { IsPending full }
         requires none_missing { missing full ≡ 0 }

@@ -135,7 +135,9 @@ impl Pending {
         Ok(())
     }
 
-    /// Removes the acknowledgement of this subtask, which has acknowledged. Takes no memory.
+    /// Removes the acknowledgement of this subtask. Takes no memory.
+    ///
+    /// Condition: it has acknowledged.
     pub fn retract(&mut self, subtask: SubtaskId)
         requires { has_acknowledged self.old subtask ≡ true }
         ensures value { self.new ≡ without_ack subtask self.old }
@@ -250,6 +252,8 @@ impl Pending {
 }
 
 /// Adds an acknowledgement at this place. Fails only if memory runs out, and then adds nothing.
+///
+/// Condition: the place is not past the end.
 fn add(acks: &mut VecDeque<Acked>, place: usize, acked: Acked) -> Result<(), AllocError>
     requires { place ≤ length acks.old.items }
     ensures ok { OnOk result (acks.new.items ≡ insert acks.old.items place acked) }

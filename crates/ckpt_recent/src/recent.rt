@@ -145,6 +145,8 @@ impl<T: Drop> Recent<T> {
 
 /// Forgets the first item in memory. It is a function of its own because a list that keeps all
 /// items never needs it.
+///
+/// Conditions: there is one, and fewer than 2^64 - 1 were forgotten before.
 #[inline(never)]
 fn forget_first<T: Drop>(past: &mut Past<T>, kept: &mut VecDeque<T>, forgotten: &mut u64)
     requires some { kept.old.items ≢ [] }

@@ -2,16 +2,16 @@
 use Rattle.std.proofs.Common.{◌≡◌, ℕ, zero, suc, ◌+◌, ◌<◌, ◌≤◌, ◌^◌, cond, eqb, ltb, nat_eq, List, [], ◌∷◌, ◌++◌, length, get_or, take, refl, sym, ap, ◌∙◌, ⊎_elim, arith, Option, Some, None, Result, Ok, Err, unwrap_or, is_some, IfOk, if◌then◌else◌}
 use Rattle.std.proofs.lemmas.Bool.{cases_eq, eq-eqb, eqb-true, ne_eqb, lt-ltb, le-ltb, cases_lt, cond-true, cond-false}
 use Rattle.std.proofs.lemmas.Option.{none-some, same_Some}
-use Rattle.std.proofs.lemmas.List.Sums.{sum_by_more, sum_by_push, sum_by-take-le}
+use Rattle.std.proofs.lemmas.List.Sums.{sum_by_more, sum_by-take-le}
 use Rattle.std.specs.Result.{IsOk, OnOk}
 use Rattle.std.proofs.lemmas.Bool.{false≢true}
 use Rattle.std.specs.List.{position, slice_get}
 use Rattle.std.specs.Map.{lookup, keys_of, values_of}
 use Rattle.std.proofs.lemmas.List.Quantifiers.{position-Some}
 use Rattle.indexmap.specs.IndexMap.{get, keys, values}
-use Rattle.ckpt_registry.proofs.ListLemmas.{one_if, one_if-true, one_if-false}
+use Rattle.ckpt_ids.proofs.CountLemmas.{one_if-true, one_if-false, count_by_push}
 use Rattle.ckpt_registry.specs.Counters.{Counts, Released, counter, counted_once, AreInRange, AreLowered, AreReleased, HasRoom}
-use Rattle.ckpt_ids.specs.Counting.{times}
+use Rattle.ckpt_ids.specs.Counting.{one_if, times}
 
 -- n has w at k, and else what m has
 abbrev pub Sets : Counts → Counts → ℕ → Option ℕ → Type 0
@@ -99,7 +99,7 @@ counted_once-same : (m n : Counts) (f : ℕ) → counter n f ≡ counter m f →
 counted_once-same m n f e = ap (λ c. one_if (ltb 0 c)) e
 
 pub times_push : (f x : ℕ) (xs : List ℕ) → times f (xs ++ x ∷ []) ≡ times f xs + one_if (eqb x f)
-times_push f x xs = sum_by_push (λ y. one_if (eqb y f)) xs x
+times_push f x xs = count_by_push (λ y. eqb y f) xs x
 
 -- a file whose count only falls keeps its place
 pub counted_once-kept : (m n : Counts) (k v w : ℕ) → Sets m n k (Some w) → counter m k ≡ v → 0 < v → 0 < w → (f : ℕ) → counted_once n f ≡ counted_once m f

@@ -4,20 +4,10 @@ use Rattle.std.specs.List.{filter}
 use Rattle.std.proofs.lemmas.Bool.{cases_Bool, cases_lt, both_ways, cond-true, cond-false, lt-ltb, le-ltb}
 use Rattle.ckpt_ids.specs.Ordered.{IsIn, put_once, in_order_once, IsStrictOrder, AreDistinct}
 use Rattle.ckpt_ids.specs.Ascending.{ascending_set}
-use Rattle.ckpt_ids.specs.Counting.{times}
+use Rattle.ckpt_ids.specs.Counting.{one_if, times}
 use Rattle.ckpt_ids.proofs.AscendingLemmas.{numbers_in_order}
-use Rattle.ckpt_ids.proofs.CountLemmas.{count_by-cons, count_by-append, times-from_IsIn, times_at_most_once, IsIn-from_times}
+use Rattle.ckpt_ids.proofs.CountLemmas.{one_if-true, one_if-false, count_by-cons, count_by-append, counted-from_IsIn, IsIn-from_counted, times-from_IsIn, times_at_most_once, IsIn-from_times}
 use Rattle.ckpt_ids.proofs.OrderedLemmas.{IsIn-append_left, IsIn-append_right, IsIn-append_cases, IsIn-filter, IsIn-from_filter, IsInOrder-filter, IsInOrder-in_order_once, IsIn-in_order_once, IsIn-from_in_order_once, same_from_members, AreDistinct-append, AreDistinct-from_order}
-
--- a test as a number
-abbrev pub one_if : Bool → ℕ
-one_if b = cond b 1 0
-
-pub one_if-true : (b : Bool) → b ≡ true → one_if b ≡ 1
-one_if-true b e = ap one_if e
-
-pub one_if-false : (b : Bool) → b ≡ false → one_if b ≡ 0
-one_if-false b e = ap one_if e
 
 module _ {X : Type 0} where
   -- the elements that pass both tests
@@ -87,19 +77,13 @@ module _ {X : Type 0} {before : X → X → Bool} (o : IsStrictOrder before) whe
       ⊎_elim (λ (e : before z x ≡ true). absurd (under e)) (λ (e : before z x ≡ false). ⊎_elim (λ (f : before x z ≡ true). absurd (over e f)) (λ (f : before x z ≡ false). o.total z x e f) (cases_Bool (before x z))) (cases_Bool (before z x))
 
   pub count_by-from_IsIn : (z : X) (xs : List X) → IsIn z xs → 0 < count_by (is_one z) xs
-  count_by-from_IsIn z [] h = absurd h
-  count_by-from_IsIn z (x ∷ xs) (inl e) =
-      let one : one_if (is_one z x) ≡ 1 = one_if-true (is_one z x) (ap (is_one z) (sym e) ∙ is_one-itself z) in
-      omega (arith, count_by-cons (is_one z) x xs)
-  count_by-from_IsIn z (x ∷ xs) (inr h) = omega (arith, count_by-cons (is_one z) x xs, count_by-from_IsIn z xs h)
+  count_by-from_IsIn z xs h = counted-from_IsIn (is_one z) z xs h (is_one-itself z)
 
   pub IsIn-from_count_by : (z : X) (xs : List X) → 0 < count_by (is_one z) xs → IsIn z xs
-  IsIn-from_count_by z [] h = absurd (omega arith)
-  IsIn-from_count_by z (x ∷ xs) h =
-      let here : is_one z x ≡ true → IsIn z (x ∷ xs) = λ (e : is_one z x ≡ true). inl (is_one-same z x e) in
-      let later : is_one z x ≡ false → IsIn z (x ∷ xs) = λ (e : is_one z x ≡ false).
-      let none : one_if (is_one z x) ≡ 0 = one_if-false (is_one z x) e in inr (IsIn-from_count_by z xs (omega (arith, count_by-cons (is_one z) x xs))) in
-      ⊎_elim here later (cases_Bool (is_one z x))
+  IsIn-from_count_by z xs h =
+      let q = IsIn-from_counted (is_one z) xs h in
+      let In : X → Type 0 = λ x. IsIn x xs in
+      subst In (sym (is_one-same z q.0 q.2)) q.1
 
 module _ {X : Type 0} {before : X → X → Bool} (o : IsStrictOrder before) (xs ys zs : List X) (adds : (p : X → Bool) → count_by p ys ≡ count_by p xs + count_by p zs) where
   -- ys has the elements of xs and zs

@@ -8,7 +8,7 @@ use Rattle.std.proofs.lemmas.List.{append-nil, drop_at, drop_more, get_or_at, le
 use Rattle.std.proofs.lemmas.List.{take-append-le}
 use Rattle.std.proofs.lemmas.List.Elements.{filter-append}
 use Rattle.std.proofs.lemmas.List.Sums.{sum_by-cons}
-use Rattle.ckpt_ids.specs.Counting.{times}
+use Rattle.ckpt_ids.specs.Counting.{one_if, times}
 use Rattle.ckpt_ids.specs.Ordered.{IsIn}
 use Rattle.ckpt_ids.specs.Records.{Use, Pin, Subtask, count, same_holder}
 use Rattle.ckpt_ids.proofs.ComparisonLemmas.{eqb_turned}
@@ -24,7 +24,7 @@ use Rattle.ckpt_registry.specs.Pins.{AreKept, AreSettled, IsKept, IsSettled, eac
 use Rattle.ckpt_registry.specs.Uses.{is_owned, triples, without}
 use Rattle.ckpt_registry.specs.Parts.{Part, files_in, files_of}
 use Rattle.ckpt_registry.proofs.HoldingLemmas.{count-parts_of}
-use Rattle.ckpt_registry.proofs.ListLemmas.{one_if, times-ascending_set}
+use Rattle.ckpt_registry.proofs.ListLemmas.{times-ascending_set}
 use Rattle.ckpt_registry.proofs.PartLemmas.{times_of_take}
 
 -- how often pins name a file

@@ -31,8 +31,8 @@ use Rattle.ckpt_registry.proofs.SoundLemmas.{AreCounted-acknowledged, AreCounted
 use Rattle.ckpt_registry.proofs.HoldingLemmas.{count-used_by}
 use Rattle.ckpt_registry.proofs.CounterLemmas.{AreInRange-unchanged, counter-unchanged, get-from_counter, counted_once-above, counted_once-zero, counted_once-le, above_from_counted_once, zero_from_counted_once}
 use Rattle.ckpt_ids.proofs.CountLemmas.{count_by-cons, count_by-append, count_by-map, counted-from_IsIn, IsIn-from_counted, times-from_IsIn, times_at_most_once, AreDistinct-from_times, IsIn-from_times}
-use Rattle.ckpt_registry.proofs.ListLemmas.{one_if, count_by-in_order_once, in_order_once-filter, count_by-added, in_order_once-added, count_by-filtered}
-use Rattle.ckpt_ids.specs.Counting.{times}
+use Rattle.ckpt_registry.proofs.ListLemmas.{count_by-in_order_once, in_order_once-filter, count_by-added, in_order_once-added, count_by-filtered}
+use Rattle.ckpt_ids.specs.Counting.{one_if, times}
 
 -- files and their uses
 

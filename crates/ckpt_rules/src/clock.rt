@@ -52,6 +52,8 @@ pub fn limit_of(config: &Config) -> u32
 
 impl Clock {
     /// The clock of a job that starts at this moment, without a completed checkpoint.
+    ///
+    /// Condition: the moment is below 2^62.
     pub fn new(config: &Config, start: u64) -> Clock
         requires { start < MOMENTS_END }
         ensures { result ≡ record { latest = start; due = start + gap config.now; completed = None } }
@@ -102,6 +104,8 @@ impl Clock {
     }
 
     /// The greater of `now` and the greatest moment seen.
+    ///
+    /// Condition: the moment is below 2^62.
     pub fn read(&self, now: u64) -> u64
         requires { now < MOMENTS_END }
         ensures value { result ≡ max now self.now.latest }
@@ -112,6 +116,8 @@ impl Clock {
     }
 
     /// Records this moment. The clock keeps the greatest one.
+    ///
+    /// Condition: the moment is below 2^62.
     pub fn see(&mut self, now: u64)
         requires { now < MOMENTS_END }
         ensures { self.new ≡ record self.old { latest = max now self.old.latest } }
@@ -123,6 +129,8 @@ impl Clock {
     ///
     /// Source of the rule: the Flink documentation, "Configuration", and this project, as
     /// `specs/Trigger.antt` says.
+    ///
+    /// Condition: the moment is below 2^62.
     pub fn held(&self, config: &Config, now: u64, pending: u32) -> Hold
         requires { now < MOMENTS_END }
         ensures { result ≡ hold config.now self.now.due self.now.completed now pending }
@@ -151,6 +159,8 @@ impl Clock {
 
     /// A checkpoint was triggered `now`. The next is due after the interval, or the pause if that
     /// is longer.
+    ///
+    /// Condition: the moment is below 2^62.
     pub fn triggered(&mut self, config: &Config, now: u64)
         requires { now < MOMENTS_END }
         ensures { self.new ≡ record self.old { due = now + gap config.now } }
@@ -159,6 +169,8 @@ impl Clock {
     }
 
     /// A checkpoint completed `now`: the pause begins.
+    ///
+    /// Condition: the moment is below 2^62.
     pub fn completed(&mut self, now: u64)
         requires { now < MOMENTS_END }
         ensures { self.new ≡ record self.old { completed = Some now } }
@@ -168,6 +180,8 @@ impl Clock {
 
     /// The job was restarted `now`. The next checkpoint is due as after a trigger, and there is no
     /// last completion.
+    ///
+    /// Condition: the moment is below 2^62.
     pub fn restarted(&mut self, config: &Config, now: u64)
         requires { now < MOMENTS_END }
         ensures { self.new ≡ record self.old { due = now + gap config.now; completed = None } }

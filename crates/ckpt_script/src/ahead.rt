@@ -74,6 +74,9 @@ impl Ahead {
     /// so far is written and flushed, so a caller that waits for an answer has it.
     ///
     /// A source that failed, or that said that nothing is left, is not read again.
+    ///
+    /// Conditions: what the source was asked is counted here, nothing is left in it if it said so,
+    /// and the sink has not failed.
     pub(crate) fn fill<S: Source, K: Sink>(
         &mut self,
         source: &mut S,
@@ -101,6 +104,9 @@ impl Ahead {
     }
 
     /// Asks the source once.
+    ///
+    /// Conditions: nothing is read ahead, the script has not ended, and what the source was asked
+    /// is counted here.
     fn ask<S: Source>(&mut self, source: &mut S) -> Result<(), RunFault>
         requires unread { self.old.bytes ≡ [] }
         requires going_on { self.old.is_ended ≡ false }
@@ -131,6 +137,9 @@ impl Ahead {
     /// Finds the next line. Returns the place of its newline, if all of the line was read ahead.
     /// Otherwise it reads the line up to its newline or to the end of the script. It holds a prefix
     /// of the line. If the line is too long, it drops the rest.
+    ///
+    /// Conditions: what the source was asked is counted here, nothing is left in it if it said so,
+    /// and the sink has not failed.
     pub(crate) fn find_line<S: Source, K: Sink>(
         &mut self,
         source: &mut S,
@@ -174,6 +183,8 @@ impl Ahead {
     }
 
     /// The line before this newline, or as much of it as is held.
+    ///
+    /// Condition: the place is not past the end of what is read ahead.
     pub(crate) fn front(&self, newline: usize) -> &[u8]
         requires { newline ≤ length self.now.bytes }
         ensures { result.now ≡ take held (take newline self.now.bytes) }
@@ -182,6 +193,8 @@ impl Ahead {
     }
 
     /// Drops the line before this newline, and the newline.
+    ///
+    /// Condition: the place is in what is read ahead.
     pub(crate) fn drop_line(&mut self, newline: usize)
         requires { newline < length self.old.bytes }
         ensures { self.new ≡ left_by self.old (Some newline) }
@@ -191,6 +204,8 @@ impl Ahead {
 
     /// Moves bytes that were read to the line, up to a newline, which is dropped. Returns whether
     /// the newline was there.
+    ///
+    /// Condition: the line has at most [`HELD`] bytes.
     fn move_to(&mut self, line: &mut Vec<u8>) -> Result<bool, AllocError>
         requires held { length line.old.items ≤ held }
         ensures moved { IfOk result (Moves self.old.bytes self.new.bytes line.old.items line.new.items) }
@@ -222,6 +237,8 @@ fn newline_place(bytes: &[u8]) -> Option<usize>
 }
 
 /// Adds the bytes to a line, up to as many as are held.
+///
+/// Condition: the line has at most [`HELD`] bytes.
 fn hold(line: &mut Vec<u8>, bytes: &[u8]) -> Result<(), AllocError>
     requires { length line.old.items ≤ held }
     ensures { OnOk result (line.new.items ≡ take held (line.old.items ++ bytes.now)) }

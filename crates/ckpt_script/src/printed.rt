@@ -39,6 +39,8 @@ impl Printed {
     }
 
     /// Writes the waiting output if it is more than may wait until the next line.
+    ///
+    /// Condition: the sink has not failed.
     pub(crate) fn settle<K: Sink>(&mut self, sink: &mut K) -> Result<(), RunFault>
         requires going_on { K.failures sink.old ≡ 0 }
         ensures ok { OnOk result (Passes (K.contents sink.old) (K.contents sink.new) self.old [] self.new) }
@@ -56,6 +58,8 @@ impl Printed {
     }
 
     /// Writes what waits, and flushes what was written since the last flush.
+    ///
+    /// Condition: the sink has not failed.
     pub(crate) fn flush<K: Sink>(&mut self, sink: &mut K) -> Result<(), RunFault>
         requires going_on { K.failures sink.old ≡ 0 }
         ensures ok { OnOk result ((self.new ≡ []) × Appends (K.contents sink.old) (K.contents sink.new) self.old) }
@@ -78,6 +82,8 @@ impl Printed {
     }
 
     /// Writes what waits.
+    ///
+    /// Condition: the sink has not failed.
     fn write_out<K: Sink>(&mut self, sink: &mut K) -> Result<(), RunFault>
         requires going_on { K.failures sink.old ≡ 0 }
         ensures ok { OnOk result ((self.new ≡ []) × Appends (K.contents sink.old) (K.contents sink.new) self.old) }
@@ -97,6 +103,8 @@ impl Printed {
 }
 
 /// Writes all bytes. A write that failed is not tried again.
+///
+/// Condition: the sink has not failed.
 fn write_whole<K: Sink>(sink: &mut K, bytes: &[u8]) -> Result<(), RunFault>
     requires going_on { K.failures sink.old ≡ 0 }
     ensures ok { OnOk result (Appends (K.contents sink.old) (K.contents sink.new) bytes.now) }

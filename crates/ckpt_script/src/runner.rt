@@ -32,6 +32,9 @@ pub(crate) struct Runner {
 
 impl Runner {
     /// Runs the line whose newline is here, or the held line, and prints what it prints.
+    ///
+    /// Conditions: the newline is in what is read ahead, fewer than [`MOST_LINES`] lines were run,
+    /// no more were faulty, and the sink has not failed.
     fn obey<K: Sink, T: Team>(
         &mut self,
         newline: Option<usize>,
@@ -65,6 +68,8 @@ impl Runner {
     }
 
     /// Reads the next line and runs it. Returns whether there was one.
+    ///
+    /// Condition: the run is between two lines, and no device has failed.
     fn next<S: Source, K: Sink, T: Team>(
         &mut self,
         source: &mut S,
@@ -117,6 +122,8 @@ impl Runner {
     }
 
     /// Reads and obeys all lines.
+    ///
+    /// Condition: the run is between two lines, and no device has failed.
     pub(crate) fn obey_all<S: Source, K: Sink, T: Team>(
         &mut self,
         source: &mut S,
@@ -141,6 +148,8 @@ impl Runner {
     }
 
     /// Ends the run with a fault. If the lines before it are whole, first writes what they print.
+    ///
+    /// Condition: the sink has failed exactly if that is the fault.
     pub(crate) fn stop<K: Sink>(&mut self, sink: &mut K, fault: RunFault) -> RunFault
         requires cause { SinkCauses (K.failures sink.old) fault }
         ensures cause { (asked : Asked) → IsCaused asked (K.failures sink.old) fault → IsCaused asked (K.failures sink.new) result }
@@ -168,6 +177,8 @@ fn keeps_lines(fault: RunFault) -> bool
 }
 
 /// What is held of the line whose newline is here, or the held line.
+///
+/// Condition: the newline is in what is read ahead.
 fn line_at<'a>(ahead: &'a Ahead, line: &'a [u8], newline: Option<usize>) -> &'a [u8]
     requires { IsAhead ahead.now newline }
     ensures { result.now ≡ line_at ahead.now line.now newline }

@@ -22,6 +22,8 @@ use std::io::{Read, Write};
 /// [`RunFault::Read`] that the source failed or was asked 2^32 times, [`RunFault::TooManyLines`] that
 /// it gave more than [`MOST_LINES`] bytes, [`RunFault::Write`] that the sink failed. A device that
 /// failed is not asked again, and the source not after its end.
+///
+/// Conditions: the source was not asked yet, and the sink has not failed.
 pub fn run_between_keyed<S: Source, K: Sink, T: Team>(
     alloc: Global,
     secret: Secret,

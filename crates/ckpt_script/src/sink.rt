@@ -15,7 +15,7 @@ pub trait Sink {
 
     /// Takes some of the bytes, at least one.
     ///
-    /// It is not asked again once it has failed.
+    /// Conditions: it has not failed, and there are bytes.
     fn write(&mut self, bytes: &[u8]) -> Result<usize, DeviceFailed>
         requires going_on { failures self.old ≡ 0 }
         requires some { 0 < length bytes.now }
@@ -26,6 +26,8 @@ pub trait Sink {
         ensures same { device self.new ≡ device self.old };
 
     /// Flushes what it took.
+    ///
+    /// Condition: it has not failed.
     fn flush(&mut self) -> Result<(), DeviceFailed>
         requires going_on { failures self.old ≡ 0 }
         ensures bytes { Keeps (contents self.old) (contents self.new) }

@@ -22,8 +22,8 @@ pub trait Source {
 
     /// Reads once. No bytes are the end of the script.
     ///
-    /// It is asked at most 2^32 times, and not again once it has failed or said that nothing is
-    /// left.
+    /// Conditions: it was asked fewer than 2^32 times, has neither failed nor said that nothing is
+    /// left, and the buffer has room.
     fn read(&mut self, buffer: &mut [u8]) -> Result<usize, DeviceFailed>
         requires turn { MayBeAsked (asked self.old) }
         requires room { 0 < length buffer.old }

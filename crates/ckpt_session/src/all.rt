@@ -54,6 +54,9 @@ impl AllLine {
     }
 
     /// Has the missing subtasks of the record acknowledge, unless a file would be above 2^64 - 1.
+    ///
+    /// Conditions: the line has 1 to [`MOST_SEATS`] threads, and its record is pending and has this
+    /// metadata.
     #[tactic(auto, unfolding(crate::specs::AllLines::all_of))]
     fn acknowledge<T: Team>(
         &self,
@@ -80,6 +83,8 @@ impl AllLine {
     }
 
     /// The acknowledgements of these subtasks, in their order.
+    ///
+    /// Condition: no file is above 2^64 - 1.
     fn acks(&self, alloc: Global, missing: &[SubtaskId]) -> Result<Vec<Call>, AllocError>
         requires files { self.now.first + length missing.now ≤ 2 ^ 64 }
         ensures { IfOk result (λ acks. acks.items ≡ acks_for self.now missing.now) }
@@ -94,6 +99,8 @@ impl AllLine {
     }
 
     /// The acknowledgement of the subtask at this place.
+    ///
+    /// Condition: its file is not above 2^64 - 1.
     fn ack(&self, alloc: Global, place: u64, subtask: SubtaskId) -> Result<Call, AllocError>
         requires file { self.now.first + place < 2 ^ 64 }
         ensures { IfOk result (λ ack. ack ≡ ack_with self.now.moment self.now.id (record { subtask = subtask; file = self.now.first + place })) }

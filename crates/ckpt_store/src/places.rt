@@ -15,6 +15,8 @@ const FIRST_ROOM: usize = 4;
 
 /// Where a record with this number belongs: before the first whose number is not below it. Mostly
 /// that is the end, so the last record is checked before a binary search.
+///
+/// Condition: the numbers of the records rise.
 pub(crate) fn place_for(queue: &VecDeque<Done>, id: CheckpointId) -> usize
     requires { AreRising queue.now.items }
     ensures bound { result ≤ length queue.now.items }

@@ -9,10 +9,10 @@ use Rattle.ckpt_ids.specs.declared.ack.Metadata.{Metadata}
 use Rattle.ckpt_ids.specs.declared.subtask.SubtaskId.{SubtaskId}
 use Rattle.ckpt_ids.specs.Acknowledged.{acknowledges_before, is_before, AreInSubtaskOrder}
 use Rattle.ckpt_ids.specs.Shapes.{is_subtask, same_subtask, subtasks}
-use Rattle.ckpt_ids.proofs.CountLemmas.{count_by-all, count_by-cons, count_by-same}
+use Rattle.ckpt_ids.proofs.CountLemmas.{count_by-all, count_by_no, count_by_yes, count_by-same}
 use Rattle.ckpt_ids.proofs.OrderLemmas.{subtasks_in_order, same_subtask-Decides}
 use Rattle.ckpt_ids.proofs.OrderedLemmas.{ComesBefore-at, IsIn-from_list_any}
-use Rattle.ckpt_pending.proofs.SubtaskLemmas.{IsIn-subtasks, IsInOrder-subtasks, count_by_one_more, is_subtask-from_IsIn, one_if, same_subtask-itself, same_subtask-other}
+use Rattle.ckpt_pending.proofs.SubtaskLemmas.{IsIn-subtasks, IsInOrder-subtasks, count_by_one_more, is_subtask-from_IsIn, same_subtask-itself, same_subtask-other}
 use Rattle.ckpt_texts.specs.MetadataTexts.{missing, missing_subtasks}
 
 abbrev is_acked : List Acked → SubtaskId → Bool
@@ -39,21 +39,19 @@ acknowledged_and_missing shape [] order =
 acknowledged_and_missing shape (a ∷ acks) order =
     let rest : count_by (λ b. is_subtask shape b.subtask) acks + count_by (is_missing acks) (subtasks shape) ≡ length (subtasks shape) = acknowledged_and_missing shape acks order.1 in
     let others : (t : SubtaskId) → (t ≡ a.subtask → ⊥) → is_missing (a ∷ acks) t ≡ is_missing acks t = λ t ne. ap (λ b. not (b || is_acked acks t)) (same_subtask-other t a.subtask ne) in
-    let front = count_by-cons (λ (b : Acked). is_subtask shape b.subtask) a acks in
+    let counts : Acked → Bool = λ b. is_subtask shape b.subtask in
     ⊎_elim
     (λ (h : is_subtask shape a.subtask ≡ true).
     let was : is_missing acks a.subtask ≡ true = ap not (acked_once a acks order) in
     let is : is_missing (a ∷ acks) a.subtask ≡ false = ap (λ b. not (b || is_acked acks a.subtask)) (same_subtask-itself a.subtask) in
     let less : count_by (is_missing (a ∷ acks)) (subtasks shape) + 1 ≡ count_by (is_missing acks) (subtasks shape) =
     count_by_one_more (is_missing acks) (is_missing (a ∷ acks)) a.subtask (subtasks shape) (IsInOrder-subtasks shape) (IsIn-subtasks shape a.subtask h) was is others in
-    let more : one_if (is_subtask shape a.subtask) ≡ 1 = ap one_if h in
-    omega (arith, front))
+    omega (arith, count_by_yes counts a acks h))
     (λ (h : is_subtask shape a.subtask ≡ false).
     let same : count_by (is_missing (a ∷ acks)) (subtasks shape) ≡ count_by (is_missing acks) (subtasks shape) =
     count_by-same (is_missing (a ∷ acks)) (is_missing acks) (subtasks shape)
     (λ t there. others t (λ e. both_ways (is_subtask shape a.subtask) h (ap (is_subtask shape) (sym e) ∙ is_subtask-from_IsIn shape t there))) in
-    let no_more : one_if (is_subtask shape a.subtask) ≡ 0 = ap one_if h in
-    omega (arith, front))
+    omega (arith, count_by_no counts a acks h))
     (cases_Bool (is_subtask shape a.subtask))
 
 pub missing-counted : (m : Metadata) → AreInSubtaskOrder m.acks → count_by (λ a. is_subtask m.shape a.subtask) m.acks + missing m ≡ length (subtasks m.shape)

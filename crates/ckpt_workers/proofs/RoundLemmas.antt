@@ -5,14 +5,14 @@ use Rattle.std.proofs.lemmas.Option.{get_or_from_slice_get, slice_get_within}
 use Rattle.std.proofs.lemmas.List.{drop_more}
 use Rattle.std.proofs.lemmas.List.{map-append}
 use Rattle.std.proofs.lemmas.List.Elements.{filter-append}
-use Rattle.std.proofs.lemmas.List.Sums.{sum_by-cons}
-use Rattle.ckpt_ids.proofs.CountLemmas.{count_by-append}
+use Rattle.ckpt_ids.proofs.CountLemmas.{count_by_push}
 use Rattle.ckpt_ids.specs.declared.reply.Answer.{Answer}
 use Rattle.ckpt_locked.specs.Locks.{Hand, Made}
 use Rattle.ckpt_workers.specs.declared.discard.Round.{Round}
 use Rattle.ckpt_workers.specs.Shifts.{Exchange}
 use Rattle.ckpt_workers.specs.Rounds.{Fate, IsDiscarded, IsReported, IsTried, Stored, deleted_in, gone_in, report_of}
 use Rattle.ckpt_workers.proofs.ShiftLemmas.{IsShift-none, IsShift-push}
+use Rattle.ckpt_workers.proofs.TallyLemmas.{opposite}
 
 some_left : (left rest : List ℕ) (file : ℕ) → left ≡ file ∷ rest → left ≢ []
 some_left left rest file is none = let n : suc (length rest) ≡ 0 = ap length (sym is ∙ none) in omega arith
@@ -98,9 +98,6 @@ IsReported-stop files rest file first deleted before mid after old hand was is h
       gone_left = λ _. some_left is.left rest file is_left;
     }
 
-count_push : (p : Fate → Bool) (fates : List Fate) (f : Fate) → count_by p (fates ++ f ∷ []) ≡ count_by p fates + cond (p f) 1 0
-count_push p fates f = omega (arith, count_by-append p fates (f ∷ []), sum_by-cons (λ x. cond (p x) 1 0) f [])
-
 deleted_push : (fates : List Fate) (file : ℕ) (rest : List ℕ) (deleted : Bool)
     → deleted_in fates ++ gone_in deleted (file ∷ rest) ≡ deleted_in (fates ++ record { file = file; deleted = deleted } ∷ []) ++ []
 deleted_push fates file rest deleted =
@@ -115,10 +112,6 @@ deleted_push fates file rest deleted =
     by_value : (d : Bool) → map (λ (x : Fate). x.file) (cond d (record { file = file; deleted = d } ∷ []) []) ≡ gone_in d (file ∷ rest)
     by_value true = refl
     by_value false = refl
-
-opposite : (b : Bool) → ◌≡◌ {A = ℕ} (cond (not b) 1 0) (cond b 0 1)
-opposite true = refl
-opposite false = refl
 
 -- a try that was reported
 pub IsReported-next : (files rest : List ℕ) (file : ℕ) (first deleted : Bool) (before mid after : Stored) (old hand new : Hand) (was is : Round) (answer : Answer)
@@ -156,8 +149,8 @@ IsReported-next files rest file first deleted before mid after old hand new was 
           ∙ deleted_push h.fates file rest deleted
           ∙ ap (λ g. deleted_in (h.fates ++ f ∷ []) ++ gone_in g is.left) (sym is_gone);
       taken_is = is_taken ∙ h.taken_is;
-      deleted_is = omega (arith, count_push (λ (x : Fate). x.deleted) h.fates f);
-      failed_is = omega (arith, count_push (λ (x : Fate). not x.deleted) h.fates f, opposite deleted);
+      deleted_is = omega (arith, count_by_push (λ (x : Fate). x.deleted) h.fates f);
+      failed_is = omega (arith, count_by_push (λ (x : Fate). not x.deleted) h.fates f, opposite deleted);
       failures = omega arith;
       memory_left = λ e. absurd (never is.memory memory e);
       gone_left = λ e. absurd (never is.gone is_gone e);

@@ -1,10 +1,10 @@
 -- The work of a team, call by call.
-use Rattle.std.proofs.Common.{◌≡◌, ℕ, ◌+◌, ◌%◌, ◌<◌, Bool, true, false, cond, eqb, List, [], ◌∷◌, ◌++◌, length, refl, sym, ap, ◌∙◌, arith, append_assoc, append-nil, length-append}
+use Rattle.std.proofs.Common.{◌≡◌, ℕ, ◌+◌, ◌%◌, ◌<◌, cond, eqb, List, [], ◌∷◌, ◌++◌, length, refl, sym, ap, ◌∙◌, arith, append_assoc, append-nil, length-append}
 use Rattle.std.specs.Prelude.{not, count_by, Option, Some, None}
 use Rattle.std.specs.Option.{option_or}
 use Rattle.std.proofs.lemmas.List.{map-append}
-use Rattle.std.proofs.lemmas.List.Sums.{sum_by-cons}
-use Rattle.ckpt_ids.proofs.CountLemmas.{count_by-append}
+use Rattle.ckpt_ids.specs.Counting.{one_if}
+use Rattle.ckpt_ids.proofs.CountLemmas.{count_by_push}
 use Rattle.ckpt_ids.specs.declared.call.Call.{Call}
 use Rattle.ckpt_ids.specs.declared.reply.Answer.{Answer}
 use Rattle.ckpt_locked.specs.declared.book.Entry.{Entry}
@@ -16,22 +16,13 @@ use Rattle.ckpt_workers.specs.Teams.{IsOneMore, IsTally, IsTeamwork, dealt_to, i
 use Rattle.ckpt_core.specs.Interleavings.{completed_by, first_completed}
 use Rattle.ckpt_workers.proofs.Dealing.{dealt_to-push, in_turn}
 use Rattle.ckpt_workers.proofs.SeatLemmas.{after, after-nil, after-append, answers_by-append, calls_by-append}
+use Rattle.ckpt_workers.proofs.TallyLemmas.{opposite}
 
 -- new is old with one more answer
 pub record IsCounted (old new : Made) (answer : Answer) : Type 0 where
-  pub accepted : new.accepted ≡ old.accepted + cond (is_accepted answer) 1 0
+  pub accepted : new.accepted ≡ old.accepted + one_if (is_accepted answer)
   pub refused : new.refused ≡ old.refused + cond (is_accepted answer) 0 1
   pub completed : new.completed ≡ option_or old.completed (completed_by answer)
-
-one_accepted : (a : Answer) → count_by is_accepted (a ∷ []) ≡ cond (is_accepted a) 1 0
-one_accepted a = omega (arith, sum_by-cons (λ x. cond (is_accepted x) 1 0) a [])
-
-one_refused : (a : Answer) → count_by (λ x. not (is_accepted x)) (a ∷ []) ≡ cond (is_accepted a) 0 1
-one_refused a = by_test (is_accepted a) (sum_by-cons (λ x. cond (not (is_accepted x)) 1 0) a [])
-  where
-    by_test : (b : Bool) → count_by (λ x. not (is_accepted x)) (a ∷ []) ≡ cond (not b) 1 0 + 0 → count_by (λ x. not (is_accepted x)) (a ∷ []) ≡ cond b 0 1
-    by_test true e = omega (arith, e)
-    by_test false e = omega (arith, e)
 
 option_or-none : {X : Type 0} (a : Option X) → option_or a None ≡ a
 option_or-none None = refl
@@ -49,8 +40,8 @@ first_completed-push (x ∷ xs) a =
 -- one more answer at the end
 pub IsTally-push : (old new : Made) (answers : List Answer) (a : Answer) → IsTally old answers → IsCounted old new a → IsTally new (answers ++ a ∷ [])
 IsTally-push old new answers a tally counted = record {
-  accepted = let was : old.accepted ≡ count_by is_accepted answers = tally.accepted in let is : new.accepted ≡ old.accepted + cond (is_accepted a) 1 0 = counted.accepted in omega (arith, count_by-append is_accepted answers (a ∷ []), one_accepted a);
-  refused = let was : old.refused ≡ count_by (λ x. not (is_accepted x)) answers = tally.refused in let is : new.refused ≡ old.refused + cond (is_accepted a) 0 1 = counted.refused in omega (arith, count_by-append (λ x. not (is_accepted x)) answers (a ∷ []), one_refused a);
+  accepted = let was : old.accepted ≡ count_by is_accepted answers = tally.accepted in let is : new.accepted ≡ old.accepted + one_if (is_accepted a) = counted.accepted in omega (arith, count_by_push is_accepted answers a);
+  refused = let was : old.refused ≡ count_by (λ x. not (is_accepted x)) answers = tally.refused in let is : new.refused ≡ old.refused + cond (is_accepted a) 0 1 = counted.refused in omega (arith, count_by_push (λ x. not (is_accepted x)) answers a, opposite (is_accepted a));
   completed = counted.completed ∙ ap (λ o. option_or o (completed_by a)) tally.completed ∙ sym (first_completed-push answers a);
 }
 

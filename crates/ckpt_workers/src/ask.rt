@@ -8,6 +8,8 @@ use ckpt_locked::Pass;
 use std::sync::Wait;
 
 /// Makes a call, and returns no answer if it ran out of memory.
+///
+/// Condition: the pass is of the gate's lock.
 pub(crate) fn ask<R: Wait, G: Gate>(
     rt: &R,
     gate: &G,

@@ -34,6 +34,8 @@ pub struct Round {
 ///
 /// A report is `Deleted` if storage deleted the file, and `Undeleted` if it failed. The first call
 /// that runs out of memory ends the round. [`resume_round`] goes on with the files that are left.
+///
+/// Condition: the pass is of the gate's lock.
 pub fn discard_round<R: Wait, G: Gate, S: Storage>(
     rt: &R,
     alloc: Global,
@@ -58,6 +60,8 @@ pub fn discard_round<R: Wait, G: Gate, S: Storage>(
 /// It takes no more files. If storage has deleted the first file of `left` already, that file is
 /// reported as `Deleted` and not deleted again. The other files are handled as in
 /// [`discard_round`].
+///
+/// Conditions: the pass is of the gate's lock, and if `gone` is set, there is a first file.
 pub fn resume_round<R: Wait, G: Gate, S: Storage>(
     rt: &R,
     gate: &G,
@@ -75,6 +79,8 @@ pub fn resume_round<R: Wait, G: Gate, S: Storage>(
 }
 
 /// Deletes and reports each of the files. The first one may be gone already.
+///
+/// Conditions: the pass is of the gate's lock, and if `gone` is set, there is a first file.
 fn report_each<R: Wait, G: Gate, S: Storage>(
     rt: &R,
     gate: &G,
@@ -115,6 +121,7 @@ struct Counts {
 }
 
 impl Counts {
+    /// Condition: both counts are below 2^64 - 1.
     fn add(&mut self, deleted: bool)
         requires deleted { self.old.deleted + 1 < 2 ^ 64 }
         requires failed { self.old.failed + 1 < 2 ^ 64 }
@@ -143,6 +150,8 @@ impl Counts {
 }
 
 /// The file at this place.
+///
+/// Condition: there is one.
 fn file_at(files: &Handed, place: usize) -> FileId
     requires { place < length files.now }
     ensures { slice_get files.now place ≡ Some result }
@@ -161,6 +170,8 @@ fn try_delete<S: Storage>(storage: &mut S, file: FileId, gone: bool) -> bool
 }
 
 /// Reports the file, and returns whether the report was answered.
+///
+/// Condition: the pass is of the gate's lock.
 fn report<R: Wait, G: Gate>(
     rt: &R,
     gate: &G,

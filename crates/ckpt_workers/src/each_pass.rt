@@ -13,7 +13,9 @@ pub trait Work<T> {
     /// The lock whose passes it takes.
     ghost lock: { Self → Lock };
 
-    /// Works with a pass of the lock, and returns it. May wait.
+    /// Works with a pass, and returns it. May wait.
+    ///
+    /// Condition: the pass is of the lock.
     fn work<R: Wait>(&self, rt: &R, pass: Pass) -> (Pass, T)
         requires pass { pass.lock ≡ lock self.now }
         ensures pass { result.0.lock ≡ lock self.now };
@@ -23,6 +25,8 @@ pub trait Work<T> {
 ///
 /// If a thread can't be started, its work is done in turn with that of others. Then work that waits
 /// for other work may wait forever. Fails only if memory runs out, and then the passes are lost.
+///
+/// Condition: the passes are of the lock of the work.
 pub fn work_on_each<R: Threads + Wait + Sync, T: Send + Drop, W: Work<T> + Sync>(
     rt: &R,
     work: &W,

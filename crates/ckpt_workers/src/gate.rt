@@ -11,9 +11,11 @@ pub trait Gate {
     /// The lock behind the gate.
     ghost lock: { Self → Lock };
 
-    /// Makes a call with a pass of the gate's lock, as [`Locked::call`] does. May wait.
+    /// Makes a call with a pass, as [`Locked::call`] does. May wait.
     ///
     /// Fails only if memory runs out. Then the caller gets the pass and the call back unchanged.
+    ///
+    /// Condition: the pass is of the gate's lock.
     fn call<R: Wait>(&self, rt: &R, pass: Pass, call: Call) -> Result<(Pass, Answer), (Pass, Call)>
         requires pass { pass.lock ≡ lock self.now }
         ensures made { IfOk result (λ done. Made pass call done.0 done.1) }

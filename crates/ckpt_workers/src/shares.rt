@@ -33,6 +33,8 @@ pub struct Report {
 /// Shares for which no thread can be started are made in turn. Then calls that wait for each other
 /// at a gate may wait forever. Fails only if memory runs out, even in a call, and then the passes
 /// are lost.
+///
+/// Condition: the passes of the shares are of the gate's lock.
 pub fn spread<R: Threads + Wait + Sync, G: Gate + Sync>(
     rt: &R,
     alloc: Global,
@@ -48,6 +50,8 @@ pub fn spread<R: Threads + Wait + Sync, G: Gate + Sync>(
 }
 
 /// The result of each share. Each share has a thread of its own.
+///
+/// Condition: the passes of the shares are of the gate's lock.
 fn work_on_all<R: Threads + Wait + Sync, G: Gate + Sync>(
     rt: &R,
     alloc: Global,
@@ -69,6 +73,8 @@ fn work_on_all<R: Threads + Wait + Sync, G: Gate + Sync>(
 }
 
 /// Makes the calls of one share, in order.
+///
+/// Condition: the pass of the share is of the gate's lock.
 fn work<R: Wait, G: Gate>(
     rt: &R,
     alloc: Global,

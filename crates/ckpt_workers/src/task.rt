@@ -57,6 +57,8 @@ impl Tally {
 ///
 /// An acknowledgement that runs out of memory is counted and not tried again. No clause says which
 /// orders come.
+///
+/// Condition: the pass is of the gate's lock.
 pub fn task_worker<R: Wait, G: Gate>(
     rt: &R,
     gate: &G,

@@ -28,8 +28,9 @@ pub trait Team {
     /// Makes each call of the list on the book: the call at place i with seat i modulo the number
     /// of threads, each seat's calls in the order of the list.
     ///
-    /// There are 1 to [`MOST_SEATS`] threads. Fails only if memory runs out, and then the book is
-    /// lost.
+    /// Fails only if memory runs out, and then the book is lost.
+    ///
+    /// Condition: there are 1 to [`MOST_SEATS`] threads.
     fn make(&mut self, book: Book, calls: Vec<Call>, threads: u32) -> Result<Made, AllocError>
         requires threads { (0 < threads) × (threads ≤ MOST_SEATS) }
         ensures made { IfOk result (λ made. IsTeamwork book calls.items threads made) };
@@ -53,6 +54,8 @@ impl Made {
     }
 
     /// Makes one more call, and counts its answer. Fails only if memory runs out.
+    ///
+    /// Condition: both counts are below 2^64 - 1.
     pub(crate) fn enter(&mut self, seat: u32, call: Call) -> Result<(), AllocError>
         requires accepted { self.old.accepted + 1 < 2 ^ 64 }
         requires refused { self.old.refused + 1 < 2 ^ 64 }
@@ -68,6 +71,8 @@ impl Made {
     }
 
     /// Counts one more answer.
+    ///
+    /// Condition: both counts are below 2^64 - 1.
     pub(crate) fn count(&mut self, answer: &Answer)
         requires accepted { self.old.accepted + 1 < 2 ^ 64 }
         requires refused { self.old.refused + 1 < 2 ^ 64 }
@@ -95,6 +100,7 @@ fn completed_by(answer: &Answer) -> Option<(u32, u64)>
 }
 
 impl Team for InOrder {
+    /// Condition: there are 1 to [`MOST_SEATS`] threads.
     fn make(&mut self, book: Book, calls: Vec<Call>, threads: u32) -> Result<Made, AllocError>
         requires threads { (0 < threads) × (threads ≤ MOST_SEATS) }
         ensures made { IfOk result (λ made. IsTeamwork book calls.items threads made) }

@@ -56,7 +56,9 @@ impl<R: thread::Threads + Wait + Sync> Team for Threads<R> {
     }
 }
 
-/// A lock over the book with 1 to [`MOST_SEATS`] seats. Fails only if memory runs out.
+/// A lock over the book with this many seats. Fails only if memory runs out.
+///
+/// Condition: there are 1 to [`MOST_SEATS`] seats.
 fn lock_over<R: Wait>(rt: &R, book: Book, seats: u32) -> Result<(Locked, Vec<Pass>), AllocError>
     requires seats { (0 < seats) × (seats ≤ MOST_SEATS) }
     ensures lock { IfOk result (λ made. made.0 ≡ lock_of book seats made.0.table_id) }
@@ -91,6 +93,8 @@ fn give(share: &mut Share, call: Call) -> Result<(), AllocError>
 }
 
 /// A share for each pass. The calls are dealt out to them in turn.
+///
+/// Condition: there is a pass.
 fn deal(alloc: Global, calls: Vec<Call>, passes: Vec<Pass>) -> Result<Vec<Share>, AllocError>
     requires some { 0 < length passes.items }
     ensures passes { IfOk result (λ shares. map (λ s. s.pass) shares.items ≡ passes.items) }
@@ -121,6 +125,8 @@ fn parted(alloc: Global, reports: Vec<Report>) -> Result<(Vec<Pass>, Vec<Vec<Ans
 }
 
 /// Counts the answers of all seats in the order of the calls.
+///
+/// Conditions: there is a seat, and each has as many answers as it had calls.
 fn counted(book: Book, answers: &[Vec<Answer>], count: usize) -> Made
     requires some { 0 < length answers.now }
     requires dealt { IsDealOf (map (λ a. a.items) answers.now) count }

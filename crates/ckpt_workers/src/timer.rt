@@ -52,6 +52,8 @@ impl TimerTally {
 /// Makes a `Tick` at each moment that `moments` returns, in order, until it returns none.
 ///
 /// A tick that runs out of memory is counted. Then the worker waits for the next moment.
+///
+/// Condition: the pass is of the gate's lock.
 pub fn timer_worker<R: Wait, G: Gate, M: Moments>(
     rt: &R,
     gate: &G,

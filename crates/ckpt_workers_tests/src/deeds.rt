@@ -15,6 +15,8 @@ use std::sync::Wait;
 use std::test::Fail;
 
 /// Ticks at each of the moments.
+///
+/// Condition: the pass is of the gate's lock.
 fn ticked<R: Wait, G: Gate>(rt: &R, gate: &G, pass: Pass, moments: &[u64]) -> (Pass, TimerTally)
     requires { pass.lock ≡ G.lock gate.now }
     ensures { result.0.lock ≡ G.lock gate.now }
@@ -23,6 +25,8 @@ fn ticked<R: Wait, G: Gate>(rt: &R, gate: &G, pass: Pass, moments: &[u64]) -> (P
 }
 
 /// A timer with these moments has this many ticks, refused ones and unanswered ones.
+///
+/// Condition: the pass is of the gate's lock.
 pub(crate) fn ticks<R: Abort + Wait, G: Gate>(
     rt: &R,
     gate: &G,
@@ -39,6 +43,8 @@ pub(crate) fn ticks<R: Abort + Wait, G: Gate>(
 }
 
 /// Makes the acknowledgements of the orders.
+///
+/// Condition: the pass is of the gate's lock.
 fn tasked<R: Wait, G: Gate>(rt: &R, gate: &G, pass: Pass, orders: Receiver<Order>) -> (Pass, Tally)
     requires { pass.lock ≡ G.lock gate.now }
     ensures { result.0.lock ≡ G.lock gate.now }
@@ -47,6 +53,8 @@ fn tasked<R: Wait, G: Gate>(rt: &R, gate: &G, pass: Pass, orders: Receiver<Order
 }
 
 /// A task with these orders has this many accepted, late, refused and unanswered ones.
+///
+/// Condition: the pass is of the gate's lock.
 pub(crate) fn tasks<R: Abort + Wait, G: Gate>(
     rt: &R,
     alloc: Global,
@@ -65,6 +73,8 @@ pub(crate) fn tasks<R: Abort + Wait, G: Gate>(
 }
 
 /// A round of a discarder that can be resumed.
+///
+/// Condition: the pass is of the gate's lock.
 pub(crate) fn round_of<R: Wait, G: Gate, S: Storage>(
     rt: &R,
     alloc: Global,
@@ -80,6 +90,8 @@ pub(crate) fn round_of<R: Wait, G: Gate, S: Storage>(
 }
 
 /// The rest of a round whose first file may be deleted already.
+///
+/// Conditions: the pass is of the gate's lock, and if `gone` is set, there is a first file.
 pub(crate) fn rest_of<R: Wait, G: Gate, S: Storage>(
     rt: &R,
     gate: &G,
@@ -101,6 +113,8 @@ fn is_whole(round: &Round) -> bool {
 }
 
 /// A round of a discarder takes, deletes and fails to delete this many files, and leaves none.
+///
+/// Condition: the pass is of the gate's lock.
 pub(crate) fn discards<R: Abort + Wait, G: Gate, S: Storage>(
     rt: &R,
     alloc: Global,
@@ -119,6 +133,8 @@ pub(crate) fn discards<R: Abort + Wait, G: Gate, S: Storage>(
 }
 
 /// The answer to a call.
+///
+/// Condition: the pass is of the gate's lock.
 pub(crate) fn told<R: Wait, G: Gate>(
     rt: &R,
     gate: &G,

@@ -37,6 +37,8 @@ pub(crate) fn three<R: Wait>(rt: &R, book: Book) -> Result<(Locked, Pass, Pass, 
 }
 
 /// Closes the lock with all its passes, and returns the book.
+///
+/// Condition: the passes are of the lock.
 pub(crate) fn closed<R: Wait>(rt: &R, lock: Locked, passes: Vec<Pass>) -> Result<Book, Fail>
     requires { All (λ p. p.lock ≡ lock) passes.items }
 {
@@ -47,6 +49,8 @@ pub(crate) fn closed<R: Wait>(rt: &R, lock: Locked, passes: Vec<Pass>) -> Result
 }
 
 /// Closes a lock of two passes, and returns the book.
+///
+/// Condition: the passes are of the lock.
 pub(crate) fn closed_with<R: Wait>(
     rt: &R,
     alloc: Global,

@@ -35,6 +35,8 @@ fn tell<R: Wait>(rt: &R, orders: Vec<(Sender<Order>, Order)>) {
 }
 
 /// Triggers a checkpoint at the moment 2000, and tells each task of it.
+///
+/// Condition: the pass is of the lock.
 fn trigger<R: Wait>(rt: &R, lock: &Locked, timer: Timer) -> Pass
     requires { timer.pass.lock ≡ lock.now }
     ensures { result.lock ≡ lock.now }
@@ -45,6 +47,8 @@ fn trigger<R: Wait>(rt: &R, lock: &Locked, timer: Timer) -> Pass
 }
 
 /// Makes the acknowledgements of the task's orders, until its channel is closed.
+///
+/// Condition: the pass is of the lock.
 fn acknowledge<R: Wait>(rt: &R, lock: &Locked, task: Task) -> Pass
     requires { task.pass.lock ≡ lock.now }
     ensures { result.lock ≡ lock.now }
@@ -54,6 +58,8 @@ fn acknowledge<R: Wait>(rt: &R, lock: &Locked, task: Task) -> Pass
 }
 
 /// Runs each task in a thread of its own.
+///
+/// Condition: the passes are of the lock.
 fn two_tasks<R: Threads + Wait + Sync>(
     rt: &R,
     lock: &Locked,
@@ -79,6 +85,8 @@ fn two_tasks<R: Threads + Wait + Sync>(
 }
 
 /// Runs the tasks beside the timer. If no thread can be started, the timer runs first.
+///
+/// Condition: the passes are of the lock.
 fn all_three<R: Threads + Wait + Sync>(
     rt: &R,
     lock: &Locked,
@@ -107,6 +115,8 @@ fn all_three<R: Threads + Wait + Sync>(
 }
 
 /// Deletes files that no record uses any more.
+///
+/// Condition: the pass is of the lock.
 fn discard<R: Wait, S: Storage>(
     rt: &R,
     alloc: Global,
@@ -152,6 +162,8 @@ fn open_timer(
 }
 
 /// Takes checkpoint 2, deletes the files that only checkpoint 1 used, and returns all passes.
+///
+/// Condition: the passes are of the lock.
 fn take_checkpoint_two<R: Threads + Wait + Sync, S: Storage>(
     rt: &R,
     alloc: Global,

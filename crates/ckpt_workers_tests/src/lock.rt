@@ -22,6 +22,8 @@ fn refuse<R: Wait>(rt: &R, book: Book, seats: u32) -> Result<Book, Fail> {
 }
 
 /// Tries to close a lock of two seats with one pass, and returns both.
+///
+/// Condition: the pass is of the lock.
 fn close_with_one<R: Wait>(
     rt: &R,
     alloc: Global,
@@ -48,6 +50,8 @@ fn has(pass: &Pass, seat: u32, calls: u64) -> bool {
 }
 
 /// Shows checkpoint 1.
+///
+/// Condition: the pass is of the lock.
 fn show<R: Wait>(rt: &R, lock: &Locked, pass: Pass) -> Result<Pass, Fail>
     requires { pass.lock ≡ lock.now }
     ensures { IfOk result (λ pass. pass.lock ≡ lock.now) }

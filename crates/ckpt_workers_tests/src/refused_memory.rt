@@ -25,6 +25,8 @@ fn lock_with_three_files<R: Wait>(rt: &R, alloc: Global) -> Result<(Locked, Pass
 
 /// A round of the discarder, which is resumed if it ran out of memory. Returns the number of files
 /// taken.
+///
+/// Condition: the pass is of the lock.
 fn clean<R: Wait + Abort, S: Storage>(
     rt: &R,
     alloc: Global,

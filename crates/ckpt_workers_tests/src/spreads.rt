@@ -21,6 +21,8 @@ fn pair(alloc: Global, first: Share, second: Share) -> Result<Vec<Share>, AllocE
 }
 
 /// Makes the calls of two shares over the gate, each in a thread of its own.
+///
+/// Condition: the passes are of the gate's lock.
 fn spread_two<R: Threads + Wait + Sync, G: Gate + Sync>(
     rt: &R,
     alloc: Global,
@@ -37,6 +39,8 @@ fn spread_two<R: Threads + Wait + Sync, G: Gate + Sync>(
 }
 
 /// The same over a lock.
+///
+/// Condition: the passes are of the lock.
 fn over_lock<R: Threads + Wait + Sync>(
     rt: &R,
     alloc: Global,
@@ -52,6 +56,8 @@ fn over_lock<R: Threads + Wait + Sync>(
 }
 
 /// The same over a gate at which the two calls wait for each other.
+///
+/// Condition: the passes are of the gate's lock.
 fn over_meeting<R: Threads + Wait + Sync>(
     rt: &R,
     alloc: Global,

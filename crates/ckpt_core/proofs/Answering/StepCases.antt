@@ -1,7 +1,9 @@
 -- A step is a refusal, or the effect of the call.
-use Rattle.std.proofs.Common.{◌≡◌, refl, ap, Option, Some, None}
+use Rattle.std.proofs.Common.{◌≡◌, Bool, true, false, refl, ap, Option, Some, None}
+use Rattle.std.proofs.lemmas.Bool.{both_ways}
 use Rattle.ckpt_ids.specs.declared.call.Call.{Call}
 use Rattle.ckpt_ids.specs.declared.reply.Refusal.{Refusal}
+use Rattle.ckpt_ids.specs.declared.reply.Answer.{Answer}
 use Rattle.ckpt_ids.specs.declared.reply.Answer.TheVariants.{Refused}
 use Rattle.ckpt_core.specs.State.{State}
 use Rattle.ckpt_core.specs.Refusals.{refusal, moment_of}
@@ -23,3 +25,7 @@ step_by m call P refused accepted = by_refusal (refusal m call) refl
     by_refusal : (o : Option Refusal) → refusal m call ≡ o → P (unless_refused m call o)
     by_refusal None e = accepted e
     by_refusal (Some why) e = refused why e
+
+-- a call is not refused if its answer passes a test that no refusal passes
+pub not_refused-from_answer : (passes : Answer → Bool) → ((why : Refusal) → passes (Refused why) ≡ false) → (m : State) (call : Call) → passes (step m call).1 ≡ true → refusal m call ≡ None
+not_refused-from_answer passes fails m call = step_by m call (λ x. passes x.1 ≡ true → refusal m call ≡ None) (λ why _ h. absurd (both_ways (passes (Refused why)) (fails why) h)) (λ accepted _. accepted)

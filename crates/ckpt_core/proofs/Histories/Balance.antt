@@ -10,13 +10,13 @@ use Rattle.ckpt_core.specs.State.{State, Opening, opened}
 use Rattle.ckpt_core.specs.Steps.{step}
 use Rattle.ckpt_core.specs.Histories.{replay}
 use Rattle.ckpt_core.specs.Soundness.{IsSound}
-use Rattle.ckpt_core.specs.Laws.{CanOpen, AreCalls, along, one_if, registered_by, handed_by, deleted_by, new_by, ShareNone, NoneAgain, Balance, Handed, Accounted, UsedNoMore, Outbox}
+use Rattle.ckpt_core.specs.Laws.{CanOpen, AreCalls, along, registered_by, handed_by, deleted_by, new_by, ShareNone, NoneAgain, Balance, Handed, Accounted, UsedNoMore, Outbox}
 use Rattle.ckpt_core.proofs.Records.Lists.{outbox_of}
 use Rattle.ckpt_core.proofs.Histories.Balances.{times_none}
 use Rattle.ckpt_core.proofs.Histories.StepBalances.{step_settled, newly_present}
 use Rattle.ckpt_core.proofs.Soundness.Calls.{step_keeps}
 use Rattle.ckpt_core.proofs.Soundness.Histories.{opening_is_sound, replay_is_sound}
-use Rattle.ckpt_ids.specs.Counting.{times}
+use Rattle.ckpt_ids.specs.Counting.{one_if, times}
 use Rattle.ckpt_ids.proofs.CountLemmas.{times-from_IsIn, IsIn-from_times, times-append, times_at_most_once}
 
 -- from any sound state on

@@ -3,11 +3,10 @@ use Rattle.std.proofs.Common.{◌≡◌, ℕ, zero, suc, ◌+◌, ◌<◌, ◌�
 use Rattle.std.proofs.lemmas.Bool.{cases_Bool, cases_lt, both_ways}
 use Rattle.ckpt_ids.specs.Ordered.{IsIn, AreDistinct}
 use Rattle.ckpt_ids.specs.Records.{Record, uses, is_present, released}
-use Rattle.ckpt_core.specs.Laws.{one_if}
 use Rattle.ckpt_ids.proofs.CountLemmas.{IsIn-from_times, times-from_IsIn, times_at_most_once}
 use Rattle.ckpt_core.proofs.Using.Present.{IsHeld, IsHeld-from_present, present-from_IsHeld, not_held, absent-from_not_held}
 use Rattle.ckpt_core.proofs.Ending.Released.{ascending-released, after-from_released, held-from_released, released-from_held}
-use Rattle.ckpt_ids.specs.Counting.{times}
+use Rattle.ckpt_ids.specs.Counting.{one_if, times}
 use Rattle.ckpt_ids.proofs.OrderedLemmas.{AreDistinct-from_order}
 use Rattle.ckpt_ids.proofs.AscendingLemmas.{numbers_in_order}
 

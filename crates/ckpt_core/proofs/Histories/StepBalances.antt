@@ -9,11 +9,11 @@ use Rattle.ckpt_ids.specs.Records.{uses, is_present}
 use Rattle.ckpt_core.specs.State.{State, is_known}
 use Rattle.ckpt_core.specs.Steps.{step}
 use Rattle.ckpt_core.specs.Soundness.{IsSound}
-use Rattle.ckpt_core.specs.Laws.{is_ack_taken, one_if, registered_by, handed_by, deleted_by, new_by}
+use Rattle.ckpt_core.specs.Laws.{is_ack_taken, registered_by, handed_by, deleted_by, new_by}
 use Rattle.ckpt_core.proofs.Stepping.Changes.{IsPassedOver, IsTakenBy}
 use Rattle.ckpt_core.proofs.Stepping.Files.{IsSettled}
 use Rattle.ckpt_core.proofs.Stepping.Walk.{registered_taken, step_is}
-use Rattle.ckpt_ids.specs.Counting.{times}
+use Rattle.ckpt_ids.specs.Counting.{one_if, times}
 use Rattle.ckpt_ids.proofs.CountLemmas.{IsIn-from_times}
 
 -- each call: by computation it registers, hands out and deletes what the laws say

@@ -1,23 +1,17 @@
 -- A state that a coordinator can be in is one too with the fetched files in ascending order.
-use Rattle.std.proofs.Common.{ℕ, ◌≤◌, Bool, true, false, cond, ltb, List, ap, ⊎_elim, arith}
+use Rattle.std.proofs.Common.{ℕ, ltb, List, ap, ⊎_elim, arith}
 use Rattle.ckpt_ids.specs.Ascending.{ascending}
 use Rattle.ckpt_ids.specs.Ordered.{IsIn, AreDistinct}
 use Rattle.ckpt_ids.proofs.AscendingLemmas.{IsAscending-ascending, ascending_already, times-ascending}
-use Rattle.ckpt_ids.proofs.CountLemmas.{AreDistinct-from_times}
+use Rattle.ckpt_ids.proofs.CountLemmas.{AreDistinct-from_times, times_at_most_once}
 use Rattle.ckpt_ids.proofs.OrderedLemmas.{AreDistinct-append, AreDistinct-apart, AreDistinct-left, AreDistinct-right, IsIn-append_left, IsIn-append_right, IsIn-append_cases, IsIn-from_in_order}
-use Rattle.ckpt_outbox.specs.Queues.{is_in}
-use Rattle.ckpt_outbox.proofs.TakenLemmas.{times-distinct}
 use Rattle.ckpt_core.specs.State.{State}
 use Rattle.ckpt_core.specs.Images.{AreAlike, CanHold, settled}
 use Rattle.ckpt_core.proofs.Records.Lists.{IsSoundOutbox, outbox_of}
 use Rattle.ckpt_core.proofs.Soundness.Outbox.{outbox_is_sound}
 
-at_most_one : (b : Bool) → cond b 1 0 ≤ 1
-at_most_one true = omega arith
-at_most_one false = omega arith
-
 distinct_ascending : (xs : List ℕ) → AreDistinct xs → AreDistinct (ascending xs)
-distinct_ascending xs d = AreDistinct-from_times (ascending xs) (λ f. omega (arith, times-ascending f xs, times-distinct f xs d, at_most_one (is_in f xs)))
+distinct_ascending xs d = AreDistinct-from_times (ascending xs) (λ f. omega (arith, times-ascending f xs, times_at_most_once f xs d))
 
 pub settled_can_hold : (m : State) → CanHold m → CanHold (settled m)
 settled_can_hold m h =

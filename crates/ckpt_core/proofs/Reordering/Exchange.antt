@@ -1,10 +1,9 @@
 -- The law of exchange: two acknowledgements of one record go in either order.
-use Rattle.std.proofs.Common.{◌≡◌, ℕ, ◌+◌, max, Bool, true, false, not, ◌&&◌, ◌||◌, cond, eqb, List, ◌++◌, refl, sym, ap, subst, ◌∙◌, ⊎_elim, arith}
+use Rattle.std.proofs.Common.{◌≡◌, ℕ, ◌+◌, max, true, false, not, ◌&&◌, ◌||◌, cond, eqb, List, ◌++◌, refl, sym, ap, subst, ◌∙◌, ⊎_elim, arith}
 use Rattle.std.specs.Prelude.{Option, Some, None}
-use Rattle.std.proofs.lemmas.Bool.{cases_Bool, both_ways, not-true, not-false, not_from_true, and_parts, or_parts, or_from, cond-false}
+use Rattle.std.proofs.lemmas.Bool.{both_ways, not-true, not-false, not_from_true, and_parts, or_parts, or_from, cond_both, cond-false}
 use Rattle.ckpt_ids.specs.declared.ack.Acked.{Acked}
 use Rattle.ckpt_ids.specs.declared.call.Call.{Call}
-use Rattle.ckpt_ids.specs.declared.reply.Refusal.{Refusal}
 use Rattle.ckpt_ids.specs.declared.reply.Reply.TheVariants as reply
 use Rattle.ckpt_ids.specs.declared.reply.Answer.TheVariants.{Done}
 use Rattle.ckpt_ids.specs.Ordered.{IsIn}
@@ -15,23 +14,22 @@ use Rattle.ckpt_ids.proofs.OrderedLemmas.{IsIn-append_left, list_any-none}
 use Rattle.ckpt_ids.proofs.PlaceLemmas.{find-none}
 use Rattle.ckpt_core.specs.State.{State, is_pending, is_known, in_outbox}
 use Rattle.ckpt_core.specs.Refusals.{refusal, pending_of}
-use Rattle.ckpt_core.specs.Steps.{Stepped, replaced, with_records, completed_with, acknowledged_in, ack, effect, unless_refused, step}
+use Rattle.ckpt_core.specs.Steps.{Stepped, replaced, with_records, completed_with, acknowledged_in, ack, effect, step}
 use Rattle.ckpt_core.specs.Soundness.{IsSound}
 use Rattle.ckpt_core.specs.Laws.{is_ack_pending, is_ack_taken, ShareNone, Part, ack_of, Exchange}
 use Rattle.ckpt_core.proofs.Records.Counts.{IsIn-from_find, fails-from_find}
 use Rattle.ckpt_core.proofs.Using.Present.{IsHeld, IsHeld-from_present, present-from_IsHeld, not_held, absent-from_not_held}
+use Rattle.ckpt_core.proofs.Acknowledging.Late.{ack_step}
 use Rattle.ckpt_core.proofs.Answering.Accepted.{IsAcceptedAck, accepted_ack, not_refused-ack}
+use Rattle.ckpt_core.proofs.Answering.StepCases.{not_refused-from_answer, step_by}
 use Rattle.ckpt_core.proofs.Soundness.Acks.{with_ack}
 use Rattle.ckpt_core.proofs.Records.Held.{held_or_named, held_named, held_still}
 use Rattle.ckpt_core.proofs.Reordering.ExchangeLemmas.{acks_commute, has_not_before, has_not_after, missing_one_less, replaced_twice, pending_of_replaced}
 
 -- what an accepted acknowledgement of a pending record does
 pub step_ack : (m : State) (now id : ℕ) (p : Part) (r : Record) → refusal m (ack_of now id p) ≡ None → pending_of m.records id ≡ Some r → step m (ack_of now id p) ≡ acknowledged_in (record m { latest = max now m.latest }) (with_ack r p.subtask p.fresh p.reused)
-unfolding step effect ack
-step_ack m now id p r e k =
-    let call : Call = ack_of now id p in
-    let n : State = record m { latest = max now m.latest } in
-    ap (unless_refused m call) e ∙ ap (λ o. ack n o p.subtask p.fresh p.reused) k
+unfolding ack
+step_ack m now id p r = ack_step m now id p.subtask p.fresh p.reused (Some r)
 
 -- one that leaves the record pending
 pub left_pending : (n : State) (w : Record) → eqb (missing w) 0 ≡ false → acknowledged_in n w ≡ (with_records n (replaced n.records w), Done (reply.AckPending (missing w)))
@@ -42,33 +40,14 @@ left_pending n w lacks =
 
 -- what follows for the call from its answer
 
--- an answer AckPending is no refusal
-pending_not_refused : (m : State) (call : Call) (o : Option Refusal) → is_ack_pending (unless_refused m call o).1 ≡ true → o ≡ None
-pending_not_refused m call None h = refl
-pending_not_refused m call (Some why) h = absurd (both_ways false refl h)
-
--- nor is AckCompleted
-taken_not_refused : (m : State) (call : Call) (o : Option Refusal) → is_ack_taken (unless_refused m call o).1 ≡ true → o ≡ None
-taken_not_refused m call None h = refl
-taken_not_refused m call (Some why) h = absurd (both_ways false refl h)
-
--- a completion is not answered AckPending
-completed_not_pending : (m : State) (r : Record) → is_ack_pending (completed_with m r).1 ≡ true → ⊥
-unfolding completed_with
-completed_not_pending m r h = both_ways false refl h
-
 -- a record for which the answer is AckPending still lacks an acknowledgement
 still_lacks : (n : State) (w : Record) → is_ack_pending (acknowledged_in n w).1 ≡ true → eqb (missing w) 0 ≡ false
-unfolding acknowledged_in
-still_lacks n w h =
+unfolding acknowledged_in completed_with
+still_lacks n w =
     let c : Record = record w { done = true } in
-    let full : Stepped = completed_with (with_records n (replaced n.records c)) c in
-    let part : Stepped = (with_records n (replaced n.records w), Done (reply.AckPending (missing w))) in
-    let P : Bool → Type 0 = λ b. is_ack_pending (cond b full part).1 ≡ true in
-    ⊎_elim
-    (λ (e : eqb (missing w) 0 ≡ true). let k : is_ack_pending full.1 ≡ true = subst P e h in absurd (completed_not_pending (with_records n (replaced n.records c)) c k))
-    (λ (e : eqb (missing w) 0 ≡ false). e)
-    (cases_Bool (eqb (missing w) 0))
+    cond_both (eqb (missing w) 0) (completed_with (with_records n (replaced n.records c)) c) (with_records n (replaced n.records w), Done (reply.AckPending (missing w))) (λ (x : Stepped). is_ack_pending x.1 ≡ true → eqb (missing w) 0 ≡ false)
+    (λ _ h. absurd (both_ways false refl h))
+    (λ e _. e)
 
 -- only for a pending record is the answer AckPending
 was_pending : (n : State) (p : Part) (o : Option Record) → is_ack_pending (ack n o p.subtask p.fresh p.reused).1 ≡ true → (r : Record) × (o ≡ Some r) × (eqb (missing (with_ack r p.subtask p.fresh p.reused)) 0 ≡ false)
@@ -76,23 +55,13 @@ unfolding ack
 was_pending n p None h = absurd (both_ways false refl h)
 was_pending n p (Some r) h = (r, refl, still_lacks n (with_ack r p.subtask p.fresh p.reused) h)
 
--- what is answered AckPending was accepted
-pub accepted_pending : (m : State) (now id : ℕ) (p : Part) → is_ack_pending (step m (ack_of now id p)).1 ≡ true → refusal m (ack_of now id p) ≡ None
-unfolding step
-accepted_pending m now id p h = pending_not_refused m (ack_of now id p) (refusal m (ack_of now id p)) h
-
--- and so was what is answered AckCompleted
-pub accepted_taken : (m : State) (now id : ℕ) (p : Part) → is_ack_taken (step m (ack_of now id p)).1 ≡ true → refusal m (ack_of now id p) ≡ None
-unfolding step
-accepted_taken m now id p h = taken_not_refused m (ack_of now id p) (refusal m (ack_of now id p)) h
-
--- what is answered AckPending found its record pending, and left it so
-pub pending_found : (m : State) (now id : ℕ) (p : Part) → is_ack_pending (step m (ack_of now id p)).1 ≡ true → (r : Record) × (pending_of m.records id ≡ Some r) × (eqb (missing (with_ack r p.subtask p.fresh p.reused)) 0 ≡ false)
-unfolding step effect
-pending_found m now id p h =
-    let call : Call = ack_of now id p in
-    let P : Option Refusal → Type 0 = λ o. is_ack_pending (unless_refused m call o).1 ≡ true in
-    was_pending (record m { latest = max now m.latest }) p (pending_of m.records id) (subst P (pending_not_refused m call (refusal m call) h) h)
+-- a call that is answered AckPending found its record pending, and left it so
+pending_found : (m : State) (now id : ℕ) (p : Part) → is_ack_pending (step m (ack_of now id p)).1 ≡ true → (r : Record) × (pending_of m.records id ≡ Some r) × (eqb (missing (with_ack r p.subtask p.fresh p.reused)) 0 ≡ false)
+unfolding effect
+pending_found m now id p =
+    step_by m (ack_of now id p) (λ x. is_ack_pending x.1 ≡ true → (r : Record) × (pending_of m.records id ≡ Some r) × (eqb (missing (with_ack r p.subtask p.fresh p.reused)) 0 ≡ false))
+    (λ why _ h. absurd (both_ways false refl h))
+    (λ _. was_pending (record m { latest = max now m.latest }) p (pending_of m.records id))
 
 -- the record that was replaced is replaced again, at the same moment
 settles : (n : State) (now : ℕ) (w v : Record) → max now n.latest ≡ n.latest → w.id ≡ v.id → acknowledged_in (record (with_records n (replaced n.records w)) { latest = max now n.latest }) v ≡ acknowledged_in n v
@@ -215,7 +184,7 @@ exchange m now id p q s ne apart first second =
     let r : Record = found.0 in
     let w : Record = with_ack r p.subtask p.fresh p.reused in
     let n : State = record m { latest = max now m.latest } in
-    let ep : refusal m (ack_of now id p) ≡ None = accepted_pending m now id p first in
+    let ep : refusal m (ack_of now id p) ≡ None = not_refused-from_answer is_ack_pending (λ why. refl) m (ack_of now id p) first in
     let stepped : step m (ack_of now id p) ≡ (with_records n (replaced m.records w), Done (reply.AckPending (missing w))) = step_ack m now id p r ep found.1 ∙ left_pending n w found.2 in
     let P : Stepped → Type 0 = λ x. is_ack_taken (step x.0 (ack_of now id q)).1 ≡ true in
-    exchanged m now id p q r s ne apart found.1 ep found.2 (accepted_taken (with_records n (replaced m.records w)) now id q (subst P stepped second))
+    exchanged m now id p q r s ne apart found.1 ep found.2 (not_refused-from_answer is_ack_taken (λ why. refl) (with_records n (replaced m.records w)) (ack_of now id q) (subst P stepped second))

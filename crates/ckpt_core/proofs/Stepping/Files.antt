@@ -8,7 +8,7 @@ use Rattle.ckpt_ids.specs.declared.call.Call.TheVariants.{Ack, Deleted, Undelete
 use Rattle.ckpt_ids.specs.declared.reply.Refusal.{Refusal}
 use Rattle.ckpt_ids.specs.declared.reply.Answer.{Answer}
 use Rattle.ckpt_ids.specs.declared.reply.Answer.TheVariants.{Refused}
-use Rattle.ckpt_ids.specs.Counting.{times}
+use Rattle.ckpt_ids.specs.Counting.{one_if, times}
 use Rattle.ckpt_ids.specs.Ordered.{IsIn}
 use Rattle.ckpt_ids.specs.Records.{uses, is_present}
 use Rattle.ckpt_ids.proofs.OrderedLemmas.{IsIn-append_left, IsIn-append_right, IsIn-append_cases, IsIn-filter, IsIn-from_list_any}
@@ -16,7 +16,7 @@ use Rattle.std.specs.List.{list_any}
 use Rattle.ckpt_core.specs.State.{State, is_known}
 use Rattle.ckpt_core.specs.Steps.{without}
 use Rattle.ckpt_core.specs.Soundness.{IsSound}
-use Rattle.ckpt_core.specs.Laws.{one_if, registered_as, deleted_as}
+use Rattle.ckpt_core.specs.Laws.{registered_as, deleted_as}
 use Rattle.ckpt_core.proofs.Records.Lists.{outbox_of}
 use Rattle.ckpt_core.proofs.Histories.Balances.{drop_front, drop_all}
 use Rattle.ckpt_core.proofs.Histories.Spreads.{IsSpread}

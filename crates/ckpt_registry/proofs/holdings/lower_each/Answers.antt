@@ -1,8 +1,7 @@
 -- Answers the goals of `lower_each`.
 use Rattle.std.proofs.Common.{◌≡◌, ◌+◌, ℕ, eqb, get_or, take, ap, arith}
-use Rattle.ckpt_ids.specs.Counting.{times}
+use Rattle.ckpt_ids.specs.Counting.{one_if, times}
 use Rattle.ckpt_registry.proofs.CounterLemmas.{AreLowered-none, AreLowered-then, HasRoom-released, times_more, times_through}
-use Rattle.ckpt_registry.proofs.ListLemmas.{one_if}
 use Rattle.ckpt_registry.proofs.holdings.lower_each.Goals as goal
 
 pub loop-file-init : goal.loop-file-init

@@ -3,7 +3,8 @@ use Rattle.std.proofs.Common.{◌≡◌, ℕ, ◌+◌, ◌<◌, ◌^◌, ap, sym
 use Rattle.std.specs.declared.alloc.Global.{Global}
 use Rattle.std.specs.declared.vec.Vec.{Vec}
 use Rattle.std.proofs.lemmas.List.Sums.{sum_by_more, sum_by-take-le}
-use Rattle.ckpt_ids.specs.Counting.{times}
+use Rattle.ckpt_ids.specs.Counting.{one_if, times}
+use Rattle.ckpt_ids.proofs.CountLemmas.{one_if-true, one_if-false}
 use Rattle.ckpt_registry.specs.declared.pins.FirstParts.{FirstParts}
 use Rattle.ckpt_registry.specs.declared.pins.Look.{Look}
 use Rattle.ckpt_registry.specs.declared.pins.Pinner.{Pinner}
@@ -11,7 +12,7 @@ use Rattle.ckpt_registry.specs.declared.pins.Pins.TheVariants.{Record}
 use Rattle.ckpt_registry.specs.Holdings.{Acknowledged}
 use Rattle.ckpt_registry.specs.Parts.{files_in}
 use Rattle.ckpt_registry.specs.Pins.{IsKept, IsLook, each_file, first_of, parts_pinned}
-use Rattle.ckpt_registry.proofs.ListLemmas.{one_if, one_if-true, one_if-false, times-ascending_set}
+use Rattle.ckpt_registry.proofs.ListLemmas.{times-ascending_set}
 use Rattle.ckpt_registry.proofs.PinLemmas.{IsKept-at}
 use Rattle.ckpt_registry.proofs.pins.pins_of.Goals as goal
 use Rattle.ckpt_registry.proofs.pins.pins_of.Goals.{in-Record+then-last, in-Record+else-last, in_default}

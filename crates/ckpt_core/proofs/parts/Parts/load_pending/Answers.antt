@@ -1,5 +1,6 @@
 -- Answers the goals of `Parts::load_pending`.
 use Rattle.std.proofs.Common.{◌≡◌, ℕ, ◌+◌, ◌≤◌, max, [], ◌∷◌, ◌++◌, List, length, map, refl, ap, subst, ◌∙◌, arith}
+use Rattle.std.specs.Result.{OnOk}
 use Rattle.std.proofs.lemmas.Result.{on_ok_weaker}
 use Rattle.std.specs.Vec.{vec_capacity}
 use Rattle.ckpt_ids.specs.declared.ack.Acked.{Acked}
@@ -54,22 +55,18 @@ has_more p made after q x id acks files parts room its_id its_acks registry pend
       room = omega (arith, capacity, room);
     }
 
-pub returns-clause-records : goal.returns-clause-records
-returns-clause-records c =
+more : (c : goal.After-make_room_for_files) → OnOk c.make_room_for_files.result (HasMore c.args.self.now c.make_room_for_files.new.self c.args.pending c.args.pins.now)
+more c =
     let p : Parts = c.args.self.now in
     let made : Parts = c.make_room.new.self in
     let after : Parts = record made { pending = c.add.new.self; registry = c.register.new.registry } in
     on_ok_weaker c.make_room_for_files.result
-    (λ (ok : c.make_room_for_files.new.self ≡ with_room after 0). records-more c.requires.tied c.requires.newest (has_more p made after c.make_room_for_files.new.self c.args.pending c.id.result c.args.acks.now c.args.pins.now
-    c.in_ok-make_room.ensures.parts c.in_ok-make_room.ensures.room c.id.ensures.value c.requires.acks c.in_ok-register.ensures c.in_ok-add.ensures.ok refl refl refl refl ok))
+    (λ (ok : c.make_room_for_files.new.self ≡ with_room after 0). has_more p made after c.make_room_for_files.new.self c.args.pending c.id.result c.args.acks.now c.args.pins.now
+    c.in_ok-make_room.ensures.parts c.in_ok-make_room.ensures.room c.id.ensures.value c.requires.acks c.in_ok-register.ensures c.in_ok-add.ensures.ok refl refl refl refl ok)
     c.make_room_for_files.ensures.ok
 
+pub returns-clause-records : goal.returns-clause-records
+returns-clause-records c = on_ok_weaker c.make_room_for_files.result (records-more c.requires.tied c.requires.newest) (more c)
+
 pub returns-clause-tied : goal.returns-clause-tied
-returns-clause-tied c =
-    let p : Parts = c.args.self.now in
-    let made : Parts = c.make_room.new.self in
-    let after : Parts = record made { pending = c.add.new.self; registry = c.register.new.registry } in
-    on_ok_weaker c.make_room_for_files.result
-    (λ (ok : c.make_room_for_files.new.self ≡ with_room after 0). tied-more c.requires.tied c.requires.newest (has_more p made after c.make_room_for_files.new.self c.args.pending c.id.result c.args.acks.now c.args.pins.now
-    c.in_ok-make_room.ensures.parts c.in_ok-make_room.ensures.room c.id.ensures.value c.requires.acks c.in_ok-register.ensures c.in_ok-add.ensures.ok refl refl refl refl ok))
-    c.make_room_for_files.ensures.ok
+returns-clause-tied c = on_ok_weaker c.make_room_for_files.result (tied-more c.requires.tied c.requires.newest) (more c)

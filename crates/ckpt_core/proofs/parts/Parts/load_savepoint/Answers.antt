@@ -1,5 +1,6 @@
 -- Answers the goals of `Parts::load_savepoint`.
 use Rattle.std.proofs.Common.{◌≡◌, false, eqb, ℕ, ◌+◌, ◌<◌, ◌≤◌, ◌^◌, max, ◌++◌, List, length, map, refl, sym, ap, subst, ◌∙◌, arith}
+use Rattle.std.specs.Result.{OnOk}
 use Rattle.std.proofs.lemmas.Result.{on_ok_weaker}
 use Rattle.std.specs.Vec.{vec_capacity}
 use Rattle.ckpt_ids.specs.declared.ack.Acked.{Acked}
@@ -68,26 +69,20 @@ has_savepoint_more p made after q x s t id acks files parts room reserved comple
       room = omega (arith, capacity, room);
     }
 
-pub returns-clause-records : goal.returns-clause-records
-returns-clause-records c =
+more : (c : goal.After-drop-none-2) → OnOk c.make_room_for_files.result (HasSavepoint c.args.self.now c.make_room_for_files.new.self c.args.done)
+more c =
     let p : Parts = c.args.self.now in
     let made : Parts = c.make_room.new.self in
     let after : Parts = record made { store = c.add_savepoint.new.self; registry = c.register.new.registry } in
     on_ok_weaker c.make_room_for_files.result
-    (λ (ok : c.make_room_for_files.new.self ≡ with_room after 0). records-savepoint c.requires.newest (has_savepoint_more p made after c.make_room_for_files.new.self c.args.done c.reserve.new.self c.add_savepoint.new.self c.id.result c.args.acks.now c.of-none.result
+    (λ (ok : c.make_room_for_files.new.self ≡ with_room after 0). has_savepoint_more p made after c.make_room_for_files.new.self c.args.done c.reserve.new.self c.add_savepoint.new.self c.id.result c.args.acks.now c.of-none.result
     c.in_ok-make_room.ensures.parts c.in_ok-make_room.ensures.room c.in_ok-reserve.ensures.kept c.add_savepoint.ensures.value c.id.ensures.value c.requires.acks
     (none_pinned c.args.done c.of-none.result c.new.result.items c.of-none.ensures c.new.ensures.items c.id.ensures.done.no_pins)
-    c.in_ok-register.ensures refl refl refl refl refl ok))
+    c.in_ok-register.ensures refl refl refl refl refl ok)
     c.make_room_for_files.ensures.ok
 
+pub returns-clause-records : goal.returns-clause-records
+returns-clause-records c = on_ok_weaker c.make_room_for_files.result (records-savepoint c.requires.newest) (more c)
+
 pub returns-clause-tied : goal.returns-clause-tied
-returns-clause-tied c =
-    let p : Parts = c.args.self.now in
-    let made : Parts = c.make_room.new.self in
-    let after : Parts = record made { store = c.add_savepoint.new.self; registry = c.register.new.registry } in
-    on_ok_weaker c.make_room_for_files.result
-    (λ (ok : c.make_room_for_files.new.self ≡ with_room after 0). tied-savepoint c.requires.tied c.requires.newest (has_savepoint_more p made after c.make_room_for_files.new.self c.args.done c.reserve.new.self c.add_savepoint.new.self c.id.result c.args.acks.now c.of-none.result
-    c.in_ok-make_room.ensures.parts c.in_ok-make_room.ensures.room c.in_ok-reserve.ensures.kept c.add_savepoint.ensures.value c.id.ensures.value c.requires.acks
-    (none_pinned c.args.done c.of-none.result c.new.result.items c.of-none.ensures c.new.ensures.items c.id.ensures.done.no_pins)
-    c.in_ok-register.ensures refl refl refl refl refl ok))
-    c.make_room_for_files.ensures.ok
+returns-clause-tied c = on_ok_weaker c.make_room_for_files.result (tied-savepoint c.requires.tied c.requires.newest) (more c)

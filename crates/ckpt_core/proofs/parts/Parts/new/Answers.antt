@@ -28,6 +28,6 @@ returns-clause-sound c =
         spare = rw (c.keyed.ensures) (omega arith);
         room = rw (ap checkpoints c.new-3.ensures, ap savepoints c.new-3.ensures, c.new-4.ensures) (omega arith);
       };
-      sound = subst IsSound (sym (returns-clause-state c)) (opened_is_sound _ c.tolerable.ensures.limits c.recall_shape.ensures c.requires.start c.requires.from c.requires.to);
+      sound = subst IsSound (sym (returns-clause-state c)) (opened_is_sound _ c.tolerable.ensures.limits c.recall.ensures c.requires.start c.requires.from c.requires.to);
       none_ended = c.new-5.ensures.items;
     }
