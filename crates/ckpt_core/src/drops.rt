@@ -4,6 +4,8 @@ ghost use Rattle.ckpt_core.specs.Inside.FileFacts.{after_end, released, without}
 ghost use Rattle.ckpt_core.specs.Inside.Moving.{releasing, without_checkpoints};
 ghost use Rattle.ckpt_core.specs.Inside.Parts.{AreInUseAlone, AreSound, AreTied, Drops, NotesPendingOnly, is_noted, present_in, records_in};
 ghost use Rattle.ckpt_core.specs.Inside.RecordFacts.{IsInOrder, has_savepoint, id_before, is_done_checkpoint, is_pending};
+ghost use Rattle.ckpt_ids.specs.Places.{LiesAt};
+ghost use Rattle.ckpt_store.specs.Storing.{id_of};
 
 use crate::parts::Parts;
 use ckpt_ids::CheckpointId;
@@ -77,13 +79,16 @@ impl Parts {
     }
 
     /// Drops the pending record `id`, and returns how many files were released. Takes no memory.
-    pub(crate) fn drop_pending(&mut self, id: CheckpointId) -> u64
+    ///
+    /// Conditions: the parts are sound, and the record is at this place.
+    pub(crate) fn drop_pending(&mut self, id: CheckpointId, place: usize) -> u64
         requires sound { AreSound self.old }
-        requires there { IsSome (find (λ r. r.id == id) self.old.pending) }
+        requires place { LiesAt id_of id self.old.pending place }
         ensures { Drops self.old self.new (λ r. r.id == id) result }
     {
+        self.pending.take_out(place);
         self.ended.push_reserved(id);
-        self.drop_noted()
+        self.hand_out()
     }
 
     /// Drops all pending records and all completed checkpoints, and returns how many files were

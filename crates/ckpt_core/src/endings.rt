@@ -3,7 +3,7 @@ ghost use Rattle.std.specs.Prelude.{◌≡◌, ℕ, ◌||◌, true, [], length, 
 ghost use Rattle.ckpt_ids.specs.declared.call.Target.TheVariants.{Savepoint};
 ghost use Rattle.ckpt_ids.specs.declared.call.Call.TheVariants as call;
 ghost use Rattle.ckpt_core.specs.declared.coordinator.CoreFault.TheVariants.{Memory};
-ghost use Rattle.ckpt_core.specs.Inside.Parts.{Answers, AreSound, AreTied, Drops, IsAccepted, Stays, records_in, state_of};
+ghost use Rattle.ckpt_core.specs.Inside.Parts.{Answers, AreSound, AreTied, Drops, IsAccepted, IsPlaceOf, Stays, records_in, state_of};
 ghost use Rattle.ckpt_core.specs.Inside.RecordFacts.{IsInOrder, id_before, is_done_checkpoint, is_pending};
 ghost use Rattle.ckpt_core.specs.Refusals.{is_done_savepoint};
 ghost use Rattle.ckpt_core.specs.State.{choice_of, drop, released_by};
@@ -31,24 +31,36 @@ impl Parts {
     }
 
     /// A subtask could not take its part.
+    ///
+    /// Conditions: the parts are sound, the call is accepted, and the pending record is at this place.
+    /// If there is no place, no pending record has the number.
     #[inline(never)]
-    pub(crate) fn decline(&mut self, now: u64, id: CheckpointId, subtask: SubtaskId) -> Reply
+    pub(crate) fn decline(
+        &mut self,
+        now: u64,
+        id: CheckpointId,
+        place: Option<usize>,
+        subtask: SubtaskId,
+    ) -> Reply
         requires sound { AreSound self.old }
         requires accepted { IsAccepted self.old (call.Decline now id subtask) }
+        requires place { IsPlaceOf self.old id place }
         ensures { Answers self.old self.new (call.Decline now id subtask) result }
     {
-        self.recall_groups();
-        let Some(record) = self.pending.get(id) else {
+        let Some(place) = place else {
             self.clock.see(now);
             return Reply::DeclineLate;
         };
+        self.recall_groups();
+        self.pending.recall();
         let mut failures = self.failures;
         // a declined savepoint is no failure
-        let failed = record.kind() == Kind::Checkpoint && failures.add(1);
+        let is_checkpoint = self.pending.at(place).kind() == Kind::Checkpoint;
+        let failed = is_checkpoint && failures.add(1);
         let reply = if failed {
             Reply::DeclineFailed(self.fail_over())
         } else {
-            Reply::DeclineAborted(self.drop_pending(id))
+            Reply::DeclineAborted(self.drop_pending(id, place))
         };
         self.failures = failures;
         self.clock.see(now);

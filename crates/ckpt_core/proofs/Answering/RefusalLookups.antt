@@ -1,21 +1,26 @@
 -- What the table of refusals looks up in the records, found in the parts.
 use Rattle.std.proofs.Common.{◌≡◌, ℕ, ◌+◌, Bool, true, false, not, ◌&&◌, ◌||◌, eqb, List, [], ◌∷◌, length, refl, sym, ap, ◌∙◌, Option, Some, None, Bor}
-use Rattle.std.specs.Prelude.{count_by, find}
+use Rattle.std.specs.Prelude.{count_by, find, slice_get, IfNone, IfSome}
+use Rattle.std.specs.List.{list_any}
 use Rattle.std.specs.Option.{option_map, option_or, option_copied, is_none, is_some}
 use Rattle.std.proofs.lemmas.Bool.{both_ways}
 use Rattle.ckpt_ids.specs.declared.subtask.SubtaskId.{SubtaskId}
 use Rattle.ckpt_ids.specs.declared.reply.Refusal.{Refusal}
 use Rattle.ckpt_ids.specs.declared.reply.Refusal.TheVariants.{NameTaken, FileGone, NoSuchRecord}
-use Rattle.ckpt_ids.specs.Ordered.{IsIn}
+use Rattle.ckpt_ids.specs.Ordered.{IsIn, IsInOrder}
+use Rattle.ckpt_ids.specs.Places.{LiesAt}
 use Rattle.ckpt_ids.specs.Records.{Record, Use, uses, is_present}
 use Rattle.ckpt_pending.specs.Acknowledging.{IsPending}
-use Rattle.ckpt_store.specs.Storing.{IsStored, has_savepoint, record_of}
+use Rattle.ckpt_ids.proofs.PlaceLemmas.{find-none}
+use Rattle.ckpt_store.specs.Storing.{IsStored, has_id, has_savepoint, id_of, record_of}
+use Rattle.ckpt_store.proofs.RowLemmas.{find-place}
 use Rattle.ckpt_outbox.specs.Queues as queues
 use Rattle.ckpt_core.specs.declared.parts.Parts.{Parts}
 use Rattle.ckpt_core.specs.State.{is_checkpoint, is_known}
 use Rattle.ckpt_core.specs.Refusals.{first_some, is_foreign, is_repeat, is_done_savepoint, savepoints, named, no_record, pending_of, refuse_if, where_pending}
+use Rattle.ckpt_core.specs.Soundness.{id_before}
 use Rattle.ckpt_core.specs.Inside.Grouped.{with_pins, grouped}
-use Rattle.ckpt_core.specs.Inside.Parts.{AreSound, AreTied, records_in, state_of, is_known_in}
+use Rattle.ckpt_core.specs.Inside.Parts.{AreSound, AreTied, IsPlaceOf, records_in, state_of, is_known_in}
 use Rattle.ckpt_core.proofs.Answering.RefusalRows.{rows_only}
 use Rattle.ckpt_core.proofs.Records.Grouped.{AreApart, apart-from_in_order}
 use Rattle.ckpt_core.proofs.Records.Lookups.{has_number, pending_of-groups}
@@ -31,6 +36,18 @@ pub pending_of-parts : (p : Parts) (id : ℕ) (o : Option Record) → AreSound p
 pending_of-parts p id o sound pending stored e =
     pending_of-groups id p.registry p.pending p.store.checkpoints p.store.savepoints (apart_of p sound) (groups_of p pending stored)
     ∙ ap (option_map (with_pins p.registry)) (sym e)
+
+-- the place of a pending record, as a search for it returns it
+pub place_of-parts : (p : Parts) (id : ℕ) (place : Option ℕ) → AreSound p → ((r : Record) → IsIn r p.pending → IsPending r) → IsStored p.store →
+    IfSome place (LiesAt id_of id p.pending) → IfNone place (list_any (has_id id) p.pending ≡ false) → IsPlaceOf p id place
+place_of-parts p id (Some place) sound pending stored lies none = lies
+place_of-parts p id None sound pending stored lies none = pending_of-parts p id None sound pending stored (sym (find-none (has_id id) p.pending none))
+
+-- and the record at it
+pub found_at-parts : (p : Parts) (id : ℕ) (place : Option ℕ) (r : Record) → AreSound p → ((r : Record) → IsIn r p.pending → IsPending r) → IsStored p.store → IsInOrder id_before p.pending →
+    IfSome place (LiesAt id_of id p.pending) → IfSome place (λ k. slice_get p.pending k ≡ Some r → pending_of (records_in p) id ≡ Some (with_pins p.registry r))
+found_at-parts p id (Some place) r sound pending stored order lies = λ e. pending_of-parts p id (Some r) sound pending stored (sym e ∙ find-place id p.pending place order lies)
+found_at-parts p id None r sound pending stored order lies = tt
 
 pub done_savepoint-parts : (p : Parts) (id : ℕ) → ((r : Record) → IsIn r p.pending → IsPending r) → IsStored p.store → is_done_savepoint (state_of p) id ≡ has_savepoint p.store id
 unfolding state_of

@@ -48,5 +48,5 @@ invariant_of-self c = sound_after c.self.inside.parts c.deleted.new.self (Delete
 pub invariant_of-self-in-Undeleted : goal.invariant_of-self-in-Undeleted
 invariant_of-self-in-Undeleted c = sound_after c.self.inside.parts c.undeleted.new.self (Undeleted c.in-Undeleted.file) c.undeleted.result tt c.self.invariant c.undeleted.ensures.ok c.undeleted.ensures.err
 
-pub invariant_of-self-in_default-call : goal.invariant_of-self-in_default-call
-invariant_of-self-in_default-call c = sound_after c.self.inside.parts c.answer.new.self c.args.call.now c.answer.result c.recall_call.ensures c.self.invariant c.answer.ensures.ok c.answer.ensures.err
+pub invariant_of-self-in_default : goal.invariant_of-self-in_default
+invariant_of-self-in_default c = sound_after c.self.inside.parts c.answer.new.self c.args.call.now c.answer.result c.recall_call.ensures c.self.invariant c.answer.ensures.ok c.answer.ensures.err
