@@ -5,7 +5,7 @@ ghost use Rattle.ckpt_ids.specs.declared.reply.Answer.TheVariants.{Done};
 ghost use Rattle.ckpt_ids.specs.declared.reply.Refusal.{Refusal};
 ghost use Rattle.ckpt_core.specs.declared.coordinator.CoreFault.TheVariants.{Memory};
 ghost use Rattle.ckpt_core.specs.Coordinator.{IsCall, may_want_memory, open_fault, opened, refusal, step};
-ghost use Rattle.ckpt_core.specs.Inside.Parts.{Answers, AreSound, IsAccepted, IsPlaceIn, Stays, is_report, never_fails, state_of};
+ghost use Rattle.ckpt_core.specs.Inside.Parts.{Answers, AreSound, IsAccepted, IsPlaceIn, Stays, never_fails, state_of, tests_itself};
 
 use crate::parts::Parts;
 use crate::recall::recall_shape;
@@ -160,8 +160,12 @@ impl Core {
             Ok(place) => place,
             Err(why) => return Err(CoreFault::Refused(why)),
         };
-        // A report is not tested first: the outbox looks its file up anyway, and refuses it then.
+        // These are not tested first: each looks its record or file up anyway, and refuses it then.
         match call {
+            Call::Dispose { id } => match self.parts.dispose(*id) {
+                Ok(released) => Ok(Reply::Disposed(released)),
+                Err(why) => Err(CoreFault::Refused(why)),
+            },
             Call::Deleted { file } => self.parts.deleted(*file).map_err(CoreFault::Refused),
             Call::Undeleted { file } => self.parts.undeleted(*file).map_err(CoreFault::Refused),
             _ => self.parts.answer(call, place),
@@ -183,7 +187,7 @@ fn recall_call(call: &Call)
 }
 
 impl Parts {
-    /// Makes an accepted call that is no report. Fails only if memory runs out.
+    /// Makes an accepted call that was tested first. Fails only if memory runs out.
     ///
     /// Each kind of call has a function of its own, because a function clears the locals of
     /// everything that is inlined into it.
@@ -192,7 +196,7 @@ impl Parts {
     fn answer(&mut self, call: &Call, place: Option<usize>) -> Result<Reply, CoreFault>
         requires sound { AreSound self.old }
         requires accepted { IsAccepted self.old call.now }
-        requires other { is_report call.now ≡ false }
+        requires other { tests_itself call.now ≡ false }
         requires place { IsPlaceIn self.old call.now place }
         ensures ok { IfOk result (Answers self.old self.new call.now) }
         ensures err { OnErr result (Stays self.old self.new) }
@@ -226,7 +230,7 @@ impl Parts {
         }
     }
 
-    /// Makes a call that takes no memory and is no report. It is a function of its own, so that
+    /// Makes a call that takes no memory and was tested first. It is a function of its own, so that
     /// `answer` keeps no reply of these calls beside its result.
     ///
     /// Conditions: the parts are sound, the call is accepted, and the pending record that it names is
@@ -241,7 +245,6 @@ impl Parts {
     {
         match call {
             Call::Decline { now, id, subtask } => self.decline(*now, *id, place, *subtask),
-            Call::Dispose { id } => self.dispose(*id),
             Call::Restore {
                 now,
                 target,

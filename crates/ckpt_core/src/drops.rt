@@ -1,9 +1,9 @@
 //! The end of records: their uses are released, and the files that nothing uses are handed out.
-ghost use Rattle.std.specs.Prelude.{◌≡◌, ◌≤◌, ◌++◌, ◌||◌, ◌==◌, ◌≢◌, ◌+◌, [], true, find, length, map, Some, IsSome, vec_capacity, vec_len};
+ghost use Rattle.std.specs.Prelude.{◌≡◌, ◌≤◌, ◌++◌, ◌||◌, ◌==◌, ◌+◌, [], length, map, vec_capacity, vec_len};
 ghost use Rattle.ckpt_core.specs.Inside.FileFacts.{after_end, released, without};
 ghost use Rattle.ckpt_core.specs.Inside.Moving.{releasing, without_checkpoints};
 ghost use Rattle.ckpt_core.specs.Inside.Parts.{AreInUseAlone, AreSound, AreTied, Drops, NotesPendingOnly, is_noted, present_in, records_in};
-ghost use Rattle.ckpt_core.specs.Inside.RecordFacts.{IsInOrder, has_savepoint, id_before, is_done_checkpoint, is_pending};
+ghost use Rattle.ckpt_core.specs.Inside.RecordFacts.{IsInOrder, id_before, is_done_checkpoint, is_pending};
 ghost use Rattle.ckpt_ids.specs.Places.{LiesAt};
 ghost use Rattle.ckpt_store.specs.Storing.{id_of};
 
@@ -116,18 +116,5 @@ impl Parts {
         while let Some(id) = self.store.pop_lowest() {
             self.ended.push_reserved(id);
         }
-    }
-
-    /// Drops a completed savepoint that is not the base, and returns how many files were released.
-    /// Takes no memory.
-    pub(crate) fn drop_savepoint(&mut self, id: CheckpointId) -> u64
-        requires sound { AreSound self.old }
-        requires there { has_savepoint self.old.store id ≡ true }
-        requires free { self.old.store.base ≢ Some id }
-        ensures { Drops self.old self.new (λ r. r.id == id) result }
-    {
-        let _ = self.store.dispose(id);
-        self.ended.push_reserved(id);
-        self.hand_out()
     }
 }

@@ -2,17 +2,19 @@
 ghost use Rattle.std.specs.Prelude.{◌≡◌, ℕ, ◌||◌, true, [], length, Some, None, IfOk, OnErr, IfErr};
 ghost use Rattle.ckpt_ids.specs.declared.call.Target.TheVariants.{Savepoint};
 ghost use Rattle.ckpt_ids.specs.declared.call.Call.TheVariants as call;
+ghost use Rattle.ckpt_ids.specs.declared.reply.Reply.TheVariants as reply;
 ghost use Rattle.ckpt_core.specs.declared.coordinator.CoreFault.TheVariants.{Memory};
 ghost use Rattle.ckpt_core.specs.Inside.Parts.{Answers, AreSound, AreTied, Drops, IsAccepted, IsPlaceOf, Stays, records_in, state_of};
 ghost use Rattle.ckpt_core.specs.Inside.RecordFacts.{IsInOrder, id_before, is_done_checkpoint, is_pending};
-ghost use Rattle.ckpt_core.specs.Refusals.{is_done_savepoint};
+ghost use Rattle.ckpt_core.specs.Refusals.{is_done_savepoint, refusal};
 ghost use Rattle.ckpt_core.specs.State.{choice_of, drop, released_by};
 ghost use Rattle.ckpt_core.specs.Steps.{cancelled, dropped_by, failed_over, rolled_back, with_base};
 
 use crate::coordinator::CoreFault;
 use crate::mode::Mode;
 use crate::parts::Parts;
-use ckpt_ids::{CheckpointId, Choice, Kind, Reply, Shape, SubtaskId, Target};
+use ckpt_ids::{CheckpointId, Choice, Kind, Refusal, Reply, Shape, SubtaskId, Target};
+use ckpt_store::DisposeFault;
 
 impl Parts {
     /// The job fails over: all pending records are dropped, and nothing is triggered until the job
@@ -67,15 +69,26 @@ impl Parts {
         reply
     }
 
-    /// A user disposes of a savepoint.
+    /// A user disposes of a savepoint. Returns how many files were released. Refuses exactly if the
+    /// savepoint is not there or is the base.
+    ///
+    /// Condition: the parts are sound.
     #[inline(never)]
-    pub(crate) fn dispose(&mut self, id: CheckpointId) -> Reply
-        requires sound { AreSound self.old }
-        requires accepted { IsAccepted self.old (call.Dispose id) }
-        ensures { Answers self.old self.new (call.Dispose id) result }
+    pub(crate) fn dispose(&mut self, id: CheckpointId) -> Result<u64, Refusal>
+        requires { AreSound self.old }
+        ensures ok { IfOk result (λ released. Answers self.old self.new (call.Dispose id) (reply.Disposed released)) }
+        ensures err { OnErr result (Stays self.old self.new) }
+        ensures refused { IfErr result (λ why. refusal (state_of self.old) (call.Dispose id) ≡ Some why) }
     {
         self.recall_groups();
-        Reply::Disposed(self.drop_savepoint(id))
+        match self.store.dispose(id) {
+            Ok(()) => {
+                self.ended.push_reserved(id);
+                Ok(self.hand_out())
+            }
+            Err(DisposeFault::NoSuchSavepoint) => Err(Refusal::NoSuchSavepoint),
+            Err(DisposeFault::InUse) => Err(Refusal::InUse),
+        }
     }
 
     /// The job begins again in its present shape. Takes no memory.

@@ -2,7 +2,7 @@
 ghost use Rattle.std.specs.Prelude.{◌≡◌, ◌++◌, ◌==◌, ℕ, List, find, not, nat_le, option_copied, option_map, slice_get, IfOk, IfSome, None, Option, Some};
 ghost use Rattle.std.specs.List.{list_any};
 ghost use Rattle.std.specs.Result.{result_err};
-ghost use Rattle.ckpt_ids.specs.declared.call.Call.TheVariants.{Tick, Savepoint, Ack, Decline, Dispose, Restore, Cancel, Show};
+ghost use Rattle.ckpt_ids.specs.declared.call.Call.TheVariants.{Tick, Savepoint, Ack, Decline, Restore, Cancel, Show};
 ghost use Rattle.ckpt_ids.specs.declared.reply.Refusal.TheVariants.{NotRunning, UnknownCheckpoint, NameTaken, FileGone, IdsUsedUp};
 ghost use Rattle.ckpt_core.specs.Inside.FileFacts.{IsAscending, is_present};
 ghost use Rattle.ckpt_core.specs.Inside.RecordFacts.{Record};
@@ -102,8 +102,8 @@ fn is_among(file: FileId, files: &[FileId]) -> bool
 
 impl Parts {
     /// Tests the call before it is made, and returns the place of the pending record that it names,
-    /// if it names one. Only a report is not tested here: the outbox looks its file up anyway, and
-    /// refuses it then. Takes no memory, and changes nothing.
+    /// if it names one. Not tested are a disposal and a report: each looks its record or file up
+    /// anyway, and refuses it then. Takes no memory, and changes nothing.
     ///
     /// Condition: the parts are sound.
     pub(crate) fn test(&self, call: &Call) -> Result<Option<usize>, Refusal>
@@ -122,11 +122,11 @@ impl Parts {
                 reused,
             } => { self.test_ack(*now, *id, *subtask, fresh, reused) }
             Call::Decline { now, id, subtask } => self.test_decline(*now, *id, *subtask),
-            Call::Dispose { id } => at_place(self.test_dispose(*id), None),
             Call::Restore { now, target, .. } => at_place(self.test_restore(*now, *target), None),
             Call::Cancel { now } => at_place(self.test_cancel(*now), None),
             Call::Show { id } => at_place(self.test_show(*id), None),
-            Call::Take { .. }
+            Call::Dispose { .. }
+            | Call::Take { .. }
             | Call::Deleted { .. }
             | Call::Undeleted { .. }
             | Call::Count { .. } => Ok(None),
@@ -215,15 +215,6 @@ impl Parts {
             return Ok(None);
         };
         at_place(test_subtask(self.pending.at(place), subtask), Some(place))
-    }
-
-    /// Condition: the parts are sound.
-    fn test_dispose(&self, id: CheckpointId) -> Result<(), Refusal>
-        requires { AreSound self.now }
-        ensures { result_err result ≡ refusal (state_of self.now) (Dispose id) }
-    {
-        refuse_if(!self.has_savepoint(id), Refusal::NoSuchSavepoint)?;
-        refuse_if(self.store.base() == Some(id), Refusal::InUse)
     }
 
     /// Condition: the parts are sound.

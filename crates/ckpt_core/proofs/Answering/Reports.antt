@@ -1,15 +1,15 @@
--- Reports on files, which are not tested before they are made: the outbox itself finds whether the file was fetched.
+-- Calls that are not tested before they are made: reports on files, and disposals. The outbox or the store finds their refusals.
 use Rattle.std.proofs.Common.{◌≡◌, ℕ, Bool, true, false, not, eqb, [], ◌∷◌, refl, sym, ap, ◌∙◌, Option, Some, None}
 use Rattle.std.specs.Prelude.{if◌then◌else◌}
 use Rattle.std.specs.List.{list_any}
 use Rattle.ckpt_ids.specs.declared.call.Call.{Call}
-use Rattle.ckpt_ids.specs.declared.call.Call.TheVariants.{Deleted, Undeleted}
+use Rattle.ckpt_ids.specs.declared.call.Call.TheVariants.{Deleted, Dispose, Undeleted}
 use Rattle.ckpt_ids.specs.declared.reply.Reply.{Reply}
 use Rattle.ckpt_ids.specs.declared.reply.Answer.{Answer}
 use Rattle.ckpt_ids.specs.declared.reply.Answer.TheVariants.{Done, Refused}
 use Rattle.ckpt_ids.specs.declared.reply.Refusal.{Refusal}
-use Rattle.ckpt_ids.specs.declared.reply.Refusal.TheVariants.{NotTaken}
-use Rattle.ckpt_core.specs.Refusals.{first_some, refuse_if, refusal}
+use Rattle.ckpt_ids.specs.declared.reply.Refusal.TheVariants.{InUse, NoSuchSavepoint, NotTaken}
+use Rattle.ckpt_core.specs.Refusals.{first_some, is_done_savepoint, is_number, refuse_if, refusal}
 use Rattle.ckpt_core.specs.State.{State}
 use Rattle.ckpt_core.specs.Steps.{Stepped, step}
 use Rattle.ckpt_core.proofs.Answering.StepCases.{step_refused}
@@ -29,6 +29,16 @@ refusal_deleted m file false e = ap taken_row e
 pub refusal_undeleted : (m : State) (file : ℕ) (taken : Bool) → list_any (λ f. eqb f file) m.taken ≡ taken → refusal m (Undeleted file) ≡ (if taken then None else Some NotTaken)
 unfolding refusal
 refusal_undeleted m file taken e = refusal_deleted m file taken e
+
+-- the rows of a disposal
+
+-- by whether it is a done savepoint, and whether it is the base
+abbrev pub disposal_rows : Bool → Bool → Option Refusal
+disposal_rows done in_use = first_some (refuse_if (not done) NoSuchSavepoint ∷ refuse_if in_use InUse ∷ None ∷ None ∷ None ∷ None ∷ [])
+
+pub refusal_dispose : (m : State) (id : ℕ) (done in_use : Bool) → is_done_savepoint m id ≡ done → is_number m.base id ≡ in_use → refusal m (Dispose id) ≡ disposal_rows done in_use
+unfolding refusal
+refusal_dispose m id done in_use e f = ap (λ b. disposal_rows b (is_number m.base id)) e ∙ ap (disposal_rows done) f
 
 -- what is not false is true
 pub taken_if : (taken : Bool) (P : Type 0) → (P → ⊥) → (taken ≡ false → P) → taken ≡ true

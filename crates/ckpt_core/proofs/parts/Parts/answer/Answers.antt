@@ -1,5 +1,5 @@
 -- The calls that always take memory may take it.
-use Rattle.std.proofs.Common.{ℕ, Option, Some, None, rules, subst}
+use Rattle.std.proofs.Common.{ℕ, Option, Some, rules, subst}
 use Rattle.ckpt_ids.specs.declared.call.Call.{Call}
 use Rattle.ckpt_ids.specs.declared.call.Call.TheVariants.{Ack, Savepoint, Restore, Take, Show}
 use Rattle.ckpt_core.specs.Inside.Parts.{IsPlaceIn, state_of}

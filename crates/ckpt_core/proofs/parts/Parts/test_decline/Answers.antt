@@ -20,6 +20,5 @@ returns-in_default-clause-refused c = row_fails _ _ _ c.in_ok-test_moment.ensure
 
 pub returns-clause-refused : goal.returns-clause-refused
 unfolding refusal state_of
-returns-clause-refused c =
-    let there = c.in-Some.ensures.found c.at.result.now c.at.ensures in
-    row_fails _ _ _ c.in_ok-test_moment.ensures (row_fails _ _ _ c.in_ok-test_given.ensures (row_last _ _ _ (c.at_place.ensures.refused ∙ c.test_subtask.ensures ∙ ap (λ (o : Option Record). is_foreign o c.args.subtask) (sym there)) refl))
+returns-clause-refused c = row_fails _ _ _ c.in_ok-test_moment.ensures (row_fails _ _ _ c.in_ok-test_given.ensures
+    (row_last _ _ _ (c.at_place.ensures.refused ∙ c.test_subtask.ensures ∙ ap (λ (o : Option Record). is_foreign o c.args.subtask) (sym (c.in-Some.ensures.found c.at.result.now c.at.ensures))) refl))
