@@ -166,6 +166,7 @@ impl Core {
                 Ok(released) => Ok(Reply::Disposed(released)),
                 Err(why) => Err(CoreFault::Refused(why)),
             },
+            Call::Show { id } => self.parts.show(*id),
             Call::Deleted { file } => self.parts.deleted(*file).map_err(CoreFault::Refused),
             Call::Undeleted { file } => self.parts.undeleted(*file).map_err(CoreFault::Refused),
             _ => self.parts.answer(call, place),
@@ -225,7 +226,6 @@ impl Parts {
                 shape: Some(shape),
             } => self.restore_in(*now, *target, shape),
             Call::Take { most } => self.take(*most),
-            Call::Show { id } => self.show(*id),
             _ => Ok(self.answer_in_place(call, place)),
         }
     }

@@ -2,7 +2,7 @@
 ghost use Rattle.std.specs.Prelude.{◌≡◌, ◌++◌, ◌==◌, ℕ, List, find, not, nat_le, option_copied, option_map, slice_get, IfOk, IfSome, None, Option, Some};
 ghost use Rattle.std.specs.List.{list_any};
 ghost use Rattle.std.specs.Result.{result_err};
-ghost use Rattle.ckpt_ids.specs.declared.call.Call.TheVariants.{Tick, Savepoint, Ack, Decline, Restore, Cancel, Show};
+ghost use Rattle.ckpt_ids.specs.declared.call.Call.TheVariants.{Tick, Savepoint, Ack, Decline, Restore, Cancel};
 ghost use Rattle.ckpt_ids.specs.declared.reply.Refusal.TheVariants.{NotRunning, UnknownCheckpoint, NameTaken, FileGone, IdsUsedUp};
 ghost use Rattle.ckpt_core.specs.Inside.FileFacts.{IsAscending, is_present};
 ghost use Rattle.ckpt_core.specs.Inside.RecordFacts.{Record};
@@ -102,8 +102,8 @@ fn is_among(file: FileId, files: &[FileId]) -> bool
 
 impl Parts {
     /// Tests the call before it is made, and returns the place of the pending record that it names,
-    /// if it names one. Not tested are a disposal and a report: each looks its record or file up
-    /// anyway, and refuses it then. Takes no memory, and changes nothing.
+    /// if it names one. Not tested are a disposal, a show and a report: each looks its record or
+    /// file up anyway, and refuses it then. Takes no memory, and changes nothing.
     ///
     /// Condition: the parts are sound.
     pub(crate) fn test(&self, call: &Call) -> Result<Option<usize>, Refusal>
@@ -124,8 +124,8 @@ impl Parts {
             Call::Decline { now, id, subtask } => self.test_decline(*now, *id, *subtask),
             Call::Restore { now, target, .. } => at_place(self.test_restore(*now, *target), None),
             Call::Cancel { now } => at_place(self.test_cancel(*now), None),
-            Call::Show { id } => at_place(self.test_show(*id), None),
             Call::Dispose { .. }
+            | Call::Show { .. }
             | Call::Take { .. }
             | Call::Deleted { .. }
             | Call::Undeleted { .. }
@@ -235,15 +235,6 @@ impl Parts {
     {
         test_moment(now)?;
         self.test_not_cancelled()
-    }
-
-    /// Condition: the parts are sound.
-    fn test_show(&self, id: CheckpointId) -> Result<(), Refusal>
-        requires { AreSound self.now }
-        ensures { result_err result ≡ refusal (state_of self.now) (Show id) }
-    {
-        let absent = self.pending.get(id).is_none() && self.store.get(id).is_none();
-        refuse_if(absent, Refusal::NoSuchRecord)
     }
 
     fn test_running(&self) -> Result<(), Refusal>

@@ -117,6 +117,7 @@ part_refusal p r subtask fresh reused = first_some (
 -- whether the call finds its own refusal: it looks a record or a file up anyway
 abbrev pub tests_itself : Call → Bool
 tests_itself (Dispose id) = true
+tests_itself (Show id) = true
 tests_itself (Deleted file) = true
 tests_itself (Undeleted file) = true
 tests_itself call = false

@@ -1,5 +1,5 @@
 -- The parts are sound again after a call, and a report names a refusal exactly if it is refused.
-use Rattle.std.proofs.Common.{◌≡◌, sym, ap, subst, ◌∙◌, Some, None}
+use Rattle.std.proofs.Common.{◌≡◌, sym, ap, subst, ◌∙◌, Some}
 use Rattle.std.specs.Prelude.{Result, Ok, Err, IfOk, IfErr}
 use Rattle.std.specs.Result.{MatchResult, IsErrAnd}
 use Rattle.std.proofs.lemmas.Result.{err_from_is_err_and}
@@ -7,7 +7,6 @@ use Rattle.ckpt_ids.specs.declared.call.Call.{Call}
 use Rattle.ckpt_ids.specs.declared.call.Call.TheVariants.{Deleted, Dispose, Undeleted}
 use Rattle.ckpt_ids.specs.declared.reply.Reply.{Reply}
 use Rattle.ckpt_ids.specs.declared.reply.Reply.TheVariants as reply
-use Rattle.ckpt_ids.specs.declared.reply.Answer.TheVariants.{Done}
 use Rattle.ckpt_ids.specs.declared.reply.Refusal.{Refusal}
 use Rattle.ckpt_core.specs.declared.coordinator.CoreFault.{CoreFault}
 use Rattle.ckpt_core.specs.declared.coordinator.CoreFault.TheVariants.{Refused}
@@ -15,29 +14,17 @@ use Rattle.ckpt_core.specs.declared.parts.Parts.{Parts}
 use Rattle.ckpt_core.specs.Inside.Parts.{Answers, state_of}
 use Rattle.ckpt_core.specs.Refusals.{refusal}
 use Rattle.ckpt_core.specs.State.{State}
-use Rattle.ckpt_core.specs.Steps.{step}
 use Rattle.ckpt_core.proofs.Answering.Calls.{sound_after}
-use Rattle.ckpt_core.proofs.Answering.Reports.{accepted_done}
+use Rattle.ckpt_core.proofs.Answering.Reports.{NamesRefusal, accepted_done, names_it, names_none}
 use Rattle.ckpt_core.proofs.coordinator.Core.apply.Goals as goal
 use Rattle.ckpt_core.proofs.coordinator.Core.apply.Goals.{in-Ok-dispose, in-Err-dispose}
-
-abbrev NamesRefusal : Result Reply CoreFault → State → Call → Type 0
-NamesRefusal result m call = (why : Refusal) → (result ≡ Err (Refused why) → refusal m call ≡ Some why) × (refusal m call ≡ Some why → result ≡ Err (Refused why))
-
-names_none : (m n : State) (call : Call) (reply made : Reply) → step m call ≡ (n, Done reply) → NamesRefusal (Ok made) m call
-names_none m n call reply made is =
-    let accepted : refusal m call ≡ None = accepted_done m n call reply is in
-    λ why. ((λ h. absurd (cc)), (λ h. absurd (cc)))
-
-names_it : (m : State) (call : Call) (why : Refusal) → refusal m call ≡ Some why → NamesRefusal (Err (Refused why)) m call
-names_it m call why is = λ other. ((λ h. cc), (λ h. cc))
 
 report_names : (made : Result Reply Refusal) (result : Result Reply CoreFault) (p q : Parts) (call same : Call) → call ≡ same
     → MatchResult made (λ reply. result ≡ Ok reply) (λ why. IsErrAnd result (λ fault. fault ≡ Refused why)) → IfOk made (Answers p q same) → IfErr made (λ why. refusal (state_of p) same ≡ Some why)
     → NamesRefusal result (state_of p) call
 report_names (Ok reply) result p q call same e is ok err =
     let Named : Result Reply CoreFault → Type 0 = λ r. NamesRefusal r (state_of p) same in
-    subst (NamesRefusal result (state_of p)) (sym e) (subst Named (sym is) (names_none (state_of p) (state_of q) same reply reply ok.step_is))
+    subst (NamesRefusal result (state_of p)) (sym e) (subst Named (sym is) (names_none (state_of p) same (Ok reply) tt (accepted_done (state_of p) (state_of q) same reply ok.step_is)))
 report_names (Err refused) result p q call same e is ok err =
     let told = err_from_is_err_and result is in
     let Named : Result Reply CoreFault → Type 0 = λ r. NamesRefusal r (state_of p) same in
@@ -61,10 +48,15 @@ returns-after-dispose-clause-refused c =
     let result = c.match-dispose.result in
     let Named : Result Reply CoreFault → Type 0 = λ r. NamesRefusal r m call in
     let named : Named result = elim c.match-dispose.branch [
-      | in-Ok-dispose w ↦ subst Named (sym w.result-is) (names_none m (state_of c.dispose.new.self) call (reply.Disposed w.in-Ok-dispose.released) (reply.Disposed w.in-Ok-dispose.released) w.in-Ok-dispose.ensures.ok.step_is)
+      | in-Ok-dispose w ↦ subst Named (sym w.result-is) (names_none m call (Ok (reply.Disposed w.in-Ok-dispose.released)) tt (accepted_done m (state_of c.dispose.new.self) call (reply.Disposed w.in-Ok-dispose.released) w.in-Ok-dispose.ensures.ok.step_is))
       | in-Err-dispose w ↦ subst Named (sym w.result-is) (names_it m call w.in-Err-dispose.why w.in-Err-dispose.ensures.refused)
     ] in
     subst (λ (before : State). NamesRefusal result before c.args.call.now) c.self.view_is (subst (NamesRefusal result m) (sym c.in-Dispose.is) named)
+
+pub returns-in-Show-clause-refused : goal.returns-in-Show-clause-refused
+returns-in-Show-clause-refused c =
+    let result : Result Reply CoreFault = c.show.result in
+    subst (λ (before : State). NamesRefusal result before c.args.call.now) c.self.view_is (subst (NamesRefusal result (state_of c.self.inside.parts)) (sym c.in-Show.is) c.show.ensures.refused)
 
 pub invariant_of-self : goal.invariant_of-self
 invariant_of-self c = sound_after c.self.inside.parts c.dispose.new.self (Dispose c.in-Dispose.id) reply.Disposed c.dispose.result tt c.self.invariant c.dispose.ensures.ok c.dispose.ensures.err
