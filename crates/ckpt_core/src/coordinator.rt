@@ -162,10 +162,7 @@ impl Core {
         };
         // These are not tested first: each looks its record or file up anyway, and refuses it then.
         match call {
-            Call::Dispose { id } => match self.parts.dispose(*id) {
-                Ok(released) => Ok(Reply::Disposed(released)),
-                Err(why) => Err(CoreFault::Refused(why)),
-            },
+            Call::Dispose { id } => self.parts.dispose(*id),
             Call::Show { id } => self.parts.show(*id),
             Call::Deleted { file } => self.parts.deleted(*file).map_err(CoreFault::Refused),
             Call::Undeleted { file } => self.parts.undeleted(*file).map_err(CoreFault::Refused),

@@ -1,8 +1,8 @@
 //! Calls that end records: declines, disposals, restores and the cancellation of the job.
-ghost use Rattle.std.specs.Prelude.{◌≡◌, ℕ, ◌||◌, true, [], length, Some, None, IfOk, OnErr, IfErr};
+ghost use Rattle.std.specs.Prelude.{◌≡◌, ◌≢◌, ◌↔◌, ℕ, ◌||◌, true, [], length, Some, None, Err, IfOk, OnErr, IfErr};
 ghost use Rattle.ckpt_ids.specs.declared.call.Target.TheVariants.{Savepoint};
 ghost use Rattle.ckpt_ids.specs.declared.call.Call.TheVariants as call;
-ghost use Rattle.ckpt_ids.specs.declared.reply.Reply.TheVariants as reply;
+ghost use Rattle.ckpt_ids.specs.declared.reply.Refusal.{Refusal};
 ghost use Rattle.ckpt_core.specs.declared.coordinator.CoreFault.TheVariants.{Memory};
 ghost use Rattle.ckpt_core.specs.Inside.Parts.{Answers, AreSound, AreTied, Drops, IsAccepted, IsPlaceOf, Stays, records_in, state_of};
 ghost use Rattle.ckpt_core.specs.Inside.RecordFacts.{IsInOrder, id_before, is_done_checkpoint, is_pending};
@@ -69,25 +69,25 @@ impl Parts {
         reply
     }
 
-    /// A user disposes of a savepoint. Returns how many files were released. Refuses exactly if the
-    /// savepoint is not there or is the base.
+    /// A user disposes of a savepoint. Refuses exactly if it is not there or is the base.
     ///
     /// Condition: the parts are sound.
     #[inline(never)]
-    pub(crate) fn dispose(&mut self, id: CheckpointId) -> Result<u64, Refusal>
+    pub(crate) fn dispose(&mut self, id: CheckpointId) -> Result<Reply, CoreFault>
         requires { AreSound self.old }
-        ensures ok { IfOk result (λ released. Answers self.old self.new (call.Dispose id) (reply.Disposed released)) }
+        ensures ok { IfOk result (Answers self.old self.new (call.Dispose id)) }
         ensures err { OnErr result (Stays self.old self.new) }
-        ensures refused { IfErr result (λ why. refusal (state_of self.old) (call.Dispose id) ≡ Some why) }
+        ensures refused { (why : Refusal) → (result ≡ Err (CoreFault.Refused why)) ↔ (refusal (state_of self.old) (call.Dispose id) ≡ Some why) }
+        ensures memory { result ≢ Err CoreFault.Memory }
     {
         self.recall_groups();
         match self.store.dispose(id) {
             Ok(()) => {
                 self.ended.push_reserved(id);
-                Ok(self.hand_out())
+                Ok(Reply::Disposed(self.hand_out()))
             }
-            Err(DisposeFault::NoSuchSavepoint) => Err(Refusal::NoSuchSavepoint),
-            Err(DisposeFault::InUse) => Err(Refusal::InUse),
+            Err(DisposeFault::NoSuchSavepoint) => Err(CoreFault::Refused(Refusal::NoSuchSavepoint)),
+            Err(DisposeFault::InUse) => Err(CoreFault::Refused(Refusal::InUse)),
         }
     }
 

@@ -35,10 +35,10 @@ sound_unchanged old new s a = record {
   none_ended = a.none_ended;
 }
 
--- whether it was answered or not, with the reply that is made of the result
-pub sound_after : {T E : Type 0} (old new : Parts) (call : Call) (say : T → Reply) (result : Result T E) → IsCall call → AreSound old → IfOk result (λ x. Answers old new call (say x)) → OnErr result (Stays old new) → AreSound new
-sound_after old new call say (Ok x) c s a h = sound_answered old new call (say x) c s a
-sound_after old new call say (Err error) c s a h = sound_unchanged old new s h
+-- whether it was answered or not
+pub sound_after : {E : Type 0} (old new : Parts) (call : Call) (result : Result Reply E) → IsCall call → AreSound old → IfOk result (Answers old new call) → OnErr result (Stays old new) → AreSound new
+sound_after old new call (Ok reply) c s a h = sound_answered old new call reply c s a
+sound_after old new call (Err error) c s a h = sound_unchanged old new s h
 
 -- memory
 

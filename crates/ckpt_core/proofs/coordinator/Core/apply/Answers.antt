@@ -6,7 +6,6 @@ use Rattle.std.proofs.lemmas.Result.{err_from_is_err_and}
 use Rattle.ckpt_ids.specs.declared.call.Call.{Call}
 use Rattle.ckpt_ids.specs.declared.call.Call.TheVariants.{Deleted, Dispose, Undeleted}
 use Rattle.ckpt_ids.specs.declared.reply.Reply.{Reply}
-use Rattle.ckpt_ids.specs.declared.reply.Reply.TheVariants as reply
 use Rattle.ckpt_ids.specs.declared.reply.Refusal.{Refusal}
 use Rattle.ckpt_core.specs.declared.coordinator.CoreFault.{CoreFault}
 use Rattle.ckpt_core.specs.declared.coordinator.CoreFault.TheVariants.{Refused}
@@ -17,7 +16,6 @@ use Rattle.ckpt_core.specs.State.{State}
 use Rattle.ckpt_core.proofs.Answering.Calls.{sound_after}
 use Rattle.ckpt_core.proofs.Answering.Reports.{NamesRefusal, accepted_done, names_it, names_none}
 use Rattle.ckpt_core.proofs.coordinator.Core.apply.Goals as goal
-use Rattle.ckpt_core.proofs.coordinator.Core.apply.Goals.{in-Ok-dispose, in-Err-dispose}
 
 report_names : (made : Result Reply Refusal) (result : Result Reply CoreFault) (p q : Parts) (call same : Call) → call ≡ same
     → MatchResult made (λ reply. result ≡ Ok reply) (λ why. IsErrAnd result (λ fault. fault ≡ Refused why)) → IfOk made (Answers p q same) → IfErr made (λ why. refusal (state_of p) same ≡ Some why)
@@ -41,17 +39,10 @@ returns-in-Undeleted-clause-refused c =
     subst (λ (before : State). NamesRefusal result before c.args.call.now) c.self.view_is
     (report_names c.undeleted.result result c.self.inside.parts c.undeleted.new.self c.args.call.now (Undeleted c.in-Undeleted.file) c.in-Undeleted.is c.map_err-in-Undeleted.ensures.cases c.undeleted.ensures.ok c.undeleted.ensures.refused)
 
-pub returns-after-dispose-clause-refused : goal.returns-after-dispose-clause-refused
-returns-after-dispose-clause-refused c =
-    let m = state_of c.self.inside.parts in
-    let call = Dispose c.in-Dispose.id in
-    let result = c.match-dispose.result in
-    let Named : Result Reply CoreFault → Type 0 = λ r. NamesRefusal r m call in
-    let named : Named result = elim c.match-dispose.branch [
-      | in-Ok-dispose w ↦ subst Named (sym w.result-is) (names_none m call (Ok (reply.Disposed w.in-Ok-dispose.released)) tt (accepted_done m (state_of c.dispose.new.self) call (reply.Disposed w.in-Ok-dispose.released) w.in-Ok-dispose.ensures.ok.step_is))
-      | in-Err-dispose w ↦ subst Named (sym w.result-is) (names_it m call w.in-Err-dispose.why w.in-Err-dispose.ensures.refused)
-    ] in
-    subst (λ (before : State). NamesRefusal result before c.args.call.now) c.self.view_is (subst (NamesRefusal result m) (sym c.in-Dispose.is) named)
+pub returns-in-Dispose-clause-refused : goal.returns-in-Dispose-clause-refused
+returns-in-Dispose-clause-refused c =
+    let result : Result Reply CoreFault = c.dispose.result in
+    subst (λ (before : State). NamesRefusal result before c.args.call.now) c.self.view_is (subst (NamesRefusal result (state_of c.self.inside.parts)) (sym c.in-Dispose.is) c.dispose.ensures.refused)
 
 pub returns-in-Show-clause-refused : goal.returns-in-Show-clause-refused
 returns-in-Show-clause-refused c =
@@ -59,13 +50,13 @@ returns-in-Show-clause-refused c =
     subst (λ (before : State). NamesRefusal result before c.args.call.now) c.self.view_is (subst (NamesRefusal result (state_of c.self.inside.parts)) (sym c.in-Show.is) c.show.ensures.refused)
 
 pub invariant_of-self : goal.invariant_of-self
-invariant_of-self c = sound_after c.self.inside.parts c.dispose.new.self (Dispose c.in-Dispose.id) reply.Disposed c.dispose.result tt c.self.invariant c.dispose.ensures.ok c.dispose.ensures.err
+invariant_of-self c = sound_after c.self.inside.parts c.dispose.new.self (Dispose c.in-Dispose.id) c.dispose.result tt c.self.invariant c.dispose.ensures.ok c.dispose.ensures.err
 
 pub invariant_of-self-in-Deleted : goal.invariant_of-self-in-Deleted
-invariant_of-self-in-Deleted c = sound_after c.self.inside.parts c.deleted.new.self (Deleted c.in-Deleted.file) (λ made. made) c.deleted.result tt c.self.invariant c.deleted.ensures.ok c.deleted.ensures.err
+invariant_of-self-in-Deleted c = sound_after c.self.inside.parts c.deleted.new.self (Deleted c.in-Deleted.file) c.deleted.result tt c.self.invariant c.deleted.ensures.ok c.deleted.ensures.err
 
 pub invariant_of-self-in-Undeleted : goal.invariant_of-self-in-Undeleted
-invariant_of-self-in-Undeleted c = sound_after c.self.inside.parts c.undeleted.new.self (Undeleted c.in-Undeleted.file) (λ made. made) c.undeleted.result tt c.self.invariant c.undeleted.ensures.ok c.undeleted.ensures.err
+invariant_of-self-in-Undeleted c = sound_after c.self.inside.parts c.undeleted.new.self (Undeleted c.in-Undeleted.file) c.undeleted.result tt c.self.invariant c.undeleted.ensures.ok c.undeleted.ensures.err
 
 pub invariant_of-self-in_default : goal.invariant_of-self-in_default
-invariant_of-self-in_default c = sound_after c.self.inside.parts c.answer.new.self c.args.call.now (λ made. made) c.answer.result c.recall_call.ensures c.self.invariant c.answer.ensures.ok c.answer.ensures.err
+invariant_of-self-in_default c = sound_after c.self.inside.parts c.answer.new.self c.args.call.now c.answer.result c.recall_call.ensures c.self.invariant c.answer.ensures.ok c.answer.ensures.err

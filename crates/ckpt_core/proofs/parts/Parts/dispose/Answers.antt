@@ -1,18 +1,21 @@
 -- A savepoint that is there and not the base is let go; the table refuses the other disposals.
 use Rattle.std.proofs.Common.{◌≡◌, ℕ, ◌++◌, ◌∷◌, [], true, false, eqb, refl, ap, ◌∙◌, arith, Option, Some, None, Result, Ok, Err}
 use Rattle.std.proofs.lemmas.Bool.{eqb-true, eq-eqb, true_from_ne_false, false_from_ne_true}
+use Rattle.ckpt_ids.specs.declared.call.Call.TheVariants.{Dispose}
+use Rattle.ckpt_ids.specs.declared.reply.Refusal.TheVariants as refusals
+use Rattle.ckpt_ids.specs.declared.reply.Reply.TheVariants.{Disposed}
 use Rattle.ckpt_store.specs.declared.store.DisposeFault.{DisposeFault}
 use Rattle.ckpt_store.specs.declared.store.DisposeFault.TheVariants.{NoSuchSavepoint, InUse}
 use Rattle.ckpt_store.specs.Storing.{has_savepoint}
 use Rattle.ckpt_core.specs.Inside.Parts.{Drops, state_of}
-use Rattle.ckpt_core.specs.Refusals.{is_number}
+use Rattle.ckpt_core.specs.Refusals.{is_number, refusal}
 use Rattle.ckpt_core.proofs.Answering.RefusalLookups.{done_savepoint-parts}
-use Rattle.ckpt_core.proofs.Answering.Reports.{refusal_dispose}
+use Rattle.ckpt_core.proofs.Answering.Reports.{names_it, names_none, refusal_dispose}
 use Rattle.ckpt_core.proofs.Ending.Drops.{none_known, room_to_note}
 use Rattle.ckpt_core.proofs.Ending.DropDone.{savepoint_dropped, one_there}
 use Rattle.ckpt_core.proofs.Ending.Moves.{disposed_answers}
 use Rattle.ckpt_core.proofs.parts.Parts.dispose.Goals as goal
-use Rattle.ckpt_core.proofs.parts.Parts.dispose.Goals.{In-Ok}
+use Rattle.ckpt_core.proofs.parts.Parts.dispose.Goals.{In-Ok, After-hand_out}
 
 not_both : {T : Type 0} (r : Result T DisposeFault) (u : T) (fault : DisposeFault) → r ≡ Ok u → r ≡ Err fault → ⊥
 not_both (Ok v) u fault e h = cc
@@ -38,8 +41,15 @@ push_reserved-requires c =
 pub hand_out-requires-clause-unknown : goal.hand_out-requires-clause-unknown
 hand_out-requires-clause-unknown c = none_known c.args.self.now c.requires.tied c.requires.sound
 
-pub returns-in-Ok-clause-ok : goal.returns-in-Ok-clause-ok
+accepted : (c : After-hand_out) → refusal (state_of c.args.self.now) (Dispose c.args.id) ≡ None
 unfolding state_of
+accepted c =
+    let p = c.args.self.now in
+    let at = (goal.at.returns-in-Ok-clause-ok c).In-Ok in
+    let done = done_savepoint-parts p c.args.id c.recall_groups.ensures.pending c.recall_groups.ensures.stored ∙ there at in
+    refusal_dispose (state_of p) c.args.id true false done (free at)
+
+pub returns-in-Ok-clause-ok : goal.returns-in-Ok-clause-ok
 returns-in-Ok-clause-ok c =
     let p = c.args.self.now in
     let id = c.args.id in
@@ -53,18 +63,23 @@ returns-in-Ok-clause-ok c =
     c.hand_out.ensures.parts c.hand_out.ensures.cleared
     (c.hand_out.ensures.capacity ∙ c.push_reserved.ensures.capacity)
     c.hand_out.ensures.count in
-    let done = done_savepoint-parts p id c.recall_groups.ensures.pending c.recall_groups.ensures.stored ∙ there at in
-    disposed_answers p q id c.hand_out.result (refusal_dispose (state_of p) id true false done (free at)) drops
+    disposed_answers p q id c.hand_out.result (accepted c) drops
+
+pub returns-in-Ok-clause-refused : goal.returns-in-Ok-clause-refused
+returns-in-Ok-clause-refused c = names_none (state_of c.args.self.now) (Dispose c.args.id) (Ok (Disposed c.hand_out.result)) tt (accepted c)
 
 pub returns-in-Err-NoSuchSavepoint-clause-refused : goal.returns-in-Err-NoSuchSavepoint-clause-refused
 returns-in-Err-NoSuchSavepoint-clause-refused c =
     let p = c.args.self.now in
     let absent : has_savepoint p.store c.args.id ≡ false = c.dispose.ensures.absent.0 (c.in-Err-NoSuchSavepoint.is ∙ ap Err c.in-Err-NoSuchSavepoint.field-0-is) in
-    refusal_dispose (state_of p) c.args.id false _ (done_savepoint-parts p c.args.id c.recall_groups.ensures.pending c.recall_groups.ensures.stored ∙ absent) refl
+    let row = refusal_dispose (state_of p) c.args.id false _ (done_savepoint-parts p c.args.id c.recall_groups.ensures.pending c.recall_groups.ensures.stored ∙ absent) refl in
+    names_it (state_of p) (Dispose c.args.id) refusals.NoSuchSavepoint row
 
 pub returns-in-Err-InUse-clause-refused : goal.returns-in-Err-InUse-clause-refused
 unfolding state_of
 returns-in-Err-InUse-clause-refused c =
     let p = c.args.self.now in
     let used = c.dispose.ensures.in_use.0 (c.in-Err-InUse.is ∙ ap Err c.in-Err-InUse.field-0-is) in
-    refusal_dispose (state_of p) c.args.id true true (done_savepoint-parts p c.args.id c.recall_groups.ensures.pending c.recall_groups.ensures.stored ∙ used.0) (ap (λ base. is_number base c.args.id) used.1 ∙ eq-eqb c.args.id c.args.id refl)
+    let done = done_savepoint-parts p c.args.id c.recall_groups.ensures.pending c.recall_groups.ensures.stored ∙ used.0 in
+    let row = refusal_dispose (state_of p) c.args.id true true done (ap (λ base. is_number base c.args.id) used.1 ∙ eq-eqb c.args.id c.args.id refl) in
+    names_it (state_of p) (Dispose c.args.id) refusals.InUse row
