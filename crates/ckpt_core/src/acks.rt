@@ -77,7 +77,8 @@ impl Parts {
 
     /// The pending record still waits for other subtasks.
     ///
-    /// Condition: the record is at this place, and lacks `missing` acknowledgements, more than one.
+    /// Conditions: the parts are sound, the call is accepted, and the record is at this place and lacks
+    /// `missing` acknowledgements, more than one.
     fn ack_waiting(
         &mut self,
         now: u64,
@@ -116,7 +117,7 @@ impl Parts {
     /// Adds an acknowledgement to its pending record, and its files to the registry. Fails only if
     /// memory runs out, and then changes nothing.
     ///
-    /// Condition: the record is at this place.
+    /// Conditions: the parts are sound, the call is accepted, and the record is at this place.
     pub(crate) fn take_ack(
         &mut self,
         now: u64,

@@ -190,7 +190,8 @@ impl Parts {
     /// Each kind of call has a function of its own, because a function clears the locals of
     /// everything that is inlined into it.
     ///
-    /// Conditions: the parts are sound, and the pending record that the call names is at this place.
+    /// Conditions: the parts are sound, the call is accepted, and the pending record that it names is at
+    /// this place. If there is no place, no pending record has its number.
     fn answer(&mut self, call: &Call, place: Option<usize>) -> Result<Reply, CoreFault>
         requires sound { AreSound self.old }
         requires accepted { IsAccepted self.old call.now }
@@ -230,8 +231,7 @@ impl Parts {
     /// Makes a call that takes no memory and was tested first. It is a function of its own, so that
     /// `answer` keeps no reply of these calls beside its result.
     ///
-    /// Conditions: the parts are sound, the call is accepted, and the pending record that it names is
-    /// at this place.
+    /// Conditions: as for `answer`, and the call takes no memory.
     #[inline(never)]
     fn answer_in_place(&mut self, call: &Call, place: Option<usize>) -> Reply
         requires sound { AreSound self.old }

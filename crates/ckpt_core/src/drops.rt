@@ -51,7 +51,8 @@ impl Parts {
 
     /// Drops the noted pending records, and returns how many files were released. Takes no memory.
     ///
-    /// Condition: no other records are noted.
+    /// Conditions: the parts are tied, the records are in rising number, the outbox knows no file in use,
+    /// and no other records are noted.
     #[inline(always)]
     pub(crate) fn drop_noted(&mut self) -> u64
         requires tied { AreTied self.old }
@@ -69,6 +70,8 @@ impl Parts {
     }
 
     /// Drops all pending records, and returns how many files were released. Takes no memory.
+    ///
+    /// Condition: the parts are sound.
     pub(crate) fn drop_all_pending(&mut self) -> u64
         requires { AreSound self.old }
         ensures { Drops self.old self.new is_pending result }
@@ -93,6 +96,8 @@ impl Parts {
 
     /// Drops all pending records and all completed checkpoints, and returns how many files were
     /// released. Takes no memory.
+    ///
+    /// Condition: the parts are sound.
     pub(crate) fn drop_all_but_savepoints(&mut self) -> u64
         requires { AreSound self.old }
         ensures { Drops self.old self.new (λ r. is_pending r || is_done_checkpoint r) result }

@@ -19,6 +19,8 @@ use ckpt_store::DisposeFault;
 impl Parts {
     /// The job fails over: all pending records are dropped, and nothing is triggered until the job
     /// is restored. Returns how many files were released.
+    ///
+    /// Condition: the parts are sound.
     #[inline(never)]
     pub(crate) fn fail_over(&mut self) -> u64
         requires { AreSound self.old }
@@ -92,6 +94,8 @@ impl Parts {
     }
 
     /// The job begins again in its present shape. Takes no memory.
+    ///
+    /// Conditions: the parts are sound, and the call is accepted.
     #[inline(never)]
     pub(crate) fn restore(&mut self, now: u64, target: Target) -> Reply
         requires sound { AreSound self.old }
@@ -113,7 +117,7 @@ impl Parts {
     /// Drops the records after the target. If the target is a savepoint, it becomes the base.
     /// Returns how many files were released.
     ///
-    /// Condition: if the target is a savepoint, it is there.
+    /// Conditions: the parts are sound, and if the target is a savepoint, it is there.
     fn roll_back(&mut self, target: Target) -> u64
         requires sound { AreSound self.old }
         requires there { (id : ℕ) → target ≡ Savepoint id → is_done_savepoint (state_of self.old) id ≡ true }
@@ -130,7 +134,7 @@ impl Parts {
 
     /// Drops all but the completed savepoints, of which one becomes the base.
     ///
-    /// Condition: that one is there.
+    /// Conditions: the parts are sound, and that one is there.
     fn drop_down_to(&mut self, id: CheckpointId) -> u64
         requires sound { AreSound self.old }
         requires there { is_done_savepoint (state_of self.old) id ≡ true }
@@ -145,6 +149,8 @@ impl Parts {
     }
 
     /// What the job would restart from.
+    ///
+    /// Condition: the records are in rising number.
     pub(crate) fn choice(&self) -> Choice
         requires { IsInOrder id_before (records_in self.now) }
         ensures { result ≡ choice_of (state_of self.now) }
@@ -154,6 +160,8 @@ impl Parts {
     }
 
     /// The job begins again, in this shape.
+    ///
+    /// Conditions: the parts are sound, and the call is accepted.
     #[inline(never)]
     pub(crate) fn restore_in(
         &mut self,
@@ -174,6 +182,8 @@ impl Parts {
     }
 
     /// The job ends for good.
+    ///
+    /// Conditions: the parts are sound, and the call is accepted.
     #[inline(never)]
     pub(crate) fn cancel(&mut self, now: u64) -> Reply
         requires sound { AreSound self.old }
@@ -189,6 +199,8 @@ impl Parts {
 
     /// Drops the records that a cancelled job does not keep. Returns how many they were, and how
     /// many files were released.
+    ///
+    /// Condition: the parts are sound.
     fn drop_cancelled(&mut self) -> (u32, u64)
         requires { AreSound self.old }
         ensures drops { Drops self.old self.new (cancelled (state_of self.old)) result.1 }

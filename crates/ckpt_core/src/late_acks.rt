@@ -14,6 +14,8 @@ use std::alloc::AllocError;
 
 impl Parts {
     /// The record has ended: what is not known of its fresh files waits for deletion.
+    ///
+    /// Conditions: the parts are sound, the call is accepted, and no pending record has the number.
     #[inline(never)]
     pub(crate) fn ack_late(
         &mut self,
@@ -51,8 +53,11 @@ impl Parts {
         Ok(unknown)
     }
 
-    /// Hands out these files, which are not in use. Fails only if there are any and memory runs
+    /// Hands out these files. Fails only if there are any and memory runs
     /// out, and then changes nothing.
+    ///
+    /// Conditions: each file is named once, the outbox knows none of them, and it has room for the
+    /// files in use.
     fn put_unknown(&mut self, files: &[FileId]) -> Result<(), AllocError>
         requires distinct { AreDistinct files.now }
         requires unknown { (f : ℕ) → is_in f files.now ≡ true → is_known self.old.outbox f ≡ false }

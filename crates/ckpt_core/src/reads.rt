@@ -17,6 +17,8 @@ use std::alloc::AllocError;
 
 impl Parts {
     /// Fetches files that wait for deletion.
+    ///
+    /// Conditions: the parts are sound, and the call is accepted.
     #[inline(never)]
     pub(crate) fn take(&mut self, most: u64) -> Result<Reply, CoreFault>
         requires sound { AreSound self.old }
@@ -29,6 +31,8 @@ impl Parts {
     }
 
     /// A fetched file is deleted. Refuses exactly if the file is not taken.
+    ///
+    /// Condition: the parts are sound.
     #[inline(always)]
     pub(crate) fn deleted(&mut self, file: FileId) -> Result<Reply, Refusal>
         requires { AreSound self.old }
@@ -43,6 +47,8 @@ impl Parts {
     }
 
     /// A fetched file could not be deleted. Refuses exactly if the file is not taken.
+    ///
+    /// Condition: the parts are sound.
     #[inline(always)]
     pub(crate) fn undeleted(&mut self, file: FileId) -> Result<Reply, Refusal>
         requires { AreSound self.old }
@@ -74,6 +80,8 @@ impl Parts {
     }
 
     /// How often a file is used.
+    ///
+    /// Conditions: the parts are sound, and the call is accepted.
     #[inline(never)]
     pub(crate) fn count(&mut self, file: FileId) -> Reply
         requires sound { AreSound self.old }
