@@ -68,6 +68,7 @@ impl Parts {
         self.recall_store();
         self.pending.recall();
         let missing = self.pending.at(place).missing();
+        // each answer is the last expression, so it needs no place beside the result
         if missing > 1 {
             self.ack_waiting(now, id, place, subtask, fresh, reused, missing)
         } else {

@@ -1,4 +1,4 @@
--- The parts are sound again after a call, and a report names a refusal exactly if it is refused.
+-- The parts are sound again after a call, and a call that was not tested first names a refusal exactly if it is refused.
 use Rattle.std.proofs.Common.{◌≡◌, sym, ap, subst, ◌∙◌, Some}
 use Rattle.std.specs.Prelude.{Result, Ok, Err, IfOk, IfErr}
 use Rattle.std.specs.Result.{MatchResult, IsErrAnd}
