@@ -44,41 +44,42 @@ impl Parts {
         self.registry.contains(file) || self.outbox.knows(file)
     }
 
-    /// A subtask has taken its part.
+    /// A subtask has taken its part in a pending record.
+    ///
+    /// Conditions: the parts are sound, the call is accepted, and the record is at this place.
     #[inline(never)]
     pub(crate) fn ack(
         &mut self,
         now: u64,
         id: CheckpointId,
+        place: usize,
         subtask: SubtaskId,
         fresh: &Files,
         reused: &Files,
     ) -> Result<Reply, CoreFault>
         requires sound { AreSound self.old }
         requires accepted { IsAccepted self.old (call.Ack now id subtask fresh.now reused.now) }
+        requires place { LiesAt id_of id self.old.pending place }
         ensures ok { IfOk result (Answers self.old self.new (call.Ack now id subtask fresh.now reused.now)) }
         ensures err { OnErr result (Stays self.old self.new) }
         ensures fault { IfErr result (λ fault. fault ≡ Memory) }
         ensures memory { OnErr result (may_want_memory (state_of self.old) (call.Ack now id subtask fresh.now reused.now) ≡ true) }
     {
         self.recall_store();
+        self.pending.recall();
+        let missing = self.pending.at(place).missing();
         // each answer is the last expression, so it needs no place beside the result
-        match self.pending.place(id) {
-            None => self.ack_late(now, id, subtask, fresh, reused),
-            Some(place) => {
-                let missing = self.pending.at(place).missing();
-                if missing > 1 {
-                    self.ack_waiting(now, id, place, subtask, fresh, reused, missing)
-                } else {
-                    self.ack_last(now, id, place, subtask, fresh, reused)
-                }
-            }
+        if missing > 1 {
+            self.ack_waiting(now, id, place, subtask, fresh, reused, missing)
+        } else {
+            self.ack_last(now, id, place, subtask, fresh, reused)
         }
     }
 
     /// The pending record still waits for other subtasks.
     ///
-    /// Condition: the record is at this place, and lacks `missing` acknowledgements, more than one.
+    /// Conditions: the parts are sound, the call is accepted, and the record is at this place and lacks
+    /// `missing` acknowledgements, more than one.
     fn ack_waiting(
         &mut self,
         now: u64,
@@ -117,7 +118,7 @@ impl Parts {
     /// Adds an acknowledgement to its pending record, and its files to the registry. Fails only if
     /// memory runs out, and then changes nothing.
     ///
-    /// Condition: the record is at this place.
+    /// Conditions: the parts are sound, the call is accepted, and the record is at this place.
     pub(crate) fn take_ack(
         &mut self,
         now: u64,

@@ -20,7 +20,8 @@ use ckpt_pending::Done;
 impl Parts {
     /// The pending record has waited for this subtask only, and completes.
     ///
-    /// Condition: the record is at this place, and lacks one acknowledgement.
+    /// Conditions: the parts are sound, the call is accepted, and the record is at this place and lacks
+    /// one acknowledgement.
     pub(crate) fn ack_last(
         &mut self,
         now: u64,
@@ -55,9 +56,9 @@ impl Parts {
         }
     }
 
-    /// Takes out the pending record at this place, as a done one. Takes no memory.
+    /// Takes out the pending record at this place, and finishes it. Takes no memory.
     ///
-    /// Conditions: there is one, and it has all of its acknowledgements.
+    /// Condition: there is a record at this place, and it lacks no acknowledgement.
     fn finish(&mut self, place: usize) -> Done
         requires there { place < length self.old.pending }
         requires full { (r : Record) → slice_get self.old.pending place ≡ Some r → missing r ≡ 0 }

@@ -5,7 +5,7 @@ ghost use Rattle.ckpt_ids.specs.declared.reply.Answer.TheVariants.{Done};
 ghost use Rattle.ckpt_ids.specs.declared.reply.Refusal.{Refusal};
 ghost use Rattle.ckpt_core.specs.declared.coordinator.CoreFault.TheVariants.{Memory};
 ghost use Rattle.ckpt_core.specs.Coordinator.{IsCall, may_want_memory, open_fault, opened, refusal, step};
-ghost use Rattle.ckpt_core.specs.Inside.Parts.{Answers, AreSound, IsAccepted, Stays, is_report, never_fails, state_of};
+ghost use Rattle.ckpt_core.specs.Inside.Parts.{Answers, AreSound, IsAccepted, IsPlaceIn, Stays, never_fails, state_of, tests_itself};
 
 use crate::parts::Parts;
 use crate::recall::recall_shape;
@@ -156,14 +156,17 @@ impl Core {
         ensures shape { IsCall call.now }
     {
         recall_call(call);
-        if let Some(why) = self.parts.early_refusal(call) {
-            return Err(CoreFault::Refused(why));
-        }
-        // A report is not tested first: the outbox looks its file up anyway, and refuses it then.
+        let place = match self.parts.test(call) {
+            Ok(place) => place,
+            Err(why) => return Err(CoreFault::Refused(why)),
+        };
+        // These are not tested first: each looks its record or file up anyway, and refuses it then.
         match call {
+            Call::Dispose { id } => self.parts.dispose(*id),
+            Call::Show { id } => self.parts.show(*id),
             Call::Deleted { file } => self.parts.deleted(*file).map_err(CoreFault::Refused),
             Call::Undeleted { file } => self.parts.undeleted(*file).map_err(CoreFault::Refused),
-            _ => self.parts.answer(call),
+            _ => self.parts.answer(call, place),
         }
     }
 }
@@ -182,14 +185,18 @@ fn recall_call(call: &Call)
 }
 
 impl Parts {
-    /// Makes an accepted call that is no report. Fails only if memory runs out.
+    /// Makes an accepted call that was tested first. Fails only if memory runs out.
     ///
     /// Each kind of call has a function of its own, because a function clears the locals of
     /// everything that is inlined into it.
-    fn answer(&mut self, call: &Call) -> Result<Reply, CoreFault>
+    ///
+    /// Conditions: the parts are sound, the call is accepted, and the pending record that it names is at
+    /// this place. If there is no place, no pending record has its number.
+    fn answer(&mut self, call: &Call, place: Option<usize>) -> Result<Reply, CoreFault>
         requires sound { AreSound self.old }
         requires accepted { IsAccepted self.old call.now }
-        requires other { is_report call.now ≡ false }
+        requires other { tests_itself call.now ≡ false }
+        requires place { IsPlaceIn self.old call.now place }
         ensures ok { IfOk result (Answers self.old self.new call.now) }
         ensures err { OnErr result (Stays self.old self.new) }
         ensures fault { IfErr result (λ fault. fault ≡ Memory) }
@@ -207,30 +214,34 @@ impl Parts {
                 subtask,
                 fresh,
                 reused,
-            } => { self.ack(*now, *id, *subtask, fresh, reused) }
+            } => match place {
+                Some(place) => self.ack(*now, *id, place, *subtask, fresh, reused),
+                None => self.ack_late(*now, *id, *subtask, fresh, reused),
+            },
             Call::Restore {
                 now,
                 target,
                 shape: Some(shape),
             } => self.restore_in(*now, *target, shape),
             Call::Take { most } => self.take(*most),
-            Call::Show { id } => self.show(*id),
-            _ => Ok(self.answer_in_place(call)),
+            _ => Ok(self.answer_in_place(call, place)),
         }
     }
 
-    /// Makes a call that takes no memory and is no report. It is a function of its own, so that
+    /// Makes a call that takes no memory and was tested first. It is a function of its own, so that
     /// `answer` keeps no reply of these calls beside its result.
+    ///
+    /// Conditions: as for `answer`, and the call takes no memory.
     #[inline(never)]
-    fn answer_in_place(&mut self, call: &Call) -> Reply
+    fn answer_in_place(&mut self, call: &Call, place: Option<usize>) -> Reply
         requires sound { AreSound self.old }
         requires accepted { IsAccepted self.old call.now }
+        requires place { IsPlaceIn self.old call.now place }
         requires in_place { never_fails call.now ≡ true }
         ensures { Answers self.old self.new call.now result }
     {
         match call {
-            Call::Decline { now, id, subtask } => self.decline(*now, *id, *subtask),
-            Call::Dispose { id } => self.dispose(*id),
+            Call::Decline { now, id, subtask } => self.decline(*now, *id, place, *subtask),
             Call::Restore {
                 now,
                 target,

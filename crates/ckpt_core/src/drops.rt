@@ -1,9 +1,11 @@
 //! The end of records: their uses are released, and the files that nothing uses are handed out.
-ghost use Rattle.std.specs.Prelude.{◌≡◌, ◌≤◌, ◌++◌, ◌||◌, ◌==◌, ◌≢◌, ◌+◌, [], true, find, length, map, Some, IsSome, vec_capacity, vec_len};
+ghost use Rattle.std.specs.Prelude.{◌≡◌, ◌≤◌, ◌++◌, ◌||◌, ◌==◌, ◌+◌, [], length, map, vec_capacity, vec_len};
 ghost use Rattle.ckpt_core.specs.Inside.FileFacts.{after_end, released, without};
 ghost use Rattle.ckpt_core.specs.Inside.Moving.{releasing, without_checkpoints};
 ghost use Rattle.ckpt_core.specs.Inside.Parts.{AreInUseAlone, AreSound, AreTied, Drops, NotesPendingOnly, is_noted, present_in, records_in};
-ghost use Rattle.ckpt_core.specs.Inside.RecordFacts.{IsInOrder, has_savepoint, id_before, is_done_checkpoint, is_pending};
+ghost use Rattle.ckpt_core.specs.Inside.RecordFacts.{IsInOrder, id_before, is_done_checkpoint, is_pending};
+ghost use Rattle.ckpt_ids.specs.Places.{LiesAt};
+ghost use Rattle.ckpt_store.specs.Storing.{id_of};
 
 use crate::parts::Parts;
 use ckpt_ids::CheckpointId;
@@ -49,7 +51,8 @@ impl Parts {
 
     /// Drops the noted pending records, and returns how many files were released. Takes no memory.
     ///
-    /// Condition: no other records are noted.
+    /// Conditions: the parts are tied, the records are in rising number, the outbox knows no file in use,
+    /// and no other records are noted.
     #[inline(always)]
     pub(crate) fn drop_noted(&mut self) -> u64
         requires tied { AreTied self.old }
@@ -67,6 +70,8 @@ impl Parts {
     }
 
     /// Drops all pending records, and returns how many files were released. Takes no memory.
+    ///
+    /// Condition: the parts are sound.
     pub(crate) fn drop_all_pending(&mut self) -> u64
         requires { AreSound self.old }
         ensures { Drops self.old self.new is_pending result }
@@ -77,17 +82,22 @@ impl Parts {
     }
 
     /// Drops the pending record `id`, and returns how many files were released. Takes no memory.
-    pub(crate) fn drop_pending(&mut self, id: CheckpointId) -> u64
+    ///
+    /// Conditions: the parts are sound, and the record is at this place.
+    pub(crate) fn drop_pending(&mut self, id: CheckpointId, place: usize) -> u64
         requires sound { AreSound self.old }
-        requires there { IsSome (find (λ r. r.id == id) self.old.pending) }
+        requires place { LiesAt id_of id self.old.pending place }
         ensures { Drops self.old self.new (λ r. r.id == id) result }
     {
+        self.pending.take_out(place);
         self.ended.push_reserved(id);
-        self.drop_noted()
+        self.hand_out()
     }
 
     /// Drops all pending records and all completed checkpoints, and returns how many files were
     /// released. Takes no memory.
+    ///
+    /// Condition: the parts are sound.
     pub(crate) fn drop_all_but_savepoints(&mut self) -> u64
         requires { AreSound self.old }
         ensures { Drops self.old self.new (λ r. is_pending r || is_done_checkpoint r) result }
@@ -111,18 +121,5 @@ impl Parts {
         while let Some(id) = self.store.pop_lowest() {
             self.ended.push_reserved(id);
         }
-    }
-
-    /// Drops a completed savepoint that is not the base, and returns how many files were released.
-    /// Takes no memory.
-    pub(crate) fn drop_savepoint(&mut self, id: CheckpointId) -> u64
-        requires sound { AreSound self.old }
-        requires there { has_savepoint self.old.store id ≡ true }
-        requires free { self.old.store.base ≢ Some id }
-        ensures { Drops self.old self.new (λ r. r.id == id) result }
-    {
-        let _ = self.store.dispose(id);
-        self.ended.push_reserved(id);
-        self.hand_out()
     }
 }

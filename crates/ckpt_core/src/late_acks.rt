@@ -53,10 +53,10 @@ impl Parts {
         Ok(unknown)
     }
 
-    /// Hands out these files, which are not in use. Fails only if there are any and memory runs
+    /// Hands out these files. Fails only if there are any and memory runs
     /// out, and then changes nothing.
     ///
-    /// Conditions: none is named twice, the outbox knows none of them, and it has room for the
+    /// Conditions: each file is named once, the outbox knows none of them, and it has room for the
     /// files in use.
     fn put_unknown(&mut self, files: &[FileId]) -> Result<(), AllocError>
         requires distinct { AreDistinct files.now }

@@ -1,8 +1,10 @@
 //! Calls that take, report, show and count.
-ghost use Rattle.std.specs.Prelude.{◌≡◌, Some, IsSome, IfOk, IfErr, OnErr, option_map};
+ghost use Rattle.std.specs.Prelude.{◌≡◌, ◌↔◌, true, Some, Err, IsSome, IfOk, IfErr, OnErr, option_map};
 ghost use Rattle.ckpt_ids.specs.Records.{metadata_of};
 ghost use Rattle.ckpt_ids.specs.declared.call.Call.TheVariants as call;
+ghost use Rattle.ckpt_ids.specs.declared.reply.Refusal.{Refusal};
 ghost use Rattle.ckpt_core.specs.declared.coordinator.CoreFault.TheVariants.{Memory};
+ghost use Rattle.ckpt_core.specs.Coordinator.{may_want_memory};
 ghost use Rattle.ckpt_core.specs.Inside.Parts.{Answers, AreSound, IsAccepted, Stays, records_in, state_of};
 ghost use Rattle.ckpt_core.specs.Inside.RecordFacts.{IsInOrder, id_before};
 ghost use Rattle.ckpt_core.specs.Refusals.{refusal};
@@ -15,6 +17,8 @@ use std::alloc::AllocError;
 
 impl Parts {
     /// Fetches files that wait for deletion.
+    ///
+    /// Conditions: the parts are sound, and the call is accepted.
     #[inline(never)]
     pub(crate) fn take(&mut self, most: u64) -> Result<Reply, CoreFault>
         requires sound { AreSound self.old }
@@ -27,6 +31,8 @@ impl Parts {
     }
 
     /// A fetched file is deleted. Refuses exactly if the file is not taken.
+    ///
+    /// Condition: the parts are sound.
     #[inline(always)]
     pub(crate) fn deleted(&mut self, file: FileId) -> Result<Reply, Refusal>
         requires { AreSound self.old }
@@ -41,6 +47,8 @@ impl Parts {
     }
 
     /// A fetched file could not be deleted. Refuses exactly if the file is not taken.
+    ///
+    /// Condition: the parts are sound.
     #[inline(always)]
     pub(crate) fn undeleted(&mut self, file: FileId) -> Result<Reply, Refusal>
         requires { AreSound self.old }
@@ -54,19 +62,26 @@ impl Parts {
         }
     }
 
-    /// The metadata of a live record.
+    /// Shows the metadata of a live record. Refuses exactly if no live record has this number.
+    ///
+    /// Condition: the parts are sound.
     #[inline(never)]
-    pub(crate) fn show(&mut self, id: CheckpointId) -> Result<Reply, CoreFault>
-        requires sound { AreSound self.old }
-        requires accepted { IsAccepted self.old (call.Show id) }
-        ensures ok { IfOk result (Answers self.old self.new (call.Show id)) }
-        ensures err { OnErr result (Stays self.old self.new) }
-        ensures fault { IfErr result (λ fault. fault ≡ Memory) }
+    pub(crate) fn show(&self, id: CheckpointId) -> Result<Reply, CoreFault>
+        requires { AreSound self.now }
+        ensures ok { IfOk result (Answers self.now self.now (call.Show id)) }
+        ensures refused { (why : Refusal) → (result ≡ Err (CoreFault.Refused why)) ↔ (refusal (state_of self.now) (call.Show id) ≡ Some why) }
+        ensures memory { result ≡ Err CoreFault.Memory → may_want_memory (state_of self.now) (call.Show id) ≡ true }
     {
-        Ok(Reply::Shown(self.metadata(id)?))
+        match self.metadata(id) {
+            Ok(Some(metadata)) => Ok(Reply::Shown(metadata)),
+            Ok(None) => Err(CoreFault::Refused(Refusal::NoSuchRecord)),
+            Err(_) => Err(CoreFault::Memory),
+        }
     }
 
     /// How often a file is used.
+    ///
+    /// Conditions: the parts are sound, and the call is accepted.
     #[inline(never)]
     pub(crate) fn count(&mut self, file: FileId) -> Reply
         requires sound { AreSound self.old }
@@ -76,15 +91,21 @@ impl Parts {
         Reply::Counted(file, self.registry.count(file))
     }
 
-    /// The metadata of a live record, which is pending or done.
-    pub(crate) fn metadata(&self, id: CheckpointId) -> Result<Metadata, AllocError>
-        requires in_order { IsInOrder id_before (records_in self.now) }
-        requires live { IsSome (record_of (state_of self.now) id) }
-        ensures { IfOk result (λ metadata. option_map metadata_of (record_of (state_of self.now) id) ≡ Some metadata) }
+    /// The metadata of the live record of this number, which is pending or done. Fails only if there
+    /// is one and memory runs out.
+    ///
+    /// Condition: the records are in rising number.
+    pub(crate) fn metadata(&self, id: CheckpointId) -> Result<Option<Metadata>, AllocError>
+        requires { IsInOrder id_before (records_in self.now) }
+        ensures value { IfOk result (λ metadata. metadata ≡ option_map metadata_of (record_of (state_of self.now) id)) }
+        ensures memory { OnErr result (IsSome (record_of (state_of self.now) id)) }
     {
         if let Some(record) = self.pending.get(id) {
-            return record.metadata();
+            return Ok(Some(record.metadata()?));
         }
-        self.store.get(id).unwrap().metadata()
+        match self.store.get(id) {
+            Some(record) => Ok(Some(record.metadata()?)),
+            None => Ok(None),
+        }
     }
 }

@@ -1,11 +1,12 @@
 //! The tests of a call before it is made: what is refused, in the order of the rules.
-ghost use Rattle.std.specs.Prelude.{◌≡◌, ◌++◌, ◌==◌, ℕ, List, find, not, nat_le, option_copied, option_map, Option, Some};
+ghost use Rattle.std.specs.Prelude.{◌≡◌, ◌++◌, ◌==◌, ℕ, List, find, not, nat_le, option_copied, option_map, slice_get, IfOk, IfSome, None, Option, Some};
 ghost use Rattle.std.specs.List.{list_any};
 ghost use Rattle.std.specs.Result.{result_err};
-ghost use Rattle.ckpt_ids.specs.declared.call.Call.TheVariants.{Tick, Savepoint, Ack, Decline, Dispose, Restore, Cancel, Show};
+ghost use Rattle.ckpt_ids.specs.declared.call.Call.TheVariants.{Tick, Savepoint, Ack, Decline, Restore, Cancel};
 ghost use Rattle.ckpt_ids.specs.declared.reply.Refusal.TheVariants.{NotRunning, UnknownCheckpoint, NameTaken, FileGone, IdsUsedUp};
 ghost use Rattle.ckpt_core.specs.Inside.FileFacts.{IsAscending, is_present};
-ghost use Rattle.ckpt_core.specs.Inside.Parts.{AreSound, early_refusal, is_known_in, part_refusal, records_in, state_of, with_pins};
+ghost use Rattle.ckpt_core.specs.Inside.RecordFacts.{Record};
+ghost use Rattle.ckpt_core.specs.Inside.Parts.{AreSound, IsPlaceIn, IsPlaceOf, early_refusal, is_known_in, part_refusal, records_in, state_of, with_pins};
 ghost use Rattle.ckpt_core.specs.Refusals.{files_refusal, has_repeats, is_cancelled, is_done_savepoint, is_foreign, is_running, moment_too_large, named, pending_of, refusal, refuse_if, savepoints, was_not_given};
 
 use crate::mode::Mode;
@@ -21,6 +22,17 @@ fn refuse_if(test: bool, why: Refusal) -> Result<(), Refusal>
     ensures { result_err result ≡ refuse_if test why }
 {
     if test { Err(why) } else { Ok(()) }
+}
+
+/// The result of a test that has found a record at this place, or none.
+fn at_place(tested: Result<(), Refusal>, place: Option<usize>) -> Result<Option<usize>, Refusal>
+    ensures refused { result_err result ≡ result_err tested }
+    ensures place { IfOk result (λ found. found ≡ place) }
+{
+    match tested {
+        Ok(()) => Ok(place),
+        Err(why) => Err(why),
+    }
 }
 
 fn test_moment(now: u64) -> Result<(), Refusal>
@@ -89,22 +101,19 @@ fn is_among(file: FileId, files: &[FileId]) -> bool
 }
 
 impl Parts {
-    /// Why the call is refused before it is made, if it is. Only a report is not tested here: the
-    /// outbox looks its file up anyway, and refuses it then. Takes no memory, and changes nothing.
-    pub(crate) fn early_refusal(&self, call: &Call) -> Option<Refusal>
+    /// Tests the call before it is made, and returns the place of the pending record that it names,
+    /// if it names one. Not tested are a disposal, a show and a report: each looks its record or
+    /// file up anyway, and refuses it then. Takes no memory, and changes nothing.
+    ///
+    /// Condition: the parts are sound.
+    pub(crate) fn test(&self, call: &Call) -> Result<Option<usize>, Refusal>
         requires { AreSound self.now }
-        ensures { result ≡ early_refusal (state_of self.now) call.now }
-    {
-        self.test(call).err()
-    }
-
-    fn test(&self, call: &Call) -> Result<(), Refusal>
-        requires { AreSound self.now }
-        ensures { result_err result ≡ early_refusal (state_of self.now) call.now }
+        ensures refused { result_err result ≡ early_refusal (state_of self.now) call.now }
+        ensures place { IfOk result (IsPlaceIn self.now call.now) }
     {
         match call {
-            Call::Tick { now } => self.test_tick(*now),
-            Call::Savepoint { now } => self.test_savepoint(*now),
+            Call::Tick { now } => at_place(self.test_tick(*now), None),
+            Call::Savepoint { now } => at_place(self.test_savepoint(*now), None),
             Call::Ack {
                 now,
                 id,
@@ -113,14 +122,14 @@ impl Parts {
                 reused,
             } => { self.test_ack(*now, *id, *subtask, fresh, reused) }
             Call::Decline { now, id, subtask } => self.test_decline(*now, *id, *subtask),
-            Call::Dispose { id } => self.test_dispose(*id),
-            Call::Restore { now, target, .. } => self.test_restore(*now, *target),
-            Call::Cancel { now } => self.test_cancel(*now),
-            Call::Show { id } => self.test_show(*id),
-            Call::Take { .. }
+            Call::Restore { now, target, .. } => at_place(self.test_restore(*now, *target), None),
+            Call::Cancel { now } => at_place(self.test_cancel(*now), None),
+            Call::Dispose { .. }
+            | Call::Show { .. }
+            | Call::Take { .. }
             | Call::Deleted { .. }
             | Call::Undeleted { .. }
-            | Call::Count { .. } => Ok(()),
+            | Call::Count { .. } => Ok(None),
         }
     }
 
@@ -132,6 +141,7 @@ impl Parts {
         self.test_next()
     }
 
+    /// Condition: the parts are sound.
     fn test_savepoint(&self, now: u64) -> Result<(), Refusal>
         requires { AreSound self.now }
         ensures { result_err result ≡ refusal (state_of self.now) (Savepoint now) }
@@ -145,6 +155,9 @@ impl Parts {
         self.test_next()
     }
 
+    /// Tests an acknowledgement, and returns the place of its record if that is pending.
+    ///
+    /// Condition: the parts are sound.
     fn test_ack(
         &self,
         now: u64,
@@ -152,17 +165,19 @@ impl Parts {
         subtask: SubtaskId,
         fresh: &Files,
         reused: &Files,
-    ) -> Result<(), Refusal>
+    ) -> Result<Option<usize>, Refusal>
         requires { AreSound self.now }
-        ensures { result_err result ≡ refusal (state_of self.now) (Ack now id subtask fresh.now reused.now) }
+        ensures refused { result_err result ≡ refusal (state_of self.now) (Ack now id subtask fresh.now reused.now) }
+        ensures place { IfOk result (IsPlaceOf self.now id) }
     {
         test_moment(now)?;
         test_files(fresh, reused)?;
         self.test_given(id)?;
-        match self.pending_record(id) {
-            Some(pending) => self.test_part(pending, subtask, fresh, reused),
-            None => Ok(()),
-        }
+        let Some(place) = self.pending_place(id) else {
+            return Ok(None);
+        };
+        let pending = self.pending.at(place);
+        at_place(self.test_part(pending, subtask, fresh, reused), Some(place))
     }
 
     /// Tests the acknowledgement of a subtask for a pending record.
@@ -181,26 +196,28 @@ impl Parts {
         self.test_reused(reused)
     }
 
-    fn test_decline(&self, now: u64, id: CheckpointId, subtask: SubtaskId) -> Result<(), Refusal>
+    /// Tests a decline, and returns the place of its record if that is pending.
+    ///
+    /// Condition: the parts are sound.
+    fn test_decline(
+        &self,
+        now: u64,
+        id: CheckpointId,
+        subtask: SubtaskId,
+    ) -> Result<Option<usize>, Refusal>
         requires { AreSound self.now }
-        ensures { result_err result ≡ refusal (state_of self.now) (Decline now id subtask) }
+        ensures refused { result_err result ≡ refusal (state_of self.now) (Decline now id subtask) }
+        ensures place { IfOk result (IsPlaceOf self.now id) }
     {
         test_moment(now)?;
         self.test_given(id)?;
-        match self.pending_record(id) {
-            Some(pending) => test_subtask(pending, subtask),
-            None => Ok(()),
-        }
+        let Some(place) = self.pending_place(id) else {
+            return Ok(None);
+        };
+        at_place(test_subtask(self.pending.at(place), subtask), Some(place))
     }
 
-    fn test_dispose(&self, id: CheckpointId) -> Result<(), Refusal>
-        requires { AreSound self.now }
-        ensures { result_err result ≡ refusal (state_of self.now) (Dispose id) }
-    {
-        refuse_if(!self.has_savepoint(id), Refusal::NoSuchSavepoint)?;
-        refuse_if(self.store.base() == Some(id), Refusal::InUse)
-    }
-
+    /// Condition: the parts are sound.
     fn test_restore(&self, now: u64, target: Target) -> Result<(), Refusal>
         requires { AreSound self.now }
         ensures { (shape : Option (List ℕ)) → result_err result ≡ refusal (state_of self.now) (Restore now target shape) }
@@ -218,14 +235,6 @@ impl Parts {
     {
         test_moment(now)?;
         self.test_not_cancelled()
-    }
-
-    fn test_show(&self, id: CheckpointId) -> Result<(), Refusal>
-        requires { AreSound self.now }
-        ensures { result_err result ≡ refusal (state_of self.now) (Show id) }
-    {
-        let absent = self.pending.get(id).is_none() && self.store.get(id).is_none();
-        refuse_if(absent, Refusal::NoSuchRecord)
     }
 
     fn test_running(&self) -> Result<(), Refusal>
@@ -290,7 +299,21 @@ impl Parts {
             .find(|file| !self.registry.contains(*file))
     }
 
+    /// The place of the pending record of this number.
+    ///
+    /// Condition: the parts are sound.
+    fn pending_place(&self, id: CheckpointId) -> Option<usize>
+        requires { AreSound self.now }
+        ensures place { IsPlaceOf self.now id result }
+        ensures found { (r : Record) → IfSome result (λ place. slice_get self.now.pending place ≡ Some r → pending_of (records_in self.now) id ≡ Some (with_pins self.now.registry r)) }
+    {
+        self.recall_groups();
+        self.pending.place(id)
+    }
+
     /// The pending record of this number.
+    ///
+    /// Condition: the parts are sound.
     pub(crate) fn pending_record(&self, id: CheckpointId) -> Option<&Pending>
         requires { AreSound self.now }
         ensures { pending_of (records_in self.now) id ≡ option_map (with_pins self.now.registry) (option_copied result) }
@@ -300,6 +323,8 @@ impl Parts {
     }
 
     /// Whether there is a completed savepoint of this number.
+    ///
+    /// Condition: the parts are sound.
     fn has_savepoint(&self, id: CheckpointId) -> bool
         requires { AreSound self.now }
         ensures { result ≡ is_done_savepoint (state_of self.now) id }
@@ -309,6 +334,8 @@ impl Parts {
     }
 
     /// How many savepoints are pending or done.
+    ///
+    /// Condition: the parts are sound.
     fn savepoints(&self) -> usize
         requires { AreSound self.now }
         ensures { result ≡ savepoints (state_of self.now) }

@@ -46,7 +46,7 @@ impl Parts {
         requires there { IsSome (record_of (state_of self.now) id) }
         ensures { IfOk result (λ saved. (r : Record) → record_of (state_of self.now) id ≡ Some r → done ≡ r.done → record_in saved ≡ r) }
     {
-        let metadata = self.metadata(id)?;
+        let metadata = self.metadata(id)?.unwrap();
         let pins = self.pins_of(id, done)?;
         Ok(Saved { metadata, pins })
     }

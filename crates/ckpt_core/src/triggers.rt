@@ -51,7 +51,7 @@ impl Parts {
     /// Triggers a record of this kind, with the next number, at the greatest moment seen. It pins
     /// the files of the choice. If memory runs out, nothing has changed.
     ///
-    /// Conditions: the parts are tied, the state is sound, and a number is left.
+    /// Conditions: the parts are tied, their state is sound, and a number is left.
     #[inline(never)]
     fn trigger(&mut self, kind: Kind) -> Result<CheckpointId, AllocError>
         requires tied { AreTied self.old }
@@ -70,7 +70,8 @@ impl Parts {
 
     /// Adds a pending record with the next number, which pins the files of the choice.
     ///
-    /// Conditions: the shape is that of the job, and there is room for the number among those that end.
+    /// Conditions: the parts are tied, their state is sound, a number is left, the shape is that of the
+    /// job, and there is room for the number among those that end.
     fn add(&mut self, kind: Kind, shape: Shape) -> Result<CheckpointId, AllocError>
         requires tied { AreTied self.old }
         requires sound { IsSound (state_of self.old) }
@@ -99,7 +100,8 @@ impl Parts {
 
     /// Pins the files of the choice, if it is a record. Visits none of them.
     ///
-    /// Conditions: record `id` has no pins yet, and each file of the choice has at most 2^32 - 2 uses.
+    /// Conditions: the uses are in order, record `id` has no pins yet, and each file of the choice has at
+    /// most 2^32 - 2 uses.
     fn pin(&mut self, id: CheckpointId, choice: Choice) -> Result<(), AllocError>
         requires below { (f : ℕ) → IsIn f (files_chosen choice self.old.registry) → count self.old.registry f < 2 ^ 32 - 1 }
         requires unpinned { HasNoUse self.old.registry id Pin }
@@ -224,7 +226,7 @@ impl Parts {
 
     /// More checkpoints have failed in a row than the job tolerates: it fails over.
     ///
-    /// Condition: this expiry says so.
+    /// Conditions: the parts are tied, their state is sound, and this expiry of the noted records says so.
     fn fail_expired(&mut self, expiry: Expiry) -> Ticked
         requires tied { AreTied self.old }
         requires sound { IsSound (state_of self.old) }
@@ -246,8 +248,8 @@ impl Parts {
     /// Triggers a checkpoint if nothing holds it back, and then drops what has expired. If memory
     /// runs out, nothing has changed.
     ///
-    /// Conditions: the parts are tied, the state is sound, a number is left, and what has expired
-    /// was noted and is tolerable.
+    /// Conditions: the parts are tied, their state is sound, a number is left, and this is the
+    /// expiry of the noted records, after which the job does not fail over.
     fn start_and_drop(&mut self, expiry: Expiry) -> Result<Ticked, AllocError>
         requires tied { AreTied self.old }
         requires sound { IsSound (state_of self.old) }
@@ -277,7 +279,7 @@ impl Parts {
 
     /// Triggers a checkpoint if nothing holds it back while this many are pending.
     ///
-    /// Conditions: the parts are tied, the state is sound, and a number is left.
+    /// Conditions: the parts are tied, their state is sound, and a number is left.
     fn start_or_hold(&mut self, pending: u32) -> Result<TickEnd, AllocError>
         requires tied { AreTied self.old }
         requires sound { IsSound (state_of self.old) }

@@ -1,7 +1,6 @@
 -- What an accepted acknowledgement of a pending record makes of the parts.
-use Rattle.std.proofs.Common.{◌≡◌, ℕ, ◌+◌, ◌-◌, ◌≤◌, ◌<◌, max, Bool, true, false, cond, ltb, eqb, List, ◌++◌, map, length, refl, sym, ap, subst, ◌∙◌, ⊎_elim, arith, Some, None}
+use Rattle.std.proofs.Common.{◌≡◌, ℕ, ◌+◌, ◌-◌, ◌≤◌, ◌<◌, max, Bool, true, false, cond, ltb, eqb, List, ◌++◌, map, length, refl, sym, ap, subst, ◌∙◌, ⊎_elim, arith, Some}
 use Rattle.std.specs.Prelude.{find}
-use Rattle.std.specs.Option.{option_map}
 use Rattle.std.specs.Vec.{vec_capacity}
 use Rattle.std.proofs.lemmas.Bool.{cases_Bool, both_ways, eqb-true, ne_eqb, eq-eqb}
 use Rattle.std.proofs.lemmas.List.{length-map}
@@ -25,7 +24,7 @@ use Rattle.ckpt_core.specs.Inside.Grouped.{with_pins, grouped, records_of}
 use Rattle.ckpt_core.specs.Memory.{may_want_memory, answer_wants}
 use Rattle.ckpt_core.specs.Inside.Parts.{Answers, AreSound, AreTied, IsAccepted, Stays, present_in, records_in, state_of}
 use Rattle.ckpt_core.specs.Inside.PendingRecords.{acked}
-use Rattle.ckpt_core.specs.Refusals.{pending_of, refusal}
+use Rattle.ckpt_core.specs.Refusals.{refusal}
 use Rattle.ckpt_core.specs.Soundness.{IsSound, id_before}
 use Rattle.ckpt_core.specs.State.{State}
 use Rattle.ckpt_core.specs.Steps.{Stepped, ack, acknowledged_in, completed_with, replaced, step, with_records}
@@ -33,7 +32,7 @@ use Rattle.ckpt_core.proofs.Answering.Accepted.{accepted_ack}
 use Rattle.ckpt_core.proofs.Acknowledging.Late.{ack_step}
 use Rattle.ckpt_core.proofs.Acknowledging.Moves.{ack_groups, ack_uses, no_pin-holds, with_instead, id-with_instead, replaced_members}
 use Rattle.ckpt_core.proofs.Acknowledging.Records.{IsAcknowledged}
-use Rattle.ckpt_core.proofs.Acknowledging.Takes.{found_pending, found_record}
+use Rattle.ckpt_core.proofs.Acknowledging.Takes.{found_record}
 use Rattle.ckpt_core.proofs.Acknowledging.Uses.{present_more}
 use Rattle.ckpt_core.proofs.Records.Counts.{IsIn-from_find, map_same}
 use Rattle.ckpt_core.proofs.Ending.Drops.{apart_in}
@@ -265,11 +264,7 @@ acked_wants {p} {now} {id} {s} {fresh} {reused} {r} t =
     (λ (e : eqb (missing a) 0 ≡ false). subst P (sym e) refl)
     (cases_Bool (eqb (missing a) 0))
 
--- a pending record that is found, or that is not
-
-pub none_found : (p : Parts) (id : ℕ) → IsSound (state_of p) → ((r : Record) → IsIn r p.pending → IsPending r) → IsStored p.store → find (has_number id) p.pending ≡ None → pending_of (state_of p).records id ≡ None
-none_found p id sound pending stored e = found_pending p id sound pending stored ∙ ap (option_map (with_pins p.registry)) e
-
+-- it waits for a subtask
 pub it_lacks : (p : Parts) (id : ℕ) (r : Record) → IsSound (state_of p) → find (has_number id) p.pending ≡ Some r → ((r : Record) → IsIn r p.pending → IsPending r) → 0 < missing r
 unfolding state_of
 it_lacks p id r sound e pending =

@@ -2,11 +2,11 @@
 use Rattle.std.proofs.Common.{◌≡◌, ℕ, List, [], ◌∷◌, ◌++◌, take, refl, sym, ap, ◌∙◌, arith, Option, Some, None}
 use Rattle.std.specs.Prelude as prelude
 use Rattle.std.specs.Prelude.{find, IsSome}
-use Rattle.std.specs.Borrow.{Bor}
-use Rattle.std.specs.Option.{option_map, option_or, option_copied}
+use Rattle.std.specs.Option.{option_map, option_or}
 use Rattle.ckpt_ids.specs.declared.ack.Metadata.{Metadata}
 use Rattle.ckpt_ids.specs.declared.call.Call.TheVariants as call
 use Rattle.ckpt_ids.specs.declared.reply.Reply.TheVariants as reply
+use Rattle.ckpt_ids.specs.declared.reply.Refusal.TheVariants.{NoSuchRecord}
 use Rattle.ckpt_ids.specs.declared.reply.Answer.TheVariants.{Done}
 use Rattle.ckpt_ids.specs.Ordered.{IsInOrder}
 use Rattle.ckpt_ids.specs.Records.{Record, count, metadata_of}
@@ -23,7 +23,7 @@ use Rattle.ckpt_core.proofs.Records.Grouped.{apart-from_in_order}
 use Rattle.ckpt_core.proofs.Records.GroupLookups.{record_of-groups}
 use Rattle.ckpt_core.proofs.Records.Lookups.{has_number}
 use Rattle.ckpt_core.proofs.Answering.StepCases.{step_accepted}
-use Rattle.ckpt_core.proofs.Answering.RefusalRows.{first_row-none}
+use Rattle.ckpt_core.proofs.Answering.RefusalRows.{row_last}
 
 -- another outbox with as many places reserved
 tied_with : (p : Parts) (outbox : Queues) → AreTied p → outbox.spare ≡ p.outbox.spare → AreTied (record p { outbox = outbox })
@@ -93,11 +93,12 @@ record_there p id order =
     record_of-groups id p.registry p.pending p.store.checkpoints p.store.savepoints (apart-from_in_order (grouped p.registry p.pending p.store.checkpoints p.store.savepoints) order)
     ∙ ap (option_or (option_map (with_pins p.registry) (find (has_number id) p.pending))) (sym (stored_found id p.store))
 
+pub pending_live : (p : Parts) (id : ℕ) (r : Record) → IsInOrder id_before (records_in p) → find (has_number id) p.pending ≡ Some r → record_of (state_of p) id ≡ Some (with_pins p.registry r)
+pending_live p id r order there = record_there p id order ∙ ap (λ o. option_or (option_map (with_pins p.registry) o) (storing.record_of p.store id)) there
+
 pub pending_metadata : (p : Parts) (id : ℕ) (r : Record) (metadata : Metadata) → IsInOrder id_before (records_in p) → find (has_number id) p.pending ≡ Some r → metadata ≡ metadata_of r →
     option_map metadata_of (record_of (state_of p) id) ≡ Some metadata
-pending_metadata p id r metadata order there is =
-    ap (option_map metadata_of) (record_there p id order ∙ ap (λ o. option_or (option_map (with_pins p.registry) o) (storing.record_of p.store id)) there)
-    ∙ ap (λ x. Some x) (sym is)
+pending_metadata p id r metadata order there is = ap (option_map metadata_of) (pending_live p id r order there) ∙ ap (λ x. Some x) (sym is)
 
 pub stored_record : (p : Parts) (id : ℕ) → IsInOrder id_before (records_in p) → find (has_number id) p.pending ≡ None → record_of (state_of p) id ≡ storing.record_of p.store id
 stored_record p id order none = record_there p id order ∙ ap (λ o. option_or (option_map (with_pins p.registry) o) (storing.record_of p.store id)) none
@@ -107,13 +108,25 @@ pub stored_metadata : (p : Parts) (id : ℕ) (r : Record) (metadata : Metadata) 
 stored_metadata p id r metadata order none there is =
     ap (option_map metadata_of) (stored_record p id order none ∙ there) ∙ ap (λ x. Some x) (sym is)
 
-some_record : (o : Option Record) → no_record o ≡ None → IsSome o
-some_record (Some r) h = refl
-some_record None h = absurd (cc)
-
-pub accepted_show : (m : State) (id : ℕ) → refusal m (call.Show id) ≡ None → IsSome (record_of m id)
+-- a show is refused exactly if there is no such record
+refusal_show : (m : State) (id : ℕ) → refusal m (call.Show id) ≡ no_record (record_of m id)
 unfolding refusal
-accepted_show m id h = some_record (record_of m id) (first_row-none (no_record (record_of m id)) _ h)
+refusal_show m id = sym (row_last (no_record (record_of m id)) (None ∷ []) (no_record (record_of m id)) refl refl)
+
+pub show_live : (m : State) (id : ℕ) → IsSome (record_of m id) → refusal m (call.Show id) ≡ None
+show_live m id live =
+    let P : Option Record → Type 0 = λ o. IsSome o → no_record o ≡ None in
+    refusal_show m id ∙ elim (record_of m id) as P [ Some r ↦ (λ h. refl) | None ↦ (λ h. absurd (cc)) ] live
+
+pub show_told : (m : State) (id : ℕ) (metadata : Metadata) → Some metadata ≡ option_map metadata_of (record_of m id) → refusal m (call.Show id) ≡ None
+show_told m id metadata is =
+    let P : Option Record → Type 0 = λ o. Some metadata ≡ option_map metadata_of o → no_record o ≡ None in
+    refusal_show m id ∙ elim (record_of m id) as P [ Some r ↦ (λ h. refl) | None ↦ (λ h. absurd (cc)) ] is
+
+pub show_absent : (m : State) (id : ℕ) → None ≡ option_map metadata_of (record_of m id) → refusal m (call.Show id) ≡ Some NoSuchRecord
+show_absent m id is =
+    let P : Option Record → Type 0 = λ o. None ≡ option_map metadata_of o → no_record o ≡ Some NoSuchRecord in
+    refusal_show m id ∙ elim (record_of m id) as P [ Some r ↦ (λ h. absurd (cc)) | None ↦ (λ h. refl) ] is
 
 shown : (m : State) (o : Option Record) (metadata : Metadata) → option_map metadata_of o ≡ Some metadata → (let x : Stepped = (m, show o) in x) ≡ (m, Done (reply.Shown metadata))
 shown m (Some r) metadata e = let same : metadata_of r ≡ metadata = cc in ap (λ k. (let x : Stepped = (m, Done (reply.Shown k)) in x)) same
@@ -126,7 +139,3 @@ shown_answers p id metadata sound accepted is = record {
   tied = sound.tied;
   none_ended = sound.none_ended;
 }
-
-pub some_copied : {T : Type 0} (o : Option (Bor T)) → IsSome (option_copied o) → IsSome o
-some_copied (Some x) h = refl
-some_copied None h = absurd (cc)

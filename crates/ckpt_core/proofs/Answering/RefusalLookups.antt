@@ -1,25 +1,29 @@
 -- What the table of refusals looks up in the records, found in the parts.
-use Rattle.std.proofs.Common.{◌≡◌, ℕ, ◌+◌, Bool, true, false, not, ◌&&◌, ◌||◌, eqb, List, [], ◌∷◌, length, refl, sym, ap, ◌∙◌, Option, Some, None, Bor}
-use Rattle.std.specs.Prelude.{count_by, find}
-use Rattle.std.specs.Option.{option_map, option_or, option_copied, is_none, is_some}
-use Rattle.std.proofs.lemmas.Bool.{both_ways}
+use Rattle.std.proofs.Common.{◌≡◌, ℕ, ◌+◌, false, not, ◌||◌, eqb, List, [], ◌∷◌, length, sym, ap, ◌∙◌, Option, Some, None}
+use Rattle.std.specs.Prelude.{count_by, find, slice_get, IfNone, IfSome}
+use Rattle.std.specs.List.{list_any}
+use Rattle.std.specs.Option.{option_map}
 use Rattle.ckpt_ids.specs.declared.subtask.SubtaskId.{SubtaskId}
 use Rattle.ckpt_ids.specs.declared.reply.Refusal.{Refusal}
-use Rattle.ckpt_ids.specs.declared.reply.Refusal.TheVariants.{NameTaken, FileGone, NoSuchRecord}
-use Rattle.ckpt_ids.specs.Ordered.{IsIn}
+use Rattle.ckpt_ids.specs.declared.reply.Refusal.TheVariants.{NameTaken, FileGone}
+use Rattle.ckpt_ids.specs.Ordered.{IsIn, IsInOrder}
+use Rattle.ckpt_ids.specs.Places.{LiesAt}
 use Rattle.ckpt_ids.specs.Records.{Record, Use, uses, is_present}
 use Rattle.ckpt_pending.specs.Acknowledging.{IsPending}
-use Rattle.ckpt_store.specs.Storing.{IsStored, has_savepoint, record_of}
+use Rattle.ckpt_ids.proofs.PlaceLemmas.{find-none}
+use Rattle.ckpt_store.specs.Storing.{IsStored, has_id, has_savepoint, id_of}
+use Rattle.ckpt_store.proofs.RowLemmas.{find-place}
 use Rattle.ckpt_outbox.specs.Queues as queues
 use Rattle.ckpt_core.specs.declared.parts.Parts.{Parts}
 use Rattle.ckpt_core.specs.State.{is_checkpoint, is_known}
-use Rattle.ckpt_core.specs.Refusals.{first_some, is_foreign, is_repeat, is_done_savepoint, savepoints, named, no_record, pending_of, refuse_if, where_pending}
+use Rattle.ckpt_core.specs.Refusals.{first_some, is_foreign, is_repeat, is_done_savepoint, savepoints, named, pending_of, where_pending}
+use Rattle.ckpt_core.specs.Soundness.{id_before}
 use Rattle.ckpt_core.specs.Inside.Grouped.{with_pins, grouped}
-use Rattle.ckpt_core.specs.Inside.Parts.{AreSound, AreTied, records_in, state_of, is_known_in}
+use Rattle.ckpt_core.specs.Inside.Parts.{AreSound, AreTied, IsPlaceOf, records_in, state_of, is_known_in}
 use Rattle.ckpt_core.proofs.Answering.RefusalRows.{rows_only}
 use Rattle.ckpt_core.proofs.Records.Grouped.{AreApart, apart-from_in_order}
-use Rattle.ckpt_core.proofs.Records.Lookups.{has_number, pending_of-groups}
-use Rattle.ckpt_core.proofs.Records.GroupLookups.{record_of-groups, savepoints-groups, done_savepoint-groups}
+use Rattle.ckpt_core.proofs.Records.Lookups.{pending_of-groups}
+use Rattle.ckpt_core.proofs.Records.GroupLookups.{savepoints-groups, done_savepoint-groups}
 use Rattle.ckpt_core.proofs.Ending.Drops.{groups_of}
 
 apart_of : (p : Parts) → AreSound p → AreApart (grouped p.registry p.pending p.store.checkpoints p.store.savepoints)
@@ -32,6 +36,18 @@ pending_of-parts p id o sound pending stored e =
     pending_of-groups id p.registry p.pending p.store.checkpoints p.store.savepoints (apart_of p sound) (groups_of p pending stored)
     ∙ ap (option_map (with_pins p.registry)) (sym e)
 
+-- the place of a pending record, as a search for it returns it
+pub place_of-parts : (p : Parts) (id : ℕ) (place : Option ℕ) → AreSound p → ((r : Record) → IsIn r p.pending → IsPending r) → IsStored p.store →
+    IfSome place (LiesAt id_of id p.pending) → IfNone place (list_any (has_id id) p.pending ≡ false) → IsPlaceOf p id place
+place_of-parts p id (Some place) sound pending stored lies none = lies
+place_of-parts p id None sound pending stored lies none = pending_of-parts p id None sound pending stored (sym (find-none (has_id id) p.pending none))
+
+-- and the record at it
+pub found_at-parts : (p : Parts) (id : ℕ) (place : Option ℕ) (r : Record) → AreSound p → ((r : Record) → IsIn r p.pending → IsPending r) → IsStored p.store → IsInOrder id_before p.pending →
+    IfSome place (LiesAt id_of id p.pending) → IfSome place (λ k. slice_get p.pending k ≡ Some r → pending_of (records_in p) id ≡ Some (with_pins p.registry r))
+found_at-parts p id (Some place) r sound pending stored order lies = λ e. pending_of-parts p id (Some r) sound pending stored (sym e ∙ find-place id p.pending place order lies)
+found_at-parts p id None r sound pending stored order lies = tt
+
 pub done_savepoint-parts : (p : Parts) (id : ℕ) → ((r : Record) → IsIn r p.pending → IsPending r) → IsStored p.store → is_done_savepoint (state_of p) id ≡ has_savepoint p.store id
 unfolding state_of
 done_savepoint-parts p id pending stored =
@@ -41,34 +57,6 @@ pub savepoints-parts : (p : Parts) → ((r : Record) → IsIn r p.pending → Is
 unfolding state_of
 savepoints-parts p pending stored =
     savepoints-groups p.registry p.pending p.store.checkpoints p.store.savepoints (groups_of p pending stored)
-
-no_record-first : (f : Record → Record) (a b c : Option Record) → no_record (option_or (option_map f a) (option_or b c)) ≡ refuse_if (is_none a && is_none (elim b as (λ _. Option Record) [ Some r ↦ Some r | None ↦ c ])) NoSuchRecord
-no_record-first f (Some r) b c = refl
-no_record-first f None (Some r) c = refl
-no_record-first f None None (Some r) = refl
-no_record-first f None None None = refl
-
-pub no_record-parts : (p : Parts) (id : ℕ) → AreSound p → no_record (find (λ r. eqb r.id id) (records_in p)) ≡ refuse_if (is_none (find (λ r. eqb r.id id) p.pending) && is_none (record_of p.store id)) NoSuchRecord
-no_record-parts p id sound =
-    ap no_record (record_of-groups id p.registry p.pending p.store.checkpoints p.store.savepoints (apart_of p sound))
-    ∙ no_record-first (with_pins p.registry) (find (has_number id) p.pending) (find (has_number id) p.store.checkpoints) (find (has_number id) p.store.savepoints)
-
-none_copied : {X : Type 0} (o : Option (Bor X)) (none : Bool) → is_some o ≡ not none → is_none (option_copied o) ≡ none
-none_copied (Some x) true e = absurd (both_ways true e refl)
-none_copied (Some x) false e = refl
-none_copied None true e = refl
-none_copied None false e = absurd (both_ways true (sym e) refl)
-
-pub none_among : {X : Type 0} (o : Option (Bor X)) (none : Bool) (q : Option X) → is_some o ≡ not none → option_copied o ≡ q → none ≡ is_none q
-none_among o none q e is = sym (none_copied o none e) ∙ ap is_none is
-
-pub both_none : (a b v x y : Bool) → x ≡ true → x ≡ a → v ≡ y → y ≡ b → v ≡ (a && b)
-both_none true b v x y t e f g = f ∙ g
-both_none false b v x y t e f g = absurd (both_ways x e t)
-
-pub first_there : (a b v x : Bool) → x ≡ false → x ≡ a → v ≡ false → v ≡ (a && b)
-first_there true b v x t e f = absurd (both_ways x t e)
-first_there false b v x t e f = f
 
 -- the rows on the part of a subtask, before rows that do not hold
 abbrev rows_of : Option Record → SubtaskId → Option Refusal → Option Refusal → List (Option Refusal) → List (Option Refusal)

@@ -1,15 +1,18 @@
--- Reports on files, which are not tested before they are made: the outbox itself finds whether the file was fetched.
-use Rattle.std.proofs.Common.{◌≡◌, ℕ, Bool, true, false, not, eqb, [], ◌∷◌, refl, sym, ap, ◌∙◌, Option, Some, None}
-use Rattle.std.specs.Prelude.{if◌then◌else◌}
+-- Calls that are not tested before they are made: reports on files, and disposals. The outbox or the store finds their refusals.
+use Rattle.std.proofs.Common.{◌≡◌, ℕ, Bool, true, false, not, eqb, [], ◌∷◌, refl, sym, ap, ◌∙◌, Option, Some, None, Result, Ok, Err}
+use Rattle.std.specs.Prelude.{if◌then◌else◌, IfErr}
 use Rattle.std.specs.List.{list_any}
 use Rattle.ckpt_ids.specs.declared.call.Call.{Call}
-use Rattle.ckpt_ids.specs.declared.call.Call.TheVariants.{Deleted, Undeleted}
+use Rattle.ckpt_ids.specs.declared.call.Call.TheVariants.{Deleted, Dispose, Undeleted}
 use Rattle.ckpt_ids.specs.declared.reply.Reply.{Reply}
 use Rattle.ckpt_ids.specs.declared.reply.Answer.{Answer}
-use Rattle.ckpt_ids.specs.declared.reply.Answer.TheVariants.{Done, Refused}
+use Rattle.ckpt_ids.specs.declared.reply.Answer.TheVariants.{Done}
+use Rattle.ckpt_ids.specs.declared.reply.Answer.TheVariants as answers
 use Rattle.ckpt_ids.specs.declared.reply.Refusal.{Refusal}
-use Rattle.ckpt_ids.specs.declared.reply.Refusal.TheVariants.{NotTaken}
-use Rattle.ckpt_core.specs.Refusals.{first_some, refuse_if, refusal}
+use Rattle.ckpt_ids.specs.declared.reply.Refusal.TheVariants.{InUse, NoSuchSavepoint, NotTaken}
+use Rattle.ckpt_core.specs.declared.coordinator.CoreFault.{CoreFault}
+use Rattle.ckpt_core.specs.declared.coordinator.CoreFault.TheVariants.{Memory, Refused}
+use Rattle.ckpt_core.specs.Refusals.{first_some, is_done_savepoint, is_number, refuse_if, refusal}
 use Rattle.ckpt_core.specs.State.{State}
 use Rattle.ckpt_core.specs.Steps.{Stepped, step}
 use Rattle.ckpt_core.proofs.Answering.StepCases.{step_refused}
@@ -30,6 +33,16 @@ pub refusal_undeleted : (m : State) (file : ℕ) (taken : Bool) → list_any (λ
 unfolding refusal
 refusal_undeleted m file taken e = refusal_deleted m file taken e
 
+-- the rows of a disposal
+
+-- by whether it is a done savepoint, and whether it is the base
+abbrev pub disposal_rows : Bool → Bool → Option Refusal
+disposal_rows done in_use = first_some (refuse_if (not done) NoSuchSavepoint ∷ refuse_if in_use InUse ∷ None ∷ None ∷ None ∷ None ∷ [])
+
+pub refusal_dispose : (m : State) (id : ℕ) (done in_use : Bool) → is_done_savepoint m id ≡ done → is_number m.base id ≡ in_use → refusal m (Dispose id) ≡ disposal_rows done in_use
+unfolding refusal
+refusal_dispose m id done in_use e f = ap (λ b. disposal_rows b (is_number m.base id)) e ∙ ap (disposal_rows done) f
+
 -- what is not false is true
 pub taken_if : (taken : Bool) (P : Type 0) → (P → ⊥) → (taken ≡ false → P) → taken ≡ true
 taken_if true P never h = refl
@@ -40,8 +53,20 @@ accepted_by : (m n : State) (call : Call) (reply : Reply) (o : Option Refusal) �
 accepted_by m n call reply None e h = e
 accepted_by m n call reply (Some why) e h =
     let answer : Stepped → Answer = λ stepped. stepped.1 in
-    let both : Refused why ≡ Done reply = ap answer (sym (step_refused m call why e) ∙ h) in
+    let both : answers.Refused why ≡ Done reply = ap answer (sym (step_refused m call why e) ∙ h) in
     absurd (cc)
 
 pub accepted_done : (m n : State) (call : Call) (reply : Reply) → step m call ≡ (n, Done reply) → refusal m call ≡ None
 accepted_done m n call reply h = accepted_by m n call reply (refusal m call) refl h
+
+-- a result names exactly the refusal of the call
+abbrev pub NamesRefusal : Result Reply CoreFault → State → Call → Type 0
+NamesRefusal result m call = (why : Refusal) → (result ≡ Err (Refused why) → refusal m call ≡ Some why) × (refusal m call ≡ Some why → result ≡ Err (Refused why))
+
+-- of an accepted call it is an answer, or that memory ran out
+pub names_none : (m : State) (call : Call) (result : Result Reply CoreFault) → IfErr result (λ fault. fault ≡ Memory) → refusal m call ≡ None → NamesRefusal result m call
+names_none m call (Ok reply) memory accepted = λ why. ((λ h. absurd (cc)), (λ h. absurd (cc)))
+names_none m call (Err fault) memory accepted = λ why. ((λ h. absurd (cc)), (λ h. absurd (cc)))
+
+pub names_it : (m : State) (call : Call) (why : Refusal) → refusal m call ≡ Some why → NamesRefusal (Err (Refused why)) m call
+names_it m call why is = λ other. ((λ h. cc), (λ h. cc))

@@ -21,7 +21,7 @@ use Rattle.ckpt_core.proofs.Records.Counts.{IsIn-from_find}
 use Rattle.ckpt_core.proofs.Records.Grouped.{AreApart, apart_between, apart_right}
 use Rattle.ckpt_core.proofs.Records.GroupLookups.{is_checkpoint-kind, is_savepoint-kind}
 use Rattle.ckpt_core.proofs.Records.Lookups.{AreGroups}
-use Rattle.ckpt_core.proofs.Ending.Drops.{left, staying, stays, numbers, apart_in, noted-from_IsIn, IsIn-from_noted, drops_from, drops_same}
+use Rattle.ckpt_core.proofs.Ending.Drops.{left, staying, stays, numbers, apart_in, noted-from_IsIn, IsIn-from_noted, drops_from, drops_same, staying_done}
 
 -- all but the savepoints
 
@@ -170,9 +170,23 @@ done_is_other p ids id sound are there r h =
     ∙ one_noted id r
     ∙ ne_eqb r.id id (λ e. apart_between (map (with_pins p.registry) p.pending) (p.store.checkpoints ++ p.store.savepoints) (apart_in p sound) (with_pins p.registry s.0) r (IsIn-map (with_pins p.registry) s.0 p.pending s.1) h (s.2 ∙ sym e))
 
-pub pending_one_dropped : (p q : Parts) (ended : Vec ℕ Global) (id n : ℕ) → ended.items ≡ id ∷ [] →
-    Drops (record p { ended = ended }) q (is_noted ended.items) n → Drops p q (λ r. eqb r.id id) n
-unfolding state_of
-pending_one_dropped p q ended id n noted d =
-    let dropped : Drops p q (is_noted ended.items) n = record { state_is = d.state_is; count_is = d.count_is; tied = d.tied; none_ended = d.none_ended } in
-    drops_same p q (is_noted ended.items) (λ r. eqb r.id id) n (λ r h. ap (λ ids. is_noted ids r) noted ∙ one_noted id r) dropped
+-- the parts once a pending record is taken out
+abbrev pub taken_out : Parts → ℕ → Vec ℕ Global → Parts
+taken_out p id ended = record p { pending = filter (λ r. not (eqb r.id id)) p.pending; ended = ended }
+
+pub pending_dropped : (p a q : Parts) (id n : ℕ) → AreTied p → IsSound (state_of p) → IsSome (find (λ r. eqb r.id id) p.pending) →
+    a ≡ taken_out p id a.ended → a.ended.items ≡ id ∷ [] →
+    q ≡ handed a q.ended → q.ended.items ≡ [] → vec_capacity q.ended ≡ vec_capacity p.ended → n ≡ length (released a.registry (without a.ended.items a.registry)) →
+    Drops p q (λ r. eqb r.id id) n
+pending_dropped p a q id n tied sound there a_is items q_is none capacity count =
+    let ids : List ℕ = a.ended.items in
+    let b : Parts = taken_out p id a.ended in
+    let first : filter (λ r. not (eqb r.id id)) p.pending ≡ staying ids p.pending =
+    filter-same (λ r. not (eqb r.id id)) (λ r. stays ids r.id) p.pending (λ r h. ap not (sym (ap (λ xs. is_noted xs r) items ∙ one_noted id r))) in
+    let same : handed b q.ended ≡ left p ids p.store.spare q.ended =
+    ap (λ rs. record (handed b q.ended) { pending = rs }) first
+    ∙ ap (λ s. record (left p ids p.store.spare q.ended) { store = s }) (sym (staying_done p ids (done_is_other p ids id sound items there))) in
+    let is : q ≡ left p ids p.store.spare q.ended = q_is ∙ ap (λ w. handed w q.ended) a_is ∙ same in
+    let counted : n ≡ length (released p.registry (without ids p.registry)) = count ∙ ap (λ us. length (released us (without ids us))) (ap (λ w. w.registry) a_is) in
+    drops_same p q (is_noted ids) (λ r. eqb r.id id) n (λ r h. ap (λ xs. is_noted xs r) items ∙ one_noted id r)
+    (drops_from p q ids p.store.spare n tied (apart_in p sound) is none capacity counted)

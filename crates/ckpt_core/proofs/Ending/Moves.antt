@@ -81,10 +81,6 @@ pub pending_there : (p : Parts) (id : ℕ) (r : Record) → IsSound (state_of p)
 pending_there p id r sound groups e =
     pending_of-groups id p.registry p.pending p.store.checkpoints p.store.savepoints (apart_in p sound) groups ∙ ap (option_map (with_pins p.registry)) e
 
-pub pending_absent : (p : Parts) (id : ℕ) → IsSound (state_of p) → AreGroups p.pending p.store.checkpoints p.store.savepoints → find (has_number id) p.pending ≡ None → pending_of (records_in p) id ≡ None
-pending_absent p id sound groups e =
-    pending_of-groups id p.registry p.pending p.store.checkpoints p.store.savepoints (apart_in p sound) groups ∙ ap (option_map (with_pins p.registry)) e
-
 failed_not_running : Failed ≡ Running → ⊥
 failed_not_running e = cc
 

@@ -4,16 +4,18 @@ use Rattle.std.specs.List.{list_any}
 use Rattle.std.specs.Vec.{vec_capacity}
 use Rattle.ckpt_ids.specs.Ascending.{ascending_set}
 use Rattle.ckpt_ids.specs.declared.call.Call.{Call}
-use Rattle.ckpt_ids.specs.declared.call.Call.TheVariants.{Tick, Savepoint, Ack, Restore, Take, Deleted, Undeleted, Show}
+use Rattle.ckpt_ids.specs.declared.call.Call.TheVariants.{Tick, Savepoint, Ack, Decline, Dispose, Restore, Take, Deleted, Undeleted, Show}
 use Rattle.ckpt_ids.specs.declared.reply.Reply.{Reply}
 use Rattle.ckpt_ids.specs.declared.reply.Answer.TheVariants.{Done}
 use Rattle.ckpt_ids.specs.Ordered.{IsIn}
+use Rattle.ckpt_ids.specs.Places.{LiesAt}
 use Rattle.ckpt_ids.specs.Records.{Record, Use, uses, is_present}
 use Rattle.ckpt_outbox.specs.Queues.{is_known}
+use Rattle.ckpt_store.specs.Storing.{id_of}
 use Rattle.ckpt_core.specs.declared.parts.Opened.{Opened}
 use Rattle.ckpt_core.specs.declared.parts.Parts.{Parts}
 use Rattle.ckpt_core.specs.State.{State, Opening, drop, released_by}
-use Rattle.ckpt_core.specs.Refusals.{refusal, first_some, is_foreign, is_repeat, named}
+use Rattle.ckpt_core.specs.Refusals.{refusal, first_some, is_foreign, is_repeat, named, pending_of}
 use Rattle.ckpt_core.specs.Steps.{step}
 use Rattle.ckpt_core.specs.Soundness.{IsSound}
 pub use Rattle.ckpt_core.specs.Inside.Grouped.{records_of, with_pins}
@@ -112,22 +114,36 @@ part_refusal p r subtask fresh reused = first_some (
     ∷ named FileGone (find (λ f. not (is_present p.registry f)) reused)
     ∷ [])
 
--- whether the call reports what became of a file that was fetched for deletion
-abbrev pub is_report : Call → Bool
-is_report (Deleted file) = true
-is_report (Undeleted file) = true
-is_report call = false
+-- whether the call finds its own refusal: it looks a record or a file up anyway
+abbrev pub tests_itself : Call → Bool
+tests_itself (Dispose id) = true
+tests_itself (Show id) = true
+tests_itself (Deleted file) = true
+tests_itself (Undeleted file) = true
+tests_itself call = false
 
--- Why the call is refused before it is made. A report is not tested first: the outbox looks its file up anyway, and refuses it then.
+-- why the call is refused before it is made
 abbrev pub early_refusal : State → Call → Option Refusal
-early_refusal m call = if is_report call then None else refusal m call
+early_refusal m call = if tests_itself call then None else refusal m call
 
--- whether an accepted call always has an answer: it takes no memory, and is no report
+-- The place of the pending record that a call names. If there is none, no pending record has its number.
+abbrev pub IsPlaceOf : Parts → ℕ → Option ℕ → Type 0
+IsPlaceOf p id (Some place) = LiesAt id_of id p.pending place
+IsPlaceOf p id None = pending_of (records_in p) id ≡ None
+
+-- the same by the call: only an acknowledgement or a decline names a pending record
+abbrev pub IsPlaceIn : Parts → Call → Option ℕ → Type 0
+IsPlaceIn p (Ack now id subtask fresh reused) place = IsPlaceOf p id place
+IsPlaceIn p (Decline now id subtask) place = IsPlaceOf p id place
+IsPlaceIn p call place = place ≡ None
+
+-- whether an accepted call always has an answer: it takes no memory, and was tested first
 abbrev pub never_fails : Call → Bool
 never_fails (Tick now) = false
 never_fails (Savepoint now) = false
 never_fails (Ack now id subtask fresh reused) = false
 never_fails (Restore now target shape) = is_none shape
+never_fails (Dispose id) = false
 never_fails (Take most) = false
 never_fails (Deleted file) = false
 never_fails (Undeleted file) = false

@@ -1,10 +1,10 @@
--- The parts are sound again after a call, and a report names a refusal exactly if it is refused.
-use Rattle.std.proofs.Common.{◌≡◌, sym, ap, subst, ◌∙◌, Some, None}
+-- The parts are sound again after a call, and a call that was not tested first names a refusal exactly if it is refused.
+use Rattle.std.proofs.Common.{◌≡◌, sym, ap, subst, ◌∙◌, Some}
 use Rattle.std.specs.Prelude.{Result, Ok, Err, IfOk, IfErr}
 use Rattle.std.specs.Result.{MatchResult, IsErrAnd}
 use Rattle.std.proofs.lemmas.Result.{err_from_is_err_and}
 use Rattle.ckpt_ids.specs.declared.call.Call.{Call}
-use Rattle.ckpt_ids.specs.declared.call.Call.TheVariants.{Deleted, Undeleted}
+use Rattle.ckpt_ids.specs.declared.call.Call.TheVariants.{Deleted, Dispose, Undeleted}
 use Rattle.ckpt_ids.specs.declared.reply.Reply.{Reply}
 use Rattle.ckpt_ids.specs.declared.reply.Refusal.{Refusal}
 use Rattle.ckpt_core.specs.declared.coordinator.CoreFault.{CoreFault}
@@ -14,22 +14,19 @@ use Rattle.ckpt_core.specs.Inside.Parts.{Answers, state_of}
 use Rattle.ckpt_core.specs.Refusals.{refusal}
 use Rattle.ckpt_core.specs.State.{State}
 use Rattle.ckpt_core.proofs.Answering.Calls.{sound_after}
-use Rattle.ckpt_core.proofs.Answering.Reports.{accepted_done}
+use Rattle.ckpt_core.proofs.Answering.Reports.{NamesRefusal, accepted_done, names_it, names_none}
 use Rattle.ckpt_core.proofs.coordinator.Core.apply.Goals as goal
-
-abbrev NamesRefusal : Result Reply CoreFault → State → Call → Type 0
-NamesRefusal result m call = (why : Refusal) → (result ≡ Err (Refused why) → refusal m call ≡ Some why) × (refusal m call ≡ Some why → result ≡ Err (Refused why))
 
 report_names : (made : Result Reply Refusal) (result : Result Reply CoreFault) (p q : Parts) (call same : Call) → call ≡ same
     → MatchResult made (λ reply. result ≡ Ok reply) (λ why. IsErrAnd result (λ fault. fault ≡ Refused why)) → IfOk made (Answers p q same) → IfErr made (λ why. refusal (state_of p) same ≡ Some why)
     → NamesRefusal result (state_of p) call
 report_names (Ok reply) result p q call same e is ok err =
-    let accepted : refusal (state_of p) same ≡ None = accepted_done (state_of p) (state_of q) same reply ok.step_is in
-    subst (NamesRefusal result (state_of p)) (sym e) (λ why. ((λ h. absurd (cc)), (λ h. absurd (cc))))
+    let Named : Result Reply CoreFault → Type 0 = λ r. NamesRefusal r (state_of p) same in
+    subst (NamesRefusal result (state_of p)) (sym e) (subst Named (sym is) (names_none (state_of p) same (Ok reply) tt (accepted_done (state_of p) (state_of q) same reply ok.step_is)))
 report_names (Err refused) result p q call same e is ok err =
     let told = err_from_is_err_and result is in
-    let named : result ≡ Err (Refused refused) = told.1 ∙ ap Err told.2 in
-    subst (NamesRefusal result (state_of p)) (sym e) (λ why. ((λ h. cc), (λ h. cc)))
+    let Named : Result Reply CoreFault → Type 0 = λ r. NamesRefusal r (state_of p) same in
+    subst (NamesRefusal result (state_of p)) (sym e) (subst Named (sym (told.1 ∙ ap Err told.2)) (names_it (state_of p) same refused err))
 
 pub returns-in-Deleted-clause-refused : goal.returns-in-Deleted-clause-refused
 returns-in-Deleted-clause-refused c =
@@ -42,11 +39,24 @@ returns-in-Undeleted-clause-refused c =
     subst (λ (before : State). NamesRefusal result before c.args.call.now) c.self.view_is
     (report_names c.undeleted.result result c.self.inside.parts c.undeleted.new.self c.args.call.now (Undeleted c.in-Undeleted.file) c.in-Undeleted.is c.map_err-in-Undeleted.ensures.cases c.undeleted.ensures.ok c.undeleted.ensures.refused)
 
+pub returns-in-Dispose-clause-refused : goal.returns-in-Dispose-clause-refused
+returns-in-Dispose-clause-refused c =
+    let result : Result Reply CoreFault = c.dispose.result in
+    subst (λ (before : State). NamesRefusal result before c.args.call.now) c.self.view_is (subst (NamesRefusal result (state_of c.self.inside.parts)) (sym c.in-Dispose.is) c.dispose.ensures.refused)
+
+pub returns-in-Show-clause-refused : goal.returns-in-Show-clause-refused
+returns-in-Show-clause-refused c =
+    let result : Result Reply CoreFault = c.show.result in
+    subst (λ (before : State). NamesRefusal result before c.args.call.now) c.self.view_is (subst (NamesRefusal result (state_of c.self.inside.parts)) (sym c.in-Show.is) c.show.ensures.refused)
+
 pub invariant_of-self : goal.invariant_of-self
-invariant_of-self c = sound_after c.self.inside.parts c.deleted.new.self (Deleted c.in-Deleted.file) c.deleted.result tt c.self.invariant c.deleted.ensures.ok c.deleted.ensures.err
+invariant_of-self c = sound_after c.self.inside.parts c.dispose.new.self (Dispose c.in-Dispose.id) c.dispose.result tt c.self.invariant c.dispose.ensures.ok c.dispose.ensures.err
+
+pub invariant_of-self-in-Deleted : goal.invariant_of-self-in-Deleted
+invariant_of-self-in-Deleted c = sound_after c.self.inside.parts c.deleted.new.self (Deleted c.in-Deleted.file) c.deleted.result tt c.self.invariant c.deleted.ensures.ok c.deleted.ensures.err
 
 pub invariant_of-self-in-Undeleted : goal.invariant_of-self-in-Undeleted
 invariant_of-self-in-Undeleted c = sound_after c.self.inside.parts c.undeleted.new.self (Undeleted c.in-Undeleted.file) c.undeleted.result tt c.self.invariant c.undeleted.ensures.ok c.undeleted.ensures.err
 
-pub invariant_of-self-in_default-call : goal.invariant_of-self-in_default-call
-invariant_of-self-in_default-call c = sound_after c.self.inside.parts c.answer.new.self c.args.call.now c.answer.result c.recall_call.ensures c.self.invariant c.answer.ensures.ok c.answer.ensures.err
+pub invariant_of-self-in_default : goal.invariant_of-self-in_default
+invariant_of-self-in_default c = sound_after c.self.inside.parts c.answer.new.self c.args.call.now c.answer.result c.recall_call.ensures c.self.invariant c.answer.ensures.ok c.answer.ensures.err

@@ -1,24 +1,19 @@
--- The number's pending record, if it is found, is that of the state.
-use Rattle.std.proofs.Common.{◌≡◌, ◌∙◌, ◌<◌, ◌≤◌, Some, sym, arith}
+-- The record at the place is that of the number, and it lacks an acknowledgement.
+use Rattle.std.proofs.Common.{◌≡◌, ◌<◌, ◌≤◌, ◌∙◌, Some, sym, arith}
 use Rattle.std.specs.Prelude.{find}
 use Rattle.ckpt_ids.specs.Records.{missing}
-use Rattle.ckpt_ids.proofs.PlaceLemmas.{find-none}
 use Rattle.ckpt_ids.proofs.ResultLemmas.{on_each_error}
 use Rattle.ckpt_store.specs.Storing.{has_id}
 use Rattle.ckpt_store.proofs.RowLemmas.{find-place}
-use Rattle.ckpt_core.proofs.Acknowledging.States.{IsTaking, acked_wants, it_lacks, none_found}
+use Rattle.ckpt_core.proofs.Acknowledging.States.{IsTaking, acked_wants, it_lacks}
 use Rattle.ckpt_core.proofs.parts.Parts.ack.Goals as goal
 use Rattle.ckpt_core.proofs.parts.Parts.ack.Goals.{After-missing-missing}
 
-pub ack_late-requires-clause-ended : goal.ack_late-requires-clause-ended
-ack_late-requires-clause-ended c =
-    none_found c.args.self.now c.args.id c.requires.sound.sound c.place.ensures.pending c.recall_store.ensures (find-none (has_id c.args.id) c.args.self.now.pending c.in-None.ensures.absent)
-
 found : (c : After-missing-missing) → find (has_id c.args.id) c.args.self.now.pending ≡ Some c.at.result.now
-found c = sym (find-place c.args.id c.args.self.now.pending c.in-Some.place c.place.ensures.in_order c.in-Some.ensures.found) ∙ c.at.ensures
+found c = sym (find-place c.args.id c.args.self.now.pending c.args.place c.recall.ensures.in_order c.requires.place) ∙ c.at.ensures
 
 taking : (c : After-missing-missing) → IsTaking c.args.self.now c.args.now c.args.id c.args.subtask c.args.fresh.now c.args.reused.now c.at.result.now
-taking c = record { sound = c.requires.sound; accepted = c.requires.accepted; pending = c.place.ensures.pending; in_order = c.place.ensures.in_order; stored = c.recall_store.ensures; found = found c }
+taking c = record { sound = c.requires.sound; accepted = c.requires.accepted; pending = c.recall.ensures.pending; in_order = c.recall.ensures.in_order; stored = c.recall_store.ensures; found = found c }
 
 pub ack_waiting-requires-clause-waiting : goal.ack_waiting-requires-clause-waiting
 ack_waiting-requires-clause-waiting c = record { lacking = c.at.result.now; found = found (goal.at.ack_waiting-requires-clause-waiting c).After-missing-missing; counted = sym c.missing-missing.ensures.value }
@@ -29,7 +24,7 @@ returns-then-missing-gt1-clause-memory c = on_each_error c.ack_waiting.result _ 
 pub ack_last-requires-clause-last : goal.ack_last-requires-clause-last
 ack_last-requires-clause-last c =
     let there = found (goal.at.ack_last-requires-clause-last c).After-missing-missing in
-    let some : 0 < missing c.at.result.now = it_lacks c.args.self.now c.args.id c.at.result.now c.requires.sound.sound there c.place.ensures.pending in
+    let some : 0 < missing c.at.result.now = it_lacks c.args.self.now c.args.id c.at.result.now c.requires.sound.sound there c.recall.ensures.pending in
     let few : c.missing-missing.result ≤ 1 = c.if-missing-gt1.false in
     record { lacking = c.at.result.now; found = there; counted = omega (arith, some, few, c.missing-missing.ensures.value) }
 

@@ -1,9 +1,19 @@
 -- The calls that always take memory may take it.
-use Rattle.std.proofs.Common.{Some, rules}
-use Rattle.ckpt_ids.specs.declared.call.Call.TheVariants.{Savepoint, Restore, Take, Show}
-use Rattle.ckpt_core.specs.Inside.Parts.{state_of}
-use Rattle.ckpt_core.proofs.Answering.Calls.{wants_here, savepoint_wants, restore_wants, take_wants, show_wants}
+use Rattle.std.proofs.Common.{ℕ, Option, Some, rules, subst}
+use Rattle.ckpt_ids.specs.declared.call.Call.{Call}
+use Rattle.ckpt_ids.specs.declared.call.Call.TheVariants.{Ack, Savepoint, Restore, Take}
+use Rattle.ckpt_core.specs.Inside.Parts.{IsPlaceIn, state_of}
+use Rattle.ckpt_core.proofs.Answering.Calls.{wants_here, savepoint_wants, restore_wants, take_wants}
 use Rattle.ckpt_core.proofs.parts.Parts.answer.Goals as goal
+
+pub ack_late-requires-clause-ended : goal.ack_late-requires-clause-ended
+unfolding state_of
+ack_late-requires-clause-ended c =
+    let p = c.args.self.now in
+    let arm = c.in-Ack in
+    let Named : Option ℕ → Type 0 = IsPlaceIn p (Ack arm.now arm.id arm.subtask arm.fresh arm.reused) in
+    let Called : Call → Type 0 = λ call. IsPlaceIn p call c.args.place in
+    subst Named c.in-None.is (subst Called arm.is c.requires.place)
 
 pub returns-in-Savepoint-clause-memory : goal.returns-in-Savepoint-clause-memory
 returns-in-Savepoint-clause-memory c =
@@ -21,8 +31,3 @@ pub returns-in-Take-clause-memory : goal.returns-in-Take-clause-memory
 returns-in-Take-clause-memory c =
     let m = state_of c.args.self.now in
     wants_here c.take.result m c.args.call.now (Take c.in-Take.most) c.in-Take.is c.requires.accepted (take_wants m c.in-Take.most)
-
-pub returns-in-Show-clause-memory : goal.returns-in-Show-clause-memory
-returns-in-Show-clause-memory c =
-    let m = state_of c.args.self.now in
-    wants_here c.show.result m c.args.call.now (Show c.in-Show.id) c.in-Show.is c.requires.accepted (show_wants m c.in-Show.id)

@@ -1,27 +1,30 @@
 -- A late decline changes only the moment; a decline of a pending record is a step of the state, whether the job fails over or not.
 use Rattle.std.proofs.Common.{◌≡◌, ◌+◌, Bool, true, false, ◌&&◌, cond, ltb, Some, None, refl, ap, sym, subst, ◌∙◌, arith}
 use Rattle.std.specs.Prelude.{find}
-use Rattle.std.specs.Option.{option_copied}
 use Rattle.std.proofs.lemmas.Bool.{eqb-true}
 use denote.Enum.Bare.{sameb}
 use Rattle.ckpt_ids.specs.contracts.numbers.Kind.{the_type}
 use Rattle.ckpt_ids.specs.declared.numbers.Kind.TheVariants as kind
 use Rattle.ckpt_ids.specs.declared.call.Call.TheVariants as call
 use Rattle.ckpt_ids.specs.declared.reply.Reply.TheVariants as reply
+use Rattle.ckpt_ids.specs.Places.{LiesAt}
 use Rattle.ckpt_ids.specs.Records.{Record}
 use Rattle.ckpt_rules.specs.Moments.{Moments}
+use Rattle.ckpt_store.specs.Storing.{id_of}
+use Rattle.ckpt_store.proofs.RowLemmas.{find-place}
 use Rattle.ckpt_core.specs.declared.parts.Parts.{Parts}
 use Rattle.ckpt_core.specs.Inside.Grouped.{with_pins}
-use Rattle.ckpt_core.specs.Inside.Parts.{state_of, Answers}
+use Rattle.ckpt_core.specs.Inside.Parts.{IsPlaceOf, records_in, state_of, Answers}
+use Rattle.ckpt_core.specs.Refusals.{pending_of}
 use Rattle.ckpt_core.specs.State.{is_checkpoint}
 use Rattle.ckpt_core.specs.Steps.{failures_with, fails_the_job}
 use Rattle.ckpt_core.proofs.Answering.Accepted.{accepted_decline}
 use Rattle.ckpt_core.proofs.Records.Counts.{IsIn-from_find}
 use Rattle.ckpt_core.proofs.Records.Lookups.{has_number}
 use Rattle.ckpt_core.proofs.Ending.Drops.{groups_of}
-use Rattle.ckpt_core.proofs.Ending.Moves.{late_answers, pending_there, pending_absent, few_failed, failed_answers, aborted_answers, declined_as, kind_test, are_too_many}
+use Rattle.ckpt_core.proofs.Ending.Moves.{late_answers, pending_there, few_failed, failed_answers, aborted_answers, declined_as, kind_test, are_too_many}
 use Rattle.ckpt_core.proofs.parts.Parts.decline.Goals as goal
-use Rattle.ckpt_core.proofs.parts.Parts.decline.Goals.{then-eq, else-eq, then-failed, else-failed}
+use Rattle.ckpt_core.proofs.parts.Parts.decline.Goals.{then-is_checkpoint, else-is_checkpoint, then-failed, else-failed}
 
 pub see-requires : goal.see-requires
 see-requires c = accepted_decline (state_of c.args.self.now) c.args.now c.args.id c.args.subtask c.requires.accepted
@@ -29,17 +32,16 @@ see-requires c = accepted_decline (state_of c.args.self.now) c.args.now c.args.i
 pub returns-in_default : goal.returns-in_default
 returns-in_default c =
     let p = c.args.self.now in
-    let absent : find (has_number c.args.id) p.pending ≡ None = sym c.get.ensures.value ∙ ap option_copied c.in_default.is in
-    let answers = late_answers p c.args.now c.args.id c.args.subtask c.requires.sound c.requires.accepted
-    (pending_absent p c.args.id c.requires.sound.sound (groups_of p c.recall_groups.ensures.pending c.recall_groups.ensures.stored) absent) in
+    let absent : pending_of (records_in p) c.args.id ≡ None = subst (IsPlaceOf p c.args.id) c.in_default.is c.requires.place in
     let P : Moments → Type 0 = λ clock. Answers p (record p { clock = clock }) (call.Decline c.args.now c.args.id c.args.subtask) reply.DeclineLate in
-    subst P (sym c.see.ensures) answers
+    subst P (sym c.see.ensures) (late_answers p c.args.now c.args.id c.args.subtask c.requires.sound c.requires.accepted absent)
 
 pub add-failed-requires : goal.add-failed-requires
 add-failed-requires c =
     let p = c.args.self.now in
-    let there : find (has_number c.args.id) p.pending ≡ Some c.in-Some.record.now = sym c.get.ensures.value ∙ ap option_copied c.in-Some.is in
-    omega (arith, few_failed p c.args.id c.in-Some.record.now c.requires.sound (groups_of p c.recall_groups.ensures.pending c.recall_groups.ensures.stored) there)
+    let lies : LiesAt id_of c.args.id p.pending c.in-Some.place = subst (IsPlaceOf p c.args.id) c.in-Some.is c.requires.place in
+    let there : find (has_number c.args.id) p.pending ≡ Some c.at.result.now = sym (find-place c.args.id p.pending c.in-Some.place c.recall.ensures.in_order lies) ∙ c.at.ensures in
+    omega (arith, few_failed p c.args.id c.at.result.now c.requires.sound (groups_of p c.recall_groups.ensures.pending c.recall_groups.ensures.stored) there)
 
 pub see-requires-2 : goal.see-requires-2
 see-requires-2 c = accepted_decline (state_of c.args.self.now) c.args.now c.args.id c.args.subtask c.requires.accepted
@@ -58,30 +60,31 @@ returns c =
     let p = c.args.self.now in
     let now = c.args.now in
     let id = c.args.id in
-    let r = with_pins p.registry c.in-Some.record.now in
-    let found : find (has_number id) p.pending ≡ Some c.in-Some.record.now = sym c.get.ensures.value ∙ ap option_copied c.in-Some.is in
-    let there = pending_there p id c.in-Some.record.now c.requires.sound.sound (groups_of p c.recall_groups.ensures.pending c.recall_groups.ensures.stored) found in
-    let its : r.id ≡ id = eqb-true r.id id (IsIn-from_find (has_number id) c.in-Some.record.now p.pending found).1 in
-    let tests : is_checkpoint r ≡ c.eq.result = sym (c.eq.ensures ∙ ap (λ k. sameb the_type k kind.Checkpoint) c.kind.ensures ∙ kind_test r.kind) in
-    let counted : c.if-eq.failures ≡ record p.failures { number = failures_with (state_of p) r } = elim c.if-eq.branch [
-      | then-eq v ↦ v.failures-is ∙ v.add-failed.ensures.number ∙ ap (λ n. record p.failures { number = n }) (sym (number_is p r true (tests ∙ v.if-eq.true)))
-      | else-eq v ↦ v.failures-is ∙ ap (λ n. record p.failures { number = n }) (sym (number_is p r false (tests ∙ v.if-eq.false)))
+    let r = with_pins p.registry c.at.result.now in
+    let lies : LiesAt id_of id p.pending c.in-Some.place = subst (IsPlaceOf p id) c.in-Some.is c.requires.place in
+    let found : find (has_number id) p.pending ≡ Some c.at.result.now = sym (find-place id p.pending c.in-Some.place c.recall.ensures.in_order lies) ∙ c.at.ensures in
+    let there = pending_there p id c.at.result.now c.requires.sound.sound (groups_of p c.recall_groups.ensures.pending c.recall_groups.ensures.stored) found in
+    let its : r.id ≡ id = eqb-true r.id id (IsIn-from_find (has_number id) c.at.result.now p.pending found).1 in
+    let tests : is_checkpoint r ≡ c.eq-is_checkpoint.result = sym (c.eq-is_checkpoint.ensures ∙ ap (λ k. sameb the_type k kind.Checkpoint) c.kind.ensures ∙ kind_test r.kind) in
+    let counted : c.if-is_checkpoint.failures ≡ record p.failures { number = failures_with (state_of p) r } = elim c.if-is_checkpoint.branch [
+      | then-is_checkpoint v ↦ v.failures-is ∙ v.add-failed.ensures.number ∙ ap (λ n. record p.failures { number = n }) (sym (number_is p r true (tests ∙ v.if-is_checkpoint.true)))
+      | else-is_checkpoint v ↦ v.failures-is ∙ ap (λ n. record p.failures { number = n }) (sym (number_is p r false (tests ∙ v.if-is_checkpoint.false)))
     ] in
-    let fails : c.if-eq.failed ≡ fails_the_job (state_of p) r = elim c.if-eq.branch [
-      | then-eq v ↦
+    let fails : c.if-is_checkpoint.failed ≡ fails_the_job (state_of p) r = elim c.if-is_checkpoint.branch [
+      | then-is_checkpoint v ↦
           let many = are_too_many v.add-failed.result v.add-failed.new.self.tolerable v.add-failed.new.self.number v.add-failed.ensures.intolerable in
           v.failed-is ∙ many ∙ ap (λ f. ltb f.tolerable f.number) v.add-failed.ensures.number ∙ ap (λ t. ltb t (p.failures.number + 1)) c.requires.sound.tied.tolerable
-          ∙ sym (test_is p r true (tests ∙ v.if-eq.true))
-      | else-eq v ↦ v.failed-is ∙ v.if-eq.false ∙ sym (test_is p r false (tests ∙ v.if-eq.false))
+          ∙ sym (test_is p r true (tests ∙ v.if-is_checkpoint.true))
+      | else-is_checkpoint v ↦ v.failed-is ∙ v.if-is_checkpoint.false ∙ sym (test_is p r false (tests ∙ v.if-is_checkpoint.false))
     ] in
     elim c.if-failed.branch [
-      | then-failed w ↦ declined_as p c.if-failed.self w.fail_over.new.self now c.see-2.new.self c.if-eq.failures c.if-eq.failures (call.Decline now id c.args.subtask) c.if-failed.reply (reply.DeclineFailed w.fail_over.result)
+      | then-failed w ↦ declined_as p c.if-failed.self w.fail_over.new.self now c.see-2.new.self c.if-is_checkpoint.failures c.if-is_checkpoint.failures (call.Decline now id c.args.subtask) c.if-failed.reply (reply.DeclineFailed w.fail_over.result)
           w.self-is c.see-2.ensures refl w.reply-is
-          (failed_answers p w.fail_over.new.self now id c.args.subtask r c.if-eq.failures w.fail_over.result c.requires.sound.tied c.requires.accepted
+          (failed_answers p w.fail_over.new.self now id c.args.subtask r c.if-is_checkpoint.failures w.fail_over.result c.requires.sound.tied c.requires.accepted
           there counted (sym fails ∙ w.if-failed.true)
           w.fail_over.ensures.state w.fail_over.ensures.count w.fail_over.ensures.tied w.fail_over.ensures.cleared)
-      | else-failed w ↦ declined_as p c.if-failed.self w.drop_pending.new.self now c.see-2.new.self c.if-eq.failures c.if-eq.failures (call.Decline now id c.args.subtask) c.if-failed.reply (reply.DeclineAborted w.drop_pending.result)
+      | else-failed w ↦ declined_as p c.if-failed.self w.drop_pending.new.self now c.see-2.new.self c.if-is_checkpoint.failures c.if-is_checkpoint.failures (call.Decline now id c.args.subtask) c.if-failed.reply (reply.DeclineAborted w.drop_pending.result)
           w.self-is c.see-2.ensures refl w.reply-is
-          (aborted_answers p w.drop_pending.new.self now id c.args.subtask r c.if-eq.failures w.drop_pending.result c.requires.sound.tied c.requires.accepted
+          (aborted_answers p w.drop_pending.new.self now id c.args.subtask r c.if-is_checkpoint.failures w.drop_pending.result c.requires.sound.tied c.requires.accepted
           there its counted (sym fails ∙ w.if-failed.false) w.drop_pending.ensures)
     ]

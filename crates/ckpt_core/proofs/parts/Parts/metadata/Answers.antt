@@ -1,30 +1,46 @@
 -- A live record is pending or stored, and its metadata does not have its pins.
-use Rattle.std.proofs.Common.{◌≡◌, Option, Some, None, sym, ap, subst, ◌∙◌}
+use Rattle.std.proofs.Common.{◌≡◌, Some, None, sym, ap, ◌∙◌}
 use Rattle.std.specs.Prelude.{find, IsSome}
-use Rattle.std.specs.Option.{option_copied}
-use Rattle.std.proofs.lemmas.Result.{IfOk-weaker}
-use Rattle.ckpt_ids.specs.Records.{Record}
+use Rattle.std.specs.Option.{option_copied, option_map}
+use Rattle.ckpt_ids.specs.Records.{metadata_of}
+use Rattle.ckpt_ids.proofs.ResultLemmas.{on_each_error}
 use Rattle.ckpt_store.specs.Storing as storing
+use Rattle.ckpt_core.specs.Inside.Parts.{state_of}
+use Rattle.ckpt_core.specs.State.{record_of}
+use Rattle.ckpt_core.proofs.Loaded.Saving.{some_there}
 use Rattle.ckpt_core.proofs.Records.Lookups.{has_number}
-use Rattle.ckpt_core.proofs.Answering.Reads.{pending_metadata, stored_metadata, stored_record, some_copied}
+use Rattle.ckpt_core.proofs.Answering.Reads.{pending_live, pending_metadata, stored_metadata, stored_record}
 use Rattle.ckpt_core.proofs.parts.Parts.metadata.Goals as goal
 
-pub returns-in-Some : goal.returns-in-Some
-returns-in-Some c =
+pub returns-in_err-metadata-clause-memory : goal.returns-in_err-metadata-clause-memory
+returns-in_err-metadata-clause-memory c =
     let p = c.args.self.now in
     let found : find (has_number c.args.id) p.pending ≡ Some c.in-Some.record.now = sym c.get.ensures.value ∙ ap option_copied c.in-Some.is in
-    IfOk-weaker c.metadata.result _ _ (λ metadata is. pending_metadata p c.args.id c.in-Some.record.now metadata c.requires.in_order found is) c.metadata.ensures
+    on_each_error c.from_residual.result (IsSome (record_of (state_of p) c.args.id)) (some_there _ _ (pending_live p c.args.id c.in-Some.record.now c.requires found))
 
-pub unwrap-requires : goal.unwrap-requires
-unwrap-requires c =
+pub returns-in-Some-clause-value : goal.returns-in-Some-clause-value
+returns-in-Some-clause-value c =
+    let p = c.args.self.now in
+    let found : find (has_number c.args.id) p.pending ≡ Some c.in-Some.record.now = sym c.get.ensures.value ∙ ap option_copied c.in-Some.is in
+    sym (pending_metadata p c.args.id c.in-Some.record.now c.in_ok-metadata.field-0 c.requires found c.in_ok-metadata.ensures)
+
+pub returns-in_err-metadata-in-Some-get-clause-memory : goal.returns-in_err-metadata-in-Some-get-clause-memory
+returns-in_err-metadata-in-Some-get-clause-memory c =
     let p = c.args.self.now in
     let none : find (has_number c.args.id) p.pending ≡ None = sym c.get.ensures.value ∙ ap option_copied c.in_default.is in
-    let P : Option Record → Type 0 = IsSome in
-    some_copied c.get-2.result (subst P (stored_record p c.args.id c.requires.in_order none ∙ sym c.get-2.ensures.value) c.requires.live)
+    let there : storing.record_of p.store c.args.id ≡ Some c.in-Some-get.record.now = sym c.get-2.ensures.value ∙ ap option_copied c.in-Some-get.is in
+    on_each_error c.from_residual-in_err-metadata-in-Some-get.result (IsSome (record_of (state_of p) c.args.id)) (some_there _ _ (stored_record p c.args.id c.requires none ∙ there))
 
-pub returns : goal.returns
-returns c =
+pub returns-in_ok-metadata-in-Some-get-clause-value : goal.returns-in_ok-metadata-in-Some-get-clause-value
+returns-in_ok-metadata-in-Some-get-clause-value c =
     let p = c.args.self.now in
     let none : find (has_number c.args.id) p.pending ≡ None = sym c.get.ensures.value ∙ ap option_copied c.in_default.is in
-    let there : storing.record_of p.store c.args.id ≡ Some c.unwrap.result.now = sym c.get-2.ensures.value ∙ ap option_copied c.unwrap.ensures in
-    IfOk-weaker c.metadata-2.result _ _ (λ metadata is. stored_metadata p c.args.id c.unwrap.result.now metadata c.requires.in_order none there is) c.metadata-2.ensures
+    let there : storing.record_of p.store c.args.id ≡ Some c.in-Some-get.record.now = sym c.get-2.ensures.value ∙ ap option_copied c.in-Some-get.is in
+    sym (stored_metadata p c.args.id c.in-Some-get.record.now c.in_ok-metadata-in-Some-get.field-0 c.requires none there c.in_ok-metadata-in-Some-get.ensures)
+
+pub returns-in-None-clause-value : goal.returns-in-None-clause-value
+returns-in-None-clause-value c =
+    let p = c.args.self.now in
+    let none : find (has_number c.args.id) p.pending ≡ None = sym c.get.ensures.value ∙ ap option_copied c.in_default.is in
+    let absent : storing.record_of p.store c.args.id ≡ None = sym c.get-2.ensures.value ∙ ap option_copied c.in-None.is in
+    sym (ap (option_map metadata_of) (stored_record p c.args.id c.requires none ∙ absent))

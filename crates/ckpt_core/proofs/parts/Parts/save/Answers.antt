@@ -1,5 +1,5 @@
 -- Answers the goals of `Parts::save`.
-use Rattle.std.proofs.Common.{sym}
+use Rattle.std.proofs.Common.{◌∙◌, sym}
 use Rattle.ckpt_core.specs.declared.parts.Parts.{Parts}
 use Rattle.ckpt_core.specs.Inside.Parts.{state_of}
 use Rattle.ckpt_core.specs.State.{record_of}
@@ -7,11 +7,11 @@ use Rattle.ckpt_core.proofs.Loaded.Saving.{looked_up, saved_record}
 use Rattle.ckpt_core.proofs.Reading.Live.{live_in_order}
 use Rattle.ckpt_core.proofs.parts.Parts.save.Goals as goal
 
-pub metadata-requires-clause-in_order : goal.metadata-requires-clause-in_order
-metadata-requires-clause-in_order c = live_in_order c.args.self.now c.requires.sound
+pub metadata-requires : goal.metadata-requires
+metadata-requires c = live_in_order c.args.self.now c.requires.sound
 
 pub returns : goal.returns
 returns c = λ r e done.
     let p : Parts = c.args.self.now in
     let k = looked_up p r c.args.id e in
-    saved_record r c.in_ok-metadata.metadata (record_of (state_of p) c.args.id) c.in_ok-pins.pins e c.in_ok-metadata.ensures (c.in_ok-pins.ensures r k.0 k.1 (sym done))
+    saved_record r c.unwrap-metadata.result (record_of (state_of p) c.args.id) c.in_ok-pins.pins e (sym c.in_ok-metadata.ensures.value ∙ c.unwrap-metadata.ensures) (c.in_ok-pins.ensures r k.0 k.1 (sym done))

@@ -1,14 +1,42 @@
--- The record is live, since the call was not refused.
+-- A show is refused exactly if no live record has the number.
+use Rattle.std.proofs.Common.{◌∙◌, refl, sym, Ok, Err}
+use Rattle.ckpt_ids.specs.declared.call.Call.TheVariants.{Show}
+use Rattle.ckpt_ids.specs.declared.reply.Refusal.TheVariants.{NoSuchRecord}
+use Rattle.ckpt_ids.specs.declared.reply.Reply.TheVariants.{Shown}
+use Rattle.ckpt_core.specs.declared.coordinator.CoreFault.TheVariants.{Memory}
 use Rattle.ckpt_core.specs.Inside.Parts.{state_of}
-use Rattle.ckpt_core.proofs.Answering.Reads.{accepted_show, shown_answers}
+use Rattle.ckpt_core.proofs.Answering.Calls.{show_wants}
+use Rattle.ckpt_core.proofs.Answering.Reads.{show_absent, show_live, show_told, shown_answers}
+use Rattle.ckpt_core.proofs.Answering.Reports.{names_it, names_none}
+use Rattle.ckpt_core.proofs.Reading.Live.{live_in_order}
 use Rattle.ckpt_core.proofs.parts.Parts.show.Goals as goal
 
-pub metadata-requires-clause-in_order : goal.metadata-requires-clause-in_order
-unfolding state_of
-metadata-requires-clause-in_order c = c.requires.sound.sound.in_order
+pub metadata-requires : goal.metadata-requires
+metadata-requires c = live_in_order c.args.self.now c.requires
 
-pub metadata-requires-clause-live : goal.metadata-requires-clause-live
-metadata-requires-clause-live c = accepted_show (state_of c.args.self.now) c.args.id c.requires.accepted
+pub returns-in-Ok-Some-clause-ok : goal.returns-in-Ok-Some-clause-ok
+returns-in-Ok-Some-clause-ok c =
+    let p = c.args.self.now in
+    let told = sym c.in-Ok-Some.field-0-is ∙ c.in-Ok-Some.ensures.value in
+    shown_answers p c.args.id c.in-Ok-Some.metadata c.requires (show_told (state_of p) c.args.id c.in-Ok-Some.metadata told) (sym told)
 
-pub returns-clause-ok : goal.returns-clause-ok
-returns-clause-ok c = shown_answers c.args.self.now c.args.id c.in_ok-metadata.field-0 c.requires.sound c.requires.accepted c.in_ok-metadata.ensures
+pub returns-in-Ok-Some-clause-refused : goal.returns-in-Ok-Some-clause-refused
+returns-in-Ok-Some-clause-refused c =
+    let m = state_of c.args.self.now in
+    let accepted = show_told m c.args.id c.in-Ok-Some.metadata (sym c.in-Ok-Some.field-0-is ∙ c.in-Ok-Some.ensures.value) in
+    names_none m (Show c.args.id) (Ok (Shown c.in-Ok-Some.metadata)) tt accepted
+
+pub returns-in-Ok-None-clause-refused : goal.returns-in-Ok-None-clause-refused
+returns-in-Ok-None-clause-refused c =
+    let m = state_of c.args.self.now in
+    names_it m (Show c.args.id) NoSuchRecord (show_absent m c.args.id (sym c.in-Ok-None.field-0-is ∙ c.in-Ok-None.ensures.value))
+
+pub returns-in-Err-clause-refused : goal.returns-in-Err-clause-refused
+returns-in-Err-clause-refused c =
+    let m = state_of c.args.self.now in
+    names_none m (Show c.args.id) (Err Memory) refl (show_live m c.args.id c.in-Err.ensures.memory)
+
+pub returns-in-Err-clause-memory : goal.returns-in-Err-clause-memory
+returns-in-Err-clause-memory c = λ e.
+    let m = state_of c.args.self.now in
+    show_wants m c.args.id (show_live m c.args.id c.in-Err.ensures.memory)

@@ -3,6 +3,6 @@ use Rattle.std.proofs.Common.{rules}
 use Rattle.ckpt_core.specs.Refusals.{refusal}
 use Rattle.ckpt_core.proofs.parts.Parts.test.Goals as goal
 
-pub returns-in-Take : goal.returns-in-Take
+pub returns-in-Dispose-clause-refused : goal.returns-in-Dispose-clause-refused
 unfolding refusal
-returns-in-Take c = search rules
+returns-in-Dispose-clause-refused c = search rules

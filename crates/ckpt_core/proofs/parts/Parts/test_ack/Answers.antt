@@ -1,5 +1,5 @@
 -- Answers the goals of `Parts::test_ack`.
-use Rattle.std.proofs.Common.{rules, refl}
+use Rattle.std.proofs.Common.{rules, refl, ◌∙◌}
 use Rattle.ckpt_core.specs.Inside.Parts.{state_of}
 use Rattle.ckpt_core.specs.Refusals.{refusal}
 use Rattle.ckpt_core.proofs.Answering.RefusalRows.{row_holds, row_fails, row_last, rows_hold, rows_fail}
@@ -18,12 +18,13 @@ pub returns-in_err-test_given : goal.returns-in_err-test_given
 unfolding refusal state_of
 returns-in_err-test_given c = search (rules, row_holds, row_fails, rows_fail)
 
-pub returns-in-Some : goal.returns-in-Some
+pub returns-in_default-clause-refused : goal.returns-in_default-clause-refused
 unfolding refusal state_of
-returns-in-Some c = row_fails _ _ _ c.in_ok-test_moment.ensures (rows_fail _ _ _ _ c.in_ok-test_files.ensures (row_fails _ _ _ c.in_ok-test_given.ensures
-    (part_rows c.args.self.now c.args.id c.args.subtask c.args.fresh.now c.args.reused.now _ c.in-Some.pending.now _ c.requires.tied c.in-Some.ensures c.test_part.ensures refl)))
+returns-in_default-clause-refused c = row_fails _ _ _ c.in_ok-test_moment.ensures (rows_fail _ _ _ _ c.in_ok-test_files.ensures (row_fails _ _ _ c.in_ok-test_given.ensures
+    (no_part_rows _ _ _ _ _ c.in_default.ensures.place refl)))
 
-pub returns-in-None : goal.returns-in-None
+pub returns-clause-refused : goal.returns-clause-refused
 unfolding refusal state_of
-returns-in-None c = row_fails _ _ _ c.in_ok-test_moment.ensures (rows_fail _ _ _ _ c.in_ok-test_files.ensures (row_fails _ _ _ c.in_ok-test_given.ensures
-    (no_part_rows _ _ _ _ _ c.in-None.ensures refl)))
+returns-clause-refused c = row_fails _ _ _ c.in_ok-test_moment.ensures (rows_fail _ _ _ _ c.in_ok-test_files.ensures (row_fails _ _ _ c.in_ok-test_given.ensures
+    (part_rows c.args.self.now c.args.id c.args.subtask c.args.fresh.now c.args.reused.now _ c.at-pending.result.now _ c.requires.tied
+    (c.in-Some.ensures.found c.at-pending.result.now c.at-pending.ensures) (c.at_place.ensures.refused ∙ c.test_part.ensures) refl)))
