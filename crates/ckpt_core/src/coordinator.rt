@@ -8,7 +8,6 @@ ghost use Rattle.ckpt_core.specs.Coordinator.{IsCall, may_want_memory, open_faul
 ghost use Rattle.ckpt_core.specs.Inside.Parts.{Answers, AreSound, IsAccepted, IsPlaceIn, Stays, never_fails, state_of, tests_itself};
 
 use crate::parts::Parts;
-use crate::recall::recall_shape;
 use crate::triggers::Ticked;
 use ckpt_hash::Secret;
 use ckpt_ids::{Call, Config, MOMENTS_END, NUMBERS_END, Refusal, Reply, Shape};
@@ -180,7 +179,7 @@ fn recall_call(call: &Call)
         ..
     } = call
     {
-        recall_shape(shape);
+        shape.recall();
     }
 }
 

@@ -1,13 +1,12 @@
 //! What the parts and their values ensure at each moment. These functions do nothing: a caller needs what
 //! their contracts say, and the check forgets it between two calls.
 ghost use Rattle.ckpt_ids.specs.Configuration.{IsWithinLimits};
-ghost use Rattle.ckpt_ids.specs.Shapes.{IsShape};
 ghost use Rattle.ckpt_pending.specs.Acknowledging.{IsDone};
 ghost use Rattle.ckpt_core.specs.Inside.RecordFacts.{IsIn, IsInOrder, IsPending, IsStored, Record};
 ghost use Rattle.ckpt_core.specs.Inside.Starting.{use_before};
 
 use crate::parts::Parts;
-use ckpt_ids::{Config, Shape};
+use ckpt_ids::Config;
 use ckpt_pending::{Done, Pending};
 
 impl Parts {
@@ -40,13 +39,6 @@ pub(crate) fn recall_limits(config: &Config)
     ensures { IsWithinLimits config.now }
 {
     let _ = config.retained();
-}
-
-/// A shape is within its limits.
-pub(crate) fn recall_shape(shape: &Shape)
-    ensures { IsShape shape.now }
-{
-    shape.recall();
 }
 
 /// A pending record is not done, and each of its acknowledgements comes from a subtask of its shape.

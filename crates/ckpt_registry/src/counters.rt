@@ -14,6 +14,9 @@ use indexmap::IndexMap;
 pub(crate) type Counts = IndexMap<FileId, u32, Secret>;
 
 /// Counts files that no record uses yet, in reserved room.
+///
+/// Conditions: there is room for all of them, none is named twice or has a counter, and no counter
+/// is 0.
 pub(crate) fn count_fresh(counts: &mut Counts, files: &[FileId])
     requires room { length files.now ≤ spare counts.old }
     requires each_once { IsEachOnce files.now }
@@ -29,6 +32,8 @@ pub(crate) fn count_fresh(counts: &mut Counts, files: &[FileId])
 }
 
 /// Counts each of these files once more. All of them are in use already.
+///
+/// Conditions: each of them has a counter, which stays below 2^32, and no counter is 0.
 pub(crate) fn count_reused(counts: &mut Counts, files: &[FileId])
     requires present { (f : ℕ) → IsIn f files.now → 0 < counter counts.old f }
     requires fits { (f : ℕ) → IsIn f files.now → counter counts.old f + times f files.now < 2 ^ 32 }
@@ -44,7 +49,9 @@ pub(crate) fn count_reused(counts: &mut Counts, files: &[FileId])
     }
 }
 
-/// Counts each of these files once more. There is reserved room for those that have no counter.
+/// Counts each of these files once more, in reserved room.
+///
+/// Conditions: there is room for all of them, their counters stay below 2^32, and no counter is 0.
 pub(crate) fn count_each(counts: &mut Counts, files: &[FileId])
     requires room { length files.now ≤ spare counts.old }
     requires fits { (f : ℕ) → IsIn f files.now → counter counts.old f + times f files.now < 2 ^ 32 }
@@ -60,6 +67,9 @@ pub(crate) fn count_each(counts: &mut Counts, files: &[FileId])
 }
 
 /// Removes one use of a file, and releases the file with its last use.
+///
+/// Conditions: the file has a counter, `released` has room for each file that has one, and no
+/// counter is 0.
 pub(crate) fn lower(counts: &mut Counts, released: &mut Vec<FileId>, file: FileId)
     requires counted { 0 < counter counts.old file }
     requires range { AreInRange counts.old }

@@ -43,6 +43,9 @@ impl Keyed for Holding {
 pub(crate) type Acknowledged = VecDeque<Holding>;
 
 /// Removes one use of each of these files.
+///
+/// Conditions: each has as many uses as it is named here, `released` has room for each file that
+/// has a counter, and no counter is 0.
 pub(crate) fn lower_each(counts: &mut Counts, released: &mut Vec<FileId>, files: &[FileId])
     requires counted { (f : ℕ) → times f files.now ≤ counter counts.old f }
     requires range { AreInRange counts.old }
@@ -55,6 +58,8 @@ pub(crate) fn lower_each(counts: &mut Counts, released: &mut Vec<FileId>, files:
 }
 
 /// The parts of a record, or `None` if no subtask of it uses a file.
+///
+/// Condition: the numbers of the records rise.
 pub(crate) fn parts_held(acknowledged: &Acknowledged, id: CheckpointId) -> Option<&Parts>
     requires { AreRising acknowledged.now.items }
     ensures some { IfSome result (λ parts. parts.now ≡ parts_of acknowledged.now id) }
@@ -67,6 +72,8 @@ pub(crate) fn parts_held(acknowledged: &Acknowledged, id: CheckpointId) -> Optio
 }
 
 /// Removes the parts of a record, if it has any. Takes no memory.
+///
+/// Condition: the numbers of the records rise.
 pub(crate) fn remove(acknowledged: &mut Acknowledged, id: CheckpointId) -> Option<Parts>
     requires { AreRising acknowledged.old.items }
     ensures gone { acknowledged.new.items ≡ filter (λ h. not (h.id == id)) acknowledged.old.items }
@@ -81,6 +88,8 @@ pub(crate) fn remove(acknowledged: &mut Acknowledged, id: CheckpointId) -> Optio
 }
 
 /// Adds a record at the place where it belongs. Mostly that is the end, which moves no other.
+///
+/// Condition: the place is not past the end.
 #[inline(always)]
 fn add(acknowledged: &mut Acknowledged, place: usize, holding: Holding) -> Result<(), AllocError>
     requires { place ≤ length acknowledged.old.items }
@@ -97,6 +106,8 @@ fn add(acknowledged: &mut Acknowledged, place: usize, holding: Holding) -> Resul
 
 /// Adds the part of a subtask to a record. A new record uses the spare room. Fails only if memory
 /// runs out, and then adds nothing.
+///
+/// Conditions: the numbers of the records rise, and the spare parts are empty.
 pub(crate) fn hold(
     acknowledged: &mut Acknowledged,
     spare: &mut Parts,

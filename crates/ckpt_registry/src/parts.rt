@@ -70,6 +70,8 @@ impl Parts {
     }
 
     /// The files of the first parts.
+    ///
+    /// Condition: there are as many parts.
     pub(crate) fn files_of_first(&self, parts: usize) -> &[FileId]
         requires { parts ≤ length self.now }
         ensures { result.now ≡ files_in (take parts self.now) }
@@ -81,6 +83,8 @@ impl Parts {
     }
 
     /// Whether one of the first parts has a file. Uses binary search in each.
+    ///
+    /// Condition: there are as many parts.
     pub(crate) fn has(&self, parts: usize, file: FileId) -> bool
         requires { parts ≤ length self.now }
         ensures { result ≡ nat_lt 0 (times file (files_in (take parts self.now))) }
@@ -149,6 +153,8 @@ pub(crate) fn emptied<T: Copy>(list: Vec<T>, most: usize) -> Vec<T>
 }
 
 /// Whether the part that begins here has a file.
+///
+/// Condition: the part lies within the files, and both its lists are in ascending order.
 fn is_in_part(files: &[FileId], start: usize, cut: &Cut, file: FileId) -> bool
     requires { IsCutAt start cut.now files.now }
     ensures { result ≡ nat_lt 0 (times file (between start cut.now.end files.now)) }
@@ -159,6 +165,8 @@ fn is_in_part(files: &[FileId], start: usize, cut: &Cut, file: FileId) -> bool
 }
 
 /// Writes files into reserved room.
+///
+/// Condition: the room is enough.
 pub(crate) fn write(files: &mut Vec<FileId>, more: &[FileId])
     requires room { vec_len files.old + length more.now ≤ vec_capacity files.old }
     ensures items { files.new.items ≡ files.old.items ++ more.now }

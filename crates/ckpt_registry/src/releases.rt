@@ -14,6 +14,9 @@ use ckpt_ids::{CheckpointId, FileId};
 
 /// Removes the uses of one record, if it has any. Records that pin this one keep its files. The
 /// room of its parts is then spare.
+///
+/// Conditions: the counters fit the parts and the pins, `released` has room for each file that has
+/// a counter, and the spare parts are empty.
 fn drop_uses(
     acknowledged: &mut Acknowledged,
     pinned: &mut Vec<Pinner>,
@@ -40,6 +43,9 @@ fn drop_uses(
 
 /// Removes all uses and pins of these records. The pins go first. So if a record goes together with
 /// the one that it pins, its pins are never counted.
+///
+/// Conditions: the counters fit the parts and the pins, `released` has room for each file that has
+/// a counter, and the spare parts and `room` are empty.
 pub(crate) fn release_each(
     acknowledged: &mut Acknowledged,
     pinned: &mut Vec<Pinner>,
