@@ -53,6 +53,8 @@ pub(crate) struct FirstParts {
 
 impl Pins {
     /// The files that are pinned. A file of several parts is there once for each.
+    ///
+    /// Conditions: the numbers of the records rise, and the record that is pinned still has its parts.
     fn files<'a>(&'a self, acknowledged: &'a Acknowledged) -> &'a [FileId]
         requires rising { AreRising acknowledged.now.items }
         requires kept { IsKept acknowledged.now self.now }
@@ -69,6 +71,9 @@ impl Pins {
 
     /// If these are the pins of a dropped record, which had these parts, its files are counted one
     /// by one from now on. Takes no memory.
+    ///
+    /// Conditions: each file of these parts has a counter, no counter grows beyond its range, and there
+    /// is room for the files.
     fn settle(&mut self, counts: &mut Counts, chosen: CheckpointId, parts: &Parts)
         requires kept { (before : Acknowledged) × (parts_of before chosen ≡ parts.now) × IsKept before self.old × ((f : ℕ) → counter counts.old f + times f (each_file (parts_pinned before self.old)) < 2 ^ 32) }
         requires present { (f : ℕ) → IsIn f (files_in parts.now) → 0 < counter counts.old f }
@@ -88,6 +93,9 @@ impl Pins {
     }
 
     /// Gives up the pins. Returns the list that is then spare, empty.
+    ///
+    /// Conditions: files that are counted one by one are in the counters, and there is room for all
+    /// that are released.
     fn give_up(self, counts: &mut Counts, released: &mut Vec<FileId>) -> Vec<FileId>
         requires counted { (f : ℕ) → times f (own_files self) ≤ counter counts.old f }
         requires range { AreInRange counts.old }
@@ -107,6 +115,9 @@ impl Pins {
 }
 
 /// Counts these files, each once, and returns them in this room. Takes no memory.
+///
+/// Conditions: the room is empty and has room for them, each has a counter, and no counter grows
+/// beyond its range.
 fn count_once(counts: &mut Counts, files: &[FileId], room: Vec<FileId>) -> Vec<FileId>
     requires empty { room.items ≡ [] }
     requires room { length files.now ≤ vec_capacity room }
@@ -158,6 +169,9 @@ fn is_searched(pinned: &[Pinner], first: &FirstParts) -> bool {
 /// Mostly the record is pinned as a whole, and none of its files is visited. Each record that is
 /// pinned so costs a count a search. So once there are [`MOST_SEARCHES`], the files of a further
 /// one are counted one by one.
+///
+/// Conditions: the room is empty and has room for the files, each has a counter, and no counter grows
+/// beyond its range.
 pub(crate) fn pin_all(
     counts: &mut Counts,
     pinned: &[Pinner],
@@ -188,6 +202,8 @@ pub(crate) fn pin_all(
 
 /// The files that a record pins. A file of several parts is there once for each. Fails only if
 /// memory runs out.
+///
+/// Conditions: the numbers of the records rise, and each record that is pinned still has its parts.
 pub(crate) fn files_pinned(
     alloc: Global,
     acknowledged: &Acknowledged,
@@ -216,6 +232,9 @@ struct Look {
 
 /// Whether a file belongs to the live record that is pinned. Many records may pin the same one, so
 /// if the last search was in this record, its result is used again.
+///
+/// Conditions: the numbers of the records rise, the record that is pinned still has its parts, and the
+/// last search was for this file.
 fn looked(acknowledged: &Acknowledged, first: FirstParts, last: Look, file: FileId) -> Look
     requires rising { AreRising acknowledged.now.items }
     requires within { first.parts ≤ length (parts_of acknowledged.now first.id) }
@@ -234,6 +253,9 @@ fn looked(acknowledged: &Acknowledged, first: FirstParts, last: Look, file: File
 }
 
 /// How many of these pin a live record that has this file.
+///
+/// Conditions: the numbers of the records rise, each record that is pinned still has its parts, and
+/// they are fewer than 2^32.
 pub(crate) fn pins_of(acknowledged: &Acknowledged, pinned: &[Pinner], file: FileId) -> u32
     requires rising { AreRising acknowledged.now.items }
     requires kept { AreKept acknowledged.now pinned.now }
@@ -261,6 +283,8 @@ pub(crate) fn pins_of(acknowledged: &Acknowledged, pinned: &[Pinner], file: File
 }
 
 /// Counts the files of a dropped record once for each record that pins it. Takes no memory.
+///
+/// Condition: before it was dropped it had these parts, and the counters were right.
 pub(crate) fn settle(
     pinned: &mut Vec<Pinner>,
     counts: &mut Counts,
@@ -279,6 +303,9 @@ pub(crate) fn settle(
 }
 
 /// Removes the pins of these records. The room of the last of them is then spare.
+///
+/// Conditions: files that are counted one by one are in the counters, there is room for all that are
+/// released, and the spare room is empty.
 pub(crate) fn unpin(
     pinned: &mut Vec<Pinner>,
     counts: &mut Counts,
