@@ -93,6 +93,7 @@ record_there p id order =
     record_of-groups id p.registry p.pending p.store.checkpoints p.store.savepoints (apart-from_in_order (grouped p.registry p.pending p.store.checkpoints p.store.savepoints) order)
     ∙ ap (option_or (option_map (with_pins p.registry) (find (has_number id) p.pending))) (sym (stored_found id p.store))
 
+-- a pending record is live, with its pins
 pub pending_live : (p : Parts) (id : ℕ) (r : Record) → IsInOrder id_before (records_in p) → find (has_number id) p.pending ≡ Some r → record_of (state_of p) id ≡ Some (with_pins p.registry r)
 pending_live p id r order there = record_there p id order ∙ ap (λ o. option_or (option_map (with_pins p.registry) o) (storing.record_of p.store id)) there
 

@@ -2,7 +2,7 @@
 use Rattle.std.proofs.Common.{◌≡◌, ℕ, Bool, true, false, ◌&&◌, cond, eqb, refl, sym, ap, ◌∙◌, Option, Some, None}
 use Rattle.std.specs.Borrow.{Bor}
 use Rattle.std.specs.Prelude.{find, is_some}
-use Rattle.std.specs.Option.{option_copied, option_map, option_or}
+use Rattle.std.specs.Option.{option_copied, option_map}
 use Rattle.std.proofs.lemmas.Bool.{and_parts, eqb-true}
 use Rattle.ckpt_ids.specs.Ordered.{IsIn, IsInOrder}
 use Rattle.ckpt_ids.specs.Records.{Record}
@@ -19,19 +19,13 @@ use Rattle.ckpt_core.specs.Reads.{pins_in, standing, standing_of, standing_witho
 use Rattle.ckpt_core.specs.Refusals.{pending_of}
 use Rattle.ckpt_core.specs.Soundness.{id_before}
 use Rattle.ckpt_core.specs.State.{State, is_pending, record_of}
-use Rattle.ckpt_core.proofs.Answering.Reads.{record_there, stored_record}
+use Rattle.ckpt_core.proofs.Answering.Reads.{pending_live, stored_record}
 use Rattle.ckpt_core.proofs.Records.Counts.{IsIn-from_find}
 use Rattle.ckpt_core.proofs.Records.Lookups.{has_number}
 
 -- the standing, by what is found
 abbrev found_standing : State → ℕ → Option Record → Standing
 found_standing m id o = elim o as (λ _. Standing) [ Some r ↦ standing_of r | None ↦ standing_without m id ]
-
--- a pending record is live, with its pins
-pub pending_found : (p : Parts) (id : ℕ) (r : Record) → IsInOrder id_before (records_in p) → find (has_number id) p.pending ≡ Some r → record_of (state_of p) id ≡ Some (with_pins p.registry r)
-pending_found p id r order there =
-    record_there p id order
-    ∙ ap (λ o. option_or (option_map (with_pins p.registry) o) (storing.record_of p.store id)) there
 
 -- what the store finds is done
 stored_done : (s : Stored) (id : ℕ) (r : Record) → IsStored s → storing.record_of s id ≡ Some r → r.done ≡ true
@@ -49,7 +43,7 @@ pub standing_pending : (p : Parts) (id : ℕ) (o : Option (Bor Record)) → IsIn
 standing_pending p id (Some b) order pending e h =
     let r : Record = b.now in
     let not_done : r.done ≡ false = (pending r (IsIn-from_find (has_number id) r p.pending (sym e)).0).not_done in
-    sym (ap (found_standing (state_of p) id) (pending_found p id r order (sym e)) ∙ ap (λ (d : Bool). cond d stands.Done stands.Pending) not_done)
+    sym (ap (found_standing (state_of p) id) (pending_live p id r order (sym e)) ∙ ap (λ (d : Bool). cond d stands.Done stands.Pending) not_done)
 standing_pending p id None order pending e h = absurd (cc)
 
 pub standing_done : (p : Parts) (id : ℕ) (o : Option (Bor Record)) → IsInOrder id_before (records_in p) → IsStored p.store → find (has_number id) p.pending ≡ None → option_copied o ≡ storing.record_of p.store id → is_some o ≡ true → stands.Done ≡ standing (state_of p) id

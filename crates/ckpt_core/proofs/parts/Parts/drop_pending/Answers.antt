@@ -1,19 +1,14 @@
 -- The record of the number is taken out, and no done record has its number.
-use Rattle.std.proofs.Common.{◌≡◌, ◌++◌, ◌∷◌, [], refl, ap, ◌∙◌, arith, Option, Some, None}
-use Rattle.std.specs.Prelude.{IsSome}
-use Rattle.ckpt_ids.specs.Records.{Record}
+use Rattle.std.proofs.Common.{◌++◌, ◌∷◌, [], ap, ◌∙◌, arith}
 use Rattle.ckpt_core.proofs.Ending.Drops.{none_known, room_to_note}
 use Rattle.ckpt_core.proofs.Ending.DropDone.{one_pending, pending_dropped}
+use Rattle.ckpt_core.proofs.Loaded.Saving.{some_there}
 use Rattle.ckpt_core.proofs.parts.Parts.drop_pending.Goals as goal
-
-is_there : (o : Option Record) (r : Record) → o ≡ Some r → IsSome o
-is_there (Some q) r e = refl
-is_there None r e = absurd (cc)
 
 pub push_reserved-requires : goal.push_reserved-requires
 push_reserved-requires c =
     let p = c.args.self.now in
-    omega (arith, room_to_note p 1 c.requires.sound (omega (arith, one_pending p c.args.id (is_there _ _ (c.take_out.ensures.found c.args.id c.requires.place)))))
+    omega (arith, room_to_note p 1 c.requires.sound (omega (arith, one_pending p c.args.id (some_there _ _ (c.take_out.ensures.found c.args.id c.requires.place)))))
 
 pub hand_out-requires-clause-unknown : goal.hand_out-requires-clause-unknown
 hand_out-requires-clause-unknown c = none_known c.args.self.now c.requires.sound.tied c.requires.sound.sound
@@ -23,7 +18,7 @@ returns c =
     let p = c.args.self.now in
     let id = c.args.id in
     let ended = c.push_reserved.new.self in
-    pending_dropped p (record p { pending = c.take_out.new.self; ended = ended }) c.hand_out.new.self id c.hand_out.result c.requires.sound.tied c.requires.sound.sound (is_there _ _ (c.take_out.ensures.found id c.requires.place))
+    pending_dropped p (record p { pending = c.take_out.new.self; ended = ended }) c.hand_out.new.self id c.hand_out.result c.requires.sound.tied c.requires.sound.sound (some_there _ _ (c.take_out.ensures.found id c.requires.place))
     (ap (λ rs. record p { pending = rs; ended = ended }) (c.take_out.ensures.rest id c.requires.place))
     (c.push_reserved.ensures.items ∙ ap (λ ids. ids ++ id ∷ []) c.requires.sound.none_ended)
     c.hand_out.ensures.parts c.hand_out.ensures.cleared

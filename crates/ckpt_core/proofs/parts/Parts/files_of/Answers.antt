@@ -6,9 +6,8 @@ use Rattle.ckpt_ids.specs.Records.{Record}
 use Rattle.ckpt_pending.specs.Acknowledging.{files_from}
 use Rattle.ckpt_core.specs.Inside.Parts.{state_of}
 use Rattle.ckpt_core.specs.State.{record_of}
-use Rattle.ckpt_core.proofs.Answering.Reads.{stored_record}
+use Rattle.ckpt_core.proofs.Answering.Reads.{pending_live, stored_record}
 use Rattle.ckpt_core.proofs.Reading.Live.{live_in_order}
-use Rattle.ckpt_core.proofs.Reading.Numbers.{pending_found}
 use Rattle.ckpt_core.proofs.Records.Lookups.{has_number}
 use Rattle.ckpt_core.proofs.parts.Parts.files_of.Goals as goal
 
@@ -16,7 +15,7 @@ pub returns-in-Some : goal.returns-in-Some
 returns-in-Some c =
     let p = c.args.self.now in
     let found : find (has_number c.args.id) p.pending ≡ Some c.in-Some.pending.now = sym c.get.ensures.value ∙ ap option_copied c.in-Some.is in
-    c.files_of.ensures ∙ sym (ap (option_and_then (λ (r : Record). files_from r c.args.subtask)) (pending_found p c.args.id c.in-Some.pending.now (live_in_order p c.requires) found))
+    c.files_of.ensures ∙ sym (ap (option_and_then (λ (r : Record). files_from r c.args.subtask)) (pending_live p c.args.id c.in-Some.pending.now (live_in_order p c.requires) found))
 
 pub returns-in_err-get : goal.returns-in_err-get
 returns-in_err-get c =
