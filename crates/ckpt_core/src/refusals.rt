@@ -1,12 +1,12 @@
 //! The tests of a call before it is made: what is refused, in the order of the rules.
-ghost use Rattle.std.specs.Prelude.{◌≡◌, ◌++◌, ◌==◌, ℕ, List, find, not, nat_le, option_copied, option_map, slice_get, IfOk, IfSome, None, Option, Some};
+ghost use Rattle.std.specs.Prelude.{◌≡◌, ◌++◌, ◌==◌, ℕ, List, find, not, nat_le, option_copied, option_map, IfOk, IfSome, None, Option, Some};
 ghost use Rattle.std.specs.List.{list_any};
 ghost use Rattle.std.specs.Result.{result_err};
 ghost use Rattle.ckpt_ids.specs.declared.call.Call.TheVariants.{Tick, Savepoint, Ack, Decline, Restore, Cancel};
 ghost use Rattle.ckpt_ids.specs.declared.reply.Refusal.TheVariants.{NotRunning, UnknownCheckpoint, NameTaken, FileGone, IdsUsedUp};
 ghost use Rattle.ckpt_core.specs.Inside.FileFacts.{IsAscending, is_present};
 ghost use Rattle.ckpt_core.specs.Inside.RecordFacts.{Record};
-ghost use Rattle.ckpt_core.specs.Inside.Parts.{AreSound, IsPlaceIn, IsPlaceOf, early_refusal, is_known_in, part_refusal, records_in, state_of, with_pins};
+ghost use Rattle.ckpt_core.specs.Inside.Parts.{AreSound, IsPendingAt, IsPlaceIn, IsPlaceOf, early_refusal, is_known_in, part_refusal, records_in, state_of, with_pins};
 ghost use Rattle.ckpt_core.specs.Refusals.{files_refusal, has_repeats, is_cancelled, is_done_savepoint, is_foreign, is_running, moment_too_large, named, pending_of, refusal, refuse_if, savepoints, was_not_given};
 
 use crate::mode::Mode;
@@ -305,7 +305,7 @@ impl Parts {
     fn pending_place(&self, id: CheckpointId) -> Option<usize>
         requires { AreSound self.now }
         ensures place { IsPlaceOf self.now id result }
-        ensures found { (r : Record) → IfSome result (λ place. slice_get self.now.pending place ≡ Some r → pending_of (records_in self.now) id ≡ Some (with_pins self.now.registry r)) }
+        ensures found { (r : Record) → IfSome result (IsPendingAt self.now id r) }
     {
         self.recall_groups();
         self.pending.place(id)

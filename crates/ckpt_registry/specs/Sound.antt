@@ -5,9 +5,11 @@ use Rattle.ckpt_ids.specs.Counting.{times}
 use Rattle.ckpt_ids.specs.Ordered.{in_order_once}
 use Rattle.ckpt_ids.specs.Records.{Use, count, use_before}
 use Rattle.ckpt_registry.specs.declared.pins.Pinner.{Pinner}
+use Rattle.ckpt_registry.specs.declared.pins.Pins.{Pins}
 use Rattle.ckpt_registry.specs.Counters.{Counts, counter, AreInRange}
-use Rattle.ckpt_registry.specs.Holdings.{Acknowledged, AreRising, uses_in}
-use Rattle.ckpt_registry.specs.Pins.{AreKept, own_in, pins_in}
+use Rattle.ckpt_registry.specs.Holdings.{Acknowledged, AreRising, parts_of, uses_in}
+use Rattle.ckpt_registry.specs.Parts.{Part}
+use Rattle.ckpt_registry.specs.Pins.{AreKept, IsKept, each_file, own_in, parts_pinned, pins_in}
 
 -- the uses by acknowledgements, then the pins
 abbrev pub stored : Acknowledged → List Pinner → List Use
@@ -31,6 +33,11 @@ pub record AreCounted (acknowledged : Acknowledged) (pinned : List Pinner) (coun
   pub range : AreInRange counts
   -- with them too the count has its place
   pub below : (f : ℕ) → count (stored acknowledged pinned) f < 2 ^ 32
+
+-- Before the record was dropped it had these parts, a pin of it was kept, and with the pin's files each count has its place.
+abbrev pub WereKept : ℕ → List Part → Counts → Pins → Type 0
+WereKept chosen parts counts pins =
+    (before : Acknowledged) × (parts_of before chosen ≡ parts) × IsKept before pins × ((f : ℕ) → counter counts f + times f (each_file (parts_pinned before pins)) < 2 ^ 32)
 
 pub record IsSound (acknowledged : Acknowledged) (pinned : List Pinner) (counts : Counts) (room : ℕ) : Type 0 where
   pub parts : AreCounted acknowledged pinned counts

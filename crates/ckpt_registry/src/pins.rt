@@ -10,7 +10,7 @@ ghost use Rattle.ckpt_registry.specs.Counters.{counter, AreInRange, AreLowered, 
 ghost use Rattle.ckpt_registry.specs.Holdings.{Acknowledged, AreRising, parts_of};
 ghost use Rattle.ckpt_registry.specs.Parts.{files_in};
 ghost use Rattle.ckpt_registry.specs.Pins.{AreKept, AreSettled, IsKept, IsLook, IsSettled, each_file, is_named, named_by, own_files, own_in, own_of, parts_pinned, pinned_by, pins_of_records};
-ghost use Rattle.ckpt_registry.specs.Sound.{AreCounted};
+ghost use Rattle.ckpt_registry.specs.Sound.{AreCounted, WereKept};
 
 use crate::counters::{Counts, count_reused};
 use crate::holdings::{Acknowledged, lower_each, parts_held};
@@ -75,7 +75,7 @@ impl Pins {
     /// Conditions: each file of these parts has a counter, no counter grows beyond its range, and there
     /// is room for the files.
     fn settle(&mut self, counts: &mut Counts, chosen: CheckpointId, parts: &Parts)
-        requires kept { (before : Acknowledged) × (parts_of before chosen ≡ parts.now) × IsKept before self.old × ((f : ℕ) → counter counts.old f + times f (each_file (parts_pinned before self.old)) < 2 ^ 32) }
+        requires kept { WereKept chosen parts.now counts.old self.old }
         requires present { (f : ℕ) → IsIn f (files_in parts.now) → 0 < counter counts.old f }
         requires range { AreInRange counts.old }
         ensures settled { IsSettled chosen parts.now self.old self.new }

@@ -1,5 +1,5 @@
 -- The parts of a coordinator, seen as its state, and what ties them to one another.
-use Rattle.std.specs.Prelude.{◌≡◌, ℕ, ◌≤◌, Bool, true, false, ◌||◌, ◌==◌, List, [], ◌++◌, map, length, unwrap_or, None, not, ◌∷◌, find, Option, Some, is_none, if◌then◌else◌}
+use Rattle.std.specs.Prelude.{◌≡◌, ℕ, ◌≤◌, Bool, true, false, ◌||◌, ◌==◌, List, [], ◌++◌, map, length, unwrap_or, None, not, ◌∷◌, find, Option, Some, is_none, if◌then◌else◌, slice_get}
 use Rattle.std.specs.List.{list_any}
 use Rattle.std.specs.Vec.{vec_capacity}
 use Rattle.ckpt_ids.specs.Ascending.{ascending_set}
@@ -125,6 +125,10 @@ tests_itself call = false
 -- why the call is refused before it is made
 abbrev pub early_refusal : State → Call → Option Refusal
 early_refusal m call = if tests_itself call then None else refusal m call
+
+-- if the record is at this place, it is the pending one of this number
+abbrev pub IsPendingAt : Parts → ℕ → Record → ℕ → Type 0
+IsPendingAt p id r place = slice_get p.pending place ≡ Some r → pending_of (records_in p) id ≡ Some (with_pins p.registry r)
 
 -- The place of the pending record that a call names. If there is none, no pending record has its number.
 abbrev pub IsPlaceOf : Parts → ℕ → Option ℕ → Type 0
