@@ -9,6 +9,9 @@
 #   make demo                   a job that runs for a minute with threads, a clock and files
 #   make programs               ckpt_job, ckpt_chart and ckpt_demo, proved and built
 #   make check                  all proofs, wrong bodies, tests and programs (.ci/run)
+#   make clean                  removes build/
+#
+# A release has make and make install alone.
 PREFIX = /usr/local
 DESTDIR =
 INSTALL = install
@@ -23,9 +26,10 @@ filled = sed -e 's|@PREFIX@|$(PREFIX)|g' -e 's|@VERSION@|$(VERSION)|g'
 
 library: $(LIBRARY)
 
-# A release has no crates: its library is there already, and nothing builds it again.
+# A release has no crates: its library, its pages and the samples are there already, and nothing makes them again.
 ifneq ($(wildcard crates),)
 ARCHIVE = crates/relkvanu/out/librelkvanu.a
+PAGES = build/pages
 SOURCES := $(wildcard crates/*/src/*.rt crates/*/src/*/*.rt crates/*/specs/*.antt)
 
 $(ARCHIVE): $(SOURCES)
@@ -35,24 +39,35 @@ build/librelkvanu.a: $(ARCHIVE) embed/c/heap.c embed/c/version.c include/relkvan
 	embed/library build $(ARCHIVE)
 
 build/librelkvanu.so.0: build/librelkvanu.a
+
+$(PAGES)/docs: $(wildcard docs/*.md) embed/samples packaging/pages
+	packaging/pages $(PAGES)
+	touch $@
+else
+PAGES = .
 endif
 
-install: $(LIBRARY)
+# All modes are given, because those that the umask would choose may hide a file from its users.
+install: $(LIBRARY) $(PAGES)/docs
 	$(INSTALL) -d $(into)/include $(into)/lib/pkgconfig $(into)/lib/cmake/relkvanu $(into)/bin
-	$(INSTALL) -d $(into)/share/man/man1 $(into)/share/man/man3 $(into)/share/doc/relkvanu/examples
+	$(INSTALL) -d $(into)/share/man/man1 $(into)/share/man/man3 $(into)/share/doc/relkvanu/examples/engine
 	$(INSTALL) -m 644 $(HEADERS) $(into)/include
 	$(INSTALL) -m 644 build/librelkvanu.a build/librelkvanu.so.0 $(into)/lib
 	ln -sf librelkvanu.so.0 $(into)/lib/librelkvanu.so
-	$(filled) packaging/relkvanu.pc.in > $(into)/lib/pkgconfig/relkvanu.pc
-	$(filled) packaging/relkvanu-config-version.cmake.in > $(into)/lib/cmake/relkvanu/relkvanu-config-version.cmake
+	$(filled) packaging/relkvanu.pc.in | $(INSTALL) -m 644 /dev/stdin $(into)/lib/pkgconfig/relkvanu.pc
+	$(filled) packaging/relkvanu-config-version.cmake.in | $(INSTALL) -m 644 /dev/stdin $(into)/lib/cmake/relkvanu/relkvanu-config-version.cmake
 	$(INSTALL) -m 644 packaging/relkvanu-config.cmake $(into)/lib/cmake/relkvanu
-	$(INSTALL) -m 644 packaging/man/*.1 $(into)/share/man/man1
 	$(INSTALL) -m 644 packaging/man/*.3 $(into)/share/man/man3
-	$(INSTALL) -m 644 docs/EMBEDDING.md docs/IMAGE.md docs/RULES.md docs/SCRIPT.md docs/SCALE.md $(into)/share/doc/relkvanu
+	$(INSTALL) -m 644 $(PAGES)/docs/*.md $(into)/share/doc/relkvanu
 	$(INSTALL) -m 644 examples/*.script examples/*.stdout $(into)/share/doc/relkvanu/examples
-	embed/samples --write $(into)/share/doc/relkvanu/examples/engine
-	for it in $(PROGRAMS); do if [ -x crates/$$it/out/$$it ]; then $(INSTALL) crates/$$it/out/$$it $(into)/bin || exit 1; fi; done
+	cp -R $(PAGES)/samples/. $(into)/share/doc/relkvanu/examples/engine
+	chmod -R u=rwX,go=rX $(into)/share/doc/relkvanu/examples/engine
+	for it in $(PROGRAMS); do if [ -x crates/$$it/out/$$it ]; then \
+	    $(INSTALL) crates/$$it/out/$$it $(into)/bin && $(INSTALL) -m 644 packaging/man/$$it.1 $(into)/share/man/man1 || exit 1; \
+	fi; done
 
+# What only the repository has.
+ifneq ($(wildcard crates),)
 dist: $(LIBRARY)
 	packaging/dist build $(VERSION)
 
@@ -75,3 +90,6 @@ check:
 
 clean:
 	rm -rf build
+else
+clean: # the library of a release can't be made again
+endif

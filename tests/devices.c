@@ -9,8 +9,8 @@
    THREAD_FAILS=N   the Nth start of a thread fails, as if the system had no more; with THREADS_REST=1 all after it too
    RANDOM_ZEROS=1   the system's random bytes are all 0; with RANDOM_FAILS=1 it gives none
    COUNTS=FILE      at the end, the file gets the number of allocations, the number of reads and writes, how many of
-                    these came after the one that failed or that found the end of the input, and the number of starts
-                    of threads */
+                    these came after the one that failed or that found the end of the input, the number of starts of
+                    threads, and the number of allocations that were refused */
 #define _GNU_SOURCE
 #include <dlfcn.h>
 #include <errno.h>
@@ -32,7 +32,7 @@ struct stream {
 
 static struct stream input = {.number = STDIN_FILENO}, output = {.number = STDOUT_FILENO};
 static long refuse_at, refuse_rest, thread_fails, threads_rest, random_zeros, random_fails;
-static atomic_long allocations, threads; /* threads allocate, and start others, side by side */
+static atomic_long allocations, refusals, threads; /* threads allocate, and start others, side by side */
 static int is_ready;
 
 extern void *__libc_malloc(size_t);
@@ -67,7 +67,7 @@ __attribute__((destructor)) static void end(void) {
     is_ready = 0;
     if (file) {
         int at = open(file, O_WRONLY | O_CREAT | O_TRUNC, 0600);
-        int size = snprintf(text, sizeof text, "%ld %ld %ld %ld %ld %ld\n", (long)allocations, input.calls, output.calls, input.late, output.late, (long)threads);
+        int size = snprintf(text, sizeof text, "%ld %ld %ld %ld %ld %ld %ld\n", (long)allocations, input.calls, output.calls, input.late, output.late, (long)threads, (long)refusals);
         ssize_t (*to)(int, const void *, size_t) = dlsym(RTLD_NEXT, "write");
         if (at >= 0 && to(at, text, (size_t)size) != size) {
             abort();
@@ -96,6 +96,7 @@ static int is_refused(void) {
     }
     long place = atomic_fetch_add(&allocations, 1) + 1;
     if (is_met(place, refuse_at, refuse_rest)) {
+        atomic_fetch_add(&refusals, 1);
         errno = ENOMEM;
         return 1;
     }

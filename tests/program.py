@@ -31,13 +31,14 @@ def skip(tool, what):
 
 
 def examples():
-    """The examples and the rows beside them: a name, the script and its whole output."""
+    """The examples and the rows beside them: a name, the script, its whole output, and the status that the program ends with."""
     found = []
     for folder, script, output in [("examples", ".script", ".stdout"), ("examples/rows", ".in", ".out")]:
         for name in sorted(os.listdir(f"{TOP}/{folder}")):
             if name.endswith(script):
                 start = f"{TOP}/{folder}/{name[: -len(script)]}"
-                found.append((os.path.basename(start), bytes_of(start + script), bytes_of(start + output)))
+                status = int(bytes_of(f"{start}.status")) if folder.endswith("rows") else 0
+                found.append((os.path.basename(start), bytes_of(start + script), bytes_of(start + output), status))
     return found
 
 
@@ -47,10 +48,11 @@ def bytes_of(path):
 
 
 class Counts:
-    """What the program asked of its devices: allocations, reads, writes, those of both after the one that failed or ended, threads."""
+    """What the program asked of its devices: allocations, reads, writes, those of both after the one that failed or ended, threads, and
+    how many of the allocations were refused."""
 
     def __init__(self, text):
-        self.allocations, self.reads, self.writes, self.reads_late, self.writes_late, self.threads = map(int, text.split())
+        self.allocations, self.reads, self.writes, self.reads_late, self.writes_late, self.threads, self.refused = map(int, text.split())
 
 
 class Tests:

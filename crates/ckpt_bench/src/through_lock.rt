@@ -1,5 +1,6 @@
 //! Measured calls through a lock.
 ghost use Rattle.std.specs.Prelude.{◌≡◌};
+ghost use Rattle.ckpt_workers.specs.Shifts.{CallsOn};
 
 use crate::fault::BenchFault;
 use crate::threads::{Task, run as run_threads};
@@ -26,7 +27,8 @@ pub(crate) fn call_at(place: u64) -> Call {
 /// Condition: the pass is of the lock.
 pub(crate) fn make<R: Wait>(rt: &R, lock: &Locked, pass: Pass, calls: u64) -> Pass
     requires { pass.lock ≡ lock.now }
-    ensures { result.lock ≡ lock.now }
+    ensures lock { result.lock ≡ lock.now }
+    ensures calls { CallsOn pass result }
 {
     let mut pass = pass;
     let mut returned: u64 = 0;

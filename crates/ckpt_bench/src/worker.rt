@@ -1,5 +1,6 @@
 //! One thread of a storm.
 ghost use Rattle.std.specs.Prelude.{◌≡◌};
+ghost use Rattle.ckpt_workers.specs.Shifts.{CallsOn};
 
 use crate::arguments::StormPlan;
 use crate::caller::{Asked, Caller, Expected};
@@ -109,7 +110,8 @@ impl Worker {
         place: u64,
     ) -> Pass
         requires { pass.lock ≡ lock.now }
-        ensures { result.lock ≡ lock.now }
+        ensures lock { result.lock ≡ lock.now }
+        ensures calls { CallsOn pass result }
     {
         let Some(Asked { call, expected }) = self.ask(board, place) else {
             self.told.fault = Some(BenchFault::Memory);
@@ -187,7 +189,8 @@ pub(crate) fn insist<R: Wait>(
     returned: &mut u64,
 ) -> (Pass, Option<Answer>)
     requires { pass.lock ≡ lock.now }
-    ensures { result.0.lock ≡ lock.now }
+    ensures lock { result.0.lock ≡ lock.now }
+    ensures calls { CallsOn pass result.0 }
 {
     let mut pass = pass;
     let mut call = call;
@@ -216,7 +219,8 @@ pub(crate) fn work<R: Wait>(
     pass: Pass,
 ) -> (Pass, Told)
     requires { pass.lock ≡ lock.now }
-    ensures { result.0.lock ≡ lock.now }
+    ensures lock { result.0.lock ≡ lock.now }
+    ensures calls { CallsOn pass result.0 }
 {
     let mut worker = Worker::new(alloc, plan, &pass);
     let mut pass = pass;

@@ -1,13 +1,16 @@
 -- What an image has of a state: everything but the order in which files were fetched, which no call returns.
-use Rattle.std.specs.Prelude.{◌≡◌, List, ◌++◌, map}
+use Rattle.std.specs.Prelude.{◌≡◌, ◌<◌, ◌≤◌, List, ◌++◌, map}
+use Rattle.ckpt_ids.specs.declared.limits.TheConstants.{MOMENTS_END, NUMBERS_END}
 use Rattle.ckpt_ids.specs.declared.call.Call.{Call}
 use Rattle.ckpt_ids.specs.Ascending.{ascending}
 use Rattle.ckpt_ids.specs.Records.{Record}
 use Rattle.ckpt_rules.specs.Moments.{IsInRange}
 use Rattle.ckpt_core.specs.declared.image.Image.{Image}
 use Rattle.ckpt_core.specs.declared.image.Saved.{Saved}
+use Rattle.ckpt_core.specs.declared.mode.Mode.TheVariants.{Running}
 use Rattle.ckpt_core.specs.State.{State}
 use Rattle.ckpt_core.specs.Histories.{replay, answers}
+use Rattle.ckpt_core.specs.Laws.{CanOpen}
 use Rattle.ckpt_core.specs.Soundness.{IsSound}
 
 -- the record that was saved as this
@@ -52,10 +55,27 @@ pub record GoesOnAs (m n : State) (calls : List Call) : Type 0 where
   pub answers : answers m calls ≡ answers n calls
   pub state : AreAlike (replay m calls) (replay n calls)
 
--- a state that a coordinator can be in: sound, with moments that fit a clock
+-- the clock has room for the moments
+abbrev pub HasSoundMoments : State → Type 0
+HasSoundMoments m = IsInRange (record { latest = m.latest; due = m.due; completed = m.completed })
+
+-- what is tested of an image before memory is taken: its moments, its numbers and its failures
+pub record HasSoundNumbers (m : State) : Type 0 where
+  pub moments : HasSoundMoments m
+  pub start : m.opening.start < MOMENTS_END
+  pub first : 1 ≤ m.opening.first
+  pub first_to : m.opening.first < NUMBERS_END
+  pub next_from : m.opening.first ≤ m.next
+  pub next_to : m.next ≤ NUMBERS_END
+  pub failures : m.mode ≡ Running → m.failures ≤ m.opening.config.tolerable
+
+-- A state that an image may have: a coordinator could be opened so, and it is sound, with moments that fit a clock. Each
+-- state that a coordinator reaches is such a state, and some are that none reaches: for example, a job has failed over
+-- with no failure counted, or was rolled back to a savepoint and has a checkpoint still.
 pub record CanHold (m : State) : Type 0 where
+  pub can_open : CanOpen m.opening
   pub sound : IsSound m
-  pub clock : IsInRange (record { latest = m.latest; due = m.due; completed = m.completed })
+  pub clock : HasSoundMoments m
 
 -- The image after the first calls of a log, and the calls after it, give what the whole log gives: the same answers,
 -- and a state that is alike.

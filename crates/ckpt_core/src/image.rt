@@ -1,6 +1,6 @@
 //! What is saved of a coordinator. One that is made from it answers as the saved one would.
 ghost use Rattle.std.specs.Prelude.{◌≡◌, Err, IfOk, OnOk};
-ghost use Rattle.ckpt_core.specs.Images.{CanHold, settled, state_in};
+ghost use Rattle.ckpt_core.specs.Images.{CanHold, HasSoundNumbers, settled, state_in};
 
 use crate::coordinator::Core;
 use crate::mode::Mode;
@@ -22,7 +22,7 @@ pub struct Saved {
 
 /// The state of a coordinator as plain data. Moments are in milliseconds.
 ///
-/// `specs/Images.antt` defines the state of an image, and the states in which a coordinator can be.
+/// `specs/Images.antt` defines the state of an image, and which states an image may have.
 #[derive(Debug, Drop)]
 pub struct Image {
     /// The configuration that the job was opened with.
@@ -60,7 +60,7 @@ pub struct Image {
 /// Why a coordinator was not made from an image.
 #[derive(Clone, Copy, Debug, PartialEq, Eq, Error)]
 pub enum ImageFault {
-    /// No coordinator is in such a state.
+    /// The state is not sound, or no coordinator could be opened so.
     #[error("the image is damaged")]
     Damaged,
     /// Memory ran out.
@@ -92,12 +92,15 @@ impl Core {
     /// A coordinator in the state of the image. It hashes file numbers under a secret, as that of
     /// [`Core::keyed`] does.
     ///
-    /// Returns [`ImageFault::Damaged`] only if no coordinator can be in that state, and
-    /// [`ImageFault::Memory`] if memory runs out.
+    /// Returns [`ImageFault::Damaged`] only if the state is not sound, or no coordinator could be
+    /// opened so, and [`ImageFault::Memory`] if memory runs out. The moments, the numbers and the
+    /// failures are tested before memory is taken. A sound state may be one that no list of calls
+    /// reaches.
     pub fn from_image(alloc: Global, image: &Image, secret: Secret) -> Result<Core, ImageFault>
         ensures value { IfOk result (λ core. core ≡ state_in image.now) }
         ensures sound { OnOk result (CanHold (state_in image.now)) }
         ensures damaged { result ≡ Err ImageFault.Damaged → CanHold (state_in image.now) → ⊥ }
+        ensures memory { result ≡ Err ImageFault.Memory → HasSoundNumbers (state_in image.now) }
     {
         let parts = Parts::of_image(alloc, image, secret)?;
         Ok(Core { parts })

@@ -83,7 +83,7 @@ pub fn outbox()
     ensures { (o : Opening) (calls : List Call) → CanOpen o → AreCalls calls → Outbox o calls }
 {}
 
-/// A state that a coordinator can be in, with the fetched files in ascending order, is one too, and
+/// A state that an image may have, with the fetched files in ascending order, is one too, and
 /// differs in that order alone.
 pub fn settling()
     ensures held { (m : State) → CanHold m → CanHold (settled m) }

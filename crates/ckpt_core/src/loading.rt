@@ -8,7 +8,7 @@ ghost use Rattle.ckpt_ids.specs.Ordered.{IsIn, IsInOrder};
 ghost use Rattle.ckpt_ids.specs.Records.{Record, Use, count, use_before, uses};
 ghost use Rattle.ckpt_pending.specs.Acknowledging.{pending_record};
 ghost use Rattle.ckpt_core.specs.Images.{record_in};
-ghost use Rattle.ckpt_core.specs.Inside.Loading.{AreOfShape, HaveSoundRecords, IsMade, JoinsParts, uses_held};
+ghost use Rattle.ckpt_core.specs.Inside.Loading.{AreOfShape, HaveSoundRecords, IsMade, JoinsParts, MayJoinParts, uses_held};
 ghost use Rattle.ckpt_core.specs.Inside.Moving.{with_done, with_pending};
 ghost use Rattle.ckpt_core.specs.Inside.Parts.{AreTied, opening_of, records_in, state_of};
 ghost use Rattle.ckpt_core.specs.Soundness.{IsRecord};
@@ -238,7 +238,7 @@ impl Parts {
         }
     }
 
-    /// Adds a record behind those that are there.
+    /// Adds a record behind those that are there. Tests what needs no memory first.
     ///
     /// Conditions: the parts are tied and without a base, and their records are sound.
     pub(crate) fn load(&mut self, saved: &Saved) -> Result<(), ImageFault>
@@ -250,6 +250,7 @@ impl Parts {
         ensures noted { OnOk result (self.new.ended.items ≡ self.old.ended.items) }
         ensures joins { OnOk result (JoinsParts self.old (record_in saved.now)) }
         ensures damaged { result ≡ Err ImageFault.Damaged → JoinsParts self.old (record_in saved.now) → ⊥ }
+        ensures memory { result ≡ Err ImageFault.Memory → MayJoinParts self.old (record_in saved.now) }
     {
         if !self.may_join(saved) {
             return Err(ImageFault::Damaged);
@@ -278,6 +279,7 @@ impl Parts {
         ensures noted { OnOk result (self.new.ended.items ≡ self.old.ended.items) }
         ensures joins { OnOk result (JoinsParts self.old (record_in saved.now)) }
         ensures damaged { result ≡ Err ImageFault.Damaged → IsRecord (record_in saved.now) → ⊥ }
+        ensures memory { result ≡ Err ImageFault.Memory → JoinsParts self.old (record_in saved.now) }
     {
         recall_limits(&self.opened.config);
         recall_pending(&pending);

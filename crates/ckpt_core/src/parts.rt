@@ -1,4 +1,8 @@
 //! The parts that a coordinator is made of.
+
+ghost use Rattle.std.specs.Prelude.{◌<◌};
+ghost use Rattle.ckpt_ids.specs.declared.limits.TheConstants.{MOMENTS_END, NUMBERS_END};
+
 use crate::mode::Mode;
 use crate::pending_records::PendingRecords;
 use ckpt_ids::{CheckpointId, Config, Shape};
@@ -15,6 +19,8 @@ pub(crate) struct Opened {
     pub(crate) shape: Shape,
     pub(crate) start: u64,
     pub(crate) first: u64,
+    ghost start_to: { start < MOMENTS_END },
+    ghost first_to: { first < NUMBERS_END },
 }
 
 /// The parts of a coordinator, which `specs/Parts.antt` sees as its state.

@@ -5,12 +5,13 @@ ghost use Rattle.ckpt_ids.specs.Records.{missing, uses};
 ghost use Rattle.ckpt_core.specs.Coordinator.{IsSound, choice_of, pending_of};
 ghost use Rattle.ckpt_core.specs.Inside.Parts.{AreSound, present_in, records_in, state_of};
 ghost use Rattle.ckpt_core.specs.Inside.RecordFacts.{IsInOrder, IsStored, id_before};
+ghost use Rattle.ckpt_core.specs.State.{is_known};
 ghost use Rattle.ckpt_core.specs.Reads.{IsNextExpiry, NoneIsEarlyFrom, NoneTriggersBefore, live_of, next_due, sooner};
 
 use crate::coordinator::Core;
 use crate::mode::Mode;
 use crate::parts::Parts;
-use ckpt_ids::{CheckpointId, Choice, Kind};
+use ckpt_ids::{CheckpointId, Choice, FileId, Kind};
 use ckpt_pending::{Done, Pending};
 
 /// A live record in short.
@@ -32,6 +33,15 @@ impl Core {
         ensures sound { IsSound self.now }
     {
         self.parts.mode
+    }
+
+    /// The greatest moment that the coordinator has seen, in milliseconds: that of its opening, or of
+    /// an accepted call. It takes an earlier moment for this one.
+    #[tactic(auto, unfolding(crate::specs::Inside::Parts::state_of))]
+    pub fn moment(&self) -> u64
+        ensures { result ≡ self.now.latest }
+    {
+        self.parts.clock.latest()
     }
 
     /// The moment from which neither the interval nor the pause holds a checkpoint back, in
@@ -90,6 +100,14 @@ impl Core {
         ensures { result ≡ length self.now.taken }
     {
         self.parts.outbox.taken()
+    }
+
+    /// Whether a live record uses the file, or it waits for deletion, or was fetched for it.
+    #[tactic(auto, unfolding(crate::specs::Inside::Parts::state_of))]
+    pub fn knows(&self, file: FileId) -> bool
+        ensures { result ≡ is_known self.now file }
+    {
+        self.parts.knows(file)
     }
 
     /// How many subtasks of this pending record have not acknowledged, or `None` if no record with

@@ -2,7 +2,7 @@
 //! which files a record has, and which wait for deletion or were fetched for it. None of it changes
 //! anything, and only `pins_of` and `taken_files`, which sort what they return, take memory.
 
-ghost use Rattle.std.specs.Prelude.{◌≡◌, find, nat_le, option_copied, option_map, slice_get, IfOk};
+ghost use Rattle.std.specs.Prelude.{◌≡◌, find, nat_le, option_copied, option_map, slice_get, IfOk, IsSome, OnErr};
 ghost use Rattle.std.specs.Option.{option_and_then};
 ghost use Rattle.ckpt_ids.specs.Ascending.{ascending};
 ghost use Rattle.ckpt_pending.specs.Acknowledging.{files_from};
@@ -62,10 +62,11 @@ impl Core {
 
     /// The files that the pending record with this number pins, in ascending order, each once:
     /// those of the choice at its trigger. Empty if no record with this number is pending. Fails
-    /// only if memory runs out.
+    /// only if one is and memory runs out.
     #[tactic(auto, unfolding(crate::specs::Inside::Parts::state_of))]
     pub fn pins_of(&self, id: CheckpointId) -> Result<Files, AllocError>
-        ensures { IfOk result (λ files. files ≡ pins_in (pending_of self.now.records id)) }
+        ensures value { IfOk result (λ files. files ≡ pins_in (pending_of self.now.records id)) }
+        ensures memory { OnErr result (IsSome (pending_of self.now.records id)) }
     {
         self.parts.pins_of_pending(id)
     }
@@ -132,7 +133,8 @@ impl Parts {
     /// Condition: the parts are sound.
     fn pins_of_pending(&self, id: CheckpointId) -> Result<Files, AllocError>
         requires { AreSound self.now }
-        ensures { IfOk result (λ files. files ≡ pins_in (pending_of (records_in self.now) id)) }
+        ensures value { IfOk result (λ files. files ≡ pins_in (pending_of (records_in self.now) id)) }
+        ensures memory { OnErr result (IsSome (pending_of (records_in self.now) id)) }
     {
         if self.pending_record(id).is_none() {
             return Ok(Files::of(Vec::new(self.alloc)));

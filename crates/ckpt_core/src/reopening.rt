@@ -1,11 +1,12 @@
 //! The parts of a coordinator, made from an image.
 
-ghost use Rattle.std.specs.Prelude.{◌≡◌, ◌≢◌, ◌≤◌, ◌++◌, ℕ, [], true, false, length, Err, None, IfOk, OnOk, IsTrue};
+ghost use Rattle.std.specs.Prelude.{◌≡◌, ◌≢◌, ◌<◌, ◌≤◌, ◌↔◌, ◌++◌, ℕ, [], true, false, length, Err, None, IfOk, IfErr, OnOk, IsTrue};
+ghost use Rattle.ckpt_ids.specs.declared.limits.TheConstants.{MOMENTS_END, NUMBERS_END};
 ghost use Rattle.ckpt_ids.specs.Ordered.{AreDistinct, IsIn};
 ghost use Rattle.ckpt_ids.specs.Records.{Record, is_present};
 ghost use Rattle.ckpt_core.specs.declared.mode.Mode.TheVariants.{Running};
-ghost use Rattle.ckpt_core.specs.Images.{CanHold, state_in};
-ghost use Rattle.ckpt_core.specs.Inside.Loading.{AreFilesApart, HasBase, HasSoundMoments, HasSoundNumbers, MayWait, emptied, with_more_waiting};
+ghost use Rattle.ckpt_core.specs.Images.{CanHold, HasSoundMoments, HasSoundNumbers, state_in};
+ghost use Rattle.ckpt_core.specs.Inside.Loading.{AreFilesApart, HasBase, MayWait, emptied, with_more_waiting};
 ghost use Rattle.ckpt_core.specs.Inside.Parts.{AreSound, AreTied, records_in, state_of};
 
 use crate::image::{Image, ImageFault};
@@ -35,12 +36,19 @@ fn has_sound_moments(image: &Image) -> bool
     }
 }
 
+/// Whether a coordinator could be opened at the moment and with the first number of an image.
+fn could_start(image: &Image) -> bool
+    ensures { IsTrue result ↔ ((image.now.start < MOMENTS_END) × (1 ≤ image.now.first) × (image.now.first < NUMBERS_END)) }
+{
+    image.start < MOMENTS_END && 1 <= image.first && image.first < NUMBERS_END
+}
+
 /// Whether the moments, the numbers and the failures of an image are within their limits.
 fn has_sound_numbers(image: &Image) -> bool
     ensures yes { IsTrue result → HasSoundNumbers (state_in image.now) }
     ensures no { result ≡ false → HasSoundNumbers (state_in image.now) → ⊥ }
 {
-    if image.first == 0 || image.next < image.first || image.next > NUMBERS_END {
+    if !could_start(image) || image.next < image.first || image.next > NUMBERS_END {
         return false;
     }
     if image.mode == Mode::Running && image.failures > image.config.tolerable() {
@@ -97,6 +105,7 @@ impl Parts {
         ensures rest { self.new ≡ record self.old { store = record self.old.store { base = self.new.store.base } } }
         ensures there { OnOk result (HasBase (state_of self.old) base) }
         ensures damaged { result ≡ Err ImageFault.Damaged → HasBase (state_of self.old) base → ⊥ }
+        ensures fault { IfErr result (λ why. why ≡ ImageFault.Damaged) }
     {
         self.recall_groups();
         let Some(id) = base else {
@@ -130,6 +139,7 @@ impl Parts {
         ensures unused { OnOk result ((f : ℕ) → IsIn f files.now → is_present self.old.registry f ≡ false) }
         ensures apart { OnOk result (AreDistinct (self.new.outbox.waiting ++ self.new.outbox.taken)) }
         ensures damaged { result ≡ Err ImageFault.Damaged → MayWait self.old files.now → ⊥ }
+        ensures fault { IfErr result (λ why. why ≡ ImageFault.Damaged) }
     {
         for file in files {
             if self.knows(*file) {
@@ -175,8 +185,10 @@ impl Parts {
         ensures state { IfOk result (λ parts. state_of parts ≡ state_in image.now) }
         ensures held { OnOk result (CanHold (state_in image.now)) }
         ensures damaged { result ≡ Err ImageFault.Damaged → CanHold (state_in image.now) → ⊥ }
+        ensures memory { result ≡ Err ImageFault.Memory → HasSoundNumbers (state_in image.now) }
     {
         recall_limits(&image.config);
+        image.first_shape.recall();
         image.shape.recall();
         if !has_sound_numbers(image) {
             return Err(ImageFault::Damaged);

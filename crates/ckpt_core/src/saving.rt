@@ -78,6 +78,7 @@ impl Parts {
         ensures value { IfOk result (λ image. state_in image ≡ settled (state_of self.now)) }
         ensures good { IfOk result (λ image. CanHold (state_in image)) }
     {
+        self.opened.shape.recall();
         let records = self.saved()?;
         let first_shape = self.opened.shape.copy()?;
         let shape = self.shape().copy()?;

@@ -1,9 +1,10 @@
-//! Images of states that no coordinator can be in. Expected values are worked out from
-//! docs/RULES.md.
+//! Images of states that no image may have. Expected values are worked out from docs/RULES.md.
 //!
-//! `embed/c/images.c` saves coordinators at random places of lists of calls, and goes on with them.
-use ckpt_core::{Core, Image, ImageFault, Mode, Secret};
-use ckpt_ids::{Call, CheckpointId, Config, FileId, Files, Handed, Shape, SubtaskId};
+//! `ckpt_image_tests` has each kind of damage in the text of an image. `embed/c/images.c` saves coordinators at random places of lists of calls, and goes on with them.
+use ckpt_core::{Core, Image, ImageFault, Mode, Saved, Secret};
+use ckpt_ids::{
+    Acks, Call, CheckpointId, Config, FileId, Files, Handed, Kind, Metadata, Shape, SubtaskId,
+};
 use std::alloc::{AllocError, Global};
 use std::process::Abort;
 use std::test::Fail;
@@ -38,6 +39,8 @@ fn saved(alloc: Global) -> Result<Image, Fail> {
 /// What is wrong with an image.
 #[derive(Clone, Copy)]
 enum Wrong {
+    /// The coordinator was opened at a moment that no clock has.
+    Start,
     /// The first number is one that no record can have.
     First,
     /// The next number is that of a record.
@@ -58,7 +61,8 @@ enum Wrong {
     Taken,
 }
 
-const ALL: [Wrong; 9] = [
+const ALL: [Wrong; 10] = [
+    Wrong::Start,
     Wrong::First,
     Wrong::Next,
     Wrong::Moment,
@@ -73,6 +77,7 @@ const ALL: [Wrong; 9] = [
 /// The image with this mistake.
 fn spoiled(alloc: Global, mut image: Image, wrong: Wrong) -> Result<Image, AllocError> {
     match wrong {
+        Wrong::Start => image.start = 1 << 62,
         Wrong::First => image.first = 0,
         Wrong::Next => image.next = 2,
         Wrong::Moment => image.latest = 1 << 62,
@@ -101,7 +106,7 @@ fn fault(alloc: Global, image: &Image) -> Option<ImageFault> {
 }
 
 #[test]
-fn refuses_a_state_that_no_coordinator_can_be_in(rt: HostRuntime) -> Result<(), Fail> {
+fn refuses_a_state_that_no_image_may_have(rt: HostRuntime) -> Result<(), Fail> {
     let alloc = rt.alloc();
     assert_eq!(rt; fault(alloc, &saved(alloc)?), None);
     for wrong in ALL {
@@ -113,5 +118,51 @@ fn refuses_a_state_that_no_coordinator_can_be_in(rt: HostRuntime) -> Result<(), 
             wrong as u32
         );
     }
+    Ok(())
+}
+
+/// The image of a job whose first record has this number, and which has no record yet.
+fn opened(alloc: Global, first: u64) -> Result<Image, Fail> {
+    let config = Config::new(1000, 0, 1, 600_000, 0, 1, false)?;
+    let core = Core::new(alloc, config, Shape::new(alloc, &[1])?, 0, first)?;
+    Ok(core.image()?)
+}
+
+#[test]
+fn refuses_a_first_number_that_no_record_has(rt: HostRuntime) -> Result<(), Fail> {
+    let alloc = rt.alloc();
+    let mut image = opened(alloc, (1 << 62) - 1)?;
+    image.next = 1 << 62;
+    assert_eq!(rt; fault(alloc, &image), None);
+    image.first = 1 << 62;
+    assert_eq!(rt; fault(alloc, &image), Some(ImageFault::Damaged));
+    Ok(())
+}
+
+/// A pending savepoint with this number and no acknowledgement.
+fn savepoint(alloc: Global, id: u64) -> Result<Saved, Fail> {
+    let metadata = Metadata {
+        id: CheckpointId(id),
+        kind: Kind::Savepoint,
+        done: false,
+        shape: Shape::new(alloc, &[1])?,
+        started: 0,
+        acks: Acks::of(Vec::new(alloc)),
+    };
+    let pins = Files::of(Vec::new(alloc));
+    Ok(Saved { metadata, pins })
+}
+
+#[test]
+fn takes_1000_savepoints_and_no_more(rt: HostRuntime) -> Result<(), Fail> {
+    let alloc = rt.alloc();
+    let mut image = opened(alloc, 1)?;
+    image.next = 1002;
+    for id in 1..=1000 {
+        image.records.push(savepoint(alloc, id)?)?;
+    }
+    assert_eq!(rt; fault(alloc, &image), None);
+    image.records.push(savepoint(alloc, 1001)?)?;
+    assert_eq!(rt; fault(alloc, &image), Some(ImageFault::Damaged));
     Ok(())
 }

@@ -1,5 +1,6 @@
 //! The conductor thread: acts as the user of the job, and prints the progress of the run.
 ghost use Rattle.std.specs.Prelude.{◌≡◌};
+ghost use Rattle.ckpt_workers.specs.Shifts.{CallsOn};
 
 use crate::ground::Ground;
 use crate::lines::tell_line;
@@ -117,7 +118,8 @@ impl Desk {
     /// Condition: the pass is of the lock.
     fn act<R: Wait>(&mut self, rt: &R, ground: &Ground, now: u64, pass: Pass) -> Pass
         requires { pass.lock ≡ ground.now.lock }
-        ensures { result.lock ≡ ground.now.lock }
+        ensures lock { result.lock ≡ ground.now.lock }
+        ensures calls { CallsOn pass result }
     {
         let Some(call) = self.call(&ground.settings, now) else {
             return pass;
@@ -153,7 +155,8 @@ impl Desk {
     /// Condition: the pass is of the lock.
     fn tell<R: Wait>(&mut self, rt: &R, ground: &Ground, pass: Pass) -> Pass
         requires { pass.lock ≡ ground.now.lock }
-        ensures { result.lock ≡ ground.now.lock }
+        ensures lock { result.lock ≡ ground.now.lock }
+        ensures calls { CallsOn pass result }
     {
         self.note_new(ground.board.newest());
         let mut census = Census {
@@ -193,7 +196,8 @@ fn count<R: Wait>(
     census: &mut Census,
 ) -> Pass
     requires { pass.lock ≡ ground.now.lock }
-    ensures { result.lock ≡ ground.now.lock }
+    ensures lock { result.lock ≡ ground.now.lock }
+    ensures calls { CallsOn pass result }
 {
     for id in records {
         let (next, metadata) = ground.show(rt, pass, CheckpointId(*id));
@@ -234,7 +238,8 @@ fn tell_progress(ground: &Ground, known: u64, used: u64, pending: u64) {
 /// Condition: the pass is of the lock.
 pub(crate) fn conduct<R: Wait>(rt: &R, ground: &Ground, mut pass: Pass) -> Pass
     requires { pass.lock ≡ ground.now.lock }
-    ensures { result.lock ≡ ground.now.lock }
+    ensures lock { result.lock ≡ ground.now.lock }
+    ensures calls { CallsOn pass result }
 {
     let mut desk = Desk::new(ground.alloc, ground.settings.duration);
     for _ in rt.forever() {

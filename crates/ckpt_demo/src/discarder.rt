@@ -1,5 +1,6 @@
 //! The thread that deletes the files that the coordinator hands out.
 ghost use Rattle.std.specs.Prelude.{◌≡◌};
+ghost use Rattle.ckpt_workers.specs.Shifts.{CallsOn};
 
 use crate::folder::Disk;
 use crate::ground::Ground;
@@ -21,7 +22,8 @@ const LAST_ROUNDS: u32 = 200;
 /// Condition: the pass is of the lock.
 fn round<R: Wait>(rt: &R, ground: &Ground, pass: Pass, disk: &mut Disk<'_, R>) -> (Pass, u64)
     requires { pass.lock ≡ ground.now.lock }
-    ensures { result.0.lock ≡ ground.now.lock }
+    ensures lock { result.0.lock ≡ ground.now.lock }
+    ensures calls { CallsOn pass result.0 }
 {
     let (pass, round) = discard_round(rt, ground.alloc, ground, pass, disk, MOST_TAKEN);
     let Round {
@@ -39,7 +41,8 @@ fn round<R: Wait>(rt: &R, ground: &Ground, pass: Pass, disk: &mut Disk<'_, R>) -
 /// Condition: the pass is of the lock.
 pub(crate) fn discard<R: Wait>(rt: &R, ground: &Ground, mut pass: Pass) -> Pass
     requires { pass.lock ≡ ground.now.lock }
-    ensures { result.lock ≡ ground.now.lock }
+    ensures lock { result.lock ≡ ground.now.lock }
+    ensures calls { CallsOn pass result }
 {
     let mut disk = Disk::new(rt, ground);
     let mut rounds = LAST_ROUNDS;

@@ -1,5 +1,6 @@
 //! The state that the threads of a run share.
 ghost use Rattle.std.specs.Prelude.{◌≡◌};
+ghost use Rattle.ckpt_workers.specs.Shifts.{CallsOn};
 
 use crate::settings::Settings;
 use ckpt_ids::{Answer, Call, CheckpointId, Choice, FileId, Metadata, Reply, TickEnd};
@@ -220,7 +221,8 @@ impl Ground {
     /// Condition: the pass is of the lock.
     pub(crate) fn ask<R: Wait>(&self, rt: &R, pass: Pass, call: Call) -> (Pass, Option<Reply>)
         requires { pass.lock ≡ self.now.lock }
-        ensures { result.0.lock ≡ self.now.lock }
+        ensures lock { result.0.lock ≡ self.now.lock }
+        ensures calls { CallsOn pass result.0 }
     {
         match self.call(rt, pass, call) {
             Ok((pass, answer)) => (pass, reply_of(answer)),
@@ -238,7 +240,8 @@ impl Ground {
         id: CheckpointId,
     ) -> (Pass, Option<Metadata>)
         requires { pass.lock ≡ self.now.lock }
-        ensures { result.0.lock ≡ self.now.lock }
+        ensures lock { result.0.lock ≡ self.now.lock }
+        ensures calls { CallsOn pass result.0 }
     {
         let (pass, reply) = self.ask(rt, pass, Call::Show { id });
         match reply {

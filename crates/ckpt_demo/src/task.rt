@@ -1,5 +1,6 @@
 //! The thread of a task.
 ghost use Rattle.std.specs.Prelude.{◌≡◌};
+ghost use Rattle.ckpt_workers.specs.Shifts.{CallsOn};
 
 use crate::folder::path_of;
 use crate::ground::Ground;
@@ -100,7 +101,8 @@ impl Task {
     /// Condition: the pass is of the lock.
     fn take_part<R: Wait>(&mut self, rt: &R, ground: &Ground, pass: Pass, id: CheckpointId) -> Pass
         requires { pass.lock ≡ ground.now.lock }
-        ensures { result.lock ≡ ground.now.lock }
+        ensures lock { result.lock ≡ ground.now.lock }
+        ensures calls { CallsOn pass result }
     {
         let place = pass.seat();
         let (pass, metadata) = ground.show(rt, pass, id);
@@ -126,7 +128,8 @@ impl Task {
 /// Condition: the pass is of the lock.
 fn acknowledge<R: Wait>(rt: &R, ground: &Ground, pass: Pass, order: Order) -> Pass
     requires { pass.lock ≡ ground.now.lock }
-    ensures { result.lock ≡ ground.now.lock }
+    ensures lock { result.lock ≡ ground.now.lock }
+    ensures calls { CallsOn pass result }
 {
     let Ok((sender, orders)) = unbounded(ground.alloc) else {
         return pass;
@@ -160,7 +163,8 @@ fn write_state(ground: &Ground, file: FileId, text: &str) -> bool {
 /// Condition: the pass is of the lock.
 pub(crate) fn work<R: Wait>(rt: &R, ground: &Ground, mut pass: Pass) -> Pass
     requires { pass.lock ≡ ground.now.lock }
-    ensures { result.lock ≡ ground.now.lock }
+    ensures lock { result.lock ≡ ground.now.lock }
+    ensures calls { CallsOn pass result }
 {
     let mut task = Task::new(ground, pass.seat());
     let mut seen = 0u64;

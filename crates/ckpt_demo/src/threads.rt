@@ -1,5 +1,6 @@
 //! A thread for each pass.
 ghost use Rattle.std.specs.Prelude.{◌≡◌, All, IfOk, map};
+ghost use Rattle.ckpt_workers.specs.Shifts.{CallsOn};
 
 use crate::conductor::conduct;
 use crate::discarder::discard;
@@ -34,7 +35,8 @@ impl Work<()> for Ground {
 /// Condition: the pass is of the lock.
 fn tick<R: Wait>(rt: &R, ground: &Ground, pass: Pass) -> Pass
     requires { pass.lock ≡ ground.now.lock }
-    ensures { result.lock ≡ ground.now.lock }
+    ensures lock { result.lock ≡ ground.now.lock }
+    ensures calls { CallsOn pass result }
 {
     let mut beats = Beats::new(ground);
     let (pass, _tally) = timer_worker(rt, ground, pass, &mut beats);

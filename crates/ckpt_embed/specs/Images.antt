@@ -21,13 +21,17 @@ IsSaveTold m places answer = answer.code ≢ no_memory → answer ≡ saved_told
 abbrev pub BringsImage : State → List ℕ → List ℕ → Answer → Type 0
 BringsImage m old new answer = answer.code ≡ 0 → StandsInFront (image_bytes (settled m)) old new
 
--- the bytes are the text of an image, of a state that a coordinator can be in
+-- the bytes are the text of an image, of a state that an image may have
 abbrev pub Tells : List ℕ → State → Type 0
 Tells bytes m = IsUtf8 bytes × (image_read bytes ≡ Some m) × CanHold m
 
 -- the bytes are no such text
 abbrev pub TellsNothing : List ℕ → Type 0
 TellsNothing bytes = (m : State) → Tells bytes m → ⊥
+
+-- an opening takes memory only if the bytes are a text
+abbrev pub SavedWantsMemory : List ℕ → Answer → Type 0
+SavedWantsMemory bytes answer = answer.code ≡ no_memory → IsUtf8 bytes
 
 -- a closed handle is opened in the state that the bytes describe
 abbrev pub IsOpenedSaved : Option State → Option State → List ℕ → Answer → Type 0

@@ -20,6 +20,10 @@ mode_told Running = done 23 0 0
 mode_told Failed = done 24 0 0
 mode_told Cancelled = done 25 0 0
 
+-- the greatest moment seen
+abbrev pub moment_told : ℕ → Answer
+moment_told moment = done 55 moment 0
+
 abbrev pub due_told : ℕ → Answer
 due_told moment = done 26 moment 0
 

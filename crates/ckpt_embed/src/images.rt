@@ -8,7 +8,7 @@ ghost use Rattle.ckpt_image.specs.Images.{image_read};
 ghost use Rattle.ckpt_image.specs.Written.{image_bytes};
 ghost use Rattle.ckpt_embed.specs.Buffers.{StandsInFront};
 ghost use Rattle.ckpt_embed.specs.Calls.{HasNoNumbers, StaysAsItWas, StaysClosed};
-ghost use Rattle.ckpt_embed.specs.Images.{BringsImage, IsNotOpenedSaved, IsOpenedSaved, IsSaveTold, IsWhyNotSaved, Tells, saved_told};
+ghost use Rattle.ckpt_embed.specs.Images.{BringsImage, IsNotOpenedSaved, IsOpenedSaved, IsSaveTold, IsWhyNotSaved, SavedWantsMemory, Tells, saved_told};
 ghost use Rattle.ckpt_embed.specs.Opening.{StaysOpen};
 ghost use Rattle.ckpt_embed.specs.Told.{bad_argument};
 
@@ -49,11 +49,13 @@ pub fn save(alloc: Global, handle: &mut Handle, image: &mut [u8]) -> Answer
 ///
 /// The secret keys the maps of files, so that no choice of numbers makes calls slow. It changes no
 /// answer. An open handle does not change, and the answer says so. One bad argument is returned for
-/// bytes that are not an image, and for an image of a state that no coordinator can be in.
+/// bytes that are not an image, and for an image of a state that is not sound, or of an opening that
+/// no coordinator can have.
 pub fn open_saved(alloc: Global, handle: &mut Handle, image: &[u8], secret: Secret) -> Answer
     ensures open { StaysOpen handle.old.value handle.new.value result }
     ensures opened { IsOpenedSaved handle.old.value handle.new.value image.now result }
     ensures refused { IsNotOpenedSaved handle.old.value handle.new.value image.now result }
+    ensures memory { SavedWantsMemory image.now result }
     ensures numbers { HasNoNumbers result }
     ensures unchanged { StaysAsItWas handle.old.value handle.new.value result }
 {
@@ -107,6 +109,7 @@ fn write_text(text: &str, image: &mut [u8]) -> Answer
 fn core_of(alloc: Global, image: &[u8], secret: Secret) -> Result<Box<Core>, Answer>
     ensures value { IfOk result (λ core. Tells image.now core.value) }
     ensures fault { IfErr result (IsWhyNotSaved image.now) }
+    ensures memory { IfErr result (SavedWantsMemory image.now) }
     ensures numbers { IfErr result HasNoNumbers }
 {
     let image = image_of(alloc, image)?;
@@ -121,6 +124,7 @@ fn image_of(alloc: Global, bytes: &[u8]) -> Result<Image, Answer>
     ensures utf8 { IfOk result (λ image. IsUtf8 bytes.now) }
     ensures read { IfOk result (λ image. image_read bytes.now ≡ Some (state_in image)) }
     ensures fault { IfErr result (IsWhyNotSaved bytes.now) }
+    ensures memory { IfErr result (SavedWantsMemory bytes.now) }
     ensures numbers { IfErr result HasNoNumbers }
 {
     let Ok(text) = str::from_utf8(bytes) else {

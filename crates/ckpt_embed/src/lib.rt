@@ -26,6 +26,6 @@ pub use images::{open_saved, save};
 pub use lines::{line, line_says};
 pub use names::refusal_text;
 pub use opening::{Settings, close, open};
-pub use reads::{FileCounts, choice, due, file_counts, live, missing, mode, oldest_expiry};
+pub use reads::{FileCounts, choice, due, file_counts, live, missing, mode, moment, oldest_expiry};
 pub use recovery::{files_of, live_from, pins_of, standing, taken_files, waiting_file};
 pub use writing::{CallFields, call_line, opening_lines};

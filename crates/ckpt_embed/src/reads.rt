@@ -5,7 +5,7 @@ ghost use Rattle.ckpt_ids.specs.Records.{missing};
 ghost use Rattle.ckpt_core.specs.Coordinator.{IsSound, State, choice_of, pending_of};
 ghost use Rattle.ckpt_core.specs.Reads.{IsNextExpiry, NoneIsEarlyFrom, NoneTriggersBefore, live_of, next_due};
 ghost use Rattle.ckpt_embed.specs.Calls.{StaysClosed};
-ghost use Rattle.ckpt_embed.specs.Reads.{choice_told, counts_of, due_told, expiry_in, expiry_told, live_told, missing_told, mode_told, no_counts};
+ghost use Rattle.ckpt_embed.specs.Reads.{choice_told, counts_of, due_told, expiry_in, expiry_told, live_told, missing_told, mode_told, moment_told, no_counts};
 
 use crate::answer::{Answer, CLOSED, DONE};
 use crate::handle::Handle;
@@ -42,6 +42,8 @@ const MISSING: u32 = 35;
 
 const NOT_PENDING: u32 = 36;
 
+const MOMENT: u32 = 55;
+
 /// The numbers of files.
 #[repr(C)]
 #[derive(Clone, Copy, Debug, PartialEq, Eq)]
@@ -67,6 +69,20 @@ pub fn mode(alloc: Global, handle: &mut Handle) -> Answer
         return Answer::closed();
     };
     let answer = of_mode(core.mode());
+    handle.put(alloc, core);
+    answer
+}
+
+/// The greatest moment that the coordinator has seen, in milliseconds.
+pub fn moment(alloc: Global, handle: &mut Handle) -> Answer
+    ensures closed { StaysClosed handle.old.value handle.new.value result }
+    ensures answered { (m : State) → handle.old.value ≡ Some m → result ≡ moment_told m.latest }
+    ensures unchanged { handle.new.value ≡ handle.old.value }
+{
+    let Some(core) = handle.take(alloc) else {
+        return Answer::closed();
+    };
+    let answer = Answer::done(MOMENT, core.moment(), 0);
     handle.put(alloc, core);
     answer
 }

@@ -1,7 +1,7 @@
 //! Reads for an engine that recovers. They change nothing, and only the pins of a record and the
 //! taken files take memory.
 
-ghost use Rattle.std.specs.Prelude.{◌≡◌, ◌≢◌, Some, IfOk, IsErr, find, length, nat_le, option_map, slice_get};
+ghost use Rattle.std.specs.Prelude.{◌≡◌, ◌≢◌, Some, IfOk, IsErr, IsSome, find, length, nat_le, option_map, slice_get};
 ghost use Rattle.ckpt_ids.specs.Ascending.{ascending};
 ghost use Rattle.ckpt_core.specs.Coordinator.{pending_of};
 ghost use Rattle.ckpt_core.specs.Reads.{live_of, pins_in, standing};
@@ -95,12 +95,14 @@ pub fn files_of(
 /// Writes the files that a pending record pins to the start of the buffer, in ascending order.
 /// Writes none if no record with this number is pending.
 ///
-/// If the buffer has too few places, the answer says how many it needs. Takes memory.
+/// If the buffer has too few places, the answer says how many it needs. Takes memory if the record
+/// is pending.
 pub fn pins_of(alloc: Global, handle: &mut Handle, id: u64, files: &mut [u64]) -> Answer
     ensures closed { StaysClosed handle.old.value handle.new.value result }
     ensures answered { (m : State) → handle.old.value ≡ Some m → IsListTold (pins_in (pending_of m.records id)) (length files.old) result }
     ensures front { (m : State) → handle.old.value ≡ Some m → BringsList (pins_in (pending_of m.records id)) files.old files.new result }
     ensures kept { result.code ≢ 0 → files.new ≡ files.old }
+    ensures memory { (m : State) → handle.old.value ≡ Some m → result.code ≡ no_memory → IsSome (pending_of m.records id) }
     ensures numbers { HasNoNumbers result }
     ensures unchanged { handle.new.value ≡ handle.old.value }
 {
@@ -186,6 +188,7 @@ fn write_found(found: Result<Files, AllocError>, files: &mut [u64]) -> Answer
     ensures front { IfOk found (λ list. BringsList list files.old files.new result) }
     ensures kept { result.code ≢ 0 → files.new ≡ files.old }
     ensures memory { IsErr found → result ≡ out_of_memory }
+    ensures only { result.code ≡ no_memory → IsErr found }
 {
     match found {
         Ok(list) => write_list(list.as_slice(), files),

@@ -1,8 +1,10 @@
-//! Tests of the text of an image: how it is read, and which texts are refused.
+//! Tests of the text of an image: how it is read, and which texts and states are refused.
 //!
 //! `docs/DECISIONS.md` says why these tests are not in the crate that they test.
 #![tactic(auto)]
 
+#[cfg(test)]
+mod damaged;
 #[cfg(test)]
 mod reading;
 #[cfg(test)]

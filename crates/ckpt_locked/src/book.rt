@@ -189,7 +189,7 @@ impl Book {
 
         // Records: what completes one, and what keeps one.
         ensures full { AreDoneFull result.now }
-        ensures acknowledged { Acknowledgements self.now.opening (calls_of self.now.entries) }
+        ensures acknowledgements { Acknowledgements self.now.opening (calls_of self.now.entries) }
         ensures exactly_one { ExactlyOne self.now }
         ensures numbers { Numbers self.now.opening (calls_of self.now.entries) }
         ensures savepoints { SavepointsStay self.now }
@@ -197,9 +197,9 @@ impl Book {
         // Files: each is in use or was handed out, and no file in use is lost.
         ensures balance { Balance self.now.opening (calls_of self.now.entries) }
         ensures handed { Handed self.now.opening (calls_of self.now.entries) }
-        ensures handed_for_good { AreHandedForGood self.now }
+        ensures used_no_more { AreHandedForGood self.now }
         ensures accounted { Accounted self.now.opening (calls_of self.now.entries) }
-        ensures one_place { Outbox self.now.opening (calls_of self.now.entries) }
+        ensures outbox { Outbox self.now.opening (calls_of self.now.entries) }
 
         // What the job would restart from.
         ensures choice { ChoiceIsLive self.now.opening (calls_of self.now.entries) }

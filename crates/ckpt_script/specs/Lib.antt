@@ -1,6 +1,7 @@
 -- The definitions that contracts cite.
 pub mod Devices
 pub mod Faults
+pub mod Flushes
 pub mod Known
 pub mod Lines
 pub mod Outputs

@@ -1,6 +1,7 @@
 //! What was printed and is not written yet.
-ghost use Rattle.std.specs.Prelude.{◌≡◌, ◌≤◌, [], length, IfOk, OnOk, OnErr, IfErr};
+ghost use Rattle.std.specs.Prelude.{◌≡◌, ◌≤◌, [], true, length, IfOk, OnOk, OnErr, IfErr};
 ghost use Rattle.std.specs.Io.KnownBytes.{Appends};
+ghost use Rattle.ckpt_script.specs.Flushes.{IsTied};
 ghost use Rattle.ckpt_script.specs.Known.{IsCut, Passes, PassesFront};
 
 use crate::fault::RunFault;
@@ -20,17 +21,18 @@ pub(crate) struct Printed {
 }
 
 impl Model for Printed {
-    ghost use Rattle.std.specs.Prelude.{ℕ, List, string_bytes};
+    ghost use Rattle.std.specs.Prelude.{string_bytes};
+    ghost use Rattle.ckpt_script.specs.Flushes.{Waiting};
 
-    ghost Value = { List ℕ };
+    ghost Value = { Waiting };
 
-    ghost view = { λ p. string_bytes p.waiting };
+    ghost view = { λ p. record { bytes = string_bytes p.waiting; is_flushed = p.is_flushed } };
 }
 
 impl Printed {
     /// Nothing is printed yet.
     pub(crate) fn new(alloc: Global) -> Result<Printed, AllocError>
-        ensures { IfOk result (λ printed. printed ≡ []) }
+        ensures { IfOk result (λ printed. printed ≡ record { bytes = []; is_flushed = true }) }
     {
         Ok(Printed {
             waiting: String::with_capacity(alloc, CHUNK)?,
@@ -43,12 +45,13 @@ impl Printed {
     /// Condition: the sink has not failed.
     pub(crate) fn settle<K: Sink>(&mut self, sink: &mut K) -> Result<(), RunFault>
         requires going_on { K.failures sink.old ≡ 0 }
-        ensures ok { OnOk result (Passes (K.contents sink.old) (K.contents sink.new) self.old [] self.new) }
-        ensures few { OnOk result (length self.new ≤ CHUNK) }
-        ensures err { OnErr result (PassesFront (K.contents sink.old) (K.contents sink.new) self.old []) }
+        ensures ok { OnOk result (Passes (K.contents sink.old) (K.contents sink.new) self.old.bytes [] self.new.bytes) }
+        ensures few { OnOk result (length self.new.bytes ≤ CHUNK) }
+        ensures err { OnErr result (PassesFront (K.contents sink.old) (K.contents sink.new) self.old.bytes []) }
         ensures fault { IfErr result (λ why. why ≡ RunFault.Write) }
         ensures going_on { OnOk result (K.failures sink.new ≡ 0) }
         ensures failed { OnErr result (K.failures sink.new ≡ 1) }
+        ensures tied { IsTied self.old (K.unflushed sink.old) (K.failures sink.old) → IsTied self.new (K.unflushed sink.new) (K.failures sink.new) }
         ensures same_sink { K.device sink.new ≡ K.device sink.old }
     {
         if self.waiting.len() <= CHUNK {
@@ -62,10 +65,12 @@ impl Printed {
     /// Condition: the sink has not failed.
     pub(crate) fn flush<K: Sink>(&mut self, sink: &mut K) -> Result<(), RunFault>
         requires going_on { K.failures sink.old ≡ 0 }
-        ensures ok { OnOk result ((self.new ≡ []) × Appends (K.contents sink.old) (K.contents sink.new) self.old) }
-        ensures err { IfErr result (λ why. (why ≡ RunFault.Write) × IsCut (K.contents sink.old) (K.contents sink.new) self.old) }
+        ensures ok { OnOk result ((self.new.bytes ≡ []) × Appends (K.contents sink.old) (K.contents sink.new) self.old.bytes) }
+        ensures err { IfErr result (λ why. (why ≡ RunFault.Write) × IsCut (K.contents sink.old) (K.contents sink.new) self.old.bytes) }
+        ensures flushed { OnOk result (IsTied self.old (K.unflushed sink.old) (K.failures sink.old) → K.unflushed sink.new ≡ 0) }
         ensures going_on { OnOk result (K.failures sink.new ≡ 0) }
         ensures failed { OnErr result (K.failures sink.new ≡ 1) }
+        ensures tied { IsTied self.old (K.unflushed sink.old) (K.failures sink.old) → IsTied self.new (K.unflushed sink.new) (K.failures sink.new) }
         ensures same_sink { K.device sink.new ≡ K.device sink.old }
     {
         self.write_out(sink)?;
@@ -86,10 +91,11 @@ impl Printed {
     /// Condition: the sink has not failed.
     fn write_out<K: Sink>(&mut self, sink: &mut K) -> Result<(), RunFault>
         requires going_on { K.failures sink.old ≡ 0 }
-        ensures ok { OnOk result ((self.new ≡ []) × Appends (K.contents sink.old) (K.contents sink.new) self.old) }
-        ensures err { IfErr result (λ why. (why ≡ RunFault.Write) × IsCut (K.contents sink.old) (K.contents sink.new) self.old) }
+        ensures ok { OnOk result ((self.new.bytes ≡ []) × Appends (K.contents sink.old) (K.contents sink.new) self.old.bytes) }
+        ensures err { IfErr result (λ why. (why ≡ RunFault.Write) × IsCut (K.contents sink.old) (K.contents sink.new) self.old.bytes) }
         ensures going_on { OnOk result (K.failures sink.new ≡ 0) }
         ensures failed { OnErr result (K.failures sink.new ≡ 1) }
+        ensures tied { IsTied self.old (K.unflushed sink.old) (K.failures sink.old) → IsTied self.new (K.unflushed sink.new) (K.failures sink.new) }
         ensures same_sink { K.device sink.new ≡ K.device sink.old }
     {
         if self.waiting.is_empty() {

@@ -3,6 +3,7 @@ ghost use Rattle.std.specs.Prelude.{◌≡◌, ◌≤◌, ◌<◌, ◌+◌, [], 
 ghost use Rattle.std.specs.Io.KnownBytes.{IsAtEnd};
 ghost use Rattle.ckpt_script.specs.Devices.{Asked, IsCaused, SinkCauses, IsReadThrough};
 ghost use Rattle.ckpt_script.specs.Faults.{FailsToPrint};
+ghost use Rattle.ckpt_script.specs.Flushes.{IsTied};
 ghost use Rattle.ckpt_script.specs.Reads.{IsAhead, left_by, line_at};
 ghost use Rattle.ckpt_script.specs.Runs.{text_next, PrintsNext, Obeys, IsReady, GoesOn, Stops, EndsBy};
 ghost use Rattle.ckpt_script.specs.Telling.{keeps_lines};
@@ -48,8 +49,9 @@ impl Runner {
         ensures left { self.new.ahead ≡ left_by self.old.ahead newline }
         ensures obeyed { OnOk result (Obeys self.old newline self.new) }
         ensures shown { OnOk result (PrintsNext self.old newline self.new (K.contents sink.old) (K.contents sink.new) (K.failures sink.new)) }
-        ensures fault { IfErr result (FailsToPrint (K.contents sink.old) (K.contents sink.new) self.old.printed (text_next self.old newline)) }
+        ensures fault { IfErr result (FailsToPrint (K.contents sink.old) (K.contents sink.new) self.old.printed.bytes (text_next self.old newline)) }
         ensures cause { IfErr result (SinkCauses (K.failures sink.new)) }
+        ensures tied { IsTied self.old.printed (K.unflushed sink.old) (K.failures sink.old) → IsTied self.new.printed (K.unflushed sink.new) (K.failures sink.new) }
         ensures same_sink { K.device sink.new ≡ K.device sink.old }
     {
         let number = self.summary.lines + 1;
@@ -85,6 +87,7 @@ impl Runner {
         ensures stopped { IfErr result (Stops self.old (S.remaining source.old) (K.contents sink.old) self.new (S.remaining source.new) (K.contents sink.new)) }
         ensures cause { IfErr result (IsCaused (S.asked source.new) (K.failures sink.new)) }
         ensures same_source { S.device source.new ≡ S.device source.old }
+        ensures tied { IsTied self.old.printed (K.unflushed sink.old) (K.failures sink.old) → IsTied self.new.printed (K.unflushed sink.new) (K.failures sink.new) }
         ensures same_sink { K.device sink.new ≡ K.device sink.old }
     {
         laws::front();
@@ -105,8 +108,8 @@ impl Runner {
     /// Nothing has been read yet. The secret keys the maps.
     pub(crate) fn new(alloc: Global, secret: Secret) -> Result<Runner, AllocError>
         ensures ahead { IfOk result (λ run. run.ahead ≡ record { bytes = []; is_ended = false; reads_left = MOST_READS }) }
-        ensures scene { IfOk result (λ run. run.session ≡ opening_scene) }
-        ensures printed { IfOk result (λ run. run.printed ≡ []) }
+        ensures scene { IfOk result (λ run. run.session.scene ≡ opening_scene) }
+        ensures printed { IfOk result (λ run. run.printed.bytes ≡ []) }
         ensures summary { IfOk result (λ run. run.summary ≡ record { lines = 0; faults = 0 }) }
     {
         Ok(Runner {
@@ -138,6 +141,7 @@ impl Runner {
         ensures read { OnOk result (IsReadThrough (S.asked source.new)) }
         ensures cause { IfErr result (IsCaused (S.asked source.new) (K.failures sink.new)) }
         ensures same_source { S.device source.new ≡ S.device source.old }
+        ensures tied { IsTied self.old.printed (K.unflushed sink.old) (K.failures sink.old) → IsTied self.new.printed (K.unflushed sink.new) (K.failures sink.new) }
         ensures same_sink { K.device sink.new ≡ K.device sink.old }
     {
         loop {
@@ -153,7 +157,8 @@ impl Runner {
     pub(crate) fn stop<K: Sink>(&mut self, sink: &mut K, fault: RunFault) -> RunFault
         requires cause { SinkCauses (K.failures sink.old) fault }
         ensures cause { (asked : Asked) → IsCaused asked (K.failures sink.old) fault → IsCaused asked (K.failures sink.new) result }
-        ensures ran { EndsBy (K.contents sink.old) self.old.printed fault (K.contents sink.new) result }
+        ensures ran { EndsBy (K.contents sink.old) self.old.printed.bytes fault (K.contents sink.new) result }
+        ensures flushed { IsTied self.old.printed (K.unflushed sink.old) (K.failures sink.old) → keeps_lines result ≡ true → K.unflushed sink.new ≡ 0 }
         ensures same_sink { K.device sink.new ≡ K.device sink.old }
     {
         if !keeps_lines(fault) {

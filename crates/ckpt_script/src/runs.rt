@@ -1,6 +1,7 @@
 //! The runs of whole scripts, between devices and between streams.
-ghost use Rattle.std.specs.Prelude.{◌≡◌, ◌≤◌, IfOk, IfErr, OnOk};
+ghost use Rattle.std.specs.Prelude.{◌≡◌, ◌≤◌, true, IfOk, IfErr, OnOk};
 ghost use Rattle.ckpt_script.specs.Devices.{IsCaused, IsReadThrough, never_asked};
+ghost use Rattle.ckpt_script.specs.Flushes.{ends_whole};
 ghost use Rattle.ckpt_script.specs.Outputs.{Ran};
 
 use crate::fault::RunFault;
@@ -21,7 +22,8 @@ use std::io::{Read, Write};
 /// It is [`run_keyed`] over devices that count what they were asked. Each fault has its cause:
 /// [`RunFault::Read`] that the source failed or was asked 2^32 times, [`RunFault::TooManyLines`] that
 /// it gave more than [`MOST_LINES`] bytes, [`RunFault::Write`] that the sink failed. A device that
-/// failed is not asked again, and the source not after its end.
+/// failed is not asked again, and the source not after its end. If all that the sink took is flushed
+/// at the start, so it is at the end, unless the fault is of the sink or of memory.
 ///
 /// Conditions: the source was not asked yet, and the sink has not failed.
 pub fn run_between_keyed<S: Source, K: Sink, T: Team>(
@@ -37,6 +39,7 @@ pub fn run_between_keyed<S: Source, K: Sink, T: Team>(
     ensures summary { IfOk result (λ summary. (summary.faults ≤ summary.lines) × (summary.lines ≤ MOST_LINES)) }
     ensures read { OnOk result (IsReadThrough (S.asked source.new)) }
     ensures written { OnOk result (K.failures sink.new ≡ 0) }
+    ensures flushed { K.unflushed sink.old ≡ 0 → ends_whole result ≡ true → K.unflushed sink.new ≡ 0 }
     ensures cause { IfErr result (IsCaused (S.asked source.new) (K.failures sink.new)) }
     ensures same_source { S.device source.new ≡ S.device source.old }
     ensures same_sink { K.device sink.new ≡ K.device sink.old }

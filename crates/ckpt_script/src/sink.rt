@@ -10,6 +10,8 @@ pub trait Sink {
     ghost contents: { Self → Option (List ℕ) };
     // How often it failed.
     ghost failures: { Self → ℕ };
+    // How many of the bytes that it took are not flushed, if it keeps any back.
+    ghost unflushed: { Self → ℕ } = { λ _. 0 };
     // Which device it is, if it holds a reference to one. No write changes that.
     ghost device: { Self → ℕ } = { λ _. 0 };
 
@@ -31,6 +33,7 @@ pub trait Sink {
     fn flush(&mut self) -> Result<(), DeviceFailed>
         requires going_on { failures self.old ≡ 0 }
         ensures bytes { Keeps (contents self.old) (contents self.new) }
+        ensures flushed { OnOk result (unflushed self.new ≡ 0) }
         ensures going_on { OnOk result (failures self.new ≡ failures self.old) }
         ensures failed { OnErr result (failures self.new ≡ failures self.old + 1) }
         ensures same { device self.new ≡ device self.old };

@@ -25,7 +25,7 @@ impl Team for Looking {
 }
 
 /// The entries of a book.
-fn entries_of(alloc: Global, book: &Book) -> Result<String, AllocError> {
+pub(crate) fn entries_of(alloc: Global, book: &Book) -> Result<String, AllocError> {
     let mut text = String::new(alloc);
     for place in 0..book.len() {
         if let Some(entry) = book.entry(place) {

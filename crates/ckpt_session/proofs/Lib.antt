@@ -4,5 +4,6 @@ pub mod AckSearch
 pub mod BookLemmas
 pub mod CallLemmas
 pub mod KeepLemmas
+pub mod SeatingLemmas
 pub mod ShownLemmas
 pub mod Teamwork

@@ -1,4 +1,5 @@
 -- The definitions that contracts cite.
 pub mod AllLines
 pub mod ScriptTexts
+pub mod Seating
 pub mod Sessions

@@ -6,6 +6,7 @@ ghost use Rattle.ckpt_core.specs.Soundness.{IsSound};
 ghost use Rattle.ckpt_locked.specs.Books.{state_of_book};
 ghost use Rattle.ckpt_texts.specs.MetadataTexts.{missing_subtasks};
 ghost use Rattle.ckpt_session.specs.AllLines.{ack_with, missing_now, pending_metadata, shown_pending, acks_for, told_of, all_of, all_obeyed};
+ghost use Rattle.ckpt_session.specs.Seating.{Asks, EntersAll};
 
 use crate::outcome::{AllEnd, Outcome, ScriptRefusal};
 use ckpt_ids::{Acks, Answer, Call, CheckpointId, FileId, Files, Metadata, Reply, SubtaskId};
@@ -35,14 +36,15 @@ impl AllLine {
     /// Runs the line over a book, and returns the book and the line's outcome.
     ///
     /// Fails only if memory runs out, and then the book is lost.
-    #[tactic(auto, unfolding(crate::specs::AllLines::all_obeyed, crate::specs::AllLines::all_of))]
+    #[tactic(auto, using(crate::proofs::SeatingLemmas::all_none, crate::proofs::SeatingLemmas::all_asked), unfolding(crate::specs::AllLines::all_obeyed, crate::specs::AllLines::all_of))]
     pub(crate) fn obey<T: Team>(
         &self,
         alloc: Global,
         mut book: Book,
         team: &mut T,
     ) -> Result<(Book, Outcome), AllocError>
-        ensures { IfOk result (λ said. (state_of_book said.0, said.1) ≡ all_obeyed (state_of_book book) self.now) }
+        ensures said { IfOk result (λ said. (state_of_book said.0, said.1) ≡ all_obeyed (state_of_book book) self.now) }
+        ensures entered { IfOk result (λ said. EntersAll book.entries said.0.entries self.now.id self.now.threads) }
     {
         if self.threads < 1 || MOST_THREADS < self.threads {
             return Ok((book, Outcome::Refused(ScriptRefusal::BadThreads)));
@@ -57,7 +59,7 @@ impl AllLine {
     ///
     /// Conditions: the line has 1 to [`MOST_SEATS`] threads, and its record is pending and has this
     /// metadata.
-    #[tactic(auto, unfolding(crate::specs::AllLines::all_of))]
+    #[tactic(auto, using(crate::proofs::SeatingLemmas::all_none), unfolding(crate::specs::AllLines::all_of))]
     fn acknowledge<T: Team>(
         &self,
         alloc: Global,
@@ -67,7 +69,8 @@ impl AllLine {
     ) -> Result<(Book, Outcome), AllocError>
         requires threads { (1 ≤ self.now.threads) × (self.now.threads ≤ MOST_SEATS) }
         requires pending { pending_metadata (state_of_book book) self.now.id ≡ Some metadata.now }
-        ensures { IfOk result (λ said. (state_of_book said.0, said.1) ≡ all_of (state_of_book book) self.now (Some metadata.now)) }
+        ensures said { IfOk result (λ said. (state_of_book said.0, said.1) ≡ all_of (state_of_book book) self.now (Some metadata.now)) }
+        ensures entered { IfOk result (λ said. EntersAll book.entries said.0.entries self.now.id self.now.threads) }
     {
         let missing = missing_subtasks(alloc, metadata)?;
         let last = (missing.len() as u64).saturating_sub(1);
@@ -117,10 +120,11 @@ impl AllLine {
     }
 
     /// The outcome of the calls. If the record is still pending, asks for it once more.
-    #[tactic(auto, unfolding(crate::specs::AllLines::told))]
+    #[tactic(auto, using(crate::proofs::SeatingLemmas::asks_none), unfolding(crate::specs::AllLines::told))]
     fn tell(&self, alloc: Global, made: &mut Made) -> Result<Outcome, AllocError>
         ensures state { OnOk result (state_of_book made.new.book ≡ state_of_book made.old.book) }
         ensures outcome { IfOk result (λ outcome. outcome ≡ told_of self.now made.old) }
+        ensures entered { OnOk result (Asks made.old.book.entries made.new.book.entries self.now.id) }
     {
         let end = match made.completed {
             Some((dropped, released)) => AllEnd::Completed { dropped, released },
@@ -148,6 +152,7 @@ fn recall_sound(book: &Book)
 fn pending_metadata(book: &mut Book, id: CheckpointId) -> Result<Option<Metadata>, AllocError>
     ensures state { OnOk result (state_of_book book.new ≡ state_of_book book.old) }
     ensures value { IfOk result (λ metadata. metadata ≡ pending_metadata (state_of_book book.old) id) }
+    ensures entered { OnOk result (Asks book.old.entries book.new.entries id) }
 {
     // In a sound state a number has one record.
     recall_sound(book);
@@ -172,6 +177,7 @@ fn pending(answer: Answer) -> Option<Metadata>
 fn missing_now(alloc: Global, book: &mut Book, id: CheckpointId) -> Result<u64, AllocError>
     ensures state { OnOk result (state_of_book book.new ≡ state_of_book book.old) }
     ensures value { IfOk result (λ missing. missing ≡ missing_now (state_of_book book.old) id) }
+    ensures entered { OnOk result (Asks book.old.entries book.new.entries id) }
 {
     match pending_metadata(book, id)? {
         Some(metadata) => Ok(missing_subtasks(alloc, &metadata)?.len() as u64),

@@ -1,11 +1,13 @@
 //! A script that is being run: what its lines do, and what they print.
-ghost use Rattle.std.specs.Prelude.{◌≡◌, ◌++◌, true, false, Ok, Err, None, IfOk, OnOk, OnErr, is_err, option_map, string_bytes};
-ghost use Rattle.std.specs.Option.{option_copied};
+ghost use Rattle.std.specs.Prelude.{◌≡◌, ◌++◌, [], true, false, Ok, Err, None, IfOk, OnOk, OnErr, is_err, option_map, string_bytes};
+ghost use Rattle.std.specs.Option.{option_copied, option_map_or};
 ghost use Rattle.ckpt_locked.specs.Books.{state_of_book};
 ghost use Rattle.ckpt_lines.specs.Meanings.{meaning};
 ghost use Rattle.ckpt_lines.specs.Reading.{reading};
 ghost use Rattle.ckpt_session.specs.ScriptTexts.{outcome_bytes};
-ghost use Rattle.ckpt_session.specs.Sessions.{opening_scene, before_start, after_start, refused, configured, shaped, started_so_far, called, all_called, obeyed, done_by, said};
+ghost use Rattle.ckpt_texts.specs.Fronts.{KeepsFront};
+ghost use Rattle.ckpt_session.specs.Seating.{Enters, EntersAll, EntersFor, entries_after, given_up, opening_stage};
+ghost use Rattle.ckpt_session.specs.Sessions.{before_start, after_start, refused, configured, shaped, started_so_far, called, all_called, obeyed, done_by, said};
 
 use crate::all::{AllLine, LINE_SEAT};
 use crate::outcome::{Outcome, ScriptRefusal};
@@ -25,7 +27,8 @@ const FIRST: u64 = 1;
 /// A script that is being run: what its lines have set so far, and the book of its calls once it
 /// has started.
 ///
-/// `specs/Sessions.antt` defines what each line does and prints.
+/// `specs/Sessions.antt` defines what each line does and prints, and `specs/Seating.antt` which calls it
+/// enters, and with which seats.
 pub struct Session {
     config: Option<Config>,
     shape: Option<Shape>,
@@ -47,13 +50,17 @@ impl Drop for Session {
 }
 
 impl Model for Session {
-    ghost use Rattle.std.specs.Option.{option_map};
+    ghost use Rattle.std.specs.Prelude.{[]};
+    ghost use Rattle.std.specs.Option.{option_map, option_map_or};
     ghost use Rattle.ckpt_locked.specs.Books.{state_of_book};
-    ghost use Rattle.ckpt_session.specs.Sessions.{Scene};
+    ghost use Rattle.ckpt_session.specs.Seating.{Staged};
 
-    ghost Value = { Scene };
+    ghost Value = { Staged };
 
-    ghost view = { λ s. record { config = s.config; shape = s.shape; core = option_map state_of_book s.book } };
+    ghost view = { λ s. record {
+      scene = record { config = s.config; shape = s.shape; core = option_map state_of_book s.book };
+      entries = option_map_or (λ b. b.entries) s.book [];
+    } };
 }
 
 impl Session {
@@ -62,7 +69,7 @@ impl Session {
     /// The secret keys the maps of its book, so that no choice of file numbers makes a line slow. It
     /// changes nothing that a line does or prints.
     pub fn keyed(alloc: Global, secret: Secret) -> Session
-        ensures { result ≡ opening_scene }
+        ensures { result ≡ opening_stage }
     {
         Session {
             config: None,
@@ -76,7 +83,8 @@ impl Session {
     /// The coordinator of the script with its calls so far, once a `start` was accepted. The calls of
     /// lines have seat 64, those of an `all` line the seats of its threads.
     pub fn book(&self) -> Option<&Book>
-        ensures { option_map state_of_book (option_copied result) ≡ self.now.core }
+        ensures state { option_map state_of_book (option_copied result) ≡ self.now.scene.core }
+        ensures entries { option_map_or (λ b. b.entries) (option_copied result) [] ≡ self.now.entries }
     {
         self.book.as_ref()
     }
@@ -92,10 +100,12 @@ impl Session {
         line: &[u8],
         team: &mut T,
     ) -> Result<bool, AllocError>
-        ensures scene { OnOk result (self.new ≡ (said number self.old (reading line.now)).0) }
-        ensures text { OnOk result (string_bytes text.new ≡ string_bytes text.old ++ (said number self.old (reading line.now)).1) }
+        ensures scene { OnOk result (self.new.scene ≡ (said number self.old.scene (reading line.now)).0) }
+        ensures text { OnOk result (string_bytes text.new ≡ string_bytes text.old ++ (said number self.old.scene (reading line.now)).1) }
+        ensures front { KeepsFront (string_bytes text.old) (string_bytes text.new) }
+        ensures entered { OnOk result (EntersFor (reading line.now) self.old self.new.entries) }
         ensures fault { IfOk result (λ faulty. faulty ≡ is_err (reading line.now)) }
-        ensures given_up { OnErr result (self.new ≡ record self.old { core = None }) }
+        ensures given_up { OnErr result (self.new ≡ given_up self.old) }
     {
         match usual_call(line) {
             Some(call) => self.say_call(text, call),
@@ -106,10 +116,12 @@ impl Session {
     /// Makes the call of a line, and appends its answer. A line with a call has no fault.
     #[inline(always)]
     fn say_call(&mut self, text: &mut String, call: Call) -> Result<bool, AllocError>
-        ensures scene { OnOk result (self.new ≡ (called self.old self.old.core call).0) }
-        ensures text { OnOk result (string_bytes text.new ≡ string_bytes text.old ++ outcome_bytes (called self.old self.old.core call).1) }
+        ensures scene { OnOk result (self.new.scene ≡ (called self.old.scene self.old.scene.core call).0) }
+        ensures text { OnOk result (string_bytes text.new ≡ string_bytes text.old ++ outcome_bytes (called self.old.scene self.old.scene.core call).1) }
+        ensures front { KeepsFront (string_bytes text.old) (string_bytes text.new) }
+        ensures entered { OnOk result (self.new.entries ≡ entries_after self.old call) }
         ensures fault { IfOk result (λ faulty. faulty ≡ false) }
-        ensures given_up { OnErr result (self.new ≡ record self.old { core = None }) }
+        ensures given_up { OnErr result (self.new ≡ given_up self.old) }
     {
         if self.tell_answer(text, call).is_err() {
             self.give_up();
@@ -128,10 +140,12 @@ impl Session {
         line: &[u8],
         team: &mut T,
     ) -> Result<bool, AllocError>
-        ensures scene { OnOk result (self.new ≡ (said number self.old (reading line.now)).0) }
-        ensures text { OnOk result (string_bytes text.new ≡ string_bytes text.old ++ (said number self.old (reading line.now)).1) }
+        ensures scene { OnOk result (self.new.scene ≡ (said number self.old.scene (reading line.now)).0) }
+        ensures text { OnOk result (string_bytes text.new ≡ string_bytes text.old ++ (said number self.old.scene (reading line.now)).1) }
+        ensures front { KeepsFront (string_bytes text.old) (string_bytes text.new) }
+        ensures entered { OnOk result (EntersFor (reading line.now) self.old self.new.entries) }
         ensures fault { IfOk result (λ faulty. faulty ≡ is_err (reading line.now)) }
-        ensures given_up { OnErr result (self.new ≡ record self.old { core = None }) }
+        ensures given_up { OnErr result (self.new ≡ given_up self.old) }
     {
         let read = parse_line(self.alloc, line);
         let is_faulty = read.is_err();
@@ -145,7 +159,7 @@ impl Session {
     /// Fails only if memory runs out, also while the line is read. Then the coordinator is lost: the
     /// session is as it was before its `start`, with the configuration and the shape. A part of what
     /// the line prints may be at the end of the text.
-    #[tactic(auto, unfolding(crate::specs::Sessions::said))]
+    #[tactic(auto, unfolding(crate::specs::Sessions::said, crate::specs::Seating::EntersFor))]
     pub fn say_onto<T: Team>(
         &mut self,
         text: &mut String,
@@ -153,9 +167,11 @@ impl Session {
         line: Result<Line, LineFault>,
         team: &mut T,
     ) -> Result<(), AllocError>
-        ensures scene { OnOk result (self.new ≡ (said number self.old line).0) }
-        ensures text { OnOk result (string_bytes text.new ≡ string_bytes text.old ++ (said number self.old line).1) }
-        ensures given_up { OnErr result (self.new ≡ record self.old { core = None }) }
+        ensures scene { OnOk result (self.new.scene ≡ (said number self.old.scene line).0) }
+        ensures text { OnOk result (string_bytes text.new ≡ string_bytes text.old ++ (said number self.old.scene line).1) }
+        ensures front { KeepsFront (string_bytes text.old) (string_bytes text.new) }
+        ensures entered { OnOk result (EntersFor line self.old self.new.entries) }
+        ensures given_up { OnErr result (self.new ≡ given_up self.old) }
         ensures memory { line ≡ Err LineFault.Memory → is_err result ≡ true }
     {
         let told = match line {
@@ -173,8 +189,9 @@ impl Session {
     ///
     /// Fails only if memory runs out. Then the coordinator is lost, as in [`Session::say_onto`].
     pub fn obey<T: Team>(&mut self, line: Line, team: &mut T) -> Result<Outcome, AllocError>
-        ensures done { IfOk result (λ outcome. (self.new, outcome) ≡ done_by self.old line) }
-        ensures given_up { OnErr result (self.new ≡ record self.old { core = None }) }
+        ensures done { IfOk result (λ outcome. (self.new.scene, outcome) ≡ done_by self.old.scene line) }
+        ensures entered { OnOk result (Enters (meaning line) self.old self.new.entries) }
+        ensures given_up { OnErr result (self.new ≡ given_up self.old) }
     {
         let outcome = self.act(line.meaning(self.alloc), team);
         if outcome.is_err() {
@@ -187,7 +204,7 @@ impl Session {
     /// to clear.
     #[inline(never)]
     fn give_up(&mut self)
-        ensures { self.new ≡ record self.old { core = None } }
+        ensures { self.new ≡ given_up self.old }
     {
         self.book = None;
     }
@@ -195,7 +212,7 @@ impl Session {
     /// Does what a line says, and appends what that prints.
     ///
     /// Most lines are calls. Their answer is printed from its place, and no outcome is made of it.
-    #[tactic(auto, unfolding(crate::specs::Sessions::obeyed))]
+    #[tactic(auto, unfolding(crate::specs::Sessions::obeyed, crate::specs::Seating::Enters))]
     #[inline(always)]
     fn tell<T: Team>(
         &mut self,
@@ -203,9 +220,11 @@ impl Session {
         line: Line,
         team: &mut T,
     ) -> Result<(), AllocError>
-        ensures scene { OnOk result (self.new ≡ (done_by self.old line).0) }
-        ensures text { OnOk result (string_bytes text.new ≡ string_bytes text.old ++ outcome_bytes (done_by self.old line).1) }
-        ensures told { OnErr result ((self.new.config ≡ self.old.config) × (self.new.shape ≡ self.old.shape)) }
+        ensures scene { OnOk result (self.new.scene ≡ (done_by self.old.scene line).0) }
+        ensures text { OnOk result (string_bytes text.new ≡ string_bytes text.old ++ outcome_bytes (done_by self.old.scene line).1) }
+        ensures front { KeepsFront (string_bytes text.old) (string_bytes text.new) }
+        ensures entered { OnOk result (Enters (meaning line) self.old self.new.entries) }
+        ensures told { OnErr result ((self.new.scene.config ≡ self.old.scene.config) × (self.new.scene.shape ≡ self.old.scene.shape)) }
     {
         match line.meaning(self.alloc) {
             Ok(Meaning::Call(call)) => self.tell_answer(text, call),
@@ -217,9 +236,11 @@ impl Session {
     #[tactic(auto, unfolding(crate::specs::Sessions::called))]
     #[inline(always)]
     fn tell_answer(&mut self, text: &mut String, call: Call) -> Result<(), AllocError>
-        ensures scene { OnOk result (self.new ≡ (called self.old self.old.core call).0) }
-        ensures text { OnOk result (string_bytes text.new ≡ string_bytes text.old ++ outcome_bytes (called self.old self.old.core call).1) }
-        ensures told { OnErr result ((self.new.config ≡ self.old.config) × (self.new.shape ≡ self.old.shape)) }
+        ensures scene { OnOk result (self.new.scene ≡ (called self.old.scene self.old.scene.core call).0) }
+        ensures text { OnOk result (string_bytes text.new ≡ string_bytes text.old ++ outcome_bytes (called self.old.scene self.old.scene.core call).1) }
+        ensures front { KeepsFront (string_bytes text.old) (string_bytes text.new) }
+        ensures entered { OnOk result (self.new.entries ≡ entries_after self.old call) }
+        ensures told { OnErr result ((self.new.scene.config ≡ self.old.scene.config) × (self.new.scene.shape ≡ self.old.scene.shape)) }
     {
         let Some(book) = &mut self.book else {
             return write_not_started(text);
@@ -239,9 +260,11 @@ impl Session {
         meant: Result<Meaning, ShapeFault>,
         team: &mut T,
     ) -> Result<(), AllocError>
-        ensures scene { OnOk result (self.new ≡ (obeyed self.old meant).0) }
-        ensures text { OnOk result (string_bytes text.new ≡ string_bytes text.old ++ outcome_bytes (obeyed self.old meant).1) }
-        ensures told { OnErr result ((self.new.config ≡ self.old.config) × (self.new.shape ≡ self.old.shape)) }
+        ensures scene { OnOk result (self.new.scene ≡ (obeyed self.old.scene meant).0) }
+        ensures text { OnOk result (string_bytes text.new ≡ string_bytes text.old ++ outcome_bytes (obeyed self.old.scene meant).1) }
+        ensures front { KeepsFront (string_bytes text.old) (string_bytes text.new) }
+        ensures entered { OnOk result (Enters meant self.old self.new.entries) }
+        ensures told { OnErr result ((self.new.scene.config ≡ self.old.scene.config) × (self.new.scene.shape ≡ self.old.scene.shape)) }
         ensures memory { meant ≡ Err ShapeFault.Memory → is_err result ≡ true }
     {
         let outcome = self.act(meant, team);
@@ -252,14 +275,15 @@ impl Session {
     }
 
     /// Does what is meant.
-    #[tactic(auto, unfolding(crate::specs::Sessions::obeyed))]
+    #[tactic(auto, unfolding(crate::specs::Sessions::obeyed, crate::specs::Seating::Enters))]
     fn act<T: Team>(
         &mut self,
         meant: Result<Meaning, ShapeFault>,
         team: &mut T,
     ) -> Result<Outcome, AllocError>
-        ensures done { IfOk result (λ outcome. (self.new, outcome) ≡ obeyed self.old meant) }
-        ensures told { OnErr result ((self.new.config ≡ self.old.config) × (self.new.shape ≡ self.old.shape)) }
+        ensures done { IfOk result (λ outcome. (self.new.scene, outcome) ≡ obeyed self.old.scene meant) }
+        ensures entered { OnOk result (Enters meant self.old self.new.entries) }
+        ensures told { OnErr result ((self.new.scene.config ≡ self.old.scene.config) × (self.new.scene.shape ≡ self.old.scene.shape)) }
         ensures memory { meant ≡ Err ShapeFault.Memory → is_err result ≡ true }
     {
         match meant {
@@ -270,10 +294,11 @@ impl Session {
     }
 
     /// Does what a line says.
-    #[tactic(auto, unfolding(crate::specs::Sessions::obeyed))]
+    #[tactic(auto, unfolding(crate::specs::Sessions::obeyed, crate::specs::Seating::Enters))]
     fn carry_out<T: Team>(&mut self, meaning: Meaning, team: &mut T) -> Result<Outcome, AllocError>
-        ensures done { IfOk result (λ outcome. (self.new, outcome) ≡ obeyed self.old (Ok meaning)) }
-        ensures told { OnErr result ((self.new.config ≡ self.old.config) × (self.new.shape ≡ self.old.shape)) }
+        ensures done { IfOk result (λ outcome. (self.new.scene, outcome) ≡ obeyed self.old.scene (Ok meaning)) }
+        ensures entered { OnOk result (Enters (Ok meaning) self.old self.new.entries) }
+        ensures told { OnErr result ((self.new.scene.config ≡ self.old.scene.config) × (self.new.scene.shape ≡ self.old.scene.shape)) }
     {
         match meaning {
             Meaning::Call(call) => self.answer(call),
@@ -313,7 +338,8 @@ impl Session {
     #[tactic(auto, unfolding(crate::specs::Sessions::configured))]
     #[inline(never)]
     fn configure(&mut self, config: Option<Config>) -> Outcome
-        ensures { (self.new, result) ≡ before_start self.old (configured self.old config) }
+        ensures done { (self.new.scene, result) ≡ before_start self.old.scene (configured self.old.scene config) }
+        ensures entered { self.new.entries ≡ self.old.entries }
     {
         if self.book.is_some() {
             return Outcome::Refused(ScriptRefusal::Started);
@@ -329,8 +355,9 @@ impl Session {
     #[tactic(auto, unfolding(crate::specs::Sessions::shaped))]
     #[inline(never)]
     fn reshape(&mut self, parallelisms: &Numbers) -> Result<Outcome, AllocError>
-        ensures done { IfOk result (λ outcome. (self.new, outcome) ≡ before_start self.old (shaped self.old parallelisms.now)) }
-        ensures told { OnErr result ((self.new.config ≡ self.old.config) × (self.new.shape ≡ self.old.shape)) }
+        ensures done { IfOk result (λ outcome. (self.new.scene, outcome) ≡ before_start self.old.scene (shaped self.old.scene parallelisms.now)) }
+        ensures entered { self.new.entries ≡ self.old.entries }
+        ensures told { OnErr result ((self.new.scene.config ≡ self.old.scene.config) × (self.new.scene.shape ≡ self.old.scene.shape)) }
     {
         if self.book.is_some() {
             return Ok(Outcome::Refused(ScriptRefusal::Started));
@@ -348,7 +375,7 @@ impl Session {
     /// The answer to a `restore` whose parallelisms are no shape.
     #[inline(never)]
     fn refuse_shape(&self) -> Outcome
-        ensures { (self.now, result) ≡ after_start self.now (refused self.now ScriptRefusal.BadShape) }
+        ensures { (self.now.scene, result) ≡ after_start self.now.scene (refused self.now.scene ScriptRefusal.BadShape) }
     {
         if self.book.is_none() {
             return Outcome::Refused(ScriptRefusal::NotStarted);
@@ -360,8 +387,9 @@ impl Session {
     #[tactic(auto, unfolding(crate::specs::Sessions::started))]
     #[inline(never)]
     fn start(&mut self, now: u64) -> Result<Outcome, AllocError>
-        ensures done { IfOk result (λ outcome. (self.new, outcome) ≡ started_so_far self.old now) }
-        ensures told { OnErr result ((self.new.config ≡ self.old.config) × (self.new.shape ≡ self.old.shape)) }
+        ensures done { IfOk result (λ outcome. (self.new.scene, outcome) ≡ started_so_far self.old.scene now) }
+        ensures entered { self.new.entries ≡ self.old.entries }
+        ensures told { OnErr result ((self.new.scene.config ≡ self.old.scene.config) × (self.new.scene.shape ≡ self.old.scene.shape)) }
     {
         if self.book.is_some() {
             return Ok(Outcome::Refused(ScriptRefusal::Started));
@@ -381,8 +409,9 @@ impl Session {
     /// Makes a call with the seat of the lines.
     #[tactic(auto, unfolding(crate::specs::Sessions::called))]
     fn answer(&mut self, call: Call) -> Result<Outcome, AllocError>
-        ensures done { IfOk result (λ outcome. (self.new, outcome) ≡ called self.old self.old.core call) }
-        ensures told { OnErr result ((self.new.config ≡ self.old.config) × (self.new.shape ≡ self.old.shape)) }
+        ensures done { IfOk result (λ outcome. (self.new.scene, outcome) ≡ called self.old.scene self.old.scene.core call) }
+        ensures entered { OnOk result (self.new.entries ≡ entries_after self.old call) }
+        ensures told { OnErr result ((self.new.scene.config ≡ self.old.scene.config) × (self.new.scene.shape ≡ self.old.scene.shape)) }
     {
         match &mut self.book {
             None => Ok(Outcome::Refused(ScriptRefusal::NotStarted)),
@@ -394,7 +423,7 @@ impl Session {
     }
 
     /// Makes the calls of an `all` line.
-    #[tactic(auto, unfolding(crate::specs::Sessions::all_called))]
+    #[tactic(auto, using(crate::proofs::SeatingLemmas::all_none), unfolding(crate::specs::Sessions::all_called))]
     #[inline(never)]
     fn call_all<T: Team>(
         &mut self,
@@ -404,9 +433,10 @@ impl Session {
         first: u64,
         team: &mut T,
     ) -> Result<Outcome, AllocError>
-        ensures done { IfOk result (λ outcome. (self.new, outcome)
-            ≡ all_called self.old self.old.core (record { moment = now; id = id; threads = threads; first = first })) }
-        ensures told { OnErr result ((self.new.config ≡ self.old.config) × (self.new.shape ≡ self.old.shape)) }
+        ensures done { IfOk result (λ outcome. (self.new.scene, outcome)
+            ≡ all_called self.old.scene self.old.scene.core (record { moment = now; id = id; threads = threads; first = first })) }
+        ensures entered { OnOk result (EntersAll self.old.entries self.new.entries id threads) }
+        ensures told { OnErr result ((self.new.scene.config ≡ self.old.scene.config) × (self.new.scene.shape ≡ self.old.scene.shape)) }
     {
         let Some(book) = self.book.take() else {
             return Ok(Outcome::Refused(ScriptRefusal::NotStarted));

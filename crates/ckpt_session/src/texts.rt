@@ -3,10 +3,11 @@ ghost use Rattle.std.specs.Prelude.{◌≡◌, ◌++◌, true, OnErr, OnOk, stri
 ghost use Rattle.ckpt_session.specs.declared.outcome.Outcome.TheVariants.{Refused};
 ghost use Rattle.ckpt_session.specs.declared.outcome.ScriptRefusal.TheVariants.{NotStarted};
 ghost use Rattle.ckpt_session.specs.ScriptTexts.{all_end_bytes, fault_bytes, fault_name, is_said, outcome_bytes, refusal_bytes, refusal_name};
+ghost use Rattle.ckpt_texts.specs.Fronts.{KeepsFront};
 
 use crate::outcome::{AllEnd, Outcome, ScriptRefusal};
 use ckpt_lines::LineFault;
-use ckpt_texts::write_answer;
+use ckpt_texts::{write_answer, write_number, write_two};
 use std::alloc::{AllocError, Global};
 
 /// Appends the printed text of an outcome: one text with its newline, or nothing. Fails only if
@@ -18,6 +19,7 @@ pub(crate) fn write_outcome(
     outcome: &Outcome,
 ) -> Result<(), AllocError>
     ensures text { OnOk result (string_bytes text.new ≡ string_bytes text.old ++ outcome_bytes outcome.now) }
+    ensures front { KeepsFront (string_bytes text.old) (string_bytes text.new) }
     ensures said { OnErr result (is_said outcome.now ≡ true) }
 {
     match outcome {
@@ -29,7 +31,7 @@ pub(crate) fn write_outcome(
             refused,
             end,
         } => {
-            write!(text, "all {} {}", *accepted, *refused)?;
+            write_two(text, "all ", *accepted, *refused)?;
             write_all_end(text, *end)
         }
     }
@@ -38,13 +40,18 @@ pub(crate) fn write_outcome(
 /// Appends the state of the record of an `all` line, with a newline. Fails only if memory runs out.
 #[tactic(auto, unfolding(crate::specs::ScriptTexts::all_end_bytes))]
 fn write_all_end(text: &mut String, end: AllEnd) -> Result<(), AllocError>
-    ensures { OnOk result (string_bytes text.new ≡ string_bytes text.old ++ all_end_bytes end) }
+    ensures text { OnOk result (string_bytes text.new ≡ string_bytes text.old ++ all_end_bytes end) }
+    ensures front { KeepsFront (string_bytes text.old) (string_bytes text.new) }
 {
     match end {
         AllEnd::Completed { dropped, released } => {
-            write!(text, " completed {dropped} {released}\n")
+            write_two(text, " completed ", u64::from(dropped), released)?;
+            text.push('\n')
         }
-        AllEnd::Pending { missing } => write!(text, " pending {missing}\n"),
+        AllEnd::Pending { missing } => {
+            write_number(text, " pending ", missing)?;
+            text.push('\n')
+        }
     }
 }
 
@@ -53,7 +60,8 @@ fn write_all_end(text: &mut String, end: AllEnd) -> Result<(), AllocError>
 #[tactic(auto, unfolding(crate::specs::ScriptTexts::outcome_bytes))]
 #[inline(never)]
 pub(crate) fn write_not_started(text: &mut String) -> Result<(), AllocError>
-    ensures { OnOk result (string_bytes text.new ≡ string_bytes text.old ++ outcome_bytes (Refused NotStarted)) }
+    ensures text { OnOk result (string_bytes text.new ≡ string_bytes text.old ++ outcome_bytes (Refused NotStarted)) }
+    ensures front { KeepsFront (string_bytes text.old) (string_bytes text.new) }
 {
     write_refusal(text, ScriptRefusal::NotStarted)
 }
@@ -61,18 +69,25 @@ pub(crate) fn write_not_started(text: &mut String) -> Result<(), AllocError>
 /// Appends the text of a refusal, with its newline. Fails only if memory runs out.
 #[tactic(auto, unfolding(crate::specs::ScriptTexts::refusal_bytes))]
 fn write_refusal(text: &mut String, why: ScriptRefusal) -> Result<(), AllocError>
-    ensures { OnOk result (string_bytes text.new ≡ string_bytes text.old ++ refusal_bytes why) }
+    ensures text { OnOk result (string_bytes text.new ≡ string_bytes text.old ++ refusal_bytes why) }
+    ensures front { KeepsFront (string_bytes text.old) (string_bytes text.new) }
 {
-    write!(text, "refused {}\n", refusal_name(why))
+    text.push_str("refused ")?;
+    text.push_str(refusal_name(why))?;
+    text.push('\n')
 }
 
 /// Appends the text of the fault of the line with this number, with its newline. Fails only if
 /// memory runs out.
 #[tactic(auto, unfolding(crate::specs::ScriptTexts::fault_bytes))]
 pub(crate) fn write_fault(text: &mut String, number: u64, why: LineFault) -> Result<(), AllocError>
-    ensures { OnOk result (string_bytes text.new ≡ string_bytes text.old ++ fault_bytes number why) }
+    ensures text { OnOk result (string_bytes text.new ≡ string_bytes text.old ++ fault_bytes number why) }
+    ensures front { KeepsFront (string_bytes text.old) (string_bytes text.new) }
 {
-    write!(text, "line {number} fault {}\n", fault_name(why))
+    write_number(text, "line ", number)?;
+    text.push_str(" fault ")?;
+    text.push_str(fault_name(why))?;
+    text.push('\n')
 }
 
 #[tactic(auto, unfolding(crate::specs::ScriptTexts::refusal_name))]

@@ -1,3 +1,4 @@
 -- The definitions that contracts cite.
+pub mod Fronts
 pub mod MetadataTexts
 pub mod Texts

@@ -1,5 +1,6 @@
 //! Numbers in a text.
 ghost use Rattle.std.specs.Prelude.{◌≡◌, ◌++◌, codes, decimal, OnOk, string_bytes};
+ghost use Rattle.ckpt_texts.specs.Fronts.{KeepsFront};
 
 use itoa::Buffer;
 use std::alloc::AllocError;
@@ -7,7 +8,8 @@ use std::alloc::AllocError;
 /// Appends the digits of the number, however many.
 #[inline(never)]
 fn write_any_digits(text: &mut String, number: u64) -> Result<(), AllocError>
-    ensures { OnOk result (string_bytes text.new ≡ string_bytes text.old ++ decimal number) }
+    ensures text { OnOk result (string_bytes text.new ≡ string_bytes text.old ++ decimal number) }
+    ensures front { KeepsFront (string_bytes text.old) (string_bytes text.new) }
 {
     text.push_str(Buffer::new().format(number))
 }
@@ -16,7 +18,8 @@ fn write_any_digits(text: &mut String, number: u64) -> Result<(), AllocError>
 #[tactic(auto, using(std::proofs::lemmas::Fmt::decimal_digit))]
 #[inline(always)]
 fn write_digits(text: &mut String, number: u64) -> Result<(), AllocError>
-    ensures { OnOk result (string_bytes text.new ≡ string_bytes text.old ++ decimal number) }
+    ensures text { OnOk result (string_bytes text.new ≡ string_bytes text.old ++ decimal number) }
+    ensures front { KeepsFront (string_bytes text.old) (string_bytes text.new) }
 {
     if number < 10 {
         return text.push(char::from(b'0' + number as u8));
@@ -26,23 +29,24 @@ fn write_digits(text: &mut String, number: u64) -> Result<(), AllocError>
 
 /// Appends the words and the digits of the number. The caller's words are constants, so inlining
 /// writes them directly instead of copying bytes.
+///
+/// Fails only if memory runs out, and then the text may have a part of them at its end.
 #[inline(always)]
-pub(crate) fn write_number(text: &mut String, words: &str, number: u64) -> Result<(), AllocError>
-    ensures { OnOk result (string_bytes text.new ≡ string_bytes text.old ++ (words.now ++ decimal number)) }
+pub fn write_number(text: &mut String, words: &str, number: u64) -> Result<(), AllocError>
+    ensures text { OnOk result (string_bytes text.new ≡ string_bytes text.old ++ (words.now ++ decimal number)) }
+    ensures front { KeepsFront (string_bytes text.old) (string_bytes text.new) }
 {
     text.push_str(words)?;
     write_digits(text, number)
 }
 
 /// Appends the words and both numbers, with a space between them.
-pub(crate) fn write_two(
-    text: &mut String,
-    words: &str,
-    first: u64,
-    second: u64,
-) -> Result<(), AllocError>
-    ensures { OnOk result (string_bytes text.new
+///
+/// Fails only if memory runs out, and then the text may have a part of them at its end.
+pub fn write_two(text: &mut String, words: &str, first: u64, second: u64) -> Result<(), AllocError>
+    ensures text { OnOk result (string_bytes text.new
         ≡ string_bytes text.old ++ (words.now ++ (decimal first ++ (codes " " ++ decimal second)))) }
+    ensures front { KeepsFront (string_bytes text.old) (string_bytes text.new) }
 {
     write_number(text, words, first)?;
     write_number(text, " ", second)

@@ -1,5 +1,6 @@
 //! The text of a refusal.
 ghost use Rattle.std.specs.Prelude.{◌≡◌, ◌++◌, codes, OnOk, string_bytes};
+ghost use Rattle.ckpt_texts.specs.Fronts.{KeepsFront};
 ghost use Rattle.ckpt_texts.specs.Texts.{refusal_bytes};
 
 use crate::numbers::write_number;
@@ -8,8 +9,9 @@ use std::alloc::AllocError;
 
 /// Appends `refused`, the name of the refusal, and its file if it has one.
 pub(crate) fn write_refusal(text: &mut String, refusal: Refusal) -> Result<(), AllocError>
-    ensures { OnOk result (string_bytes text.new
+    ensures text { OnOk result (string_bytes text.new
         ≡ string_bytes text.old ++ codes "refused " ++ refusal_bytes refusal) }
+    ensures front { KeepsFront (string_bytes text.old) (string_bytes text.new) }
 {
     text.push_str("refused ")?;
     write_name(text, refusal)
@@ -17,7 +19,8 @@ pub(crate) fn write_refusal(text: &mut String, refusal: Refusal) -> Result<(), A
 
 #[tactic(auto, unfolding(crate::specs::Texts::refusal_bytes))]
 fn write_name(text: &mut String, refusal: Refusal) -> Result<(), AllocError>
-    ensures { OnOk result (string_bytes text.new ≡ string_bytes text.old ++ refusal_bytes refusal) }
+    ensures text { OnOk result (string_bytes text.new ≡ string_bytes text.old ++ refusal_bytes refusal) }
+    ensures front { KeepsFront (string_bytes text.old) (string_bytes text.new) }
 {
     match refusal {
         Refusal::MomentTooLarge => text.push_str("MomentTooLarge"),

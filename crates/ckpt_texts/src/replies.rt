@@ -1,5 +1,6 @@
 //! The text of each reply.
 ghost use Rattle.std.specs.Prelude.{◌≡◌, ◌++◌, codes, flat_map, OnOk, string_bytes};
+ghost use Rattle.ckpt_texts.specs.Fronts.{KeepsFront};
 ghost use Rattle.ckpt_texts.specs.Texts.{spaced, tick_end_bytes, choice_bytes, taken_bytes, reply_bytes};
 
 use crate::metadata::metadata_text;
@@ -10,7 +11,8 @@ use std::alloc::{AllocError, Global};
 /// Appends the text of the reply, without a newline.
 #[tactic(auto, unfolding(crate::specs::Texts::reply_bytes))]
 pub(crate) fn write_reply(alloc: Global, text: &mut String, reply: &Reply) -> Result<(), AllocError>
-    ensures { OnOk result (string_bytes text.new ≡ string_bytes text.old ++ reply_bytes reply.now) }
+    ensures text { OnOk result (string_bytes text.new ≡ string_bytes text.old ++ reply_bytes reply.now) }
+    ensures front { KeepsFront (string_bytes text.old) (string_bytes text.new) }
 {
     match reply {
         Reply::Ticked { expired, end } => write_tick(text, *expired, *end),
@@ -22,7 +24,7 @@ pub(crate) fn write_reply(alloc: Global, text: &mut String, reply: &Reply) -> Re
         Reply::AckLate(handed_out) => write_number(text, "ack late ", *handed_out),
         Reply::DeclineAborted(released) => write_number(text, "decline aborted ", *released),
         Reply::DeclineFailed(released) => write_number(text, "decline failed ", *released),
-        Reply::DeclineLate => write!(text, "decline late"),
+        Reply::DeclineLate => text.push_str("decline late"),
         Reply::Disposed(released) => write_number(text, "disposed ", *released),
         Reply::Restored { from, released } => write_restored(text, *from, *released),
         Reply::Cancelled { dropped, released } => {
@@ -39,8 +41,9 @@ pub(crate) fn write_reply(alloc: Global, text: &mut String, reply: &Reply) -> Re
 /// Appends how many records expired in a tick, and how it ended.
 #[tactic(auto, unfolding(crate::specs::Texts::tick_end_bytes))]
 fn write_tick(text: &mut String, expired: u32, end: TickEnd) -> Result<(), AllocError>
-    ensures { OnOk result (string_bytes text.new ≡ string_bytes text.old
+    ensures text { OnOk result (string_bytes text.new ≡ string_bytes text.old
         ++ codes "tick expired" ++ spaced expired ++ codes " " ++ tick_end_bytes end) }
+    ensures front { KeepsFront (string_bytes text.old) (string_bytes text.new) }
 {
     match end {
         // Nearly all ticks of a long script are these.
@@ -56,8 +59,9 @@ fn write_tick(text: &mut String, expired: u32, end: TickEnd) -> Result<(), Alloc
 /// Appends a space and how a tick ended.
 #[tactic(auto, unfolding(crate::specs::Texts::tick_end_bytes))]
 fn write_end(text: &mut String, end: TickEnd) -> Result<(), AllocError>
-    ensures { OnOk result (string_bytes text.new
+    ensures text { OnOk result (string_bytes text.new
         ≡ string_bytes text.old ++ codes " " ++ tick_end_bytes end) }
+    ensures front { KeepsFront (string_bytes text.old) (string_bytes text.new) }
 {
     match end {
         TickEnd::Triggered(id) => write_number(text, " triggered ", id.0),
@@ -69,8 +73,9 @@ fn write_end(text: &mut String, end: TickEnd) -> Result<(), AllocError>
 }
 
 fn write_restored(text: &mut String, from: Choice, released: u64) -> Result<(), AllocError>
-    ensures { OnOk result (string_bytes text.new ≡ string_bytes text.old
+    ensures text { OnOk result (string_bytes text.new ≡ string_bytes text.old
         ++ codes "restored " ++ choice_bytes from ++ spaced released) }
+    ensures front { KeepsFront (string_bytes text.old) (string_bytes text.new) }
 {
     text.push_str("restored ")?;
     write_choice(text, from)?;
@@ -79,7 +84,8 @@ fn write_restored(text: &mut String, from: Choice, released: u64) -> Result<(), 
 
 #[tactic(auto, unfolding(crate::specs::Texts::choice_bytes))]
 fn write_choice(text: &mut String, choice: Choice) -> Result<(), AllocError>
-    ensures { OnOk result (string_bytes text.new ≡ string_bytes text.old ++ choice_bytes choice) }
+    ensures text { OnOk result (string_bytes text.new ≡ string_bytes text.old ++ choice_bytes choice) }
+    ensures front { KeepsFront (string_bytes text.old) (string_bytes text.new) }
 {
     match choice {
         Choice::Checkpoint(id) => write_number(text, "checkpoint ", id.0),
@@ -89,8 +95,9 @@ fn write_choice(text: &mut String, choice: Choice) -> Result<(), AllocError>
 }
 
 fn write_taken(text: &mut String, files: &Handed) -> Result<(), AllocError>
-    ensures { OnOk result (string_bytes text.new
+    ensures text { OnOk result (string_bytes text.new
         ≡ string_bytes text.old ++ codes "take" ++ taken_bytes files.now) }
+    ensures front { KeepsFront (string_bytes text.old) (string_bytes text.new) }
 {
     text.push_str("take")?;
     if files.is_empty() {
@@ -101,8 +108,9 @@ fn write_taken(text: &mut String, files: &Handed) -> Result<(), AllocError>
 
 /// Appends a space and the number of each file.
 fn write_files(text: &mut String, files: &Handed) -> Result<(), AllocError>
-    ensures { OnOk result (string_bytes text.new
+    ensures text { OnOk result (string_bytes text.new
         ≡ string_bytes text.old ++ flat_map spaced files.now) }
+    ensures front { KeepsFront (string_bytes text.old) (string_bytes text.new) }
 {
     for place in 0..files.len() {
         if let Some(file) = files.get(place) {

@@ -26,6 +26,12 @@ pub record IsShift (old : Hand) (told : List Exchange) (new : Hand) : Type 0 whe
   pub own : new.own ≡ old.own ++ calls_in told
   pub made : MadeAll old told new
 
+-- Calls were made with the pass, one after the other, and nothing else was done with it: it has its seat, and its own
+-- calls are those of before and then these.
+pub record CallsOn (old new : Hand) : Type 0 where
+  pub told : List Exchange
+  pub shift : IsShift old told new
+
 -- a call was made, or ran out of memory and left the pass as it was
 abbrev pub IsAsked : Hand → Call → Hand → Option Answer → Type 0
 IsAsked old call new None = new ≡ old

@@ -14,6 +14,14 @@ pub(crate) fn open(alloc: Global, parallelism: u64) -> Result<Book, Fail> {
     Ok(Book::new(alloc, config, shape, 0, 1)?)
 }
 
+/// A job of two subtasks that opens at 0 and takes a checkpoint each second, which expires after
+/// half a second.
+pub(crate) fn expiring(alloc: Global) -> Result<Book, Fail> {
+    let config = Config::new(1000, 0, 1, 500, 1, 1, false)?;
+    let shape = Shape::new(alloc, &[2])?;
+    Ok(Book::new(alloc, config, shape, 0, 1)?)
+}
+
 /// The acknowledgement of a subtask of vertex 0 with new files.
 pub(crate) fn ack(
     alloc: Global,

@@ -26,6 +26,11 @@ impl Forgetful {
             forgets,
         }
     }
+
+    /// How many calls it was asked for, those that it forgot too.
+    pub(crate) fn calls(&self) -> u64 {
+        self.calls.load(Ordering::SeqCst)
+    }
 }
 
 impl Gate for Forgetful {

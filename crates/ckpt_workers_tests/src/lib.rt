@@ -24,6 +24,10 @@ mod lock;
 #[cfg(test)]
 mod refused_memory;
 #[cfg(test)]
+mod rounds;
+#[cfg(test)]
 mod spreads;
+#[cfg(test)]
+mod teams;
 #[cfg(test)]
 mod workers;

@@ -1,9 +1,9 @@
 //! A round of the discarder with a refused allocation: nothing is lost, and the round is resumed.
-ghost use Rattle.std.specs.Prelude.{◌≡◌, IfOk};
+ghost use Rattle.std.specs.Prelude.{◌≡◌};
 
-use crate::books::{complete, open};
 use crate::deeds::{rest_of, round_of};
-use crate::desk::{Disk, two};
+use crate::desk::Disk;
+use crate::rounds::lock_with_three_files;
 use ckpt_ids::FileId;
 use ckpt_locked::{Locked, Pass};
 use ckpt_workers::Storage;
@@ -11,17 +11,6 @@ use std::alloc::Global;
 use std::process::Abort;
 use std::sync::Wait;
 use std::test::Fail;
-
-/// A lock over a job whose second checkpoint has released the files 1, 2 and 3 of the first one.
-fn lock_with_three_files<R: Wait>(rt: &R, alloc: Global) -> Result<(Locked, Pass), Fail>
-    ensures { IfOk result (λ made. made.1.lock ≡ made.0) }
-{
-    let mut book = open(alloc, 1)?;
-    complete(alloc, &mut book, 1000, 1, &[&[1, 2, 3]])?;
-    complete(alloc, &mut book, 2000, 2, &[&[4]])?;
-    let (lock, pass, _) = two(rt, book)?;
-    Ok((lock, pass))
-}
 
 /// A round of the discarder, which is resumed if it ran out of memory. Returns the number of files
 /// taken.

@@ -1,9 +1,9 @@
 //! Timers, tasks and discarders over one lock, and their counts.
-use crate::books::{ack, open, pending};
-use crate::deeds::{discards, tasks, ticks};
+use crate::books::{ack, expiring, open, pending};
+use crate::deeds::{discards, tasks, ticks, told};
 use crate::desk::{Disk, closed_with, order, three, two};
 use crate::gates::Forgetful;
-use ckpt_ids::{Call, FileId};
+use ckpt_ids::{Answer, Call, FileId, Reply, TickEnd};
 use ckpt_locked::Book;
 use ckpt_workers::BadOrder;
 use std::alloc::{AllocError, Global};
@@ -35,6 +35,45 @@ fn three_workers_share_a_lock(rt: HostRuntime) -> Result<(), Fail> {
     let discarder = discards(&rt, alloc, &lock, discarder, &mut disk, [1, 1, 0]);
     assert!(rt; disk.deleted.as_slice() == [FileId(11)].as_slice());
     discards(&rt, alloc, &lock, discarder, &mut disk, [0, 0, 0]);
+    Ok(())
+}
+
+/// Whether the answer is of a tick that triggers nothing, and by which one record expires.
+fn is_expiry(answer: &Answer) -> bool {
+    matches!(
+        answer,
+        Answer::Done(Reply::Ticked {
+            expired: 1,
+            end: TickEnd::HeldInterval
+        })
+    )
+}
+
+/// Whether the answer to a take has the files 11 and 12.
+fn has_both_files(answer: &Answer) -> bool {
+    match answer {
+        Answer::Done(Reply::Taken(files)) => files.as_slice()
+            == [FileId(11), FileId(12)].as_slice(),
+        _ => false,
+    }
+}
+
+/// The order of an expired checkpoint is late, and so is one that is repeated. Their files are
+/// handed out. One whose call runs out of memory has no answer.
+#[test]
+fn orders_of_an_expired_checkpoint_are_late(rt: HostRuntime) -> Result<(), Fail> {
+    let alloc = rt.alloc();
+    let (lock, timer, task) = two(&rt, expiring(alloc)?)?;
+    let timer = ticks(&rt, &lock, timer, &[1000], [1, 0, 0]);
+    let task = tasks(&rt, alloc, &lock, task, &[(1000, 1, 0, 11)], [1, 0, 0, 0])?;
+    let (timer, answer) = told(&rt, &lock, timer, Call::Tick { now: 1500 })?;
+    assert!(rt; is_expiry(&answer));
+    let rows = [(1500, 1, 0, 11), (1501, 1, 1, 12)];
+    let task = tasks(&rt, alloc, &lock, task, &rows, [0, 2, 0, 0])?;
+    let (_, answer) = told(&rt, &lock, timer, Call::Take { most: 9 })?;
+    assert!(rt; has_both_files(&answer));
+    let gate = Forgetful::new(lock, [0; 4]);
+    tasks(&rt, alloc, &gate, task, &[(1502, 1, 0, 13)], [0, 0, 0, 1])?;
     Ok(())
 }
 

@@ -3,7 +3,7 @@
 ghost use Rattle.std.specs.Prelude.{◌≡◌, ◌≢◌, Some, length};
 ghost use Rattle.ckpt_core.specs.State.{State};
 ghost use Rattle.ckpt_embed.specs.Calls.{HasNoNumbers, StaysAsItWas, StaysClosed};
-ghost use Rattle.ckpt_embed.specs.Images.{BringsImage, IsNotOpenedSaved, IsOpenedSaved, IsSaveTold};
+ghost use Rattle.ckpt_embed.specs.Images.{BringsImage, IsNotOpenedSaved, IsOpenedSaved, IsSaveTold, SavedWantsMemory};
 ghost use Rattle.ckpt_embed.specs.Opening.{StaysOpen};
 
 use ckpt_embed::{Answer, Handle};
@@ -36,6 +36,7 @@ pub extern "C" fn relkvanu_open_saved(
     ensures open { StaysOpen handle.old.value handle.new.value result }
     ensures opened { IsOpenedSaved handle.old.value handle.new.value image.now result }
     ensures refused { IsNotOpenedSaved handle.old.value handle.new.value image.now result }
+    ensures memory { SavedWantsMemory image.now result }
     ensures numbers { HasNoNumbers result }
     ensures unchanged { StaysAsItWas handle.old.value handle.new.value result }
 {

@@ -5,7 +5,7 @@ ghost use Rattle.ckpt_ids.specs.Records.{missing};
 ghost use Rattle.ckpt_core.specs.Coordinator.{IsSound, State, choice_of, pending_of};
 ghost use Rattle.ckpt_core.specs.Reads.{IsNextExpiry, NoneIsEarlyFrom, NoneTriggersBefore, live_of, next_due};
 ghost use Rattle.ckpt_embed.specs.Calls.{StaysClosed};
-ghost use Rattle.ckpt_embed.specs.Reads.{choice_told, counts_of, due_told, expiry_in, expiry_told, live_told, missing_told, mode_told, no_counts};
+ghost use Rattle.ckpt_embed.specs.Reads.{choice_told, counts_of, due_told, expiry_in, expiry_told, live_told, missing_told, mode_told, moment_told, no_counts};
 
 use ckpt_embed::{Answer, FileCounts, Handle};
 use std::alloc::Global;
@@ -19,6 +19,16 @@ pub extern "C" fn relkvanu_mode(alloc: Global, handle: &mut Handle) -> Answer
     ensures unchanged { handle.new.value ≡ handle.old.value }
 {
     ckpt_embed::mode(alloc, handle)
+}
+
+/// The greatest moment that the coordinator has seen.
+#[unsafe(no_mangle)]
+pub extern "C" fn relkvanu_moment(alloc: Global, handle: &mut Handle) -> Answer
+    ensures closed { StaysClosed handle.old.value handle.new.value result }
+    ensures answered { (m : State) → handle.old.value ≡ Some m → result ≡ moment_told m.latest }
+    ensures unchanged { handle.new.value ≡ handle.old.value }
+{
+    ckpt_embed::moment(alloc, handle)
 }
 
 /// The moment of the next tick.

@@ -1,12 +1,13 @@
 //! The exports of the reads for an engine that recovers.
 
-ghost use Rattle.std.specs.Prelude.{◌≡◌, ◌≢◌, Some, find, length, nat_le, option_map, slice_get};
+ghost use Rattle.std.specs.Prelude.{◌≡◌, ◌≢◌, IsSome, Some, find, length, nat_le, option_map, slice_get};
 ghost use Rattle.ckpt_ids.specs.Ascending.{ascending};
 ghost use Rattle.ckpt_core.specs.Coordinator.{State, pending_of};
 ghost use Rattle.ckpt_core.specs.Reads.{live_of, pins_in, standing};
 ghost use Rattle.ckpt_embed.specs.Calls.{HasNoNumbers, StaysClosed};
 ghost use Rattle.ckpt_embed.specs.Reads.{live_told};
 ghost use Rattle.ckpt_embed.specs.Recovery.{BringsList, IsListTold, acked_by, acked_told, files_acked, standing_told, waiting_told};
+ghost use Rattle.ckpt_embed.specs.Told.{no_memory};
 
 use ckpt_embed::{Answer, Handle};
 use ckpt_ids::SubtaskId;
@@ -63,6 +64,7 @@ pub extern "C" fn relkvanu_pins_of(
     ensures answered { (m : State) → handle.old.value ≡ Some m → IsListTold (pins_in (pending_of m.records id)) (length files.old) result }
     ensures front { (m : State) → handle.old.value ≡ Some m → BringsList (pins_in (pending_of m.records id)) files.old files.new result }
     ensures kept { result.code ≢ 0 → files.new ≡ files.old }
+    ensures memory { (m : State) → handle.old.value ≡ Some m → result.code ≡ no_memory → IsSome (pending_of m.records id) }
     ensures numbers { HasNoNumbers result }
     ensures unchanged { handle.new.value ≡ handle.old.value }
 {

@@ -13,9 +13,9 @@ use Rattle.ckpt_store.specs.Storing.{IsStored, Stored}
 use Rattle.ckpt_core.specs.declared.mode.Mode.TheVariants.{Running}
 use Rattle.ckpt_core.specs.declared.parts.Parts.{Parts}
 use Rattle.ckpt_core.specs.declared.image.Saved.{Saved}
-use Rattle.ckpt_core.specs.Images.{CanHold, record_in, state_in}
+use Rattle.ckpt_core.specs.Images.{CanHold, HasSoundNumbers, record_in, state_in}
 use Rattle.ckpt_core.specs.Inside.Grouped.{grouped, with_pins}
-use Rattle.ckpt_core.specs.Inside.Loading.{AreFilesApart, HasSoundNumbers, emptied, with_more_waiting}
+use Rattle.ckpt_core.specs.Inside.Loading.{AreFilesApart, emptied, with_more_waiting}
 use Rattle.ckpt_core.specs.Inside.Parts.{opening_of, records_in, state_of}
 use Rattle.ckpt_core.specs.Inside.SoundRecords.{AreSoundRecords, Joins}
 use Rattle.ckpt_core.specs.Refusals.{is_done_savepoint}
@@ -121,9 +121,10 @@ no_records_sound o next = record {
 
 -- when it can be held
 
-pub can_hold_from : (m : State) → HasSoundNumbers m → IsWithinLimits m.opening.config → IsShape m.shape → AreSoundRecords m.opening m.next m.records → ((id : ℕ) → m.base ≡ Some id → is_done_savepoint m id ≡ true)
+pub can_hold_from : (m : State) → HasSoundNumbers m → IsWithinLimits m.opening.config → IsShape m.opening.shape → IsShape m.shape → AreSoundRecords m.opening m.next m.records → ((id : ℕ) → m.base ≡ Some id → is_done_savepoint m id ≡ true)
     → (m.mode ≢ Running → (r : Record) → IsIn r m.records → r.done ≡ true) → AreFilesApart (uses m.records) (m.waiting ++ m.taken) → CanHold m
-can_hold_from m n config shape records base idle files = record {
+can_hold_from m n config first_shape shape records base idle files = record {
+  can_open = record { config = config; shape = first_shape; start = n.start; first_from = n.first; first_to = n.first_to };
   sound = sound_from m
       (record { config = config; shape = shape; latest = n.moments.latest_to; first = n.first; next_from = n.next_from; next_to = n.next_to; base = base; idle = idle; failures = n.failures })
       records (record { unused = files.unused; apart = files.apart });

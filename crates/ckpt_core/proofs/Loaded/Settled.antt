@@ -1,4 +1,4 @@
--- A state that a coordinator can be in is one too with the fetched files in ascending order.
+-- A state that an image may have is one too with the fetched files in ascending order.
 use Rattle.std.proofs.Common.{ℕ, ltb, List, ap, ⊎_elim, arith}
 use Rattle.ckpt_ids.specs.Ascending.{ascending}
 use Rattle.ckpt_ids.specs.Ordered.{IsIn, AreDistinct}
@@ -19,6 +19,7 @@ settled_can_hold m h =
     let taken : List ℕ = ascending m.taken in
     let was : (f : ℕ) → IsIn f taken → IsIn f m.taken = λ f k. IsIn-from_in_order ltb f m.taken k in
     record {
+      can_open = h.can_open;
       sound = outbox_is_sound m m.waiting taken h.sound (record {
         unused = λ f k. o.unused f (⊎_elim (λ (i : IsIn f m.waiting). IsIn-append_left f m.waiting m.taken i) (λ (i : IsIn f taken). IsIn-append_right f m.waiting m.taken (was f i)) (IsIn-append_cases f m.waiting taken k));
         apart = AreDistinct-append m.waiting taken (AreDistinct-left m.waiting m.taken o.apart) (distinct_ascending m.taken (AreDistinct-right m.waiting m.taken o.apart)) (λ f i j. AreDistinct-apart m.waiting m.taken o.apart f i (was f j));

@@ -1,7 +1,7 @@
 -- What the look-ups of a number among the pending records and in the store find.
 use Rattle.std.proofs.Common.{◌≡◌, ℕ, Bool, true, false, ◌&&◌, cond, eqb, refl, sym, ap, ◌∙◌, Option, Some, None}
 use Rattle.std.specs.Borrow.{Bor}
-use Rattle.std.specs.Prelude.{find, is_some}
+use Rattle.std.specs.Prelude.{find, is_some, IsSome}
 use Rattle.std.specs.Option.{option_copied, option_map}
 use Rattle.std.proofs.lemmas.Bool.{and_parts, eqb-true}
 use Rattle.ckpt_ids.specs.Ordered.{IsIn, IsInOrder}
@@ -63,3 +63,7 @@ pins_found p id (Some b) e h =
     let same : r.id ≡ id = eqb-true r.id id (and_parts (is_pending r) (eqb r.id id) k.1).1 in
     sym (ap pins_in e ∙ ap (λ (n : ℕ). pins_by n p.registry) same)
 pins_found p id None e h = absurd (cc)
+
+pub is_pending_there : (p : Parts) (id : ℕ) (o : Option (Bor Record)) → pending_of (records_in p) id ≡ option_map (with_pins p.registry) (option_copied o) → is_some o ≡ true → IsSome (pending_of (records_in p) id)
+is_pending_there p id (Some b) e h = ap is_some e
+is_pending_there p id None e h = absurd (cc)

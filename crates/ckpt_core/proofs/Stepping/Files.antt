@@ -11,7 +11,7 @@ use Rattle.ckpt_ids.specs.declared.reply.Answer.TheVariants.{Refused}
 use Rattle.ckpt_ids.specs.Counting.{one_if, times}
 use Rattle.ckpt_ids.specs.Ordered.{IsIn}
 use Rattle.ckpt_ids.specs.Records.{uses, is_present}
-use Rattle.ckpt_ids.proofs.OrderedLemmas.{IsIn-append_left, IsIn-append_right, IsIn-append_cases, IsIn-filter, IsIn-from_list_any}
+use Rattle.ckpt_ids.proofs.OrderedLemmas.{IsIn-append_left, IsIn-append_right, IsIn-append_cases, IsIn-filter, IsIn-from_filter, IsIn-from_list_any}
 use Rattle.std.specs.List.{list_any}
 use Rattle.ckpt_core.specs.State.{State, is_known}
 use Rattle.ckpt_core.specs.Steps.{without}
@@ -42,6 +42,9 @@ pub record IsSettled (m n : State) (registered handed deleted : List ℕ) : Type
   pub even : (f : ℕ) → times f registered + one_if (is_present (uses m.records) f) ≡ times f handed + one_if (is_present (uses n.records) f)
   -- a file of the outbox stays there, or is deleted
   pub stays : (f : ℕ) → IsIn f (m.waiting ++ m.taken) → IsIn f (n.waiting ++ n.taken) ⊎ IsIn f deleted
+  -- one that is there after was there before, or is handed out, and one that is deleted was there before
+  pub comes : (f : ℕ) → IsIn f (n.waiting ++ n.taken) → IsIn f (m.waiting ++ m.taken) ⊎ IsIn f handed
+  pub were : (f : ℕ) → IsIn f deleted → IsIn f (m.waiting ++ m.taken)
   -- one that is handed out is there after, and one that is deleted is not present
   pub out : (f : ℕ) → IsIn f handed → IsIn f (n.waiting ++ n.taken)
   pub gone : (f : ℕ) → IsIn f deleted → is_present (uses n.records) f ≡ false
@@ -57,18 +60,27 @@ spread_settled {m} {n} {in_} i =
     record {
       even = λ f. (i.even).even f ∙ ap (λ xs. times f xs + one_if (is_present (uses n.records) f)) (sym handed);
       stays = λ f h. inl (there f (⊎_elim (λ (k : IsIn f m.waiting). inl (IsIn-append_left f m.waiting i.out k)) (λ (k : IsIn f m.taken). inr k) (IsIn-append_cases f m.waiting m.taken h)));
+      comes = λ f h.
+          let Front : List ℕ → Type 0 = λ xs. IsIn f (xs ++ n.taken) in
+          ⊎_elim
+          (λ (k : IsIn f (m.waiting ++ i.out)). ⊎_elim (λ (j : IsIn f m.waiting). inl (IsIn-append_left f m.waiting m.taken j)) (λ (j : IsIn f i.out). inr (subst (In f) (sym handed) j)) (IsIn-append_cases f m.waiting i.out k))
+          (λ (k : IsIn f m.taken). inl (IsIn-append_right f m.waiting m.taken k))
+          (IsIn-append_cases f (m.waiting ++ i.out) m.taken (subst (Behind f) i.fetched (subst Front i.waits h)));
+      were = λ f h. absurd h;
       out = λ f h. there f (inl (IsIn-append_right f m.waiting i.out (subst (In f) handed h)));
       gone = λ f h. absurd h;
     }
 
 -- of one that changes the outbox alone, and puts no file at the end of waiting
-inward_settled : (m : State) (waiting taken deleted : List ℕ) → length waiting ≤ length m.waiting → ((f : ℕ) → IsIn f (m.waiting ++ m.taken) → IsIn f (waiting ++ taken) ⊎ IsIn f deleted) → ((f : ℕ) → IsIn f deleted → is_present (uses m.records) f ≡ false) → IsSettled m (record m { waiting = waiting; taken = taken }) [] (drop (length m.waiting) waiting) deleted
-inward_settled m waiting taken deleted shorter stays gone =
+inward_settled : (m : State) (waiting taken deleted : List ℕ) → length waiting ≤ length m.waiting → ((f : ℕ) → IsIn f (m.waiting ++ m.taken) → IsIn f (waiting ++ taken) ⊎ IsIn f deleted) → ((f : ℕ) → IsIn f (waiting ++ taken) ⊎ IsIn f deleted → IsIn f (m.waiting ++ m.taken)) → ((f : ℕ) → IsIn f deleted → is_present (uses m.records) f ≡ false) → IsSettled m (record m { waiting = waiting; taken = taken }) [] (drop (length m.waiting) waiting) deleted
+inward_settled m waiting taken deleted shorter stays before gone =
     let none : drop (length m.waiting) waiting ≡ [] = drop_all (length m.waiting) waiting shorter in
     let In : ℕ → List ℕ → Type 0 = λ f xs. IsIn f xs in
     record {
       even = λ f. ap (λ xs. times f xs + one_if (is_present (uses m.records) f)) (sym none);
       stays = stays;
+      comes = λ f h. inl (before f (inl h));
+      were = λ f h. before f (inr h);
       out = λ f h. absurd (subst (In f) none h);
       gone = gone;
     }
@@ -82,7 +94,14 @@ take_settled m most =
     inward_settled m rest (m.taken ++ front) [] (omega (arith, length-drop most m.waiting)) (λ f h. inl (⊎_elim
     (λ (k : IsIn f m.waiting). ⊎_elim (λ (i : IsIn f front). IsIn-append_right f rest (m.taken ++ front) (IsIn-append_right f m.taken front i)) (λ (i : IsIn f rest). IsIn-append_left f rest (m.taken ++ front) i) (IsIn-append_cases f front rest (subst (In f) (sym (take-append-drop most m.waiting)) k)))
     (λ (k : IsIn f m.taken). IsIn-append_right f rest (m.taken ++ front) (IsIn-append_left f m.taken front k))
-    (IsIn-append_cases f m.waiting m.taken h))) (λ f h. absurd h)
+    (IsIn-append_cases f m.waiting m.taken h)))
+    (λ f h.
+    let waited : IsIn f (front ++ rest) → IsIn f (m.waiting ++ m.taken) = λ (k : IsIn f (front ++ rest)). IsIn-append_left f m.waiting m.taken (subst (In f) (take-append-drop most m.waiting) k) in
+    ⊎_elim
+    (λ (k : IsIn f (rest ++ (m.taken ++ front))). ⊎_elim (λ (i : IsIn f rest). waited (IsIn-append_right f front rest i)) (λ (i : IsIn f (m.taken ++ front)). ⊎_elim (λ (j : IsIn f m.taken). IsIn-append_right f m.waiting m.taken j) (λ (j : IsIn f front). waited (IsIn-append_left f front rest j)) (IsIn-append_cases f m.taken front i)) (IsIn-append_cases f rest (m.taken ++ front) k))
+    (λ (k : ⊥). absurd k)
+    h)
+    (λ f h. absurd h)
 
 -- a taken file is the one reported, or stays
 reported_or_taken : (f file : ℕ) (taken : List ℕ) → IsIn f taken → (f ≡ file) ⊎ IsIn f (without file taken)
@@ -94,18 +113,32 @@ pub deleted_settled : (m : State) (file : ℕ) → IsSound m → list_any (λ f.
 deleted_settled m file s there =
     let q = IsIn-from_list_any (λ g. eqb g file) m.taken there in
     let InTaken : ℕ → Type 0 = λ g. IsIn g m.taken in
+    let was_taken : (f : ℕ) → IsIn f (file ∷ []) → IsIn f m.taken = λ f h. subst InTaken (eqb-true q.0 file q.2 ∙ sym (⊎_elim (λ (e : f ≡ file). e) (λ (n : ⊥). absurd n) h)) q.1 in
     inward_settled m m.waiting (without file m.taken) (file ∷ []) (omega arith)
     (λ f h. ⊎_elim (λ (k : IsIn f m.waiting). inl (IsIn-append_left f m.waiting (without file m.taken) k)) (λ (k : IsIn f m.taken). ⊎_elim (λ (e : f ≡ file). inr (inl e)) (λ (i : IsIn f (without file m.taken)). inl (IsIn-append_right f m.waiting (without file m.taken) i)) (reported_or_taken f file m.taken k)) (IsIn-append_cases f m.waiting m.taken h))
-    (λ f h. let same : f ≡ file = ⊎_elim (λ (e : f ≡ file). e) (λ (n : ⊥). absurd n) h in (outbox_of s).unused f (IsIn-append_right f m.waiting m.taken (subst InTaken (eqb-true q.0 file q.2 ∙ sym same) q.1)))
+    (λ f h.
+    ⊎_elim
+    (λ (k : IsIn f (m.waiting ++ without file m.taken)). ⊎_elim (λ (i : IsIn f m.waiting). IsIn-append_left f m.waiting m.taken i) (λ (i : IsIn f (without file m.taken)). IsIn-append_right f m.waiting m.taken (IsIn-from_filter (λ g. not (eqb g file)) f m.taken i).0) (IsIn-append_cases f m.waiting (without file m.taken) k))
+    (λ (k : IsIn f (file ∷ [])). IsIn-append_right f m.waiting m.taken (was_taken f k))
+    h)
+    (λ f h. (outbox_of s).unused f (IsIn-append_right f m.waiting m.taken (was_taken f h)))
 
 -- of an Undeleted
-pub undeleted_settled : (m : State) (file : ℕ) → IsSettled m (record m { taken = without file m.taken; waiting = m.waiting ++ file ∷ [] }) [] [] []
-undeleted_settled m file =
+pub undeleted_settled : (m : State) (file : ℕ) → list_any (λ f. eqb f file) m.taken ≡ true → IsSettled m (record m { taken = without file m.taken; waiting = m.waiting ++ file ∷ [] }) [] [] []
+undeleted_settled m file there =
+    let q = IsIn-from_list_any (λ g. eqb g file) m.taken there in
+    let InTaken : ℕ → Type 0 = λ g. IsIn g m.taken in
     let front : List ℕ = m.waiting ++ file ∷ [] in
     let left : List ℕ = without file m.taken in
     record {
       even = λ f. refl;
       stays = λ f h. inl (⊎_elim (λ (k : IsIn f m.waiting). IsIn-append_left f front left (IsIn-append_left f m.waiting (file ∷ []) k)) (λ (k : IsIn f m.taken). ⊎_elim (λ (e : f ≡ file). IsIn-append_left f front left (IsIn-append_right f m.waiting (file ∷ []) (inl e))) (λ (i : IsIn f left). IsIn-append_right f front left i) (reported_or_taken f file m.taken k)) (IsIn-append_cases f m.waiting m.taken h));
+      comes = λ f h.
+          ⊎_elim
+          (λ (k : IsIn f (m.waiting ++ file ∷ [])). ⊎_elim (λ (i : IsIn f m.waiting). inl (IsIn-append_left f m.waiting m.taken i)) (⊎_elim (λ (e : f ≡ file). inl (IsIn-append_right f m.waiting m.taken (subst InTaken (eqb-true q.0 file q.2 ∙ sym e) q.1))) (λ (n : ⊥). absurd n)) (IsIn-append_cases f m.waiting (file ∷ []) k))
+          (λ (k : IsIn f left). inl (IsIn-append_right f m.waiting m.taken (IsIn-from_filter (λ g. not (eqb g file)) f m.taken k).0))
+          (IsIn-append_cases f front left h);
+      were = λ f h. absurd h;
       out = λ f h. absurd h;
       gone = λ f h. absurd h;
     }

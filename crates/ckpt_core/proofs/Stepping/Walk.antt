@@ -236,7 +236,7 @@ effect_is m (Restore now target shape) e = plain_step _ (plain_at (λ s. moment_
 effect_is m (Cancel now) e = plain_step _ (plain_at (λ s. moment_is_sound m now s (accepted_cancel m now e)) (cancel_is (record m { latest = max now m.latest }) (Cancel now))) (λ i. i) refl refl refl
 effect_is m (Take most) e = outbox_step m (Take most) (prelude.drop most m.waiting) (m.taken ++ take most m.waiting) (Done (reply.Taken (take most m.waiting))) refl (unmoved m None) (take_is_sound m most) (λ _. take_settled m most)
 effect_is m (Deleted file) e = outbox_step m (Deleted file) m.waiting (without file m.taken) (Done (reply.Deleted file)) refl (unmoved m None) (deleted_is_sound m file) (λ s. deleted_settled m file s (accepted_deleted m file e))
-effect_is m (Undeleted file) e = outbox_step m (Undeleted file) (m.waiting ++ file ∷ []) (without file m.taken) (Done (reply.Undeleted file)) refl (unmoved m None) (λ s. undeleted_is_sound m file s (accepted_undeleted m file e)) (λ _. undeleted_settled m file)
+effect_is m (Undeleted file) e = outbox_step m (Undeleted file) (m.waiting ++ file ∷ []) (without file m.taken) (Done (reply.Undeleted file)) refl (unmoved m None) (λ s. undeleted_is_sound m file s (accepted_undeleted m file e)) (λ _. undeleted_settled m file (accepted_undeleted m file e))
 effect_is m (Show id) e = show_is m id (record_of m id)
 effect_is m (Count file) e = plain_step _ (unchanged m (Count file)) (λ i. i) refl refl refl
 

@@ -1,20 +1,18 @@
 -- What is made from an image, record by record.
-use Rattle.std.specs.Prelude.{◌≡◌, ℕ, ◌≤◌, ◌-◌, true, false, List, [], ◌++◌, length, Option, Some, None}
+use Rattle.std.specs.Prelude.{◌≡◌, ℕ, ◌-◌, true, false, List, [], ◌++◌, length, Option, Some, None}
 use Rattle.std.specs.List.{flat_map}
 use Rattle.ckpt_ids.specs.declared.ack.Acked.{Acked}
-use Rattle.ckpt_ids.specs.declared.limits.TheConstants.{NUMBERS_END}
 use Rattle.ckpt_ids.specs.Ordered.{AreDistinct, IsIn}
 use Rattle.ckpt_ids.specs.Records.{Record, Use, Subtask, Pin, is_present}
 use Rattle.ckpt_ids.specs.Shapes.{is_subtask}
 use Rattle.ckpt_pending.specs.Acknowledging.{pending_record}
 use Rattle.ckpt_registry.specs.Uses.{triples}
-use Rattle.ckpt_rules.specs.Moments.{IsInRange}
 use Rattle.ckpt_core.specs.declared.image.Saved.{Saved}
-use Rattle.ckpt_core.specs.declared.mode.Mode.TheVariants.{Running}
 use Rattle.ckpt_core.specs.declared.parts.Parts.{Parts}
 use Rattle.ckpt_core.specs.Inside.Parts.{opening_of, records_in}
-use Rattle.ckpt_core.specs.Inside.SoundRecords.{AreSoundRecords, Joins}
+use Rattle.ckpt_core.specs.Inside.SoundRecords.{AreSoundRecords, Joins, NamesEachOnce}
 use Rattle.ckpt_core.specs.Refusals.{is_done_savepoint}
+use Rattle.ckpt_core.specs.Soundness.{IsRecord}
 use Rattle.ckpt_core.specs.State.{State}
 
 -- the uses by these acknowledgements of a record
@@ -28,18 +26,6 @@ uses_held id acks pins = uses_of_acks id acks ++ triples id Pin pins
 -- the pending record that has the acknowledgements of a saved one
 abbrev pub IsMade : Record → Saved → Type 0
 IsMade r s = r ≡ pending_record s.metadata.id s.metadata.kind s.metadata.shape s.metadata.started s.metadata.acks
-
--- the clock has room for the moments
-abbrev pub HasSoundMoments : State → Type 0
-HasSoundMoments m = IsInRange (record { latest = m.latest; due = m.due; completed = m.completed })
-
--- what is tested of a state beside its records, its base and its files
-pub record HasSoundNumbers (m : State) : Type 0 where
-  pub moments : HasSoundMoments m
-  pub first : 1 ≤ m.opening.first
-  pub next_from : m.opening.first ≤ m.next
-  pub next_to : m.next ≤ NUMBERS_END
-  pub failures : m.mode ≡ Running → m.failures ≤ m.opening.config.tolerable
 
 -- the state without these
 abbrev pub emptied : State → State
@@ -69,6 +55,11 @@ MayWait p files = AreFilesApart p.registry ((p.outbox.waiting ++ files) ++ p.out
 -- the records of the parts are sound as a list
 abbrev pub HaveSoundRecords : Parts → Type 0
 HaveSoundRecords p = AreSoundRecords (opening_of p.opened) p.next (records_in p)
+
+-- what is tested of a record before memory is taken for it
+pub record MayJoinParts (p : Parts) (r : Record) : Type 0 where
+  pub place : IsRecord r → Joins (opening_of p.opened) p.next (records_in p) r
+  pub once : NamesEachOnce r
 
 -- a record may follow those of the parts
 abbrev pub JoinsParts : Parts → Record → Type 0

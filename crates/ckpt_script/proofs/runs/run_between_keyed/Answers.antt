@@ -22,7 +22,7 @@ returns-in_err-flush-in-Ok-clause-ran g c =
     from_err c.from_residual-in_err-flush-in-Ok.result c.in_err-flush-in-Ok.field-0.0
     (Ran (g.S.Source.remaining c.args.source.now) (g.S.Source.remaining c.obey_all.new.source) (g.K.Sink.contents c.args.sink.now) (g.K.Sink.contents c.flush.new.sink)) c.from_residual-in_err-flush-in-Ok.ensures.1
     (subst (λ (why : RunFault). Ran (g.S.Source.remaining c.args.source.now) (g.S.Source.remaining c.obey_all.new.source) (g.K.Sink.contents c.args.sink.now) (g.K.Sink.contents c.flush.new.sink) (Err why)) (sym c.in_err-flush-in-Ok.ensures.err.0)
-    (ran_short (g.S.Source.remaining c.args.source.now) (g.S.Source.remaining c.obey_all.new.source) (g.K.Sink.contents c.args.sink.now) (g.K.Sink.contents c.obey_all.new.sink) (g.K.Sink.contents c.flush.new.sink) c.obey_all.new.self.ahead.bytes c.obey_all.new.self.ahead.is_ended c.obey_all.new.self.summary c.obey_all.new.self.session c.obey_all.new.self.printed
+    (ran_short (g.S.Source.remaining c.args.source.now) (g.S.Source.remaining c.obey_all.new.source) (g.K.Sink.contents c.args.sink.now) (g.K.Sink.contents c.obey_all.new.sink) (g.K.Sink.contents c.flush.new.sink) c.obey_all.new.self.ahead.bytes c.obey_all.new.self.ahead.is_ended c.obey_all.new.self.summary c.obey_all.new.self.session.scene c.obey_all.new.self.printed.bytes
     so_far c.in-Ok.ensures.end.0 c.in-Ok.ensures.end.1 c.in_err-flush-in-Ok.ensures.err.1))
 
 pub returns-in-Ok-clause-ran : goal.returns-in-Ok-clause-ran
@@ -30,7 +30,7 @@ returns-in-Ok-clause-ran g c =
     let made = c.in_ok-runner.ensures in
     let so_far = c.in-Ok.ensures.so_far (g.S.Source.remaining c.args.source.now) (g.K.Sink.contents c.args.sink.now)
     (so_far_first (g.S.Source.remaining c.args.source.now) (g.K.Sink.contents c.args.sink.now) _ _ _ _ _ (ap (λ (u : Unread). u.bytes) made.ahead) (ap (λ (u : Unread). u.is_ended) made.ahead) made.summary made.scene made.printed) in
-    ran_all (g.S.Source.remaining c.args.source.now) (g.S.Source.remaining c.obey_all.new.source) (g.K.Sink.contents c.args.sink.now) (g.K.Sink.contents c.obey_all.new.sink) (g.K.Sink.contents c.flush.new.sink) c.obey_all.new.self.ahead.bytes c.obey_all.new.self.ahead.is_ended c.obey_all.new.self.summary c.obey_all.new.self.session c.obey_all.new.self.printed
+    ran_all (g.S.Source.remaining c.args.source.now) (g.S.Source.remaining c.obey_all.new.source) (g.K.Sink.contents c.args.sink.now) (g.K.Sink.contents c.obey_all.new.sink) (g.K.Sink.contents c.flush.new.sink) c.obey_all.new.self.ahead.bytes c.obey_all.new.self.ahead.is_ended c.obey_all.new.self.summary c.obey_all.new.self.session.scene c.obey_all.new.self.printed.bytes
     so_far c.in-Ok.ensures.end.0 c.in-Ok.ensures.end.1 c.in_ok-flush-in-Ok.ensures.ok.1
 
 pub returns-clause-ran : goal.returns-clause-ran

@@ -5,6 +5,7 @@ use Rattle.ckpt_locked.specs.declared.limits.TheConstants.{MOST_SEATS}
 use Rattle.ckpt_locked.specs.Books.{state_of_book}
 use Rattle.ckpt_session.specs.AllLines.{shown_pending}
 use Rattle.ckpt_session.proofs.BookLemmas.{state_of_book-entered, answer_to-step}
+use Rattle.ckpt_session.proofs.SeatingLemmas.{asks_once}
 use Rattle.ckpt_session.proofs.ShownLemmas.{shown_state, shown_is}
 use Rattle.ckpt_session.proofs.all.pending_metadata.Goals as goal
 
@@ -16,3 +17,6 @@ pub returns-in-Ok-clause-value : goal.returns-in-Ok-clause-value
 returns-in-Ok-clause-value c =
     c.pending.ensures ∙ ap shown_pending (c.in-Ok.ensures.answer ∙ answer_to-step c.args.book.now (Show c.args.id))
     ∙ shown_is (state_of_book c.args.book.now) c.args.id c.recall_sound.ensures
+
+pub returns-in-Ok-clause-entered : goal.returns-in-Ok-clause-entered
+returns-in-Ok-clause-entered c = asks_once c.args.book.now c.apply.new.self c.args.id c.in-Ok.ensures.entered

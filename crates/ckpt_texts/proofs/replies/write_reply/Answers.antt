@@ -2,14 +2,10 @@
 use Rattle.ckpt_texts.specs.Texts.{reply_bytes}
 use Rattle.ckpt_texts.proofs.replies.write_reply.Goals as goal
 
-pub returns-in-AckCompleted : goal.returns-in-AckCompleted
+pub returns-in-AckCompleted-clause-text : goal.returns-in-AckCompleted-clause-text
 unfolding reply_bytes
-returns-in-AckCompleted c = rw c.in-AckCompleted.is c.write_two.ensures
+returns-in-AckCompleted-clause-text c = rw c.in-AckCompleted.is c.write_two.ensures.text
 
-pub returns-in-DeclineAborted : goal.returns-in-DeclineAborted
+pub returns-in-DeclineAborted-clause-text : goal.returns-in-DeclineAborted-clause-text
 unfolding reply_bytes
-returns-in-DeclineAborted c = rw c.in-DeclineAborted.is c.write_number-in-DeclineAborted.ensures
-
-pub returns-in-DeclineLate : goal.returns-in-DeclineLate
-unfolding reply_bytes
-returns-in-DeclineLate c = rw c.in-DeclineLate.is c.write.ensures.bytes
+returns-in-DeclineAborted-clause-text c = rw c.in-DeclineAborted.is c.write_number-in-DeclineAborted.ensures.text

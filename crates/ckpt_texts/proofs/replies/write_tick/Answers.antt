@@ -11,13 +11,13 @@ joined before n end = simp append_assoc
 none : decimal 0 ≡ codes "0"
 none = decimal_digit 0 (omega arith)
 
-pub returns-in-HeldInterval : goal.returns-in-HeldInterval
+pub returns-in-HeldInterval-clause-text : goal.returns-in-HeldInterval-clause-text
 unfolding tick_end_bytes
-returns-in-HeldInterval c = rw (c.in-HeldInterval.is, c.if-expired-eq0.true, none) (search (append_assoc, rules))
+returns-in-HeldInterval-clause-text c = rw (c.in-HeldInterval.is, c.if-expired-eq0.true, none) (search (append_assoc, rules))
 
-pub returns-in_ok-write_number-in_default : goal.returns-in_ok-write_number-in_default
-returns-in_ok-write_number-in_default c = rw (joined _ c.args.expired (tick_end_bytes c.args.end), ← c.in_ok-write_number-in_default.ensures) c.write_end.ensures
+pub returns-in_ok-write_number-in_default-clause-text : goal.returns-in_ok-write_number-in_default-clause-text
+returns-in_ok-write_number-in_default-clause-text c = rw (joined _ c.args.expired (tick_end_bytes c.args.end), ← c.in_ok-write_number-in_default.ensures.text) c.write_end.ensures.text
 
-pub returns-in-HeldAtOnce : goal.returns-in-HeldAtOnce
+pub returns-in-HeldAtOnce-clause-text : goal.returns-in-HeldAtOnce-clause-text
 unfolding tick_end_bytes
-returns-in-HeldAtOnce c = rw (c.in-HeldAtOnce.is, c.if-expired-eq0-2.true, none) (search (append_assoc, rules))
+returns-in-HeldAtOnce-clause-text c = rw (c.in-HeldAtOnce.is, c.if-expired-eq0-2.true, none) (search (append_assoc, rules))

@@ -29,5 +29,5 @@ pub returns-clause-good : goal.returns-clause-good
 unfolding state_of
 returns-clause-good c =
     let m : State = state_of c.args.self.now in
-    let can : CanHold m = record { sound = c.requires.sound; clock = c.latest.ensures.moments } in
+    let can : CanHold m = record { can_open = record { config = c.requires.sound.config; shape = c.recall.ensures; start = c.args.self.now.opened.start_to; first_from = c.requires.sound.first; first_to = c.args.self.now.opened.first_to }; sound = c.requires.sound; clock = c.latest.ensures.moments } in
     subst CanHold (sym (returns-clause-value c)) (settled_can_hold m can)

@@ -44,6 +44,10 @@ returns-in_ok-load_pending-in-Err-clause-state c =
     let same : record c.in-Err.pending { pins = s.pins } ≡ record_in s = pending_same s c.in-Err.pending (c.in-Err.ensures.pending ∙ c.requires.made) c.if-saved.false in
     state_pending c.args.self.now c.load_pending.new.self (rs ++ record_in s ∷ []) c.in_ok-load_pending-in-Err.ensures.rest (c.in_ok-load_pending-in-Err.ensures.records ∙ ap (λ x. rs ++ x ∷ []) same)
 
+pub returns-in_err-load_pending-in-Err-clause-memory : goal.returns-in_err-load_pending-in-Err-clause-memory
+returns-in_err-load_pending-in-Err-clause-memory c = λ e.
+    c.requires.place (pending_is_record c.args.saved.now c.args.pending c.requires.made c.recall_pending.ensures (c.in-Err.ensures.missing.0 refl) c.requires.once c.if-saved.false)
+
 pub returns-in_ok-load_pending-in-Err-clause-joins : goal.returns-in_ok-load_pending-in-Err-clause-joins
 returns-in_ok-load_pending-in-Err-clause-joins c =
     c.requires.place (pending_is_record c.args.saved.now c.args.pending c.requires.made c.recall_pending.ensures (c.in-Err.ensures.missing.0 refl) c.requires.once c.if-saved.false)

@@ -65,7 +65,7 @@ held c =
     let m : State = state_in c.args.image.now in
     let t : IsTold c.load_base.new.self (record m { waiting = []; taken = [] }) = told c.load_base.new.self _ (based c) in
     let loaded = state_with_records c.args.image.now c.in_ok-parts.parts c.load_all.new.self c.deref.result.now c.in_ok-parts.ensures.state c.deref.ensures.value c.in_ok-load_all.ensures.state in
-    can_hold_from m (c.has_sound_numbers.ensures.yes c.if-not-has_sound_numbers.false) c.recall_limits.ensures c.recall.ensures
+    can_hold_from m (c.has_sound_numbers.ensures.yes c.if-not-has_sound_numbers.false) c.recall_limits.ensures c.recall.ensures c.recall-2.ensures
     (records_loaded m c.in_ok-parts.parts (map record_in c.deref.result.now) c.in_ok-parts.ensures.state (ap (map record_in) c.deref.ensures.value) c.in_ok-load_all.ensures.sound)
     (λ id e. let P : State → Type 0 = λ s. is_done_savepoint s id ≡ true in subst P loaded (c.in_ok-load_base.ensures.there id e))
     (idle_loaded m c.load_base.new.self t (c.is_idle.ensures.yes c.if-not-is_idle.false))

@@ -2,8 +2,12 @@
 use Rattle.std.proofs.Common.{◌∙◌, ap}
 use Rattle.std.specs.Prelude.{not}
 use Rattle.std.proofs.lemmas.Result.{IfOk-weaker}
-use Rattle.ckpt_core.proofs.Reading.Numbers.{pins_found}
+use Rattle.ckpt_ids.proofs.ResultLemmas.{on_each_error}
+use Rattle.ckpt_core.proofs.Reading.Numbers.{is_pending_there, pins_found}
 use Rattle.ckpt_core.proofs.parts.Parts.pins_of_pending.Goals as goal
 
-pub returns : goal.returns
-returns c = IfOk-weaker c.pins.result _ _ (λ files is. is ∙ pins_found c.args.self.now c.args.id c.pending_record.result c.pending_record.ensures (c.is_none.ensures ∙ ap not c.if-is_none.false)) c.pins.ensures
+pub returns-clause-value : goal.returns-clause-value
+returns-clause-value c = IfOk-weaker c.pins.result _ _ (λ files is. is ∙ pins_found c.args.self.now c.args.id c.pending_record.result c.pending_record.ensures (c.is_none.ensures ∙ ap not c.if-is_none.false)) c.pins.ensures
+
+pub returns-clause-memory : goal.returns-clause-memory
+returns-clause-memory c = on_each_error c.pins.result _ (is_pending_there c.args.self.now c.args.id c.pending_record.result c.pending_record.ensures (c.is_none.ensures ∙ ap not c.if-is_none.false))

@@ -2,7 +2,8 @@
 use Rattle.std.proofs.Common.{None, subst}
 use Rattle.ckpt_ids.specs.declared.call.Target.{Target}
 use Rattle.ckpt_ids.specs.declared.call.Call.TheVariants as call
-use Rattle.ckpt_core.specs.Inside.Parts.{state_of, IsAccepted}
+use Rattle.ckpt_core.specs.declared.parts.Parts.{Parts}
+use Rattle.ckpt_core.specs.Inside.Parts.{state_of, AreTied, IsAccepted}
 use Rattle.ckpt_core.proofs.Answering.Accepted.{accepted_restore, accepted_restore_savepoint}
 use Rattle.ckpt_core.proofs.Ending.Moves.{rolled_back_in_order, restarted_clock, restored_answers}
 use Rattle.ckpt_core.proofs.parts.Parts.restore.Goals as goal
@@ -20,9 +21,13 @@ pub choice-requires : goal.choice-requires
 choice-requires c = rolled_back_in_order c.args.self.now c.roll_back-released.new.self c.args.target c.requires.sound.sound c.roll_back-released.ensures.state
 
 pub returns : goal.returns
+unfolding state_of
 returns c =
-    let q = c.roll_back-released.new.self in
+    let rolled : Parts = c.roll_back-released.new.self in
+    let q : Parts = record rolled { opened = record rolled.opened { start_to = c.self-1.given.0; first_to = c.self-1.given.1.0 } } in
+    let tied : AreTied rolled = c.roll_back-released.ensures.tied in
     restored_answers c.args.self.now q c.args.now c.args.target c.restarted.new.self c.reset.new.self c.choice.result c.roll_back-released.result c.requires.accepted
-    c.roll_back-released.ensures.state c.roll_back-released.ensures.count c.roll_back-released.ensures.tied c.roll_back-released.ensures.cleared
+    c.roll_back-released.ensures.state c.roll_back-released.ensures.count
+    (record { uses_are = tied.uses_are; retained = tied.retained; tolerable = tied.tolerable; spare = tied.spare; room = tied.room }) c.roll_back-released.ensures.cleared
     (restarted_clock c.args.now c.read-moment.result q c.see.new.self c.restarted.new.self c.read-moment.ensures.value c.see.ensures c.restarted.ensures)
     c.reset.ensures c.choice.ensures

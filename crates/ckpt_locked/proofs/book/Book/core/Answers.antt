@@ -32,11 +32,11 @@ returns-clause-balance c = let h : History = c.args.self.now in c.balance.ensure
 pub returns-clause-handed : goal.returns-clause-handed
 returns-clause-handed c = let h : History = c.args.self.now in c.handed.ensures h.opening (calls_of h.entries) (its_history c).can_open (its_history c).are_calls
 
-pub returns-clause-handed_for_good : goal.returns-clause-handed_for_good
-returns-clause-handed_for_good c before calls split = c.used_no_more.ensures c.args.self.now.opening before calls (its_history c).can_open (subst AreCalls split (its_history c).are_calls)
+pub returns-clause-used_no_more : goal.returns-clause-used_no_more
+returns-clause-used_no_more c before calls split = c.used_no_more.ensures c.args.self.now.opening before calls (its_history c).can_open (subst AreCalls split (its_history c).are_calls)
 
-pub returns-clause-one_place : goal.returns-clause-one_place
-returns-clause-one_place c = let h : History = c.args.self.now in c.outbox.ensures h.opening (calls_of h.entries) (its_history c).can_open (its_history c).are_calls
+pub returns-clause-outbox : goal.returns-clause-outbox
+returns-clause-outbox c = let h : History = c.args.self.now in c.outbox.ensures h.opening (calls_of h.entries) (its_history c).can_open (its_history c).are_calls
 
 pub returns-clause-savepoints : goal.returns-clause-savepoints
 returns-clause-savepoints c before calls split =

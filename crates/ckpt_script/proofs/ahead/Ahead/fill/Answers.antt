@@ -9,7 +9,7 @@ pub returns-in_err-flush-clause-fault : goal.returns-in_err-flush-clause-fault
 returns-in_err-flush-clause-fault g c =
     let failed = c.in_err-flush.ensures in
     if_err_is c.from_residual.result c.in_err-flush.field-0.0 _ c.from_residual.ensures.1
-    (fails_writing c.args.self.now (g.K.Sink.contents c.args.sink.now) (g.K.Sink.contents c.flush.new.sink) c.args.printed.now c.flush.new.self c.in_err-flush.field-0.0 failed.err.0 failed.err.1)
+    (fails_writing c.args.self.now (g.K.Sink.contents c.args.sink.now) (g.K.Sink.contents c.flush.new.sink) c.args.printed.now.bytes c.flush.new.self.bytes c.in_err-flush.field-0.0 failed.err.0 failed.err.1)
 
 pub returns-in_err-flush-clause-cause : goal.returns-in_err-flush-clause-cause
 returns-in_err-flush-clause-cause g c =
@@ -22,7 +22,7 @@ returns-clause-fault g c =
     let going_on : c.args.self.now.is_ended ≡ false = search rules in
     let flushed = c.in_ok-flush.ensures in
     if_err_both c.ask.result
-    (λ why read cause. fails_reading c.args.self.now (g.K.Sink.contents c.args.sink.now) (g.K.Sink.contents c.flush.new.sink) c.args.printed.now c.flush.new.self why going_on flushed.ok.1 flushed.ok.0 read)
+    (λ why read cause. fails_reading c.args.self.now (g.K.Sink.contents c.args.sink.now) (g.K.Sink.contents c.flush.new.sink) c.args.printed.now.bytes c.flush.new.self.bytes why going_on flushed.ok.1 flushed.ok.0 read)
     c.ask.ensures.fault c.ask.ensures.cause
 
 pub returns-clause-cause : goal.returns-clause-cause

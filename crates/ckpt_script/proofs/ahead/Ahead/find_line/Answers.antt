@@ -41,10 +41,11 @@ loop-self-preserved g c =
       bytes_used = omega (arith, fewer, c.loop-self.invariant.bytes_used, filled.filled.bytes_used);
       further = λ _. omega (arith, fewer, c.loop-self.invariant.bytes_used, c.loop-self.invariant.followed.counted.given, filled.filled.bytes_used);
       shown = record {
-        passes = passes_on (g.K.Sink.contents c.args.sink.now) (g.K.Sink.contents c.loop-self.sink) (g.K.Sink.contents c.fill-in-loop-self.new.sink) c.args.printed.now c.loop-self.printed c.fill-in-loop-self.new.printed
+        passes = passes_on (g.K.Sink.contents c.args.sink.now) (g.K.Sink.contents c.loop-self.sink) (g.K.Sink.contents c.fill-in-loop-self.new.sink) c.args.printed.now.bytes c.loop-self.printed.bytes c.fill-in-loop-self.new.printed.bytes
             c.loop-self.invariant.shown.passes filled.shown.passes;
         going_on = filled.shown.going_on;
       };
+      tied = λ t. filled.tied (c.loop-self.invariant.tied t);
       same_source = filled.same_source ∙ c.loop-self.invariant.same_source;
       same_sink = filled.same_sink ∙ c.loop-self.invariant.same_sink;
     }
@@ -65,14 +66,14 @@ returns-in_err-fill-2-clause-part g c = if_err_is c.from_residual-in_err-fill-2.
 
 pub returns-in_err-fill-2-clause-fault : goal.returns-in_err-fill-2-clause-fault
 returns-in_err-fill-2-clause-fault g c = if_err_is c.from_residual-in_err-fill-2.result c.in_err-fill-2.field-0.0 _ c.from_residual-in_err-fill-2.ensures.1
-    (fails_on c.args.self.now c.move_to.new.self (g.K.Sink.contents c.args.sink.now) (g.K.Sink.contents c.loop-self.sink) (g.K.Sink.contents c.fill-in-loop-self.new.sink) c.args.printed.now c.loop-self.printed c.fill-in-loop-self.new.printed c.in_err-fill-2.field-0.0
+    (fails_on c.args.self.now c.move_to.new.self (g.K.Sink.contents c.args.sink.now) (g.K.Sink.contents c.loop-self.sink) (g.K.Sink.contents c.fill-in-loop-self.new.sink) c.args.printed.now.bytes c.loop-self.printed.bytes c.fill-in-loop-self.new.printed.bytes c.in_err-fill-2.field-0.0
     (λ e. c.loop-self.invariant.stays (sym c.in_ok-move_to.ensures.ended ∙ e)) c.loop-self.invariant.shown.passes c.in_err-fill-2.ensures.fault)
 
 pub returns-in_err-move_to-clause-fault : goal.returns-in_err-move_to-clause-fault
 returns-in_err-move_to-clause-fault g c =
     let sure = c.loop-self.invariant in
     if_err_is c.from_residual-in_err-move_to.result Memory _ c.from_residual-in_err-move_to.ensures.1
-    (fails_for_memory c.args.self.now (g.K.Sink.contents c.args.sink.now) (g.K.Sink.contents c.loop-self.sink) c.args.printed.now c.loop-self.printed sure.shown.passes)
+    (fails_for_memory c.args.self.now (g.K.Sink.contents c.args.sink.now) (g.K.Sink.contents c.loop-self.sink) c.args.printed.now.bytes c.loop-self.printed.bytes sure.shown.passes)
 
 pub returns-in_err-move_to-clause-cause : goal.returns-in_err-move_to-clause-cause
 returns-in_err-move_to-clause-cause g c =

@@ -1,6 +1,7 @@
 -- The loop invariants of `Ahead::find_line`.
 use Rattle.std.proofs.Common.{◌≡◌, ◌≢◌, ◌<◌, ◌≤◌, [], true, false, length}
 use Rattle.ckpt_script.specs.Devices.{used}
+use Rattle.ckpt_script.specs.Flushes.{IsTied}
 use Rattle.ckpt_script.specs.Known.{Prints}
 use Rattle.ckpt_script.specs.Lines.{held}
 use Rattle.ckpt_script.specs.Reads.{IsFollowed, ReadsPart, all_left}
@@ -16,7 +17,8 @@ invariant-loop-self g l = record {
   filled : l.self.bytes ≡ [] → l.self.is_ended ≡ true;
   bytes_used : used (g.S.Source.asked l.fn.source) l.fn.self ≤ used (g.S.Source.asked l.source) l.self;
   further : l.fn.self.bytes ≢ [] → used (g.S.Source.asked l.fn.source) l.fn.self < (g.S.Source.asked l.source).bytes;
-  shown : Prints (g.K.Sink.contents l.fn.sink) (g.K.Sink.contents l.sink) l.fn.printed [] l.printed (g.K.Sink.failures l.sink);
+  shown : Prints (g.K.Sink.contents l.fn.sink) (g.K.Sink.contents l.sink) l.fn.printed.bytes [] l.printed.bytes (g.K.Sink.failures l.sink);
+  tied : IsTied l.fn.printed (g.K.Sink.unflushed l.fn.sink) (g.K.Sink.failures l.fn.sink) → IsTied l.printed (g.K.Sink.unflushed l.sink) (g.K.Sink.failures l.sink);
   same_source : g.S.Source.device l.source ≡ g.S.Source.device l.fn.source;
   same_sink : g.K.Sink.device l.sink ≡ g.K.Sink.device l.fn.sink;
 }

@@ -7,5 +7,5 @@ use Rattle.ckpt_script.proofs.printed.Printed.settle.Goals as goal
 pub returns-clause-err : goal.returns-clause-err
 returns-clause-err g c =
     on_err_map c.write_out.result
-    (λ why p. (_, passes_part (g.K.Sink.contents c.args.sink.now) (g.K.Sink.contents c.write_out.new.sink) c.args.self.now [] p.1))
+    (λ why p. (_, passes_part (g.K.Sink.contents c.args.sink.now) (g.K.Sink.contents c.write_out.new.sink) c.args.self.now.bytes [] p.1))
     c.write_out.ensures.err

@@ -21,13 +21,13 @@ returns-in_err-fill-clause-stopped g c =
     let failed = c.in_err-fill.ensures in
     if_err_is c.from_residual.result c.in_err-fill.field-0.0 _ c.from_residual.ensures.1
     (λ text before so_far.
-    stopped_taking text (g.S.Source.remaining c.fill.new.source) before (g.K.Sink.contents c.fill.new.sink) c.fill.new.printed c.in_err-fill.field-0.0 failed.fault.fault
+    stopped_taking text (g.S.Source.remaining c.fill.new.source) before (g.K.Sink.contents c.fill.new.sink) c.fill.new.printed.bytes c.in_err-fill.field-0.0 failed.fault.fault
     (λ read.
-    stopped_filling text _ before (g.K.Sink.contents c.fill.new.sink) c.args.self.now.ahead.is_ended c.args.self.now.summary c.args.self.now.session c.fill.new.printed
-    (so_far_shown text _ before (g.K.Sink.contents c.args.sink.now) (g.K.Sink.contents c.fill.new.sink) _ _ _ c.args.self.now.printed c.fill.new.printed so_far (failed.fault.shown_read read))
+    stopped_filling text _ before (g.K.Sink.contents c.fill.new.sink) c.args.self.now.ahead.is_ended c.args.self.now.summary c.args.self.now.session.scene c.fill.new.printed.bytes
+    (so_far_shown text _ before (g.K.Sink.contents c.args.sink.now) (g.K.Sink.contents c.fill.new.sink) _ _ _ c.args.self.now.printed.bytes c.fill.new.printed.bytes so_far (failed.fault.shown_read read))
     c.fill.new.self.bytes (g.S.Source.remaining c.fill.new.source) failed.read.kept failed.unread (failed.fault.stays read))
-    (cut_so_far text _ before (g.K.Sink.contents c.fill.new.sink) c.args.self.now.ahead.is_ended c.args.self.now.summary c.args.self.now.session failed.fault.cut.0
-    (so_far_shown text _ before (g.K.Sink.contents c.args.sink.now) (g.K.Sink.contents c.fill.new.sink) _ _ _ c.args.self.now.printed failed.fault.cut.0 so_far failed.fault.cut.1)
+    (cut_so_far text _ before (g.K.Sink.contents c.fill.new.sink) c.args.self.now.ahead.is_ended c.args.self.now.summary c.args.self.now.session.scene failed.fault.cut.0
+    (so_far_shown text _ before (g.K.Sink.contents c.args.sink.now) (g.K.Sink.contents c.fill.new.sink) _ _ _ c.args.self.now.printed.bytes failed.fault.cut.0 so_far failed.fault.cut.1)
     c.fill.new.self.bytes (g.S.Source.remaining c.fill.new.source) failed.read.kept))
 
 pub returns-in_err-fill-clause-cause : goal.returns-in_err-fill-clause-cause
@@ -48,15 +48,15 @@ returns-then-is_empty-clause-ready g c =
 pub returns-then-is_empty-clause-so_far : goal.returns-then-is_empty-clause-so_far
 returns-then-is_empty-clause-so_far g c = λ text before so_far.
     so_far_filled text (prepend_known c.args.self.now.ahead.bytes (g.S.Source.remaining c.args.source.now)) (prepend_known c.fill.new.self.bytes (g.S.Source.remaining c.fill.new.source)) before (g.K.Sink.contents c.fill.new.sink)
-    c.args.self.now.ahead.is_ended c.fill.new.self.is_ended c.args.self.now.summary c.args.self.now.session c.fill.new.printed
-    (so_far_shown text _ before (g.K.Sink.contents c.args.sink.now) (g.K.Sink.contents c.fill.new.sink) _ _ _ c.args.self.now.printed c.fill.new.printed so_far c.in_ok-fill.ensures.shown.passes)
+    c.args.self.now.ahead.is_ended c.fill.new.self.is_ended c.args.self.now.summary c.args.self.now.session.scene c.fill.new.printed.bytes
+    (so_far_shown text _ before (g.K.Sink.contents c.args.sink.now) (g.K.Sink.contents c.fill.new.sink) _ _ _ c.args.self.now.printed.bytes c.fill.new.printed.bytes so_far c.in_ok-fill.ensures.shown.passes)
     c.in_ok-fill.ensures.read.kept c.in_ok-fill.ensures.read.stays
 
 pub returns-then-self-eq-MOST_LINES-clause-stopped : goal.returns-then-self-eq-MOST_LINES-clause-stopped
 returns-then-self-eq-MOST_LINES-clause-stopped g c = λ text before so_far.
     let some = c.if-is_empty.ensures.some refl in
-    stopped_full text _ before (g.K.Sink.contents c.fill.new.sink) c.args.self.now.ahead.is_ended c.args.self.now.summary c.args.self.now.session c.fill.new.printed
-    (so_far_shown text _ before (g.K.Sink.contents c.args.sink.now) (g.K.Sink.contents c.fill.new.sink) _ _ _ c.args.self.now.printed c.fill.new.printed so_far c.in_ok-fill.ensures.shown.passes)
+    stopped_full text _ before (g.K.Sink.contents c.fill.new.sink) c.args.self.now.ahead.is_ended c.args.self.now.summary c.args.self.now.session.scene c.fill.new.printed.bytes
+    (so_far_shown text _ before (g.K.Sink.contents c.args.sink.now) (g.K.Sink.contents c.fill.new.sink) _ _ _ c.args.self.now.printed.bytes c.fill.new.printed.bytes so_far c.in_ok-fill.ensures.shown.passes)
     c.fill.new.self.bytes (g.S.Source.remaining c.fill.new.source) c.in_ok-fill.ensures.read.kept some.0 c.if-self-eq-MOST_LINES.true
 
 -- a further line began, and each before it took a byte at least
@@ -75,14 +75,14 @@ returns-in_err-newline-clause-stopped g c = if_err_is c.from_residual-in_err-new
     (λ text before so_far.
     let some = c.if-is_empty.ensures.some refl in
     let failed = c.in_err-newline.ensures in
-    let first = so_far_shown text _ before (g.K.Sink.contents c.args.sink.now) (g.K.Sink.contents c.fill.new.sink) _ _ _ c.args.self.now.printed c.fill.new.printed so_far c.in_ok-fill.ensures.shown.passes in
-    stopped_taking text (g.S.Source.remaining c.find_line.new.source) before (g.K.Sink.contents c.find_line.new.sink) c.find_line.new.printed c.in_err-newline.field-0.0 failed.fault.fault
-    (λ read. stopped_reading text _ before (g.K.Sink.contents c.find_line.new.sink) c.args.self.now.ahead.is_ended c.args.self.now.summary c.args.self.now.session c.find_line.new.printed
-    (so_far_shown text _ before (g.K.Sink.contents c.fill.new.sink) (g.K.Sink.contents c.find_line.new.sink) _ _ _ c.fill.new.printed c.find_line.new.printed first (failed.fault.shown_read read))
+    let first = so_far_shown text _ before (g.K.Sink.contents c.args.sink.now) (g.K.Sink.contents c.fill.new.sink) _ _ _ c.args.self.now.printed.bytes c.fill.new.printed.bytes so_far c.in_ok-fill.ensures.shown.passes in
+    stopped_taking text (g.S.Source.remaining c.find_line.new.source) before (g.K.Sink.contents c.find_line.new.sink) c.find_line.new.printed.bytes c.in_err-newline.field-0.0 failed.fault.fault
+    (λ read. stopped_reading text _ before (g.K.Sink.contents c.find_line.new.sink) c.args.self.now.ahead.is_ended c.args.self.now.summary c.args.self.now.session.scene c.find_line.new.printed.bytes
+    (so_far_shown text _ before (g.K.Sink.contents c.fill.new.sink) (g.K.Sink.contents c.find_line.new.sink) _ _ _ c.fill.new.printed.bytes c.find_line.new.printed.bytes first (failed.fault.shown_read read))
     c.fill.new.self.bytes (g.S.Source.remaining c.fill.new.source) c.in_ok-fill.ensures.read.kept (g.S.Source.remaining c.find_line.new.source) c.find_line.new.line.items
     (c.in_ok-fill.ensures.read.stays some.1) (failed.part read))
-    (cut_so_far text _ before (g.K.Sink.contents c.find_line.new.sink) c.args.self.now.ahead.is_ended c.args.self.now.summary c.args.self.now.session failed.fault.cut.0
-    (so_far_shown text _ before (g.K.Sink.contents c.fill.new.sink) (g.K.Sink.contents c.find_line.new.sink) _ _ _ c.fill.new.printed failed.fault.cut.0 first failed.fault.cut.1)
+    (cut_so_far text _ before (g.K.Sink.contents c.find_line.new.sink) c.args.self.now.ahead.is_ended c.args.self.now.summary c.args.self.now.session.scene failed.fault.cut.0
+    (so_far_shown text _ before (g.K.Sink.contents c.fill.new.sink) (g.K.Sink.contents c.find_line.new.sink) _ _ _ c.fill.new.printed.bytes failed.fault.cut.0 first failed.fault.cut.1)
     c.fill.new.self.bytes (g.S.Source.remaining c.fill.new.source) c.in_ok-fill.ensures.read.kept))
 
 pub returns-in_err-newline-clause-cause : goal.returns-in_err-newline-clause-cause
@@ -92,10 +92,10 @@ pub returns-in_err-obey-clause-stopped : goal.returns-in_err-obey-clause-stopped
 returns-in_err-obey-clause-stopped g c = if_err_is c.from_residual-in_err-obey.result c.in_err-obey.field-0.0 _ c.from_residual-in_err-obey.ensures.1
     (λ text before so_far.
     let some = c.if-is_empty.ensures.some refl in
-    let first = so_far_shown text _ before (g.K.Sink.contents c.args.sink.now) (g.K.Sink.contents c.fill.new.sink) _ _ _ c.args.self.now.printed c.fill.new.printed so_far c.in_ok-fill.ensures.shown.passes in
-    let next = so_far_shown text _ before (g.K.Sink.contents c.fill.new.sink) (g.K.Sink.contents c.find_line.new.sink) _ _ _ c.fill.new.printed c.find_line.new.printed first c.in_ok-newline.ensures.shown.passes in
-    stopped_cut text (g.S.Source.remaining c.find_line.new.source) before (g.K.Sink.contents c.obey.new.sink) c.obey.new.self.printed c.in_err-obey.field-0.0 c.in_err-obey.ensures.fault.fault.0 c.in_err-obey.ensures.fault.fault.1
-    (cut_obeying text _ before (g.K.Sink.contents c.find_line.new.sink) c.args.self.now.ahead.is_ended c.args.self.now.summary c.args.self.now.session c.find_line.new.printed next
+    let first = so_far_shown text _ before (g.K.Sink.contents c.args.sink.now) (g.K.Sink.contents c.fill.new.sink) _ _ _ c.args.self.now.printed.bytes c.fill.new.printed.bytes so_far c.in_ok-fill.ensures.shown.passes in
+    let next = so_far_shown text _ before (g.K.Sink.contents c.fill.new.sink) (g.K.Sink.contents c.find_line.new.sink) _ _ _ c.fill.new.printed.bytes c.find_line.new.printed.bytes first c.in_ok-newline.ensures.shown.passes in
+    stopped_cut text (g.S.Source.remaining c.find_line.new.source) before (g.K.Sink.contents c.obey.new.sink) c.obey.new.self.printed.bytes c.in_err-obey.field-0.0 c.in_err-obey.ensures.fault.fault.0 c.in_err-obey.ensures.fault.fault.1
+    (cut_obeying text _ before (g.K.Sink.contents c.find_line.new.sink) c.args.self.now.ahead.is_ended c.args.self.now.summary c.args.self.now.session.scene c.find_line.new.printed.bytes next
     c.fill.new.self.bytes (g.S.Source.remaining c.fill.new.source) c.in_ok-fill.ensures.read.kept
     _ (g.K.Sink.contents c.obey.new.sink) _ (c.in_ok-fill.ensures.read.stays some.1) some.0 (line_at c.find_line.new.self c.find_line.new.line.items c.in_ok-newline.newline) c.in_ok-newline.ensures.line.read c.front.ensures (omega arith) c.in_err-obey.ensures.fault.cut))
 
@@ -124,11 +124,11 @@ returns-clause-ready g c =
 pub returns-clause-so_far : goal.returns-clause-so_far
 returns-clause-so_far g c = λ text before so_far.
     let some = c.if-is_empty.ensures.some refl in
-    let first = so_far_shown text _ before (g.K.Sink.contents c.args.sink.now) (g.K.Sink.contents c.fill.new.sink) _ _ _ c.args.self.now.printed c.fill.new.printed so_far c.in_ok-fill.ensures.shown.passes in
-    let next = so_far_shown text _ before (g.K.Sink.contents c.fill.new.sink) (g.K.Sink.contents c.find_line.new.sink) _ _ _ c.fill.new.printed c.find_line.new.printed first c.in_ok-newline.ensures.shown.passes in
+    let first = so_far_shown text _ before (g.K.Sink.contents c.args.sink.now) (g.K.Sink.contents c.fill.new.sink) _ _ _ c.args.self.now.printed.bytes c.fill.new.printed.bytes so_far c.in_ok-fill.ensures.shown.passes in
+    let next = so_far_shown text _ before (g.K.Sink.contents c.fill.new.sink) (g.K.Sink.contents c.find_line.new.sink) _ _ _ c.fill.new.printed.bytes c.find_line.new.printed.bytes first c.in_ok-newline.ensures.shown.passes in
     let left : Unread = left_by c.find_line.new.self c.in_ok-newline.newline in
-    subst (λ (u : Unread). IsSoFar text (prepend_known u.bytes (g.S.Source.remaining c.find_line.new.source)) before (g.K.Sink.contents c.obey.new.sink) u.is_ended c.obey.new.self.summary c.obey.new.self.session c.obey.new.self.printed) (sym c.in_ok-obey.ensures.left)
-    (so_far_obeyed text _ before (g.K.Sink.contents c.find_line.new.sink) c.args.self.now.ahead.is_ended c.args.self.now.summary c.args.self.now.session c.find_line.new.printed next
+    subst (λ (u : Unread). IsSoFar text (prepend_known u.bytes (g.S.Source.remaining c.find_line.new.source)) before (g.K.Sink.contents c.obey.new.sink) u.is_ended c.obey.new.self.summary c.obey.new.self.session.scene c.obey.new.self.printed.bytes) (sym c.in_ok-obey.ensures.left)
+    (so_far_obeyed text _ before (g.K.Sink.contents c.find_line.new.sink) c.args.self.now.ahead.is_ended c.args.self.now.summary c.args.self.now.session.scene c.find_line.new.printed.bytes next
     c.fill.new.self.bytes (g.S.Source.remaining c.fill.new.source) c.in_ok-fill.ensures.read.kept
     (all_left left (g.S.Source.remaining c.find_line.new.source)) (g.K.Sink.contents c.obey.new.sink) left.is_ended (c.in_ok-fill.ensures.read.stays some.1) some.0 (line_at c.find_line.new.self c.find_line.new.line.items c.in_ok-newline.newline) c.in_ok-newline.ensures.line.read c.front.ensures
-    c.obey.new.self.summary c.obey.new.self.session c.obey.new.self.printed c.in_ok-obey.ensures.obeyed.lines (omega (arith, c.in_ok-obey.ensures.obeyed.lines, c.if-self-eq-MOST_LINES.false, c.requires.ready.lines)) c.in_ok-obey.ensures.obeyed.faults c.in_ok-obey.ensures.obeyed.scene c.in_ok-obey.ensures.shown.passes)
+    c.obey.new.self.summary c.obey.new.self.session.scene c.obey.new.self.printed.bytes c.in_ok-obey.ensures.obeyed.lines (omega (arith, c.in_ok-obey.ensures.obeyed.lines, c.if-self-eq-MOST_LINES.false, c.requires.ready.lines)) c.in_ok-obey.ensures.obeyed.faults c.in_ok-obey.ensures.obeyed.scene c.in_ok-obey.ensures.shown.passes)

@@ -1,14 +1,24 @@
 -- Answers the goals of `Session::answer`.
-use Rattle.std.proofs.Common.{ap, ◌∙◌}
-use Rattle.std.specs.Prelude.{option_map}
+use Rattle.std.proofs.Common.{ap, sym, ◌∙◌}
+use Rattle.std.specs.Prelude.{[], option_map}
+use Rattle.std.specs.Option.{option_map_or}
 use Rattle.ckpt_locked.specs.declared.limits.TheConstants.{MOST_SEATS}
-use Rattle.ckpt_locked.specs.Books.{state_of_book}
+use Rattle.ckpt_locked.specs.Books.{History, state_of_book}
+use Rattle.ckpt_session.specs.Seating.{Staged}
 use Rattle.ckpt_session.specs.Sessions.{Scene, called}
 use Rattle.ckpt_session.proofs.BookLemmas.{called_is}
+use Rattle.ckpt_session.proofs.SeatingLemmas.{entered_by_line}
 use Rattle.ckpt_session.proofs.session.Session.answer.Goals as goal
 
 pub returns-in-Ok-clause-done : goal.returns-in-Ok-clause-done
 returns-in-Ok-clause-done c =
     let scene : Scene = record { config = c.self.inside.config; shape = c.self.inside.shape; core = option_map state_of_book c.self.inside.book } in
     called_is scene c.in-Some.book c.apply.new.self MOST_SEATS c.args.call c.in-Ok.answer (ap (option_map state_of_book) c.in-Some.is) c.in-Ok.ensures.entered c.in-Ok.ensures.answer
-    ∙ ap (λ (s : Scene). called s s.core c.args.call) c.self.view_is
+    ∙ ap (λ (s : Staged). called s.scene s.scene.core c.args.call) c.self.view_is
+
+pub returns-in-Ok-clause-entered : goal.returns-in-Ok-clause-entered
+returns-in-Ok-clause-entered c =
+    entered_by_line c.args.self.now (state_of_book c.in-Some.book) c.in-Some.book c.apply.new.self c.args.call
+    (ap (λ (s : Staged). s.scene.core) (sym c.self.view_is) ∙ ap (option_map state_of_book) c.in-Some.is)
+    (ap (λ (s : Staged). s.entries) (sym c.self.view_is) ∙ ap (λ o. option_map_or (λ (b : History). b.entries) o []) c.in-Some.is)
+    c.in-Ok.ensures.entered

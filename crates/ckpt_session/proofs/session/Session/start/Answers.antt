@@ -3,6 +3,7 @@ use Rattle.std.proofs.Common.{ℕ, List, sym, ap, ◌∙◌}
 use Rattle.std.specs.Prelude.{nat_le, option_map}
 use Rattle.ckpt_ids.specs.declared.limits.TheConstants.{MOMENTS_END}
 use Rattle.ckpt_locked.specs.Books.{newly_opened, state_of_book}
+use Rattle.ckpt_session.specs.Seating.{Staged}
 use Rattle.ckpt_session.specs.Sessions.{Scene, started_so_far}
 use Rattle.ckpt_session.proofs.BookLemmas.{started_is, is_early, is_some-option_map}
 use Rattle.ckpt_session.proofs.session.Session.start.Goals as goal
@@ -14,4 +15,4 @@ returns-in-Ok-clause-done c =
     started_is scene c.args.now c.in-Ok.book config c.in-Some-Some.shape
     (is_some-option_map state_of_book c.self.inside.book ∙ sym c.if-is_some.ensures) c.in-Some-Some.is-0 c.in-Some-Some.is-1 (is_early (nat_le MOMENTS_END c.args.now) _ c.in-Ok.ensures.fault)
     (c.in-Ok.ensures.value ∙ ap (λ (shape : List ℕ). newly_opened (record { config = config; shape = shape; start = c.args.now; first = 1 })) c.in_ok-copy.ensures)
-    ∙ ap (λ (s : Scene). started_so_far s c.args.now) c.self.view_is
+    ∙ ap (λ (s : Staged). started_so_far s.scene c.args.now) c.self.view_is

@@ -8,8 +8,8 @@ use Rattle.ckpt_session.proofs.session.Session.tell_outcome.Goals as goal
 
 pub returns-in-Ok-clause-told : goal.returns-in-Ok-clause-told
 returns-in-Ok-clause-told g c =
-    let scene = c.args.self.now in
-    let left = c.act-outcome.new.self in
+    let scene = c.args.self.now.scene in
+    let left = c.act-outcome.new.self.scene in
     let done : ◌≡◌ {A = Done} (left, c.in-Ok.outcome) (obeyed scene c.args.meant) =
     subst (λ r. IfOk r (λ outcome. ◌≡◌ {A = Done} (left, outcome) (obeyed scene c.args.meant))) c.in-Ok.is c.act-outcome.ensures.done in
     on_err-then c.write_outcome.result (is_said c.in-Ok.outcome ≡ true) _

@@ -1,0 +1,10 @@
+-- The lemmas that the proofs use.
+pub mod Classes
+pub mod Fences
+pub mod Known
+pub mod Modes
+pub mod OnceIssued
+pub mod SpanLemmas
+pub mod Stepping
+pub mod TermLemmas
+pub mod Zombies

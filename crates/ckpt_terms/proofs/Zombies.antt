@@ -1,0 +1,66 @@
+-- What an accepted restore or cancel leaves: no held name, and no task whose calls change anything.
+use Rattle.std.proofs.Common.{◌≡◌, ℕ, ◌+◌, ◌<◌, ◌≤◌, true, false, not, ◌&&◌, eqb, List, [], refl, subst, ◌∙◌, ◌⊎◌, inl, inr, ⊎_elim, arith}
+use Rattle.std.specs.Prelude.{Some}
+use Rattle.std.proofs.lemmas.Bool.{cases_Bool, both_ways, and_parts, and_from, ne_eqb, not_from_false, cond-true}
+use Rattle.ckpt_ids.specs.Ordered.{IsIn}
+use Rattle.ckpt_core.specs.State.{Opening, is_known}
+use Rattle.ckpt_core.specs.Steps.{Stepped, step}
+use Rattle.ckpt_terms.specs.declared.call.FencedCall.{FencedCall}
+use Rattle.ckpt_terms.specs.declared.call.FencedCall.TheVariants.{Reserve, Forfeit, Make}
+use Rattle.ckpt_terms.specs.declared.call.FencedRefusal.{FencedRefusal}
+use Rattle.ckpt_terms.specs.declared.call.FencedRefusal.TheVariants.{OldTerm}
+use Rattle.ckpt_terms.specs.declared.call.FencedAnswer.TheVariants as answer
+use Rattle.ckpt_terms.specs.Fencing.{is_garbage, Fenced, fenced, is_of_task, ends_the_term, is_accepted, has_ended, fence, unspent_after, without_all, fresh_of, made, FencedStepped, fenced_step, fenced_replay}
+use Rattle.ckpt_terms.specs.FencedLaws.{CanFence, AreFencedCalls, IsFenced, is_from_task, term_of, ZombiesAreFenced, SweepIsExact, CancelledIsSwept}
+use Rattle.ckpt_terms.proofs.Stepping.{fenced_step_by, fenced_off, IsOpen}
+use Rattle.ckpt_terms.proofs.Fences.{always, step_fenced, replay_later}
+use Rattle.ckpt_terms.proofs.Classes.{garbage_from}
+
+-- what a call leaves that ends the term
+made_ended : (m : Fenced) (call : FencedCall) → has_ended call (made m call).1 ≡ true → (((made m call).0).term ≡ m.term + 1) × (((made m call).0).unspent ≡ [])
+made_ended m (Make term end) h =
+    let s : Stepped = step m.core end in
+    let a = and_parts (is_accepted s.1) (ends_the_term end) h in
+    (cond-true (is_accepted s.1 && ends_the_term end) (m.term + 1) m.term h, cond-true (is_accepted s.1) (unspent_after m.unspent end) m.unspent a.0 ∙ cond-true (ends_the_term end) [] (without_all (fresh_of end) m.unspent) a.1)
+made_ended m call h = absurd (both_ways (has_ended call (made m call).1) refl h)
+
+none_ended : (m : Fenced) (call : FencedCall) (why : FencedRefusal) → has_ended call (answer.Fenced why) ≡ false
+none_ended m (Make term end) why = refl
+none_ended m call why = refl
+
+ended : (m : Fenced) (call : FencedCall) → has_ended call (fenced_step m call).1 ≡ true → (((fenced_step m call).0).term ≡ m.term + 1) × (((fenced_step m call).0).unspent ≡ [])
+ended m call = fenced_step_by m call (λ (x : FencedStepped). has_ended call x.1 ≡ true → ((x.0).term ≡ m.term + 1) × ((x.0).unspent ≡ [])) (λ why h. absurd (both_ways (has_ended call (answer.Fenced why)) (none_ended m call why) h)) (λ _ h. made_ended m call h)
+
+-- a task of another term is fenced
+other_term : (term its : ℕ) → term < its → not (eqb term its) ≡ true
+other_term term its h = not_from_false (eqb term its) (ne_eqb term its (λ e. absurd (omega arith)))
+
+old_fenced : (n : Fenced) (late : FencedCall) → is_from_task late ≡ true → term_of late < n.term → fence n late ≡ Some OldTerm
+old_fenced n (Reserve term count) t h = cond-true (not (eqb term n.term)) _ _ (other_term term n.term h)
+old_fenced n (Forfeit term names) t h = cond-true (not (eqb term n.term)) _ _ (other_term term n.term h)
+old_fenced n (Make term call) t h = cond-true (is_of_task call && not (eqb term n.term)) _ _ (and_from (is_of_task call) (not (eqb term n.term)) t (other_term term n.term h))
+
+pub zombies_are_fenced : (o : Opening) (first : ℕ) (before calls : List FencedCall) → CanFence o first → AreFencedCalls before → AreFencedCalls calls → ZombiesAreFenced o first before calls
+zombies_are_fenced o first before calls c a b end its_call e late t h =
+    let m : Fenced = fenced_replay (fenced o first) before in
+    let k : Fenced = (fenced_step m end).0 in
+    let n : Fenced = fenced_replay k calls in
+    let i : IsFenced m = always o first before c a in
+    let now : k.term ≡ m.term + 1 = (ended m end e).0 in
+    let later : k.term ≤ n.term = (replay_later k calls b (step_fenced m end its_call i)).term in
+    fenced_off n late OldTerm (old_fenced n late t (omega arith))
+
+-- where no name is held, each that was given out is known or garbage
+swept : (n : Fenced) → n.unspent ≡ [] → (f : ℕ) → f < n.next_name → (is_known n.core f ≡ true) ⊎ (is_garbage n f ≡ true)
+swept n none f below =
+    let In : List ℕ → Type 0 = λ xs. IsIn f xs in
+    let closed : IsOpen n f → ⊥ = λ (o : IsOpen n f). ⊎_elim (λ (k : IsIn f n.unspent). subst In none k) (λ (k : n.next_name ≤ f). absurd (omega arith)) o in
+    ⊎_elim (λ (k : is_known n.core f ≡ true). inl k) (λ (k : is_known n.core f ≡ false). inr (garbage_from n f closed k)) (cases_Bool (is_known n.core f))
+
+pub sweep_is_exact : (o : Opening) (first : ℕ) (before : List FencedCall) → CanFence o first → AreFencedCalls before → SweepIsExact o first before
+sweep_is_exact o first before c a end e f below =
+    let m : Fenced = fenced_replay (fenced o first) before in
+    swept (fenced_step m end).0 (ended m end e).1 f below
+
+pub cancelled_is_swept : (o : Opening) (first : ℕ) (calls : List FencedCall) → CanFence o first → AreFencedCalls calls → CancelledIsSwept o first calls
+cancelled_is_swept o first calls c a e f below = swept (fenced_replay (fenced o first) calls) ((always o first calls c a).ended e) f below

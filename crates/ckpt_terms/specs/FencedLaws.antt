@@ -1,0 +1,109 @@
+-- Laws of a fenced coordinator, over every list of calls from an opening.
+use Rattle.std.specs.Prelude.{◌≡◌, ℕ, ◌+◌, ◌<◌, ◌≤◌, Bool, true, false, nat_le, List, [], ◌∷◌, ◌↔◌, ◌⊎◌, ⊤}
+use Rattle.ckpt_ids.specs.Ascending.{IsAscendingSet}
+use Rattle.ckpt_ids.specs.Counting.{one_if, times}
+use Rattle.ckpt_ids.specs.Ordered.{IsIn}
+use Rattle.ckpt_ids.specs.Records.{uses, count, is_present}
+use Rattle.ckpt_core.specs.State.{Opening, opened, is_known}
+use Rattle.ckpt_core.specs.Refusals.{is_cancelled}
+use Rattle.ckpt_core.specs.Histories.{replay}
+use Rattle.ckpt_core.specs.Soundness.{IsSound, IsCall}
+use Rattle.ckpt_core.specs.Laws.{CanOpen, NoneAgain, along, handed_by, registered_by}
+use Rattle.ckpt_terms.specs.declared.call.TheConstants.{LAST_TERM, NAMES_END}
+use Rattle.ckpt_terms.specs.declared.call.FencedCall.{FencedCall}
+use Rattle.ckpt_terms.specs.declared.call.FencedCall.TheVariants.{Reserve, Forfeit, Make}
+use Rattle.ckpt_terms.specs.declared.call.FencedRefusal.TheVariants.{OldTerm}
+use Rattle.ckpt_terms.specs.declared.call.FencedAnswer.TheVariants as answer
+use Rattle.ckpt_terms.specs.Fencing.{Fenced, fenced, fenced_step, fenced_replay, core_calls, is_of_task, has_ended, is_garbage, may_be_deleted}
+
+pub record CanFence (o : Opening) (first : ℕ) : Type 0 where
+  pub core : CanOpen o
+  pub first_from : 1 ≤ first
+  pub first_to : first ≤ NAMES_END
+
+abbrev pub IsFencedCall : FencedCall → Type 0
+IsFencedCall (Make term call) = IsCall call
+IsFencedCall call = ⊤
+
+abbrev pub AreFencedCalls : List FencedCall → Type 0
+AreFencedCalls [] = ⊤
+AreFencedCalls (call ∷ calls) = IsFencedCall call × AreFencedCalls calls
+
+-- what always holds
+pub record IsFenced (m : Fenced) : Type 0 where
+  pub core : IsSound m.core
+  pub term_from : 1 ≤ m.term
+  pub term_to : m.term ≤ LAST_TERM
+  pub names_from : 1 ≤ m.next_name
+  pub names_to : m.next_name ≤ NAMES_END
+  -- a file that is in use, waits for deletion or was fetched has a name that was given out, and that no task holds
+  pub known : (f : ℕ) → is_known m.core f ≡ true → f < m.next_name
+  pub reserved : (f : ℕ) → IsIn f m.unspent → f < m.next_name
+  pub apart : (f : ℕ) → IsIn f m.unspent → is_known m.core f ≡ false
+  pub ascending : IsAscendingSet m.unspent
+  -- a job that was cancelled holds no name
+  pub ended : is_cancelled m.core.mode ≡ true → m.unspent ≡ []
+
+-- Each number is one of: not given out, held by a task of the running term, in use, waiting for deletion, fetched for it,
+-- garbage; and it is there once.
+abbrev pub Classified : Opening → ℕ → List FencedCall → Type 0
+Classified o first calls =
+    let m : Fenced = fenced_replay (fenced o first) calls in
+    (f : ℕ) → one_if (nat_le m.next_name f) + times f m.unspent + one_if (is_present (uses m.core.records) f) + times f m.core.waiting + times f m.core.taken + one_if (is_garbage m f) ≡ 1
+
+-- garbage is garbage for good
+abbrev pub GarbageForGood : Opening → ℕ → List FencedCall → List FencedCall → Type 0
+GarbageForGood o first before calls =
+    let m : Fenced = fenced_replay (fenced o first) before in
+    (f : ℕ) → is_garbage m f ≡ true → is_garbage (fenced_replay m calls) f ≡ true
+
+-- no live record uses a file that may be deleted, neither then nor later
+abbrev pub DeletionsAreSafe : Opening → ℕ → List FencedCall → List FencedCall → Type 0
+DeletionsAreSafe o first before calls =
+    let m : Fenced = fenced_replay (fenced o first) before in
+    (f : ℕ) → may_be_deleted m f ≡ true → count (uses (fenced_replay m calls).core.records) f ≡ 0
+
+-- The calls that reach the coordinator never report a deleted file as new again. So, with no premise, a file was handed
+-- out exactly if it was registered and no live record uses it.
+pub record IssuedOnce (o : Opening) (first : ℕ) (calls : List FencedCall) : Type 0 where
+  pub core : (fenced_replay (fenced o first) calls).core ≡ replay (opened o) (core_calls (fenced o first) calls)
+  pub none_again : NoneAgain [] (opened o) (core_calls (fenced o first) calls)
+  pub handed : (f : ℕ) → IsIn f (along handed_by (opened o) (core_calls (fenced o first) calls)) ↔ (IsIn f (along registered_by (opened o) (core_calls (fenced o first) calls)) × (count (uses (fenced_replay (fenced o first) calls).core.records) f ≡ 0))
+
+-- a call of a task
+abbrev pub is_from_task : FencedCall → Bool
+is_from_task (Reserve term count) = true
+is_from_task (Forfeit term names) = true
+is_from_task (Make term call) = is_of_task call
+
+abbrev pub term_of : FencedCall → ℕ
+term_of (Reserve term count) = term
+term_of (Forfeit term names) = term
+term_of (Make term call) = term
+
+-- Once a restore or a cancel is accepted, the tasks that ran before change nothing, whatever else is called, and each is
+-- told so.
+abbrev pub ZombiesAreFenced : Opening → ℕ → List FencedCall → List FencedCall → Type 0
+ZombiesAreFenced o first before calls =
+    let m : Fenced = fenced_replay (fenced o first) before in
+    (end : FencedCall)
+    → IsFencedCall end
+    → has_ended end (fenced_step m end).1 ≡ true
+    → let n : Fenced = fenced_replay (fenced_step m end).0 calls in
+    (late : FencedCall) → is_from_task late ≡ true → term_of late ≤ m.term → fenced_step n late ≡ (n, answer.Fenced OldTerm)
+
+-- Right after an accepted restore or cancel no name is held: each that was given out is in use, waits for deletion, was
+-- fetched for it, or is garbage. So a sweep then misses no orphan.
+abbrev pub SweepIsExact : Opening → ℕ → List FencedCall → Type 0
+SweepIsExact o first before =
+    let m : Fenced = fenced_replay (fenced o first) before in
+    (end : FencedCall)
+    → has_ended end (fenced_step m end).1 ≡ true
+    → let n : Fenced = (fenced_step m end).0 in
+    (f : ℕ) → f < n.next_name → (is_known n.core f ≡ true) ⊎ (is_garbage n f ≡ true)
+
+-- and so is a sweep of a job that was cancelled, whenever it is made
+abbrev pub CancelledIsSwept : Opening → ℕ → List FencedCall → Type 0
+CancelledIsSwept o first calls =
+    let m : Fenced = fenced_replay (fenced o first) calls in
+    is_cancelled m.core.mode ≡ true → (f : ℕ) → f < m.next_name → (is_known m.core f ≡ true) ⊎ (is_garbage m f ≡ true)

@@ -1,0 +1,7 @@
+-- The definitions that contracts cite.
+pub mod FencedExamples
+pub mod Fencing
+pub mod FencedLaws
+pub mod Spans
+pub mod TermsOpening
+pub mod Wants

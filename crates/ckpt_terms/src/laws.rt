@@ -1,0 +1,51 @@
+//! The laws of a fenced coordinator, each on a function that does nothing.
+
+ghost use Rattle.std.specs.Prelude.{ℕ, List};
+ghost use Rattle.ckpt_core.specs.State.{Opening};
+ghost use Rattle.ckpt_terms.specs.declared.call.FencedCall.{FencedCall};
+ghost use Rattle.ckpt_terms.specs.Fencing.{fenced, fenced_replay};
+ghost use Rattle.ckpt_terms.specs.FencedLaws.{CanFence, AreFencedCalls, IsFenced, Classified, GarbageForGood, DeletionsAreSafe, IssuedOnce, ZombiesAreFenced, SweepIsExact, CancelledIsSwept};
+
+/// What always holds for a fenced coordinator holds after every list of calls.
+pub fn fenced_always()
+    ensures { (o : Opening) (first : ℕ) (calls : List FencedCall) → CanFence o first → AreFencedCalls calls → IsFenced (fenced_replay (fenced o first) calls) }
+{}
+
+/// Each number is in exactly one class: not given out, held by a task of the running term, in use,
+/// waiting for deletion, fetched for it, garbage.
+pub fn classified()
+    ensures { (o : Opening) (first : ℕ) (calls : List FencedCall) → CanFence o first → AreFencedCalls calls → Classified o first calls }
+{}
+
+/// Garbage is garbage for good.
+pub fn garbage_for_good()
+    ensures { (o : Opening) (first : ℕ) (before calls : List FencedCall) → CanFence o first → AreFencedCalls before → AreFencedCalls calls → GarbageForGood o first before calls }
+{}
+
+/// No live record uses a file that may be deleted, neither then nor later.
+pub fn deletions_are_safe()
+    ensures { (o : Opening) (first : ℕ) (before calls : List FencedCall) → CanFence o first → AreFencedCalls before → AreFencedCalls calls → DeletionsAreSafe o first before calls }
+{}
+
+/// No deleted file is reported to the coordinator as new again, so a file was handed out exactly
+/// when it was registered and no live record uses it.
+pub fn issued_once()
+    ensures { (o : Opening) (first : ℕ) (calls : List FencedCall) → CanFence o first → AreFencedCalls calls → IssuedOnce o first calls }
+{}
+
+/// Once a restore or a cancel is accepted, the tasks that ran before change nothing.
+pub fn zombies_are_fenced()
+    ensures { (o : Opening) (first : ℕ) (before calls : List FencedCall) → CanFence o first → AreFencedCalls before → AreFencedCalls calls → ZombiesAreFenced o first before calls }
+{}
+
+/// Right after an accepted restore or cancel each name that was given out is in use, waits for
+/// deletion, was fetched for it, or is garbage.
+pub fn sweep_is_exact()
+    ensures { (o : Opening) (first : ℕ) (before : List FencedCall) → CanFence o first → AreFencedCalls before → SweepIsExact o first before }
+{}
+
+/// In a job that was cancelled each name that was given out is in use, waits for deletion, was
+/// fetched for it, or is garbage.
+pub fn cancelled_is_swept()
+    ensures { (o : Opening) (first : ℕ) (calls : List FencedCall) → CanFence o first → AreFencedCalls calls → CancelledIsSwept o first calls }
+{}

@@ -1,0 +1,301 @@
+//! A coordinator whose tasks reserve the names of their files.
+
+ghost use Rattle.std.specs.Prelude.{◌≡◌, ◌↔◌, ◌<◌, ◌≤◌, ◌+◌, ℕ, [], IfOk, IfSome, OnErr, None, find, length, not, true, unwrap_or, ◌^◌, if◌then◌else◌};
+ghost use Rattle.std.specs.Result.{result_err};
+ghost use Rattle.ckpt_ids.specs.declared.call.Call.TheVariants as call;
+ghost use Rattle.ckpt_core.specs.Soundness.{IsCall};
+ghost use Rattle.ckpt_terms.specs.declared.call.FencedCall.TheVariants.{Reserve, Forfeit, Make};
+ghost use Rattle.ckpt_terms.specs.Fencing.{ends_the_term, fence, fenced, fenced_step, fresh_of, is_garbage, is_unspent, is_of_task, not_held, not_reserved, unspent_after};
+ghost use Rattle.ckpt_terms.specs.FencedLaws.{IsFenced, IsFencedCall};
+ghost use Rattle.ckpt_terms.specs.TermsOpening.{terms_fault};
+ghost use Rattle.ckpt_terms.specs.Wants.{wants_memory};
+
+use crate::call::{FencedAnswer, FencedCall, FencedRefusal, LAST_TERM, MOST_NAMES, NAMES_END};
+use crate::names::Names;
+use ckpt_core::{Core, CoreFault, Mode, OpenFault, Secret};
+use ckpt_ids::{Answer, Call, Config, FileId, Files, Shape};
+use std::alloc::{AllocError, Global};
+use std::marker::Model;
+
+/// A coordinator whose tasks reserve the names of their files.
+#[derive(Debug)]
+pub struct Terms {
+    alloc: Global,
+    core: Core,
+    term: u64,
+    next_name: u64,
+    unspent: Names,
+}
+
+impl Drop for Terms {
+    fn drop(self) {
+        let Terms {
+            alloc: _,
+            core: _,
+            term: _,
+            next_name: _,
+            unspent: _,
+        } = self;
+    }
+}
+
+impl Model for Terms {
+    ghost use Rattle.ckpt_terms.specs.Fencing.{Fenced};
+    ghost use Rattle.ckpt_terms.specs.FencedLaws.{IsFenced};
+
+    ghost Value = { Fenced };
+
+    ghost view = { λ t. record { core = t.core; term = t.term; next_name = t.next_name; unspent = t.unspent } };
+
+    ghost invariant = { λ t. IsFenced (record { core = t.core; term = t.term; next_name = t.next_name; unspent = t.unspent }) };
+}
+
+impl Terms {
+    /// Opens a coordinator as [`Core::keyed`] does, in term 1. The first name that it gives out will
+    /// be `first_name`: all names that were used before must be below it.
+    ///
+    /// Returns [`OpenFault::BadFirst`] if `first_name` is 0 or above 2^62. Otherwise has the faults
+    /// of [`Core::keyed`]. Takes no memory.
+    pub fn keyed(
+        alloc: Global,
+        config: Config,
+        shape: Shape,
+        now: u64,
+        first: u64,
+        first_name: u64,
+        secret: Secret,
+    ) -> Result<Terms, OpenFault>
+        ensures fault { result_err result ≡ terms_fault now first first_name }
+        ensures value { IfOk result (λ terms. terms ≡ fenced (record { config = config; shape = shape; start = now; first = first }) first_name) }
+    {
+        if first_name == 0 || first_name > NAMES_END {
+            return Err(OpenFault::BadFirst);
+        }
+        // The contracts of these reads say that both are within their limits.
+        let _ = (config.interval(), shape.size());
+        let core = Core::keyed(alloc, config, shape, now, first, secret)?;
+        Ok(Terms {
+            alloc,
+            core,
+            term: 1,
+            next_name: first_name,
+            unspent: Names::new(alloc),
+        })
+    }
+
+    /// Makes a call, and returns its answer. Fails only if memory runs out, and then nothing has
+    /// changed. Only these take memory, and only if they are not [`FencedAnswer::Fenced`]: a
+    /// reservation, names given up, an acknowledgement with fresh files, and what takes memory in
+    /// [`Core::apply`].
+    pub fn apply(&mut self, call: &FencedCall) -> Result<FencedAnswer, AllocError>
+        ensures done { IfOk result (λ answer. fenced_step self.old call.now ≡ (self.new, answer)) }
+        ensures memory { OnErr result (wants_memory self.old call.now ≡ true) }
+        ensures unchanged { OnErr result (self.new ≡ self.old) }
+        ensures shape { IsFencedCall call.now }
+    {
+        match call {
+            FencedCall::Reserve { term, count } => self.reserve(*term, *count),
+            FencedCall::Forfeit { term, names } => self.forfeit(*term, names),
+            FencedCall::Make { term, call } => self.make(*term, call),
+        }
+    }
+
+    fn reserve(&mut self, term: u64, count: u64) -> Result<FencedAnswer, AllocError>
+        ensures done { IfOk result (λ answer. fenced_step self.old (Reserve term count) ≡ (self.new, answer)) }
+        ensures memory { OnErr result (wants_memory self.old (Reserve term count) ≡ true) }
+        ensures unchanged { OnErr result (self.new ≡ self.old) }
+    {
+        if let Some(why) = self.refuses_reserve(term, count) {
+            return Ok(FencedAnswer::Fenced(why));
+        }
+        let first = self.next_name;
+        self.unspent.add(first, count)?;
+        self.next_name = first + count;
+        Ok(FencedAnswer::Reserved(FileId(first)))
+    }
+
+    fn refuses_reserve(&self, term: u64, count: u64) -> Option<FencedRefusal>
+        ensures { result ≡ fence self.now (Reserve term count) }
+    {
+        if term != self.term {
+            return Some(FencedRefusal::OldTerm);
+        }
+        if self.core.mode() == Mode::Cancelled {
+            return Some(FencedRefusal::Ended);
+        }
+        if count == 0 || count > MOST_NAMES {
+            return Some(FencedRefusal::BadCount);
+        }
+        if self.next_name + count > NAMES_END {
+            return Some(FencedRefusal::NamesUsedUp);
+        }
+        None
+    }
+
+    fn forfeit(&mut self, term: u64, names: &Files) -> Result<FencedAnswer, AllocError>
+        ensures done { IfOk result (λ answer. fenced_step self.old (Forfeit term names.now) ≡ (self.new, answer)) }
+        ensures memory { OnErr result (wants_memory self.old (Forfeit term names.now) ≡ true) }
+        ensures unchanged { OnErr result (self.new ≡ self.old) }
+    {
+        if term != self.term {
+            return Ok(FencedAnswer::Fenced(FencedRefusal::OldTerm));
+        }
+        self.unspent = self.unspent.without(names)?;
+        Ok(FencedAnswer::Forfeited)
+    }
+
+    fn make(&mut self, term: u64, call: &Call) -> Result<FencedAnswer, AllocError>
+        ensures done { IfOk result (λ answer. fenced_step self.old (Make term call.now) ≡ (self.new, answer)) }
+        ensures memory { OnErr result (wants_memory self.old (Make term call.now) ≡ true) }
+        ensures unchanged { OnErr result (self.new ≡ self.old) }
+        ensures shape { IsCall call.now }
+    {
+        recall_call(call);
+        if let Some(why) = self.refuses_make(term, call) {
+            return Ok(FencedAnswer::Fenced(why));
+        }
+        // It is made before the coordinator changes, so that nothing can fail after that.
+        let left = self.left_by(call)?;
+        match self.core.apply(call) {
+            Ok(reply) => {
+                put_in(&mut self.unspent, left);
+                self.term = term_after(self.term, call);
+                Ok(FencedAnswer::Made {
+                    term: self.term,
+                    answer: Answer::Done(reply),
+                })
+            }
+            Err(CoreFault::Refused(why)) => Ok(FencedAnswer::Made {
+                term: self.term,
+                answer: Answer::Refused(why),
+            }),
+            Err(CoreFault::Memory) => Err(AllocError),
+        }
+    }
+
+    fn refuses_make(&self, term: u64, call: &Call) -> Option<FencedRefusal>
+        ensures { result ≡ fence self.now (Make term call.now) }
+    {
+        if is_of_task(call) && term != self.term {
+            return Some(FencedRefusal::OldTerm);
+        }
+        if ends(call) && self.term >= LAST_TERM {
+            return Some(FencedRefusal::TermsUsedUp);
+        }
+        self.refuses_fresh(call)
+    }
+
+    fn refuses_fresh(&self, call: &Call) -> Option<FencedRefusal>
+        ensures { result ≡ not_reserved self.now (find (λ f. not (is_unspent self.now f)) (fresh_of call.now)) }
+    {
+        let fresh = fresh_of(call)?;
+        let file = self.unspent.first_absent(fresh.as_slice())?;
+        Some(self.not_held(file))
+    }
+
+    /// Why a file is refused whose name the running term does not hold.
+    fn not_held(&self, file: FileId) -> FencedRefusal
+        ensures { result ≡ not_held self.now file }
+    {
+        if file.0 < self.next_name {
+            FencedRefusal::Spent(file)
+        } else {
+            FencedRefusal::NeverReserved(file)
+        }
+    }
+
+    /// The names that are held after the call, or `None` if they stay.
+    fn left_by(&self, call: &Call) -> Result<Option<Names>, AllocError>
+        ensures left { IfOk result (λ left. unwrap_or left self.now.unspent ≡ unspent_after self.now.unspent call.now) }
+        ensures memory { OnErr result (0 < length (fresh_of call.now)) }
+    {
+        if ends(call) {
+            return Ok(Some(Names::new(self.alloc)));
+        }
+        match fresh_of(call) {
+            Some(fresh) => Ok(Some(self.unspent.without(fresh)?)),
+            None => Ok(None),
+        }
+    }
+
+    /// Whether the name was given out, and no live record uses its file, it does not wait for
+    /// deletion and was not fetched for it, and no task of the running term may write it.
+    pub fn is_garbage(&self, file: FileId) -> bool
+        ensures { result ≡ is_garbage self.now file }
+    {
+        file.0 < self.next_name && !self.unspent.contains(file) && !self.core.knows(file)
+    }
+
+    /// The term that runs. The contract also says what always holds.
+    pub fn term(&self) -> u64
+        ensures value { result ≡ self.now.term }
+        ensures always { IsFenced self.now }
+    {
+        self.term
+    }
+
+    /// The coordinator.
+    pub fn core(&self) -> &Core
+        ensures { result.now ≡ self.now.core }
+    {
+        &self.core
+    }
+}
+
+/// Whether a task makes the call.
+fn is_of_task(call: &Call) -> bool
+    ensures { result ≡ is_of_task call.now }
+{
+    matches!(call, Call::Ack { .. } | Call::Decline { .. })
+}
+
+/// The fresh files of an acknowledgement, if it has any.
+fn fresh_of(call: &Call) -> Option<&Files>
+    ensures some { IfSome result (λ files. files.now ≡ fresh_of call.now) }
+    ensures any { IfSome result (λ files. 0 < length (fresh_of call.now)) }
+    ensures none { result ≡ None → fresh_of call.now ≡ [] }
+{
+    match call {
+        Call::Ack { fresh, .. } if !fresh.is_empty() => Some(fresh),
+        _ => None,
+    }
+}
+
+/// Puts these names in the place of the others, if there are some.
+fn put_in(names: &mut Names, left: Option<Names>)
+    ensures { names.new ≡ unwrap_or left names.old }
+{
+    if let Some(left) = left {
+        *names = left;
+    }
+}
+
+/// The term after an accepted call.
+///
+/// Condition: the last term does not end.
+fn term_after(term: u64, call: &Call) -> u64
+    requires { ends_the_term call.now ≡ true → term < 2 ^ 62 }
+    ensures { result ≡ (if ends_the_term call.now then term + 1 else term) }
+{
+    if ends(call) { term + 1 } else { term }
+}
+
+/// Whether the call ends the term, if it is accepted.
+fn ends(call: &Call) -> bool
+    ensures { result ≡ ends_the_term call.now }
+{
+    matches!(call, Call::Restore { .. } | Call::Cancel { .. })
+}
+
+/// Does nothing. Its contract says that the shape of a restore is a valid shape.
+fn recall_call(call: &Call)
+    ensures { IsCall call.now }
+{
+    if let Call::Restore {
+        shape: Some(shape),
+        ..
+    } = call
+    {
+        shape.recall();
+    }
+}
