@@ -6,7 +6,8 @@
  *
  * Conditions for the caller:
  * - A handle is all zero, or as the library last left it. Do not copy it or change its field.
- * - Make one call at a time for each handle. It may move between threads under the engine's own lock.
+ * - Make one call or read at a time for each handle: a read takes the state out of the handle and puts it back. A handle may
+ *   move between threads under the engine's own lock.
  * - Each pointer is aligned, and points to as many elements as the call says. A program that includes this header may
  *   pass a null pointer with length 0, and may close NULL. No other pointer may be null. The symbols of the library
  *   take no null pointer at all, not even with length 0. A binding that loads the symbols by name passes the address of
@@ -15,13 +16,17 @@
  * - Make no call from a signal handler.
  *
  * The library keeps no pointer to the caller's memory. It frees its own memory, that of a coordinator in relkvanu_close.
- * Moments are milliseconds, at most 2^62 - 1.
+ *
+ * Moments are milliseconds, at most 2^62 - 1. The coordinator keeps the greatest moment that an accepted call has named. If one call
+ * names a moment that is ten years ahead, then for ten years no checkpoint is triggered, no record expires, and no answer says why.
+ * relkvanu_restore does not heal that, and logs and images keep it. So take a clock that never jumps, such as a monotonic one that
+ * begins at the greatest moment of the log. The wall clock jumps.
  *
  * Who may delete a file: a task deletes a file only if no accepted acknowledgement ever named it. A file that an
  * accepted acknowledgement named, even a late one, belongs to the coordinator. The coordinator hands it out for deletion
  * once no record uses it. A refused acknowledgement does not change who owns a file. After
  * RELKVANU_ALREADY_ACKNOWLEDGED and RELKVANU_NAME_TAKEN its files may belong to the coordinator: an earlier
- * acknowledgement may have named them.
+ * acknowledgement may have named them. Before it acknowledges, a task syncs the files that it wrote, and their folder.
  *
  * Memory: a call that takes no memory never returns RELKVANU_NO_MEMORY. Each call on a closed handle returns
  * RELKVANU_CLOSED and changes nothing.
@@ -132,6 +137,7 @@ typedef struct {
 #define RELKVANU_LIVE_NONE 34u       /* there are fewer live records */
 #define RELKVANU_MISSING 35u         /* a: subtasks */
 #define RELKVANU_NOT_PENDING 36u
+#define RELKVANU_MOMENT 55u /* a: moment */
 
 /* what, if a line of a script is RELKVANU_DONE */
 #define RELKVANU_SKIPPED 37u     /* the line makes no call: it has no words or is a comment */
@@ -181,7 +187,7 @@ typedef struct {
 #define RELKVANU_BAD_MOMENT 4u
 #define RELKVANU_BAD_FIRST 5u
 #define RELKVANU_BAD_KIND 6u
-#define RELKVANU_BAD_IMAGE 7u /* the bytes are not an image, or no coordinator can be in the state that it describes */
+#define RELKVANU_BAD_IMAGE 7u /* the bytes are not an image, or the state is not sound, or no coordinator could be opened so */
 
 /* what, if code is RELKVANU_BAD_LINE: the first fault from the left */
 #define RELKVANU_FAULT_TOO_LONG 1u /* a line has at most 131072 bytes */
@@ -298,6 +304,10 @@ relkvanu_answer relkvanu_count(relkvanu *handle, uint64_t file);
 /* What the job is doing: RELKVANU_MODE_RUNNING, RELKVANU_MODE_FAILED or RELKVANU_MODE_CANCELLED. */
 relkvanu_answer relkvanu_mode(relkvanu *handle);
 
+/* RELKVANU_MOMENT: the greatest moment that the coordinator has seen, at its opening or in an accepted call. It takes an
+ * earlier moment for this one. So it shows whether a clock has run ahead. */
+relkvanu_answer relkvanu_moment(relkvanu *handle);
+
 /* RELKVANU_DUE: the moment from which neither the interval nor the pause holds a checkpoint back. No
  * tick before it triggers one. A tick at it or later triggers one, with three exceptions: as many are pending as may
  * be, the job is not running, or so many checkpoints expire in the tick that the job fails over. A call that
@@ -400,7 +410,7 @@ relkvanu_answer relkvanu_files_of(relkvanu *handle, uint64_t id, uint16_t vertex
 /* Writes the files that the pending record id pins, in ascending order: the files of the record that a restart would have begun
  * from at its trigger. Writes none if no record with this number is pending.
  *
- * RELKVANU_FILES; RELKVANU_TOO_SHORT. Takes memory. */
+ * RELKVANU_FILES; RELKVANU_TOO_SHORT. Takes memory only if the record is pending. */
 relkvanu_answer relkvanu_pins_of(relkvanu *handle, uint64_t id, uint64_t *files, size_t files_len);
 
 /* The file at this place, from 0, among those that wait for deletion. The next to be fetched is the first. RELKVANU_WAITING;

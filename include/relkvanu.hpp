@@ -4,16 +4,21 @@
  *
  * Make one call or read at a time for each coordinator. A read takes the state out of its handle and puts it back, so reads
  * are not const. Threads share a coordinator under the engine's own mutex. Functions whose result has a string or a vector may
- * throw std::bad_alloc. open and open_saved throw what std::random_device throws.
+ * throw std::bad_alloc. open and open_saved throw what std::random_device throws. All others are noexcept.
+ *
+ * The process is aborted, with or without NDEBUG, if a closed coordinator is read, since no answer would be right: a count of 0 lets a
+ * caller delete a file that is in use. It is aborted too if the library gives an answer that this header does not have, because the
+ * library is of another version.
  */
 #ifndef RELKVANU_HPP
 #define RELKVANU_HPP
 
 #include "relkvanu.h"
 
-#include <cassert>
 #include <cstddef>
 #include <cstdint>
+#include <cstdio>
+#include <cstdlib>
 #include <optional>
 #include <random>
 #include <string>
@@ -31,6 +36,7 @@ template <class T> class span {
 public:
     constexpr span() noexcept = default;
     constexpr span(T *first, std::size_t len) noexcept : first_(first), len_(len) {}
+    span(std::nullptr_t, std::size_t) = delete; /* {0, 2} is no list of the files 0 and 2 */
     template <std::size_t N> constexpr span(T (&all)[N]) noexcept : first_(all), len_(N) {}
     template <class Container, class = std::enable_if_t<std::is_convertible_v<decltype(std::declval<Container &>().data()), T *>>>
     constexpr span(Container &all) noexcept : first_(all.data()), len_(all.size()) {}
@@ -89,7 +95,7 @@ public:
     const char *name() const noexcept override { return "relkvanu"; }
 
     std::string message(int value) const override {
-        std::uint8_t text[32];
+        std::uint8_t text[32] = {};
         if (value >> 8 == RELKVANU_REFUSED) {
             std::size_t len = relkvanu_refusal_text(static_cast<std::uint32_t>(value & 0xff), text, sizeof text);
             return std::string(reinterpret_cast<const char *>(text), len);
@@ -138,7 +144,7 @@ struct refused {
     std::uint64_t file = 0, places = 0;
 };
 
-inline refused refusal(relkvanu_answer told) {
+inline refused refusal(relkvanu_answer told) noexcept {
     bool has_what = told.code == RELKVANU_REFUSED || told.code == RELKVANU_BAD_ARGUMENT || told.code == RELKVANU_BAD_LINE;
     error why = static_cast<error>(told.code << 8 | (has_what ? told.what : 0));
     return refused{make_error_code(why), told.code == RELKVANU_REFUSED ? told.a : 0, told.code == RELKVANU_TOO_SHORT ? told.a : 0};
@@ -199,6 +205,14 @@ struct live_record {
     bool is_savepoint, is_done;
 };
 
+/* Ends the process, because a read or an answer can't be told rightly. */
+[[noreturn]] inline void abort_because(const char *why) noexcept {
+    std::fprintf(stderr, "relkvanu: %s\n", why);
+    std::abort();
+}
+
+[[noreturn]] inline void abort_unknown() noexcept { abort_because("an answer that relkvanu.hpp does not have: the library is of another version"); }
+
 /* The result of writing into a buffer that is long enough. */
 template <class Write> text_answer written(Write write) {
     std::string text(256, '\0');
@@ -214,18 +228,19 @@ template <class Write> text_answer written(Write write) {
     return text;
 }
 
-/* The coordinator of one job. After a move the old one is closed: its calls are refused as error::closed, and it must not be read. */
+/* The coordinator of one job. After a move the old one is closed: its calls are refused as error::closed, and a read of it aborts the
+ * process. */
 class Coordinator {
 public:
     /* Opens a coordinator. Its first record has the number first: 1 for a new job, otherwise the greatest earlier number plus 1. */
-    static std::variant<Coordinator, refused> open(const relkvanu_settings &settings, shape of, std::uint64_t now, std::uint64_t first = 1) {
+    [[nodiscard]] static std::variant<Coordinator, refused> open(const relkvanu_settings &settings, shape of, std::uint64_t now, std::uint64_t first = 1) {
         return opened([&](relkvanu *handle, std::uint64_t word, std::uint64_t other) {
             return relkvanu_open(handle, &settings, of.data(), of.size(), now, first, word, other);
         });
     }
 
     /* Opens the coordinator that an image describes. It answers every list of calls as the saved one would. */
-    static std::variant<Coordinator, refused> open_saved(std::string_view image) {
+    [[nodiscard]] static std::variant<Coordinator, refused> open_saved(std::string_view image) {
         return opened([&](relkvanu *handle, std::uint64_t word, std::uint64_t other) {
             return relkvanu_open_saved(handle, reinterpret_cast<const std::uint8_t *>(image.data()), image.size(), word, other);
         });
@@ -233,12 +248,13 @@ public:
 
     Coordinator(const Coordinator &) = delete;
     Coordinator &operator=(const Coordinator &) = delete;
-    Coordinator(Coordinator &&other) noexcept : handle_(std::exchange(other.handle_, relkvanu{})) {}
+    Coordinator(Coordinator &&other) noexcept : handle_(std::exchange(other.handle_, relkvanu{})), most_ahead_(other.most_ahead_) {}
 
     Coordinator &operator=(Coordinator &&other) noexcept {
         if (this != &other) {
             relkvanu_close(&handle_);
             handle_ = std::exchange(other.handle_, relkvanu{});
+            most_ahead_ = other.most_ahead_;
         }
         return *this;
     }
@@ -247,7 +263,15 @@ public:
 
     explicit operator bool() const noexcept { return handle_.state != nullptr; }
 
-    tick_answer tick(std::uint64_t now) {
+    /* A moment that is far ahead would stop the job's checkpoints until then. So a call is refused as error::moment_too_large if its
+     * moment is more than so many milliseconds beyond the greatest moment so far, and beyond what a timer waits for. That is a day,
+     * unless an engine sets it, which it does if a longer time may pass without a call. Lines of a log are not checked. */
+    void set_most_ahead(std::uint64_t milliseconds) noexcept { most_ahead_ = milliseconds; }
+
+    [[nodiscard]] tick_answer tick(std::uint64_t now) noexcept {
+        if (is_ahead(now)) {
+            return too_large();
+        }
         relkvanu_answer told = relkvanu_tick(&handle_, now);
         if (told.code != RELKVANU_DONE) {
             return refusal(told);
@@ -257,18 +281,25 @@ public:
         case RELKVANU_TICK_HELD_INTERVAL: return held_interval{told.a};
         case RELKVANU_TICK_HELD_AT_ONCE: return held_at_once{told.a};
         case RELKVANU_TICK_HELD_PAUSE: return held_pause{told.a};
-        default: return failed{told.a};
+        case RELKVANU_TICK_FAILED: return failed{told.a};
+        default: abort_unknown();
         }
     }
 
-    savepoint_answer savepoint(std::uint64_t now) {
+    [[nodiscard]] savepoint_answer savepoint(std::uint64_t now) noexcept {
+        if (is_ahead(now)) {
+            return too_large();
+        }
         relkvanu_answer told = relkvanu_savepoint(&handle_, now);
         return told.code == RELKVANU_DONE ? savepoint_answer(savepoint_triggered{told.a}) : refusal(told);
     }
 
     /* After a refusal the task may delete a file only if no accepted acknowledgement ever named it: after already_acknowledged it
      * deletes none, and after name_taken none that it named before. */
-    ack_answer ack(std::uint64_t now, std::uint64_t id, std::uint16_t vertex, std::uint16_t index, files fresh, files reused = {}) {
+    [[nodiscard]] ack_answer ack(std::uint64_t now, std::uint64_t id, std::uint16_t vertex, std::uint16_t index, files fresh, files reused = {}) noexcept {
+        if (is_ahead(now)) {
+            return too_large();
+        }
         relkvanu_answer told = relkvanu_ack(&handle_, now, id, vertex, index, fresh.data(), fresh.size(), reused.data(), reused.size());
         if (told.code != RELKVANU_DONE) {
             return refusal(told);
@@ -276,11 +307,15 @@ public:
         switch (told.what) {
         case RELKVANU_ACK_PENDING: return ack_pending{told.a};
         case RELKVANU_ACK_COMPLETED: return ack_completed{told.a, told.b};
-        default: return ack_late{told.a};
+        case RELKVANU_ACK_LATE: return ack_late{told.a};
+        default: abort_unknown();
         }
     }
 
-    decline_answer decline(std::uint64_t now, std::uint64_t id, std::uint16_t vertex, std::uint16_t index) {
+    decline_answer decline(std::uint64_t now, std::uint64_t id, std::uint16_t vertex, std::uint16_t index) noexcept {
+        if (is_ahead(now)) {
+            return too_large();
+        }
         relkvanu_answer told = relkvanu_decline(&handle_, now, id, vertex, index);
         if (told.code != RELKVANU_DONE) {
             return refusal(told);
@@ -288,48 +323,52 @@ public:
         switch (told.what) {
         case RELKVANU_DECLINE_ABORTED: return decline_aborted{told.a};
         case RELKVANU_DECLINE_FAILED: return decline_failed{told.a};
-        default: return decline_late{};
+        case RELKVANU_DECLINE_LATE: return decline_late{};
+        default: abort_unknown();
         }
     }
 
-    dispose_answer dispose(std::uint64_t id) {
+    dispose_answer dispose(std::uint64_t id) noexcept {
         relkvanu_answer told = relkvanu_dispose(&handle_, id);
         return told.code == RELKVANU_DONE ? dispose_answer(disposed{told.a}) : refusal(told);
     }
 
     /* Restores the latest record, in the current shape or in a given one. A bad shape is reported before any refusal. */
-    restore_answer restore(std::uint64_t now, shape of = {}) { return restore_from(now, 0, of); }
+    restore_answer restore(std::uint64_t now, shape of = {}) noexcept { return restore_from(now, 0, of); }
 
     /* Rolls back to a savepoint. No savepoint has the number 0. */
-    restore_answer roll_back(std::uint64_t now, std::uint64_t savepoint, shape of = {}) {
+    restore_answer roll_back(std::uint64_t now, std::uint64_t savepoint, shape of = {}) noexcept {
         if (savepoint == 0) {
             return refused{make_error_code(error::no_such_savepoint)};
         }
         return restore_from(now, savepoint, of);
     }
 
-    cancel_answer cancel(std::uint64_t now) {
+    cancel_answer cancel(std::uint64_t now) noexcept {
+        if (is_ahead(now)) {
+            return too_large();
+        }
         relkvanu_answer told = relkvanu_cancel(&handle_, now);
         return told.code == RELKVANU_DONE ? cancel_answer(cancelled{told.a, told.b}) : refusal(told);
     }
 
     /* Fetches files that wait for deletion into a buffer, at most as many as it has places. */
-    take_answer take(span<std::uint64_t> buffer) {
+    [[nodiscard]] take_answer take(span<std::uint64_t> buffer) noexcept {
         relkvanu_answer told = relkvanu_take(&handle_, buffer.data(), buffer.size());
         return told.code == RELKVANU_DONE ? take_answer(files(buffer.data(), static_cast<std::size_t>(told.a))) : refusal(told);
     }
 
-    report_answer deleted(std::uint64_t file) { return report(relkvanu_deleted(&handle_, file)); }
+    report_answer deleted(std::uint64_t file) noexcept { return report(relkvanu_deleted(&handle_, file)); }
 
-    report_answer undeleted(std::uint64_t file) { return report(relkvanu_undeleted(&handle_, file)); }
+    report_answer undeleted(std::uint64_t file) noexcept { return report(relkvanu_undeleted(&handle_, file)); }
 
     /* The metadata of a live record, as JSON. */
-    show_answer show(std::uint64_t id) {
+    [[nodiscard]] show_answer show(std::uint64_t id) {
         return written([&](std::uint8_t *json, std::size_t len) { return relkvanu_show(&handle_, id, json, len); });
     }
 
     /* The image of the coordinator, as JSON (docs/IMAGE.md). */
-    text_answer save() {
+    [[nodiscard]] text_answer save() {
         return written([&](std::uint8_t *image, std::size_t len) { return relkvanu_save(&handle_, image, len); });
     }
 
@@ -351,26 +390,31 @@ public:
 
     /* Reads. The coordinator must not be closed. */
 
-    std::uint64_t count(std::uint64_t file) { return read(relkvanu_count(&handle_, file)).b; }
+    [[nodiscard]] std::uint64_t count(std::uint64_t file) noexcept { return read(relkvanu_count(&handle_, file)).b; }
 
-    ckpt::mode mode() {
+    [[nodiscard]] ckpt::mode mode() noexcept {
         switch (read(relkvanu_mode(&handle_)).what) {
         case RELKVANU_MODE_RUNNING: return ckpt::mode::running;
         case RELKVANU_MODE_FAILED: return ckpt::mode::failed;
-        default: return ckpt::mode::cancelled;
+        case RELKVANU_MODE_CANCELLED: return ckpt::mode::cancelled;
+        default: abort_unknown();
         }
     }
 
-    std::uint64_t due() { return read(relkvanu_due(&handle_)).a; }
+    /* The greatest moment that the coordinator has seen. It takes an earlier one for this one. */
+    [[nodiscard]] std::uint64_t moment() noexcept { return read(relkvanu_moment(&handle_)).a; }
 
-    std::optional<std::uint64_t> oldest_expiry() {
+    [[nodiscard]] std::uint64_t due() noexcept { return read(relkvanu_due(&handle_)).a; }
+
+    [[nodiscard]] std::optional<std::uint64_t> oldest_expiry() noexcept {
         relkvanu_answer told = read(relkvanu_oldest_expiry(&handle_));
         return told.what == RELKVANU_EXPIRES ? std::optional(told.a) : std::nullopt;
     }
 
     /* When to tick again after a tick with this answer, unless another call comes first: when a checkpoint is due, or when a pending
-     * record expires. While as many checkpoints are pending as may be, only the expiry counts. nullopt: not before another call. */
-    std::optional<std::uint64_t> next_tick(const tick_answer &ticked) {
+     * record expires. While as many checkpoints are pending as may be, only the expiry counts. nullopt: not before another call. After
+     * a tick without memory it has passed: wait for a second instead. */
+    [[nodiscard]] std::optional<std::uint64_t> next_tick(const tick_answer &ticked) noexcept {
         if (mode() != ckpt::mode::running) {
             return std::nullopt;
         }
@@ -381,68 +425,82 @@ public:
         return expiry && *expiry < due() ? expiry : due();
     }
 
-    ckpt::choice choice() {
+    [[nodiscard]] ckpt::choice choice() noexcept {
         relkvanu_answer told = read(relkvanu_choice(&handle_));
         switch (told.what) {
         case RELKVANU_CHOICE_CHECKPOINT: return ckpt::checkpoint{told.a};
         case RELKVANU_CHOICE_SAVEPOINT: return ckpt::savepoint{told.a};
-        default: return ckpt::fresh{};
+        case RELKVANU_CHOICE_FRESH: return ckpt::fresh{};
+        default: abort_unknown();
         }
     }
 
-    std::optional<live_record> live(std::size_t place) {
+    [[nodiscard]] std::optional<live_record> live(std::size_t place) noexcept {
         return record_of(relkvanu_live(&handle_, place));
     }
 
-    std::optional<std::uint64_t> missing(std::uint64_t id) {
+    [[nodiscard]] std::optional<std::uint64_t> missing(std::uint64_t id) noexcept {
         relkvanu_answer told = read(relkvanu_missing(&handle_, id));
         return told.what == RELKVANU_MISSING ? std::optional(told.a) : std::nullopt;
     }
 
     /* The live record with the least number that is at least this one. */
-    std::optional<live_record> live_from(std::uint64_t id) { return record_of(relkvanu_live_from(&handle_, id)); }
+    [[nodiscard]] std::optional<live_record> live_from(std::uint64_t id) noexcept { return record_of(relkvanu_live_from(&handle_, id)); }
 
-    ckpt::standing standing(std::uint64_t id) {
+    [[nodiscard]] ckpt::standing standing(std::uint64_t id) noexcept {
         switch (read(relkvanu_standing(&handle_, id)).what) {
         case RELKVANU_STANDS_PENDING: return ckpt::standing::pending;
         case RELKVANU_STANDS_DONE: return ckpt::standing::done;
         case RELKVANU_STANDS_ENDED: return ckpt::standing::ended;
         case RELKVANU_STANDS_NOT_YET: return ckpt::standing::not_yet;
-        default: return ckpt::standing::never;
+        case RELKVANU_STANDS_NEVER: return ckpt::standing::never;
+        default: abort_unknown();
         }
     }
 
     /* The files that a subtask acknowledged in this record. nullopt if the record is not live or the subtask has not acknowledged. */
-    std::optional<std::vector<std::uint64_t>> files_of(std::uint64_t id, std::uint16_t vertex, std::uint16_t index) {
+    [[nodiscard]] std::optional<std::vector<std::uint64_t>> files_of(std::uint64_t id, std::uint16_t vertex, std::uint16_t index) {
         std::vector<std::uint64_t> found;
         relkvanu_answer told = fill(found, [&](std::uint64_t *places, std::size_t len) { return relkvanu_files_of(&handle_, id, vertex, index, places, len); });
         return read(told).what == RELKVANU_FILES ? std::optional(std::move(found)) : std::nullopt;
     }
 
     /* The files that a pending record pins. */
-    files_answer pins_of(std::uint64_t id) {
+    [[nodiscard]] files_answer pins_of(std::uint64_t id) {
         return found([&](std::uint64_t *places, std::size_t len) { return relkvanu_pins_of(&handle_, id, places, len); });
     }
 
     /* The file at this place, from 0, among those that wait for deletion. The first is fetched next. */
-    std::optional<std::uint64_t> waiting_file(std::size_t place) {
+    [[nodiscard]] std::optional<std::uint64_t> waiting_file(std::size_t place) noexcept {
         relkvanu_answer told = read(relkvanu_waiting_file(&handle_, place));
         return told.what == RELKVANU_WAITING ? std::optional(told.a) : std::nullopt;
     }
 
     /* The files that were fetched for deletion and are not yet reported. */
-    files_answer taken_files() {
+    [[nodiscard]] files_answer taken_files() {
         return found([&](std::uint64_t *places, std::size_t len) { return relkvanu_taken_files(&handle_, places, len); });
     }
 
-    relkvanu_counts file_counts() {
+    [[nodiscard]] relkvanu_counts file_counts() noexcept {
         relkvanu_counts told = relkvanu_file_counts(&handle_);
-        assert(told.code == RELKVANU_DONE);
+        check_read(told.code);
         return told;
     }
 
 private:
     relkvanu handle_ = {};
+    std::uint64_t most_ahead_ = std::uint64_t{24} * 60 * 60 * 1000;
+
+    bool is_ahead(std::uint64_t now) noexcept {
+        relkvanu_answer seen = relkvanu_moment(&handle_);
+        if (now <= most_ahead_ || now >= std::uint64_t{1} << 62 || seen.code != RELKVANU_DONE) {
+            return false;
+        }
+        std::uint64_t past = now - most_ahead_;
+        return past > seen.a && past > due() && past > oldest_expiry().value_or(0);
+    }
+
+    static refused too_large() noexcept { return refused{make_error_code(error::moment_too_large)}; }
 
     Coordinator() = default;
 
@@ -472,17 +530,25 @@ private:
         return json != nullptr ? line_answer(std::move(*json)) : line_answer(std::get<refused>(shown));
     }
 
-    static relkvanu_answer read(relkvanu_answer told) {
-        assert(told.code == RELKVANU_DONE);
+    static void check_read(std::uint32_t code) noexcept {
+        if (code != RELKVANU_DONE) {
+            abort_because("a closed coordinator was read");
+        }
+    }
+
+    static relkvanu_answer read(relkvanu_answer told) noexcept {
+        check_read(told.code);
         return told;
     }
 
-    static std::optional<live_record> record_of(relkvanu_answer answer) {
+    static std::optional<live_record> record_of(relkvanu_answer answer) noexcept {
         relkvanu_answer told = read(answer);
-        if (told.what == RELKVANU_LIVE_NONE) {
-            return std::nullopt;
+        switch (told.what) {
+        case RELKVANU_LIVE_NONE: return std::nullopt;
+        case RELKVANU_LIVE_CHECKPOINT: return live_record{told.a, false, told.b == 1};
+        case RELKVANU_LIVE_SAVEPOINT: return live_record{told.a, true, told.b == 1};
+        default: abort_unknown();
         }
-        return live_record{told.a, told.what == RELKVANU_LIVE_SAVEPOINT, told.b == 1};
     }
 
     /* Calls a read with a list that grows until it is long enough. */
@@ -503,11 +569,14 @@ private:
         return told.code == RELKVANU_DONE ? files_answer(std::move(list)) : files_answer(refusal(told));
     }
 
-    static report_answer report(relkvanu_answer told) {
+    static report_answer report(relkvanu_answer told) noexcept {
         return told.code == RELKVANU_DONE ? report_answer(reported{told.a}) : refusal(told);
     }
 
-    restore_answer restore_from(std::uint64_t now, std::uint64_t savepoint, shape of) {
+    restore_answer restore_from(std::uint64_t now, std::uint64_t savepoint, shape of) noexcept {
+        if (is_ahead(now)) {
+            return too_large();
+        }
         relkvanu_answer told = relkvanu_restore(&handle_, now, savepoint, of.data(), of.size());
         if (told.code != RELKVANU_DONE) {
             return refusal(told);
@@ -515,21 +584,22 @@ private:
         switch (told.what) {
         case RELKVANU_RESTORED_CHECKPOINT: return restored{ckpt::checkpoint{told.b}, told.a};
         case RELKVANU_RESTORED_SAVEPOINT: return restored{ckpt::savepoint{told.b}, told.a};
-        default: return restored{ckpt::fresh{}, told.a};
+        case RELKVANU_RESTORED_FRESH: return restored{ckpt::fresh{}, told.a};
+        default: abort_unknown();
         }
     }
 };
 
 /* The line of a call, without a newline. first has the fresh files of an ack, or the shape of a restore. second has the reused
  * files. A line that would be too long is refused as error::line_too_long. No line is cut. */
-inline text_answer call_line(const relkvanu_call &call, span<const std::uint64_t> first = {}, files second = {}) {
+[[nodiscard]] inline text_answer call_line(const relkvanu_call &call, span<const std::uint64_t> first = {}, files second = {}) {
     return written([&](std::uint8_t *text, std::size_t len) {
         return relkvanu_call_line(&call, first.data(), first.size(), second.data(), second.size(), text, len);
     });
 }
 
 /* The lines config, job and start of a coordinator whose first record has the number 1, each with its newline. */
-inline text_answer opening_lines(const relkvanu_settings &settings, shape of, std::uint64_t now) {
+[[nodiscard]] inline text_answer opening_lines(const relkvanu_settings &settings, shape of, std::uint64_t now) {
     return written([&](std::uint8_t *text, std::size_t len) { return relkvanu_opening_lines(&settings, of.data(), of.size(), now, text, len); });
 }
 

@@ -167,6 +167,29 @@ static void over_long(void) {
     CHECK(tried(line, LONGEST + 1).code == RELKVANU_BAD_LINE);
 }
 
+/* More files wait than the 65536 that a first buffer may have room for: a take line fetches them all, or as many as it says. */
+static void large_takes(void) {
+    enum { OF_AN_ACK = 4000, ACKS = 18, WAITING = OF_AN_ACK * ACKS };
+    static char line[ROOM];
+    memset(&script, 0, sizeof script);
+    done("config 1000 0 64 600000 0 1 delete", RELKVANU_OPENED);
+    done("job 18", RELKVANU_OPENED);
+    done("start 0", RELKVANU_OPENED);
+    done("tick 1000", RELKVANU_TICK_TRIGGERED);
+    for (size_t ack = 0; ack < ACKS; ack++) {
+        size_t len = (size_t)sprintf(line, "ack 1000 1 0.%zu", ack);
+        for (size_t file = 0; file < OF_AN_ACK; file++) {
+            len += (size_t)sprintf(line + len, " +%zu", 1 + ack * OF_AN_ACK + file);
+        }
+        CHECK(said(line, len).code == RELKVANU_DONE);
+    }
+    done("cancel 2000", RELKVANU_CANCELLED);
+    CHECK(text("take 65537").a == 65537 && script.taken[0] != script.taken[65536]);
+    CHECK(text("take 18446744073709551615").a == WAITING - 65537);
+    CHECK(text("take 1").a == 0 && relkvanu_file_counts(&script.handle).taken == WAITING);
+    script_close(&script);
+}
+
 /* The line of a call into a buffer of each length: none is cut, and nothing is written past the buffer. */
 static void written(void) {
     static uint64_t many[FILES];
@@ -207,6 +230,7 @@ int main(void) {
     cut_and_changed();
     faults();
     over_long();
+    large_takes();
     written();
     nulls();
     return 0;

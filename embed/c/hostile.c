@@ -1,7 +1,9 @@
 /* hostile MEETING OTHERS: each file has the same count of file numbers, one on each line. Those of MEETING were chosen
- * against maps that hash under two words that are 0 (tests/meeting.c). Runs a job whose tasks name them, with each file.
- * Under random words the chosen numbers must cost at most five times what the others cost. Under words that are 0 they must
- * cost at least ten times as much, so the first comparison can fail. The cost is the processor time, the best of three runs. */
+ * against maps that hash under two words that are 0 (tests/meeting.c). Runs a job whose tasks name them, with each file. The
+ * coordinator is opened, and opened again from its image while the files are in use, and while they wait to be fetched.
+ * Under random words the chosen numbers must cost at most five times what the others cost. They must cost at least ten times
+ * as much under words that are 0, be it at the opening or at the openings from images, so the first comparison can fail. The
+ * cost is the processor time, the best of three runs. */
 #define _GNU_SOURCE
 #include "../../include/relkvanu.h"
 
@@ -72,20 +74,45 @@ static uint64_t report_all(relkvanu *job, relkvanu_answer (*report)(relkvanu *, 
     return told;
 }
 
+/* The words that key the maps: those of the opening, and those of each opening from an image. */
+struct secrets {
+    uint64_t opening[2], saved[2];
+};
+
+/* Saves the coordinator, and opens it from its image. */
+static void reopen(relkvanu *job, const struct secrets *secrets) {
+    size_t len = (size_t)relkvanu_save(job, NULL, 0).a;
+    uint8_t *image = malloc(len);
+    if (image == NULL) {
+        fail("no memory for an image");
+    }
+    made(relkvanu_save(job, image, len), RELKVANU_SAVED);
+    relkvanu_close(job);
+    made(relkvanu_open_saved(job, image, len, secrets->saved[0], secrets->saved[1]), RELKVANU_OPENED);
+    free(image);
+}
+
+static void count_all(relkvanu *job, const struct numbers *files) {
+    for (size_t place = 0; place < files->len; place++) {
+        made(relkvanu_count(job, files->items[place]), RELKVANU_COUNTED);
+    }
+}
+
 /* A job in which all files are named, counted, dropped with their record, fetched, reported as not deleted, fetched and
  * deleted. */
-static void run(const struct numbers *files, const uint64_t words[2]) {
+static void run(const struct numbers *files, const struct secrets *secrets) {
     relkvanu job = {NULL};
     relkvanu_settings settings = {1000, 0, 1, 1000000, 0, 1, false};
     uint64_t shape[] = {(files->len + OF_ONE_ACKNOWLEDGEMENT - 1) / OF_ONE_ACKNOWLEDGEMENT};
-    made(relkvanu_open(&job, &settings, shape, 1, 0, 1, words[0], words[1]), RELKVANU_OPENED);
+    made(relkvanu_open(&job, &settings, shape, 1, 0, 1, secrets->opening[0], secrets->opening[1]), RELKVANU_OPENED);
     made(relkvanu_tick(&job, 1000), RELKVANU_TICK_TRIGGERED);
     complete(&job, 1001, 1, (uint16_t)shape[0], files);
-    for (size_t place = 0; place < files->len; place++) {
-        made(relkvanu_count(&job, files->items[place]), RELKVANU_COUNTED);
-    }
+    count_all(&job, files);
+    reopen(&job, secrets);
+    count_all(&job, files);
     made(relkvanu_tick(&job, 2000), RELKVANU_TICK_TRIGGERED);
     complete(&job, 2001, 2, (uint16_t)shape[0], NULL);
+    reopen(&job, secrets);
     if (report_all(&job, relkvanu_undeleted, RELKVANU_UNDELETED) != files->len) {
         fail("not each file was fetched");
     }
@@ -100,11 +127,11 @@ static void run(const struct numbers *files, const uint64_t words[2]) {
 }
 
 /* The least processor time of this many runs, in seconds. */
-static double cost(const struct numbers *files, const uint64_t words[2], int runs) {
+static double cost(const struct numbers *files, const struct secrets *secrets, int runs) {
     double best = 0;
     for (int turn = 0; turn < runs; turn++) {
         clock_t before = clock();
-        run(files, words);
+        run(files, secrets);
         double used = (double)(clock() - before) / CLOCKS_PER_SEC;
         best = turn == 0 || used < best ? used : best;
     }
@@ -121,12 +148,17 @@ int main(int count, char **paths) {
     if (chosen.len == 0 || chosen.len != others.len) {
         fail("the two files have not as many numbers");
     }
-    uint64_t secret[2], zeros[2] = {0, 0};
-    if (getentropy(secret, sizeof secret) != 0) {
+    struct secrets secret;
+    if (getentropy(&secret, sizeof secret) != 0) {
         fail("no random words");
     }
-    double plain = cost(&others, secret, 3), hidden = cost(&chosen, secret, 3), known = cost(&chosen, zeros, 1);
-    printf("hostile: %zu files, seconds: %.3f of others, %.3f of numbers that meet, %.3f under words that are 0\n", chosen.len, plain, hidden, known);
-    bool is_fast = hidden <= 5 * plain, is_slow = known >= 10 * plain;
+    struct secrets known_at_opening = secret, known_at_images = secret;
+    memset(known_at_opening.opening, 0, sizeof known_at_opening.opening);
+    memset(known_at_images.saved, 0, sizeof known_at_images.saved);
+    double plain = cost(&others, &secret, 3), hidden = cost(&chosen, &secret, 3);
+    double at_opening = cost(&chosen, &known_at_opening, 1), at_images = cost(&chosen, &known_at_images, 1);
+    printf("hostile: %zu files, seconds: %.3f of others, %.3f of numbers that meet; under words that are 0 %.3f at the opening, %.3f at images\n",
+           chosen.len, plain, hidden, at_opening, at_images);
+    bool is_fast = hidden <= 5 * plain, is_slow = at_opening >= 10 * plain && at_images >= 10 * plain;
     return is_fast && is_slow ? 0 : 1;
 }

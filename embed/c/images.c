@@ -1,7 +1,7 @@
 /* images SCRIPTS [SEED]: makes this many random lists of calls, each on two coordinators. One is saved, closed and opened
  * again at random places. Both have to answer each call in the same way, and their images have to be the same bytes. Then
- * images are cut and changed at each byte, and saved and opened with each request for memory refused. Prints how much it
- * tried. */
+ * images are cut and changed at each byte, damaged in each way, and saved and opened with each request for memory refused.
+ * Prints how much it tried. */
 #include "../../include/relkvanu.h"
 #include "refusing_heap.h"
 
@@ -200,6 +200,81 @@ static void cut_and_changed(void) {
     relkvanu_close(&job);
 }
 
+/* Of the image of `busy`: a part, and what no image may have in its place. */
+struct damage {
+    const char *part, *other;
+};
+
+static const struct damage kinds_of_damage[] = {
+    /* moments that no clock has */
+    {"\"start\":0", "\"start\":4611686018427387904"},
+    {"\"latest\":8000", "\"latest\":4611686018427387904"},
+    {"\"completed\":6000", "\"completed\":4611686018427387904"},
+    {"\"started\":7000", "\"started\":4611686018427387904"},
+    /* numbers, which rise from the first to below the next */
+    {"\"first\":1", "\"first\":0"},
+    {"\"first\":1", "\"first\":4"},
+    {"\"next\":6", "\"next\":5"},
+    {"\"next\":6", "\"next\":4611686018427387905"},
+    {"\"id\":4", "\"id\":3"},
+    {"\"id\":5", "\"id\":6"},
+    {"\"failures\":0", "\"failures\":4"},
+    /* a list that names a file twice, and a subtask that the shape lacks */
+    {"\"files\":[5]", "\"files\":[5,5]"},
+    {"\"pins\":[5,6],\"shape\":[2],\"started\":7000", "\"pins\":[5,5],\"shape\":[2],\"started\":7000"},
+    {"[6,7],\"index\":1", "[6,7],\"index\":2"},
+    /* done without an acknowledgement, pending with all, and done with pins */
+    {"\"started\":8000,\"state\":\"pending\"", "\"started\":8000,\"state\":\"done\""},
+    {"\"started\":6000,\"state\":\"done\"", "\"started\":6000,\"state\":\"pending\""},
+    {"\"pins\":[],\"shape\":[2],\"started\":6000", "\"pins\":[5],\"shape\":[2],\"started\":6000"},
+    /* a base that is no done savepoint, and records that are pending in a job that has ended */
+    {"\"base\":null", "\"base\":3"},
+    {"\"base\":null", "\"base\":4"},
+    {"\"mode\":\"running\"", "\"mode\":\"cancelled\""},
+    /* files that wait or were fetched, and are in use or there twice */
+    {"\"waiting\":[2,3,4]", "\"waiting\":[2,3,5]"},
+    {"\"waiting\":[2,3,4]", "\"waiting\":[2,3,3]"},
+    {"\"waiting\":[2,3,4]", "\"waiting\":[1,3,4]"},
+    {"\"taken\":[1]", "\"taken\":[7]"},
+    {"\"taken\":[1]", "\"taken\":[1,1]"},
+};
+
+/* Each kind of damage is told as such, and never as want of memory: there is room for all. */
+static void damaged(void) {
+    static char image[IMAGE], text[IMAGE];
+    relkvanu job = busy(), other = {NULL};
+    image[saved(&job, (uint8_t *)image)] = 0;
+    size_t kinds = sizeof kinds_of_damage / sizeof kinds_of_damage[0];
+    for (size_t kind = 0; kind < kinds; kind++) {
+        const struct damage *damage = &kinds_of_damage[kind];
+        const char *at = strstr(image, damage->part);
+        CHECK(at != NULL && strstr(at + 1, damage->part) == NULL);
+        int len = snprintf(text, sizeof text, "%.*s%s%s", (int)(at - image), image, damage->other, at + strlen(damage->part));
+        relkvanu_answer answer = relkvanu_open_saved(&other, (const uint8_t *)text, (size_t)len, 1, 2);
+        if (answer.code != RELKVANU_BAD_ARGUMENT || answer.what != RELKVANU_BAD_IMAGE || other.state != NULL) {
+            fprintf(stderr, "images: code %" PRIu32 " for %s\n", answer.code, damage->other);
+            exit(1);
+        }
+    }
+    printf("images: %zu kinds of damage\n", kinds);
+    relkvanu_close(&job);
+}
+
+/* Where no memory is wanted, none is asked for: bytes that are no text, and the pins of a record that is not pending. */
+static void asks_for_none(relkvanu *job) {
+    relkvanu other = {NULL};
+    heap_refuse(1);
+    CHECK(relkvanu_open_saved(&other, (const uint8_t *)"\xff", 1, 1, 2).what == RELKVANU_BAD_IMAGE);
+    for (uint64_t id = 0; id <= 6; id++) {
+        relkvanu_answer pins = relkvanu_pins_of(job, id, NULL, 0);
+        bool is_pending = relkvanu_standing(job, id).what == RELKVANU_STANDS_PENDING;
+        CHECK(is_pending || (pins.code == RELKVANU_DONE && pins.what == RELKVANU_FILES && pins.a == 0));
+        CHECK(!is_pending || pins.code == RELKVANU_NO_MEMORY);
+        heap_refuse(1);
+    }
+    heap_refuse(0);
+}
+
 /* Each request for memory is refused once, of a save and of an opening: nothing is left or changed by it. */
 static void without_memory(void) {
     static uint8_t image[IMAGE], again[IMAGE];
@@ -223,6 +298,7 @@ static void without_memory(void) {
     } while (answer.code != RELKVANU_DONE);
     heap_refuse(0);
     CHECK(saved(&other, again) == len && memcmp(image, again, len) == 0);
+    asks_for_none(&job);
     printf("images: %" PRIu64 " requests of a save and %" PRIu64 " of an opening refused\n", saves, nth - 1);
     CHECK(saves > 10 && nth > 10);
     relkvanu_close(&job);
@@ -240,6 +316,7 @@ int main(int count, char **words) {
     /* the lists must make calls, otherwise nothing was compared */
     CHECK(tried == scripts * CALLS && refused < tried * 3 / 4);
     cut_and_changed();
+    damaged();
     without_memory();
     return 0;
 }

@@ -158,6 +158,7 @@ void reads_before(struct reads *reads, struct script *script) {
 
 bool reads_fit(struct reads *reads, struct script *script, const char *line, relkvanu_answer answer) {
     uint64_t now = 0;
+    line += strspn(line, " \t");
     if (script->handle.state == NULL) {
         reads->mode = RELKVANU_MODE_RUNNING;
         return true;
@@ -173,7 +174,8 @@ bool reads_fit(struct reads *reads, struct script *script, const char *line, rel
         note(reads, script, line, answer);
     }
     uint64_t requests = heap_requests();
-    bool fit = tells("mode", relkvanu_mode(&script->handle), reads->mode, 0, 0) && files_fit(reads, &script->handle)
+    bool fit = tells("mode", relkvanu_mode(&script->handle), reads->mode, 0, 0)
+        && tells("moment", relkvanu_moment(&script->handle), RELKVANU_MOMENT, reads->latest, 0) && files_fit(reads, &script->handle)
         && same("memory asked for", heap_requests(), requests);
     /* if there are many records, all are compared after only a few lines, to save time */
     bool are_asked = reads->last <= 64 || reads->lines % 256 == 0;
@@ -183,7 +185,7 @@ bool reads_fit(struct reads *reads, struct script *script, const char *line, rel
 
 bool reads_are_closed(relkvanu *handle) {
     relkvanu_counts counts = relkvanu_file_counts(handle);
-    relkvanu_answer told[] = {relkvanu_mode(handle), relkvanu_due(handle), relkvanu_oldest_expiry(handle),
+    relkvanu_answer told[] = {relkvanu_mode(handle), relkvanu_moment(handle), relkvanu_due(handle), relkvanu_oldest_expiry(handle),
                               relkvanu_choice(handle), relkvanu_live(handle, 0), relkvanu_missing(handle, 1)};
     bool fit = same("closed counts", counts.code, RELKVANU_CLOSED) && counts.in_use + counts.waiting + counts.taken == 0;
     for (size_t place = 0; place < sizeof told / sizeof told[0]; place++) {

@@ -104,6 +104,23 @@ static relkvanu_answer show_line(struct script *script, const char *line, size_t
     return says.code == RELKVANU_DONE ? show(script, id, bytes) : says;
 }
 
+/* Makes the call of a take line with room for this many files. */
+static relkvanu_answer take_line(struct script *script, const char *line, size_t len, size_t files) {
+    uint64_t *more = files <= SIZE_MAX / sizeof *more ? realloc(script->taken, files * sizeof *more) : NULL;
+    if (more == NULL) {
+        return (relkvanu_answer){RELKVANU_NO_MEMORY, 0, 0, 0};
+    }
+    script->taken = more;
+    script->taken_room = files;
+    return relkvanu_line(&script->handle, (const uint8_t *)line, len, script->taken, script->taken_room);
+}
+
+/* Makes the call of a line whose answer found too little room, and says how much it takes. */
+static relkvanu_answer longer(struct script *script, const char *line, size_t len, size_t room) {
+    bool is_show = memmem(line, len, "show", 4) != NULL; /* only show and take lines have answers that need room */
+    return is_show ? show_line(script, line, len, room) : take_line(script, line, len, room);
+}
+
 static void configure(relkvanu_settings *settings, const uint64_t *numbers) {
     *settings = (relkvanu_settings){numbers[0], numbers[1], numbers[2], numbers[3], numbers[4], numbers[5], numbers[6] != 0};
 }
@@ -141,18 +158,19 @@ static relkvanu_answer opening(struct script *script, const uint8_t *line, size_
 
 relkvanu_answer script_line(struct script *script, const char *line, size_t len) {
     const uint8_t *bytes = (const uint8_t *)line;
-    relkvanu_answer answer = relkvanu_line(&script->handle, bytes, len, script->taken, SCRIPT_TAKEN);
+    relkvanu_answer answer = relkvanu_line(&script->handle, bytes, len, script->taken, script->taken_room);
     bool is_opening = answer.code == RELKVANU_CLOSED || (answer.code == RELKVANU_BAD_LINE && answer.what == RELKVANU_FAULT_NO_CALL);
     if (is_opening) {
         return opening(script, bytes, len);
     }
-    /* no take line fetches more than there is place for here, so this is a show line */
-    return answer.code == RELKVANU_TOO_SHORT ? show_line(script, line, len, answer.a) : answer;
+    return answer.code == RELKVANU_TOO_SHORT ? longer(script, line, len, answer.a) : answer;
 }
 
 void script_close(struct script *script) {
     relkvanu_close(&script->handle);
     free(script->json);
+    free(script->taken);
     script->json = NULL;
-    script->json_len = 0;
+    script->taken = NULL;
+    script->json_len = script->taken_room = 0;
 }

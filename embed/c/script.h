@@ -7,7 +7,7 @@
 
 #include <stdio.h>
 
-enum { SCRIPT_SHAPE = 256, SCRIPT_TAKEN = 1 << 16 };
+enum { SCRIPT_SHAPE = 256 };
 
 /* All zero: a script of which no line was read yet. */
 struct script {
@@ -15,7 +15,8 @@ struct script {
     relkvanu_settings settings;   /* of the last config line */
     uint64_t shape[SCRIPT_SHAPE]; /* of the last job line */
     size_t shape_len;
-    uint64_t taken[SCRIPT_TAKEN]; /* what the last take line fetched */
+    uint64_t *taken;              /* what the last take line fetched: the first ones, as many as its answer says */
+    size_t taken_room;
     uint8_t *json;                /* what the last show line answered */
     size_t json_len;
 };

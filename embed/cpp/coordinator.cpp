@@ -1,6 +1,8 @@
 /* The C++ header, call by call and read by read, with values that are worked out from docs/RULES.md. */
 #include "../../include/relkvanu.hpp"
 
+#include "aborts.hpp"
+
 #include <cstdio>
 #include <cstdlib>
 #include <type_traits>
@@ -10,6 +12,16 @@ using ckpt::Coordinator;
 
 static_assert(!std::is_copy_constructible_v<Coordinator> && !std::is_copy_assignable_v<Coordinator>);
 static_assert(std::is_nothrow_move_constructible_v<Coordinator> && std::is_nothrow_move_assignable_v<Coordinator>);
+
+static_assert(noexcept(std::declval<Coordinator &>().ack(0, 0, 0, 0, {})) && noexcept(std::declval<Coordinator &>().count(0)));
+static_assert(!noexcept(std::declval<Coordinator &>().show(0)));
+
+/* Whether braces of a pointer and a length, or of the files 0 and 2, are taken for a list of files. */
+template <class C, class = void> struct takes_pointer : std::false_type {};
+template <class C> struct takes_pointer<C, std::void_t<decltype(std::declval<C &>().ack(0, 0, 0, 0, {(const std::uint64_t *)nullptr, 2}))>> : std::true_type {};
+template <class C, class = void> struct takes_zero : std::false_type {};
+template <class C> struct takes_zero<C, std::void_t<decltype(std::declval<C &>().ack(0, 0, 0, 0, {0, 2}))>> : std::true_type {};
+static_assert(takes_pointer<Coordinator>::value && !takes_zero<Coordinator>::value);
 
 static void check(bool holds, const char *what) {
     if (!holds) {
@@ -56,6 +68,7 @@ static Coordinator with_checkpoint_3() {
 static void reads() {
     Coordinator job = with_checkpoint_3();
     CHECK(job.mode() == ckpt::mode::running && job.due() == 3000 && job.oldest_expiry() == 6200);
+    CHECK(job.moment() == 2100);
     CHECK(std::get<ckpt::checkpoint>(job.choice()).id == 3);
     CHECK(job.live(0)->id == 2 && job.live(0)->is_savepoint && !job.live(0)->is_done);
     CHECK(job.live(1)->id == 3 && !job.live(1)->is_savepoint && job.live(1)->is_done && !job.live(2));
@@ -122,7 +135,7 @@ static void restores() {
 static void refusals() {
     Coordinator job = opened();
     const std::vector<std::uint64_t> file{7};
-    job.tick(1000);
+    CHECK(std::get<ckpt::triggered>(job.tick(1000)).id == 1);
     ckpt::ack_answer answer = job.ack(1000, 1, 0, 0, {}, file);
     CHECK(is(answer, ckpt::error::file_gone, 7));
     std::error_code why = std::get<ckpt::refused>(answer).why;
@@ -135,6 +148,17 @@ static void refusals() {
     CHECK(is(Coordinator::open(settings(), {}, 0), ckpt::error::bad_shape));
     CHECK(is(Coordinator::open({}, {}, 0), ckpt::error::bad_config));
     CHECK(is(Coordinator::open(settings(), file, 0, 0), ckpt::error::bad_first));
+}
+
+/* Each read of a coordinator that was moved from aborts the process, as no answer would be right. */
+static void moved_from() {
+    Coordinator old = with_checkpoint_3(), job = std::move(old);
+    CHECK(!old && is(old.tick(3000), ckpt::error::closed) && is(old.take({}), ckpt::error::closed) && is(old.pins_of(3), ckpt::error::closed));
+    CHECK(aborts([&] { return old.mode(); }) && aborts([&] { return old.due(); }) && aborts([&] { return old.oldest_expiry(); }));
+    CHECK(aborts([&] { return old.count(1); }) && aborts([&] { return old.choice(); }) && aborts([&] { return old.standing(1); }));
+    CHECK(aborts([&] { return old.live(0); }) && aborts([&] { return old.live_from(0); }) && aborts([&] { return old.missing(1); }));
+    CHECK(aborts([&] { return old.files_of(3, 0, 0); }) && aborts([&] { return old.waiting_file(0); }) && aborts([&] { return old.file_counts(); }));
+    CHECK(aborts([&] { return old.next_tick(ckpt::held_interval{0}); }) && !aborts([&] { return job.mode(); }));
 }
 
 static void ticks() {
@@ -176,7 +200,28 @@ static void lines() {
     CHECK(std::get<ckpt::files>(job.line("take 9", buffer)).size() == 2 && buffer[0] == 1 && buffer[1] == 2);
 }
 
+/* A moment that is far ahead is refused, and changes nothing. */
+static void ahead() {
+    const std::uint64_t day = 24 * 60 * 60 * 1000, late = 1000 + 5000 + day + 1; /* a timer may wait until checkpoint 1 expires */
+    const std::uint64_t file[] = {1};
+    Coordinator job = opened({1});
+    CHECK(std::get<ckpt::triggered>(job.tick(1000)).id == 1);
+    std::string image = std::get<std::string>(job.save());
+    for (std::uint64_t now : {late, (std::uint64_t{1} << 62) - 1, std::uint64_t{1} << 62}) {
+        CHECK(is(job.tick(now), ckpt::error::moment_too_large) && is(job.savepoint(now), ckpt::error::moment_too_large));
+        CHECK(is(job.ack(now, 1, 0, 0, file), ckpt::error::moment_too_large) && is(job.decline(now, 1, 0, 0), ckpt::error::moment_too_large));
+        CHECK(is(job.restore(now), ckpt::error::moment_too_large) && is(job.cancel(now), ckpt::error::moment_too_large));
+    }
+    CHECK(std::get<std::string>(job.save()) == image);
+    CHECK(std::holds_alternative<ckpt::ack_completed>(job.ack(late - 1, 1, 0, 0, file)));
+    job.set_most_ahead(2 * day);
+    Coordinator moved = std::move(job);
+    CHECK(std::holds_alternative<ckpt::triggered>(moved.tick(late + day)) && moved.moment() == late + day);
+    CHECK(std::holds_alternative<ckpt::answered>(moved.line("tick 1000000000000")) && moved.moment() == 1000000000000);
+}
+
 int main() {
+    ahead();
     reads();
     recovers();
     is_saved();
@@ -184,6 +229,7 @@ int main() {
     files();
     restores();
     refusals();
+    moved_from();
     ticks();
     CHECK(std::string(relkvanu_version()) == RELKVANU_VERSION);
     return 0;

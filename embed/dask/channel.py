@@ -28,7 +28,7 @@ class Channel(threading.Thread):
         self.stops_in: Optional[int] = None  # the first file of that
         self.tells_loss = True
         self.actor = client.submit(
-            Task, str(job.storage), job.seed, subtask[0], self.partitions, list(files),
+            Task, str(job.storage.path), job.seed, subtask[0], self.partitions, list(files),
             actor=True, workers=[worker.address], allow_other_workers=False, pure=False,
         ).result(timeout=WAIT)
         self.ends: Dict[int, int] = self.call("offsets")  # of what was put

@@ -21,6 +21,7 @@ from typing import Any, Callable, Dict, Iterable, List, Sequence, Tuple
 from channel import Channel
 from cluster import Cluster, wait_for
 from relkvanu import AckCompleted, DeclineFailed, Discarder, Failed, Patience, Refused, Reply, RestoredCheckpoint, RestoredFresh
+from storage import Storage
 from stream import PARTITIONS, VERTICES, State, counted, read
 
 WORKERS, LARGE, SMALL = 3, (2, 6, 3), (2, 4, 3)  # worker processes, and the larger and the smaller shape of the job
@@ -32,7 +33,7 @@ COMPLETED = 3  # checkpoints between two failures
 class Job:
     """The driver: a coordinator, and the threads that call it."""
 
-    def __init__(self, cluster: Cluster, coordinator: Any, storage: pathlib.Path, seed: int) -> None:
+    def __init__(self, cluster: Cluster, coordinator: Any, storage: Storage, seed: int) -> None:
         self.cluster, self.coordinator, self.storage, self.seed = cluster, coordinator, storage, seed
         self.chance = random.Random(seed)
         self.lock = threading.RLock()  # of the channels and what is counted; the coordinator has its own
@@ -56,19 +57,16 @@ class Job:
             self.coordinator.reserve(self.next_file)
             return range(self.next_file - most, self.next_file)
 
-    def path(self, file: int) -> pathlib.Path:
-        return self.storage / str(file)
-
     def delete(self, files: Sequence[int]) -> None:
         for file in files:
-            self.path(file).unlink(missing_ok=True)
+            self.storage.delete(file)
 
     def discard(self, file: int) -> None:
         """Deletes a file. A part of the deletions fails."""
         with self.lock:
             if self.chance.random() < 0.125:
                 raise PermissionError(f"file {file} is not to be deleted yet")
-        self.path(file).unlink()
+        self.storage.delete(file)
 
     def called(self, call: Callable[..., Reply], *arguments: Any) -> Reply:
         """Makes a call of the coordinator, and notes its answer."""
@@ -163,7 +161,7 @@ class Job:
             victim.is_stopping = True
 
         def has_written() -> bool:
-            return victim.stops_in is not None and self.path(victim.stops_in).exists()
+            return victim.stops_in is not None and self.storage.has(victim.stops_in)
 
         wait_for(lambda: self.has_failed.is_set() or has_written())
         self.kills += has_written()
@@ -199,7 +197,7 @@ class Job:
         reply = self.called(self.coordinator.restore, LARGE)
         assert isinstance(reply, RestoredCheckpoint), reply
         files = [file for part in self.coordinator.files(reply.id).values() for file in part]
-        held = sorted(self.check_state(*read(self.path(file))) for file in files)
+        held = sorted(self.check_state(*read(self.storage.read(file))) for file in files)
         assert held == [(vertex, partition) for vertex in range(VERTICES) for partition in range(PARTITIONS)]
         used, waiting = self.check_folder()
         self.report(records, used, waiting)
@@ -222,7 +220,7 @@ class Job:
     def check_folder(self) -> "tuple[int, int]":
         """The folder has exactly the files that are in use and those that wait for deletion: how many each. None is taken, as the
         discarder has ended."""
-        names = {int(path.name) for path in self.storage.iterdir()}
+        names = self.storage.numbers()
         used = self.coordinator.used(range(1, self.next_file))
         waiting = set(self.coordinator.take(1 << 16).files)
         assert names == used | waiting, (names - used - waiting, (used | waiting) - names)
@@ -231,14 +229,14 @@ class Job:
 
     def delete_taken(self, files: Iterable[int]) -> None:
         for file in files:
-            self.path(file).unlink()
+            self.storage.delete(file)
             self.coordinator.deleted(file)
 
     def cancel(self) -> None:
         """Ends the job for good: no file is left."""
         self.coordinator.cancel()
         self.delete_taken(self.coordinator.take(1 << 16).files)
-        assert not list(self.storage.iterdir())
+        assert not self.storage.numbers()
 
     def report(self, records: int, used: int, waiting: int) -> None:
         told, discarded = self.replies, self.discarder.told()
@@ -275,7 +273,7 @@ def options() -> argparse.Namespace:
     return parser.parse_args()
 
 
-def coordinator_of(given: argparse.Namespace, folder: pathlib.Path) -> Any:
+def coordinator_of(given: argparse.Namespace, folder: pathlib.Path, storage: Storage) -> Any:
     """Imports only what is needed: the library, or the client."""
     if given.service:
         from over_service import OverService
@@ -287,16 +285,18 @@ def coordinator_of(given: argparse.Namespace, folder: pathlib.Path) -> Any:
     kept = folder / "kept"
     kept.mkdir(exist_ok=True)
     death = Death(Place(given.die[0]), int(given.die[1])) if given.die else Death()
-    return Logged(Log(folder / "log", kept, death), SETTINGS, LARGE)
+    return Logged(Log(folder / "log", kept, death), storage, SETTINGS, LARGE)
 
 
 def main() -> None:
     given = options()
     with tempfile.TemporaryDirectory() as name:
         folder = pathlib.Path(name)
-        storage = given.storage or folder / "storage"
-        storage.mkdir(exist_ok=True)
-        coordinator = coordinator_of(given, given.log or folder)
+        path = given.storage or folder / "storage"
+        path.mkdir(exist_ok=True)
+        storage = Storage(path)
+        storage.lock()
+        coordinator = coordinator_of(given, given.log or folder, storage)
         coordinator.check(storage)
         with Cluster(WORKERS) as cluster:
 

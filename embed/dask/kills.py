@@ -1,5 +1,5 @@
-"""kills.py SECONDS KILLS [SEED]: the job of job.py. SIGKILL ends its driver this many times, in turn at each place of log.py and at any
-moment. The next one may run to its end. Each driver opens the log of the one before, and checks what has to hold (logged.py)."""
+"""kills.py FOLDER SECONDS KILLS [SEED]: the job of job.py, in an empty folder. SIGKILL ends its driver this many times, in turn at each
+place of log.py and at any moment. The next one may run to its end. Each driver opens the log of the one before, and checks what has to hold (logged.py)."""
 import ctypes
 import os
 import pathlib
@@ -7,12 +7,12 @@ import random
 import signal
 import subprocess
 import sys
-import tempfile
 import time
 from typing import IO, Dict, List, Optional
 
 from log import Place, whole_log
 from bookkeeping import Bookkeeping
+from storage import Storage
 
 HERE = pathlib.Path(__file__).resolve().parent
 PLACES: List[Optional[Place]] = [*Place, None]  # None: from outside
@@ -88,23 +88,22 @@ def check_folder(folder: pathlib.Path) -> int:
     books, lines = Bookkeeping(), whole_log(folder / "log/log", folder / "log/kept")
     for line in lines:
         books.follow(line)
-    names = {int(path.name) for path in (folder / "storage").iterdir()}
+    names = Storage(folder / "storage").numbers()
     assert names == books.known(), (names - books.known(), books.known() - names)
     return len(lines)
 
 
-def main(seconds: str, kills: str, seed: str = "1") -> None:
+def main(name: str, seconds: str, kills: str, seed: str = "1") -> None:
     LIBC.prctl(PR_SET_CHILD_SUBREAPER, 1, 0, 0, 0)
     chance = random.Random(int(seed))
-    with tempfile.TemporaryDirectory() as name:
-        folder = pathlib.Path(name)
-        for part in ("log", "storage", "temporary"):
-            (folder / part).mkdir()
-        for nth in range(int(kills)):
-            run_and_kill(folder, int(seed), nth, chance)
-        run_to_the_end(folder, float(seconds), int(seed))
-        lines, cuts = check_folder(folder), len(list((folder / "log/kept").iterdir()))
-        print(f"dask: the driver was killed {kills} times; its log of {lines} lines was cut {cuts} times")
+    folder = pathlib.Path(name)
+    for part in ("log", "storage", "temporary"):
+        (folder / part).mkdir()
+    for nth in range(int(kills)):
+        run_and_kill(folder, int(seed), nth, chance)
+    run_to_the_end(folder, float(seconds), int(seed))
+    lines, cuts = check_folder(folder), len(list((folder / "log/kept").iterdir()))
+    print(f"dask: the driver was killed {kills} times; its log of {lines} lines was cut {cuts} times")
 
 
 if __name__ == "__main__":

@@ -5,11 +5,11 @@ library writes the lines and makes the calls that they say. A driver that opens 
 after the last call that the other one answered, or after one more call.
 
 After some completed checkpoints the log is cut: a new one begins with an image of the coordinator. The comments of a log have what the
-driver has to know and the coordinator does not: the end of the file numbers that may have been given.
+driver has to know and the coordinator does not: the name of the job, which its storage has too, and the end of the file numbers that may
+have been given.
 """
 import contextlib
 import os
-import pathlib
 import sys
 import threading
 import time
@@ -18,64 +18,80 @@ from typing import Any, Dict, Iterable, Iterator, List, Optional, Sequence, Set,
 import bookkeeping
 from cluster import wait_for
 from log import Log, whole_log
-from relkvanu import AckCompleted, Coordinator, OutOfMemory, Refused, Reply, Settings, Taken, Triggered, lines
+from relkvanu import AckCompleted, Coordinator, Error, OutOfMemory, Refused, Reply, Settings, Taken, Triggered, lines
+from storage import Storage
 
 Subtask = Tuple[int, int]
-IMAGE, FILES = b"# image ", b"# files "
+IMAGE, JOB, FILES = b"# image ", b"# job ", b"# files "
 COMPLETED_OF_A_LOG = 3
 FILES_AT_ONCE = 1000
 
 
+_began = time.monotonic()  # at the moment 0
+
+
 def now() -> int:
-    """Milliseconds of the clock that goes on while the process is down."""
-    return time.time_ns() // 1_000_000
+    """Milliseconds of a clock that never jumps. It begins at the greatest moment of the log."""
+    return int((time.monotonic() - _began) * 1000)
+
+
+def clock_begins_at(moment: int) -> None:
+    global _began
+    _began = time.monotonic() - moment / 1000
 
 
 @contextlib.contextmanager
 def or_end() -> Iterator[None]:
-    """Ends the process if the log can't be written, because the log may lack a call that the coordinator knows."""
+    """Ends the process if anything comes between a call and its line in the log, even the interrupt of a user: the log may lack a call
+    that the coordinator knows."""
     try:
         yield
-    except OSError as fault:
-        print("the log can't be written:", fault, file=sys.stderr, flush=True)
+    except Error:  # the call was refused: it has changed nothing, and has no line
+        raise
+    except BaseException as fault:
+        print(f"the log can't be written: {fault!r}", file=sys.stderr, flush=True)
         os._exit(1)
 
 
 class Logged:
-    def __init__(self, log: Log, settings: Dict[str, int], shape: Sequence[int]) -> None:
-        """Makes the calls of the log again, or begins one."""
+    def __init__(self, log: Log, storage: Storage, settings: Dict[str, int], shape: Sequence[int]) -> None:
+        """Makes the calls of the log again, or begins one if the storage has no file."""
         self.log = log
         self.lock = threading.Lock()  # of the log: its order is that of the calls
         self.files_end = 1  # above all files that a driver may have given a number
         self.made: List[Tuple[bytes, Optional[Reply]]] = []  # the lines of calls that this driver has made, the log's first, and their answers
+        self.job = ""
         core, opening = None, []
         for line in log.lines():
             if line.startswith(IMAGE):
                 core = Coordinator.open_saved(line[len(IMAGE) :].decode())
+            elif line.startswith(JOB):
+                self.job = line[len(JOB) :].decode()
             elif line.startswith(FILES):
                 self.files_end = int(line[len(FILES) :])
             elif core is None:
                 opening.append(lines.line_says(line))
                 core = opened(opening)
             else:
-                self.made.append((line, made(core, line, 1 << 16)))
+                self.made.append((line, made_again(core, line)))
         self.completed = sum(isinstance(reply, AckCompleted) for _, reply in self.made)  # since the log was cut
-        self.core = core or self.begun(Settings(**settings), shape)
+        self.core = core or self.begun(storage, Settings(**settings), shape)
+        clock_begins_at(self.core.moment())
+        storage.go_on(self.job, self.files_end)
 
-    def begun(self, settings: Settings, shape: Sequence[int]) -> Coordinator:
+    def begun(self, storage: Storage, settings: Settings, shape: Sequence[int]) -> Coordinator:
         start = now()
         core = Coordinator(settings, shape, start)
-        with or_end():
-            self.log.replace(lines.opening_lines(settings, shape, start).encode())
+        self.job = storage.begin()
+        self.log.replace(JOB + self.job.encode() + b"\n" + lines.opening_lines(settings, shape, start).encode())
         return core
 
     def call(self, line: str, most: int = 1) -> Any:
         """Makes the call of a line, logs it, and then returns its answer. One that was refused has changed nothing, and
         is not logged."""
-        with self.lock:
+        with self.lock, or_end():
             reply = made(self.core, line.encode(), most)
-            with or_end():
-                self.log.append(line.encode())
+            self.log.append(line.encode())
             self.made.append((line.encode(), reply))
             self.completed += isinstance(reply, AckCompleted)
             if self.completed >= COMPLETED_OF_A_LOG:
@@ -84,17 +100,17 @@ class Logged:
 
     def cut(self) -> None:
         """Begins the log anew, or goes on with it if there is no memory for an image."""
-        with contextlib.suppress(OutOfMemory), or_end():
-            self.log.replace(IMAGE + self.core.save().encode() + b"\n" + FILES + b"%d\n" % self.files_end)
+        with contextlib.suppress(OutOfMemory):
+            image = self.core.save().encode()
+            self.log.replace(IMAGE + image + b"\n" + JOB + self.job.encode() + b"\n" + FILES + b"%d\n" % self.files_end)
             self.completed = 0
 
     def reserve(self, end: int) -> None:
         """No later driver gives a file a number below this one."""
-        with self.lock:
+        with self.lock, or_end():
             if end > self.files_end:
                 self.files_end = end + FILES_AT_ONCE
-                with or_end():
-                    self.log.append(FILES + b"%d" % self.files_end)
+                self.log.append(FILES + b"%d" % self.files_end)
 
     def ack(self, id: int, subtask: Subtask, fresh: Sequence[int], reused: Sequence[int]) -> Reply:
         reply: Reply = self.call(lines.ack_line(now(), id, *subtask, fresh, reused))
@@ -133,15 +149,15 @@ class Logged:
         """Which of these files are in use."""
         return {file for file in files if self.core.count(file).uses}
 
-    def recover(self, storage: pathlib.Path) -> None:
+    def recover(self, storage: Storage) -> None:
         """Does what the driver before this one, whose tasks have ended, left undone: the files that it fetched are reported, and those
         that nobody knows are deleted."""
-        names = {int(path.name) for path in storage.iterdir()}
         for file in self.core.taken_files():
-            report = self.undeleted if file in names else self.deleted
+            report = self.undeleted if storage.has(file) else self.deleted
             report(file)
+        names = storage.numbers()
         for file in names - self.used(names) - set(self.waiting()):
-            (storage / str(file)).unlink()
+            storage.delete(file)
 
     def waiting(self) -> Iterator[int]:
         """The files that wait for deletion."""
@@ -150,15 +166,15 @@ class Logged:
             yield file
             place += 1
 
-    def settle(self, storage: pathlib.Path) -> None:
+    def settle(self, storage: Storage) -> None:
         """Waits until the discarder has deleted all that it may, before any task writes. Then the folder has the files in use and no
         other."""
         wait_for(lambda: self.core.file_counts().waiting + self.core.file_counts().taken == 0)
         used = set(self.check(storage).uses())
-        names = {int(path.name) for path in storage.iterdir()}
+        names = storage.numbers()
         assert names == used, (names - used, used - names)
 
-    def check(self, storage: pathlib.Path) -> bookkeeping.Bookkeeping:
+    def check(self, storage: Storage) -> bookkeeping.Bookkeeping:
         """Compares the coordinator and its answers with what all lines say from the first on. The files in use are there."""
         with self.lock:
             books = bookkeeping.Bookkeeping()
@@ -166,7 +182,7 @@ class Logged:
             calls = [(line, reply) for line, reply in answers if reply is not None]
             assert calls[len(calls) - len(self.made) :] == self.made, "an answer is not what the lines say"
             bookkeeping.check(books, self.core)
-        missing = [file for file in books.uses() if not (storage / str(file)).exists()]
+        missing = [file for file in books.uses() if not storage.has(file)]
         assert not missing, f"files in use are missing: {missing}"
         return books
 
@@ -202,6 +218,14 @@ def opened(says: Sequence[lines.Line]) -> Optional[Coordinator]:
     settings, job, start = says
     assert isinstance(settings, Settings) and isinstance(job, lines.Job) and isinstance(start, lines.Start)
     return Coordinator(settings, job.shape, start.now)
+
+
+def made_again(core: Coordinator, line: bytes) -> Optional[Reply]:
+    """Makes the call of a line of the log, which has only calls that were made."""
+    try:
+        return made(core, line, 1 << 16)
+    except Refused as refusal:
+        raise SystemExit(f"the log has a line that is refused as {refusal}: {line[:80]!r}") from None
 
 
 def made(core: Coordinator, line: bytes, most: int) -> Optional[Reply]:

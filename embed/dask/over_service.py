@@ -1,5 +1,4 @@
 """The coordinator as a service, which ticks by itself, and may be killed and started again. It answers here as the Python package does."""
-import pathlib
 import threading
 import uuid
 from typing import Any, Dict, Iterable, List, Sequence, Set, Tuple
@@ -9,6 +8,8 @@ from relkvanu import (
     AckCompleted, AckLate, AckPending, DeclineAborted, DeclineFailed, DeclineLate, Failed, Refused, Reply, RestoredCheckpoint,
     RestoredFresh, Taken,
 )
+
+from storage import Storage
 
 Subtask = Tuple[int, int]
 # What an answer is here, by the call's name and the value under that name.
@@ -20,7 +21,8 @@ REPLIES = {
 
 
 class OverService:
-    """Each call has a key of its own, so it is made once even if its answer is lost."""
+    """Each call has a key of its own, so it is made once even if its answer is lost. If the service's log does not have the events
+    after the last one any more, the job goes on from the state that the service has."""
 
     def __init__(self, url: str, name: str, settings: Dict[str, int], shape: Sequence[int]) -> None:
         self.remote = service.Service(url).open(name, settings, list(shape))
@@ -51,13 +53,14 @@ class OverService:
     def reserve(self, end: int) -> None:
         """No driver comes after this one, so it alone gives numbers to files."""
 
-    def recover(self, storage: pathlib.Path) -> None:
-        """No driver was before this one."""
+    def recover(self, storage: Storage) -> None:
+        """No driver was before this one, so the folder has no file."""
+        storage.begin()
 
-    def settle(self, storage: pathlib.Path) -> None:
+    def settle(self, storage: Storage) -> None:
         """No file is there yet."""
 
-    def check(self, storage: pathlib.Path) -> None:
+    def check(self, storage: Storage) -> None:
         """The service has the log. service/tests compares it."""
 
     def ack(self, id: int, subtask: Subtask, fresh: Sequence[int], reused: Sequence[int]) -> Reply:
@@ -96,20 +99,24 @@ class OverService:
 
     def run(self, job: Any) -> None:
         """Has barriers sent if the service has triggered a checkpoint, until the job is over."""
-        after = 0
+        follower = self.remote.follower(0)
         while not job.is_over.is_set():
-            after, events = self.remote.events(after, wait=1)
-            for event in events:
+            for event in follower.next(wait=1):
                 self.follow(job, event)
 
     def follow(self, job: Any, event: Dict[str, Any]) -> None:
         with job.lock:  # not between a restore and the start of its tasks
             channels = job.channels
+            if event["event"] == "missed" and event["reason"] == "other_log":
+                # a backup was restored: the last restore may be no more in the log, and numbers of records may be given again
+                self.begun = 0
+                with job.stream:
+                    job.cuts.clear()
             if event["seq"] < self.begun:
                 return
             if event["event"] == "failed" and "id" not in event:  # by a tick; a decline names its record, and was answered
                 job.note(Failed(len(event["ended"])))
-        if event["event"] == "triggered":
+        if event["event"] == "triggered" and event["id"] not in job.cuts:
             job.send_barriers(event["id"], channels)
 
 

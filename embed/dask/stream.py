@@ -1,7 +1,6 @@
 """The stream: each partition is an endless list of keys, which depends on the seed alone. Each vertex of the job reads all of it, and
 counts a part of the keys."""
 import json
-import pathlib
 import zlib
 from collections import Counter
 from typing import Dict, Optional, Tuple
@@ -33,12 +32,12 @@ class State:
         self.counts.update(counted(seed, self.vertex, partition, self.offset, end))
         self.offset = end
 
-    def write(self, path: pathlib.Path, partition: int) -> None:
-        with open(path, "x") as file:
-            json.dump([self.vertex, partition, self.offset, sorted(self.counts.items())], file)
+    def text(self, partition: int) -> str:
+        """Of its state file."""
+        return json.dumps([self.vertex, partition, self.offset, sorted(self.counts.items())])
 
 
-def read(path: pathlib.Path) -> Tuple[int, State]:
+def read(text: str) -> Tuple[int, State]:
     """The partition of a state file, and its state."""
-    vertex, partition, offset, counts = json.loads(path.read_text())
+    vertex, partition, offset, counts = json.loads(text)
     return partition, State(vertex, offset, dict(counts))

@@ -3,6 +3,7 @@ import pathlib
 import time
 from typing import Dict, List, Sequence, Tuple
 
+from storage import Storage
 from stream import State, read
 
 
@@ -11,12 +12,13 @@ class Task:
 
     def __init__(self, storage: str, seed: int, vertex: int, partitions: Sequence[int], files: Sequence[int]) -> None:
         """Begins with the states of its partitions among the files that a record has of its vertex, and opens each of them."""
-        self.storage = pathlib.Path(storage)
+        self.storage = Storage(pathlib.Path(storage))
+        self.storage.check_marker()
         self.seed = seed
         self.states = {partition: State(vertex) for partition in partitions}
         self.held: Dict[int, int] = {}  # the file that has the state of a partition
         for file in files:
-            partition, state = read(self.storage / str(file))
+            partition, state = read(self.storage.read(file))
             assert state.vertex == vertex
             if partition in self.states:
                 self.states[partition] = state
@@ -36,14 +38,16 @@ class Task:
 
     def snapshot(self, numbers: Sequence[int], pause: float) -> Tuple[List[int], List[int]]:
         """Writes the states that no acknowledged checkpoint has under new numbers, with a pause after each, and
-        answers the numbers written and those that are named again."""
+        answers the numbers written and those that are named again. A loss of power after that takes none of them: each file is
+        synced, and then the folder."""
         fresh, reused = [], sorted(self.held.values())
         for partition, state in self.states.items():
             if partition not in self.held:
                 number = numbers[len(fresh)]
-                state.write(self.storage / str(number), partition)
+                self.storage.write(number, state.text(partition))
                 fresh.append(number)
                 time.sleep(pause)
+        self.storage.sync()
         self.written = dict(zip((p for p in self.states if p not in self.held), fresh))
         return fresh, reused
 
@@ -55,5 +59,5 @@ class Task:
         """The last snapshot was refused, and its files were named for the first time in it: so they are deleted, and nothing
         is named again."""
         for number in self.written.values():
-            (self.storage / str(number)).unlink()
+            self.storage.delete(number)
         self.held.clear()

@@ -46,9 +46,8 @@ struct folder {
     size_t len;
 };
 
-static void check_known(void *with, const char *name) {
+static void check_known(void *with, uint64_t file) {
     struct folder *folder = with;
-    uint64_t file = strtoull(name, NULL, 10);
     folder->len++;
     CHECK(coordinator_count(folder->coordinator, file) != 0 || is_taken(folder->coordinator, file), "nobody knows file %" PRIu64, file);
 }
@@ -59,12 +58,12 @@ static size_t check_folder(struct job *job) {
     struct coordinator *c = &job->coordinator;
     struct folder folder = {c, 0};
     uint64_t gone = 0;
-    each_name(job->storage, check_known, &folder);
+    storage_each(&job->storage, check_known, &folder);
     for (uint64_t file = 1; file < c->next_file; file++) {
-        CHECK(coordinator_count(c, file) == 0 || storage_has(job->storage, file), "file %" PRIu64 " is in use and gone", file);
+        CHECK(coordinator_count(c, file) == 0 || storage_has(&job->storage, file), "file %" PRIu64 " is in use and gone", file);
     }
     for (size_t place = 0; place < c->taken_len; place++) {
-        gone += !storage_has(job->storage, c->taken[place]);
+        gone += !storage_has(&job->storage, c->taken[place]);
     }
     CHECK(gone <= c->handed_again, "%" PRIu64 " files are taken and gone", gone);
     return folder.len;
@@ -72,8 +71,9 @@ static size_t check_folder(struct job *job) {
 
 /* All that waits is taken, and nothing is deleted: then the files taken are those that were waiting or taken. */
 static void take_all(struct coordinator *c) {
-    static uint64_t files[SCRIPT_TAKEN];
-    while (coordinator_take(c, files, SCRIPT_TAKEN) != 0) {
+    enum { AT_ONCE = 4096 };
+    uint64_t files[AT_ONCE];
+    while (coordinator_take(c, files, AT_ONCE) != 0) {
     }
 }
 
@@ -110,12 +110,12 @@ void check_end(struct job *job) {
     take_all(c);
     size_t all = check_folder(job), taken = c->taken_len;
     check_replay(job);
-    discarder_report(c, job->storage);
-    discarder_drain(c, job->storage);
+    discarder_report(c, &job->storage);
+    discarder_drain(c, &job->storage);
     size_t used = check_folder(job);
     coordinator_dispose(c, savepoint);
     coordinator_cancel(c);
-    discarder_drain(c, job->storage);
+    discarder_drain(c, &job->storage);
     CHECK(check_folder(job) == 0, "files are left of a cancelled job");
     printf("rocksdb: the folder had %zu files: %zu in use, %zu for deletion; all deleted after a cancel\n", all, used, taken);
 }

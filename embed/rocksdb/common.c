@@ -4,8 +4,10 @@
 
 #include <dirent.h>
 #include <errno.h>
+#include <fcntl.h>
 #include <ftw.h>
 #include <stdarg.h>
+#include <string.h>
 #include <sys/stat.h>
 #include <time.h>
 
@@ -21,10 +23,16 @@ uint64_t chance_below(struct chance *chance, uint64_t most) {
     return chance->state % most;
 }
 
+static uint64_t began; /* what the clock of the system says at the moment 0 */
+
 uint64_t now(void) {
     struct timespec moment;
-    clock_gettime(CLOCK_REALTIME, &moment);
-    return (uint64_t)moment.tv_sec * 1000 + (uint64_t)moment.tv_nsec / 1000000;
+    clock_gettime(CLOCK_MONOTONIC, &moment);
+    return (uint64_t)moment.tv_sec * 1000 + (uint64_t)moment.tv_nsec / 1000000 - began;
+}
+
+void clock_begins_at(uint64_t moment) {
+    began += now() - moment;
 }
 
 void sleep_ms(uint64_t ms) {
@@ -54,13 +62,30 @@ void empty_folder(const char *path) {
     CHECK(mkdir(path, 0700) == 0, "%s can't be made", path);
 }
 
-void each_name(const char *folder, void (*call)(void *with, const char *name), void *with) {
-    DIR *names = opendir(folder);
-    CHECK(names != NULL, "%s can't be read", folder);
+void each_name_in(int folder, void (*call)(void *with, const char *name), void *with) {
+    int again = openat(folder, ".", O_RDONLY | O_DIRECTORY | O_CLOEXEC); /* closedir closes it */
+    DIR *names = again >= 0 ? fdopendir(again) : NULL;
+    CHECK(names != NULL, "a folder can't be read: %s", strerror(errno));
     for (struct dirent *entry = readdir(names); entry != NULL; entry = readdir(names)) {
         if (entry->d_name[0] != '.') {
             call(with, entry->d_name);
         }
     }
     closedir(names);
+}
+
+void each_name(const char *folder, void (*call)(void *with, const char *name), void *with) {
+    int it = open(folder, O_RDONLY | O_DIRECTORY | O_CLOEXEC);
+    CHECK(it >= 0, "%s can't be opened: %s", folder, strerror(errno));
+    each_name_in(it, call, with);
+    close(it);
+}
+
+void sync_folder_of(const char *path) {
+    char folder[PATH];
+    const char *slash = strrchr(path, '/');
+    path_of(folder, "%.*s", slash != NULL ? (int)(slash - path) : 1, slash != NULL ? path : ".");
+    int it = open(folder, O_RDONLY | O_DIRECTORY | O_CLOEXEC);
+    CHECK(it >= 0 && fsync(it) == 0, "%s can't be synced: %s", folder, strerror(errno));
+    close(it);
 }

@@ -8,6 +8,7 @@
 #include <stdint.h>
 #include <stdio.h>
 #include <stdlib.h>
+#include <unistd.h>
 
 enum {
     PARTITIONS = 12, /* of the stream */
@@ -19,13 +20,13 @@ enum {
     PATH = 512
 };
 
-/* Ends the process if the condition does not hold. */
+/* Ends the process at once if the condition does not hold: no other thread goes on. */
 #define CHECK(condition, ...)                                                                                          \
     do {                                                                                                               \
         if (!(condition)) {                                                                                            \
             fprintf(stderr, "engine: " __VA_ARGS__);                                                                   \
             fprintf(stderr, " (%s, line %d)\n", __FILE__, __LINE__);                                                   \
-            exit(1);                                                                                                   \
+            _exit(1);                                                                                                  \
         }                                                                                                              \
     } while (0)
 
@@ -39,8 +40,11 @@ struct chance {
 
 uint64_t chance_below(struct chance *chance, uint64_t most);
 
-/* Milliseconds of the clock that goes on while the process is down. */
+/* Milliseconds of a clock that never jumps. */
 uint64_t now(void);
+
+/* After a replay: `now` goes on from the greatest moment of the log. */
+void clock_begins_at(uint64_t moment);
 
 void sleep_ms(uint64_t ms);
 
@@ -52,5 +56,11 @@ void empty_folder(const char *path);
 
 /* Calls for each name in a folder that does not begin with a dot. */
 void each_name(const char *folder, void (*call)(void *with, const char *name), void *with);
+
+/* The same for a folder that is open, and stays so. */
+void each_name_in(int folder, void (*call)(void *with, const char *name), void *with);
+
+/* Syncs the folder that a path is in. */
+void sync_folder_of(const char *path);
 
 #endif

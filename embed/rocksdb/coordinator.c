@@ -2,46 +2,15 @@
 #define _GNU_SOURCE
 #include "coordinator.h"
 
-#include <errno.h>
-#include <fcntl.h>
-#include <signal.h>
-#include <stdarg.h>
 #include <string.h>
-#include <unistd.h>
-
-static void write_whole(int to, const char *bytes, size_t len) {
-    while (len != 0) {
-        ssize_t written = write(to, bytes, len);
-        CHECK(written > 0, "the log can't be written: %s", strerror(errno));
-        bytes += written;
-        len -= (size_t)written;
-    }
-}
-
-static bool dies_at(struct coordinator *c, enum place place) {
-    return c->death.place == place && c->death.nth != 0 && --c->death.nth == 0;
-}
-
-static void die(void) {
-    kill(getpid(), SIGKILL);
-    for (;;) {
-        pause();
-    }
-}
-
-static void may_die_at(struct coordinator *c, enum place place) {
-    if (dies_at(c, place)) {
-        die();
-    }
-}
 
 void coordinator_step(struct coordinator *c) {
     pthread_mutex_lock(&c->lock);
-    may_die_at(c, BETWEEN_STEPS);
+    may_die_at(&c->log.death, BETWEEN_STEPS);
     pthread_mutex_unlock(&c->lock);
 }
 
-static void note_taken(struct coordinator *c, uint64_t len) {
+static void note_taken(struct coordinator *c, const uint64_t *files, uint64_t len) {
     if (len == 0) {
         return;
     } else if (c->taken_len + len > c->taken_room) {
@@ -49,7 +18,7 @@ static void note_taken(struct coordinator *c, uint64_t len) {
         c->taken = realloc(c->taken, c->taken_room * sizeof *c->taken);
         CHECK(c->taken != NULL, "no memory");
     }
-    memcpy(c->taken + c->taken_len, c->script.taken, len * sizeof *c->taken);
+    memcpy(c->taken + c->taken_len, files, len * sizeof *c->taken);
     c->taken_len += len;
 }
 
@@ -71,7 +40,7 @@ static void note_done(struct coordinator *c, relkvanu_answer answer) {
     case RELKVANU_RESTORED_CHECKPOINT:
     case RELKVANU_RESTORED_SAVEPOINT:
     case RELKVANU_RESTORED_FRESH: c->restored = c->answers[RELKVANU_ACK_COMPLETED]; break;
-    case RELKVANU_TAKEN: note_taken(c, answer.a); break;
+    case RELKVANU_TAKEN: note_taken(c, c->script.taken, answer.a); break;
     case RELKVANU_DELETED:
     case RELKVANU_UNDELETED: note_reported(c, answer.a); break;
     default: break;
@@ -91,25 +60,17 @@ static void note(struct coordinator *c, relkvanu_answer answer) {
     }
 }
 
-static void sync_file(int file) {
-    CHECK(fdatasync(file) == 0, "the log can't be synced: %s", strerror(errno));
-}
-
-/* Writes bytes to the log and syncs them. */
-static void append(struct coordinator *c, const char *bytes, size_t len) {
-    write_whole(c->log, bytes, len);
-    sync_file(c->log);
-}
-
 /* Writes what the engine has to know after a replay. */
 static void append_note(struct coordinator *c, const char *name, uint64_t number) {
     char text[64];
-    append(c, text, (size_t)snprintf(text, sizeof text, "# %s %" PRIu64 "\n", name, number));
+    log_append(&c->log, text, (size_t)snprintf(text, sizeof text, "# %s %" PRIu64 "\n", name, number));
 }
 
 static void read_note(struct coordinator *c, const char *line) {
     uint64_t number = 0, place = 0;
-    if (sscanf(line, "# files %" SCNu64, &number) == 1) {
+    if (sscanf(line, "# job %32[0-9a-f]", c->job) == 1) {
+        return;
+    } else if (sscanf(line, "# files %" SCNu64, &number) == 1) {
         c->next_file = c->files_end = number;
     } else if (sscanf(line, "# tasks %" SCNu64, &number) == 1) {
         c->tasks = (unsigned)number;
@@ -124,8 +85,7 @@ static void read_note(struct coordinator *c, const char *line) {
     } else if (sscanf(line, "# answers %" SCNu64 " %" SCNu64, &place, &number) == 2 && place < REPLIES) {
         c->answers[place] = number;
     } else if (sscanf(line, "# taken %" SCNu64, &number) == 1) {
-        c->script.taken[0] = number;
-        note_taken(c, 1);
+        note_taken(c, &number, 1);
     }
 }
 
@@ -155,14 +115,14 @@ static char *image_of(struct coordinator *c, size_t *len) {
     return image;
 }
 
-/* The beginning of a log in place of all earlier lines: an image, and what the engine has to know of those lines. */
-static char *new_log(struct coordinator *c, size_t *len) {
+/* The lines of a log in place of all earlier ones: an image, and what the engine has to know of those lines. */
+static char *new_lines(struct coordinator *c, size_t *len) {
     char *text = NULL;
     size_t image_len = 0;
     char *image = image_of(c, &image_len);
     FILE *to = open_memstream(&text, len);
     CHECK(to != NULL, "no memory");
-    fprintf(to, "%s%.*s\n", IMAGE, (int)image_len, image);
+    fprintf(to, "%s%.*s\n# job %s\n", IMAGE, (int)image_len, image, c->job);
     fprintf(to, "# files %" PRIu64 "\n# tasks %u\n# last %" PRIu64 "\n# restored %" PRIu64 "\n# handed-again %" PRIu64 "\n# calls %" PRIu64 "\n", c->files_end,
             c->tasks, c->last, c->restored, c->handed_again, c->calls);
     for (size_t place = 0; place < REPLIES; place++) {
@@ -176,51 +136,29 @@ static char *new_log(struct coordinator *c, size_t *len) {
     return text;
 }
 
-static void sync_folder(const char *path) {
-    char folder[PATH];
-    path_of(folder, "%.*s", (int)(strrchr(path, '/') - path), path);
-    int it = open(folder, O_RDONLY | O_DIRECTORY);
-    CHECK(it >= 0 && fsync(it) == 0, "%s can't be synced: %s", folder, strerror(errno));
-    close(it);
-}
-
 /* Replaces this log by one that begins with an image and has no call yet. */
 static void cut(struct coordinator *c) {
-    char beside[PATH];
     size_t len = 0;
-    char *text = new_log(c, &len);
-    path_of(beside, "%.400s.new", c->path);
-    int log = open(beside, O_CREAT | O_TRUNC | O_WRONLY | O_APPEND, 0600);
-    CHECK(log >= 0, "%s can't be opened: %s", beside, strerror(errno));
-    if (dies_at(c, HALF_A_LOG)) {
-        write_whole(log, text, len / 2);
-        die();
-    }
-    write_whole(log, text, len);
-    free(text);
-    sync_file(log);
-    may_die_at(c, AFTER_A_LOG);
-    CHECK(rename(beside, c->path) == 0, "%s can't be renamed: %s", beside, strerror(errno));
-    may_die_at(c, AFTER_A_RENAME);
-    sync_folder(c->path);
-    close(c->log);
-    c->log = log;
+    char *lines = new_lines(c, &len);
+    log_replace(&c->log, lines, len);
+    free(lines);
     c->completed = 0;
     c->cuts++;
-    may_die_at(c, AFTER_A_CUT);
 }
 
-/* Does what a line of the log says. */
-static void obey(struct coordinator *c, const char *line, size_t len) {
+/* Does what a line of the log says. Each line is of a call that was made. */
+static void obey(void *with, const char *line, size_t len) {
+    struct coordinator *c = with;
+    int shown = (int)(len < 80 ? len : 80);
     if (strncmp(line, IMAGE, strlen(IMAGE)) == 0) {
         open_image(c, line, len);
         return;
     }
     relkvanu_answer answer = script_line(&c->script, line, len);
-    CHECK(answer.code != RELKVANU_BAD_LINE, "the log has a line that can't be read: %.*s", (int)(len < 80 ? len : 80), line);
-    if (answer.code == RELKVANU_DONE && answer.what == RELKVANU_SKIPPED) {
+    CHECK(answer.code == RELKVANU_DONE, "the log has a line that is refused, code %" PRIu32 ", what %" PRIu32 ": %.*s", answer.code, answer.what, shown, line);
+    if (answer.what == RELKVANU_SKIPPED) {
         read_note(c, line);
-    } else if (answer.code != RELKVANU_DONE || answer.what != RELKVANU_OPENED) {
+    } else if (answer.what != RELKVANU_OPENED) {
         note(c, answer);
     }
 }
@@ -240,14 +178,8 @@ static relkvanu_answer logged(struct coordinator *c, const relkvanu_call *call, 
     if (answer.code != RELKVANU_DONE) {
         return answer;
     }
-    may_die_at(c, AFTER_A_CALL);
     c->line[len] = '\n';
-    if (dies_at(c, HALF_A_LINE)) {
-        write_whole(c->log, c->line, len / 2);
-        die();
-    }
-    append(c, c->line, len + 1);
-    may_die_at(c, AFTER_A_LINE);
+    log_append(&c->log, c->line, len + 1);
     if (c->completed >= COMPLETED_OF_A_LOG) {
         cut(c);
     }
@@ -306,7 +238,9 @@ size_t coordinator_take(struct coordinator *c, uint64_t *files, size_t most) {
     relkvanu_call call = {.kind = RELKVANU_CALL_TAKE, .number = most};
     pthread_mutex_lock(&c->lock);
     relkvanu_answer answer = logged(c, &call, NULL, 0, NULL, 0);
-    memcpy(files, c->script.taken, answer.a * sizeof *files);
+    if (answer.a != 0) {
+        memcpy(files, c->script.taken, answer.a * sizeof *files);
+    }
     pthread_mutex_unlock(&c->lock);
     return answer.a;
 }
@@ -316,65 +250,50 @@ void coordinator_report(struct coordinator *c, uint64_t file, bool is_deleted) {
     CHECK(answer.code == RELKVANU_DONE, "the report of file %" PRIu64 " is refused", file);
 }
 
-/* Obeys the whole lines of a log, and returns how many bytes they have. */
-static off_t replayed(struct coordinator *c, const char *log) {
-    char *line = NULL;
-    size_t room = 0;
-    off_t bytes = 0;
-    FILE *from = fopen(log, "r");
-    CHECK(from != NULL, "%s can't be read: %s", log, strerror(errno));
-    for (ssize_t len = getline(&line, &room, from); len > 0 && line[len - 1] == '\n'; len = getline(&line, &room, from)) {
-        obey(c, line, (size_t)len - 1);
-        bytes += len;
-    }
-    free(line);
-    fclose(from);
-    return bytes;
-}
-
 static void coordinator_clear(struct coordinator *c) {
     memset(c, 0, sizeof *c);
     pthread_mutex_init(&c->lock, NULL);
+    c->log.file = -1;
     c->next_file = 1;
 }
 
 void coordinator_replay(struct coordinator *c, const char *log) {
     coordinator_clear(c);
-    replayed(c, log);
+    CHECK(log_read(log, obey, c) != 0, "%s has no line", log);
 }
 
-/* Begins a new log with the lines that open the coordinator, and does what they say. */
-static void begin(struct coordinator *c) {
+/* Begins a log with the name of the job and the lines that open the coordinator, and does what they say. */
+static void begin(struct coordinator *c, const struct storage *storage) {
     relkvanu_settings settings = {.interval = 100, .at_once = 2, .timeout = 20000, .tolerable = 2, .retained = 2};
     uint64_t shape = TASKS;
-    relkvanu_answer written = relkvanu_opening_lines(&settings, &shape, 1, now(), (uint8_t *)c->line, LINE);
+    storage_begin(storage, c->job);
+    size_t len = (size_t)snprintf(c->line, LINE, "# job %s\n", c->job);
+    relkvanu_answer written = relkvanu_opening_lines(&settings, &shape, 1, now(), (uint8_t *)c->line + len, LINE - len);
     CHECK(written.code == RELKVANU_DONE, "there are no opening lines: code %" PRIu32, written.code);
-    append(c, c->line, written.a);
-    for (char *line = c->line, *end; line < c->line + written.a; line = end + 1) {
-        end = memchr(line, '\n', (size_t)(c->line + written.a - line));
+    len += written.a;
+    log_replace(&c->log, c->line, len);
+    for (char *line = c->line, *end; line < c->line + len; line = end + 1) {
+        end = memchr(line, '\n', (size_t)(c->line + len - line));
         obey(c, line, (size_t)(end - line));
     }
 }
 
-void coordinator_open(struct coordinator *c, const char *log, struct death death) {
+void coordinator_open(struct coordinator *c, const char *log, const struct storage *storage, struct death death) {
     coordinator_clear(c);
-    path_of(c->path, "%.400s", log);
-    c->log = open(log, O_CREAT | O_WRONLY | O_APPEND, 0600);
-    CHECK(c->log >= 0, "%s can't be opened: %s", log, strerror(errno));
-    off_t whole = replayed(c, log);
-    CHECK(ftruncate(c->log, whole) == 0, "%s can't be cut off after its last whole line", log);
-    c->death = death;
-    if (c->script.handle.state == NULL) {
-        begin(c);
+    log_open(&c->log, log, death);
+    if (log_go_on(&c->log, obey, c) == 0) {
+        begin(c, storage);
+    } else {
+        CHECK(c->script.handle.state != NULL, "%s opens no coordinator", log);
+        clock_begins_at(relkvanu_moment(&c->script.handle).a);
+        storage_go_on(storage, c->job, c->next_file);
     }
 }
 
 void coordinator_close(struct coordinator *c) {
     script_close(&c->script);
     free(c->taken);
-    if (c->log > 0) {
-        close(c->log);
-    }
+    log_close(&c->log);
 }
 
 /* Reads change nothing, so they are not logged. Each subtask of a done record has acknowledged it. */

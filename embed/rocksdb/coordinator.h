@@ -1,42 +1,31 @@
-/* The coordinator behind a lock, with a log: each call that changed it is a script line (docs/SCRIPT.md), which is written and synced
- * before the caller is told. The library writes the lines and makes the calls that they say. Opened over a log, it makes the calls of
- * all whole lines again. So it has exactly the state after the last call that the process before answered, or after one more call.
+/* The coordinator behind a lock, with a log (log.h): each call that changed it is a script line (docs/SCRIPT.md), which is written and
+ * synced before the caller is told. The library writes the lines and makes the calls that they say. Opened over a log, it makes the calls
+ * of all whole lines again. So it has exactly the state after the last call that the process before answered, or after one more call.
+ * A call that is refused then was never made so: the log is another one, and the process ends.
  *
- * After each COMPLETED_OF_A_LOG completed records the log is cut: a new one, which begins with an image of the coordinator, is written
- * beside it, synced and renamed to it, and the folder is synced. A process that dies before the rename leaves the old log, which is whole.
+ * After each COMPLETED_OF_A_LOG completed records the log is cut: a new one begins with an image of the coordinator.
  *
- * The log also has comments, with what the engine has to know and the coordinator does not: how many tasks the job is to have, the
- * end of the file numbers that may have been given, and at the start of a cut log what the earlier lines had of this. Each comment
- * is written before the engine relies on it. */
+ * The log also has comments, with what the engine has to know and the coordinator does not: the name of the job, which its storage
+ * has too, how many tasks the job is to have, the end of the file numbers that may have been given, and at the start of a cut log what
+ * the earlier lines had of this. Each comment is written before the engine relies on it. */
 #ifndef ENGINE_COORDINATOR_H
 #define ENGINE_COORDINATOR_H
 
 #include "../c/script.h"
-#include "common.h"
+#include "log.h"
+#include "storage.h"
 
 #include <pthread.h>
 
 enum { REPLIES = 23, LINE = 131072, FILES_AT_ONCE = 1000, COMPLETED_OF_A_LOG = 5 };
 
-/* The places at which the process may kill itself: after a call that is not in the log yet, with half of its line there, with all of
- * it, between two steps of a task or of the discarder; with half of a new log written, with all of it synced, when it is renamed, and
- * when the folder is synced. */
-enum place { AFTER_A_CALL, HALF_A_LINE, AFTER_A_LINE, BETWEEN_STEPS, HALF_A_LOG, AFTER_A_LOG, AFTER_A_RENAME, AFTER_A_CUT, PLACES };
-
-/* The process is killed when it comes to the place for the nth time; 0: it is not. */
-struct death {
-    enum place place;
-    uint64_t nth;
-};
-
 struct coordinator {
     pthread_mutex_t lock;
     struct script script;
-    char path[PATH]; /* of the log */
-    int log;
+    struct log log;
+    char job[JOB + 1];  /* its name; empty: no log has named it yet */
     uint64_t completed; /* records since the log was cut */
     uint64_t cuts;      /* by this process */
-    struct death death;
     char line[LINE + 1];          /* the one that is written, and its newline */
     uint64_t next_file, files_end; /* above all that were named; above all that may be before the log says so */
     unsigned tasks;               /* that the job is to have; 0: as at first */
@@ -57,8 +46,9 @@ struct progress {
     bool is_rolled_back;
 };
 
-/* Opens the log, or a new one if there is none, and then the coordinator, for a job of TASKS tasks, by its first lines. */
-void coordinator_open(struct coordinator *c, const char *log, struct death death);
+/* Opens the log and the coordinator that it describes, for this storage. If there is no log, or an empty one, and the storage has no
+ * file, it begins a job of TASKS tasks. */
+void coordinator_open(struct coordinator *c, const char *log, const struct storage *storage, struct death death);
 
 /* Replays a log to compare with. Nothing is written. */
 void coordinator_replay(struct coordinator *c, const char *log);

@@ -5,7 +5,7 @@
 
 enum { AT_ONCE = 16 };
 
-static void discard(struct coordinator *c, const char *storage, uint64_t file) {
+static void discard(struct coordinator *c, const struct storage *storage, uint64_t file) {
     storage_delete(storage, file);
     coordinator_step(c);
     coordinator_report(c, file, true);
@@ -39,14 +39,14 @@ void discarder_stop(struct discarder *discarder) {
     pthread_join(discarder->thread, NULL);
 }
 
-void discarder_report(struct coordinator *c, const char *storage) {
+void discarder_report(struct coordinator *c, const struct storage *storage) {
     while (c->taken_len != 0) {
         uint64_t file = c->taken[c->taken_len - 1];
         coordinator_report(c, file, !storage_has(storage, file));
     }
 }
 
-void discarder_drain(struct coordinator *c, const char *storage) {
+void discarder_drain(struct coordinator *c, const struct storage *storage) {
     uint64_t files[AT_ONCE];
     for (size_t len = coordinator_take(c, files, AT_ONCE); len != 0; len = coordinator_take(c, files, AT_ONCE)) {
         for (size_t place = 0; place < len; place++) {

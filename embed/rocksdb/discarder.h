@@ -10,7 +10,7 @@
 struct discarder {
     pthread_t thread;
     struct coordinator *coordinator;
-    const char *storage;
+    const struct storage *storage;
     struct chance chance;
     atomic_bool is_over;
 };
@@ -20,9 +20,9 @@ void discarder_start(struct discarder *discarder);
 void discarder_stop(struct discarder *discarder);
 
 /* Reports what an earlier process fetched and did not report: a file that is gone was deleted. */
-void discarder_report(struct coordinator *c, const char *storage);
+void discarder_report(struct coordinator *c, const struct storage *storage);
 
 /* Deletes all that waits. */
-void discarder_drain(struct coordinator *c, const char *storage);
+void discarder_drain(struct coordinator *c, const struct storage *storage);
 
 #endif

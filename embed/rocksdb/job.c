@@ -11,26 +11,26 @@ enum { TICKS_MS = 20, FAILURES_MS = 1000, GUARD_MS = 300000 };
 /* Why the tasks stop. */
 enum end { FAILED, ROLLS_BACK, RESCALES, OVER };
 
-static void delete_unknown(void *with, const char *name) {
+static void delete_unknown(void *with, uint64_t file) {
     struct job *job = with;
-    uint64_t file = strtoull(name, NULL, 10);
     if (coordinator_count(&job->coordinator, file) == 0) {
-        storage_delete(job->storage, file);
+        storage_delete(&job->storage, file);
     }
 }
 
 void job_open(struct job *job, const char *folder) {
-    path_of(job->storage, "%.400s/storage", folder);
+    char path[PATH];
+    path_of(path, "%.400s/storage", folder);
     path_of(job->local, "%.400s/local", folder);
     path_of(job->log, "%.400s/log", folder);
-    mkdir(job->storage, 0700);
-    coordinator_open(&job->coordinator, job->log, job->death);
+    storage_open(&job->storage, path);
+    coordinator_open(&job->coordinator, job->log, &job->storage, job->death);
     job->first = job->coordinator.last + 1;
-    discarder_report(&job->coordinator, job->storage);
-    discarder_drain(&job->coordinator, job->storage);
+    discarder_report(&job->coordinator, &job->storage);
+    discarder_drain(&job->coordinator, &job->storage);
     /* what is left and not used was written by tasks that died before they named it */
-    each_name(job->storage, delete_unknown, job);
-    job->discarder = (struct discarder){.coordinator = &job->coordinator, .storage = job->storage, .chance = {mixed(job->seed + 1)}};
+    storage_each(&job->storage, delete_unknown, job);
+    job->discarder = (struct discarder){.coordinator = &job->coordinator, .storage = &job->storage, .chance = {mixed(job->seed + 1)}};
     discarder_start(&job->discarder);
     job->started = now();
     job->next_failure = job->started + FAILURES_MS;
@@ -63,7 +63,7 @@ void job_open_record(struct job *job, const struct record *record, struct store 
         files->len = record->parts[index].len;
         for (size_t file = 0; file < files->len; file++) {
             files->items[file].number = record->parts[index].files[file];
-            storage_get(job->storage, files->items[file].number, folder, files->items[file].name);
+            storage_get(&job->storage, files->items[file].number, folder, files->items[file].name);
         }
         store_open(&stores[index], folder);
     }
@@ -72,7 +72,7 @@ void job_open_record(struct job *job, const struct record *record, struct store 
 static void prepare(struct job *job, unsigned index) {
     struct task *task = &job->tasks[index];
     task->coordinator = &job->coordinator;
-    task->storage = job->storage;
+    task->storage = &job->storage;
     task->index = index;
     task->is_failed = &job->is_failed;
     task->cuts = job->cuts;

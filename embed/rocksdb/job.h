@@ -9,7 +9,8 @@
 struct job {
     struct coordinator coordinator;
     struct discarder discarder;
-    char storage[PATH], local[PATH], log[PATH];
+    struct storage storage;
+    char local[PATH], log[PATH];
     uint64_t seed;
     struct death death;
     uint64_t started, seconds;  /* of this process */

@@ -32,7 +32,7 @@ struct upload {
 struct task {
     pthread_t thread;
     struct coordinator *coordinator;
-    const char *storage;
+    const struct storage *storage;
     char folder[PATH];
     unsigned index;
     struct store store;
@@ -52,7 +52,7 @@ void task_start(struct task *task);
 /* Names those of the files again that never change: the tables. */
 void task_hold(struct task *task, const struct files *files);
 
-/* Acknowledges, and returns the answer. */
+/* Syncs the storage folder, acknowledges, and returns the answer. */
 relkvanu_answer task_ack(struct task *task, const struct upload *upload);
 
 /* Deletes the files that were written for an acknowledgement which was not accepted. */

@@ -1,11 +1,14 @@
 """The coordinator of a stream processor's checkpoints, over the shared library.
 
 librelkvanu.so.0 comes from the folder that RELKVANU_LIB names. Otherwise it is beside this file, where an installation puts it, or
-the system's loader finds it. docs/RULES.md says what each call does, and when it is refused.
+the system's loader finds it. If there is none, the import raises ImportError. docs/RULES.md says what each call does, and when it is
+refused. All exceptions of the package are an Error.
 """
 from relkvanu import lines
-from relkvanu.coordinator import BadArgument, BadLine, Closed, Coordinator, OutOfMemory, Refused, Settings, TooShort, version
-from relkvanu.discarder import Discarded, Discarder, Patience
+from relkvanu.coordinator import (
+    BadArgument, BadLine, Closed, Coordinator, Error, OutOfMemory, OutOfRange, Refused, Settings, TooShort, version,
+)
+from relkvanu.discarder import Discarded, Discarder, Outbox, Patience
 from relkvanu.reads import Chosen, FileCounts, Kind, Live, Mode, Standing
 from relkvanu.replies import (
     AckCompleted, AckLate, AckPending, Cancelled, Counted, DeclineAborted, DeclineFailed, DeclineLate, Deleted,
@@ -15,8 +18,8 @@ from relkvanu.replies import (
 
 __all__ = [
     "AckCompleted", "AckLate", "AckPending", "BadArgument", "BadLine", "Cancelled", "Chosen", "Closed", "Coordinator", "Counted",
-    "DeclineAborted", "DeclineFailed", "DeclineLate", "Deleted", "Discarded", "Discarder", "Disposed", "Failed", "FileCounts", "HeldAtOnce",
-    "HeldInterval", "HeldPause", "Kind", "Live", "Mode", "OutOfMemory", "Patience", "Refused", "Reply", "RestoredCheckpoint",
+    "DeclineAborted", "DeclineFailed", "DeclineLate", "Deleted", "Discarded", "Discarder", "Disposed", "Error", "Failed", "FileCounts", "HeldAtOnce",
+    "HeldInterval", "HeldPause", "Kind", "Live", "Mode", "OutOfMemory", "OutOfRange", "Outbox", "Patience", "Refused", "Reply", "RestoredCheckpoint",
     "RestoredFresh", "RestoredSavepoint", "SavepointTriggered", "Settings", "Shown", "Standing", "Taken", "TooShort", "Triggered", "Undeleted",
     "lines", "version",
 ]

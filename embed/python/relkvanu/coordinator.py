@@ -6,7 +6,7 @@ import pathlib
 import secrets
 import threading
 from dataclasses import dataclass
-from typing import Any, Callable, Iterator, Optional, Sequence, Tuple, Union
+from typing import Any, Callable, Iterator, NoReturn, Optional, Sequence, Tuple, Union
 
 from relkvanu import header
 from relkvanu.reads import CHOSEN, LIVE, Chosen, FileCounts, Live, Mode, Standing
@@ -14,6 +14,8 @@ from relkvanu.replies import MADE, HeldAtOnce, Reply, Shown, Taken
 
 LIBRARY = "librelkvanu.so.0"
 U64 = ctypes.c_uint64
+DAY = 24 * 60 * 60 * 1000
+LAST_MOMENT = (1 << 62) - 1
 FAULTS = {
     header.FAULT_TOO_LONG: "TooLong",
     header.FAULT_WORD: "Word",
@@ -33,17 +35,24 @@ ARGUMENTS = {
 }
 
 
-class Refused(Exception):
+class Error(Exception):
+    """What all exceptions of this package are. The call that raised it has changed nothing."""
+
+
+class Refused(Error):
     """The coordinator refused the call, and nothing has changed. `name` says why, such as "NotRunning". `file` is the
     file that is to blame, if there is one."""
 
     def __init__(self, name: str, file: Optional[int]) -> None:
-        super().__init__(name if file is None else f"{name} {file}")
+        super().__init__(name, file)  # with these it is made again where it is copied or unpickled
         self.name = name
         self.file = file
 
+    def __str__(self) -> str:
+        return self.name if self.file is None else f"{self.name} {self.file}"
 
-class BadArgument(ValueError):
+
+class BadArgument(Error, ValueError):
     """A value is outside its limits, and nothing has changed. `name` says which, such as "BadShape"."""
 
     def __init__(self, name: str) -> None:
@@ -51,7 +60,7 @@ class BadArgument(ValueError):
         self.name = name
 
 
-class BadLine(ValueError):
+class BadLine(Error, ValueError):
     """A line of a script can't be read, or the line of a call would be too long. Nothing has changed. `name` is the fault,
     such as "Missing". "NoCall" says that the line was read and makes no call."""
 
@@ -60,19 +69,26 @@ class BadLine(ValueError):
         self.name = name
 
 
-class TooShort(ValueError):
+class TooShort(Error, ValueError):
     """A take line would fetch `places` files, more than it may. Nothing has changed."""
 
     def __init__(self, places: int) -> None:
-        super().__init__(f"the line would fetch {places} files")
+        super().__init__(places)
         self.places = places
 
+    def __str__(self) -> str:
+        return f"the line would fetch {self.places} files"
 
-class OutOfMemory(MemoryError):
+
+class OutOfRange(Error, OverflowError):
+    """A number does not fit into the bits that the call has for it. Nothing has changed."""
+
+
+class OutOfMemory(Error, MemoryError):
     """Memory ran out, and nothing has changed: make the same call again."""
 
 
-class Closed(Exception):
+class Closed(Error):
     """The coordinator was closed."""
 
 
@@ -90,36 +106,36 @@ class Settings:
 
 
 def _loaded() -> ctypes.CDLL:
-    """The library in the folder that RELKVANU_LIB names, else the one beside the package, else that of the system."""
+    """The library in the folder that RELKVANU_LIB names, else the one beside the package, else that of the system. Raises ImportError if
+    there is none, or if it lacks a function."""
     folder = os.environ.get("RELKVANU_LIB")
     beside = pathlib.Path(__file__).resolve().parent / LIBRARY
     if folder is not None:
         path = os.path.join(folder, LIBRARY)
     else:
         path = str(beside) if beside.is_file() else LIBRARY
-    library = ctypes.CDLL(path)
-    for name, (result, parameters) in header.FUNCTIONS.items():
-        function = getattr(library, name)
-        function.argtypes, function.restype = parameters, result
+    try:
+        library = ctypes.CDLL(path)
+        for name, (result, parameters) in header.FUNCTIONS.items():
+            function = getattr(library, name)
+            function.argtypes, function.restype = parameters, result
+    except (OSError, AttributeError) as fault:
+        told = "run make and set RELKVANU_LIB to its folder `build`, or install a release (docs/EMBEDDING.md)"
+        raise ImportError(f"the library of Relkvanu {header.VERSION} can't be loaded: {fault}; {told}", name="relkvanu", path=path) from None
     return library
 
 
-_library: Optional[ctypes.CDLL] = None
-_loading = threading.Lock()
+_library = _loaded()
 
 
 def _shared() -> ctypes.CDLL:
-    global _library
-    with _loading:
-        if _library is None:
-            _library = _loaded()
     return _library
 
 
 def _within(value: int, bits: int) -> int:
-    """The number. Raises OverflowError if it is out of range, since ctypes would cut it off."""
+    """The number. Raises OutOfRange if it does not fit, since ctypes would cut it off."""
     if not 0 <= value < 1 << bits:
-        raise OverflowError(f"{value} has more than {bits} bits, or is negative")
+        raise OutOfRange(f"{value} has more than {bits} bits, or is negative")
     return value
 
 
@@ -201,9 +217,15 @@ class Coordinator:
     """The checkpoint coordinator of one job. Threads may share it: its own lock admits one call at a time. To make several
     calls with no other thread's call between them, use `with job.locked():`.
 
-    Each call raises Refused if it is refused, OutOfMemory if memory runs out, Closed after close(), and OverflowError if a
+    Each call raises Refused if it is refused, OutOfMemory if memory runs out, Closed after close(), and OutOfRange if a
     number does not fit. Then nothing has changed.
+
+    A moment that is far ahead would stop the job's checkpoints until then. So a call is refused with MomentTooLarge if its moment
+    is more than `most_ahead` milliseconds beyond the greatest moment so far, and beyond what a timer waits for. That is a day,
+    unless an engine sets it, which it does if a longer time may pass without a call. Lines of a log are not checked.
     """
+
+    most_ahead: int = DAY
 
     def __init__(self, settings: Settings, shape: Sequence[int], now: int, first: int = 1) -> None:
         """Opens it at the moment `now`. The shape is the number of subtasks of each vertex. The first record has the number
@@ -216,7 +238,7 @@ class Coordinator:
     @classmethod
     def open_saved(cls, image: Union[str, bytes]) -> "Coordinator":
         """Opens the coordinator that an image describes, which save() returned (docs/IMAGE.md). It answers every list of calls as
-        the saved one would. Raises BadArgument if the text is not an image, or if no coordinator can be in the state of the image."""
+        the saved one would. Raises BadArgument if the text is not an image, or if the state is not sound, or no coordinator could be opened so."""
         text = image.encode() if isinstance(image, str) else image
         opened = cls.__new__(cls)
         opened._begin()
@@ -244,6 +266,17 @@ class Coordinator:
             self._lock.notify_all()
             return self._replied(name, *arguments)
 
+    def _timed(self, name: str, now: int, *arguments: Any) -> Reply:
+        """A call at a moment."""
+        with self._lock:
+            if _u64(now) <= LAST_MOMENT and self._is_ahead(now):
+                raise Refused("MomentTooLarge", None)
+            return self._moved(name, now, *arguments)
+
+    def _is_ahead(self, now: int) -> bool:
+        past = now - self.most_ahead
+        return past > self.moment() and past > self.due() and past > (self.oldest_expiry() or 0)
+
     @contextlib.contextmanager
     def locked(self) -> Iterator[None]:
         """Keeps other threads' calls out. Delete, send and wait outside of it."""
@@ -259,6 +292,10 @@ class Coordinator:
         """Waits until calls() is above `seen`, or this many seconds are over. None sets no limit."""
         with self._lock:
             self._lock.wait_for(lambda: self._calls > seen, timeout)
+
+    def __reduce__(self) -> NoReturn:
+        """Neither copies nor pickles it: two owners would free the same state."""
+        raise TypeError("a Coordinator can't be copied or pickled: save() and open_saved() make another one")
 
     def close(self) -> None:
         """Closes the coordinator. A closed one stays closed."""
@@ -276,20 +313,20 @@ class Coordinator:
             self.close()
 
     def tick(self, now: int) -> Reply:
-        return self._moved("tick", _u64(now))
+        return self._timed("tick", now)
 
     def savepoint(self, now: int) -> Reply:
-        return self._moved("savepoint", _u64(now))
+        return self._timed("savepoint", now)
 
     def ack(self, now: int, id: int, vertex: int, index: int, fresh: Sequence[int], reused: Sequence[int] = ()) -> Reply:
         """If it is accepted, the fresh files belong to the coordinator. Otherwise the task deletes a file only if no accepted
         acknowledgement ever named it. So it deletes none after AlreadyAcknowledged, the answer to a repeat. After NameTaken
         it deletes no file that it named before."""
         subtask = _within(vertex, 16), _within(index, 16)
-        return self._moved("ack", _u64(now), _u64(id), *subtask, _words(fresh), len(fresh), _words(reused), len(reused))
+        return self._timed("ack", now, _u64(id), *subtask, _words(fresh), len(fresh), _words(reused), len(reused))
 
     def decline(self, now: int, id: int, vertex: int, index: int) -> Reply:
-        return self._moved("decline", _u64(now), _u64(id), _within(vertex, 16), _within(index, 16))
+        return self._timed("decline", now, _u64(id), _within(vertex, 16), _within(index, 16))
 
     def dispose(self, id: int) -> Reply:
         return self._replied("dispose", _u64(id))
@@ -298,13 +335,13 @@ class Coordinator:
         """Restores the job from a savepoint, or from the latest record if none is given. `shape` may give a new shape. An
         empty or bad shape is a BadArgument, before any refusal."""
         if savepoint == 0:
-            raise ValueError("no savepoint has the number 0")
+            raise BadArgument("no savepoint has the number 0")
         if shape is not None and len(shape) == 0:
             raise BadArgument("BadShape")
-        return self._moved("restore", _u64(now), _u64(savepoint or 0), _words(shape or ()), len(shape or ()))
+        return self._timed("restore", now, _u64(savepoint or 0), _words(shape or ()), len(shape or ()))
 
     def cancel(self, now: int) -> Reply:
-        return self._moved("cancel", _u64(now))
+        return self._timed("cancel", now)
 
     def take(self, most: int) -> Taken:
         """Fetches at most `most` files that wait for deletion. Report each by deleted() or undeleted(). A repeated
@@ -354,6 +391,11 @@ class Coordinator:
     def mode(self) -> Mode:
         return Mode(_done(self._call("mode")).what)
 
+    def moment(self) -> int:
+        """The greatest moment that the coordinator has seen. It takes an earlier one for this one."""
+        seen: int = _done(self._call("moment")).a
+        return seen
+
     def due(self) -> int:
         """The moment before which no tick triggers a checkpoint. Calls move it."""
         moment: int = _done(self._call("due")).a
@@ -362,7 +404,8 @@ class Coordinator:
     def next_tick(self, ticked: Optional[Reply]) -> Optional[int]:
         """The moment of the next tick after a tick with this reply (None: it raised), unless another call comes first: when a
         checkpoint is due or a pending record expires. While as many are pending as may be, it is the expiry, because due() has
-        passed. None if nothing changes before the next call, for example while the job has failed."""
+        passed. None if nothing changes before the next call, for example while the job has failed. After a tick that ran out of
+        memory it has passed: wait for a second instead."""
         with self._lock:
             if self.mode() != Mode.RUNNING:
                 return None

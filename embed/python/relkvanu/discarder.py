@@ -1,10 +1,23 @@
 """Threads that delete the files that no record uses any more."""
 import contextlib
 import threading
+import time
 from dataclasses import dataclass
-from typing import Callable, List, Tuple
+from typing import Callable, List, Optional, Protocol, Tuple
 
-from relkvanu.coordinator import Closed, Coordinator, OutOfMemory, Refused
+from relkvanu.coordinator import Closed, OutOfMemory, Refused
+from relkvanu.replies import Taken
+
+
+class Outbox(Protocol):
+    """What a discarder calls: a Coordinator, or an engine's own object that makes each call through one and logs it before it
+    returns."""
+
+    def take(self, most: int) -> Taken: ...
+
+    def deleted(self, file: int) -> object: ...
+
+    def undeleted(self, file: int) -> object: ...
 
 
 @dataclass(frozen=True)
@@ -12,14 +25,14 @@ class Patience:
     """How often and how long a discarder tries. Times are seconds."""
 
     threads: int = 2  # that delete at the same time
-    batch: int = 64  # files that a thread fetches at once
-    attempts: int = 8  # attempts before a file is given up
-    first_wait: float = 0.1  # after the first failure; it doubles with each further one
-    longest_wait: float = 10.0
+    batch: int = 64  # the most files that a thread has fetched and not reported
+    attempts: Optional[int] = None  # attempts before a file is given up; None: no file is given up
+    first_wait: float = 0.1  # after the first failure of a file; it doubles with each further one
+    longest_wait: float = 60.0
     idle: float = 1.0  # how long a thread that found no file sleeps
 
     def __post_init__(self) -> None:
-        if min(self.threads, self.batch, self.attempts) < 1:
+        if min(self.threads, self.batch, 1 if self.attempts is None else self.attempts) < 1:
             raise ValueError("threads, batch and attempts are at least 1")
         if min(self.first_wait, self.longest_wait, self.idle) < 0:
             raise ValueError("no time is negative")
@@ -35,6 +48,16 @@ class Discarded:
     given_up: Tuple[int, ...]
 
 
+@dataclass
+class _Fetched:
+    """A file that a thread has fetched, its failed attempts, the wait after the last one, and when the thread tries it again."""
+
+    file: int
+    attempts: int = 0
+    wait: float = 0.0
+    due: float = 0.0
+
+
 class Discarder:
     """Threads that fetch files, delete them and report each, until stop().
 
@@ -43,11 +66,14 @@ class Discarder:
     acknowledgement that comes late may hand out a deleted file again. So for a storage that is not there at all, such as one that
     is not mounted, `delete` has to raise another OSError.
 
+    A file that can't be deleted keeps no other waiting: its thread goes on with other files, and tries it again after a while.
+    When its waits have become as long as they get, it is reported as not deleted, and waits behind all others.
+
     If `delete` raises anything but OSError, its thread ends, and the files that the thread had fetched wait again. If the
     coordinator is closed first, the threads end, and nothing is reported any more.
     """
 
-    def __init__(self, coordinator: Coordinator, delete: Callable[[int], object], patience: Patience = Patience()) -> None:
+    def __init__(self, coordinator: Outbox, delete: Callable[[int], object], patience: Patience = Patience()) -> None:
         self._coordinator, self._delete, self._patience = coordinator, delete, patience
         self._over = threading.Event()
         self._lock = threading.Lock()  # of what is counted
@@ -82,24 +108,29 @@ class Discarder:
         self.stop()
 
     def _run(self) -> None:
-        while not self._over.is_set():
-            try:
-                files = self._coordinator.take(self._patience.batch).files
-            except OutOfMemory:  # nothing was fetched
-                files = ()
-            except Closed:
-                return
-            if not files:
-                self._over.wait(self._patience.idle)
-            self._discard(list(files))
-
-    def _discard(self, files: List[int]) -> None:
-        """Tries files until each is deleted or given up, or the discarder is stopped. Those that are left wait again."""
+        """A thread: fetches and tries files until it is stopped. Those that are left then wait again."""
+        files: List[_Fetched] = []
+        wait = 0.0
         try:
-            self._try(files)
+            while not self._over.wait(wait):
+                fetched = self._take(self._patience.batch - len(files))
+                files += [_Fetched(file) for file in fetched]
+                for it in files[:]:
+                    if self._is_settled(it):
+                        files.remove(it)
+                wait = 0.0 if fetched else self._patience.idle
+                wait = min([wait, *(max(it.due - time.monotonic(), 0.0) for it in files)])
+        except Closed:
+            pass
         finally:
-            for file in files:
-                self._report(self._coordinator.undeleted, file)
+            for it in files:
+                self._report(self._coordinator.undeleted, it.file)
+
+    def _take(self, most: int) -> Tuple[int, ...]:
+        """Fetches files. A take that runs out of memory has fetched nothing."""
+        with contextlib.suppress(OutOfMemory):
+            return self._coordinator.take(most).files if most > 0 else ()
+        return ()
 
     def _report(self, report: Callable[[int], object], file: int) -> None:
         """Reports a file that was fetched here. It is refused only if somebody else has reported it, and then there is nothing to
@@ -107,19 +138,24 @@ class Discarder:
         with contextlib.suppress(Closed, Refused):
             report(file)
 
-    def _try(self, files: List[int]) -> None:
-        """Removes the files that are deleted or given up from the list."""
-        wait = self._patience.first_wait
-        for attempt in range(1, self._patience.attempts + 1):
-            for file in files[:]:
-                if self._is_deleted(file):
-                    files.remove(file)
-            if not files or (attempt < self._patience.attempts and self._over.wait(wait)):
-                return
-            wait = min(2 * wait, self._patience.longest_wait)
-        with self._lock:
-            self._given_up += files
-        files.clear()
+    def _is_settled(self, it: _Fetched) -> bool:
+        """Tries a file if it is due. Returns whether the thread has no more to do with it: it is deleted, given up, or waits behind
+        all others."""
+        if time.monotonic() < it.due:
+            return False
+        if self._is_deleted(it.file):
+            return True
+        it.attempts += 1
+        if it.attempts == self._patience.attempts:
+            with self._lock:
+                self._given_up.append(it.file)
+            return True
+        if self._patience.attempts is None and it.attempts > 1 and it.wait >= self._patience.longest_wait:
+            self._report(self._coordinator.undeleted, it.file)
+            return True
+        it.wait = min(max(2 * it.wait, self._patience.first_wait), self._patience.longest_wait)
+        it.due = time.monotonic() + it.wait
+        return False
 
     def _is_deleted(self, file: int) -> bool:
         """Tries a file, and reports it if it is deleted."""

@@ -50,6 +50,7 @@ LIVE_SAVEPOINT = 33
 LIVE_NONE = 34
 MISSING = 35
 NOT_PENDING = 36
+MOMENT = 55
 SKIPPED = 37
 LINE_SKIP = 38
 LINE_CONFIG = 39
@@ -174,6 +175,7 @@ FUNCTIONS: Dict[str, Tuple[Any, List[Any]]] = {
     "relkvanu_show": (relkvanu_answer, [POINTER(relkvanu), c_uint64, POINTER(c_uint8), c_size_t]),
     "relkvanu_count": (relkvanu_answer, [POINTER(relkvanu), c_uint64]),
     "relkvanu_mode": (relkvanu_answer, [POINTER(relkvanu)]),
+    "relkvanu_moment": (relkvanu_answer, [POINTER(relkvanu)]),
     "relkvanu_due": (relkvanu_answer, [POINTER(relkvanu)]),
     "relkvanu_oldest_expiry": (relkvanu_answer, [POINTER(relkvanu)]),
     "relkvanu_choice": (relkvanu_answer, [POINTER(relkvanu)]),

@@ -106,7 +106,7 @@ def dispose_line(id: int) -> str:
 
 def restore_line(now: int, savepoint: Optional[int] = None, shape: Optional[Sequence[int]] = None) -> str:
     if savepoint == 0:
-        raise ValueError("no savepoint has the number 0")
+        raise BadArgument("no savepoint has the number 0")
     if shape is not None and len(shape) == 0:
         raise BadArgument("BadShape")
     return _line(header.CALL_RESTORE, now, savepoint or 0, first=shape or ())

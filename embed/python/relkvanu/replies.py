@@ -68,7 +68,7 @@ class AckCompleted(Reply):
 
 @dataclass(frozen=True)
 class AckLate(Reply):
-    """The record had ended. This many of the fresh files were handed out for deletion."""
+    """The record was done or had ended. This many of the fresh files were handed out for deletion."""
 
     handed_out: int
 
@@ -87,7 +87,7 @@ class DeclineFailed(Reply):
 
 @dataclass(frozen=True)
 class DeclineLate(Reply):
-    """The record had ended."""
+    """The record was done or had ended."""
 
 
 @dataclass(frozen=True)

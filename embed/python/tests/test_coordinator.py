@@ -24,6 +24,39 @@ class Openings(unittest.TestCase):
         Coordinator(SETTINGS, [1], (1 << 62) - 1, (1 << 62) - 1).close()
 
 
+class Moments(unittest.TestCase):
+    DAY = 24 * 60 * 60 * 1000
+
+    def test_a_moment_that_is_far_ahead_is_refused(self):
+        with Coordinator(SETTINGS, [1], 0) as job:
+            job.tick(1000)
+            late = 1000 + SETTINGS.timeout + self.DAY + 1  # a timer may wait until checkpoint 1 expires
+            image = job.save()
+            for call in (
+                lambda: job.tick(late), lambda: job.savepoint(late), lambda: job.ack(late, 1, 0, 0, [1]), lambda: job.decline(late, 1, 0, 0),
+                lambda: job.restore(late), lambda: job.cancel(late), lambda: job.tick((1 << 62) - 1), lambda: job.tick(1 << 62),
+            ):
+                with self.assertRaises(Refused) as raised:
+                    call()
+                self.assertEqual(raised.exception.name, "MomentTooLarge")
+            self.assertEqual(job.save(), image)
+            job.ack(late - 1, 1, 0, 0, [1])
+            job.most_ahead = 2 * self.DAY
+            job.tick(late + self.DAY)
+            self.assertEqual(job.moment(), late + self.DAY)
+
+    def test_a_timer_that_waits_for_long_is_not_ahead(self):
+        with Coordinator(Settings(interval=100 * self.DAY, timeout=200 * self.DAY), [1], 0) as job:
+            self.assertEqual(job.tick(job.due()), Triggered(expired=0, id=1))
+            self.assertEqual(job.tick(300 * self.DAY).expired, 1)
+
+    def test_a_line_of_a_log_is_not_checked(self):
+        with Coordinator(SETTINGS, [1], 0) as job:
+            job.line(b"tick 1000000000000")
+            self.assertEqual(job.moment(), 1000000000000)
+            job.tick(1000000000000 + self.DAY)
+
+
 class Calls(unittest.TestCase):
     def test_a_number_that_does_not_fit_is_not_cut_off(self):
         with Coordinator(SETTINGS, [2], 0) as job:

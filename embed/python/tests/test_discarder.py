@@ -89,6 +89,28 @@ class Discarding(unittest.TestCase):
                 wait_for(lambda: discarder.told() == Discarded(20, 0, ()))
             self.assertEqual(job.file_counts(), FileCounts(0, 0, 0))
 
+    def test_no_file_is_given_up_by_default(self):
+        tries = []
+
+        def delete(file):
+            tries.append(file)
+            if len(tries) <= 500:
+                raise PermissionError
+
+        with cancelled(self) as job, Discarder(job, delete, Patience(batch=4, first_wait=0.001, longest_wait=0.002, idle=0.001)) as discarder:
+            wait_for(lambda: discarder.told() == Discarded(20, 500, ()))
+            self.assertEqual(job.file_counts(), FileCounts(0, 0, 0))
+
+    def test_a_file_that_cannot_be_deleted_keeps_no_other_waiting(self):
+        def delete(file):
+            if file <= 3:
+                raise PermissionError
+
+        with cancelled(self) as job:
+            with Discarder(job, delete, Patience(threads=1, batch=2, first_wait=0.001, longest_wait=0.002, idle=0.001)) as discarder:
+                wait_for(lambda: discarder.told().deleted == 17 and discarder.told().failed > 100)
+            self.assertEqual(job.file_counts(), FileCounts(0, 3, 0))
+
     def test_a_folder_that_is_gone(self):
         with tempfile.TemporaryDirectory() as name:
             gone, no_folder = pathlib.Path(name, "gone"), pathlib.Path(name, "file")

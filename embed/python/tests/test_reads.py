@@ -3,7 +3,8 @@ import dataclasses
 import unittest
 
 from relkvanu import (
-    BadArgument, Chosen, Closed, Coordinator, FileCounts, HeldInterval, HeldPause, Kind, Live, Mode, Settings, Standing, Triggered,
+    BadArgument, Chosen, Closed, Coordinator, FileCounts, HeldInterval, HeldPause, Kind, Live, Mode, Refused, Settings, Standing,
+    Triggered,
 )
 
 SETTINGS = Settings(interval=1000, at_once=2, timeout=5000)
@@ -35,6 +36,16 @@ class Reads(unittest.TestCase):
             self.assertEqual((job.mode(), job.due(), job.oldest_expiry()), (Mode.RUNNING, 1000, None))
             self.assertEqual((job.choice(), job.live(0), job.missing(1)), (None, None, None))
             self.assertEqual(job.file_counts(), FileCounts(0, 0, 0))
+
+    def test_the_moment_is_the_greatest_of_accepted_calls(self):
+        with Coordinator(SETTINGS, [2], 50) as job:
+            self.assertEqual(job.moment(), 50)
+            job.tick(1050)
+            job.tick(400)
+            self.assertEqual(job.moment(), 1050)
+            self.assertRaises(Refused, job.tick, 2**62)
+            self.assertRaises(Refused, job.decline, 5000, 9, 0, 0)
+            self.assertEqual(job.moment(), 1050)
 
     def test_an_engine_reads_what_it_recovers_with(self):
         with with_checkpoint_3() as job:
@@ -131,11 +142,30 @@ class Reads(unittest.TestCase):
         job = Coordinator(SETTINGS, [1], 0)
         job.close()
         for read in (
-            job.mode, job.due, job.oldest_expiry, job.choice, lambda: job.live(0), lambda: job.missing(1), job.file_counts,
+            job.mode, job.moment, job.due, job.oldest_expiry, job.choice, lambda: job.live(0), lambda: job.missing(1), job.file_counts,
             lambda: job.live_from(0), lambda: job.standing(1), lambda: job.files_of(1, 0, 0), lambda: job.pins_of(1),
             lambda: job.waiting_file(0), job.taken_files, lambda: job.next_tick(None),
         ):
             self.assertRaises(Closed, read)
+
+
+class Sweeping(unittest.TestCase):
+    def test_a_file_that_only_a_pin_keeps_is_in_no_show(self):
+        with Coordinator(Settings(interval=1000, at_once=2, retained=1), [1, 1], 0) as job:
+            job.tick(1000)
+            job.ack(1000, 1, 0, 0, [11])
+            job.ack(1000, 1, 1, 0, [12])
+            job.tick(2000)
+            job.tick(3000)  # both pin the files of checkpoint 1
+            job.ack(3000, 2, 0, 0, [21])
+            job.ack(3000, 2, 1, 0, [22])
+            self.assertEqual(job.standing(1), Standing.ENDED)
+            shown = {file for id in (2, 3) for files in job.show(id).files.values() for file in files}
+            self.assertNotIn(11, shown)
+            self.assertEqual(job.count(11).uses, 1, "a sweep keeps it")
+            job.ack(3000, 3, 0, 0, [31], [11])
+            job.ack(3000, 3, 1, 0, [32], [12])
+            self.assertEqual(job.choice().id, 3)
 
 
 if __name__ == "__main__":

@@ -13,6 +13,7 @@ from relkvanu import (
 )
 
 ROWS = pathlib.Path(__file__).resolve().parents[3] / "examples/rows"
+OTHERS = set((ROWS / "OTHERS").read_text().split())
 
 TEXTS = {
     Triggered: "tick expired {0.expired} triggered {0.id}",
@@ -74,12 +75,13 @@ class Rows(unittest.TestCase):
         for path in sorted(ROWS.glob("*.in")):
             rows = path.read_bytes().removesuffix(b"\n").split(b"\n")
             job = opened(rows)
+            self.assertEqual(job is None, path.stem in OTHERS, path.stem)
             if job is not None:
                 with self.subTest(path.stem), job:
                     output = [text for number, line in enumerate(rows, 1) for text in told(job, number, line)]
                     self.assertEqual(output, path.with_suffix(".out").read_text().splitlines())
                 run += 1
-        self.assertGreaterEqual(run, 25)
+        self.assertGreater(run, 0)
 
 
 class Lines(unittest.TestCase):

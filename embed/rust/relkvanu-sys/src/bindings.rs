@@ -87,6 +87,8 @@ pub const RELKVANU_LIVE_NONE: u32 = 34;
 /// a: subtasks
 pub const RELKVANU_MISSING: u32 = 35;
 pub const RELKVANU_NOT_PENDING: u32 = 36;
+/// a: moment
+pub const RELKVANU_MOMENT: u32 = 55;
 /// the line makes no call: it has no words or is a comment
 pub const RELKVANU_SKIPPED: u32 = 37;
 /// a: 0
@@ -146,7 +148,7 @@ pub const RELKVANU_BAD_SHAPE: u32 = 3;
 pub const RELKVANU_BAD_MOMENT: u32 = 4;
 pub const RELKVANU_BAD_FIRST: u32 = 5;
 pub const RELKVANU_BAD_KIND: u32 = 6;
-/// the bytes are not an image, or no coordinator can be in the state that it describes
+/// the bytes are not an image, or the state is not sound, or no coordinator could be opened so
 pub const RELKVANU_BAD_IMAGE: u32 = 7;
 /// a line has at most 131072 bytes
 pub const RELKVANU_FAULT_TOO_LONG: u32 = 1;
@@ -308,6 +310,9 @@ extern "C" {
     /// What the job is doing: RELKVANU_MODE_RUNNING, RELKVANU_MODE_FAILED or RELKVANU_MODE_CANCELLED.
     pub fn relkvanu_mode(handle: *mut relkvanu) -> relkvanu_answer;
 
+    /// RELKVANU_MOMENT: the greatest moment that the coordinator has seen, at its opening or in an accepted call. It takes an earlier moment for this one. So it shows whether a clock has run ahead.
+    pub fn relkvanu_moment(handle: *mut relkvanu) -> relkvanu_answer;
+
     /// RELKVANU_DUE: the moment from which neither the interval nor the pause holds a checkpoint back. No tick before it triggers one. A tick at it or later triggers one, with three exceptions: as many are pending as may be, the job is not running, or so many checkpoints expire in the tick that the job fails over. A call that triggers, completes or restores may move this moment, so read it again after a call.
     pub fn relkvanu_due(handle: *mut relkvanu) -> relkvanu_answer;
 
@@ -399,7 +404,7 @@ extern "C" {
         files_len: usize,
     ) -> relkvanu_answer;
 
-    /// Writes the files that the pending record id pins, in ascending order: the files of the record that a restart would have begun from at its trigger. Writes none if no record with this number is pending. RELKVANU_FILES; RELKVANU_TOO_SHORT. Takes memory.
+    /// Writes the files that the pending record id pins, in ascending order: the files of the record that a restart would have begun from at its trigger. Writes none if no record with this number is pending. RELKVANU_FILES; RELKVANU_TOO_SHORT. Takes memory only if the record is pending.
     pub fn relkvanu_pins_of(
         handle: *mut relkvanu,
         id: u64,

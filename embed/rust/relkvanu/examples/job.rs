@@ -2,7 +2,8 @@
 //!
 //! It runs until 100 checkpoints are completed, then the job is cancelled, and no file may be left.
 use relkvanu::{Answer, Discarder, Patience, Settings, SharedCoordinator};
-use std::fs;
+use std::fs::{self, File};
+use std::io::{self, Write};
 use std::path::{Path, PathBuf};
 use std::sync::atomic::{AtomicU64, Ordering::SeqCst};
 use std::sync::mpsc::{channel, Receiver, Sender};
@@ -30,6 +31,14 @@ fn path(folder: &Path, file: u64) -> PathBuf {
     folder.join(file.to_string())
 }
 
+/// Makes a file that a loss of power does not take: its contents are synced, then its name in the folder.
+fn make(folder: &Path, file: u64) -> io::Result<()> {
+    let mut to = File::create(path(folder, file))?;
+    write!(to, "{file}")?;
+    to.sync_all()?;
+    File::open(folder)?.sync_all()
+}
+
 /// Ticks when a checkpoint is due, and sends each checkpoint to the tasks.
 fn timer(job: &Job, sources: Vec<Sender<u64>>) {
     while job.completed.load(SeqCst) < COMPLETED {
@@ -53,7 +62,7 @@ fn task(job: &Job, index: u16, checkpoints: Receiver<u64>) {
     let mut last = None;
     for id in checkpoints {
         let file = job.next_file.fetch_add(1, SeqCst);
-        fs::write(path(&job.folder, file), file.to_string()).unwrap();
+        make(&job.folder, file).unwrap();
         let reused: Vec<u64> = last.into_iter().collect();
         let answer = job
             .coordinator
@@ -98,7 +107,10 @@ fn run(folder: &Path) {
         idle: Duration::from_millis(1),
         ..Patience::default()
     };
-    let delete = move |file| fs::remove_file(path(&storage, file));
+    let delete = move |file| {
+        fs::remove_file(path(&storage, file))?;
+        File::open(&storage)?.sync_all()
+    };
     let discarder = Discarder::start(job.coordinator.clone(), patience, delete).unwrap();
     run_tasks(&job);
     job.coordinator.cancel(job.now()).unwrap();

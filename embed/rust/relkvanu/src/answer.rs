@@ -113,7 +113,7 @@ pub enum Answer {
         dropped: u64,
         released: u64,
     },
-    /// The record had ended. This many of the fresh files were handed out for deletion.
+    /// The record was done or had ended. This many of the fresh files were handed out for deletion.
     AckLate {
         handed_out: u64,
     },
@@ -125,7 +125,7 @@ pub enum Answer {
     DeclineFailed {
         released: u64,
     },
-    /// The record had ended.
+    /// The record was done or had ended.
     DeclineLate,
     Disposed {
         released: u64,

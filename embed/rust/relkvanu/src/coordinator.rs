@@ -1,6 +1,6 @@
 //! The coordinator of one job, for one thread at a time.
 use crate::answer::{self, Answer, Choice, FileCounts, Live, Mode, Standing};
-use crate::fault::{done, text, text_in, Fault};
+use crate::fault::{done, text, text_in, Fault, Refusal};
 use relkvanu_sys as sys;
 use std::cell::{Cell, UnsafeCell};
 use std::collections::hash_map::RandomState;
@@ -55,7 +55,12 @@ pub struct Coordinator {
     handle: UnsafeCell<sys::relkvanu>,
     /// Bytes that the next image probably fits: a buffer that is too short costs a second image.
     image_room: Cell<usize>,
+    most_ahead: u64,
 }
+
+/// Milliseconds.
+const DAY: u64 = 24 * 60 * 60 * 1000;
+const LAST_MOMENT: u64 = (1 << 62) - 1;
 
 // SAFETY: a handle may move between threads, as the header says; the library's check proves it. The memory behind it
 // is the handle's alone, and any thread may free what another allocated.
@@ -120,6 +125,7 @@ impl Coordinator {
                 state: std::ptr::null_mut(),
             }),
             image_room: Cell::new(256),
+            most_ahead: DAY,
         };
         // the system's random source, which std keeps for its own maps
         let words = RandomState::new();
@@ -132,14 +138,35 @@ impl Coordinator {
         self.handle.get_mut()
     }
 
+    /// A moment that is far ahead would stop the job's checkpoints until then. So a call is refused with
+    /// [`MomentTooLarge`](Refusal::MomentTooLarge) if its moment is more than so many milliseconds beyond the greatest moment
+    /// so far, and beyond what a timer waits for. That is a day, unless an engine sets it, which it does if a longer time may
+    /// pass without a call. Lines of a log are not checked.
+    pub fn set_most_ahead(&mut self, milliseconds: u64) {
+        self.most_ahead = milliseconds;
+    }
+
+    fn check_moment(&self, now: u64) -> Result<(), Fault> {
+        let past = now.saturating_sub(self.most_ahead);
+        let is_ahead = past > self.moment()
+            && past > self.due()
+            && past > self.oldest_expiry().unwrap_or_default();
+        match is_ahead && now <= LAST_MOMENT {
+            true => Err(Refusal::MomentTooLarge.into()),
+            false => Ok(()),
+        }
+    }
+
     /// Time has passed: records past their timeout expire, and a checkpoint is triggered if one is due.
     pub fn tick(&mut self, now: u64) -> Called {
+        self.check_moment(now)?;
         // SAFETY: the handle is as the library last left it, and `&mut self` keeps other calls away.
         called(unsafe { sys::relkvanu_tick(self.handle(), now) })
     }
 
     /// A user wants a savepoint.
     pub fn savepoint(&mut self, now: u64) -> Called {
+        self.check_moment(now)?;
         // SAFETY: as in `tick`.
         called(unsafe { sys::relkvanu_savepoint(self.handle(), now) })
     }
@@ -159,6 +186,7 @@ impl Coordinator {
         fresh: &[u64],
         reused: &[u64],
     ) -> Called {
+        self.check_moment(now)?;
         // SAFETY: as in `tick`; the slices outlive the call, which keeps none of them.
         called(unsafe {
             sys::relkvanu_ack(
@@ -177,6 +205,7 @@ impl Coordinator {
 
     /// A subtask can't take its part of a record. The job may then fail over.
     pub fn decline(&mut self, now: u64, id: u64, subtask: (u16, u16)) -> Called {
+        self.check_moment(now)?;
         // SAFETY: as in `tick`.
         called(unsafe { sys::relkvanu_decline(self.handle(), now, id, subtask.0, subtask.1) })
     }
@@ -198,6 +227,7 @@ impl Coordinator {
         if shape.is_some_and(<[u64]>::is_empty) {
             return Err(Fault::BadShape);
         }
+        self.check_moment(now)?;
         let shape = shape.unwrap_or(&[]);
         // SAFETY: as in `tick`; the slice outlives the call, which does not keep it.
         called(unsafe {
@@ -213,6 +243,7 @@ impl Coordinator {
 
     /// The job ends for good.
     pub fn cancel(&mut self, now: u64) -> Called {
+        self.check_moment(now)?;
         // SAFETY: as in `tick`.
         called(unsafe { sys::relkvanu_cancel(self.handle(), now) })
     }
@@ -279,6 +310,13 @@ impl Coordinator {
         answer::mode(read(unsafe { sys::relkvanu_mode(self.read_handle()) }))
     }
 
+    /// The greatest moment that the coordinator has seen, at its opening or in an accepted call. It takes an earlier
+    /// moment for this one.
+    pub fn moment(&self) -> u64 {
+        // SAFETY: as in `count`.
+        read(unsafe { sys::relkvanu_moment(self.read_handle()) }).a
+    }
+
     /// The moment from which neither the interval nor the pause holds a checkpoint back. No tick before it triggers
     /// one. From then on a tick triggers one, with three exceptions: the job is not running, as many are pending as may
     /// be, or so many expire in the tick that the job fails over. Calls move this moment.
@@ -289,7 +327,8 @@ impl Coordinator {
 
     /// The moment of the next tick after a tick with this answer, unless another call comes first: when a checkpoint is
     /// due or a pending record expires. While as many are pending as may be, it is the expiry, because `due` has
-    /// passed. `None` if nothing changes before the next call, for example while the job has failed.
+    /// passed. `None` if nothing changes before the next call, for example while the job has failed. After a tick that ran
+    /// out of memory it has passed: wait for a second instead.
     pub fn next_tick(&self, ticked: &Result<Answer, Fault>) -> Option<u64> {
         if self.mode() != Mode::Running {
             return None;

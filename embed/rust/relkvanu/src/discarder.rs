@@ -1,22 +1,62 @@
 //! Threads that delete the files that no record uses any more.
+use crate::answer::Answer;
 use crate::fault::{Fault, Refusal};
 use crate::shared::SharedCoordinator;
 use std::io;
 use std::num::NonZeroU32;
 use std::sync::{Arc, Condvar, Mutex, MutexGuard, PoisonError};
 use std::thread::{Builder, JoinHandle};
-use std::time::Duration;
+use std::time::{Duration, Instant};
+
+/// What a [`Discarder`] calls: a [`SharedCoordinator`], or an engine's own type that makes each call through one and logs it
+/// before it returns. Such a type ends the process if its log can't be written.
+pub trait Outbox: Send + Sync + 'static {
+    /// As [`SharedCoordinator::take`].
+    fn take<'a>(&self, files: &'a mut [u64]) -> Result<&'a [u64], Fault>;
+    /// As [`SharedCoordinator::deleted`].
+    fn deleted(&self, file: u64) -> Result<Answer, Fault>;
+    /// As [`SharedCoordinator::undeleted`].
+    fn undeleted(&self, file: u64) -> Result<Answer, Fault>;
+}
+
+impl Outbox for SharedCoordinator {
+    fn take<'a>(&self, files: &'a mut [u64]) -> Result<&'a [u64], Fault> {
+        self.take(files)
+    }
+
+    fn deleted(&self, file: u64) -> Result<Answer, Fault> {
+        self.deleted(file)
+    }
+
+    fn undeleted(&self, file: u64) -> Result<Answer, Fault> {
+        self.undeleted(file)
+    }
+}
+
+impl<T: Outbox + ?Sized> Outbox for Arc<T> {
+    fn take<'a>(&self, files: &'a mut [u64]) -> Result<&'a [u64], Fault> {
+        (**self).take(files)
+    }
+
+    fn deleted(&self, file: u64) -> Result<Answer, Fault> {
+        (**self).deleted(file)
+    }
+
+    fn undeleted(&self, file: u64) -> Result<Answer, Fault> {
+        (**self).undeleted(file)
+    }
+}
 
 /// How often and how long a [`Discarder`] tries.
 #[derive(Clone, Copy, Debug, PartialEq, Eq)]
 pub struct Patience {
     /// Threads that delete at the same time.
     pub threads: NonZeroU32,
-    /// Files that a thread fetches at once.
+    /// The most files that a thread has fetched and not reported.
     pub batch: NonZeroU32,
-    /// The number of attempts before a file is given up.
+    /// The number of attempts before a file is given up. `NonZeroU32::MAX`: no file is given up.
     pub attempts: NonZeroU32,
-    /// The wait after the first failure. It doubles with each further one.
+    /// The wait after the first failure of a file. It doubles with each further one.
     pub first_wait: Duration,
     /// The longest wait after a failure.
     pub longest_wait: Duration,
@@ -25,16 +65,16 @@ pub struct Patience {
 }
 
 impl Default for Patience {
-    /// Two threads with 64 files each, 8 attempts with waits from 100 ms to 10 s, and a take each second while no file
-    /// waits.
+    /// Two threads with 64 files each, which give no file up, with waits from 100 ms to a minute after a failure, and a
+    /// take each second while no file waits.
     fn default() -> Patience {
         let number = |n| NonZeroU32::new(n).unwrap_or(NonZeroU32::MIN);
         Patience {
             threads: number(2),
             batch: number(64),
-            attempts: number(8),
+            attempts: NonZeroU32::MAX,
             first_wait: Duration::from_millis(100),
-            longest_wait: Duration::from_secs(10),
+            longest_wait: Duration::from_secs(60),
             idle: Duration::from_secs(1),
         }
     }
@@ -60,7 +100,7 @@ struct State {
 
 /// What the threads share.
 struct Shared {
-    coordinator: SharedCoordinator,
+    outbox: Box<dyn Outbox>,
     patience: Patience,
     state: Mutex<State>,
     over: Condvar,
@@ -71,18 +111,21 @@ struct Shared {
 /// A file is deleted outside the coordinator's lock. A file that does not exist ([`io::ErrorKind::NotFound`]) counts as
 /// deleted, since a repeated acknowledgement that comes late may hand out a deleted file again. So for a storage that is
 /// not there at all, such as one that is not mounted, `delete` has to return another error.
+///
+/// A file that can't be deleted keeps no other waiting: its thread goes on with other files, and tries it again after a
+/// while. When its waits have become as long as they get, it is reported as not deleted, and waits behind all others.
 pub struct Discarder {
     shared: Arc<Shared>,
     threads: Vec<JoinHandle<()>>,
 }
 
 impl Discarder {
-    /// Starts the threads. `delete` deletes the file with a number. Several threads call it at once, each with another
-    /// file. If it panics, its thread ends, and the files that the thread had fetched wait again.
+    /// Starts the threads over a coordinator. `delete` deletes the file with a number. Several threads call it at once,
+    /// each with another file. If it panics, its thread ends, and the files that the thread had fetched wait again.
     ///
     /// Fails if the system can't start a thread. Then none runs.
     pub fn start<D>(
-        coordinator: SharedCoordinator,
+        coordinator: impl Outbox,
         patience: Patience,
         delete: D,
     ) -> io::Result<Discarder>
@@ -90,7 +133,7 @@ impl Discarder {
         D: Fn(u64) -> io::Result<()> + Send + Sync + 'static,
     {
         let shared = Arc::new(Shared {
-            coordinator,
+            outbox: Box::new(coordinator),
             patience,
             state: Mutex::default(),
             over: Condvar::new(),
@@ -143,16 +186,24 @@ impl Drop for Discarder {
     }
 }
 
-/// Files that are fetched and not yet reported. Those that are left wait again, even if `delete` panics.
+/// A file that a thread has fetched, its failed attempts, the wait after the last one, and when the thread tries it again.
+struct Fetched {
+    file: u64,
+    attempts: u32,
+    wait: Duration,
+    due: Instant,
+}
+
+/// The files that a thread has fetched and not reported. Those that are left wait again, even if `delete` panics.
 struct Batch<'a> {
     shared: &'a Shared,
-    files: Vec<u64>,
+    files: Vec<Fetched>,
 }
 
 impl Drop for Batch<'_> {
     fn drop(&mut self) {
-        for file in &self.files {
-            self.shared.report(*file, false);
+        for it in &self.files {
+            self.shared.report(it.file, false);
         }
     }
 }
@@ -171,40 +222,68 @@ impl Shared {
         state.is_over
     }
 
-    /// A thread: takes files until it is stopped.
+    /// A thread: fetches and tries files until it is stopped.
     fn run(&self, delete: &dyn Fn(u64) -> io::Result<()>) {
         let mut buffer = vec![0; self.patience.batch.get() as usize];
+        let mut batch = Batch {
+            shared: self,
+            files: Vec::new(),
+        };
         let mut wait = Duration::ZERO;
         while !self.is_over_after(wait) {
-            // a take that runs out of memory has fetched nothing: try again later, as if no file waited
-            let files = self.coordinator.take(&mut buffer).unwrap_or_default();
-            wait = if files.is_empty() {
-                self.patience.idle
-            } else {
-                Duration::ZERO
+            let room = buffer.len() - batch.files.len();
+            let fetched = self.fetch(&mut buffer[..room]);
+            wait = match fetched {
+                [] => self.patience.idle,
+                _ => Duration::ZERO,
             };
-            self.discard(files.to_vec(), delete);
+            batch.files.extend(fetched.iter().map(|file| Fetched {
+                file: *file,
+                attempts: 0,
+                wait: Duration::ZERO,
+                due: Instant::now(),
+            }));
+            batch.files.retain_mut(|it| !self.is_settled(it, delete));
+            if let Some(due) = batch.files.iter().map(|it| it.due).min() {
+                wait = wait.min(due.saturating_duration_since(Instant::now()));
+            }
         }
     }
 
-    /// Tries files until each is deleted or given up, or the discarder is stopped.
-    fn discard(&self, files: Vec<u64>, delete: &dyn Fn(u64) -> io::Result<()>) {
-        let mut batch = Batch {
-            shared: self,
-            files,
-        };
-        let mut wait = self.patience.first_wait;
-        for attempt in 1..=self.patience.attempts.get() {
-            batch.files.retain(|file| !self.is_deleted(*file, delete));
-            if batch.files.is_empty() {
-                return;
-            }
-            if attempt < self.patience.attempts.get() && self.is_over_after(wait) {
-                return;
-            }
-            wait = (wait * 2).min(self.patience.longest_wait);
+    /// Fetches files. A take that runs out of memory has fetched nothing, as if no file waited.
+    fn fetch<'a>(&self, room: &'a mut [u64]) -> &'a [u64] {
+        if room.is_empty() {
+            return &[];
         }
-        self.lock().told.given_up.append(&mut batch.files);
+        self.outbox.take(room).unwrap_or_default()
+    }
+
+    /// Tries a file if it is due. Returns whether the thread has no more to do with it: it is deleted, given up, or waits behind
+    /// all others.
+    fn is_settled(&self, it: &mut Fetched, delete: &dyn Fn(u64) -> io::Result<()>) -> bool {
+        if Instant::now() < it.due {
+            return false;
+        }
+        if self.is_deleted(it.file, delete) {
+            return true;
+        }
+        it.attempts += 1;
+        if it.attempts == self.patience.attempts.get() {
+            self.lock().told.given_up.push(it.file);
+            return true;
+        }
+        let Patience {
+            first_wait,
+            longest_wait,
+            ..
+        } = self.patience;
+        if self.patience.attempts == NonZeroU32::MAX && it.attempts > 1 && it.wait >= longest_wait {
+            self.report(it.file, false);
+            return true;
+        }
+        it.wait = (it.wait * 2).max(first_wait).min(longest_wait);
+        it.due = Instant::now() + it.wait;
+        false
     }
 
     /// Tries a file, and reports it if it is deleted.
@@ -226,8 +305,8 @@ impl Shared {
     /// somebody else has reported, and then there is nothing to do.
     fn report(&self, file: u64, is_deleted: bool) {
         let told = match is_deleted {
-            true => self.coordinator.deleted(file),
-            false => self.coordinator.undeleted(file),
+            true => self.outbox.deleted(file),
+            false => self.outbox.undeleted(file),
         };
         debug_assert!(matches!(
             told,

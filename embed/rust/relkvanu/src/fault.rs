@@ -116,7 +116,7 @@ pub enum Fault {
     BadMoment,
     /// The first number of an opening is not within 1 to 2^62 - 1.
     BadFirst,
-    /// The bytes are not an image, or no coordinator can be in the state that the image describes.
+    /// The bytes are not an image, or the state of the image is not sound, or no coordinator could be opened so.
     BadImage,
     /// A line of a script can't be read, or the line of a call would be too long.
     BadLine(LineFault),

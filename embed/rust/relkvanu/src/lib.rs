@@ -23,7 +23,7 @@ mod shared;
 
 pub use answer::{Answer, Choice, FileCounts, Kind, Live, Mode, Standing};
 pub use coordinator::{Coordinator, Settings};
-pub use discarder::{Discarded, Discarder, Patience};
+pub use discarder::{Discarded, Discarder, Outbox, Patience};
 pub use fault::{Fault, Refusal};
 pub use lines::{opening_lines, Call, Line, LineFault, Said};
 pub use shared::SharedCoordinator;

@@ -188,6 +188,10 @@ impl SharedCoordinator {
         self.read(Coordinator::mode)
     }
 
+    pub fn moment(&self) -> u64 {
+        self.read(Coordinator::moment)
+    }
+
     pub fn due(&self) -> u64 {
         self.read(Coordinator::due)
     }

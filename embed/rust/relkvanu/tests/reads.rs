@@ -56,6 +56,63 @@ fn a_new_coordinator_is_due_after_its_interval() {
     assert_eq!(job.file_counts(), counts(0, 0, 0));
 }
 
+type Timed = fn(&mut Coordinator, u64) -> Result<Answer, Fault>;
+
+#[test]
+fn a_moment_that_is_far_ahead_is_refused() {
+    const DAY: u64 = 24 * 60 * 60 * 1000;
+    let mut job = Coordinator::open(&SETTINGS, &[1], 0, 1).unwrap();
+    job.tick(1000).unwrap();
+    let late = 1000 + SETTINGS.timeout + DAY + 1; // a timer may wait until checkpoint 1 expires
+    let image = job.save();
+    let calls: [Timed; 6] = [
+        |job, now| job.tick(now),
+        |job, now| job.savepoint(now),
+        |job, now| job.ack(now, 1, (0, 0), &[1], &[]),
+        |job, now| job.decline(now, 1, (0, 0)),
+        |job, now| job.restore(now, None, None),
+        |job, now| job.cancel(now),
+    ];
+    for now in [late, (1 << 62) - 1, 1 << 62] {
+        for call in calls {
+            assert_eq!(
+                call(&mut job, now),
+                Err(relkvanu::Refusal::MomentTooLarge.into())
+            );
+        }
+    }
+    assert_eq!(job.save(), image);
+    job.ack(late - 1, 1, (0, 0), &[1], &[]).unwrap();
+    job.set_most_ahead(2 * DAY);
+    job.tick(late + DAY).unwrap();
+    assert_eq!(job.moment(), late + DAY);
+    job.line(b"tick 1000000000000", &mut []).unwrap();
+    assert_eq!(job.moment(), 1_000_000_000_000, "a line is not checked");
+}
+
+#[test]
+fn a_timer_that_waits_for_long_is_not_ahead() {
+    let mut job = opened(&Settings {
+        interval: 1 << 40,
+        timeout: 1 << 40,
+        ..SETTINGS
+    });
+    job.tick(1 << 40).unwrap();
+    assert_eq!(job.tick(1 << 41).unwrap(), Answer::Failed { expired: 1 });
+}
+
+#[test]
+fn the_moment_is_the_greatest_of_accepted_calls() {
+    let mut job = opened(&SETTINGS);
+    assert_eq!(job.moment(), 0);
+    job.tick(1000).unwrap();
+    job.tick(400).unwrap();
+    assert_eq!(job.moment(), 1000);
+    job.tick(1 << 62).unwrap_err();
+    job.decline(5000, 9, (0, 0)).unwrap_err();
+    assert_eq!(job.moment(), 1000);
+}
+
 #[test]
 fn a_pending_record_expires_and_misses_subtasks() {
     let mut job = opened(&SETTINGS);

@@ -80,6 +80,7 @@ fn told(job: &mut Coordinator, line: &[u8], number: usize) -> Option<String> {
 #[test]
 fn rows() {
     let folder = Path::new(env!("CARGO_MANIFEST_DIR")).join("../../../examples/rows");
+    let others = std::fs::read_to_string(folder.join("OTHERS")).unwrap();
     let mut run = 0;
     for entry in std::fs::read_dir(folder).unwrap() {
         let path = entry.unwrap().path();
@@ -87,9 +88,10 @@ fn rows() {
             continue;
         }
         let row = row(&path);
-        let Some(mut job) = opened(&row.lines) else {
-            continue;
-        };
+        let job = opened(&row.lines);
+        let name = path.file_stem().unwrap().to_str().unwrap();
+        assert_eq!(job.is_none(), others.lines().any(|it| it == name), "{name}");
+        let Some(mut job) = job else { continue };
         let output: String = row
             .lines
             .iter()
@@ -100,7 +102,7 @@ fn rows() {
         assert_eq!(output, row.wanted, "{}", path.display());
         run += 1;
     }
-    assert!(run >= 25, "only {run} rows are lists of calls");
+    assert!(run > 0, "no row is a list of calls");
 }
 
 #[test]

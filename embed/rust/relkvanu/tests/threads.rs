@@ -1,12 +1,16 @@
 //! What threads share: a coordinator, and the discarder's threads over it.
 mod settings;
 
-use relkvanu::{Answer, Discarder, Fault, FileCounts, Patience, Refusal, SharedCoordinator};
+use relkvanu::{
+    Answer, Call, Coordinator, Discarder, Fault, FileCounts, Outbox, Patience, Refusal,
+    SharedCoordinator,
+};
 use settings::SETTINGS;
 use std::error::Error;
 use std::io;
 use std::num::NonZeroU32;
 use std::sync::atomic::{AtomicU32, Ordering::SeqCst};
+use std::sync::{Arc, Mutex};
 use std::thread;
 use std::time::{Duration, Instant};
 
@@ -98,6 +102,91 @@ fn a_delete_that_fails_for_ever_is_given_up_and_told() {
     assert_eq!(job.file_counts(), counts(0, 0));
 }
 
+/// The discarder's default, but for its waits.
+fn never_gives_up(threads: u32, batch: u32) -> Patience {
+    Patience {
+        threads: NonZeroU32::new(threads).unwrap(),
+        batch: NonZeroU32::new(batch).unwrap(),
+        attempts: Patience::default().attempts,
+        ..quick(1)
+    }
+}
+
+#[test]
+fn no_file_is_given_up_by_default() {
+    let job = cancelled();
+    let tries = AtomicU32::new(0);
+    let delete = move |_| match tries.fetch_add(1, SeqCst) {
+        0..=999 => denied(0),
+        _ => Ok(()),
+    };
+    let discarder = Discarder::start(job.clone(), never_gives_up(2, 4), delete).unwrap();
+    wait_for(|| discarder.told().deleted == 20);
+    let told = discarder.stop();
+    assert_eq!((told.failed, told.given_up), (1000, vec![]));
+    assert_eq!(job.file_counts(), counts(0, 0));
+}
+
+#[test]
+fn a_file_that_cannot_be_deleted_keeps_no_other_waiting() {
+    let job = cancelled();
+    let delete = |file| match file {
+        1..=3 => denied(file),
+        _ => Ok(()),
+    };
+    let discarder = Discarder::start(job.clone(), never_gives_up(1, 2), delete).unwrap();
+    wait_for(|| discarder.told().deleted == 17);
+    wait_for(|| discarder.told().failed > 100);
+    discarder.stop();
+    assert_eq!(job.file_counts(), counts(3, 0));
+}
+
+/// An engine's own type: it logs each call that it makes.
+struct Logged(Mutex<(Coordinator, Vec<Call<'static>>)>);
+
+impl Outbox for Logged {
+    fn take<'a>(&self, files: &'a mut [u64]) -> Result<&'a [u64], Fault> {
+        let (job, log) = &mut *self.0.lock().unwrap();
+        let most = files.len() as u64;
+        let taken = job.take(files)?;
+        log.push(Call::Take { most });
+        Ok(taken)
+    }
+
+    fn deleted(&self, file: u64) -> Result<Answer, Fault> {
+        let (job, log) = &mut *self.0.lock().unwrap();
+        let told = job.deleted(file)?;
+        log.push(Call::Deleted { file });
+        Ok(told)
+    }
+
+    fn undeleted(&self, file: u64) -> Result<Answer, Fault> {
+        let (job, log) = &mut *self.0.lock().unwrap();
+        let told = job.undeleted(file)?;
+        log.push(Call::Undeleted { file });
+        Ok(told)
+    }
+}
+
+#[test]
+fn a_discarder_whose_calls_an_engine_logs() {
+    let open = || Coordinator::open_saved(cancelled().save().unwrap().as_bytes()).unwrap();
+    let job = Arc::new(Logged(Mutex::new((open(), Vec::new()))));
+    let delete = |file| if file == 5 { denied(file) } else { Ok(()) };
+    let discarder = Discarder::start(Arc::clone(&job), quick(3), delete).unwrap();
+    wait_for(|| discarder.told().deleted == 19 && discarder.told().given_up == [5]);
+    discarder.stop();
+    let (job, log) = &*job.0.lock().unwrap();
+    let mut replayed = open();
+    for call in log {
+        replayed
+            .line(call.line().unwrap().as_bytes(), &mut [0; 64])
+            .unwrap();
+    }
+    assert_eq!(replayed.file_counts(), counts(1, 0));
+    assert_eq!(replayed.save(), job.save());
+}
+
 #[test]
 fn a_folder_that_is_gone() {
     let gone = std::env::temp_dir().join("relkvanu-there-is-no-such-folder");
@@ -129,6 +218,7 @@ fn a_discarder_that_is_stopped_leaves_no_file_taken() {
     let job = cancelled();
     let patience = Patience {
         first_wait: Duration::from_secs(3600),
+        longest_wait: Duration::from_secs(3600),
         ..quick(3)
     };
     let discarder = Discarder::start(job.clone(), patience, denied).unwrap();
