@@ -1,6 +1,6 @@
 -- One group in one statement, with the lease and the fence: $1 seconds of the lease, $2 the epoch, then the columns of
--- `job`, `call`, `request` and `image` as arrays, images that go, and calls that go. Answers how many rows of each were
--- written; none where another leads.
+-- `job`, `call`, `request` and `image` as arrays, images that go, and calls that go, then those of `summary` and `past`, and
+-- summaries that go. Answers how many rows of the first four were written; none where another leads.
 with l as (
     update leader set until = clock_timestamp() + $1::float8 * interval '1 s' where epoch = $2::bigint returning 1
 ), j as (
@@ -27,6 +27,16 @@ with l as (
 ), x as (
     delete from call using l, unnest($33::bigint[], $34::bigint[], $35::bigint[]) u(job, after, upto)
     where call.job = u.job and call.seq > u.after and call.seq <= u.upto
+), s as (
+    insert into summary select u.job, u.seq, u.part, u.whole, u.text from l, unnest(
+        $36::bigint[], $37::bigint[], $38::bigint[], $39::bigint[], $40::text[]) u(job, seq, part, whole, text)
+    on conflict (job, seq, part) do update set whole = excluded.whole, text = excluded.text
+), p as (
+    insert into past select u.job, u.id, u.text from l, unnest($41::bigint[], $42::bigint[], $43::text[]) u(job, id, text)
+    on conflict (job, id) do update set text = excluded.text
+), o as (
+    delete from summary using l, unnest($44::bigint[], $45::bigint[]) u(job, seq)
+    where summary.job = u.job and summary.seq = u.seq
 )
 select (select count(*) from l), (select count(*) from j), (select count(*) from c), (select count(*) from r),
     (select count(*) from i)

@@ -1,6 +1,7 @@
 //! Tokens: which clients may read, and which may change something.
 use hyper::header::{HeaderMap, AUTHORIZATION};
 use std::path::Path;
+use std::time::SystemTime;
 use subtle::ConstantTimeEq;
 
 const SHORTEST: usize = 16;
@@ -11,8 +12,15 @@ pub enum Access {
     Write,
 }
 
+struct Token {
+    access: Access,
+    text: Vec<u8>,
+    /// From when on it is refused.
+    until: Option<SystemTime>,
+}
+
 /// The tokens of a file. A write token may read too.
-pub struct Tokens(Vec<(Access, Vec<u8>)>);
+pub struct Tokens(Vec<Token>);
 
 impl Tokens {
     pub fn read(path: &Path) -> Result<Tokens, String> {
@@ -20,7 +28,8 @@ impl Tokens {
         Tokens::parse(&text).map_err(|error| format!("{}: {error}", path.display()))
     }
 
-    /// Reads lines of `read TOKEN` and `write TOKEN`; empty lines and those that begin with `#` are comments.
+    /// Reads lines of `read TOKEN` and `write TOKEN`, which may end with `until=YEAR-MONTH-DAY`. Empty lines and those that begin
+    /// with `#` are comments.
     fn parse(text: &str) -> Result<Tokens, String> {
         let lines = text.lines().enumerate().filter(|(_, line)| !line.trim().is_empty() && !line.starts_with('#'));
         let tokens: Vec<_> = lines.map(|(place, line)| token(place + 1, line)).collect::<Result<_, String>>()?;
@@ -30,40 +39,52 @@ impl Tokens {
         Ok(Tokens(tokens))
     }
 
+    /// When the last token for this access ends, if all of them do.
+    pub fn until(&self, access: Access) -> Option<SystemTime> {
+        let ends = self.0.iter().filter(|token| token.access == access).map(|token| token.until);
+        ends.reduce(|one, other| Some(one?.max(other?))).flatten()
+    }
+
     /// Whether the headers have a token for this access. Each token is compared in full, in a time that depends on its
     /// length alone.
-    pub fn allow(&self, headers: &HeaderMap, wanted: Access) -> bool {
+    pub fn allow(&self, headers: &HeaderMap, wanted: Access, now: SystemTime) -> bool {
         let given = headers.get(AUTHORIZATION).and_then(|value| value.as_bytes().strip_prefix(b"Bearer "));
         let given = given.unwrap_or_default();
-        let matches = |access: Access, token: &[u8]| {
-            token.ct_eq(given) & subtle::Choice::from(u8::from(access == Access::Write || wanted == Access::Read))
+        let matches = |Token { access, text, until }: &Token| {
+            let may = *access == Access::Write || wanted == Access::Read;
+            text.ct_eq(given) & subtle::Choice::from(u8::from(may && until.is_none_or(|until| now < until)))
         };
-        let found = self.0.iter().map(|(access, token)| matches(*access, token));
-        found.fold(subtle::Choice::from(0), |any, one| any | one).into()
+        self.0.iter().map(matches).fold(subtle::Choice::from(0), |any, one| any | one).into()
     }
 }
 
-fn token(number: usize, line: &str) -> Result<(Access, Vec<u8>), String> {
+fn token(number: usize, line: &str) -> Result<Token, String> {
     let access = |word: &str| match word {
         "read" => Some(Access::Read),
         "write" => Some(Access::Write),
         _ => None,
     };
     let words: Vec<&str> = line.split_whitespace().collect();
-    let [word, token] = words[..] else {
-        return Err(format!("line {number} is not 'read TOKEN' or 'write TOKEN'"));
+    let (word, token, day) = match words[..] {
+        [word, token] => (word, token, None),
+        [word, token, day] => (word, token, Some(day)),
+        _ => return Err(format!("line {number} is not 'read TOKEN' or 'write TOKEN'")),
     };
+    let start = |day: &str| humantime::parse_rfc3339(&format!("{}T00:00:00Z", day.strip_prefix("until=")?)).ok();
+    let bad = |day| format!("line {number} has {day:?} after its token, which is not until=YEAR-MONTH-DAY");
+    let until = day.map(|day| start(day).ok_or_else(|| bad(day))).transpose()?;
     let access = access(word).ok_or_else(|| format!("line {number} begins with neither 'read' nor 'write'"))?;
     if token.len() < SHORTEST {
         return Err(format!("line {number} has a token of less than {SHORTEST} characters"));
     }
-    Ok((access, token.as_bytes().to_vec()))
+    Ok(Token { access, text: token.as_bytes().to_vec(), until })
 }
 
 #[cfg(test)]
 mod tests {
     use super::*;
     use hyper::header::HeaderValue;
+    use std::time::{Duration, UNIX_EPOCH};
 
     fn bearer(token: &str) -> HeaderMap {
         let mut headers = HeaderMap::new();
@@ -76,20 +97,40 @@ mod tests {
     #[test]
     fn a_write_token_reads_too() -> Result<(), String> {
         let tokens = Tokens::parse("# two\nread aaaaaaaaaaaaaaaa\n\nwrite bbbbbbbbbbbbbbbb\n")?;
-        assert!(tokens.allow(&bearer("aaaaaaaaaaaaaaaa"), Access::Read));
-        assert!(!tokens.allow(&bearer("aaaaaaaaaaaaaaaa"), Access::Write));
-        assert!(tokens.allow(&bearer("bbbbbbbbbbbbbbbb"), Access::Read));
-        assert!(tokens.allow(&bearer("bbbbbbbbbbbbbbbb"), Access::Write));
-        assert!(!tokens.allow(&bearer("bbbbbbbbbbbbbbb"), Access::Read));
-        assert!(!tokens.allow(&bearer(""), Access::Read));
-        assert!(!tokens.allow(&HeaderMap::new(), Access::Read));
+        assert!(tokens.allow(&bearer("aaaaaaaaaaaaaaaa"), Access::Read, UNIX_EPOCH));
+        assert!(!tokens.allow(&bearer("aaaaaaaaaaaaaaaa"), Access::Write, UNIX_EPOCH));
+        assert!(tokens.allow(&bearer("bbbbbbbbbbbbbbbb"), Access::Read, UNIX_EPOCH));
+        assert!(tokens.allow(&bearer("bbbbbbbbbbbbbbbb"), Access::Write, UNIX_EPOCH));
+        assert!(!tokens.allow(&bearer("bbbbbbbbbbbbbbb"), Access::Read, UNIX_EPOCH));
+        assert!(!tokens.allow(&bearer(""), Access::Read, UNIX_EPOCH));
+        assert!(!tokens.allow(&HeaderMap::new(), Access::Read, UNIX_EPOCH));
         Ok(())
     }
 
     #[test]
     fn refuses_bad_files() {
-        for text in ["", "# none", "read short", "admin aaaaaaaaaaaaaaaa", "read", "read aaaaaaaaaaaaaaaa b"] {
+        for text in [
+            "",
+            "# none",
+            "read short",
+            "admin aaaaaaaaaaaaaaaa",
+            "read",
+            "read aaaaaaaaaaaaaaaa b",
+            "read aaaaaaaaaaaaaaaa until=2027-02-30",
+        ] {
             assert!(Tokens::parse(text).is_err(), "{text}");
         }
+    }
+
+    #[test]
+    fn a_token_ends_with_its_day() -> Result<(), String> {
+        let text =
+            "read aaaaaaaaaaaaaaaa until=1970-01-03\nread bbbbbbbbbbbbbbbb until=1970-01-05\nwrite cccccccccccccccc\n";
+        let (tokens, day) = (Tokens::parse(text)?, |number: u64| UNIX_EPOCH + Duration::from_secs(number * 86_400));
+        let may = |token, at| tokens.allow(&bearer(token), Access::Read, at);
+        assert!(may("aaaaaaaaaaaaaaaa", day(2) - Duration::from_secs(1)) && !may("aaaaaaaaaaaaaaaa", day(2)));
+        assert!(may("bbbbbbbbbbbbbbbb", day(3)) && may("cccccccccccccccc", day(1_000_000)));
+        assert_eq!((tokens.until(Access::Read), tokens.until(Access::Write)), (Some(day(4)), None));
+        Ok(())
     }
 }

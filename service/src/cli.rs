@@ -1,5 +1,6 @@
 //! The command line.
 use clap::{Args, Parser, Subcommand};
+use std::net::SocketAddr;
 use std::path::PathBuf;
 
 /// A checkpoint coordinator for many jobs: durable, over HTTP.
@@ -16,6 +17,8 @@ pub enum Command {
     Serve(Serve),
     /// Delete the files that a job hands out, from a folder in which a file's number is its name
     Discard(Discard),
+    /// Copy an SQLite database while a service runs over it
+    Backup(Backup),
 }
 
 #[derive(Args)]
@@ -29,7 +32,7 @@ pub struct Serve {
     /// An SQLite file, or postgres://.. [default: relkvanu.db]
     #[arg(long, value_name = "DATABASE")]
     pub database: Option<String>,
-    /// The SQLite file of the history; if it is deleted, it is made again from the rest of the log [default: DATABASE.history]
+    /// The SQLite file of the history; if it is deleted, it is made again from the database [default: DATABASE.history]
     #[arg(long, value_name = "FILE")]
     pub history: Option<PathBuf>,
     /// The file of tokens: lines of 'read TOKEN' and 'write TOKEN'
@@ -44,19 +47,22 @@ pub struct Serve {
     /// The address that a standby names to clients [default: http://LISTEN]
     #[arg(long, value_name = "URL")]
     pub advertise: Option<String>,
+    /// Start though the clock is more than a day after the last moment of the log: it is right
+    #[arg(long)]
+    pub accept_clock: bool,
 }
 
 #[derive(Args)]
 pub struct Discard {
-    /// The folder of the files
+    /// The folder of the files, which has a file .relkvanu-NAME of this job; the first run makes it
     #[arg(long, value_name = "DIR")]
     pub folder: PathBuf,
     /// The job
     #[arg(long, value_name = "NAME")]
     pub job: String,
-    /// The service
-    #[arg(long, value_name = "URL", default_value = "http://127.0.0.1:7780")]
-    pub url: String,
+    /// The service; given again, its next address
+    #[arg(long = "url", value_name = "URL", default_value = "http://127.0.0.1:7780")]
+    pub urls: Vec<String>,
     /// A file whose first line is a write token
     #[arg(long, value_name = "FILE")]
     pub token_file: Option<PathBuf>,
@@ -69,4 +75,23 @@ pub struct Discard {
     /// Stop when no file waits
     #[arg(long)]
     pub once: bool,
+    /// Mark the folder as this job's, if an earlier run did not
+    #[arg(long)]
+    pub init: bool,
+    /// Go on if all files of a take are absent
+    #[arg(long)]
+    pub allow_absent: bool,
+    /// Serve Prometheus' metrics at this address, under /metrics
+    #[arg(long, value_name = "ADDRESS")]
+    pub metrics: Option<SocketAddr>,
+}
+
+#[derive(Args)]
+pub struct Backup {
+    /// The SQLite file
+    #[arg(long, value_name = "FILE", default_value = "relkvanu.db")]
+    pub database: String,
+    /// The copy, which must not exist
+    #[arg(long, value_name = "FILE")]
+    pub to: PathBuf,
 }

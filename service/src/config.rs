@@ -1,5 +1,6 @@
 //! The configuration: defaults, then a TOML file that overrides them, then the command line.
 use crate::cli::Serve;
+use crate::log;
 use crate::model::Keeping;
 use serde::Deserialize;
 use std::net::SocketAddr;
@@ -30,12 +31,18 @@ struct FileConfig {
 #[derive(Deserialize, Clone, Debug)]
 #[serde(deny_unknown_fields, default)]
 pub struct Limits {
-    /// Connections that are open at once.
+    /// Connections that make calls and reads at once.
     pub connections: usize,
+    /// Connections that wait for events at once.
+    pub polls: usize,
+    /// Connections that made no request with a token.
+    pub new_connections: usize,
     /// Bytes of a request's body.
     pub body_bytes: usize,
     /// Bytes of all bodies that are read or worked on at once.
     pub all_bodies_bytes: usize,
+    /// Bytes of all large answers that are being sent at once.
+    pub all_answers_bytes: usize,
     /// Calls of a request.
     pub calls: usize,
     /// Requests that wait for the writer.
@@ -50,13 +57,38 @@ impl Default for Limits {
     fn default() -> Limits {
         Limits {
             connections: 1024,
+            polls: 16_384,
+            new_connections: 1024,
             body_bytes: 8 << 20,
             all_bodies_bytes: 64 << 20,
+            all_answers_bytes: 64 << 20,
             calls: 1000,
             queue: 4096,
             idle_seconds: 30,
             body_seconds: 30,
         }
+    }
+}
+
+/// Files that are open beside connections: databases, the log, and room for others.
+const OTHER_FILES: u64 = 128;
+
+impl Limits {
+    /// Lessens the number of connections to what this many open files allow. Those that wait for events are lessened first.
+    pub fn fit(&mut self, files: u64) {
+        let files = usize::try_from(files.saturating_sub(OTHER_FILES)).unwrap_or(usize::MAX);
+        let wanted = self.polls.saturating_add(self.connections).saturating_add(self.new_connections);
+        if wanted <= files {
+            return;
+        }
+        let (polls, connections, new) = (self.polls, self.connections, self.new_connections);
+        self.new_connections = new.min(files / 4).max(1);
+        self.connections = connections.min(files / 2).max(1);
+        self.polls = polls.min(files.saturating_sub(self.new_connections + self.connections)).max(1);
+        log::warn(&format!(
+            "the limit of open files allows {} connections, {} that wait for events and {} new ones; wanted: {connections}, {polls} and {new}",
+            self.connections, self.polls, self.new_connections
+        ));
     }
 }
 
@@ -77,6 +109,8 @@ pub struct Config {
     pub lease: Duration,
     pub keeping: Keeping,
     pub limits: Limits,
+    /// Whether the clock may be far ahead of the log.
+    pub accept_clock: bool,
 }
 
 impl Config {
@@ -89,7 +123,7 @@ impl Config {
         let listen = given.listen.clone().or(file.listen).unwrap_or_else(|| LISTEN.to_string());
         let listen = listen.parse().map_err(|_| format!("listen: {listen:?} is no address with a port"))?;
         let database = given.database.clone().or(file.database).unwrap_or_else(|| DATABASE.to_string());
-        let database = Database::of(&database);
+        let database = Database::of(&database)?;
         let config = Config {
             history: given.history.clone().or(file.history).unwrap_or_else(|| database.history(&listen)),
             token_file: given.token_file.clone().or(file.token_file),
@@ -100,6 +134,7 @@ impl Config {
                 keep_calls: given.keep_calls.or(file.keep_calls).unwrap_or(KEEP_CALLS),
             },
             limits: file.limits,
+            accept_clock: given.accept_clock,
             listen,
             database,
         };
@@ -110,6 +145,9 @@ impl Config {
         let limits = &self.limits;
         let numbers = [
             ("limits.connections", limits.connections as u64, 1, 100_000),
+            ("limits.polls", limits.polls as u64, 1, 1_000_000),
+            ("limits.new_connections", limits.new_connections as u64, 1, 100_000),
+            ("limits.all_answers_bytes", limits.all_answers_bytes as u64, 1 << 20, 1 << 32),
             ("limits.body_bytes", limits.body_bytes as u64, 1024, 1 << 30),
             ("limits.all_bodies_bytes", limits.all_bodies_bytes as u64, limits.body_bytes as u64, 1 << 32),
             ("limits.calls", limits.calls as u64, 1, 4096),
@@ -141,12 +179,23 @@ fn read(path: &Path) -> Result<FileConfig, String> {
 }
 
 impl Database {
-    fn of(text: &str) -> Database {
-        let is_url = text.starts_with("postgres://") || text.starts_with("postgresql://");
-        if is_url {
-            Database::Postgres(text.to_string())
-        } else {
-            Database::Sqlite(PathBuf::from(text))
+    /// A URL of PostgreSQL, or the path of an SQLite file. An error shows nothing of what may be a password.
+    pub fn of(text: &str) -> Result<Database, String> {
+        let refused =
+            |why: &str| Err(format!("database: {why}; it is an SQLite file, or a URL as postgres://user@host/name"));
+        if let Some((scheme, rest)) = text.split_once("://") {
+            // libpq takes the names of its schemes in lower case alone
+            return match scheme.to_ascii_lowercase().as_str() {
+                scheme @ ("postgres" | "postgresql") => Ok(Database::Postgres(format!("{scheme}://{rest}"))),
+                _ => refused("has a scheme that is neither postgres nor postgresql"),
+            };
+        }
+        let is_word =
+            |text: &str| !text.is_empty() && text.bytes().all(|byte| byte.is_ascii_lowercase() || byte == b'_');
+        match text.split_once('=') {
+            Some((word, _)) if is_word(word.trim()) => refused("begins as libpq's list of keywords does"),
+            _ if text.is_empty() => refused("is empty"),
+            _ => Ok(Database::Sqlite(PathBuf::from(text))),
         }
     }
 
@@ -159,6 +208,29 @@ impl Database {
                 PathBuf::from(name)
             }
             Database::Postgres(_) => PathBuf::from(format!("relkvanu-{}.history", listen.port())),
+        }
+    }
+}
+
+#[cfg(test)]
+mod tests {
+    use super::*;
+
+    #[test]
+    fn a_database_is_a_file_or_a_url() {
+        let file = |path: &str| Ok(Database::Sqlite(PathBuf::from(path)));
+        let url = |url: &str| Ok(Database::Postgres(url.to_string()));
+        assert_eq!(Database::of("relkvanu.db"), file("relkvanu.db"));
+        assert_eq!(Database::of("/srv/a=b/x.db"), file("/srv/a=b/x.db"));
+        assert_eq!(Database::of("./host=db"), file("./host=db"));
+        assert_eq!(Database::of("postgres://u@db/x?sslmode=require"), url("postgres://u@db/x?sslmode=require"));
+        assert_eq!(Database::of("PostgreSQL://U@DB/X"), url("postgresql://U@DB/X"));
+        for text in ["host=db dbname=x", "dbname = x password=secret", "mysql://u:secret@db/x", "file://x.db", ""] {
+            let told = Database::of(text);
+            assert!(
+                told.as_ref().is_err_and(|why| why.starts_with("database: ") && !why.contains("secret")),
+                "{told:?}"
+            );
         }
     }
 }

@@ -1,16 +1,20 @@
-//! `relkvanu`: serves checkpoint coordinators over HTTP, and deletes the files that they hand out.
+//! `relkvanu`: serves checkpoint coordinators over HTTP, deletes the files that they hand out, and copies its database.
 mod auth;
+mod backup;
 mod cli;
 mod config;
 mod discard;
 mod exit;
 mod history;
 mod http;
+mod leader;
 mod log;
 mod metrics;
 mod model;
+mod process;
 mod serve;
 mod store;
+mod upkeep;
 mod writer;
 
 use clap::Parser;
@@ -22,6 +26,7 @@ fn main() -> ExitCode {
     match Cli::parse().command {
         Command::Serve(given) => serve::run(&given),
         Command::Discard(given) => discard::run(&given),
+        Command::Backup(given) => backup::run(&given),
     }
 }
 

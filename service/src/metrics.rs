@@ -1,9 +1,10 @@
 //! The metrics for Prometheus: the writer sets counters and times, and reads set gauges.
 use crate::model::{Mode, Outcome};
+use crate::upkeep::Upkeep;
 use crate::writer::JobState;
 use prometheus::{
-    Encoder, GaugeVec, Histogram, HistogramOpts, HistogramVec, IntCounterVec, IntGauge, IntGaugeVec, Opts, Registry,
-    TextEncoder,
+    Encoder, Gauge, GaugeVec, Histogram, HistogramOpts, HistogramVec, IntCounterVec, IntGauge, IntGaugeVec, Opts,
+    Registry, TextEncoder,
 };
 use std::time::Duration;
 
@@ -18,11 +19,15 @@ pub struct Metrics {
     commit_seconds: Histogram,
     commit_rows: Histogram,
     image_seconds: Histogram,
+    images_fail: IntGaugeVec,
+    clock_ahead: Gauge,
     leader: IntGauge,
     connections: IntGauge,
+    commit_takes: Gauge,
     records: IntCounterVec,
     durations: HistogramVec,
     gauges: Gauges,
+    pub upkeep: Upkeep,
 }
 
 /// The gauges of jobs, which each scrape sets anew.
@@ -58,8 +63,21 @@ impl Metrics {
                 "How long the writer makes an image of a job, and no calls.",
                 &SECONDS,
             )?,
+            images_fail: gauge(
+                "relkvanu_image_failing",
+                "1 where the last image of the job, or the last cut of its log, could not be written.",
+                &["job_name"],
+            )?,
+            clock_ahead: Gauge::new(
+                "relkvanu_clock_ahead_seconds",
+                "How far the moments that calls are given are ahead of this machine's clock.",
+            )?,
             leader: IntGauge::new("relkvanu_leader", "1 where this process leads.")?,
             connections: IntGauge::new("relkvanu_http_connections", "Open connections.")?,
+            commit_takes: Gauge::new(
+                "relkvanu_commit_under_way_seconds",
+                "For how long the commit that is under way has taken; 0 if none is.",
+            )?,
             records: counter(
                 "relkvanu_records_total",
                 "Records that ended being pending, by how.",
@@ -71,6 +89,7 @@ impl Metrics {
                 &["job_name", "kind"],
             )?,
             gauges: Gauges::new()?,
+            upkeep: Upkeep::new()?,
         };
         metrics.register()?;
         Ok(metrics)
@@ -84,9 +103,13 @@ impl Metrics {
         for times in [&self.commit_seconds, &self.commit_rows, &self.image_seconds] {
             registry.register(Box::new(times.clone()))?;
         }
+        registry.register(Box::new(self.images_fail.clone()))?;
+        registry.register(Box::new(self.clock_ahead.clone()))?;
         registry.register(Box::new(self.leader.clone()))?;
         registry.register(Box::new(self.connections.clone()))?;
+        registry.register(Box::new(self.commit_takes.clone()))?;
         registry.register(Box::new(self.durations.clone()))?;
+        self.upkeep.register(registry)?;
         self.gauges.register(registry)
     }
 
@@ -104,6 +127,16 @@ impl Metrics {
         self.image_seconds.observe(took.as_secs_f64());
     }
 
+    /// Whether a job's image, or a cut of its log, could not be made or written.
+    pub fn image_fails(&self, job: &str, fails: bool) {
+        self.images_fail.with_label_values(&[job]).set(i64::from(fails));
+    }
+
+    /// How many milliseconds the moments of calls are ahead of this machine's clock.
+    pub fn clock(&self, ahead: i64) {
+        self.clock_ahead.set(ahead as f64 / 1000.0);
+    }
+
     pub fn request(&self, route: &str, status: u16) {
         self.requests.with_label_values(&[route, &status.to_string()]).inc();
     }
@@ -111,6 +144,11 @@ impl Metrics {
     /// The gauge of open connections.
     pub fn connections(&self) -> &IntGauge {
         &self.connections
+    }
+
+    /// For how long the commit that is under way has taken.
+    pub fn commit_takes(&self, time: Duration) {
+        self.commit_takes.set(time.as_secs_f64());
     }
 
     /// A record stopped being pending, `seconds` after its trigger.
@@ -134,6 +172,8 @@ impl Metrics {
     pub fn text(&self, jobs: &[JobState]) -> Result<Vec<u8>, prometheus::Error> {
         for job in jobs {
             self.gauges.set(job);
+            // it is there, and 0 at first
+            self.images_fail.with_label_values(&[job.opening.name.as_str()]);
         }
         let mut text = Vec::new();
         TextEncoder::new().encode(&self.registry.gather(), &mut text)?;
@@ -156,7 +196,11 @@ impl Gauges {
                 "State files that are in use, wait for deletion, or were taken for it.",
                 &["job_name", "state"],
             )?,
-            pending: gauge("relkvanu_pending_records", "Records that wait for acknowledgements.", &["job_name", "kind"])?,
+            pending: gauge(
+                "relkvanu_pending_records",
+                "Records that wait for acknowledgements.",
+                &["job_name", "kind"],
+            )?,
             log_calls: gauge(
                 "relkvanu_log_calls",
                 "Calls that the job's log has had: the place of the last.",

@@ -3,100 +3,142 @@ use crate::auth::Tokens;
 use crate::cli;
 use crate::config::{Config, Database};
 use crate::exit;
-use crate::history::{Historian, HistoryReader};
+use crate::history::{Door, Historian, Place};
 use crate::http::{self, App};
+use crate::leader::Leader;
 use crate::log;
 use crate::metrics::Metrics;
-use crate::model::{Clock, Keeping};
-use crate::store::{Lite, LiteReader, Pg, PgReader, Reader, Store, Unusable};
-use crate::writer::{Board, Jobs, Message, StartError, Writer, START_AGAIN};
+use crate::model::wall;
+use crate::process;
+use crate::store::{DbError, Lite, LiteReader, Pg, PgReader, Reader, Store, Unusable};
+use crate::writer::{Board, Message, StartError, START_AGAIN};
 use sd_notify::NotifyState;
-use std::io::ErrorKind;
-use std::path::{Path, PathBuf};
-use std::sync::mpsc::{sync_channel, Receiver, SyncSender};
-use std::sync::{Arc, Mutex};
+use std::sync::mpsc::{sync_channel, SyncSender};
+use std::sync::Arc;
 use std::time::{Duration, Instant};
+use thiserror::Error;
 use tokio::net::TcpListener;
 use tokio::signal::unix::{signal, SignalKind};
-use tokio::sync::Semaphore;
+use tokio::sync::Mutex;
 
 /// The exit status if the configuration or the log is bad, so another start would fail too.
 const NOT_TO_START: u8 = 78;
-/// How often a standby follows the log and tries to lead.
-const LEAD_EACH: Duration = Duration::from_millis(100);
 /// The longest time between two reports to systemd that the writer works.
 const WATCHDOG: Duration = Duration::from_secs(5);
 /// After this time without a sign of work the writer counts as stuck.
 const SILENCE: Duration = Duration::from_secs(15);
-/// How long the writer may take for its last group.
-const STOP_WITHIN: Duration = Duration::from_secs(10);
+/// How long the writer may take for its last group. With the time for the last answers this is less than the unit's `TimeoutStopSec`.
+const STOP_WITHIN: Duration = Duration::from_secs(6);
+/// How long a process that does not lead yet may take to end a step of its start.
+const LEAVE_WITHIN: Duration = Duration::from_secs(1);
 
 /// Serves, and ends the process.
 pub fn run(given: &cli::Serve) -> ! {
+    process::make_files_private();
     let ended = Config::of(given).map_err(Stop::Never).and_then(serve);
-    exit::now(match ended.map_err(Stop::parts) {
+    exit::now(match ended {
         Ok(()) => 0,
-        Err((why, status)) => {
-            log::error(&why);
-            status
+        Err(stop) => {
+            log::error(&stop.to_string());
+            stop.status()
         }
     })
 }
 
 /// Why the service ended.
-enum Stop {
+#[derive(Debug, Error)]
+pub enum Stop {
     /// Another start would end in the same way.
+    #[error("{0}")]
     Never(String),
+    /// Another start may succeed.
+    #[error("{0}")]
     Again(String),
 }
 
 impl Stop {
-    /// The reason, and the exit status.
-    fn parts(self) -> (String, u8) {
+    /// The exit status.
+    pub fn status(&self) -> u8 {
         match self {
-            Stop::Never(why) => (why, NOT_TO_START),
-            Stop::Again(why) => (why, START_AGAIN),
+            Stop::Never(_) => NOT_TO_START,
+            Stop::Again(_) => START_AGAIN,
         }
     }
 }
 
-fn serve(config: Config) -> Result<(), Stop> {
+impl From<DbError> for Stop {
+    fn from(error: DbError) -> Stop {
+        Stop::Again(error.to_string())
+    }
+}
+
+impl From<Unusable> for Stop {
+    fn from(error: Unusable) -> Stop {
+        match error {
+            Unusable::Newer(_) => Stop::Never(error.to_string()),
+            Unusable::Failed(_) => Stop::Again(error.to_string()),
+        }
+    }
+}
+
+impl From<StartError> for Stop {
+    fn from(error: StartError) -> Stop {
+        if error.may_pass() {
+            Stop::Again(error.to_string())
+        } else {
+            Stop::Never(error.to_string())
+        }
+    }
+}
+
+fn serve(mut config: Config) -> Result<(), Stop> {
+    config.limits.fit(process::most_files());
     let tokens = config.token_file.as_deref().map(Tokens::read).transpose().map_err(Stop::Never)?;
     // before the lease is taken, so a second process at this address never leads
     let listener = listening(&config)?;
-    let store = open_store(&config).map_err(|why| match why {
-        Unusable::Newer(_) => Stop::Never(why.to_string()),
-        Unusable::Failed(why) => Stop::Again(format!("database: {why}")),
-    })?;
-    let reader = || open_reader(&config).map_err(Stop::Again);
+    let store = open_store(&config)?;
+    let reader = || open_reader(&config);
     let metrics = Arc::new(Metrics::new().map_err(|error| Stop::Never(error.to_string()))?);
+    metrics.upkeep.tokens(tokens.as_ref());
     let board = Arc::new(Board::new());
     let (inbox, messages) = sync_channel(config.limits.queue);
+    let history = Arc::new(Place::new(config.history.clone()));
     let app = App {
         board: Arc::clone(&board),
         metrics: Arc::clone(&metrics),
         inbox: inbox.clone(),
         reader: Arc::new(Mutex::new(reader()?)),
-        history: Arc::new(Mutex::new(open_history(&config.history)?)),
+        events: Arc::new(Mutex::new(reader()?)),
+        history: Arc::new(Mutex::new(Door::new(Arc::clone(&history)))),
+        place: Arc::clone(&history),
         tokens,
-        bodies: Arc::new(Semaphore::new(config.limits.all_bodies_bytes.div_ceil(http::BODY_UNIT))),
+        bodies: http::room(config.limits.all_bodies_bytes),
+        answers: http::room(config.limits.all_answers_bytes),
         limits: config.limits.clone(),
     };
     let historian = Historian {
-        path: config.history.clone(),
+        place: history,
         reader: reader()?,
         board: Arc::clone(&board),
         metrics: Arc::clone(&metrics),
         inbox: inbox.clone(),
-        since: Clock::starting_after(0).now(),
+        keeping: config.keeping,
+        since: wall(),
+        measured: None,
+        opened: None,
     };
-    let (listen, keeping) = (config.listen.to_string(), config.keeping);
-    let leader = Leader { store, reader: reader()?, board, metrics, messages, listen, keeping };
+    historian.start();
+    let (listen, keeping, accept_clock) = (config.listen.to_string(), config.keeping, config.accept_clock);
+    let (reader, led) = (reader()?, Arc::clone(&board));
+    let leader = Leader { store, reader, board: led, metrics, messages, listen, keeping, accept_clock };
     let working = std::thread::spawn(move || leader.run());
-    std::thread::spawn(move || historian.run());
-    answer_requests(app, listener)?;
-    stop_writer(&inbox, &working);
-    log::info("stopped");
+    if answer_requests(app, listener)? {
+        stop_writer(&board, &inbox, &working);
+        log::info("stopped");
+    } else {
+        // what the writer would commit now would not be answered
+        log::warn("stopped before all requests were answered: the database or a client is too slow");
+    }
     Ok(())
 }
 
@@ -107,102 +149,10 @@ fn open_store(config: &Config) -> Result<Box<dyn Store>, Unusable> {
     }
 }
 
-fn open_reader(config: &Config) -> Result<Box<dyn Reader>, String> {
+fn open_reader(config: &Config) -> Result<Box<dyn Reader>, DbError> {
     match &config.database {
         Database::Sqlite(path) => Ok(Box::new(LiteReader::open(path)?)),
         Database::Postgres(url) => Ok(Box::new(PgReader::open(url)?)),
-    }
-}
-
-/// Opens the history. If it can't be read, renames it, since it can be made again.
-fn open_history(path: &Path) -> Result<HistoryReader, Stop> {
-    HistoryReader::open(path).or_else(|why| {
-        log::warn(&format!("history {why}: it is made again"));
-        set_aside(path).map_err(|error| Stop::Again(format!("{}: {error}", path.display())))?;
-        HistoryReader::open(path).map_err(Stop::Again)
-    })
-}
-
-/// Renames an SQLite file, and the files that SQLite keeps beside it if they exist.
-fn set_aside(path: &Path) -> std::io::Result<()> {
-    let named = |end: &str| {
-        let mut name = path.as_os_str().to_owned();
-        name.push(end);
-        PathBuf::from(name)
-    };
-    for end in ["-wal", "-shm"] {
-        match std::fs::rename(named(end), named(&format!(".bad{end}"))) {
-            Err(error) if error.kind() != ErrorKind::NotFound => return Err(error),
-            _ => {}
-        }
-    }
-    std::fs::rename(path, named(".bad"))
-}
-
-/// The writer's thread: it waits until it leads, and then works.
-struct Leader {
-    store: Box<dyn Store>,
-    reader: Box<dyn Reader>,
-    board: Arc<Board>,
-    metrics: Arc<Metrics>,
-    messages: Receiver<Message>,
-    listen: String,
-    keeping: Keeping,
-}
-
-impl Leader {
-    /// Ends the process if it can't lead.
-    fn run(mut self) {
-        let jobs = self.lead().unwrap_or_else(|stop| {
-            let (why, status) = stop.parts();
-            log::error(&why);
-            exit::now(status)
-        });
-        let (board, metrics) = (Arc::clone(&self.board), Arc::clone(&self.metrics));
-        let writer = Writer::new(self.store, jobs, board, metrics, self.keeping);
-        // the writer has published all jobs, so the first request finds them
-        self.board.open();
-        log::info(&format!("serves on {}", self.listen));
-        writer.run(&self.messages);
-    }
-
-    /// Follows the log until this process may write. So a take-over has little to read.
-    fn lead(&mut self) -> Result<Jobs, Stop> {
-        let mut jobs = Jobs::default();
-        let (started, mut calls) = (Instant::now(), 0);
-        let mut waits = false;
-        loop {
-            calls += self.catch_up(&mut jobs)?;
-            let asked = Instant::now();
-            if let Some(epoch) = self.store.lead().map_err(Stop::Again)? {
-                calls += self.catch_up(&mut jobs)?;
-                jobs.take_stock(self.reader.as_mut(), self.keeping).map_err(start_failed)?;
-                self.board.lead(epoch);
-                let (took, over) = (started.elapsed().as_millis(), asked.elapsed().as_millis());
-                let jobs_there = jobs.len();
-                log::info(&format!(
-                    "leads epoch={epoch} jobs={jobs_there} calls={calls} start_ms={took} take_over_ms={over}"
-                ));
-                return Ok(jobs);
-            }
-            if !waits {
-                log::info(&format!("another process leads; follows jobs={} calls={calls}", jobs.len()));
-                waits = true;
-            }
-            std::thread::sleep(LEAD_EACH);
-        }
-    }
-
-    fn catch_up(&mut self, jobs: &mut Jobs) -> Result<u64, Stop> {
-        let board = &self.board;
-        jobs.catch_up(self.reader.as_mut(), &|| board.beat()).map_err(start_failed)
-    }
-}
-
-fn start_failed(error: StartError) -> Stop {
-    match error {
-        StartError::Unread(_) | StartError::NoMemory { .. } => Stop::Again(error.to_string()),
-        _ => Stop::Never(error.to_string()),
     }
 }
 
@@ -213,17 +163,19 @@ fn listening(config: &Config) -> Result<std::net::TcpListener, Stop> {
     Ok(listener)
 }
 
-/// Answers requests until the process gets a signal to stop.
-fn answer_requests(app: App, listener: std::net::TcpListener) -> Result<(), Stop> {
+/// Answers requests until the process gets a signal to stop, and then those that were begun. Returns whether it answered all.
+fn answer_requests(app: App, listener: std::net::TcpListener) -> Result<bool, Stop> {
     let told = |error: std::io::Error| Stop::Again(error.to_string());
     let runtime = tokio::runtime::Builder::new_multi_thread().worker_threads(2).enable_all().build().map_err(told)?;
     let board = Arc::clone(&app.board);
-    runtime.block_on(async move {
+    let served = runtime.block_on(async move {
         let listener = TcpListener::from_std(listener).map_err(told)?;
         tokio::spawn(tell_systemd(board));
-        http::serve(Arc::new(app), listener, told_to_stop()).await;
-        Ok(())
-    })
+        Ok(http::serve(Arc::new(app), listener, told_to_stop()).await)
+    });
+    // a read that waits for the database does not keep the process
+    runtime.shutdown_background();
+    served
 }
 
 /// Reports to systemd that the service is ready, even as a standby, and then that the writer works.
@@ -242,9 +194,10 @@ async fn tell_systemd(board: Arc<Board>) {
 /// Half of the time after which systemd expects a report.
 fn watchdog() -> Duration {
     let mut micros = 0;
-    match sd_notify::watchdog_enabled(false, &mut micros) {
-        true => Duration::from_micros(micros / 2).min(WATCHDOG),
-        false => WATCHDOG,
+    if sd_notify::watchdog_enabled(false, &mut micros) {
+        Duration::from_micros(micros / 2).min(WATCHDOG)
+    } else {
+        WATCHDOG
     }
 }
 
@@ -258,9 +211,9 @@ async fn told_to_stop() {
     }
 }
 
-/// Waits until the writer has committed what it has.
-fn stop_writer(inbox: &SyncSender<Message>, working: &std::thread::JoinHandle<()>) {
-    let until = Instant::now() + STOP_WITHIN;
+/// Waits until the writer has ended. It has nothing left to answer, and a standby has no jobs.
+fn stop_writer(board: &Board, inbox: &SyncSender<Message>, working: &std::thread::JoinHandle<()>) {
+    let until = Instant::now() + if board.is_ready() { STOP_WITHIN } else { LEAVE_WITHIN };
     let mut sent = false;
     while !working.is_finished() && Instant::now() < until {
         sent = sent || inbox.try_send(Message::Stop).is_ok();

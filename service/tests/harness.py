@@ -22,6 +22,8 @@ SERVICE = os.path.dirname(HERE)
 TOP = os.path.dirname(SERVICE)
 sys.path.insert(0, f"{SERVICE}/client/python")
 
+# Where service/build puts the library, for the Python package.
+os.environ.setdefault("RELKVANU_LIB", f"{SERVICE}/target/library")
 PROGRAM = os.environ.get("RELKVANU_PROGRAM", f"{SERVICE}/target/debug/relkvanu")
 ORACLE = os.environ.get("RELKVANU_ORACLE", f"{TOP}/crates/ckpt_job/out/ckpt_job")
 
@@ -218,7 +220,7 @@ def check_log(state, shape, log):
     """The log is without gaps, and the proved program answers its lines as the service did."""
     assert [entry["seq"] for entry in log] == list(range(1, len(log) + 1)), "the log has gaps"
     if not os.path.exists(ORACLE):
-        return None
+        raise Skipped(f"{ORACLE} is not built")
     told = subprocess.run([ORACLE], input=script(state, shape, log), stdout=subprocess.PIPE, text=True, check=False)
     assert told.returncode == 0, f"the oracle ended with {told.returncode}"
     lines = told.stdout.splitlines()

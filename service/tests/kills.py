@@ -4,7 +4,7 @@ import sys
 import time
 from contextlib import contextmanager
 
-from harness import Archive, PgArchive, Server, folder
+from harness import Archive, PgArchive, Server, folder, until
 from relkvanu_service import Service
 from writers import SETTINGS, Writer, check
 
@@ -63,6 +63,8 @@ def run(kills, database=None, config=KEEPING, seed=1):
                 time.sleep(chance.uniform(0.1, 0.7))
                 server.kill()
                 server.start()
+            # on a busy machine the writers may have made few calls
+            until(lambda: any(archive.cut(job) for job in JOBS), 60)
         server.kill()
         images = check_images(server, archive)
         server.stop()

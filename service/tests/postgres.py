@@ -11,14 +11,15 @@ from run import Skipped
 
 
 class Postgres:
-    """In a folder that exists. The options are those of initdb."""
+    """In a folder that exists. The options are those of initdb, and the environment is that of the server."""
 
-    def __init__(self, at, *options):
+    def __init__(self, at, *options, environment=None):
         found = sorted(glob.glob("/usr/lib/postgresql/*/bin/pg_ctl"))
         if not found:
             raise Skipped("PostgreSQL is not here")
         self.bin, self.port = os.path.dirname(found[-1]), free_port()
         self.data = f"{at}/data"
+        self.environment = {**os.environ, **(environment or {})}
         self.url = f"postgres://postgres@127.0.0.1:{self.port}/postgres"
         os.chmod(at, 0o755)
         os.mkdir(self.data)
@@ -31,15 +32,17 @@ class Postgres:
             it.write(f"port = {self.port}\nlisten_addresses = '127.0.0.1'\nunix_socket_directories = ''\nshared_buffers = 32MB\nlog_min_messages = fatal\n")
         self.start()
 
-    def run(self, program, *words):
-        told = subprocess.run([*self.user, f"{self.bin}/{program}", *words], stdout=subprocess.PIPE, stderr=subprocess.STDOUT, text=True, check=False, cwd="/")
+    def run(self, program, *words, environment=None):
+        told = subprocess.run(
+            [*self.user, f"{self.bin}/{program}", *words], stdout=subprocess.PIPE, stderr=subprocess.STDOUT, text=True, check=False, cwd="/", env=environment
+        )
         if told.returncode:
             raise AssertionError(f"{program}: {told.stdout[-800:]}")
         return told.stdout
 
     def start(self, *more):
         # its output goes to a file, since the server keeps it open
-        self.run("pg_ctl", "-D", self.data, "-w", "-l", f"{self.data}/log", *more, "start")
+        self.run("pg_ctl", "-D", self.data, "-w", "-l", f"{self.data}/log", *more, "start", environment=self.environment)
 
     def stop(self, mode="immediate"):
         self.run("pg_ctl", "-D", self.data, "-w", "-m", mode, "stop")
@@ -63,10 +66,10 @@ class Postgres:
 
 
 @contextmanager
-def postgres(at=None, *options):
+def postgres(at=None, *options, environment=None):
     """In a folder that exists, or one of its own."""
     with folder() as own:
-        it = Postgres(at or own, *options)
+        it = Postgres(at or own, *options, environment=environment)
         try:
             yield it
         finally:

@@ -87,31 +87,46 @@ def raw(server, request):
             return b""
 
 
+def made_wrong(good, chance):
+    """The request with some bytes changed, removed or added."""
+    wrong = bytearray(good)
+    for _ in range(chance.randint(1, 8)):
+        at = chance.randrange(len(wrong))
+        kind = chance.random()
+        if kind < 0.5:
+            wrong[at] = chance.randrange(256)
+        elif kind < 0.75:
+            del wrong[at : at + chance.randint(1, 40)]
+        else:
+            wrong[at:at] = bytes(chance.randrange(256) for _ in range(chance.randint(1, 40)))
+    return wrong
+
+
 def test_malformed_requests_by_the_thousand():
     chance = random.Random(7)
-    good = b'POST /v1/jobs/orders/calls HTTP/1.1\r\nHost: localhost\r\nContent-Type: application/json\r\nContent-Length: 60\r\n\r\n{"calls":[{"call":"ack","id":1,"subtask":"0.0","fresh":[]}]}'
+    body = b'{"calls":[{"call":"savepoint"}]}'
+    good = b"POST /v1/jobs/orders/calls HTTP/1.1\r\nHost: localhost\r\nContent-Type: application/json\r\nIdempotency-Key: 7f3a\r\nContent-Length: %d\r\n\r\n%s" % (len(body), body)
     seen = {}
     with served() as server:
         server.request("POST", "/v1/jobs", JOB)
-        until(lambda: raw(server, good).startswith(b"HTTP/1.1 200"), 5)  # the request that is made wrong is a good one
-        for _ in range(1000):
-            wrong = bytearray(good)
-            for _ in range(chance.randint(1, 8)):
-                at = chance.randrange(len(wrong))
-                kind = chance.random()
-                if kind < 0.5:
-                    wrong[at] = chance.randrange(256)
-                elif kind < 0.75:
-                    del wrong[at : at + chance.randint(1, 40)]
-                else:
-                    wrong[at:at] = bytes(chance.randrange(256) for _ in range(chance.randint(1, 40)))
-            answer = raw(server, wrong)
+
+        def tell(request):
+            answer = raw(server, request)
             assert answer == b"" or answer.startswith(b"HTTP/1.1 "), answer
-            assert not answer.startswith(b"HTTP/1.1 5"), (wrong, answer)
-            seen[answer[9:12].decode() or "none"] = seen.get(answer[9:12].decode() or "none", 0) + 1
+            assert not answer.startswith(b"HTTP/1.1 5"), (request, answer)
+            status = answer[9:12].decode() or "none"
+            seen[status] = seen.get(status, 0) + 1
+            return status
+
+        until(lambda: tell(good) == "200", 5)  # the request that is made wrong is a good one, and makes a call
+        for _ in range(1000):
+            tell(made_wrong(good, chance))
         assert server.get("/healthz")[0] == 200
-        state = server.get("/v1/jobs/orders")[2]
-        assert state["seq"] == 0 and seen.get("400", 0) > 100, (state, seen)
+        # Only this call was made, at most once for each request that was answered so or had no answer in time.
+        log = server.get("/v1/jobs/orders/log?limit=1000")[2]["calls"]
+        assert all(entry["line"].split()[0] == "savepoint" for entry in log), log
+        assert 1 <= len(log) <= seen["200"] + seen.get("none", 0), (len(log), seen)
+        assert seen.get("400", 0) > 100, seen
         return f"1000 requests: {', '.join(f'{count} were answered {status}' for status, count in sorted(seen.items()))}"
 
 

@@ -49,7 +49,8 @@ def test_a_folder():
         hard = files[30]
         os.remove(f"{folder}/s-{hard}.state")
         os.mkdir(f"{folder}/s-{hard}.state")
-        run = discard(server, folder)
+        # files were taken before, so this is not the first run, which marks the folder
+        run = discard(server, folder, "--init")
         until(lambda: present(folder) == {hard, *files[-3:]}, 20)
         assert job.state()["files"]["in_use"] == 3
         os.rmdir(f"{folder}/s-{hard}.state")

@@ -100,6 +100,7 @@ class Model:
         if entry["answer"] == "decline late":
             return
         self.drop(int(words[2]), entry, "declined")
+        self.records[int(words[2])]["why"] = f"declined by {words[3]}"
         if entry["answer"].startswith("decline failed"):
             self.drop_pending(entry, "failed over")
 

@@ -1,5 +1,5 @@
 """Images of jobs: a start begins with the last one, the log is cut behind it, and nothing that was promised is lost. Also damaged
-images, and databases of other versions."""
+images, file numbers that were chosen against a coordinator of an image, and databases of other versions."""
 import glob
 import hashlib
 import os
@@ -9,7 +9,7 @@ import sqlite3
 import subprocess
 import threading
 
-from harness import PROGRAM, Archive, PgArchive, Server, check_log, folder, served, until
+from harness import PROGRAM, TOP, Archive, PgArchive, Server, check_log, folder, served, until
 from postgres import postgres
 from relkvanu_service import Service, ack, deleted, dispose, savepoint, take
 from writers import check_kept
@@ -29,8 +29,8 @@ def worked(job, rounds, first=1):
 
 
 def seen(job, files):
-    """The state of a job and its history, without the current time."""
-    state = {name: value for name, value in job.state().items() if name != "now"}
+    """The state of a job and its history, without the current time and the log's identity, which is new after each start."""
+    state = {name: value for name, value in job.state().items() if name not in ("now", "log")}
     return state, job.files(1000), job.records(), [job.record(it["id"]) for it in state["live"]], [job.file(file) for file in files]
 
 
@@ -58,13 +58,43 @@ def test_a_start_goes_from_the_last_image():
             assert seen(job, files) == before
             assert server.replayed()[-1] <= 30 and before[0]["seq"] > 200, (server.replayed(), before[0])
         assert server.request("POST", path, body, headers=key)[2] == early[2]
-        first, events = before[0]["first"], server.get("/v1/jobs/orders/events?after=0")[2]
+        first, events = before[0]["first"], server.get("/v1/jobs/orders/events")[2]
         assert events["first"] == first and events["events"][0]["seq"] >= first, (first, events["events"][:1])
         job.call(ack(42, "0.1"))
         until(lambda: job.record(42)["history"]["how"] == "completed" and job.record(42)["history"]["acks"] == 2)
         whole = check_kept(archive.log("orders"), list(job.log()), job.state()["first"])
         check_log(job.state(), [2], whole)
         return f"{server.replayed()[-1]} of {len(whole)} calls made again, {first - 1} cut; a key from before the cut is answered"
+
+
+def processor_time(server):
+    with open(f"/proc/{server.process.pid}/stat", encoding="utf-8") as it:
+        return int(it.read().rpartition(")")[2].split()[11]) / os.sysconf("SC_CLK_TCK")
+
+
+def cost_from_an_image(kind):
+    """The processor time, in seconds, of a service that starts with an image of a job which names 24,000 files, and goes on with them.
+    tests/meeting.c makes the numbers: `random`, or `meeting`, which collide in maps that hash under words that are 0."""
+    with folder() as at:
+        subprocess.run(["cc", "-O2", f"{TOP}/tests/meeting.c", "-o", f"{at}/meeting"], check=True)
+        told = subprocess.run([f"{at}/meeting", kind, "24000"], stdout=subprocess.PIPE, text=True, check=True).stdout.split()
+    parts = [[int(number) for number in told[first : first + 4000]] for first in range(0, 24000, 4000)]
+    with served(args=["--image-calls", "7"]) as server:
+        job = Service(server.url).open("orders", SETTINGS, [6])
+        job.calls([savepoint(), *(ack(1, f"0.{index}", part) for index, part in enumerate(parts))])
+        until(lambda: (it := job.state()["image"]) and it["seq"] == 7)
+        server.stop()
+        server.start()
+        assert server.replayed()[-1] == 0, server.replayed()
+        job.calls([savepoint(), *(ack(2, f"0.{index}", reused=part) for index, part in enumerate(parts)), dispose(1), dispose(2)])
+        assert job.state()["files"]["waiting"] == 24000, job.state()
+        return processor_time(server)
+
+
+def test_chosen_file_numbers_cost_no_more_after_a_start_from_an_image():
+    plain, meeting = (min(cost_from_an_image(kind) for _ in range(2)) for kind in ("random", "meeting"))
+    assert meeting <= 2 * plain, (plain, meeting)
+    return f"{meeting:.2f} s of processor time for numbers that meet, {plain:.2f} s for others"
 
 
 def digest(row):
@@ -132,7 +162,7 @@ def test_databases_of_other_versions():
         until(lambda: base.execute("select count(*) from image").fetchone()[0] == 1 and job.state()["image"])
         server.stop()
         base.executescript("pragma user_version = 99;")
-        refused(server, "the tables of the database have version 99, and this program knows those up to 1")
+        refused(server, "the tables of the database have version 99, and this program knows those up to 2")
         return "one without images, and a newer one"
 
 
@@ -200,7 +230,7 @@ def test_postgresql_of_other_versions():
         server.start()
         until(lambda: job.state()["image"])
         server.stop()
-        assert database.sql("select number from schema_version") == "1" and database.sql("select count(*) from image") == "1"
+        assert database.sql("select number from schema_version") == "2" and database.sql("select count(*) from image") == "1"
         return "one without images, and a newer one"
 
 
@@ -216,12 +246,12 @@ def test_a_standby_that_is_slower_than_the_cuts():
         standby.process.send_signal(signal.SIGSTOP)
         worked(job, 30, 3)
         read_and_cut(job, 100)
-        before = {name: value for name, value in job.state().items() if name not in ("now", "first", "image")}
+        before = {name: value for name, value in job.state().items() if name not in ("now", "log", "first", "image")}
         standby.process.send_signal(signal.SIGCONT)
         leader.kill()
         standby.wait_ready()
         job = Service(standby.url).job("orders")
-        after = {name: value for name, value in job.state().items() if name not in ("now", "first", "image")}
+        after = {name: value for name, value in job.state().items() if name not in ("now", "log", "first", "image")}
         assert after == before, (before, after)
         worked(job, 3, 33)
         until(lambda: job.files()["upto"] == job.state()["seq"])

@@ -99,6 +99,13 @@ def contrast(page):
         return least;""")
 
 
+def chosen(job):
+    """The record that a restart would begin from, or nothing if it has ended meanwhile."""
+    choice = job.state()["choice"]
+    record = job.record(choice["id"]) if choice["kind"] == "checkpoint" else {"live": None}
+    return record if record["live"] else None
+
+
 def look_up(page, file):
     page.execute_script("""
         document.getElementById("file").replaceChildren();
@@ -107,19 +114,24 @@ def look_up(page, file):
     return until(lambda: "".join(texts(page, "#file")), 10)
 
 
-def test_what_the_page_shows():
+def started(width, height):
+    """A browser, if one is here."""
     try:
         import selenium  # noqa: F401
     except ImportError:
         raise Skipped("python3-selenium is not here") from None
     if not (shutil.which("chromium") and shutil.which("chromedriver")):
         raise Skipped("chromium is not here")
+    return browser(width, height)
+
+
+def test_what_the_page_shows():
+    page = started(1200, 900)
     with served() as server:
         engine = Engine(server.url)
         engine.start()
         users = Service(server.url).open("users", {"interval": 3_600_000}, [1])
         users.calls([savepoint()])
-        page = browser(1200, 900)
         try:
             return looked_at(page, server, engine)
         finally:
@@ -147,18 +159,23 @@ def looked_at(page, server, engine):
     hows = set()
     for row in rows[3:]:
         record = told[row[0]]
-        assert row[6] == record["kind"] and row[1] == record["how"], (row, record)
-        hows.add(row[1])
+        how = record["why"] if record["how"] == "declined" else record["how"]
+        assert row[6] == record["kind"] and row[1] == how, (row, record)
+        hows.add(record["how"])
         if record["how"] == "expired":
             assert row[3] == ", ".join(record["missing"]) and "1.2" in record["missing"], (row, record)
         if record["how"] == "completed":
             assert row[4] == "1.2" and row[3] == "", row
+        if record["how"] == "declined":
+            assert row[1] == "declined by 1.1", row
     assert {"completed", "expired", "declined"} <= hows, hows
     bars = page.execute_script("const c = Chart.getChart('durations').data; return c.labels.map((l, i) => [l, c.datasets[0].data[i]])")
     assert len(bars) >= 10, bars
-    for label, seconds in bars[:-2]:
-        if label in told and told[label]["finished"]:
-            assert abs(seconds - (told[label]["finished"] - told[label]["started"]) / 1000) < 0.002, (label, seconds)
+    known = {label: record for label, record in told.items() if record["finished"]}
+    compared = [(label, seconds) for label, seconds in bars if label in known]
+    assert len(compared) >= 8, (bars, known)
+    for label, seconds in compared:
+        assert abs(seconds - (known[label]["finished"] - known[label]["started"]) / 1000) < 0.002, (label, seconds)
     lines = page.execute_script("return Chart.getChart('counts').data.datasets.map(d => [d.label, d.data.length])")
     assert [line[0] for line in lines] == ["in use", "waiting", "taken"] and lines[0][1] >= 1, lines
 
@@ -170,12 +187,10 @@ def looked_at(page, server, engine):
     assert "0 uses" in text and "Written" in text and "Why: record" in text and "dropped" in text and "Deleted" in text, text
     assert texts(page, "#taken button") == [str(files[2])], texts(page, "#taken")
     assert set(texts(page, "#deleted button")) == {str(file) for file in files[:2]}
-    until(lambda: job.state()["choice"]["kind"] == "checkpoint", 20)
-    used = job.record(job.state()["choice"]["id"])
-    if used["live"]:
-        file = used["live"]["acks"][0]["files"][0]
-        text = look_up(page, file)
-        assert f"File {file}: " in text and "Written" in text, text
+    used = until(lambda: chosen(job), 20)
+    file = used["live"]["acks"][0]["files"][0]
+    text = look_up(page, file)
+    assert f"File {file}: " in text and "Written" in text, text
     assert "No call has named it" in look_up(page, 999999999)
 
     # nothing that the policy refuses, no error
@@ -203,7 +218,7 @@ def looked_at(page, server, engine):
 
     # the service goes away and comes back
     server.kill()
-    until(lambda: texts(page, "#status")[0] == "the service does not answer", 20)
+    until(lambda: texts(page, "#status")[0].startswith("the service does not answer"), 20)
     server.start()
     until(lambda: texts(page, "#status")[0].startswith("live"), 20)
     return f"{len(rows)} records, {len(bars)} bars, least contrast {min(least):.1f}, 400 pixels wide at 400"

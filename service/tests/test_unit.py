@@ -28,7 +28,7 @@ def commands():
     """The commands of docs/SERVICE.md that install the unit, make a backup, and restore it."""
     with open(f"{TOP}/docs/SERVICE.md", encoding="utf-8") as it:
         text = it.read()
-    places = {"install": "**systemd.**", "backup": "**SQLite**, while", "restore": "To restore it, "}
+    places = {"install": "**systemd.**", "backup": "**SQLite**, while", "restore": "To restore it, ", "discard": "**As a service.**"}
     return {name: text.partition(place)[2].split("```")[1] for name, place in places.items()}
 
 
@@ -57,5 +57,5 @@ def test_under_systemd():
         assert not errors, errors[-3000:]
         with open(f"{at}/told", encoding="utf-8") as it:
             told = json.loads(it.read())
-        assert told["exposure"] < 3, told
-        return f"exposure {told['exposure']}; ready again {told['after_kill']:.1f} s after SIGKILL, {told['after_stop']:.1f} s after SIGSTOP with a watchdog of 2 s; 78 ends it; a backup was restored"
+        assert told["exposure"] < 3 and told["discard_exposure"] < 3, told
+        return f"exposure {told['exposure']}; ready again {told['after_kill']:.1f} s after SIGKILL, {told['after_stop']:.1f} s after SIGSTOP with a watchdog of 2 s; 78 ends it; a backup was restored; the discarder has exposure {told['discard_exposure']}"

@@ -16,8 +16,8 @@ def run(*words, check=True):
     return subprocess.run(words, stdout=subprocess.PIPE, stderr=subprocess.STDOUT, text=True, check=check).stdout.strip()
 
 
-def property_of(name):
-    return run("systemctl", "show", "--value", "--property", name, "relkvanu")
+def property_of(name, unit="relkvanu"):
+    return run("systemctl", "show", "--value", "--property", name, unit)
 
 
 def request(method, path, body=None, key="first"):
@@ -103,6 +103,51 @@ def check_a_backup_is_restored():
     assert told[1]["answers"][0]["ack"] == "completed", told
 
 
+def check_the_discarder():
+    """It deletes files of the engine's user, comes again after a kill, and does not after it found that the folder is another one."""
+    unit, marker = "relkvanu-discard@orders", "/srv/orders/.relkvanu-orders"
+    run("useradd", "--system", "orders")
+    os.makedirs("/srv/orders")
+    shutil.chown("/srv/orders", "orders")
+    with open("write-token", "w", encoding="utf-8") as it:
+        it.write(f"{WRITE}\n")
+    as_the_page_says("discard")
+    until(lambda: os.path.exists(marker))
+    for number in (7, 8):
+        path = f"/srv/orders/state-{number}.bin"
+        with open(path, "w", encoding="utf-8") as it:
+            it.write("state")
+        told = request("POST", "/v1/jobs/orders/calls", {"calls": [{"call": "savepoint"}]}, f"savepoint {number}")
+        record = told[1]["answers"][0]["id"]
+        calls = [{"call": "ack", "id": record, "subtask": "0.0", "fresh": [str(number)]}, {"call": "dispose", "id": record}]
+        assert request("POST", "/v1/jobs/orders/calls", {"calls": calls}, f"dispose {number}")[0] == 200
+        until(lambda: not os.path.exists(path))
+        os.kill(int(property_of("MainPID", unit)), signal.SIGKILL)
+        until(lambda: int(property_of("NRestarts", unit)) == number - 6 and property_of("ActiveState", unit) == "active")
+    os.remove(marker)
+    run("systemctl", "restart", unit, check=False)
+    until(lambda: property_of("ActiveState", unit) == "failed")
+    assert property_of("ExecMainStatus", unit) == "78" and property_of("NRestarts", unit) == "0", run("systemctl", "status", unit, check=False)
+    return exposure_of(unit)
+
+
+def exposure_of(unit):
+    told = run("systemd-analyze", "security", "--no-pager", unit)
+    return float(re.search(r"Overall exposure level for \S+: ([0-9.]+)", told)[1])
+
+
+def check_an_option_for_one_start():
+    with open("/run/relkvanu.options", "w", encoding="utf-8") as it:
+        it.write("RELKVANU_OPTIONS=--accept-clock\n")
+    for words in (["--accept-clock"], []):
+        run("systemctl", "restart", "relkvanu")
+        until(is_ready)
+        with open(f"/proc/{property_of('MainPID')}/cmdline", encoding="utf-8") as it:
+            assert it.read().split("\0")[:-1][-len(words) - 1 :] == ["/run/credentials/relkvanu.service/token", *words]
+        if words:
+            os.remove("/run/relkvanu.options")
+
+
 def with_watchdog(seconds):
     os.mkdir("/run/systemd/system/relkvanu.service.d")
     with open("/run/systemd/system/relkvanu.service.d/watchdog.conf", "w", encoding="utf-8") as it:
@@ -124,17 +169,19 @@ def check_a_bad_setting_ends_it():
 def main():
     install()
     check_it_runs()
+    discard_exposure = check_the_discarder()
     after_kill = after(signal.SIGKILL)
     with_watchdog(2)
     after_stop = after(signal.SIGSTOP)
     check_a_backup_is_restored()
+    check_an_option_for_one_start()
     run("systemctl", "stop", "relkvanu")
     assert property_of("Result") == "success" and property_of("ExecMainStatus") == "0"
-    exposure = re.search(r"Overall exposure level for relkvanu.service: ([0-9.]+)", run("systemd-analyze", "security", "--no-pager", "relkvanu"))
+    exposure = exposure_of("relkvanu.service")
     check_a_bad_setting_ends_it()
     journal = run("journalctl", "--unit=relkvanu", "--no-pager")
     assert "serves on" in journal and WRITE not in journal, journal[-1000:]
-    print(json.dumps({"exposure": float(exposure[1]), "after_kill": after_kill, "after_stop": after_stop}))
+    print(json.dumps({"exposure": exposure, "discard_exposure": discard_exposure, "after_kill": after_kill, "after_stop": after_stop}))
 
 
 main()

@@ -2,9 +2,11 @@
 const TOKEN = "relkvanu-token";
 
 export class Failed extends Error {
-  constructor(status, text) {
+  // `leader` is the address of the process that leads, if the one that answered stands by.
+  constructor(status, text, leader = null) {
     super(text);
     this.status = status;
+    this.leader = leader;
   }
 }
 
@@ -30,7 +32,7 @@ export async function get(path, signal) {
     body = { error: text };
   }
   if (!answer.ok) {
-    throw new Failed(answer.status, body.error || `status ${answer.status}`);
+    throw new Failed(answer.status, body.error || `status ${answer.status}`, answer.headers.get("relkvanu-leader"));
   }
   return body;
 }

@@ -25,6 +25,10 @@ function options(title, legend) {
   };
 }
 
+function clock(at) {
+  return new Date(at).toLocaleTimeString();
+}
+
 // Pixels that a time takes under a chart.
 const TIME_WIDTH = 120;
 
@@ -32,10 +36,14 @@ export function durations(canvas) {
   return new Chart(canvas, { type: "bar", data: { labels: [], datasets: [{ label: "seconds", data: [] }] }, options: options("seconds", false) });
 }
 
+// The time runs along the axis, so the lines are as long as what they show took.
 export function counts(canvas) {
   const line = (label, name) => ({ label, data: [], borderColor: colour(name), backgroundColor: colour(name), borderWidth: 2, pointRadius: 0, stepped: true });
   const datasets = [line("in use", "accent"), line("waiting", "other"), line("taken", "bad")];
-  return new Chart(canvas, { type: "line", data: { labels: [], datasets }, options: options("files", true) });
+  const given = options("files", true);
+  given.scales.x = { ...given.scales.x, type: "linear", ticks: { ...given.scales.x.ticks, callback: (at) => clock(at) } };
+  given.plugins.tooltip = { callbacks: { title: (points) => moment(points[0].parsed.x) } };
+  return new Chart(canvas, { type: "line", data: { datasets }, options: given });
 }
 
 // The records that ended, the oldest at the left.
@@ -51,12 +59,14 @@ export function showDurations(chart, records) {
   chart.update();
 }
 
+// The samples from the oldest to the present state.
 export function showCounts(chart, samples) {
-  chart.data.labels = samples.map((sample) => moment(sample.at).split(", ").pop());
   ["in_use", "waiting", "taken"].forEach((name, place) => {
-    chart.data.datasets[place].data = samples.map((sample) => sample[name]);
+    chart.data.datasets[place].data = samples.map((sample) => ({ x: sample.at, y: sample[name] }));
   });
+  const axis = chart.options.scales.x;
+  [axis.min, axis.max] = [samples[0].at, samples[samples.length - 1].at];
   // as many times as fit beside each other
-  chart.options.scales.x.ticks.maxTicksLimit = Math.min(6, Math.max(2, Math.floor(chart.width / TIME_WIDTH)));
+  axis.ticks.maxTicksLimit = Math.min(6, Math.max(2, Math.floor(chart.width / TIME_WIDTH)));
   chart.update();
 }

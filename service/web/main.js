@@ -8,13 +8,13 @@ const FASTEST = 250;
 const RECORDS = 60; // in the chart
 const ROWS = 25; // in the table
 const SAMPLES = 600;
+const FILES = 40;
 
 const at = (id) => document.getElementById(id);
-const shown = { job: null, first: 1, charts: null, wake: null };
+const shown = { job: null, first: 1, charts: null, wake: null, last: null };
 
-function chosen(jobs) {
-  const name = location.hash.startsWith("#/jobs/") ? location.hash.slice(7) : null;
-  return jobs.find((job) => job.name === name) ?? jobs[0] ?? null;
+function chosen() {
+  return location.hash.startsWith("#/jobs/") ? location.hash.slice(7) : null;
 }
 
 function say(text, isBad) {
@@ -22,49 +22,49 @@ function say(text, isBad) {
   at("status").classList.toggle("bad", isBad);
 }
 
-async function showPending(job) {
-  const waiting = job.live.filter((record) => !record.done);
-  const told = await Promise.all(waiting.map((record) => get(`/jobs/${job.name}/records/${record.id}`).catch(() => null)));
-  // a record may have ended since
-  const items = waiting.map((record, place) => (told[place]?.live && told[place].missing.length > 0 ? views.pending(record, told[place], job.now) : null));
-  const left = items.filter(Boolean);
-  at("pending").replaceChildren(...left);
-  at("nothing-pending").hidden = left.length > 0;
+// Shows a list, or the words for an empty one.
+function list(name, items, empty) {
+  views.fill(at(name), items);
+  at(empty).hidden = items.length > 0;
 }
 
-async function showJob(job) {
-  const path = `/jobs/${job.name}`;
-  const [records, samples, files] = await Promise.all([
-    get(`${path}/records?limit=${RECORDS}`),
-    get(`${path}/samples?limit=${SAMPLES}`),
-    get(`${path}/files?limit=40`),
-    showPending(job),
-  ]);
+function showJob(told) {
+  const job = told.job;
   at("job-name").textContent = job.name;
-  at("facts").replaceChildren(...views.facts(job));
-  at("records").replaceChildren(...records.records.slice(0, ROWS).map(views.recordRow));
-  at("taken").replaceChildren(...views.fileButtons(files.taken, look));
-  at("deleted").replaceChildren(...views.fileButtons(files.deleted, look));
+  at("hint").textContent = views.hint(job);
+  at("hint").hidden = at("hint").textContent === "";
+  views.fill(at("facts"), views.facts(job, told.pending));
+  list("pending", told.pending.map((record) => views.pending(record, job.now)), "nothing-pending");
+  list("savepoints", told.savepoints.map((one) => views.savepoint(one, job.choice)), "no-savepoints");
+  views.fill(at("records"), told.records.slice(0, ROWS).map((record) => views.recordRow(record, told.pending, job.now)));
+  views.fill(at("taken"), views.fileButtons(told.taken, look));
+  views.fill(at("deleted"), views.fileButtons(told.deleted, look));
+  at("upto").textContent = views.progress(told.upto, job.seq);
+  at("upto").classList.toggle("bad", views.lags(told.upto, job.seq));
   at("job").hidden = false;
   shown.charts ??= { durations: charts.durations(at("durations")), counts: charts.counts(at("counts")) };
-  charts.showDurations(shown.charts.durations, records.records);
-  charts.showCounts(shown.charts.counts, samples.samples);
+  charts.showDurations(shown.charts.durations, told.records);
+  const samples = views.samples(told.samples, job);
+  charts.showCounts(shown.charts.counts, samples);
+  views.fill(at("count-rows"), samples.slice(-ROWS).reverse().map(views.sampleRow));
 }
 
 async function show() {
-  const { jobs, epoch } = await get("/jobs");
-  const job = chosen(jobs);
-  at("no-jobs").hidden = jobs.length > 0;
-  at("jobs").replaceChildren(...jobs.map((one) => views.jobLink(one, one === job)));
+  const name = chosen();
+  const told = await get(`/view${name === null ? "" : `/${name}`}?records=${RECORDS}&samples=${SAMPLES}&files=${FILES}`);
+  const job = told.job;
+  at("no-jobs").hidden = told.jobs.length > 0;
+  views.fill(at("jobs"), told.jobs.map((one) => views.jobLink(one, job !== null && one.name === job.name)));
   if (job) {
     if (shown.job !== job.name) at("file").replaceChildren();
     shown.job = job.name;
     shown.first = job.first;
-    await showJob(job);
+    showJob(told);
   } else {
     at("job").hidden = true;
   }
-  say(`live · epoch ${epoch} · ${new Date().toLocaleTimeString()}`, false);
+  shown.last = new Date();
+  say(`live · epoch ${told.epoch} · ${shown.last.toLocaleTimeString()}`, false);
   return job;
 }
 
@@ -82,9 +82,22 @@ async function waited(job) {
   const ended = new AbortController();
   const wake = new Promise((resolve) => (shown.wake = resolve));
   const slow = new Promise((resolve) => setTimeout(resolve, SLOWEST));
-  const event = job ? get(`/jobs/${job.name}/events?after=${job.last_event}&wait=30`, ended.signal).catch(() => slow) : slow;
+  const event = job ? get(`/jobs/${job.name}/events?after=${job.seq}&wait=30`, ended.signal).catch(() => slow) : slow;
   await Promise.race([event, slow, wake]);
   ended.abort();
+}
+
+// What stands on the page is of an earlier look: it is greyed, and says so.
+function showOld(error) {
+  const old = shown.last === null ? "" : `; what is shown is of ${shown.last.toLocaleTimeString()}`;
+  document.body.classList.toggle("old", shown.last !== null);
+  at("token").hidden = error.status !== 401;
+  at("leader").hidden = error.leader === null || error.leader === undefined;
+  if (!at("leader").hidden) {
+    at("leader-link").textContent = error.leader;
+    at("leader-link").href = /^https?:/.test(error.leader) ? error.leader : `${location.protocol}//${error.leader}`;
+  }
+  say(error.message + old, true);
 }
 
 async function live() {
@@ -92,10 +105,11 @@ async function live() {
     let job = null;
     try {
       job = await show();
+      document.body.classList.remove("old");
       at("token").hidden = true;
+      at("leader").hidden = true;
     } catch (error) {
-      at("token").hidden = error.status !== 401;
-      say(error.message, true);
+      showOld(error);
     }
     await waited(job);
     await new Promise((resolve) => setTimeout(resolve, FASTEST));

@@ -13,6 +13,22 @@ export function element(name, given = {}, ...children) {
   return made;
 }
 
+// Shows these children. One that is as it was stays, so it keeps the focus; one that changed gets the focus of its predecessor.
+export function fill(parent, children) {
+  const made = children.map((child) => (child instanceof Node ? child : document.createTextNode(String(child))));
+  while (parent.childNodes.length > made.length) parent.lastChild.remove();
+  made.forEach((child, place) => {
+    const old = parent.childNodes[place];
+    if (!old) {
+      parent.append(child);
+    } else if (!old.isEqualNode(child)) {
+      const focus = old.contains(document.activeElement) ? [old, ...(old.querySelectorAll?.("*") ?? [])].indexOf(document.activeElement) : -1;
+      old.replaceWith(child);
+      if (focus >= 0) [child, ...(child.querySelectorAll?.("*") ?? [])][focus]?.focus();
+    }
+  });
+}
+
 // A duration of milliseconds in words.
 export function duration(ms) {
   if (ms < 1000) return `${Math.round(ms)} ms`;
@@ -49,16 +65,65 @@ function image(job) {
   return `at call ${job.image.seq}, ${Math.max(1, Math.round(job.image.bytes / 1000))} kB`;
 }
 
-export function facts(job) {
-  const choice = job.choice.kind === "fresh" ? "from nothing" : `from ${job.choice.kind} ${job.choice.id}`;
+function choiceOf(job) {
+  return job.choice.kind === "fresh" ? "from nothing" : `from ${job.choice.kind} ${job.choice.id}`;
+}
+
+// How a job goes on that does not run; nothing of one that does.
+export function hint(job) {
+  if (job.mode === "failed") return `The job failed. End its tasks, call restore, and start them again: it goes on ${choiceOf(job)}.`;
+  if (job.mode === "cancelled") return "The job was cancelled. It does not go on; its files wait for deletion or are kept, as its settings say.";
+  return "";
+}
+
+// When the next checkpoint is due, or what it waits for.
+function next(job, pending) {
+  if (job.mode !== "running") return `not while it is ${job.mode}`;
+  if (job.due > job.now) return `in ${duration(job.due - job.now)}`;
+  const most = job.settings.pause > 0 ? 1 : job.settings.at_once;
+  const waiting = pending.filter((record) => record.kind === "checkpoint");
+  if (waiting.length < most) return "at the next tick";
+  return `when checkpoint ${waiting[0].id} ends`;
+}
+
+// How far the history has read the calls. It is some calls behind while the job runs: these are not worth a word.
+const SMALL_LAG = 20;
+const USUAL_LAG = 100;
+
+export function lags(upto, seq) {
+  return seq - upto > USUAL_LAG;
+}
+
+export function progress(upto, seq) {
+  if (seq - upto <= SMALL_LAG) return "";
+  return `The history has read ${upto} of ${seq} calls: the records, the files and the chart lack the rest.`;
+}
+
+// The samples, and the present state as the last one.
+export function samples(known, job) {
+  const present = { at: job.now, in_use: job.files.in_use, waiting: job.files.waiting, taken: job.files.taken };
+  return [...known.filter((sample) => sample.at < job.now), present];
+}
+
+export function sampleRow(sample) {
+  const cell = (text) => element("td", {}, text);
+  return element("tr", {}, cell(moment(sample.at)), cell(sample.in_use), cell(sample.waiting), cell(sample.taken));
+}
+
+export function savepoint(one, choice) {
+  const when = one.finished === null ? "" : `, complete since ${moment(one.finished)}`;
+  const base = choice.kind === "savepoint" && choice.id === one.id ? "; a restart begins from it" : "";
+  return element("li", { "data-savepoint": one.id }, element("strong", {}, `savepoint ${one.id}`), when + base);
+}
+
+export function facts(job, waiting) {
   const completed = job.last_completed === null ? "none yet" : `${duration(Math.max(0, job.now - job.last_completed))} ago`;
-  const due = job.mode !== "running" ? "not while it is " + job.mode : job.due <= job.now ? "now" : `in ${duration(job.due - job.now)}`;
   return [
     fact("Mode", job.mode, `mode ${MODES[job.mode]}`),
     fact("Last checkpoint", completed),
-    fact("Next is due", due),
+    fact("Next is due", next(job, waiting)),
     fact("Interval", duration(job.settings.interval)),
-    fact("Would restart", choice),
+    fact("Would restart", choiceOf(job)),
     fact("Shape", job.shape.join(" · ")),
     fact("Files in use", job.files.in_use),
     fact("Files waiting", job.files.waiting),
@@ -68,27 +133,32 @@ export function facts(job) {
   ];
 }
 
-export function pending(record, told, now) {
-  const total = told.live.shape.reduce((sum, parallelism) => sum + parallelism, 0);
-  const missing = told.missing.slice(0, 24).join(", ") + (told.missing.length > 24 ? ` and ${told.missing.length - 24} more` : "");
+function missing(record) {
+  return record.missing.join(", ") + (record.more_missing > 0 ? ` and ${record.more_missing} more` : "");
+}
+
+export function pending(record, now) {
+  const come = record.subtasks - record.missing.length - record.more_missing;
   const item = element("li", { "data-record": record.id }, element("strong", {}, `${record.kind} ${record.id} `));
-  item.append(element("progress", { max: total, value: total - told.missing.length }), ` ${total - told.missing.length} of ${total}, `);
-  item.append(`for ${duration(Math.max(0, now - told.live.started))}; missing: `, element("span", { class: "missing" }, missing));
+  item.append(element("progress", { max: record.subtasks, value: come, "aria-label": "acknowledged" }), ` ${come} of ${record.subtasks}, `);
+  item.append(`for ${duration(Math.max(0, now - record.started))}; missing: `, element("span", { class: "missing" }, missing(record)));
   return item;
 }
 
-export function recordRow(record) {
-  const took = record.finished === null ? "" : duration(record.finished - record.started);
-  const more = record.more_missing > 0 ? ` and ${record.more_missing} more` : "";
-  const kept = record.how === "pending" ? "" : record.how !== "completed" ? "" : record.gone === null ? "yes" : record.why;
+// A pending record says what it lacks now, and for how long it has been pending.
+export function recordRow(record, waiting, now) {
+  const live = waiting.find((one) => one.id === record.id);
+  const took = record.finished !== null ? duration(record.finished - record.started) : live ? `${duration(Math.max(0, now - live.started))} so far` : "";
+  const how = record.how === "declined" ? record.why : record.how;
+  const kept = record.how !== "completed" ? "" : record.gone === null ? "yes" : record.why;
   const cell = (text, kind) => element("td", { class: kind }, text);
   return element(
     "tr",
     { "data-record": record.id },
     cell(record.id),
-    cell(record.how, record.how === "pending" ? null : tone(record.how)),
+    cell(how, record.how === "pending" ? null : tone(record.how)),
     cell(took),
-    cell(record.missing.join(", ") + more, "many"),
+    cell(missing(live ?? record), "many"),
     cell(record.slowest ?? ""),
     cell(kept),
     cell(record.kind),

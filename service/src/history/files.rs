@@ -41,7 +41,7 @@ impl Outbox {
             tables.place(call, entry)?;
         }
         match call {
-            Call::Ack { fresh, .. } => self.ack(tables, fresh, entry)?,
+            Call::Ack { fresh, .. } => Outbox::ack(tables, fresh, entry)?,
             Call::Take { .. } => return self.take(tables, entry),
             Call::Deleted { file } => return tables.deleted(entry.job, *file, entry.seq),
             Call::Undeleted { file } => {
@@ -54,13 +54,14 @@ impl Outbox {
     }
 
     /// An acknowledgement brings its fresh files. A late one brings only those that were handed out.
-    fn ack(&mut self, tables: &Tables, fresh: &[u64], entry: &Entry) -> rusqlite::Result<()> {
-        let is_late = entry.answer.starts_with("ack late");
-        match is_late {
-            true if entry.waiting == 0 => Ok(()),
-            true => fresh.iter().try_for_each(|file| tables.late(entry.job, *file, entry.seq)),
-            false => fresh.iter().try_for_each(|file| tables.born(entry.job, *file, entry.seq)),
+    fn ack(tables: &Tables, fresh: &[u64], entry: &Entry) -> rusqlite::Result<()> {
+        if !entry.answer.starts_with("ack late") {
+            return fresh.iter().try_for_each(|file| tables.born(entry.job, *file, entry.seq));
         }
+        if entry.waiting == 0 {
+            return Ok(());
+        }
+        fresh.iter().try_for_each(|file| tables.late(entry.job, *file, entry.seq))
     }
 
     pub fn push(&mut self, tables: &Tables, job: i64, released: u64, files: u64) -> rusqlite::Result<()> {

@@ -1,66 +1,84 @@
 //! The thread that makes the history.
+use super::error::Error;
 use super::follow::Follower;
+use super::place::Place;
+use super::samples::Samples;
+use super::summary::Summary;
 use super::tables::Tables;
 use crate::log;
 use crate::metrics::Metrics;
-use crate::store::{Reader, Which};
-use crate::writer::{Board, JobState, Message, Read, ReadDone};
+use crate::model::{Keeping, KeptSummary};
+use crate::store::{room_of, Reader};
+use crate::writer::{Board, ForKeeping, Message, Read, ReadDone};
+use std::collections::hash_map::Entry;
 use std::collections::HashMap;
-use std::path::PathBuf;
-use std::sync::mpsc::SyncSender;
+use std::sync::mpsc::{channel, Sender, SyncSender};
 use std::sync::Arc;
 use std::time::{Duration, Instant};
 use tokio::sync::oneshot;
 
-const PAGE: u32 = 2000;
+const PAGE: u64 = 2000;
+/// How many records that ended the writer gets at once.
+const PAST: u32 = 500;
 /// The history forgets the calls that a log has cut once they are one part in this many of the log.
 const PARTS: u64 = 8;
 /// How often the thread looks at the board.
 const LOOK: Duration = Duration::from_millis(100);
 /// How long the thread rests after an error.
 const REST: Duration = Duration::from_secs(5);
-const SAMPLE_EACH: Duration = Duration::from_secs(2);
-/// For how long a sample that equals the one before is left out, in milliseconds.
-const SAME_FOR: u64 = 60_000;
-/// How long samples are kept, in milliseconds.
-const KEEP_SAMPLES: u64 = 7 * 24 * 3_600_000;
+/// How long a start waits for the tables.
+const OPEN_WITHIN: Duration = Duration::from_secs(3);
+/// How often the room that files take is measured.
+const MEASURE_EACH: Duration = Duration::from_secs(15);
 
 pub struct Historian {
-    pub path: PathBuf,
+    pub place: Arc<Place>,
     pub reader: Box<dyn Reader>,
     pub board: Arc<Board>,
     pub metrics: Arc<Metrics>,
     pub inbox: SyncSender<Message>,
+    pub keeping: Keeping,
     /// Records that ended before this moment are not counted: an earlier process has counted them.
     pub since: u64,
+    pub measured: Option<Instant>,
+    /// Is told once the file was opened, or could not be.
+    pub opened: Option<Sender<()>>,
 }
 
 impl Historian {
+    /// Starts the thread. Waits until its tables are there, so that the first read finds them, but not for a long upgrade.
+    pub fn start(mut self) {
+        let (opened, is_opened) = channel();
+        self.opened = Some(opened);
+        std::thread::spawn(move || self.run());
+        let _ = is_opened.recv_timeout(OPEN_WITHIN);
+    }
+
     /// Follows the log for as long as the process lives. After an error it begins again from the tables.
-    pub fn run(mut self) {
+    fn run(mut self) {
         loop {
-            let worked = Tables::open(&self.path).map_err(|error| error.to_string()).and_then(|tables| {
-                let worked = self.work(&tables);
-                tables.roll_back();
-                worked
-            });
-            if let Err(why) = worked {
-                log::warn(&format!("history {}: {why}", self.path.display()));
+            let opened = self.place.open();
+            if let Some(waiting) = self.opened.take() {
+                let _ = waiting.send(()); // it may have waited long enough
             }
+            if let Ok(tables) = opened {
+                if let Err(error) = self.work(&tables) {
+                    drop(tables);
+                    self.place.failed(&error);
+                }
+            }
+            self.measure();
             std::thread::sleep(REST);
         }
     }
 
-    fn work(&mut self, tables: &Tables) -> Result<(), String> {
+    fn work(&mut self, tables: &Tables) -> Result<(), Error> {
         let mut followers: HashMap<i64, Follower> = HashMap::new();
         let mut samples = Samples::default();
         loop {
-            for (number, last) in self.board.lengths() {
-                if !followers.contains_key(&number) {
-                    let follower = self.follower(tables, number)?;
-                    follower.iter().for_each(|follower| self.tell(follower));
-                    followers.extend(follower.map(|follower| (number, follower)));
-                }
+            let lengths = self.board.lengths();
+            self.add_followers(tables, &mut followers, &lengths)?;
+            for (number, last) in lengths {
                 let Some(follower) = followers.get_mut(&number) else {
                     continue;
                 };
@@ -70,61 +88,116 @@ impl Historian {
                 self.forget(tables, follower)?;
             }
             self.sample(tables, &mut samples)?;
+            self.measure();
             std::thread::sleep(LOOK);
         }
     }
 
-    fn follower(&mut self, tables: &Tables, number: i64) -> Result<Option<Follower>, String> {
-        let openings = self.reader.jobs()?;
-        let Some(opening) = openings.iter().find(|opening| opening.number == number) else {
-            return Ok(None);
-        };
-        Follower::open(tables, self.reader.as_mut(), opening).map(Some)
+    /// Adds the jobs that are new.
+    fn add_followers(
+        &mut self,
+        tables: &Tables,
+        followers: &mut HashMap<i64, Follower>,
+        lengths: &[(i64, u64)],
+    ) -> Result<(), Error> {
+        if lengths.iter().all(|(number, _)| followers.contains_key(number)) {
+            return Ok(());
+        }
+        let is_new = |number: i64| lengths.iter().any(|(job, _)| *job == number);
+        for opening in self.reader.jobs()?.iter().filter(|opening| is_new(opening.number)) {
+            if let Entry::Vacant(place) = followers.entry(opening.number) {
+                let follower = Follower::open(tables, self.reader.as_mut(), opening)?;
+                self.tell(&follower);
+                place.insert(follower);
+            }
+        }
+        Ok(())
     }
 
     /// Reads one page, so a long log of one job does not keep other jobs waiting.
-    fn catch_up(&mut self, tables: &Tables, follower: &mut Follower) -> Result<(), String> {
-        let page = self.reader.log(follower.job, follower.upto, PAGE)?;
+    fn catch_up(&mut self, tables: &Tables, follower: &mut Follower) -> Result<(), Error> {
+        let next = follower.next_summary(self.keeping);
+        // a page ends where a summary is due
+        let most = next.map_or(PAGE, |next| next.saturating_sub(follower.upto).clamp(1, PAGE));
+        let page = self.reader.log(follower.job, follower.upto, u32::try_from(most).unwrap_or(u32::MAX))?;
         if page.first().is_none_or(|entry| entry.seq != follower.upto + 1) {
             return self.bridge(tables, follower);
         }
-        let ended = follower.follow(tables, &page).map_err(|error| error.to_string())?;
+        let ended = follower.follow(tables, &page)?;
         for (at, one) in ended.iter().filter(|(at, _)| *at >= self.since) {
             debug_assert!(*at >= self.since);
             self.metrics.record(&follower.name, &one.kind.to_string(), one.how, one.took as f64 / 1000.0);
         }
         self.tell(follower);
+        if next.is_some_and(|next| follower.upto >= next) {
+            self.keep_summary(tables, follower)?;
+        }
         Ok(())
     }
 
-    /// The next calls were cut, so the history goes on from an image.
-    fn bridge(&mut self, tables: &Tables, follower: &mut Follower) -> Result<(), String> {
-        let Some(saved) = self.reader.image(follower.job, follower.upto, Which::Oldest)? else {
-            return Ok(());
-        };
-        let (from, upto) = (follower.upto, saved.image.seq);
-        follower.bridge(tables, &saved.image)?;
-        if from > 0 {
-            log::warn(&format!("history job={}: calls {} to {upto} were cut unread", follower.name, from + 1));
+    /// The next calls were cut. So the history goes on from a summary, or from an image if an earlier version of the program
+    /// cut them.
+    fn bridge(&mut self, tables: &Tables, follower: &mut Follower) -> Result<(), Error> {
+        let from = follower.upto;
+        if follower.load(tables, self.reader.as_mut())? {
+            log::info(&format!("history job={}: goes on from the summary after call {}", follower.name, follower.upto));
+        } else {
+            let Some(saved) = self.reader.image(follower.job, from)? else {
+                return Ok(());
+            };
+            follower.bridge(tables, &saved.image)?;
+            log::warn(&format!(
+                "history job={}: calls {} to {} were cut unread",
+                follower.name,
+                from + 1,
+                follower.upto
+            ));
         }
         self.tell(follower);
         Ok(())
     }
 
+    /// Gives what the history knows to the database, so that the calls up to here can be cut.
+    fn keep_summary(&mut self, tables: &Tables, follower: &mut Follower) -> Result<(), Error> {
+        let bytes = follower.summary.bytes;
+        // if it can't be written now, it is tried after as many calls again
+        follower.summary = KeptSummary { seq: follower.upto, bytes };
+        loop {
+            let past = tables.unsaved(follower.job, PAST)?;
+            if past.is_empty() {
+                break;
+            }
+            if !self.keep(ForKeeping::Past(past.clone())) {
+                return Ok(());
+            }
+            tables.within(|| Ok(tables.set_saved(&past)?))?;
+        }
+        let parts = Summary::of(tables, follower)?.parts(follower)?;
+        let bytes = parts.last().map_or(0, |part| part.whole);
+        for part in parts {
+            if !self.keep(ForKeeping::Summary { job: follower.name.clone(), part }) {
+                return Ok(());
+            }
+        }
+        follower.summary.bytes = bytes;
+        Ok(())
+    }
+
+    /// Returns whether the writer has committed it.
+    fn keep(&self, given: ForKeeping) -> bool {
+        let (reply, answer) = oneshot::channel();
+        self.inbox.try_send(Message::Keep(given, reply)).is_ok() && answer.blocking_recv().unwrap_or(false)
+    }
+
     /// Forgets the calls that the log has cut, once they are an eighth of the log. It visits all files, so it is done seldom.
-    fn forget(&self, tables: &Tables, follower: &mut Follower) -> Result<(), String> {
+    fn forget(&self, tables: &Tables, follower: &mut Follower) -> Result<(), Error> {
         let first = self.board.first(&follower.name);
         let has = follower.upto.saturating_sub(first);
         if first <= follower.first.saturating_add(has / PARTS) {
             return Ok(());
         }
         follower.first = first;
-        let forget = || {
-            tables.begin()?;
-            tables.forget_deleted(follower.job, first)?;
-            tables.commit()
-        };
-        forget().map_err(|error: rusqlite::Error| error.to_string())
+        tables.within(|| Ok(tables.forget_deleted(follower.job, first)?))
     }
 
     fn tell(&self, follower: &Follower) {
@@ -132,48 +205,38 @@ impl Historian {
         self.board.set_history(&follower.name, follower.upto);
     }
 
-    /// Writes how many files and pending records each job has.
-    fn sample(&self, tables: &Tables, samples: &mut Samples) -> Result<(), String> {
-        if samples.last.is_some_and(|last| last.elapsed() < SAMPLE_EACH) {
-            return Ok(());
-        }
-        samples.last = Some(Instant::now());
-        let (reply, answer) = oneshot::channel();
-        if self.inbox.try_send(Message::Read(Read::Jobs, reply)).is_err() {
-            return Ok(());
-        }
-        let Ok(ReadDone::Jobs(jobs)) = answer.blocking_recv() else {
-            return Ok(());
-        };
-        let write = || {
-            tables.begin()?;
-            for job in jobs.iter().filter(|job| samples.is_new(job)) {
-                tables.sample(job)?;
-                tables.drop_samples(job.now.saturating_sub(KEEP_SAMPLES))?;
+    /// Writes how many files and pending records each job has, if it is time, and deletes old samples.
+    fn sample(&self, tables: &Tables, samples: &mut Samples) -> Result<(), Error> {
+        if samples.is_due() {
+            let (reply, answer) = oneshot::channel();
+            let is_sent = self.inbox.try_send(Message::Read(Read::Jobs, reply)).is_ok();
+            match is_sent.then(|| answer.blocking_recv()) {
+                Some(Ok(ReadDone::Jobs(jobs))) => samples.add(tables, &jobs)?,
+                _ => return Ok(()),
             }
-            tables.commit()
-        };
-        write().map_err(|error: rusqlite::Error| error.to_string())
-    }
-}
-
-/// What was sampled last.
-#[derive(Default)]
-struct Samples {
-    last: Option<Instant>,
-    said: std::cell::RefCell<HashMap<i64, (u64, [u64; 4])>>,
-}
-
-impl Samples {
-    /// Whether a sample says something new, or the last one is old.
-    fn is_new(&self, job: &JobState) -> bool {
-        let pending = job.pending_checkpoints + job.pending_savepoints;
-        let says = [job.files.in_use, job.files.waiting, job.files.taken, pending as u64];
-        let mut said = self.said.borrow_mut();
-        if said.get(&job.opening.number).is_some_and(|(at, last)| *last == says && job.now < at + SAME_FOR) {
-            return false;
         }
-        said.insert(job.opening.number, (job.now, says));
-        true
+        if samples.has_old() {
+            self.metrics.upkeep.samples_behind(samples.forget(tables)?);
+        }
+        Ok(())
+    }
+
+    /// Measures the database and the history, if it is time.
+    fn measure(&mut self) {
+        if self.measured.is_some_and(|last| last.elapsed() < MEASURE_EACH) {
+            return;
+        }
+        self.measured = Some(Instant::now());
+        let database = self.reader.room().map_err(|error| error.to_string());
+        let history = room_of(self.place.path()).map_err(|error| error.to_string());
+        for (of, told) in [("database", database), ("history", history)] {
+            match told {
+                Ok(room) => {
+                    self.metrics.upkeep.stored(of, room.bytes);
+                    room.free.into_iter().for_each(|free| self.metrics.upkeep.free(of, free));
+                }
+                Err(why) => log::warn(&format!("the size of the {of}: {why}")),
+            }
+        }
     }
 }

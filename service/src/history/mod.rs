@@ -1,10 +1,16 @@
 //! The history of each record and file. A thread that no answer waits for makes it from the log.
+mod error;
 mod files;
 mod follow;
 mod historian;
+mod place;
 mod read;
 mod records;
+mod samples;
+mod summary;
 mod tables;
 
+pub use error::Error;
 pub use historian::Historian;
-pub use read::{FileRow, HistoryReader};
+pub use place::{Door, Place};
+pub use read::{FileRow, HistoryReader, RecordRow};

@@ -1,17 +1,20 @@
 //! Reads of the history.
+use super::error::Error;
 use super::tables::bits;
 use crate::model::Entry;
 use crate::store::entry_of;
 use rusqlite::{params, Connection, OpenFlags, OptionalExtension, Params, Row};
-use serde::Serialize;
+use serde::{Deserialize, Serialize};
+use std::collections::HashSet;
 use std::path::Path;
 use std::time::Duration;
 
-const RECORD: &str = "id, kind, shape, started, finished, how, gone, why, first_ack, last_ack, slowest, acks, missing";
+pub const RECORD: &str =
+    "id, kind, shape, started, finished, how, gone, why, first_ack, last_ack, slowest, acks, missing";
 const FILE: &str = "file, born, released, taken, deleted";
 
 /// The history of a record. Moments are milliseconds of Unix time.
-#[derive(Serialize, Debug)]
+#[derive(Serialize, Deserialize, Debug)]
 pub struct RecordRow {
     pub id: i64,
     pub kind: String,
@@ -53,6 +56,15 @@ pub struct Sample {
     pub pending: i64,
 }
 
+impl RecordRow {
+    /// The missing subtasks as the tables have them.
+    pub fn missing_words(&self) -> Option<String> {
+        let more = (self.more_missing > 0).then(|| format!("+{}", self.more_missing));
+        let words: Vec<String> = self.missing.iter().cloned().chain(more).collect();
+        (!words.is_empty()).then(|| words.join(" "))
+    }
+}
+
 impl FileRow {
     fn unknown(file: u64) -> FileRow {
         FileRow { file: file.to_string(), born: None, released: None, taken: None, deleted: None }
@@ -67,76 +79,87 @@ impl FileRow {
 pub struct HistoryReader(Connection);
 
 impl HistoryReader {
-    pub fn open(path: &Path) -> Result<HistoryReader, String> {
-        // makes the tables if they are missing, so the first read finds them
-        super::tables::Tables::open(path).map_err(|error| format!("{}: {error}", path.display()))?;
+    pub fn open(path: &Path) -> Result<HistoryReader, Error> {
         let flags = OpenFlags::SQLITE_OPEN_READ_ONLY | OpenFlags::SQLITE_OPEN_NO_MUTEX;
         let opened = Connection::open_with_flags(path, flags).and_then(|connection| {
             connection.busy_timeout(Duration::from_secs(2))?;
             Ok(connection)
         });
-        opened.map(HistoryReader).map_err(|error| format!("{}: {error}", path.display()))
+        opened.map(HistoryReader).map_err(|why| Error::Unopened { path: path.to_path_buf(), why })
     }
 
-    fn all<T>(&self, sql: &str, given: impl Params, row: fn(&Row) -> rusqlite::Result<T>) -> Result<Vec<T>, String> {
-        let read = || -> rusqlite::Result<Vec<T>> { self.0.prepare_cached(sql)?.query_map(given, row)?.collect() };
-        read().map_err(|error| error.to_string())
+    fn all<T>(&self, sql: &str, given: impl Params, row: fn(&Row) -> rusqlite::Result<T>) -> Result<Vec<T>, Error> {
+        let found: rusqlite::Result<_> = self.0.prepare_cached(sql)?.query_map(given, row)?.collect();
+        Ok(found?)
     }
 
     /// At most this many records below a number, the greatest number first.
-    pub fn records(&self, job: i64, before: u64, most: u64) -> Result<Vec<RecordRow>, String> {
+    pub fn records(&self, job: i64, before: u64, most: u64) -> Result<Vec<RecordRow>, Error> {
         let sql = format!("select {RECORD} from record where job = ? and id < ? order by id desc limit ?");
         self.all(&sql, params![job, i64::try_from(before).unwrap_or(i64::MAX), bits(most)], record_of)
     }
 
-    pub fn record(&self, job: i64, id: u64) -> Result<Option<RecordRow>, String> {
+    pub fn record(&self, job: i64, id: u64) -> Result<Option<RecordRow>, Error> {
         let sql = format!("select {RECORD} from record where job = ? and id = ?");
         Ok(self.all(&sql, params![job, bits(id)], record_of)?.pop())
     }
 
     /// The files that were deleted last.
-    pub fn deleted(&self, job: i64, most: u64) -> Result<Vec<FileRow>, String> {
+    pub fn deleted(&self, job: i64, most: u64) -> Result<Vec<FileRow>, Error> {
         let sql =
             format!("select {FILE} from file where job = ? and deleted is not null order by deleted desc limit ?");
         self.all(&sql, params![job, bits(most)], file_of)
     }
 
-    /// What is known of these files, in the order in which they were taken.
-    pub fn of_files(&self, job: i64, files: &[u64]) -> Result<Vec<FileRow>, String> {
-        let known = |file: &u64| Ok(self.file(job, *file)?.unwrap_or_else(|| FileRow::unknown(*file)));
-        let mut rows: Vec<FileRow> = files.iter().map(known).collect::<Result<_, String>>()?;
-        rows.sort_by_key(|row| row.taken);
+    /// The files that were taken and not reported, in the order in which they were taken.
+    pub fn taken(&self, job: i64, most: u64) -> Result<Vec<FileRow>, Error> {
+        let sql = format!(
+            "select {FILE} from file where job = ? and taken is not null and deleted is null order by taken limit ?"
+        );
+        self.all(&sql, params![job, bits(most)], file_of)
+    }
+
+    /// The same of the coordinator's list, which ascends: those of it that the history has as taken, then others.
+    pub fn taken_of(&self, job: i64, all: &[u64], most: u64) -> Result<Vec<FileRow>, Error> {
+        let known = self.taken(job, most)?;
+        let most = usize::try_from(most).unwrap_or(usize::MAX);
+        let number = |row: &FileRow| row.file.parse::<u64>().unwrap_or_default();
+        let mut rows: Vec<FileRow> = known.into_iter().filter(|row| all.binary_search(&number(row)).is_ok()).collect();
+        let listed: HashSet<u64> = rows.iter().map(number).collect();
+        let rest = all.iter().filter(|file| !listed.contains(file)).take(most.saturating_sub(rows.len()));
+        for file in rest {
+            rows.push(self.file(job, *file)?.unwrap_or_else(|| FileRow::unknown(*file)));
+        }
         Ok(rows)
     }
 
     /// The calls at these places, without their lists of files.
-    pub fn places(&self, job: i64, places: &[u64]) -> Result<Vec<Entry>, String> {
+    pub fn places(&self, job: i64, places: &[u64]) -> Result<Vec<Entry>, Error> {
         let sql = "select job, seq, at, record, line, answer, ended, waiting from place where job = ? and seq = ?";
         let at = |seq: &u64| self.all(sql, params![job, bits(*seq)], entry_of);
-        Ok(places.iter().map(at).collect::<Result<Vec<_>, String>>()?.concat())
+        Ok(places.iter().map(at).collect::<Result<Vec<_>, Error>>()?.concat())
     }
 
-    pub fn file(&self, job: i64, file: u64) -> Result<Option<FileRow>, String> {
+    pub fn file(&self, job: i64, file: u64) -> Result<Option<FileRow>, Error> {
         let sql = format!("select {FILE} from file where job = ? and file = ?");
         Ok(self.all(&sql, params![job, bits(file)], file_of)?.pop())
     }
 
     /// The last samples after a moment, in their order.
-    pub fn samples(&self, job: i64, after: u64, most: u64) -> Result<Vec<Sample>, String> {
+    pub fn samples(&self, job: i64, after: u64, most: u64) -> Result<Vec<Sample>, Error> {
         let sql = "select at, in_use, waiting, taken, pending from
             (select * from sample where job = ? and at > ? order by at desc limit ?) order by at";
         self.all(sql, params![job, i64::try_from(after).unwrap_or(i64::MAX), bits(most)], sample_of)
     }
 
     /// How far the history of a job is.
-    pub fn upto(&self, job: i64) -> Result<u64, String> {
+    pub fn upto(&self, job: i64) -> Result<u64, Error> {
         let found = self.0.query_row("select upto from progress where job = ?", [job], |row| row.get::<_, i64>(0));
-        let found = found.optional().map_err(|error| error.to_string())?;
-        Ok(found.and_then(|upto| u64::try_from(upto).ok()).unwrap_or(0))
+        Ok(found.optional()?.and_then(|upto| u64::try_from(upto).ok()).unwrap_or(0))
     }
 }
 
-fn record_of(row: &Row) -> rusqlite::Result<RecordRow> {
+pub fn record_of(row: &Row) -> rusqlite::Result<RecordRow> {
     let (shape, missing): (String, Option<String>) = (row.get(2)?, row.get(12)?);
     let (more, missing): (Vec<_>, Vec<_>) =
         missing.iter().flat_map(|text| text.split(' ')).map(str::to_string).partition(|word| word.starts_with('+'));

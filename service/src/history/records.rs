@@ -3,6 +3,8 @@ use super::tables::Tables;
 use crate::model::{Call, Entry, Kind, Subtask};
 use std::collections::{BTreeMap, BTreeSet, HashSet};
 
+/// How a record ended that one of its subtasks declined.
+const DECLINED: &str = "declined";
 /// How many missing subtasks are named.
 const MOST_NAMED: usize = 32;
 
@@ -67,6 +69,12 @@ impl Records {
         Records { shape, timeout, pending: BTreeMap::new(), changed: BTreeSet::new() }
     }
 
+    /// The pending records, and the subtasks that have acknowledged each.
+    pub fn acked(&self) -> Vec<(u64, Vec<String>)> {
+        let names = |pending: &Pending| pending.acked.iter().map(Subtask::to_string).collect();
+        self.pending.iter().map(|(id, pending)| (*id, names(pending))).collect()
+    }
+
     /// Adds a call of the log, and returns which records stopped being pending by it.
     pub fn follow(&mut self, tables: &Tables, call: &Call, entry: &Entry) -> rusqlite::Result<Vec<Ended>> {
         let mut ended = Vec::new();
@@ -112,7 +120,11 @@ impl Records {
             Some(pending) => how_pending_ended(call, entry, id, pending.started.saturating_add(self.timeout)),
             None => how_done_ended(call),
         };
-        tables.gone(entry.job, id, entry.at, how)?;
+        let why = match call {
+            Call::Decline { subtask, .. } if how == DECLINED => format!("{DECLINED} by {subtask}"),
+            _ => how.to_string(),
+        };
+        tables.gone(entry.job, id, entry.at, &why)?;
         self.finish(tables, id, how, entry)
     }
 
@@ -147,7 +159,7 @@ impl Records {
 fn how_pending_ended(call: &Call, entry: &Entry, id: u64, expires: u64) -> &'static str {
     match call {
         Call::Tick if expires <= entry.at => "expired",
-        Call::Decline { .. } if entry.record == Some(id) => "declined",
+        Call::Decline { .. } if entry.record == Some(id) => DECLINED,
         Call::Tick | Call::Decline { .. } => "failed over",
         Call::Restore { .. } => "restored",
         Call::Cancel => "cancelled",

@@ -1,4 +1,5 @@
 //! The tables of the history, in an SQLite file of their own.
+use super::error::Error;
 use super::files::Run;
 use super::records::Pending;
 use crate::model::{parse_line, shape_words, Call, Entry, Kind, SavedRecord};
@@ -6,7 +7,9 @@ use crate::writer::JobState;
 use rusqlite::{params, Connection, OptionalExtension, Params, Row};
 use std::path::Path;
 
-const SCHEMA: &str = include_str!("../../sql/history.sql");
+/// What makes each version of the tables from the one before. The first is 2.
+const STEPS: [&str; 2] = [include_str!("../../sql/history.sql"), include_str!("../../sql/history_3.sql")];
+const FIRST_VERSION: i64 = 2;
 const PENDING: &str = "select id, kind, shape, started, first_ack, last_ack, slowest from record
     where job = ? and how = 'pending'";
 const PROGRESS: &str = "select upto, at, shape from progress where job = ?";
@@ -20,36 +23,49 @@ pub struct Progress {
 
 pub struct Tables(Connection);
 
+/// How many rows a piece of a deletion has, beside as many as came since the last one.
+pub const PIECE: u64 = 1000;
+
 impl Tables {
-    pub fn open(path: &Path) -> rusqlite::Result<Tables> {
+    /// Opens the tables. Makes them if the file is new, and upgrades those of an earlier version.
+    pub fn open(path: &Path) -> Result<Tables, Error> {
         let connection = Connection::open(path)?;
         connection.pragma_update(None, "journal_mode", "wal")?;
         connection.pragma_update(None, "synchronous", "normal")?;
-        connection.execute_batch(SCHEMA)?;
-        connection.prepare(PROGRESS)?; // fails over the tables of an earlier version, as the next line does
-        connection.prepare("select 1 from version where number = 2")?.query_row([], |_| Ok(()))?;
-        connection.set_prepared_statement_cache_capacity(32);
+        let steps = steps_after(version(&connection)?)?;
+        if !steps.is_empty() {
+            connection.execute_batch(&format!("begin immediate; {} commit", steps.concat()))?;
+        }
+        connection.prepare(PROGRESS).map_err(foreign)?;
+        connection.set_prepared_statement_cache_capacity(64);
         Ok(Tables(connection))
     }
 
-    fn run(&self, sql: &str, given: impl Params) -> rusqlite::Result<()> {
+    pub fn all<T>(
+        &self,
+        sql: &str,
+        given: impl Params,
+        row: impl FnMut(&Row) -> rusqlite::Result<T>,
+    ) -> rusqlite::Result<Vec<T>> {
+        self.0.prepare_cached(sql)?.query_map(given, row)?.collect()
+    }
+
+    pub fn run(&self, sql: &str, given: impl Params) -> rusqlite::Result<()> {
         self.0.prepare_cached(sql)?.execute(given).map(|_| ())
     }
 
-    pub fn begin(&self) -> rusqlite::Result<()> {
-        self.run("begin immediate", [])
-    }
-
-    pub fn commit(&self) -> rusqlite::Result<()> {
-        self.run("commit", [])
-    }
-
-    /// Rolls back what was not committed, if anything.
-    pub fn roll_back(&self) {
-        if !self.0.is_autocommit() {
+    /// Does some work in a transaction. It is rolled back if the work fails.
+    pub fn within<T>(&self, work: impl FnOnce() -> Result<T, Error>) -> Result<T, Error> {
+        self.run("begin immediate", [])?;
+        let worked = work().and_then(|done| {
+            self.run("commit", [])?;
+            Ok(done)
+        });
+        if worked.is_err() && !self.0.is_autocommit() {
             // a failure here comes again in the next `begin`, which reports it
             let _ = self.run("rollback", []);
         }
+        worked
     }
 
     pub fn progress(&self, job: i64) -> rusqlite::Result<Option<Progress>> {
@@ -71,6 +87,13 @@ impl Tables {
         ["progress", "record", "file", "queue", "place"]
             .iter()
             .try_for_each(|table| self.0.execute(&format!("delete from {table} where job = ?"), [job]).map(|_| ()))
+    }
+
+    /// Forgets the files and live records of a job.
+    pub fn forget_live(&self, job: i64) -> rusqlite::Result<()> {
+        ["file where", "queue where", "place where", "record where gone is null and"]
+            .iter()
+            .try_for_each(|rows| self.0.execute(&format!("delete from {rows} job = ?"), [job]).map(|_| ()))
     }
 
     /// Forgets what calls that were not read may have changed: files, and the end of records that are not live at the moment `at`.
@@ -118,6 +141,8 @@ impl Tables {
         let named = ["born", "released", "taken", "deleted"]
             .map(|place| format!("select {place} from file where job = ?1 and {place} < ?2"))
             .join(" union ");
+        // a file that waits does not name the call that released it yet
+        let named = format!("{named} union select released from queue where job = ?1 and released < ?2");
         self.run(&format!("delete from place where job = ?1 and seq < ?2 and seq not in ({named})"), given)
     }
 
@@ -222,8 +247,41 @@ impl Tables {
         self.run(sql, params![job.opening.number, at, in_use, waiting, taken, pending])
     }
 
-    pub fn drop_samples(&self, before: u64) -> rusqlite::Result<()> {
-        self.run("delete from sample where at < ?", [signed(before)])
+    /// Deletes samples of all jobs that are older than the moment `before`, at most `most`, and returns how many it deleted.
+    pub fn drop_samples(&self, before: u64, most: u64) -> rusqlite::Result<u64> {
+        let sql = "delete from sample where (job, at) in (select job, at from sample where at < ? limit ?)";
+        self.0.prepare_cached(sql)?.execute([signed(before), signed(most)]).map(|count| count as u64)
+    }
+}
+
+/// The version of the tables; 0 if there are none.
+fn version(connection: &Connection) -> Result<i64, Error> {
+    let count: i64 = connection.query_row("select count(*) from sqlite_master", [], |row| row.get(0))?;
+    match count {
+        0 => Ok(0),
+        _ => connection.query_row("select number from version", [], |row| row.get(0)).map_err(foreign),
+    }
+}
+
+/// What is left to do for tables of this version.
+fn steps_after(version: i64) -> Result<&'static [&'static str], Error> {
+    let newest = FIRST_VERSION + STEPS.len() as i64 - 1;
+    match version {
+        0 => Ok(&STEPS),
+        _ if version > newest => Err(Error::Newer(version)),
+        _ if version < FIRST_VERSION => Err(Error::Foreign(format!("version {version}"))),
+        _ => Ok(&STEPS[usize::try_from(version - FIRST_VERSION).map_or(STEPS.len(), |done| done + 1)..]),
+    }
+}
+
+/// A table or column is missing, if SQLite says no more than that the statement is wrong.
+fn foreign(error: rusqlite::Error) -> Error {
+    match &error {
+        rusqlite::Error::QueryReturnedNoRows => Error::Foreign("the version is missing".to_string()),
+        rusqlite::Error::SqliteFailure(code, _) if code.extended_code == rusqlite::ffi::SQLITE_ERROR => {
+            Error::Foreign(error.to_string())
+        }
+        _ => Error::Tables(error),
     }
 }
 
@@ -237,7 +295,7 @@ pub fn acks_of(entries: &[Entry], upto: u64) -> impl Iterator<Item = (crate::mod
 }
 
 /// A number as SQLite keeps it. Moments, places and numbers of records are below 2^62.
-fn signed(number: u64) -> i64 {
+pub fn signed(number: u64) -> i64 {
     i64::try_from(number).unwrap_or(i64::MAX)
 }
 

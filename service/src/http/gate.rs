@@ -1,37 +1,63 @@
 //! The checks that every request passes: its route, its token, its origin, and whether this process leads.
 use super::reply::{error, text, with_header, Reply};
 use super::route::{NoRoute, Route};
-use super::{page, reads, writes, App};
+use super::seats::{Kind, Seat};
+use super::{page, reads, room, writes, App};
 use crate::auth::Access;
-use hyper::header::{HeaderMap, HeaderName, ALLOW, CONTENT_TYPE, HOST, RETRY_AFTER, WWW_AUTHENTICATE};
+use hyper::header::{HeaderMap, HeaderName, ALLOW, CONNECTION, CONTENT_TYPE, HOST, RETRY_AFTER, WWW_AUTHENTICATE};
 use hyper::{Body, Request};
 use std::net::IpAddr;
 use std::sync::Arc;
-use std::time::Duration;
+use std::time::{Duration, SystemTime};
 
 /// The header that names the leader's address.
 const LEADER: &str = "relkvanu-leader";
+/// The header that has the log's identity, in each answer of a leader.
+const LOG: &str = "relkvanu-log";
 /// How long the writer may be silent before the process counts as stuck.
 const STUCK: Duration = Duration::from_secs(20);
+/// How long a commit may take before the process counts as not ready.
+const SLOW_COMMIT: Duration = Duration::from_secs(3);
+/// How long to look for the leader's address.
+const FIND_LEADER: Duration = Duration::from_secs(1);
 
-/// Answers a request.
-pub async fn answer(app: Arc<App>, request: Request<Body>) -> Reply {
-    let route = match Route::of(request.method(), request.uri().path()) {
-        Ok(route) => route,
-        Err(none) => {
-            let reply = no_route(&none);
-            app.metrics.request("none", reply.status().as_u16());
-            return reply;
-        }
+/// Answers a request, once its connection has a place for it.
+pub async fn answer(app: Arc<App>, seat: &Arc<Seat>, request: Request<Body>) -> Reply {
+    let route = Route::of(request.method(), request.uri().path());
+    let name = route.as_ref().map_or("none", Route::name);
+    let (kind, checked) = checked(&app, route, request.headers());
+    let reply = match (seat.begin(kind), checked) {
+        (None, _) => crowded(),
+        (Some(_), Err(refused)) => *refused,
+        // the page's files are a part of the program
+        (Some(_), Ok(route @ Route::Asset(_))) => dispatched(&app, route, request).await,
+        (Some(turn), Ok(route)) => room::kept(&app, turn, dispatched(&app, route, request).await).await,
     };
-    let name = route.name();
-    let reply = match admitted(&app, &route, request.headers()) {
-        Ok(()) => dispatch(&app, route, request).await,
-        Err(refused) => Err(refused),
-    };
-    let reply = reply.unwrap_or_else(|refused| *refused);
     app.metrics.request(name, reply.status().as_u16());
-    reply
+    match app.board.log() {
+        "" => reply,
+        log => with_header(reply, HeaderName::from_static(LOG), log),
+    }
+}
+
+/// The route of a request that may be made, and the kind of place that it needs.
+fn checked(app: &App, route: Result<Route, NoRoute>, headers: &HeaderMap) -> (Kind, Result<Route, Box<Reply>>) {
+    match route {
+        Err(none) => (Kind::Stranger, Err(no_route(&none).into())),
+        Ok(route) => match admitted(app, &route, headers) {
+            Ok(()) => (route.kind(), Ok(route)),
+            Err(refused) => (Kind::Stranger, Err(refused)),
+        },
+    }
+}
+
+/// All places of the request's kind are taken. The connection ends.
+fn crowded() -> Reply {
+    with_header(busy("too many connections do this"), CONNECTION, "close")
+}
+
+async fn dispatched(app: &App, route: Route, request: Request<Body>) -> Reply {
+    dispatch(app, route, request).await.unwrap_or_else(|refused| *refused)
 }
 
 async fn dispatch(app: &App, route: Route, request: Request<Body>) -> Result<Reply, Box<Reply>> {
@@ -41,8 +67,7 @@ async fn dispatch(app: &App, route: Route, request: Request<Body>) -> Result<Rep
     match route {
         Route::Asset(asset) => Ok(page::answer(asset)),
         Route::Health => Ok(health(app)),
-        Route::Ready if app.board.is_ready() => Ok(text(200, "ready\n")),
-        Route::Ready => Err(standby(app).await.into()),
+        Route::Ready => Ok(ready(app).await),
         Route::NewJob => writes::new_job(app, request).await,
         Route::Calls(job) => writes::calls(app, job, request).await,
         read => reads::answer(app, read, request.uri().query().unwrap_or("")).await,
@@ -65,7 +90,7 @@ fn admitted(app: &App, route: &Route, headers: &HeaderMap) -> Result<(), Box<Rep
         return Ok(());
     };
     match &app.tokens {
-        Some(tokens) if !tokens.allow(headers, access) => {
+        Some(tokens) if !tokens.allow(headers, access, SystemTime::now()) => {
             let refused = error(401, "Authorization: a token for this is needed, as 'Bearer TOKEN'");
             return Err(with_header(refused, WWW_AUTHENTICATE, "Bearer").into());
         }
@@ -99,8 +124,21 @@ fn names_loopback(headers: &HeaderMap) -> bool {
 
 fn health(app: &App) -> Reply {
     match app.board.silence() {
-        silence if silence < STUCK => text(200, "ok\n"),
+        silence if silence < STUCK && app.place.works() => text(200, "ok\n"),
+        // calls go on, so a start of the process would do harm and no good
+        silence if silence < STUCK => text(200, "ok, but the history is broken: the service's log says why\n"),
         _ => text(503, "the writer is stuck\n"),
+    }
+}
+
+async fn ready(app: &App) -> Reply {
+    match app.board.commit_takes() {
+        _ if app.board.is_stopping() => busy("the service is stopping"),
+        takes if takes >= SLOW_COMMIT => {
+            busy(&format!("no commit is possible: the database has not taken one for {} s", takes.as_secs()))
+        }
+        _ if app.board.is_ready() => text(200, "ready\n"),
+        _ => standby(app).await,
     }
 }
 
@@ -109,10 +147,15 @@ pub fn busy(why: &str) -> Reply {
     with_header(error(503, why), RETRY_AFTER, "1")
 }
 
+/// Names the leader. Where there is none, this process may lead in far less than the second that `Retry-After` says at least, so
+/// clients pause as they do by themselves.
 async fn standby(app: &App) -> Reply {
-    let refused = busy("this process does not lead");
-    match app.read_log(|reader| Ok(reader.leader())).await {
-        Ok(Some(leader)) => with_header(refused, HeaderName::from_static(LEADER), &leader),
+    let refused = error(503, "this process does not lead");
+    let found = app.read_events(|reader| Ok(reader.leader()));
+    match tokio::time::timeout(FIND_LEADER, found).await {
+        Ok(Ok(Some(leader))) => {
+            with_header(busy("this process does not lead"), HeaderName::from_static(LEADER), &leader)
+        }
         _ => refused,
     }
 }

@@ -1,12 +1,18 @@
 //! The HTTP side: connections and their limits, and the path of every request to its answer.
+mod connection;
 mod gate;
+mod members;
 mod page;
+mod places;
 mod query;
 mod reads;
 mod render;
 mod reply;
+mod room;
 mod route;
+mod seats;
 mod server;
+mod view;
 mod wire;
 mod writes;
 
@@ -15,29 +21,50 @@ pub use wire::is_name;
 
 use crate::auth::Tokens;
 use crate::config::Limits;
-use crate::history::HistoryReader;
+use crate::history::{self, Door, HistoryReader, Place};
+use crate::log;
 use crate::metrics::Metrics;
-use crate::store::Reader;
+use crate::store::{DbError, Reader};
 use crate::writer::{Board, Message, Read, ReadDone};
 use reply::{error, Reply};
+use std::error::Error;
 use std::sync::mpsc::{SyncSender, TrySendError};
-use std::sync::{Arc, Mutex};
-use tokio::sync::{oneshot, Semaphore};
+use std::sync::Arc;
+use std::time::Duration;
+use tokio::sync::{oneshot, Mutex, Semaphore};
 
 /// The unit in which room for bodies is counted, in bytes.
 pub const BODY_UNIT: usize = 1024;
+/// How long a read may wait for those before it.
+const READ_WITHIN: Duration = Duration::from_secs(20);
 
 /// What all requests share.
 pub struct App {
     pub board: Arc<Board>,
     pub metrics: Arc<Metrics>,
     pub inbox: SyncSender<Message>,
+    /// Reads of the log. Each connection to a database has one reader at a time; the others wait without a thread.
     pub reader: Arc<Mutex<Box<dyn Reader>>>,
-    pub history: Arc<Mutex<HistoryReader>>,
+    /// Reads of events, which do not wait for those of the log.
+    pub events: Arc<Mutex<Box<dyn Reader>>>,
+    pub history: Arc<Mutex<Door>>,
+    pub place: Arc<Place>,
     pub tokens: Option<Tokens>,
     /// Room for the bodies of all requests, in units of [`BODY_UNIT`] bytes.
     pub bodies: Arc<Semaphore>,
+    /// Room for large answers that were not sent yet, likewise.
+    pub answers: Arc<Semaphore>,
     pub limits: Limits,
+}
+
+/// Room for this many bytes.
+pub fn room(bytes: usize) -> Arc<Semaphore> {
+    Arc::new(Semaphore::new(bytes.div_ceil(BODY_UNIT)))
+}
+
+/// How many units of room these bytes take.
+fn units(bytes: usize) -> u32 {
+    u32::try_from(bytes.div_ceil(BODY_UNIT)).unwrap_or(u32::MAX)
 }
 
 impl App {
@@ -63,26 +90,41 @@ impl App {
     /// Reads the log on a thread that may wait for the database.
     async fn read_log<T: Send + 'static>(
         &self,
-        read: impl FnOnce(&mut dyn Reader) -> Result<T, String> + Send + 'static,
+        read: impl FnOnce(&mut dyn Reader) -> Result<T, DbError> + Send + 'static,
     ) -> Result<T, Box<Reply>> {
-        let reader = Arc::clone(&self.reader);
-        waited(move || read(reader.lock().unwrap_or_else(|poisoned| poisoned.into_inner()).as_mut())).await
+        waited(&self.reader, move |reader| read(reader.as_mut())).await
+    }
+
+    /// Reads events likewise.
+    async fn read_events<T: Send + 'static>(
+        &self,
+        read: impl FnOnce(&mut dyn Reader) -> Result<T, DbError> + Send + 'static,
+    ) -> Result<T, Box<Reply>> {
+        waited(&self.events, move |reader| read(reader.as_mut())).await
     }
 
     /// Reads the history likewise.
     async fn read_history<T: Send + 'static>(
         &self,
-        read: impl FnOnce(&HistoryReader) -> Result<T, String> + Send + 'static,
+        read: impl FnOnce(&HistoryReader) -> Result<T, history::Error> + Send + 'static,
     ) -> Result<T, Box<Reply>> {
-        let history = Arc::clone(&self.history);
-        waited(move || read(&history.lock().unwrap_or_else(|poisoned| poisoned.into_inner()))).await
+        waited(&self.history, move |door| read(door.reader()?)).await
     }
 }
 
-async fn waited<T: Send + 'static>(read: impl FnOnce() -> Result<T, String> + Send + 'static) -> Result<T, Box<Reply>> {
-    match tokio::task::spawn_blocking(read).await {
+/// Reads on a thread of its own, once no other request reads from there. What a database said of a failure is for the log alone.
+async fn waited<R: Send + 'static, T: Send + 'static, E: Error + Send + 'static>(
+    from: &Arc<Mutex<R>>,
+    read: impl FnOnce(&mut R) -> Result<T, E> + Send + 'static,
+) -> Result<T, Box<Reply>> {
+    let turn = tokio::time::timeout(READ_WITHIN, Arc::clone(from).lock_owned());
+    let mut reader = turn.await.map_err(|_| gate::busy("other reads take too long"))?;
+    match tokio::task::spawn_blocking(move || read(&mut reader)).await {
         Ok(Ok(found)) => Ok(found),
-        Ok(Err(why)) => Err(error(500, &why).into()),
+        Ok(Err(why)) => {
+            log::warn(&format!("a read failed: {why}"));
+            Err(gate::busy("the database can't be read now").into())
+        }
         Err(_) => Err(error(500, "the read was ended").into()),
     }
 }

@@ -1,4 +1,5 @@
 //! The numbers of a query, as `after=4000&limit=100`.
+use super::members::shown;
 use super::reply::{bad_field, Reply};
 
 /// Reads the wanted parameters, each a number within its limits, or its default. Others are refused.
@@ -19,6 +20,13 @@ pub fn numbers<const N: usize>(query: &str, wanted: [Parameter; N]) -> Result<[u
     Ok(found)
 }
 
+/// Takes a parameter of text out of a query: what it is, if it is there, and the rest of the query.
+pub fn text<'a>(query: &'a str, name: &str) -> (Option<&'a str>, String) {
+    let value = |pair: &'a str| pair.split_once('=').filter(|(found, _)| *found == name).map(|(_, value)| value);
+    let rest: Vec<&str> = query.split('&').filter(|pair| value(pair).is_none()).collect();
+    (query.split('&').find_map(value), rest.join("&"))
+}
+
 /// A parameter of a query.
 #[derive(Clone, Copy)]
 pub struct Parameter {
@@ -27,7 +35,15 @@ pub struct Parameter {
     pub default: u64,
 }
 
-/// The first characters of what a client sent.
-fn shown(text: &str) -> String {
-    text.chars().take(40).collect()
+#[cfg(test)]
+mod tests {
+    use super::*;
+
+    #[test]
+    fn a_text_is_taken_out() {
+        assert_eq!(text("after=3&log=ab&wait=1", "log"), (Some("ab"), "after=3&wait=1".to_string()));
+        assert_eq!(text("log=", "log"), (Some(""), String::new()));
+        assert_eq!(text("after=3&logs=1", "log"), (None, "after=3&logs=1".to_string()));
+        assert_eq!(text("", "log"), (None, String::new()));
+    }
 }

@@ -1,16 +1,21 @@
 //! Requests that read: jobs, records, files, the log, events and metrics.
-use super::query::{numbers, Parameter};
-use super::render;
-use super::reply::{error, json_reply, with_type, Reply};
+use super::places::{self, Place};
+use super::query::{self, numbers, Parameter};
+use super::render::{self, Metadata};
+use super::reply::{body, error, json_reply, with_type, Reply};
 use super::route::Route;
-use super::{no_job, App};
-use crate::writer::{Read, ReadDone, RecordState};
+use super::{no_job, view, App};
+use crate::history::FileRow;
+use crate::store::Reader;
+use crate::writer::{JobState, Read, ReadDone, RecordState};
 use serde_json::{json, Value};
 use std::time::Duration;
 
 const MOST_ROWS: u64 = 1000;
 const MOST_WAIT: u64 = 60;
 const MOST_SAMPLES: u64 = 20_000;
+/// How long the metrics wait for the writer, which may be stuck.
+const ASK_WRITER: Duration = Duration::from_secs(1);
 const AFTER: Parameter = Parameter { name: "after", most: u64::MAX, default: 0 };
 
 const fn limit(most: u64, default: u64) -> Parameter {
@@ -29,6 +34,7 @@ pub async fn answer(app: &App, route: Route, query: &str) -> Result<Reply, Box<R
         Route::Log(job) => log(app, &job, query).await,
         Route::Events(job) => events(app, &job, query).await,
         Route::Samples(job) => samples(app, &job, query).await,
+        Route::View(job) => view::answer(app, job, query).await,
         Route::Asset(_) | Route::Health | Route::Ready | Route::NewJob | Route::Calls(_) => {
             Err(error(404, "is no read").into())
         }
@@ -39,16 +45,23 @@ fn rows(most: u64) -> u32 {
     u32::try_from(most).unwrap_or(u32::MAX)
 }
 
+/// If the writer does not answer, the jobs' metrics are those of the last time.
 async fn metrics(app: &App, query: &str) -> Result<Reply, Box<Reply>> {
     numbers(query, [])?;
-    let jobs = match app.board.is_ready() {
-        false => Vec::new(),
-        true => match app.read(Read::Jobs).await? {
-            ReadDone::Jobs(jobs) => jobs,
+    let asked = async {
+        if !app.board.is_ready() {
+            return Vec::new();
+        }
+        match app.read(Read::Jobs).await {
+            Ok(ReadDone::Jobs(jobs)) => jobs,
             _ => Vec::new(),
-        },
+        }
     };
+    let jobs = tokio::time::timeout(ASK_WRITER, asked).await.unwrap_or_default();
     app.metrics.lead(app.board.is_ready());
+    app.metrics.commit_takes(app.board.commit_takes());
+    app.metrics.upkeep.history_up(app.place.works());
+    app.board.lags().iter().for_each(|(job, lag)| app.metrics.upkeep.history_lag(job, *lag));
     let text = app.metrics.text(&jobs).map_err(|why| error(500, &why.to_string()))?;
     Ok(with_type(200, "text/plain; version=0.0.4", text))
 }
@@ -57,8 +70,9 @@ async fn jobs(app: &App, query: &str) -> Result<Reply, Box<Reply>> {
     numbers(query, [])?;
     match app.read(Read::Jobs).await? {
         ReadDone::Jobs(jobs) => {
-            let jobs: Vec<Value> = jobs.iter().map(render::job).collect();
-            Ok(json_reply(200, &json!({"epoch": app.board.epoch(), "jobs": jobs})))
+            let log = app.board.log();
+            let jobs: Vec<Value> = jobs.iter().map(|job| render::job(job, log)).collect();
+            Ok(json_reply(200, &json!({"epoch": app.board.epoch(), "log": log, "jobs": jobs})))
         }
         _ => Err(error(500, "the writer answered something else").into()),
     }
@@ -67,7 +81,7 @@ async fn jobs(app: &App, query: &str) -> Result<Reply, Box<Reply>> {
 async fn one_job(app: &App, job: String, query: &str) -> Result<Reply, Box<Reply>> {
     numbers(query, [])?;
     match app.read(Read::Job(job.clone())).await? {
-        ReadDone::Job(state) => Ok(json_reply(200, &render::job(&state))),
+        ReadDone::Job(state) => Ok(json_reply(200, &render::job(&state, app.board.log()))),
         _ => Err(no_job(&job).into()),
     }
 }
@@ -84,56 +98,66 @@ async fn records(app: &App, job: &str, query: &str) -> Result<Reply, Box<Reply>>
 async fn record(app: &App, job: String, id: u64, query: &str) -> Result<Reply, Box<Reply>> {
     numbers(query, [])?;
     let number = app.number(&job)?;
-    let live = match app.read(Read::Record { job: job.clone(), id }).await? {
-        ReadDone::Record(live) => live,
-        _ => return Err(no_job(&job).into()),
+    let ReadDone::Record(live) = app.read(Read::Record { job: job.clone(), id }).await? else {
+        return Err(no_job(&job).into());
     };
     let history = app.read_history(move |history| history.record(number, id)).await?;
     if live.is_none() && history.is_none() {
         return Err(error(404, &format!("job {job} has no record {id}, or the history has not read of it yet")).into());
     }
-    let RecordParts { metadata, missing } = parts(live)?;
-    Ok(json_reply(200, &json!({"id": id, "live": metadata, "missing": missing, "history": history})))
+    Ok(body(200, render::record(id, metadata(live)?, history)))
 }
 
-struct RecordParts {
-    metadata: Value,
-    missing: Value,
+/// The metadata of a live record, or nothing of one that is not live.
+pub(super) fn metadata(live: Option<RecordState>) -> Result<Option<Metadata>, Box<Reply>> {
+    let read = |state: RecordState| state.metadata.and_then(|text| Metadata::of(&text));
+    live.map(|state| read(state).ok_or_else(|| error(507, "memory ran out").into())).transpose()
 }
 
-fn parts(live: Option<RecordState>) -> Result<RecordParts, Box<Reply>> {
-    let Some(state) = live else {
-        return Ok(RecordParts { metadata: Value::Null, missing: Value::Null });
-    };
-    let metadata = state.metadata.and_then(|text| render::metadata(&text));
-    let metadata = metadata.ok_or_else(|| error(507, "memory ran out"))?;
-    let missing = json!(render::missing(&metadata));
-    Ok(RecordParts { metadata, missing })
-}
-
+/// The files that were taken and not reported, those taken first before the others, and the files that were deleted last.
 async fn files(app: &App, job: &str, query: &str) -> Result<Reply, Box<Reply>> {
     let [most] = numbers(query, [limit(MOST_ROWS, 100)])?;
-    let number = app.number(job)?;
-    let taken = match app.read(Read::Taken(job.to_string())).await? {
-        ReadDone::Taken(taken) => taken.ok_or_else(|| error(507, "memory ran out"))?,
-        _ => return Err(no_job(job).into()),
+    let ReadDone::Job(state) = app.read(Read::Job(job.to_string())).await? else {
+        return Err(no_job(job).into());
     };
+    let FilesRead { upto, taken, deleted } = files_of(app, &state, most).await?;
+    Ok(json_reply(200, &json!({"upto": upto, "taken": taken, "deleted": deleted})))
+}
+
+pub(super) struct FilesRead {
+    pub upto: u64,
+    pub taken: Vec<FileRow>,
+    pub deleted: Vec<FileRow>,
+}
+
+/// How far the history is, and at most this many taken and deleted files.
+pub(super) async fn files_of(app: &App, job: &JobState, most: u64) -> Result<FilesRead, Box<Reply>> {
+    let number = job.opening.number;
     let (taken, deleted, upto) = app
         .read_history(move |history| {
-            Ok((history.of_files(number, &taken)?, history.deleted(number, most)?, history.upto(number)?))
+            Ok((history.taken(number, most)?, history.deleted(number, most)?, history.upto(number)?))
         })
         .await?;
-    let taken = &taken[..taken.len().min(rows(most) as usize)];
-    Ok(json_reply(200, &json!({"upto": upto, "taken": taken, "deleted": deleted})))
+    let knows_all = upto >= job.seq && taken.len() as u64 == most.min(job.files.taken);
+    let taken = if knows_all { taken } else { taken_by_all(app, &job.opening.name, number, most).await? };
+    Ok(FilesRead { upto, taken, deleted })
+}
+
+/// Taken files by the coordinator's whole list, for a history that does not know all of them.
+async fn taken_by_all(app: &App, job: &str, number: i64, most: u64) -> Result<Vec<FileRow>, Box<Reply>> {
+    let all = match app.read(Read::Taken(job.to_string())).await? {
+        ReadDone::Taken(all) => all.ok_or_else(|| error(507, "memory ran out"))?,
+        _ => return Err(no_job(job).into()),
+    };
+    app.read_history(move |history| history.taken_of(number, &all, most)).await
 }
 
 /// How often a file is used, by which records, and its history.
 async fn one_file(app: &App, job: String, file: u64, query: &str) -> Result<Reply, Box<Reply>> {
     numbers(query, [])?;
     let number = app.number(&job)?;
-    let (uses, live) = match app.read(Read::File { job: job.clone(), file }).await? {
-        ReadDone::File { uses, live } => (uses, live),
-        _ => return Err(no_job(&job).into()),
+    let ReadDone::File { uses, live } = app.read(Read::File { job: job.clone(), file }).await? else {
+        return Err(no_job(&job).into());
     };
     let live = if uses == Some(0) { Vec::new() } else { live };
     let by = used_by(app, &job, file, live).await?;
@@ -153,11 +177,10 @@ async fn one_file(app: &App, job: String, file: u64, query: &str) -> Result<Repl
 /// The acknowledgements of these live records that name a file. Reads one record at a time, so none keeps the writer
 /// for long. A record that has ended meanwhile has none.
 async fn used_by(app: &App, job: &str, file: u64, live: Vec<u64>) -> Result<Vec<Value>, Box<Reply>> {
-    let file = file.to_string();
     let mut by = Vec::new();
     for id in live {
         if let ReadDone::Record(record) = app.read(Read::Record { job: job.to_string(), id }).await? {
-            by.extend(render::uses(id, &parts(record)?.metadata, &file));
+            by.extend(metadata(record)?.iter().flat_map(|record| record.uses(file)));
         }
     }
     Ok(by)
@@ -168,15 +191,21 @@ async fn log(app: &App, job: &str, query: &str) -> Result<Reply, Box<Reply>> {
     let number = app.number(job)?;
     let first = app.board.first(job);
     let after = after.max(first - 1);
-    let page = app.read_log(move |reader| reader.log(number, after, rows(most))).await?;
-    Ok(json_reply(200, &json!({"first": first, "calls": page.iter().map(render::entry).collect::<Vec<_>>()})))
+    let log = app.board.log().to_string();
+    // a page may be large, so there is one at a time: it becomes text before the next one is read
+    let page = move |reader: &mut dyn Reader| Ok(render::log(first, &log, &reader.log(number, after, rows(most))?));
+    Ok(body(200, app.read_log(page).await?))
 }
 
-/// The events after a place, once there is one, or after a time.
+/// The events after a place, once there is one, or after a time. Without a place: from the first that the log has.
 async fn events(app: &App, job: &str, query: &str) -> Result<Reply, Box<Reply>> {
     let wait = Parameter { name: "wait", most: MOST_WAIT, default: 0 };
-    let [after, wait, most] = numbers(query, [AFTER, wait, limit(MOST_ROWS, MOST_ROWS)])?;
+    let (known, query) = query::text(query, "log");
+    let [after, wait, most] = numbers(&query, [places::AFTER, wait, limit(MOST_ROWS, MOST_ROWS)])?;
     let number = app.number(job)?;
+    let place = Place { job, number, after: places::given(after) };
+    place.check_log(app, known).await?;
+    let after = place.after.unwrap_or(app.board.first(job) - 1);
     let mut last = app.board.events(job).ok_or_else(|| no_job(job))?;
     let come = async {
         while *last.borrow_and_update() <= after {
@@ -185,13 +214,19 @@ async fn events(app: &App, job: &str, query: &str) -> Result<Reply, Box<Reply>> 
             }
         }
     };
-    // if the time is over, there are no events
-    let _ = tokio::time::timeout(Duration::from_secs(wait), come).await;
-    let first = app.board.first(job);
-    let page = app.read_log(move |reader| reader.events(number, after.max(first - 1), rows(most))).await?;
-    let upto = page.last().map_or(after, |entry| entry.seq);
+    // if the time is over, or the service stops, there are no events
+    tokio::select! {
+        _ = tokio::time::timeout(Duration::from_secs(wait), come) => {}
+        () = app.board.stopping() => {}
+    }
+    let first = place.check_cut(app)?;
+    let length = app.board.length(job);
+    let page = app.read_events(move |reader| reader.events(number, after.max(first - 1), rows(most))).await?;
+    // if there is none, the calls that were committed before it was read are no events
+    let none = if most > 0 { after.max(length) } else { after };
+    let upto = page.last().map_or(none, |entry| entry.seq);
     let events: Vec<Value> = page.iter().filter_map(render::event).collect();
-    Ok(json_reply(200, &json!({"first": first, "upto": upto, "events": events})))
+    Ok(json_reply(200, &json!({"first": first, "log": app.board.log(), "upto": upto, "events": events})))
 }
 
 async fn samples(app: &App, job: &str, query: &str) -> Result<Reply, Box<Reply>> {

@@ -1,8 +1,10 @@
 //! JSON of jobs, records, files, events and the log.
-use crate::history::FileRow;
+use crate::history::{FileRow, RecordRow};
 use crate::model::{parse_line, settings_json, Call, Choice, Entry, LiveRecord, Mode};
 use crate::writer::JobState;
+use serde::{Deserialize, Serialize, Serializer};
 use serde_json::{json, Value};
+use std::collections::HashSet;
 
 pub fn mode(mode: Mode) -> &'static str {
     match mode {
@@ -24,7 +26,8 @@ fn live((record, missing): &(LiveRecord, u64)) -> Value {
     json!({"id": record.id, "kind": record.kind.to_string(), "done": record.done, "missing": missing})
 }
 
-pub fn job(state: &JobState) -> Value {
+/// A job's state. `log` is the identity of the log that it is from.
+pub fn job(state: &JobState, log: &str) -> Value {
     let files = &state.files;
     json!({
         "name": state.opening.name,
@@ -32,6 +35,7 @@ pub fn job(state: &JobState) -> Value {
         "shape": state.shape,
         "opened": state.opening.started,
         "mode": mode(state.mode),
+        "log": log,
         "seq": state.seq,
         "now": state.now,
         "due": state.due,
@@ -47,16 +51,33 @@ pub fn job(state: &JobState) -> Value {
 }
 
 /// A row of the log.
-pub fn entry(entry: &Entry) -> Value {
-    json!({
-        "seq": entry.seq,
-        "at": entry.at,
-        "record": entry.record,
-        "line": entry.line,
-        "answer": entry.answer,
-        "ended": ended(entry),
-        "waiting": entry.waiting,
-    })
+#[derive(Serialize)]
+pub struct Row<'a> {
+    seq: u64,
+    at: u64,
+    record: Option<u64>,
+    line: &'a str,
+    answer: &'a str,
+    ended: Vec<u64>,
+    waiting: u64,
+}
+
+impl Row<'_> {
+    fn of(entry: &Entry) -> Row<'_> {
+        let Entry { seq, at, record, line, answer, waiting, .. } = entry;
+        Row { seq: *seq, at: *at, record: *record, line, answer, ended: ended(entry), waiting: *waiting }
+    }
+}
+
+/// A part of the log, which begins with the call `first`.
+pub fn log(first: u64, log: &str, page: &[Entry]) -> String {
+    #[derive(Serialize)]
+    struct Log<'a> {
+        first: u64,
+        log: &'a str,
+        calls: Vec<Row<'a>>,
+    }
+    serde_json::to_string(&Log { first, log, calls: page.iter().map(Row::of).collect() }).unwrap_or_default()
 }
 
 fn ended(entry: &Entry) -> Vec<u64> {
@@ -104,7 +125,7 @@ fn kind(call: &Call, answer: &str) -> Option<&'static str> {
 pub fn file_history(row: &FileRow, entries: &[Entry]) -> Value {
     let at = |seq: Option<u64>| {
         let found = entries.iter().find(|entry| Some(entry.seq) == seq);
-        found.map_or(Value::Null, entry)
+        found.map(Row::of)
     };
     json!({
         "born": at(row.born), "released": at(row.released), "taken": at(row.taken), "deleted": at(row.deleted),
@@ -140,30 +161,72 @@ fn dropped(ids: &[u64]) -> String {
     }
 }
 
-/// Which subtasks a record's acknowledgements, of its metadata, do not have.
-pub fn missing(metadata: &Value) -> Vec<String> {
-    let acks = metadata["acks"].as_array().map(Vec::as_slice).unwrap_or_default();
-    let acked: std::collections::HashSet<&str> = acks.iter().filter_map(|ack| ack["subtask"].as_str()).collect();
-    let shape = metadata["shape"].as_array().map(Vec::as_slice).unwrap_or_default();
-    let all = shape.iter().enumerate().flat_map(|(vertex, parallelism)| {
-        (0..parallelism.as_u64().unwrap_or(0)).map(move |index| format!("{vertex}.{index}"))
-    });
-    all.filter(|subtask| !acked.contains(subtask.as_str())).collect()
+/// The metadata of a live record, as the coordinator shows it; file numbers are strings in an answer.
+#[derive(Deserialize, Serialize)]
+pub struct Metadata {
+    acks: Vec<Acked>,
+    id: u64,
+    kind: String,
+    missing: u64,
+    shape: Vec<u64>,
+    started: u64,
+    state: String,
 }
 
-/// The coordinator's metadata, with file numbers as strings.
-pub fn metadata(text: &str) -> Option<Value> {
-    let mut value: Value = serde_json::from_str(text).ok()?;
-    for ack in value["acks"].as_array_mut()? {
-        let files = ack["files"].as_array()?.iter().filter_map(Value::as_u64).map(|file| json!(file.to_string()));
-        ack["files"] = Value::Array(files.collect());
+#[derive(Deserialize, Serialize)]
+struct Acked {
+    /// They ascend.
+    #[serde(serialize_with = "as_strings")]
+    files: Vec<u64>,
+    subtask: String,
+}
+
+fn as_strings<S: Serializer>(files: &[u64], to: S) -> Result<S::Ok, S::Error> {
+    to.collect_seq(files.iter().map(u64::to_string))
+}
+
+impl Metadata {
+    pub fn of(text: &str) -> Option<Metadata> {
+        serde_json::from_str(text).ok()
     }
-    Some(value)
+
+    /// The moment of its trigger.
+    pub fn started(&self) -> u64 {
+        self.started
+    }
+
+    /// How many subtasks take part.
+    pub fn subtasks(&self) -> u64 {
+        self.shape.iter().sum()
+    }
+
+    /// The subtasks that have not acknowledged.
+    pub fn missing(&self) -> Vec<String> {
+        let acked: HashSet<&str> = self.acks.iter().map(|ack| ack.subtask.as_str()).collect();
+        let all = self
+            .shape
+            .iter()
+            .enumerate()
+            .flat_map(|(vertex, parallelism)| (0..*parallelism).map(move |index| format!("{vertex}.{index}")));
+        all.filter(|subtask| !acked.contains(subtask.as_str())).collect()
+    }
+
+    /// The acknowledgements that name a file.
+    pub fn uses(&self, file: u64) -> impl Iterator<Item = Value> + '_ {
+        let names = self.acks.iter().filter(move |ack| ack.files.binary_search(&file).is_ok());
+        names.map(|ack| json!({"record": self.id, "subtask": ack.subtask}))
+    }
 }
 
-/// Which acknowledgements of a live record, of its metadata, name a file.
-pub fn uses(id: u64, metadata: &Value, file: &str) -> Vec<Value> {
-    let acks = metadata["acks"].as_array().map(Vec::as_slice).unwrap_or_default();
-    let names = |ack: &&Value| ack["files"].as_array().is_some_and(|files| files.iter().any(|one| one == file));
-    acks.iter().filter(names).map(|ack| json!({"record": id, "subtask": ack["subtask"]})).collect()
+/// A record: its metadata and missing subtasks if it is live, and its history.
+pub fn record(id: u64, live: Option<Metadata>, history: Option<RecordRow>) -> String {
+    #[derive(Serialize)]
+    struct Record {
+        id: u64,
+        live: Option<Metadata>,
+        missing: Option<Vec<String>>,
+        history: Option<RecordRow>,
+    }
+    let missing = live.as_ref().map(Metadata::missing);
+    serde_json::to_string(&Record { id, live, missing, history }).unwrap_or_default()
 }

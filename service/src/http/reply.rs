@@ -1,5 +1,5 @@
 //! Answers: JSON bodies, and errors that name the field.
-use super::wire::Invalid;
+use super::members::Invalid;
 use hyper::header::{HeaderName, HeaderValue, CONTENT_TYPE, REFERRER_POLICY, X_CONTENT_TYPE_OPTIONS, X_FRAME_OPTIONS};
 use hyper::{Body, Response, StatusCode};
 use serde_json::{json, Value};

@@ -1,5 +1,6 @@
 //! The routes: which paths there are, and what each needs.
 use super::page::{self, Asset};
+use super::seats::Kind;
 use super::wire::{is_name, parse_file};
 use crate::auth::Access;
 use hyper::Method;
@@ -22,6 +23,8 @@ pub enum Route {
     Log(String),
     Events(String),
     Samples(String),
+    /// All that the page shows of a job, or of the first one.
+    View(Option<String>),
 }
 
 /// Why a path has no route.
@@ -37,7 +40,7 @@ pub enum NoRoute {
 
 /// All routes of the API. The description must have each.
 #[cfg(test)]
-pub const API: [(&str, &str); 15] = [
+pub const API: [(&str, &str); 17] = [
     ("get", "/healthz"),
     ("get", "/readyz"),
     ("get", "/metrics"),
@@ -53,6 +56,8 @@ pub const API: [(&str, &str); 15] = [
     ("get", "/v1/jobs/{job}/log"),
     ("get", "/v1/jobs/{job}/events"),
     ("get", "/v1/jobs/{job}/samples"),
+    ("get", "/v1/view"),
+    ("get", "/v1/view/{job}"),
 ];
 
 impl Route {
@@ -68,7 +73,10 @@ impl Route {
             (["metrics"], true, _) => Ok(Route::Metrics),
             (["v1", "jobs"], true, _) => Ok(Route::Jobs),
             (["v1", "jobs"], _, true) => Ok(Route::NewJob),
-            (["healthz" | "readyz" | "metrics"], ..) => Err(NoRoute::Method("GET")),
+            (["v1", "view"], true, _) => Ok(Route::View(None)),
+            (["v1", "view", name], true, _) if is_name(name) => Ok(Route::View(Some((*name).to_string()))),
+            (["v1", "view", _], true, _) => Err(NoRoute::Part("job")),
+            (["healthz" | "readyz" | "metrics"] | ["v1", "view", ..], ..) => Err(NoRoute::Method("GET")),
             (["v1", "jobs"], ..) => Err(NoRoute::Method("GET, POST")),
             (["v1", "jobs", name, rest @ ..], ..) => Route::of_job(name, rest, method, is_get),
             _ => Err(NoRoute::Path),
@@ -110,6 +118,16 @@ impl Route {
         }
     }
 
+    /// The kind of place that its connection takes.
+    pub fn kind(&self) -> Kind {
+        match self {
+            Route::Asset(_) => Kind::Stranger,
+            Route::Health | Route::Ready => Kind::Health,
+            Route::Events(_) => Kind::Poll,
+            _ => Kind::Client,
+        }
+    }
+
     /// Whether only a leader can answer.
     pub fn needs_leader(&self) -> bool {
         !matches!(self, Route::Asset(_) | Route::Health | Route::Ready | Route::Metrics)
@@ -133,6 +151,7 @@ impl Route {
             Route::Log(_) => "log",
             Route::Events(_) => "events",
             Route::Samples(_) => "samples",
+            Route::View(_) => "view",
         }
     }
 }

@@ -1,70 +1,19 @@
 //! Reads the bodies of requests. An error names the place of the bad value, such as `calls[3].fresh[0]`.
+use super::members::{each, invalid, items, read, shown, text, Checked, Members};
 use crate::model::{check_shape, settings_of, Call, Settings, Subtask, Target, FIELDS};
-use serde_json::{Map, Value};
+use serde_json::value::RawValue;
 
 /// The greatest number that every JSON reader keeps exactly.
 const GREATEST: u64 = 1 << 53;
 const MOST_TAKEN: u64 = 65_536;
 const LONGEST_NAME: usize = 64;
+/// How many parts of a shape are read. A list that is too long is refused by its length.
+const MOST_VERTICES: usize = 1 << 16;
 pub const NO_NAME: &str = "is no name: 1 to 64 of a-z, A-Z, 0-9, '-', '_' and '.', and a letter or digit first";
 const CALLS: &str = "ack, decline, tick, savepoint, dispose, restore, cancel, take, deleted and undeleted";
 
-/// What is wrong with a request, and where.
-#[derive(Debug, PartialEq, Eq)]
-pub struct Invalid {
-    pub field: String,
-    pub why: String,
-}
-
-type Checked<T> = Result<T, Invalid>;
-
-/// A JSON object whose members are taken out one by one. Those that are left at the end are unknown.
-struct Members {
-    /// The object's place, with a dot, or nothing for the body itself.
-    place: String,
-    members: Map<String, Value>,
-}
-
-impl Members {
-    fn of(place: &str, value: Value) -> Checked<Members> {
-        match value {
-            Value::Object(members) if place.is_empty() => Ok(Members { place: String::new(), members }),
-            Value::Object(members) => Ok(Members { place: format!("{place}."), members }),
-            _ if place.is_empty() => Err(invalid("body", "is no JSON object")),
-            _ => Err(invalid(place, "is no JSON object")),
-        }
-    }
-
-    fn field(&self, name: &str) -> String {
-        format!("{}{name}", self.place)
-    }
-
-    fn wrong(&self, name: &str, why: &str) -> Invalid {
-        invalid(&self.field(name), why)
-    }
-
-    /// Takes a member out. `null` is no member.
-    fn take(&mut self, name: &str) -> Option<Value> {
-        self.members.remove(name).filter(|value| !value.is_null())
-    }
-
-    fn wanted(&mut self, name: &str) -> Checked<Value> {
-        self.take(name).ok_or_else(|| self.wrong(name, "is missing"))
-    }
-
-    fn text(&mut self, name: &str) -> Checked<String> {
-        match self.wanted(name)? {
-            Value::String(text) => Ok(text),
-            _ => Err(self.wrong(name, "is no string")),
-        }
-    }
-
-    fn number(&mut self, name: &str, least: u64, most: u64) -> Checked<u64> {
-        let value = self.wanted(name)?;
-        let number = value.as_u64().filter(|number| (least..=most).contains(number));
-        number.ok_or_else(|| self.wrong(name, &format!("is no whole number from {least} to {most}")))
-    }
-
+/// The members that calls have.
+impl Members<'_> {
     fn id(&mut self) -> Checked<u64> {
         self.number("id", 0, GREATEST)
     }
@@ -76,61 +25,43 @@ impl Members {
 
     fn file(&mut self) -> Checked<u64> {
         let value = self.wanted("file")?;
-        file(&value, || self.field("file"))
+        file(value, || self.field("file"))
     }
 
     /// A list of files, which is empty if there is no such member.
     fn files(&mut self, name: &str) -> Checked<Vec<u64>> {
-        match self.take(name) {
-            None => Ok(Vec::new()),
-            Some(Value::Array(items)) => {
-                let place = |at: usize| format!("{}{name}[{at}]", self.place);
-                items.iter().enumerate().map(|(at, item)| file(item, || place(at))).collect()
-            }
-            Some(_) => Err(self.wrong(name, "is no list of files")),
-        }
+        let Some(value) = self.take(name) else {
+            return Ok(Vec::new());
+        };
+        let place = |at: usize| format!("{}[{at}]", self.field(name));
+        let files = each(value, |at, item| file(item, || place(at)));
+        files.unwrap_or_else(|| Err(self.wrong(name, "is no list of files")))
     }
 
     fn shape(&mut self) -> Checked<Option<Vec<u64>>> {
         let Some(value) = self.take("shape") else {
             return Ok(None);
         };
-        let numbers = value.as_array().and_then(|items| items.iter().map(Value::as_u64).collect::<Option<Vec<u64>>>());
+        let numbers = items(value, MOST_VERTICES)
+            .and_then(|items| items.first.into_iter().map(read::<u64>).collect::<Option<Vec<u64>>>());
         let shape = numbers.ok_or_else(|| self.wrong("shape", "is no list of parallelisms"))?;
         check_shape(&shape).map_err(|why| self.wrong("shape", &why))?;
         Ok(Some(shape))
     }
-
-    /// Refuses the members that are left.
-    fn finish(self) -> Checked<()> {
-        match self.members.keys().next() {
-            Some(name) => Err(self.wrong(name, "is no field here")),
-            None => Ok(()),
-        }
-    }
-}
-
-fn invalid(field: &str, why: &str) -> Invalid {
-    Invalid { field: field.to_string(), why: why.to_string() }
 }
 
 /// A file's number, which is a string, since JSON readers lose the digits of large numbers.
-fn file(value: &Value, place: impl Fn() -> String) -> Checked<u64> {
+fn file(value: &RawValue, place: impl Fn() -> String) -> Checked<u64> {
     let wrong = |why: &str| invalid(&place(), why);
-    match value {
-        Value::String(digits) => parse_file(digits).ok_or_else(|| wrong("is no file number from 0 to 2^64 - 1")),
-        _ => Err(wrong("is no string; a file's number is one, as \"31\"")),
+    match text(value) {
+        Some(digits) => parse_file(&digits).ok_or_else(|| wrong("is no file number from 0 to 2^64 - 1")),
+        None => Err(wrong("is no string; a file's number is one, as \"31\"")),
     }
 }
 
 /// A file's number in digits.
 pub fn parse_file(digits: &str) -> Option<u64> {
     digits.bytes().all(|byte| byte.is_ascii_digit()).then(|| digits.parse().ok()).flatten()
-}
-
-fn body(bytes: &[u8]) -> Checked<Members> {
-    let value = serde_json::from_slice(bytes).map_err(|error| invalid("body", &format!("is no JSON: {error}")))?;
-    Members::of("", value)
 }
 
 /// The job that a request opens.
@@ -143,8 +74,8 @@ pub struct NewJob {
 
 /// Reads the body that opens a job.
 pub fn new_job(bytes: &[u8]) -> Checked<NewJob> {
-    let mut members = body(bytes)?;
-    let name = members.text("name")?;
+    let mut members = Members::of_body(bytes)?;
+    let name = members.text("name")?.into_owned();
     if !is_name(&name) {
         return Err(members.wrong("name", NO_NAME));
     }
@@ -158,14 +89,13 @@ fn settings(mut members: Members) -> Checked<Settings> {
     let mut numbers = [0; 6];
     for (number, field) in numbers.iter_mut().zip(&FIELDS) {
         *number = match field.default {
-            Some(default) if !members.members.contains_key(field.name) => default,
+            Some(default) if !members.has(field.name) => default,
             _ => members.number(field.name, field.least, field.most)?,
         };
     }
     let keep_on_cancel = match members.take("keep_on_cancel") {
         None => false,
-        Some(Value::Bool(keep)) => keep,
-        Some(_) => return Err(members.wrong("keep_on_cancel", "is neither true nor false")),
+        Some(value) => read(value).ok_or_else(|| members.wrong("keep_on_cancel", "is neither true nor false"))?,
     };
     members.finish()?;
     Ok(settings_of(numbers, keep_on_cancel))
@@ -180,20 +110,19 @@ pub fn is_name(text: &str) -> bool {
 
 /// Reads the body of a request with calls, at most `most`.
 pub fn calls(bytes: &[u8], most: usize) -> Checked<Vec<Call>> {
-    let mut members = body(bytes)?;
-    let Value::Array(items) = members.wanted("calls")? else {
-        return Err(members.wrong("calls", "is no list"));
-    };
+    let mut members = Members::of_body(bytes)?;
+    let items = items(members.wanted("calls")?, most).ok_or_else(|| members.wrong("calls", "is no list"))?;
     members.finish()?;
-    if items.is_empty() || items.len() > most {
-        return Err(invalid("calls", &format!("has {} calls, not 1 to {most}", items.len())));
+    if items.count == 0 || items.count > most {
+        return Err(invalid("calls", &format!("has {} calls, not 1 to {most}", items.count)));
     }
-    items.into_iter().enumerate().map(|(at, item)| Members::of(&format!("calls[{at}]"), item).and_then(call)).collect()
+    let calls = items.first.into_iter().enumerate();
+    calls.map(|(at, item)| Members::of(&format!("calls[{at}]"), item).and_then(call)).collect()
 }
 
 fn call(mut members: Members) -> Checked<Call> {
     let name = members.text("call")?;
-    let call = match name.as_str() {
+    let call = match name.as_ref() {
         "tick" => Call::Tick,
         "savepoint" => Call::Savepoint,
         "ack" => Call::Ack {
@@ -209,20 +138,20 @@ fn call(mut members: Members) -> Checked<Call> {
         "take" => Call::Take { most: members.number("most", 1, MOST_TAKEN)? },
         "deleted" => Call::Deleted { file: members.file()? },
         "undeleted" => Call::Undeleted { file: members.file()? },
-        _ => return Err(members.wrong("call", &format!("{name:?} is no call: there are {CALLS}"))),
+        _ => return Err(members.wrong("call", &format!("{:?} is no call: there are {CALLS}", shown(&name)))),
     };
     members.finish()?;
     Ok(call)
 }
 
 fn target(members: &mut Members) -> Checked<Target> {
-    match members.wanted("from")? {
-        Value::String(text) if text == "latest" => Ok(Target::Latest),
-        value => match value.as_u64().filter(|id| (1..=GREATEST).contains(id)) {
-            Some(id) => Ok(Target::Savepoint(id)),
-            None => Err(members.wrong("from", "is neither \"latest\" nor the number of a savepoint")),
-        },
+    let value = members.wanted("from")?;
+    if text(value).is_some_and(|text| text == "latest") {
+        return Ok(Target::Latest);
     }
+    let id = read::<u64>(value).filter(|id| (1..=GREATEST).contains(id));
+    let wrong = || members.wrong("from", "is neither \"latest\" nor the number of a savepoint");
+    id.map(Target::Savepoint).ok_or_else(wrong)
 }
 
 #[cfg(test)]

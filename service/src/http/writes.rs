@@ -1,10 +1,9 @@
 //! Requests that change something: a new job, and calls.
 use super::reply::{bad_field, body, error, invalid, json_reply, Reply};
-use super::{gate, no_job, wire, App, BODY_UNIT};
+use super::{gate, no_job, units, wire, App};
 use crate::model::{settings_json, sha256, Call};
 use crate::writer::{CallsDone, Created, Key, Message};
-use http_body::{LengthLimitError, Limited};
-use hyper::body::{Bytes, HttpBody};
+use hyper::body::HttpBody;
 use hyper::header::HeaderMap;
 use hyper::{Body, Request};
 use serde_json::json;
@@ -14,6 +13,8 @@ use tokio::sync::OwnedSemaphorePermit;
 
 const KEY: &str = "idempotency-key";
 const LONGEST_KEY: usize = 255;
+/// How long a body may still take when the service stops.
+const STOP_BODIES: Duration = Duration::from_secs(5);
 
 pub async fn new_job(app: &App, request: Request<Body>) -> Result<Reply, Box<Reply>> {
     let (bytes, _room) = read_body(app, request).await?;
@@ -73,25 +74,71 @@ fn key_name(headers: &HeaderMap) -> Result<Option<String>, Box<Reply>> {
 }
 
 /// The whole body, within its limits of bytes and time, and its room, which is reserved until the request is answered.
-async fn read_body(app: &App, request: Request<Body>) -> Result<(Bytes, OwnedSemaphorePermit), Box<Reply>> {
+async fn read_body(app: &App, request: Request<Body>) -> Result<(Vec<u8>, OwnedSemaphorePermit), Box<Reply>> {
     let most = app.limits.body_bytes;
-    let length = request.body().size_hint().upper().and_then(|length| usize::try_from(length).ok()).unwrap_or(most);
+    // a body that does not tell its length gets room as it comes
+    let length = request.body().size_hint().upper().and_then(|length| usize::try_from(length).ok());
     let time = Duration::from_secs(app.limits.body_seconds);
-    if length > most {
+    if length.is_some_and(|length| length > most) {
         // a client that still sends would not read the answer, so its body is read to the end; after too long it gets no answer
         let _ = tokio::time::timeout(time, pass_over(request.into_body(), 4 * most)).await;
         return Err(too_long(most).into());
     }
-    let units = u32::try_from(length.div_ceil(BODY_UNIT)).unwrap_or(u32::MAX);
-    let room = Arc::clone(&app.bodies).try_acquire_many_owned(units);
-    let room = room.map_err(|_| gate::busy("the bodies of other requests take all room"))?;
-    let limited = Limited::new(request.into_body(), most);
-    match tokio::time::timeout(time, hyper::body::to_bytes(limited)).await {
-        Ok(Ok(bytes)) => Ok((bytes, room)),
-        Ok(Err(why)) if why.is::<LengthLimitError>() => Err(too_long(most).into()),
-        Ok(Err(_)) => Err(error(400, "the body ended early").into()),
-        Err(_) => Err(error(408, &format!("the body did not come within {} s", time.as_secs())).into()),
+    let bytes = Vec::with_capacity(length.unwrap_or(0));
+    let mut reading = Reading { app, bytes, room: room_for(app, 0)?, units: 0 };
+    reading.reserve(length.unwrap_or(0))?;
+    tokio::select! {
+        read = tokio::time::timeout(time, reading.read(request.into_body())) => match read {
+            Ok(read) => read?,
+            Err(_) => return Err(error(408, &format!("the body did not come within {} s", time.as_secs())).into()),
+        },
+        () = stops(app) => return Err(gate::busy("the service is stopping").into()),
     }
+    Ok((reading.bytes, reading.room))
+}
+
+/// A body that is being read, and its room.
+struct Reading<'a> {
+    app: &'a App,
+    bytes: Vec<u8>,
+    room: OwnedSemaphorePermit,
+    units: u32,
+}
+
+impl Reading<'_> {
+    async fn read(&mut self, mut body: Body) -> Result<(), Box<Reply>> {
+        while let Some(part) = body.data().await {
+            let part = part.map_err(|_| error(400, "the body ended early"))?;
+            let length = self.bytes.len() + part.len();
+            if length > self.app.limits.body_bytes {
+                return Err(too_long(self.app.limits.body_bytes).into());
+            }
+            self.reserve(length)?;
+            self.bytes.extend_from_slice(&part);
+        }
+        Ok(())
+    }
+
+    /// Gets the room that is missing for so many bytes.
+    fn reserve(&mut self, length: usize) -> Result<(), Box<Reply>> {
+        let missing = units(length).saturating_sub(self.units);
+        if missing > 0 {
+            self.room.merge(room_for(self.app, missing)?);
+            self.units += missing;
+        }
+        Ok(())
+    }
+}
+
+fn room_for(app: &App, units: u32) -> Result<OwnedSemaphorePermit, Box<Reply>> {
+    let room = Arc::clone(&app.bodies).try_acquire_many_owned(units);
+    room.map_err(|_| gate::busy("the bodies of other requests take all room").into())
+}
+
+/// Ends some time after the service was told to stop.
+async fn stops(app: &App) {
+    app.board.stopping().await;
+    tokio::time::sleep(STOP_BODIES).await;
 }
 
 /// Reads a body up to a length, and keeps nothing of it.

@@ -22,9 +22,9 @@ impl FromStr for Subtask {
     /// Reads `vertex.index`: two numbers of at most 65535, in digits only.
     fn from_str(text: &str) -> Result<Subtask, ()> {
         let (vertex, index) = text.split_once('.').ok_or(())?;
-        let half = |text: &str| match text.bytes().all(|byte| byte.is_ascii_digit()) {
-            true => text.parse().map_err(|_| ()),
-            false => Err(()),
+        let half = |text: &str| {
+            let number = text.bytes().all(|byte| byte.is_ascii_digit()).then_some(text);
+            number.and_then(|digits| digits.parse().ok()).ok_or(())
         };
         Ok(Subtask { vertex: half(vertex)?, index: half(index)? })
     }

@@ -2,7 +2,8 @@
 use super::call::Subtask;
 use super::settings::shape_words;
 use relkvanu::Kind;
-use serde_json::Value;
+use serde::de::IgnoredAny;
+use serde::Deserialize;
 use sha2::{Digest, Sha256};
 
 #[derive(Clone, Debug, PartialEq, Eq)]
@@ -37,40 +38,64 @@ pub struct Contents {
 }
 
 impl Image {
-    /// SHA-256 of its content, in hexadecimal digits. Without it a changed digit could give the image of another state.
+    /// SHA-256 of its content, in hexadecimal digits. Without it a changed digit could give the image of another state. Databases have
+    /// digests of this text, so it stays as it is: an image that has another one counts as damaged.
     pub fn digest(&self) -> String {
         let Image { job, seq, at, shape, last_completed, last_event, text } = self;
         let shape = shape_words(shape);
-        sha256(format!("{job} {seq} {at} {shape} {last_completed:?} {last_event} {text}").as_bytes())
+        // a number alone could be one more of the shape
+        let completed = last_completed.map_or("None".to_string(), |at| format!("Some({at})"));
+        sha256(format!("{job} {seq} {at} {shape} {completed} {last_event} {text}").as_bytes())
     }
 
     /// `None` if it is no image.
     pub fn contents(&self) -> Option<Contents> {
-        let value: Value = serde_json::from_str(&self.text).ok()?;
-        let records = value["records"].as_array()?.iter().map(record).collect::<Option<_>>()?;
-        Some(Contents { records, waiting: value["outbox"]["waiting"].as_array()?.len() as u64 })
+        let Saved { records, outbox } = serde_json::from_str(&self.text).ok()?;
+        let records = records.into_iter().map(SavedRecord::from).collect();
+        Some(Contents { records, waiting: outbox.waiting.len() as u64 })
+    }
+}
+
+/// An image as the library writes it, without the numbers of files: there may be millions.
+#[derive(Deserialize)]
+struct Saved {
+    records: Vec<Record>,
+    outbox: Waiting,
+}
+
+#[derive(Deserialize)]
+struct Waiting {
+    waiting: Vec<IgnoredAny>,
+}
+
+#[derive(Deserialize)]
+struct Record {
+    id: u64,
+    kind: String,
+    state: String,
+    shape: Vec<u64>,
+    started: u64,
+    acks: Vec<Ack>,
+}
+
+#[derive(Deserialize)]
+struct Ack {
+    vertex: u16,
+    index: u16,
+}
+
+impl From<Record> for SavedRecord {
+    fn from(record: Record) -> SavedRecord {
+        let Record { id, kind, state, shape, started, acks } = record;
+        let kind = if kind == "savepoint" { Kind::Savepoint } else { Kind::Checkpoint };
+        let acked = acks.into_iter().map(|Ack { vertex, index }| Subtask { vertex, index }).collect();
+        SavedRecord { id, kind, is_done: state == "done", shape, started, acked }
     }
 }
 
 /// SHA-256 in hexadecimal digits.
 pub fn sha256(bytes: &[u8]) -> String {
-    Sha256::digest(bytes).iter().map(|byte| format!("{byte:02x}")).collect()
-}
-
-fn record(value: &Value) -> Option<SavedRecord> {
-    Some(SavedRecord {
-        id: value["id"].as_u64()?,
-        kind: if value["kind"] == "savepoint" { Kind::Savepoint } else { Kind::Checkpoint },
-        is_done: value["state"] == "done",
-        shape: value["shape"].as_array()?.iter().map(Value::as_u64).collect::<Option<_>>()?,
-        started: value["started"].as_u64()?,
-        acked: value["acks"].as_array()?.iter().map(subtask).collect::<Option<_>>()?,
-    })
-}
-
-fn subtask(ack: &Value) -> Option<Subtask> {
-    let half = |name: &str| u16::try_from(ack[name].as_u64()?).ok();
-    Some(Subtask { vertex: half("vertex")?, index: half("index")? })
+    format!("{:x}", Sha256::digest(bytes))
 }
 
 #[cfg(test)]
@@ -98,6 +123,15 @@ mod tests {
         assert_eq!(told, [(2, true, 2000, 2), (3, false, 3000, 1)]);
         assert_eq!((waiting, records[1].acked[0]), (1, Subtask { vertex: 0, index: 0 }));
         assert!(Image { text: "{}".to_string(), ..example() }.contents().is_none());
+    }
+
+    /// What sha256sum says of `1 9 3010 2 3 Some(2020) 8 {}` and of `1 9 3010 2 3 None 8 {}`.
+    #[test]
+    fn digests_of_earlier_versions_stay() {
+        let of =
+            |last_completed| Image { shape: vec![2, 3], last_completed, text: "{}".to_string(), ..example() }.digest();
+        assert_eq!(of(Some(2020)), "2d36fcb456b3a9592919b546e5da8b9a8fc755b8b1b4af2cb6e47d15e07e6d94");
+        assert_eq!(of(None), "38de8717a43c79727cf334126e5d58985fa7f1801cded62419d145feac1489d1");
     }
 
     #[test]

@@ -1,10 +1,11 @@
-//! What the database keeps of a job's log: images, and the calls from one of them on.
+//! What the database keeps of a job's log: images and summaries of the history, and the calls from one of them on.
 use super::image::Image;
+use super::summary::KeptSummary;
 
 /// How many bytes a call of the log counts as. An image is made when the calls since the last one have as many bytes as
 /// that one. So images never take more bytes than the log.
-const CALL_BYTES: u64 = 100;
-/// Into how many parts images divide the kept calls, at least.
+pub const CALL_BYTES: u64 = 100;
+/// Into how many parts images and summaries divide the kept calls, at least.
 const PARTS: u64 = 8;
 
 /// How often images are made, and how much of the log is kept.
@@ -32,10 +33,15 @@ pub struct Cut {
     pub upto: u64,
 }
 
-#[derive(Default)]
+#[derive(Clone, Default)]
 pub struct Kept {
     images: Vec<KeptImage>,
-    /// Calls up to here are no longer in the log.
+    /// The places of summaries, at which the log may be cut.
+    summaries: Vec<u64>,
+    /// Images and summaries to delete.
+    old_images: Vec<u64>,
+    old_summaries: Vec<u64>,
+    /// Calls up to here are to be deleted.
     cut: u64,
     /// Calls up to here are deleted.
     gone: u64,
@@ -44,15 +50,24 @@ pub struct Kept {
 }
 
 impl Kept {
-    /// What a database has: its images, which rise, and the first call.
-    pub fn of(images: Vec<KeptImage>, first: Option<u64>, keeping: Keeping) -> Kept {
+    /// What a database has: its images and summaries, which rise, and the first call.
+    pub fn of(images: Vec<KeptImage>, summaries: &[KeptSummary], first: Option<u64>, keeping: Keeping) -> Kept {
         let all_gone = images.last().map_or(0, |image| image.seq);
         let gone = first.map_or(all_gone, |first| first.saturating_sub(1));
-        let mut kept = Kept { images, cut: 0, gone, tried: 0 };
-        // a cut that was begun goes on
-        let begun = kept.images.iter().find(|image| gone > 0 && image.seq >= gone);
-        kept.cut = kept.base(keeping).max(begun.map_or(0, |image| image.seq));
+        // calls after a summary are missing if an earlier version of the program has cut the log
+        let is_of_use = |one: &&KeptSummary| one.bytes > 0 && one.seq >= gone;
+        let (whole, old): (Vec<_>, Vec<_>) = summaries.iter().partition(is_of_use);
+        let places = |these: Vec<&KeptSummary>| these.into_iter().map(|one| one.seq).collect();
+        let (summaries, old_summaries) = (places(whole), places(old));
+        let mut kept = Kept { images, summaries, old_summaries, cut: gone, gone, ..Kept::default() };
+        kept.aim(keeping);
         kept
+    }
+
+    /// Sets up to where the log is to be cut: at the last summary before the image from which on it is kept.
+    fn aim(&mut self, keeping: Keeping) {
+        let base = self.base(keeping);
+        self.cut = self.summaries.iter().rfind(|seq| **seq <= base).map_or(self.cut, |seq| self.cut.max(*seq));
     }
 
     /// The call up to which the log may be cut, by its last image.
@@ -68,7 +83,7 @@ impl Kept {
 
     /// The first call that the log has.
     pub fn first(&self) -> u64 {
-        self.cut + 1
+        self.gone + 1
     }
 
     /// Whether to make an image at this place, because the last one is old enough.
@@ -86,21 +101,32 @@ impl Kept {
     /// Adds a new image, and returns the places of images to delete.
     pub fn add(&mut self, image: &Image, keeping: Keeping) -> Vec<u64> {
         self.images.push(KeptImage { seq: image.seq, at: image.at, bytes: image.text.len() as u64 });
-        self.cut = self.cut.max(self.base(keeping));
-        let (cut, before) = (self.cut, std::mem::take(&mut self.images));
-        let apart = keeping.keep_calls / PARTS;
-        let (mut gone, mut at) = (Vec::new(), 0);
-        for (place, one) in before.iter().enumerate() {
-            // those before the cut, and one between two that are near each other
-            let is_between = one.seq > cut && before.get(place + 1).is_some_and(|next| next.seq - at <= apart);
-            if one.seq < cut || is_between && place + 2 < before.len() {
-                gone.push(one.seq);
-            } else {
-                at = one.seq;
-                self.images.push(*one);
-            }
-        }
+        self.aim(keeping);
+        self.take_needless_images(keeping)
+    }
+
+    fn take_needless_images(&mut self, keeping: Keeping) -> Vec<u64> {
+        let places: Vec<u64> = self.images.iter().map(|image| image.seq).collect();
+        let gone = needless(&places, self.cut, keeping);
+        self.images.retain(|image| gone.binary_search(&image.seq).is_err());
         gone
+    }
+
+    /// Adds a new summary of the history.
+    pub fn add_summary(&mut self, seq: u64, keeping: Keeping) {
+        self.summaries.retain(|one| *one < seq);
+        self.summaries.push(seq);
+        self.aim(keeping);
+        let gone = needless(&self.summaries, self.cut, keeping);
+        self.summaries.retain(|seq| gone.binary_search(seq).is_err());
+        self.old_summaries.extend(gone);
+        let images = self.take_needless_images(keeping);
+        self.old_images.extend(images);
+    }
+
+    /// The places of images and of summaries to delete. Afterwards they count as deleted.
+    pub fn take_old(&mut self) -> (Vec<u64>, Vec<u64>) {
+        (std::mem::take(&mut self.old_images), std::mem::take(&mut self.old_summaries))
     }
 
     /// Whether there are calls left to delete.
@@ -113,6 +139,21 @@ impl Kept {
         let upto = self.cut.min(read).min(self.gone.saturating_add(most));
         (upto > self.gone).then(|| Cut { job, after: std::mem::replace(&mut self.gone, upto), upto })
     }
+}
+
+/// Of places that rise, those before the cut, and each between two that are near each other.
+fn needless(places: &[u64], cut: u64, keeping: Keeping) -> Vec<u64> {
+    let apart = keeping.keep_calls / PARTS;
+    let (mut gone, mut at) = (Vec::new(), 0);
+    for (place, seq) in places.iter().enumerate() {
+        let is_between = *seq > cut && places.get(place + 1).is_some_and(|next| next - at <= apart);
+        if *seq < cut || is_between && place + 2 < places.len() {
+            gone.push(*seq);
+        } else {
+            at = *seq;
+        }
+    }
+    gone
 }
 
 #[cfg(test)]
@@ -142,46 +183,67 @@ mod tests {
     }
 
     #[test]
-    fn the_log_is_cut_at_an_image_and_images_before_go() {
+    fn the_log_is_cut_at_a_summary_before_an_image() {
         let mut kept = Kept::default();
         for seq in 1..=9 {
+            kept.add_summary(seq * 10 - 5, KEEPING);
             assert!(kept.add(&image(seq * 10, 1), KEEPING).is_empty());
-            assert_eq!(kept.first(), if seq < 9 { 1 } else { 11 });
+            assert_eq!(kept.cut, if seq < 9 { 0 } else { 5 });
         }
-        assert_eq!(kept.add(&image(100, 1), KEEPING), [10]);
-        assert_eq!((kept.first(), places(&kept)[0]), (21, 20));
-        assert_eq!(kept.cut(1, 15, 100), Some(Cut { job: 1, after: 0, upto: 15 }));
-        assert_eq!(kept.cut(1, 15, 17), Some(Cut { job: 1, after: 15, upto: 17 }));
-        assert_eq!(kept.cut(1, 15, 17), None);
-        assert_eq!(kept.cut(1, 15, 100), Some(Cut { job: 1, after: 17, upto: 20 }));
-        assert_eq!(kept.cut(1, 15, 100), None);
+        assert_eq!((kept.add(&image(100, 1), KEEPING), kept.cut, places(&kept)[0]), (vec![10], 15, 20));
+        assert_eq!((kept.first(), kept.take_old()), (1, (vec![], vec![])));
+        assert_eq!(kept.cut(1, 12, 100), Some(Cut { job: 1, after: 0, upto: 12 }));
+        assert_eq!(kept.cut(1, 12, 14), Some(Cut { job: 1, after: 12, upto: 14 }));
+        assert_eq!((kept.cut(1, 12, 14), kept.first()), (None, 15));
+        assert_eq!(kept.cut(1, 12, 100), Some(Cut { job: 1, after: 14, upto: 15 }));
+        assert_eq!((kept.cut(1, 12, 100), kept.first()), (None, 16));
+        kept.add_summary(95, KEEPING);
+        assert_eq!((kept.take_old(), kept.take_old()), ((vec![], vec![5]), (vec![], vec![])));
     }
 
     #[test]
-    fn images_between_near_ones_go() {
+    fn nothing_is_cut_without_a_summary() {
+        let mut kept = Kept::default();
+        (1..=20).for_each(|seq| assert!(kept.add(&image(seq * 10, 1), KEEPING).is_empty() || seq > 9));
+        assert_eq!((kept.cut, kept.is_cutting(), places(&kept)[0]), (0, false, 10));
+        kept.add_summary(130, KEEPING);
+        assert!(!kept.is_cutting());
+        kept.add(&image(210, 1), KEEPING);
+        assert_eq!((kept.cut, places(&kept)[0]), (130, 130));
+        // a summary of calls that could be cut before
+        let mut late = Kept::default();
+        (1..=20).for_each(|seq| drop(late.add(&image(seq * 10, 1), KEEPING)));
+        late.add_summary(95, KEEPING);
+        assert_eq!((late.cut, late.take_old().0.last().copied(), places(&late)[0]), (95, Some(90), 100));
+    }
+
+    #[test]
+    fn images_and_summaries_between_near_ones_go() {
         let (mut kept, keeping) = (Kept::default(), Keeping { image_calls: 1, keep_calls: 8000 });
         for seq in 1..=20_000 {
+            kept.add_summary(seq, keeping);
             kept.add(&image(seq, 1), keeping);
         }
-        let places = places(&kept);
-        assert!((9..=20).contains(&places.len()), "{places:?}");
-        assert!(places.windows(2).all(|two| two[1] - two[0] <= 1000), "{places:?}");
-        assert_eq!(kept.first(), places[0] + 1);
-        assert!(places[0] <= 12_000 && places[0] >= 10_000, "{places:?}");
+        for places in [places(&kept), kept.summaries.clone()] {
+            assert!((9..=20).contains(&places.len()), "{places:?}");
+            assert!(places.windows(2).all(|two| two[1] - two[0] <= 1000), "{places:?}");
+            assert!(places[0] <= 12_000 && places[0] >= 10_000, "{places:?}");
+        }
+        assert!(kept.summaries.contains(&kept.cut));
     }
 
     #[test]
     fn a_start_ends_a_cut_that_was_begun() {
         let at = |seq: u64| KeptImage { seq, at: 0, bytes: 1 };
-        let all = Kept::of(vec![at(10), at(20)], Some(1), KEEPING);
-        assert_eq!((all.first(), all.gone), (1, 0));
-        let begun = Kept::of(vec![at(10), at(20)], Some(6), KEEPING);
-        assert_eq!((begun.first(), begun.gone), (11, 5));
-        let due = Kept::of(vec![at(10), at(20), at(100)], Some(1), KEEPING);
-        assert_eq!((due.first(), due.gone), (21, 0));
-        let nothing_left = Kept::of(vec![at(10)], None, KEEPING);
-        assert_eq!((nothing_left.first(), nothing_left.gone), (11, 10));
-        let new = Kept::of(vec![], None, KEEPING);
-        assert_eq!((new.first(), new.gone), (1, 0));
+        let told = |seq: u64, bytes: u64| KeptSummary { seq, bytes };
+        let of = |images: &[u64], summaries: &[KeptSummary], first: Option<u64>| {
+            let kept = Kept::of(images.iter().map(|seq| at(*seq)).collect(), summaries, first, KEEPING);
+            (kept.cut, kept.gone, kept.old_summaries)
+        };
+        assert_eq!(of(&[10, 20], &[told(5, 1)], Some(1)), (0, 0, vec![]));
+        assert_eq!(of(&[10, 20, 100], &[told(5, 1), told(15, 1), told(18, 0)], Some(6)), (15, 5, vec![18]));
+        assert_eq!(of(&[10, 20, 100], &[told(5, 1)], Some(11)), (10, 10, vec![5]));
+        assert_eq!(of(&[10], &[], None), (10, 10, vec![]));
+        assert_eq!(of(&[], &[], None), (0, 0, vec![]));
     }
 }

@@ -1,85 +1,140 @@
 //! The log in one SQLite file: a write-ahead log, synced at each commit.
-use super::rows::{
-    Failure, Group, Keyed, LogPage, Reader, SavedImage, Store, Unusable, Which, Written, COLUMNS, IMAGE_COLUMNS,
-    IS_EVENT, VERSION,
-};
-use crate::model::{config_line, parse_config, shape_words, Cut, Entry, Image, KeptImage, Opening};
-use rusqlite::{params, Connection, ErrorCode, OpenFlags, OptionalExtension, Row};
+use super::cells::Row;
+use super::error::{DbError, Failure, Unusable};
+use super::files::{self, Opened};
+use super::rows::{steps_after, Group, Keyed, Lead, Store, Written, MOST_STARTS, VERSION};
+use crate::model::{config_line, shape_words, Cut, Entry, Image, Opening, PastRecord, SummaryPart};
+use rusqlite::config::DbConfig;
+use rusqlite::{ffi, params, Connection, ErrorCode, OptionalExtension};
 use std::fs::File;
-use std::path::{Path, PathBuf};
-use std::time::Duration;
+use std::path::Path;
+use std::time::{Duration, Instant};
 
-const SCHEMA: &str = include_str!("../../sql/lite.sql");
-const BUSY: Duration = Duration::from_secs(2);
+const STEPS: [&str; VERSION] = [
+    include_str!("../../sql/lite.sql"),
+    concat!(
+        include_str!("../../sql/lite_2.sql"),
+        " create index if not exists call_event on call(job, seq) where ",
+        include_str!("../../sql/event.sql"),
+        "; ",
+        include_str!("../../sql/lite_history.sql")
+    ),
+];
+pub(super) const BUSY: Duration = Duration::from_secs(2);
+/// How long a start waits for readers of another program.
+const SETTLE_FOR: Duration = Duration::from_secs(10);
 /// No lease has to be renewed: this only bounds how long the writer sleeps.
 const BEAT: Duration = Duration::from_secs(5);
 
 /// The writer's connection, and the lock file that keeps other processes out.
 pub struct Lite {
     connection: Connection,
+    opened: Opened,
     _lock: File,
 }
 
 impl Lite {
-    /// Opens the database, and makes the tables that are missing.
+    /// Opens the database, and makes or upgrades its tables if its version says so. What is committed is then in the database's own file.
     pub fn open(path: &Path) -> Result<Lite, Unusable> {
-        let failed = |error: rusqlite::Error| Unusable::Failed(format!("{}: {error}", path.display()));
-        let lock = locked(path).map_err(Unusable::Failed)?;
-        let connection = Connection::open(path).map_err(failed)?;
-        let found = connection.pragma_query_value(None, "user_version", |row| row.get(0)).map_err(failed)?;
+        let (unread, failed) = (DbError::file(path), DbError::unopened(path));
+        let real = files::made(path).map_err(&unread)?;
+        let lock = locked(&real)?;
+        files::write_again(&files::beside(&real, "-wal")).map_err(&unread)?;
+        let connection = Connection::open(&real).map_err(&failed)?;
+        // after a failure the log stays as it is until the next start
+        connection.set_db_config(DbConfig::SQLITE_DBCONFIG_NO_CKPT_ON_CLOSE, true).map_err(&failed)?;
+        let found = connection.pragma_query_value(None, "user_version", |row| row.get(0)).map_err(&failed)?;
         Unusable::check(found)?;
-        let set = || -> rusqlite::Result<()> {
-            connection.busy_timeout(BUSY)?;
-            connection.pragma_update(None, "journal_mode", "wal")?;
-            connection.pragma_update(None, "synchronous", "full")?;
-            connection.execute_batch(&format!("begin immediate; {SCHEMA} pragma user_version = {VERSION}; commit"))
-        };
-        set().map_err(failed)?;
-        Ok(Lite { connection, _lock: lock })
+        let mode = prepare(&connection, found).map_err(&failed)?;
+        if mode != "wal" {
+            let why = format!("its journal mode is {mode}, since there can be no write-ahead log here");
+            return Err(DbError::Unfit { path: path.to_path_buf(), why }.into());
+        }
+        // the commit of this start is in the write-ahead log, if there is one: the journal's mode may say so and not be it
+        let opened = Opened::now(&real)?;
+        settle(&connection).map_err(&failed)?;
+        files::sync_folder(&real).map_err(&unread)?;
+        Ok(Lite { connection, opened, _lock: lock })
+    }
+}
+
+/// Sets how the database commits, and writes its version. If that is an earlier one, makes or upgrades the tables. Returns the journal's
+/// mode.
+fn prepare(connection: &Connection, found: i64) -> rusqlite::Result<String> {
+    connection.busy_timeout(BUSY)?;
+    let mode = connection.pragma_update_and_check(None, "journal_mode", "wal", |row| row.get(0))?;
+    connection.pragma_update(None, "synchronous", "full")?;
+    let steps: String = steps_after(found, STEPS).collect();
+    connection.execute_batch(&format!("begin immediate; {steps} pragma user_version = {VERSION}; commit"))?;
+    Ok(mode)
+}
+
+/// Brings the write-ahead log into the database's file, and empties it. Fails if another program reads the database for long.
+fn settle(connection: &Connection) -> rusqlite::Result<()> {
+    let until = Instant::now() + SETTLE_FOR;
+    loop {
+        let busy: i64 = connection.query_row("pragma wal_checkpoint(truncate)", [], |row| row.get(0))?;
+        if busy == 0 {
+            return Ok(());
+        }
+        if Instant::now() > until {
+            let why = "another program reads the database, so its write-ahead log can't be emptied".to_string();
+            return Err(rusqlite::Error::SqliteFailure(ffi::Error::new(ffi::SQLITE_BUSY), Some(why)));
+        }
     }
 }
 
 /// Takes the lock file beside the database. The system releases it when the process ends.
-fn locked(path: &Path) -> Result<File, String> {
-    let mut name = path.as_os_str().to_owned();
-    name.push(".lock");
-    let name = PathBuf::from(name);
-    let file = File::create(&name).map_err(|error| format!("{}: {error}", name.display()))?;
+fn locked(path: &Path) -> Result<File, DbError> {
+    let name = files::beside(path, ".lock");
+    let file = File::create(&name).map_err(DbError::file(&name))?;
     match file.try_lock() {
         Ok(()) => Ok(file),
-        Err(_) => Err(format!("{}: another process serves this database", name.display())),
+        Err(_) => Err(DbError::Unfit { path: name, why: "another process serves this database".to_string() }),
     }
 }
 
 impl Store for Lite {
-    fn lead(&mut self) -> Result<Option<u64>, String> {
-        Ok(Some(1))
+    fn lead(&mut self) -> Result<Lead, DbError> {
+        Ok(Lead::Here { epoch: 1 })
+    }
+
+    fn begin(&mut self, name: &str, lengths: &str) -> Result<(), DbError> {
+        let transaction = self.connection.transaction()?;
+        transaction.execute("insert into log_start(name, lengths) values(?, ?)", [name, lengths])?;
+        let old = "delete from log_start where number <= (select max(number) from log_start) - ?";
+        transaction.execute(old, [MOST_STARTS])?;
+        Ok(transaction.commit()?)
     }
 
     fn commit(&mut self, group: &Group) -> Written {
         if group.is_empty() {
             return Ok(());
         }
-        write(&mut self.connection, group).map_err(|error| match error.sqlite_error_code() {
-            Some(ErrorCode::DiskFull | ErrorCode::DatabaseBusy | ErrorCode::DatabaseLocked) => {
-                Failure::Again(error.to_string())
-            }
-            _ => Failure::Lost(error.to_string()),
-        })
+        write(&mut self.connection, group).map_err(failure)?;
+        self.opened.check().map_err(Failure::Lost)
     }
 
-    fn keyed(&mut self, job: i64, key: &str) -> Result<Option<Keyed>, String> {
-        let found = || -> rusqlite::Result<Option<Keyed>> {
-            let sql = "select job, key, at, digest, answers from request where job = ? and key = ?";
-            let mut query = self.connection.prepare_cached(sql)?;
-            query.query_row(params![job, key], keyed_of).optional()
-        };
-        found().map_err(|error| error.to_string())
+    fn keyed(&mut self, keys: &[(i64, String)]) -> Result<Vec<Keyed>, DbError> {
+        let sql = "select job, key, at, digest, answers from request where job = ? and key = ?";
+        let mut query = self.connection.prepare_cached(sql)?;
+        let mut found = Vec::new();
+        for (job, key) in keys {
+            let row = query.query_row(params![job, key], Row::of_lite).optional()?;
+            found.extend(row.map(Row::read).transpose()?);
+        }
+        Ok(found)
     }
 
-    fn forget_keys(&mut self, before: u64) -> Result<(), String> {
-        let sql = "delete from request where (job, key) in (select job, key from request where at < ? limit 1000)";
-        self.connection.execute(sql, [signed(before)]).map(|_| ()).map_err(|error| error.to_string())
+    fn forget_keys(&mut self, before: u64, most: u64) -> Result<u64, DbError> {
+        let sql = "delete from request where (job, key) in (select job, key from request where at < ? limit ?)";
+        Ok(self.connection.execute(sql, [signed(before), signed(most)])? as u64)
+    }
+
+    fn note(&mut self, at: u64) -> Result<(), DbError> {
+        let sql = "insert into clock values(1, ?) on conflict (one) do update set at = excluded.at";
+        self.connection.execute(sql, [signed(at)])?;
+        Ok(())
     }
 
     fn beat(&self) -> Duration {
@@ -93,6 +148,22 @@ impl Store for Lite {
     fn release(&mut self) {}
 }
 
+/// What a failed transaction means. After a sync that failed it is not known what the write-ahead log has: this process neither goes on
+/// nor closes the database, which would bring the log into it. A quota that is used up is an error of a write.
+fn failure(error: rusqlite::Error) -> Failure {
+    let is_write = error.sqlite_error().is_some_and(|it| it.extended_code == ffi::SQLITE_IOERR_WRITE);
+    let code = error.sqlite_error_code();
+    let error = DbError::from(error);
+    match code {
+        _ if is_write => Failure::Again(error),
+        Some(ErrorCode::DiskFull | ErrorCode::DatabaseBusy | ErrorCode::DatabaseLocked | ErrorCode::OutOfMemory) => {
+            Failure::Again(error)
+        }
+        Some(ErrorCode::TooBig) => Failure::TooLarge(error),
+        _ => Failure::Lost(error),
+    }
+}
+
 /// One transaction. It is rolled back if this returns an error.
 fn write(connection: &mut Connection, group: &Group) -> rusqlite::Result<()> {
     let transaction = connection.transaction()?;
@@ -102,6 +173,9 @@ fn write(connection: &mut Connection, group: &Group) -> rusqlite::Result<()> {
     write_images(&transaction, &group.images)?;
     drop_images(&transaction, &group.dropped)?;
     cut(&transaction, &group.cuts)?;
+    write_summaries(&transaction, &group.summaries)?;
+    write_past(&transaction, &group.past)?;
+    drop_summaries(&transaction, &group.dropped_summaries)?;
     transaction.commit()
 }
 
@@ -153,132 +227,25 @@ fn cut(within: &Connection, cuts: &[Cut]) -> rusqlite::Result<()> {
     cuts.iter().try_for_each(|cut| delete.execute(params![cut.job, signed(cut.after), signed(cut.upto)]).map(|_| ()))
 }
 
-/// A connection that only reads.
-pub struct LiteReader(Connection);
-
-impl LiteReader {
-    /// Opens a database that a [`Lite`] has made.
-    pub fn open(path: &Path) -> Result<LiteReader, String> {
-        let flags = OpenFlags::SQLITE_OPEN_READ_ONLY | OpenFlags::SQLITE_OPEN_NO_MUTEX;
-        let opened = Connection::open_with_flags(path, flags).and_then(|connection| {
-            connection.busy_timeout(BUSY)?;
-            Ok(connection)
-        });
-        opened.map(LiteReader).map_err(|error| format!("{}: {error}", path.display()))
+fn write_summaries(within: &Connection, parts: &[SummaryPart]) -> rusqlite::Result<()> {
+    let mut insert = within.prepare_cached("insert or replace into summary values(?, ?, ?, ?, ?)")?;
+    for SummaryPart { job, seq, part, whole, text } in parts {
+        insert.execute(params![job, signed(*seq), signed(*part), signed(*whole), text])?;
     }
-
-    fn entries(&mut self, rest: &str, given: &[&dyn rusqlite::ToSql]) -> Result<LogPage, String> {
-        let read = || -> rusqlite::Result<LogPage> {
-            let mut query = self.0.prepare_cached(&format!("select {COLUMNS} from call where {rest}"))?;
-            let entries = query.query_map(given, entry_of)?;
-            entries.collect()
-        };
-        read().map_err(|error| error.to_string())
-    }
+    Ok(())
 }
 
-impl Reader for LiteReader {
-    fn jobs(&mut self) -> Result<Vec<Opening>, String> {
-        let read = || -> rusqlite::Result<Vec<Opening>> {
-            let mut query = self.0.prepare("select job, name, config, shape, started from job order by job")?;
-            let openings = query.query_map([], opening_of)?;
-            openings.collect()
-        };
-        read().map_err(|error| error.to_string())
-    }
+fn write_past(within: &Connection, records: &[PastRecord]) -> rusqlite::Result<()> {
+    let mut insert = within.prepare_cached("insert or replace into past values(?, ?, ?)")?;
+    records.iter().try_for_each(|it| insert.execute(params![it.job, signed(it.id), it.text]).map(|_| ()))
+}
 
-    fn log(&mut self, job: i64, after: u64, most: u32) -> Result<LogPage, String> {
-        self.entries("job = ? and seq > ? order by seq limit ?", &[&job, &signed(after), &most])
-    }
-
-    fn events(&mut self, job: i64, after: u64, most: u32) -> Result<LogPage, String> {
-        let rest = format!("job = ? and seq > ? and {} order by seq limit ?", IS_EVENT);
-        self.entries(&rest, &[&job, &signed(after), &most])
-    }
-
-    fn about(&mut self, job: i64, record: u64, most: u32) -> Result<LogPage, String> {
-        self.entries("job = ? and record = ? order by seq limit ?", &[&job, &signed(record), &most])
-    }
-
-    fn entry(&mut self, job: i64, seq: u64) -> Result<Option<Entry>, String> {
-        Ok(self.entries("job = ? and seq = ?", &[&job, &signed(seq)])?.pop())
-    }
-
-    fn image(&mut self, job: i64, after: u64, which: Which) -> Result<Option<SavedImage>, String> {
-        let sql = format!("select {IMAGE_COLUMNS} from image where job = ? and seq > ? order by seq {}", which.order());
-        let read = || self.0.query_row(&sql, params![job, signed(after)], image_of).optional();
-        read().map_err(|error| error.to_string())
-    }
-
-    fn images(&mut self, job: i64) -> Result<Vec<KeptImage>, String> {
-        let read = || -> rusqlite::Result<Vec<KeptImage>> {
-            let mut query = self.0.prepare_cached("select seq, at, bytes from image where job = ? order by seq")?;
-            let images = query.query_map([job], |row| {
-                Ok(KeptImage { seq: unsigned(row, 0)?, at: unsigned(row, 1)?, bytes: unsigned(row, 2)? })
-            })?;
-            images.collect()
-        };
-        read().map_err(|error| error.to_string())
-    }
-
-    fn first(&mut self, job: i64) -> Result<Option<u64>, String> {
-        let found: rusqlite::Result<Option<i64>> =
-            self.0.query_row("select min(seq) from call where job = ?", [job], |row| row.get(0));
-        found.map(|first| first.and_then(|seq| u64::try_from(seq).ok())).map_err(|error| error.to_string())
-    }
-
-    fn leader(&mut self) -> Option<String> {
-        None
-    }
+fn drop_summaries(within: &Connection, places: &[(i64, u64)]) -> rusqlite::Result<()> {
+    let mut delete = within.prepare_cached("delete from summary where job = ? and seq = ?")?;
+    places.iter().try_for_each(|(job, seq)| delete.execute(params![job, signed(*seq)]).map(|_| ()))
 }
 
 /// A number as SQLite keeps it. Moments, places and numbers of records are below 2^62.
-fn signed(number: u64) -> i64 {
+pub(super) fn signed(number: u64) -> i64 {
     i64::try_from(number).unwrap_or(i64::MAX)
-}
-
-fn unsigned(row: &Row, place: usize) -> rusqlite::Result<u64> {
-    let number: i64 = row.get(place)?;
-    Ok(u64::try_from(number).unwrap_or(0))
-}
-
-fn keyed_of(row: &Row) -> rusqlite::Result<Keyed> {
-    Ok(Keyed { job: row.get(0)?, key: row.get(1)?, at: unsigned(row, 2)?, digest: row.get(3)?, answers: row.get(4)? })
-}
-
-/// An entry of the columns [`COLUMNS`].
-pub fn entry_of(row: &Row) -> rusqlite::Result<Entry> {
-    let record: Option<i64> = row.get(3)?;
-    Ok(Entry {
-        job: row.get(0)?,
-        seq: unsigned(row, 1)?,
-        at: unsigned(row, 2)?,
-        record: record.and_then(|id| u64::try_from(id).ok()),
-        line: row.get(4)?,
-        answer: row.get(5)?,
-        ended: row.get(6)?,
-        waiting: unsigned(row, 7)?,
-    })
-}
-
-fn image_of(row: &Row) -> rusqlite::Result<SavedImage> {
-    let (completed, shape): (Option<i64>, String) = (row.get(5)?, row.get(4)?);
-    let image = Image {
-        job: row.get(0)?,
-        seq: unsigned(row, 1)?,
-        at: unsigned(row, 2)?,
-        shape: shape.split(' ').filter_map(|word| word.parse().ok()).collect(),
-        last_completed: completed.and_then(|at| u64::try_from(at).ok()),
-        last_event: unsigned(row, 6)?,
-        text: row.get(7)?,
-    };
-    Ok(SavedImage { image, digest: row.get(3)? })
-}
-
-fn opening_of(row: &Row) -> rusqlite::Result<Opening> {
-    let (config, shape): (String, String) = (row.get(2)?, row.get(3)?);
-    let bad = || rusqlite::Error::InvalidColumnName(format!("{config:?} or {shape:?}"));
-    let settings = parse_config(&config).ok_or_else(bad)?;
-    let shape = shape.split(' ').map(|word| word.parse().ok()).collect::<Option<_>>().ok_or_else(bad)?;
-    Ok(Opening { number: row.get(0)?, name: row.get(1)?, settings, shape, started: unsigned(row, 4)? })
 }

@@ -1,11 +1,23 @@
 //! The log of all jobs in a database. What was committed is the state of the service.
+mod cells;
+mod error;
+mod files;
 mod lite;
+mod lite_read;
+mod parameter;
 mod pg;
 mod pg_read;
 mod pq;
+mod room;
 mod rows;
 
-pub use lite::{entry_of, Lite, LiteReader};
+pub use cells::entry_of;
+pub use error::{DbError, Failure, Unusable};
+pub use lite::Lite;
+pub use lite_read::LiteReader;
 pub use pg::Pg;
 pub use pg_read::PgReader;
-pub use rows::{Failure, Group, Keyed, Reader, Store, Unusable, Which};
+pub use room::room_of;
+#[cfg(test)]
+pub use rows::Room;
+pub use rows::{Group, Keyed, Lead, Reader, SavedImage, Store};

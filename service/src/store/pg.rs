@@ -1,17 +1,43 @@
 //! The log in PostgreSQL. A lease with an epoch decides which process writes. Each group is one statement, which renews the
 //! lease and is fenced by it. So a leader that was stopped holds no lock.
-use super::pq::{Connection, Failed, Parameter, Rows};
-use super::rows::{Failure, Group, Keyed, Store, Unusable, Written, VERSION};
-use crate::model::{config_line, shape_words, Cut, Entry, Image, Opening};
+use super::cells::Row;
+use super::error::{DbError, Failure, Unusable};
+use super::parameter::Parameter;
+use super::pq::{Connection, Failed, Rows};
+use super::rows::{steps_after, Group, Keyed, Lead, Store, Written, MOST_STARTS, VERSION};
+use crate::model::{config_line, shape_words, Cut, Entry, Image, Moment, Opening, PastRecord, SummaryPart};
 use std::ffi::CStr;
 use std::time::Duration;
 
-const SCHEMA: &str = include_str!("../../sql/pg.sql");
+const STEPS: [&str; VERSION] = [
+    include_str!("../../sql/pg.sql"),
+    concat!(
+        include_str!("../../sql/pg_2.sql"),
+        "; create index if not exists call_event on call(job, seq) where ",
+        include_str!("../../sql/event.sql"),
+        "; ",
+        include_str!("../../sql/pg_history.sql")
+    ),
+];
 const COMMIT: &str = include_str!("../../sql/pg_commit.sql");
 const COMMIT_NAME: &CStr = c"commit_group";
+const LOOK: &str = "select epoch, until, lease, until = '-infinity' from leader";
+/// Leads if nobody has renewed the lease since that was seen.
 const LEAD: &str =
-    "update leader set epoch = epoch + 1, holder = $1, until = clock_timestamp() + $2::float8 * interval '1 s'
-    where until < clock_timestamp() returning epoch";
+    "update leader set epoch = epoch + 1, holder = $1, until = clock_timestamp() + $2::float8 * interval '1 s', lease = $2::float8
+    where epoch = $3::bigint and until = $4::timestamptz returning epoch";
+
+/// A statement of the writer may take this long.
+const PATIENCE: Duration = Duration::from_secs(10);
+/// A process that no longer leads writes none.
+const BEGIN: &str = "with l as (select from leader where epoch = $1::bigint for share),
+    m as (select coalesce(max(number), 0) as number from log_start),
+    d as (delete from log_start using l, m where log_start.number <= m.number - $4::bigint)
+    insert into log_start select m.number + 1, $2, $3 from l, m returning 1";
+/// The answers under each of these keys.
+const KEYED: &str = "select request.job, request.key, at, digest, answers
+    from unnest($1::bigint[], $2::text[]) u(job, key) join request on request.job = u.job and request.key = u.key";
+const KEYED_NAME: &CStr = c"keyed";
 
 /// The writer's connection, and its lease.
 pub struct Pg {
@@ -19,28 +45,36 @@ pub struct Pg {
     holder: String,
     lease: Duration,
     epoch: u64,
+    seen: Option<Seen>,
+}
+
+/// A lease as another process renewed it last, and since when it has not been renewed: by the clock of this machine, since that
+/// of the database may be set while it serves.
+struct Seen {
+    epoch: String,
+    until: String,
+    lease: Duration,
+    since: Moment,
 }
 
 impl Pg {
-    /// Connects, and makes the tables if they are missing. Refuses a database that does not sync its commits.
+    /// Connects, and makes or upgrades the tables if their version says so. Refuses a database that does not sync its commits.
     pub fn open(url: &str, holder: &str, lease: Duration) -> Result<Pg, Unusable> {
-        let told = |failed| Unusable::Failed(told(failed));
-        let mut connection = Connection::open(url).map_err(told)?;
-        let fsync = connection.run("show fsync").map_err(told)?;
+        let mut connection = Connection::open(url)?;
+        let fsync = connection.run("show fsync")?;
         if cell(&fsync, 0) != Some("on") {
-            let why = "fsync is off in this database, so that it can lose what it committed";
-            return Err(Unusable::Failed(why.to_string()));
+            return Err(DbError::NoSync.into());
         }
-        Unusable::check(version(&mut connection).map_err(told)?)?;
-        connection
-            .run("set synchronous_commit = on; set statement_timeout = '10s'; set client_min_messages = warning")
-            .map_err(told)?;
-        // two processes that start at once take turns
-        let version = format!("insert into schema_version values(true, {VERSION}) on conflict do nothing");
-        let tables = format!("begin; select pg_advisory_xact_lock(7203146); {SCHEMA}; {version}; commit");
-        connection.run(&tables).map_err(told)?;
-        connection.prepare(COMMIT_NAME, COMMIT).map_err(told)?;
-        Ok(Pg { connection, holder: holder.to_string(), lease, epoch: 0 })
+        let found = version(&mut connection)?;
+        Unusable::check(found)?;
+        connection.run("set synchronous_commit = on; set client_min_messages = warning")?;
+        if found < VERSION as i64 {
+            upgrade(&mut connection)?;
+        }
+        connection.limit(PATIENCE)?;
+        connection.prepare(COMMIT_NAME, COMMIT)?;
+        connection.prepare(KEYED_NAME, KEYED)?;
+        Ok(Pg { connection, holder: holder.to_string(), lease, epoch: 0, seen: None })
     }
 
     fn write(&mut self, group: &Group) -> Result<Rows, Failed> {
@@ -51,7 +85,22 @@ impl Pg {
         given.extend(image_columns(&group.images));
         given.extend(dropped_columns(&group.dropped));
         given.extend(cut_columns(&group.cuts));
+        given.extend(summary_columns(&group.summaries));
+        given.extend(past_columns(&group.past));
+        given.extend(dropped_columns(&group.dropped_summaries));
         self.connection.run_prepared(COMMIT_NAME, &given)
+    }
+
+    /// Notes a lease as the database has it. Returns whether it was renewed since it was seen last. A leader of an earlier version
+    /// does not tell how long its lease is.
+    fn see(&mut self, epoch: &str, until: &str, lease: Option<&str>) -> bool {
+        if self.seen.as_ref().is_some_and(|seen| seen.epoch == epoch && seen.until == until) {
+            return false;
+        }
+        let told = lease.and_then(|seconds| seconds.parse().ok()).and_then(|it| Duration::try_from_secs_f64(it).ok());
+        let lease = told.unwrap_or(self.lease).max(self.lease);
+        self.seen = Some(Seen { epoch: epoch.to_string(), until: until.to_string(), lease, since: Moment::now() });
+        true
     }
 
     fn seconds(&self) -> String {
@@ -60,12 +109,31 @@ impl Pg {
 }
 
 impl Store for Pg {
-    fn lead(&mut self) -> Result<Option<u64>, String> {
-        let given = [self.holder.as_str(), &self.seconds()];
-        let rows = self.connection.query(LEAD, &given).map_err(told)?;
-        let epoch = cell(&rows, 0).and_then(|text| text.parse().ok());
-        self.epoch = epoch.unwrap_or(0);
-        Ok(epoch)
+    fn lead(&mut self) -> Result<Lead, DbError> {
+        let rows = self.connection.run(LOOK)?;
+        let (Some(epoch), Some(until)) = (cell(&rows, 0), cell(&rows, 1)) else {
+            return Err(DbError::Odd("the table leader has no row"));
+        };
+        let committed = self.see(epoch, until, cell(&rows, 2));
+        let has_expired = self.seen.as_ref().is_some_and(|seen| seen.since.elapsed() >= seen.lease);
+        if !has_expired && cell(&rows, 3) != Some("t") {
+            return Ok(Lead::Elsewhere { committed });
+        }
+        let given = [self.holder.as_str(), &self.seconds(), epoch, until];
+        let rows = self.connection.query(LEAD, &given)?;
+        let Some(epoch) = cell(&rows, 0).and_then(|text| text.parse().ok()) else {
+            return Ok(Lead::Elsewhere { committed: true });
+        };
+        self.epoch = epoch;
+        Ok(Lead::Here { epoch })
+    }
+
+    fn begin(&mut self, name: &str, lengths: &str) -> Result<(), DbError> {
+        let given = [&self.epoch.to_string(), name, lengths, &MOST_STARTS.to_string()];
+        match self.connection.query(BEGIN, &given)?.len() {
+            1 => Ok(()),
+            _ => Err(DbError::NotLeading { epoch: self.epoch }),
+        }
     }
 
     fn commit(&mut self, group: &Group) -> Written {
@@ -75,27 +143,28 @@ impl Store for Pg {
         if written.eq(wanted.into_iter().map(Some)) {
             return Ok(());
         }
-        Err(Failure::Lost(format!("another process leads, epoch {} has ended", self.epoch)))
+        Err(Failure::Lost(DbError::NotLeading { epoch: self.epoch }))
     }
 
-    fn keyed(&mut self, job: i64, key: &str) -> Result<Option<Keyed>, String> {
-        let sql = "select at, digest, answers from request where job = $1::bigint and key = $2";
-        let rows = self.connection.query(sql, &[&job.to_string(), key]).map_err(told)?;
-        let column = |place: usize| cell(&rows, place).map(str::to_string);
-        let found = column(0).zip(column(1)).zip(column(2));
-        Ok(found.map(|((at, digest), answers)| Keyed {
-            job,
-            key: key.to_string(),
-            at: at.parse().unwrap_or(0),
-            digest,
-            answers,
-        }))
+    fn keyed(&mut self, keys: &[(i64, String)]) -> Result<Vec<Keyed>, DbError> {
+        let jobs = Parameter::numbers(keys.iter().map(|(job, _)| Some(*job)));
+        let names = Parameter::texts(keys.iter().map(|(_, key)| Some(key.clone())));
+        let rows = self.connection.run_prepared(KEYED_NAME, &[jobs, names])?;
+        rows.into_iter().map(|row| Row::of_pg(row).read()).collect()
     }
 
-    fn forget_keys(&mut self, before: u64) -> Result<(), String> {
-        let sql =
-            "delete from request where (job, key) in (select job, key from request where at < $1::bigint limit 1000)";
-        self.connection.query(sql, &[&before.to_string()]).map(|_| ()).map_err(told)
+    fn forget_keys(&mut self, before: u64, most: u64) -> Result<u64, DbError> {
+        let sql = "with gone as (delete from request where (job, key) in
+            (select job, key from request where at < $1::bigint limit $2::bigint) returning 1) select count(*) from gone";
+        let rows = self.connection.query(sql, &[&before.to_string(), &most.to_string()])?;
+        Ok(cell(&rows, 0).and_then(|count| count.parse().ok()).unwrap_or(0))
+    }
+
+    fn note(&mut self, at: u64) -> Result<(), DbError> {
+        let sql = "insert into clock select true, $1::bigint from leader where epoch = $2::bigint
+            on conflict (one) do update set at = excluded.at";
+        self.connection.query(sql, &[&at.to_string(), &self.epoch.to_string()])?;
+        Ok(())
     }
 
     fn beat(&self) -> Duration {
@@ -123,17 +192,31 @@ fn version(connection: &mut Connection) -> Result<i64, Failed> {
     Ok(cell(&found, 0).and_then(|number| number.parse().ok()).unwrap_or(0))
 }
 
-fn told(failed: Failed) -> String {
-    failed.text
+/// Makes the tables, or those that a later version added. Two processes that start at once take turns. It waits for locks for a
+/// few seconds alone, since the leader's calls wait behind it.
+fn upgrade(connection: &mut Connection) -> Result<(), Failed> {
+    connection.run("begin; set local lock_timeout = '5s'; select pg_advisory_xact_lock(7203146)")?;
+    let found = version(connection)?;
+    for step in steps_after(found, STEPS) {
+        connection.run(step)?;
+    }
+    let number = format!(
+        "insert into schema_version values(true, {VERSION}) on conflict (one) do update set number = {VERSION}"
+    );
+    connection.run(&number)?;
+    connection.run("commit").map(|_| ())
 }
 
 /// What a failed statement means. If the database answered it, it was rolled back.
 fn failure(failed: Failed) -> Failure {
-    let Failed { text, state } = failed;
-    match state.as_deref() {
+    match failed.state.as_deref() {
         // no room or memory, a timeout, a deadlock
-        Some(state) if state.starts_with("53") || matches!(state, "57014" | "40001" | "40P01") => Failure::Again(text),
-        _ => Failure::Lost(text),
+        Some(state) if state.starts_with("53") || matches!(state, "57014" | "40001" | "40P01") => {
+            Failure::Again(failed.into())
+        }
+        // a value that is longer than the database takes
+        Some(state) if state.starts_with("54") => Failure::TooLarge(failed.into()),
+        _ => Failure::Lost(failed.into()),
     }
 }
 
@@ -142,8 +225,8 @@ fn cell(rows: &Rows, column: usize) -> Option<&str> {
     rows.first()?.get(column)?.as_deref()
 }
 
-fn number(number: u64) -> Option<i64> {
-    Some(i64::try_from(number).unwrap_or(i64::MAX))
+fn number(number: u64) -> i64 {
+    i64::try_from(number).unwrap_or(i64::MAX)
 }
 
 fn job_columns(jobs: &[Opening]) -> [Parameter; 6] {
@@ -152,7 +235,7 @@ fn job_columns(jobs: &[Opening]) -> [Parameter; 6] {
         Parameter::texts(jobs.iter().map(|job| Some(job.name.clone()))),
         Parameter::texts(jobs.iter().map(|job| Some(config_line(&job.settings)))),
         Parameter::texts(jobs.iter().map(|job| Some(shape_words(&job.shape)))),
-        Parameter::numbers(jobs.iter().map(|job| number(job.started))),
+        Parameter::numbers(jobs.iter().map(|job| Some(number(job.started)))),
         Parameter::texts(jobs.iter().map(|_| Some(env!("CARGO_PKG_VERSION").to_string()))),
     ]
 }
@@ -160,13 +243,13 @@ fn job_columns(jobs: &[Opening]) -> [Parameter; 6] {
 fn call_columns(entries: &[Entry]) -> [Parameter; 8] {
     [
         Parameter::numbers(entries.iter().map(|entry| Some(entry.job))),
-        Parameter::numbers(entries.iter().map(|entry| number(entry.seq))),
-        Parameter::numbers(entries.iter().map(|entry| number(entry.at))),
-        Parameter::numbers(entries.iter().map(|entry| entry.record.and_then(number))),
+        Parameter::numbers(entries.iter().map(|entry| Some(number(entry.seq)))),
+        Parameter::numbers(entries.iter().map(|entry| Some(number(entry.at)))),
+        Parameter::numbers(entries.iter().map(|entry| entry.record.map(number))),
         Parameter::texts(entries.iter().map(|entry| Some(entry.line.clone()))),
         Parameter::texts(entries.iter().map(|entry| Some(entry.answer.clone()))),
         Parameter::texts(entries.iter().map(|entry| entry.ended.clone())),
-        Parameter::numbers(entries.iter().map(|entry| number(entry.waiting))),
+        Parameter::numbers(entries.iter().map(|entry| Some(number(entry.waiting)))),
     ]
 }
 
@@ -174,7 +257,7 @@ fn request_columns(requests: &[Keyed]) -> [Parameter; 5] {
     [
         Parameter::numbers(requests.iter().map(|request| Some(request.job))),
         Parameter::texts(requests.iter().map(|request| Some(request.key.clone()))),
-        Parameter::numbers(requests.iter().map(|request| number(request.at))),
+        Parameter::numbers(requests.iter().map(|request| Some(number(request.at)))),
         Parameter::texts(requests.iter().map(|request| Some(request.digest.clone()))),
         Parameter::texts(requests.iter().map(|request| Some(request.answers.clone()))),
     ]
@@ -183,13 +266,13 @@ fn request_columns(requests: &[Keyed]) -> [Parameter; 5] {
 fn image_columns(images: &[Image]) -> [Parameter; 9] {
     [
         Parameter::numbers(images.iter().map(|image| Some(image.job))),
-        Parameter::numbers(images.iter().map(|image| number(image.seq))),
-        Parameter::numbers(images.iter().map(|image| number(image.at))),
+        Parameter::numbers(images.iter().map(|image| Some(number(image.seq)))),
+        Parameter::numbers(images.iter().map(|image| Some(number(image.at)))),
         Parameter::texts(images.iter().map(|image| Some(image.digest()))),
         Parameter::texts(images.iter().map(|image| Some(shape_words(&image.shape)))),
-        Parameter::numbers(images.iter().map(|image| image.last_completed.and_then(number))),
-        Parameter::numbers(images.iter().map(|image| number(image.last_event))),
-        Parameter::numbers(images.iter().map(|image| number(image.text.len() as u64))),
+        Parameter::numbers(images.iter().map(|image| image.last_completed.map(number))),
+        Parameter::numbers(images.iter().map(|image| Some(number(image.last_event)))),
+        Parameter::numbers(images.iter().map(|image| Some(number(image.text.len() as u64)))),
         Parameter::texts(images.iter().map(|image| Some(image.text.clone()))),
     ]
 }
@@ -197,14 +280,32 @@ fn image_columns(images: &[Image]) -> [Parameter; 9] {
 fn dropped_columns(places: &[(i64, u64)]) -> [Parameter; 2] {
     [
         Parameter::numbers(places.iter().map(|(job, _)| Some(*job))),
-        Parameter::numbers(places.iter().map(|(_, seq)| number(*seq))),
+        Parameter::numbers(places.iter().map(|(_, seq)| Some(number(*seq)))),
     ]
 }
 
 fn cut_columns(cuts: &[Cut]) -> [Parameter; 3] {
     [
         Parameter::numbers(cuts.iter().map(|cut| Some(cut.job))),
-        Parameter::numbers(cuts.iter().map(|cut| number(cut.after))),
-        Parameter::numbers(cuts.iter().map(|cut| number(cut.upto))),
+        Parameter::numbers(cuts.iter().map(|cut| Some(number(cut.after)))),
+        Parameter::numbers(cuts.iter().map(|cut| Some(number(cut.upto)))),
+    ]
+}
+
+fn summary_columns(parts: &[SummaryPart]) -> [Parameter; 5] {
+    [
+        Parameter::numbers(parts.iter().map(|part| Some(part.job))),
+        Parameter::numbers(parts.iter().map(|part| Some(number(part.seq)))),
+        Parameter::numbers(parts.iter().map(|part| Some(number(part.part)))),
+        Parameter::numbers(parts.iter().map(|part| Some(number(part.whole)))),
+        Parameter::texts(parts.iter().map(|part| Some(part.text.clone()))),
+    ]
+}
+
+fn past_columns(records: &[PastRecord]) -> [Parameter; 3] {
+    [
+        Parameter::numbers(records.iter().map(|record| Some(record.job))),
+        Parameter::numbers(records.iter().map(|record| Some(number(record.id)))),
+        Parameter::texts(records.iter().map(|record| Some(record.text.clone()))),
     ]
 }

@@ -1,7 +1,17 @@
 //! Reads of the log in PostgreSQL. If the connection is lost, they connect again once.
+use super::cells::{FromRow, Row};
+use super::error::DbError;
 use super::pq::{Connection, Failed, Rows};
-use super::rows::{LogPage, Reader, SavedImage, Which, COLUMNS, IMAGE_COLUMNS, IS_EVENT};
-use crate::model::{parse_config, Entry, Image, KeptImage, Opening};
+use super::rows::{whole, LogPage, Reader, Room, SavedImage, COLUMNS, IMAGE_COLUMNS, IS_EVENT, PAGE_BYTES};
+use crate::model::{Entry, KeptImage, KeptSummary, Opening, PastRecord};
+use std::time::Duration;
+
+/// A statement of a reader may take this long.
+const PATIENCE: Duration = Duration::from_secs(60);
+/// A connection that was idle for longer than this is tried first: a firewall may have forgotten it.
+const IDLE: Duration = Duration::from_secs(5);
+/// How long that may take.
+const TRY: Duration = Duration::from_secs(3);
 
 pub struct PgReader {
     url: String,
@@ -9,76 +19,174 @@ pub struct PgReader {
 }
 
 impl PgReader {
-    pub fn open(url: &str) -> Result<PgReader, String> {
+    pub fn open(url: &str) -> Result<PgReader, DbError> {
         let connection = connect(url)?;
         Ok(PgReader { url: url.to_string(), connection })
     }
 
-    fn query(&mut self, sql: &str, given: &[&str]) -> Result<Rows, String> {
+    fn query(&mut self, sql: &str, given: &[&str]) -> Result<Rows, DbError> {
+        if self.connection.idle() > IDLE && !self.connection.answers_within(TRY) {
+            self.connection = connect(&self.url)?;
+        }
         match self.connection.query(sql, given) {
             Err(Failed { state: None, .. }) => {
                 self.connection = connect(&self.url)?;
-                self.connection.query(sql, given).map_err(|failed| failed.text)
+                Ok(self.connection.query(sql, given)?)
             }
-            told => told.map_err(|failed| failed.text),
+            told => Ok(told?),
         }
     }
 
-    fn entries(&mut self, rest: &str, given: &[&str]) -> Result<LogPage, String> {
-        let rows = self.query(&format!("select {COLUMNS} from call where {rest}"), given)?;
-        rows.iter().map(|row| entry_of(row).ok_or_else(|| format!("a row of call is {row:?}"))).collect()
+    fn all<T: FromRow>(&mut self, sql: &str, given: &[&str]) -> Result<Vec<T>, DbError> {
+        self.query(sql, given)?.into_iter().map(|row| Row::of_pg(row).read()).collect()
+    }
+
+    fn one<T: FromRow>(&mut self, sql: &str, given: &[&str]) -> Result<Option<T>, DbError> {
+        Ok(self.all(sql, given)?.pop())
+    }
+
+    /// The rows of `call` up to that with which they have so many bytes. The database counts them, so that it sends no more.
+    fn entries(&mut self, rest: &str, given: &[&str]) -> Result<LogPage, DbError> {
+        let bytes = "octet_length(line) + octet_length(answer)";
+        let asked = format!("select {COLUMNS} from call where {rest}");
+        let counted = format!("select *, sum({bytes}) over (order by seq) - ({bytes}) as before from ({asked}) asked");
+        let sql = format!("select {COLUMNS} from ({counted}) counted where before < {PAGE_BYTES} order by seq");
+        self.all(&sql, given)
     }
 }
 
-fn connect(url: &str) -> Result<Connection, String> {
-    let mut connection = Connection::open(url).map_err(|failed| failed.text)?;
-    connection
-        .run("set statement_timeout = '60s'; set default_transaction_read_only = on")
-        .map_err(|failed| failed.text)?;
+fn connect(url: &str) -> Result<Connection, DbError> {
+    let mut connection = Connection::open(url)?;
+    connection.limit(PATIENCE)?;
+    connection.run("set default_transaction_read_only = on")?;
     Ok(connection)
 }
 
 impl Reader for PgReader {
-    fn jobs(&mut self) -> Result<Vec<Opening>, String> {
-        let rows = self.query("select job, name, config, shape, started from job order by job", &[])?;
-        rows.iter().map(|row| opening_of(row).ok_or_else(|| format!("a row of job is {row:?}"))).collect()
+    fn jobs(&mut self) -> Result<Vec<Opening>, DbError> {
+        self.all("select job, name, config, shape, started from job order by job", &[])
     }
 
-    fn log(&mut self, job: i64, after: u64, most: u32) -> Result<LogPage, String> {
+    fn log(&mut self, job: i64, after: u64, most: u32) -> Result<LogPage, DbError> {
         let rest = "job = $1::bigint and seq > $2::bigint order by seq limit $3::bigint";
         self.entries(rest, &[&job.to_string(), &signed(after), &most.to_string()])
     }
 
-    fn events(&mut self, job: i64, after: u64, most: u32) -> Result<LogPage, String> {
+    fn events(&mut self, job: i64, after: u64, most: u32) -> Result<LogPage, DbError> {
         let rest = format!("job = $1::bigint and seq > $2::bigint and {IS_EVENT} order by seq limit $3::bigint");
         self.entries(&rest, &[&job.to_string(), &signed(after), &most.to_string()])
     }
 
-    fn about(&mut self, job: i64, record: u64, most: u32) -> Result<LogPage, String> {
-        let rest = "job = $1::bigint and record = $2::bigint order by seq limit $3::bigint";
-        self.entries(rest, &[&job.to_string(), &signed(record), &most.to_string()])
+    fn about(&mut self, job: i64, record: u64, after: u64, most: u32) -> Result<LogPage, DbError> {
+        let rest = "job = $1::bigint and record = $2::bigint and seq > $3::bigint order by seq limit $4::bigint";
+        self.entries(rest, &[&job.to_string(), &signed(record), &signed(after), &most.to_string()])
     }
 
-    fn entry(&mut self, job: i64, seq: u64) -> Result<Option<Entry>, String> {
+    fn entry(&mut self, job: i64, seq: u64) -> Result<Option<Entry>, DbError> {
         Ok(self.entries("job = $1::bigint and seq = $2::bigint", &[&job.to_string(), &signed(seq)])?.pop())
     }
 
-    fn image(&mut self, job: i64, after: u64, which: Which) -> Result<Option<SavedImage>, String> {
-        let rest = format!("where job = $1::bigint and seq > $2::bigint order by seq {}", which.order());
-        let given = [job.to_string(), signed(after)];
-        let rows = self.query(&format!("select {IMAGE_COLUMNS} from image {rest}"), &[&given[0], &given[1]])?;
-        rows.first().map(|row| image_of(row).ok_or_else(|| "a row of image has an empty cell".to_string())).transpose()
+    fn image(&mut self, job: i64, after: u64) -> Result<Option<SavedImage>, DbError> {
+        let rest = "where job = $1::bigint and seq > $2::bigint order by seq limit 1";
+        self.one(&format!("select {IMAGE_COLUMNS} from image {rest}"), &[&job.to_string(), &signed(after)])
     }
 
-    fn images(&mut self, job: i64) -> Result<Vec<KeptImage>, String> {
+    fn images(&mut self, job: i64) -> Result<Vec<KeptImage>, DbError> {
         let sql = "select seq, at, bytes from image where job = $1::bigint order by seq";
-        let rows = self.query(sql, &[&job.to_string()])?;
-        rows.iter().map(|row| kept_of(row).ok_or_else(|| format!("a row of image is {row:?}"))).collect()
+        self.all(sql, &[&job.to_string()])
     }
 
-    fn first(&mut self, job: i64) -> Result<Option<u64>, String> {
-        let rows = self.query("select min(seq) from call where job = $1::bigint", &[&job.to_string()])?;
-        Ok(rows.first().and_then(|row| row.first()?.as_ref()?.parse().ok()))
+    fn summaries(&mut self, job: i64) -> Result<Vec<KeptSummary>, DbError> {
+        let sql = "select seq, max(whole) from summary where job = $1::bigint group by seq order by seq";
+        self.all(sql, &[&job.to_string()])
+    }
+
+    fn summary(&mut self, job: i64, seq: u64) -> Result<Option<String>, DbError> {
+        let sql = "select text, whole from summary where job = $1::bigint and seq = $2::bigint order by part";
+        Ok(whole(self.all(sql, &[&job.to_string(), &signed(seq)])?))
+    }
+
+    fn past(&mut self, job: i64, after: u64, most: u32) -> Result<Vec<PastRecord>, DbError> {
+        let sql =
+            "select job, id, text from past where job = $1::bigint and id > $2::bigint order by id limit $3::bigint";
+        self.all(sql, &[&job.to_string(), &signed(after), &most.to_string()])
+    }
+
+    fn room(&mut self) -> Result<Room, DbError> {
+        let bytes = self.one("select pg_database_size(current_database())", &[])?;
+        Ok(Room { bytes: bytes.ok_or(DbError::Odd("the database does not tell its size"))?, free: None })
+    }
+
+    fn first(&mut self, job: i64) -> Result<Option<u64>, DbError> {
+        Ok(self.one("select min(seq) from call where job = $1::bigint", &[&job.to_string()])?.flatten())
+    }
+
+    fn lengths_after(&mut self, name: &str) -> Result<Option<String>, DbError> {
+        let sql = "select lengths from log_start where number > (select number from log_start where name = $1) order by number limit 1";
+        let rows = self.query(sql, &[name])?;
+        Ok(rows.into_iter().next().and_then(|row| row.into_iter().next()?))
+    }
+
+    fn noted(&mut self) -> Result<u64, DbError> {
+        Ok(self.one::<Option<u64>>("select max(at) from clock", &[])?.flatten().unwrap_or(0))
+    }
+
+    fn jobs_after(&mut self, number: i64) -> Result<Vec<Opening>, DbError> {
+        let sql = "select job, name, config, shape, started from job where job > $1::bigint order by job";
+        self.all(sql, &[&number.to_string()])
+    }
+
+    fn last_moment(&mut self) -> Result<u64, DbError> {
+        Ok(self.one::<Option<u64>>("select max(at) from call", &[])?.flatten().unwrap_or(0))
+    }
+
+    fn changed(&mut self, since: u64) -> Result<Option<Vec<(i64, u64)>>, DbError> {
+        let sql = "select job, max(at) from (
+            select job, at from call where at >= $1::bigint union all select job, at from image where at >= $1::bigint) it
+            group by job";
+        self.all(sql, &[&signed(since)]).map(Some)
+    }
+
+    fn logs(&mut self, after: &[(i64, u64)], most: u32) -> Result<LogPage, DbError> {
+        if after.is_empty() {
+            return Ok(LogPage::new());
+        }
+        let asked = format!(
+            "select it.* from unnest($1::bigint[], $2::bigint[]) u(job, after) cross join lateral (
+            select {COLUMNS} from call where call.job = u.job and call.seq > u.after order by seq limit $3::bigint) it
+            limit $3::bigint"
+        );
+        // the database counts the bytes, so it sends no more
+        let before =
+            "sum(octet_length(line) + octet_length(answer)) over (rows between unbounded preceding and 1 preceding)";
+        let sql = format!(
+            "select {COLUMNS} from (select *, {before} as before from ({asked}) asked) counted
+            where before is null or before < {PAGE_BYTES}"
+        );
+        let [jobs, places] = arrays(after);
+        self.all(&sql, &[&jobs, &places, &most.to_string()])
+    }
+
+    fn images_of(&mut self, jobs: &[i64]) -> Result<Vec<(i64, KeptImage)>, DbError> {
+        let sql = "select job, seq, at, bytes from image where job = any($1::bigint[]) order by job, seq";
+        self.all(sql, &[&array(jobs.iter())])
+    }
+
+    fn summaries_of(&mut self, jobs: &[i64]) -> Result<Vec<(i64, KeptSummary)>, DbError> {
+        let sql = "select job, seq, max(whole) from summary where job = any($1::bigint[]) group by job, seq order by job, seq";
+        self.all(sql, &[&array(jobs.iter())])
+    }
+
+    fn images_at(&mut self, places: &[(i64, u64)]) -> Result<Vec<SavedImage>, DbError> {
+        let from = "image join unnest($1::bigint[], $2::bigint[]) u(job, seq) using (job, seq)";
+        let [jobs, places] = arrays(places);
+        self.all(&format!("select {IMAGE_COLUMNS} from {from}"), &[&jobs, &places])
+    }
+
+    fn firsts(&mut self, jobs: &[i64]) -> Result<Vec<(i64, u64)>, DbError> {
+        let sql = "select u.job, first.seq from unnest($1::bigint[]) u(job) cross join lateral (
+            select min(seq) as seq from call where call.job = u.job) first where first.seq is not null";
+        self.all(sql, &[&array(jobs.iter())])
     }
 
     fn leader(&mut self) -> Option<String> {
@@ -87,60 +195,17 @@ impl Reader for PgReader {
     }
 }
 
+/// Numbers as `bigint[]` reads them.
+fn array<T: ToString>(numbers: impl Iterator<Item = T>) -> String {
+    format!("{{{}}}", numbers.map(|number| number.to_string()).collect::<Vec<_>>().join(","))
+}
+
+/// Places of jobs, as two arrays.
+fn arrays(places: &[(i64, u64)]) -> [String; 2] {
+    [array(places.iter().map(|(job, _)| job)), array(places.iter().map(|(_, place)| signed(*place)))]
+}
+
 /// A number as `bigint` reads it.
 fn signed(number: u64) -> String {
     i64::try_from(number).unwrap_or(i64::MAX).to_string()
-}
-
-fn entry_of(row: &[Option<String>]) -> Option<Entry> {
-    let [job, seq, at, record, line, answer, ended, waiting] = row else {
-        return None;
-    };
-    Some(Entry {
-        job: job.as_ref()?.parse().ok()?,
-        seq: seq.as_ref()?.parse().ok()?,
-        at: at.as_ref()?.parse().ok()?,
-        record: record.as_ref().and_then(|id| id.parse().ok()),
-        line: line.clone()?,
-        answer: answer.clone()?,
-        ended: ended.clone(),
-        waiting: waiting.as_ref()?.parse().ok()?,
-    })
-}
-
-fn image_of(row: &[Option<String>]) -> Option<SavedImage> {
-    let [job, seq, at, digest, shape, completed, event, text] = row else {
-        return None;
-    };
-    let image = Image {
-        job: job.as_ref()?.parse().ok()?,
-        seq: seq.as_ref()?.parse().ok()?,
-        at: at.as_ref()?.parse().ok()?,
-        shape: shape.as_ref()?.split(' ').filter_map(|word| word.parse().ok()).collect(),
-        last_completed: completed.as_ref().and_then(|at| at.parse().ok()),
-        last_event: event.as_ref()?.parse().ok()?,
-        text: text.clone()?,
-    };
-    Some(SavedImage { image, digest: digest.clone()? })
-}
-
-fn kept_of(row: &[Option<String>]) -> Option<KeptImage> {
-    let [seq, at, bytes] = row else {
-        return None;
-    };
-    let number = |cell: &Option<String>| cell.as_ref()?.parse().ok();
-    Some(KeptImage { seq: number(seq)?, at: number(at)?, bytes: number(bytes)? })
-}
-
-fn opening_of(row: &[Option<String>]) -> Option<Opening> {
-    let [number, name, config, shape, started] = row else {
-        return None;
-    };
-    Some(Opening {
-        number: number.as_ref()?.parse().ok()?,
-        name: name.clone()?,
-        settings: parse_config(config.as_ref()?)?,
-        shape: shape.as_ref()?.split(' ').map(|word| word.parse().ok()).collect::<Option<_>>()?,
-        started: started.as_ref()?.parse().ok()?,
-    })
 }

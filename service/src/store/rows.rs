@@ -1,6 +1,6 @@
 //! What a database of the service does: commits groups, and reads the log.
-use crate::model::{Cut, Entry, Image, KeptImage, Opening};
-use std::fmt;
+use super::error::{DbError, Failure};
+use crate::model::{Cut, Entry, Image, KeptImage, KeptSummary, Opening, PastRecord, SummaryPart};
 use std::time::Duration;
 
 /// What one transaction commits, in this order.
@@ -13,12 +13,17 @@ pub struct Group {
     /// Images to delete: their jobs and places.
     pub dropped: Vec<(i64, u64)>,
     pub cuts: Vec<Cut>,
+    pub summaries: Vec<SummaryPart>,
+    pub past: Vec<PastRecord>,
+    /// Summaries to delete: their jobs and places.
+    pub dropped_summaries: Vec<(i64, u64)>,
 }
 
 impl Group {
     pub fn is_empty(&self) -> bool {
         let has_calls = !(self.jobs.is_empty() && self.entries.is_empty() && self.requests.is_empty());
-        !has_calls && self.images.is_empty() && self.dropped.is_empty() && self.cuts.is_empty()
+        let has_history = !(self.summaries.is_empty() && self.past.is_empty() && self.dropped_summaries.is_empty());
+        !has_calls && !has_history && self.images.is_empty() && self.dropped.is_empty() && self.cuts.is_empty()
     }
 }
 
@@ -41,63 +46,48 @@ pub struct SavedImage {
     pub digest: String,
 }
 
-/// The version of the tables.
-pub const VERSION: i64 = 1;
+/// How many identities the log keeps.
+pub const MOST_STARTS: i64 = 64;
 
-/// Why a database can't be used.
-pub enum Unusable {
-    /// A newer program made its tables, so no start of this program can read them.
-    Newer(i64),
-    Failed(String),
-}
+/// The version of the tables. Each database has a step of SQL for each: only a start over tables of an earlier version runs it.
+pub const VERSION: usize = 2;
 
-impl Unusable {
-    /// Refuses tables of a newer version.
-    pub fn check(found: i64) -> Result<(), Unusable> {
-        match found {
-            _ if found > VERSION => Err(Unusable::Newer(found)),
-            _ => Ok(()),
-        }
-    }
-}
-
-impl fmt::Display for Unusable {
-    fn fmt(&self, f: &mut fmt::Formatter<'_>) -> fmt::Result {
-        match self {
-            Unusable::Newer(found) => write!(
-                f,
-                "the tables of the database have version {found}, and this program knows those up to {VERSION}: run the program that made them, or a newer one"
-            ),
-            Unusable::Failed(why) => write!(f, "{why}"),
-        }
-    }
-}
-
-/// Why a group was not committed.
-#[derive(Debug)]
-pub enum Failure {
-    /// Certainly rolled back: the same group may be written again.
-    Again(String),
-    /// It may or may not have been committed, or this process no longer leads. The process ends, and its next start reads
-    /// what was committed.
-    Lost(String),
+/// The steps after a version, each of which makes or changes tables. They can be run again.
+pub fn steps_after(found: i64, steps: [&'static str; VERSION]) -> impl Iterator<Item = &'static str> {
+    steps.into_iter().skip(usize::try_from(found).unwrap_or(0))
 }
 
 pub type Written = Result<(), Failure>;
 
+/// Which process leads.
+#[derive(Clone, Copy, Debug, PartialEq, Eq)]
+pub enum Lead {
+    /// This one, which may write in this epoch from now on.
+    Here { epoch: u64 },
+    /// Another one, and whether it has committed something since this was last asked.
+    Elsewhere { committed: bool },
+}
+
 /// The writer's connection.
 pub trait Store: Send {
-    /// Tries to lead: the epoch in which this process may write from now on, or `None` if another process leads.
-    fn lead(&mut self) -> Result<Option<u64>, String>;
+    /// Tries to lead. The lease counts from before this was called.
+    fn lead(&mut self) -> Result<Lead, DbError>;
+
+    /// Gives the log the identity `name`, now that this process leads and each job has this many calls. Fails if it no
+    /// longer leads.
+    fn begin(&mut self, name: &str, lengths: &str) -> Result<(), DbError>;
 
     /// Commits a group, or renews the lease if it is empty.
     fn commit(&mut self, group: &Group) -> Written;
 
-    /// The answers that were committed under a key.
-    fn keyed(&mut self, job: i64, key: &str) -> Result<Option<Keyed>, String>;
+    /// The answers that were committed under these keys of jobs.
+    fn keyed(&mut self, keys: &[(i64, String)]) -> Result<Vec<Keyed>, DbError>;
 
-    /// Deletes keys that are older than the moment `before`.
-    fn forget_keys(&mut self, before: u64) -> Result<(), String>;
+    /// Deletes keys that are older than the moment `before`, at most `most` of them, and returns how many it deleted.
+    fn forget_keys(&mut self, before: u64, most: u64) -> Result<u64, DbError>;
+
+    /// Writes down that the service runs at this moment.
+    fn note(&mut self, at: u64) -> Result<(), DbError>;
 
     /// How long the writer may wait before it has to commit again, an empty group too.
     fn beat(&self) -> Duration;
@@ -109,11 +99,8 @@ pub trait Store: Send {
     fn release(&mut self);
 }
 
-/// The rows of `call` that are events for engines: all but acknowledgements and declines that end no record, held ticks and
-/// the outbox's calls.
-pub const IS_EVENT: &str =
-    "(answer like 'ack completed%' or line like 'tick %' and answer not like '%held%' or ended is not null \
-    or line like 'savepoint %' or line like 'restore %' or line like 'cancel %')";
+/// Which rows of `call` are events for engines.
+pub const IS_EVENT: &str = include_str!("../../sql/event.sql");
 
 /// The columns of an [`Entry`].
 pub const COLUMNS: &str = "job, seq, at, record, line, answer, ended, waiting";
@@ -121,50 +108,143 @@ pub const COLUMNS: &str = "job, seq, at, record, line, answer, ended, waiting";
 /// The columns of a [`SavedImage`].
 pub const IMAGE_COLUMNS: &str = "job, seq, at, digest, shape, completed, event, text";
 
-/// Which image of a job.
+/// How many bytes something takes, and how many its disk has left, if that can be known here.
 #[derive(Clone, Copy, Debug, PartialEq, Eq)]
-pub enum Which {
-    Newest,
-    Oldest,
+pub struct Room {
+    pub bytes: u64,
+    pub free: Option<u64>,
 }
 
-impl Which {
-    /// The order and limit of a query that returns it alone.
-    pub fn order(self) -> &'static str {
-        match self {
-            Which::Newest => "desc limit 1",
-            Which::Oldest => "limit 1",
-        }
-    }
+/// The text of these parts of a summary, if they are all of them.
+pub fn whole(parts: Vec<(String, u64)>) -> Option<String> {
+    let length = parts.last()?.1;
+    let text: String = parts.into_iter().map(|(text, _)| text).collect();
+    (text.len() as u64 == length).then_some(text)
 }
 
 /// A part of a log, in order.
 pub type LogPage = Vec<Entry>;
 
-/// A connection that only reads.
+/// A part of a log ends behind the call with which its lines and answers have this many bytes, however many calls were asked for.
+pub const PAGE_BYTES: usize = 2 << 20;
+
+/// A connection that only reads. A part of a log that it returns has one call at least, if there is one, and [`PAGE_BYTES`] or one call
+/// more at most. So it is no sign of the end that there are fewer calls than were asked for.
 pub trait Reader: Send {
-    fn jobs(&mut self) -> Result<Vec<Opening>, String>;
+    fn jobs(&mut self) -> Result<Vec<Opening>, DbError>;
 
     /// The entries after `after`, at most `most`.
-    fn log(&mut self, job: i64, after: u64, most: u32) -> Result<LogPage, String>;
+    fn log(&mut self, job: i64, after: u64, most: u32) -> Result<LogPage, DbError>;
 
     /// The entries after `after` that are events, at most `most`.
-    fn events(&mut self, job: i64, after: u64, most: u32) -> Result<LogPage, String>;
+    fn events(&mut self, job: i64, after: u64, most: u32) -> Result<LogPage, DbError>;
 
-    /// The entries about a record, at most `most`.
-    fn about(&mut self, job: i64, record: u64, most: u32) -> Result<LogPage, String>;
+    /// The entries after `after` that are about a record, at most `most`.
+    fn about(&mut self, job: i64, record: u64, after: u64, most: u32) -> Result<LogPage, DbError>;
 
     /// The entry at a place.
-    fn entry(&mut self, job: i64, seq: u64) -> Result<Option<Entry>, String>;
+    fn entry(&mut self, job: i64, seq: u64) -> Result<Option<Entry>, DbError>;
 
-    /// An image after a place.
-    fn image(&mut self, job: i64, after: u64, which: Which) -> Result<Option<SavedImage>, String>;
+    /// The first image after a place.
+    fn image(&mut self, job: i64, after: u64) -> Result<Option<SavedImage>, DbError>;
 
     /// The images of a job, in order.
-    fn images(&mut self, job: i64) -> Result<Vec<KeptImage>, String>;
+    fn images(&mut self, job: i64) -> Result<Vec<KeptImage>, DbError>;
+
+    /// The summaries of a job's history, in order.
+    fn summaries(&mut self, job: i64) -> Result<Vec<KeptSummary>, DbError>;
+
+    /// The text of a summary; `None` if a part is missing.
+    fn summary(&mut self, job: i64, seq: u64) -> Result<Option<String>, DbError>;
+
+    /// The records after a number that ended, at most `most`.
+    fn past(&mut self, job: i64, after: u64, most: u32) -> Result<Vec<PastRecord>, DbError>;
+
+    /// How much room the database takes, and has.
+    fn room(&mut self) -> Result<Room, DbError>;
 
     /// The first call that the log has.
-    fn first(&mut self, job: i64) -> Result<Option<u64>, String>;
+    fn first(&mut self, job: i64) -> Result<Option<u64>, DbError>;
+
+    /// How many calls each job had when the identity `name` of the log ended; `None` if the log does not know that it
+    /// began, or ended.
+    fn lengths_after(&mut self, name: &str) -> Result<Option<String>, DbError>;
+
+    /// The last moment that a leader wrote down by [`Store::note`]; 0: none.
+    fn noted(&mut self) -> Result<u64, DbError> {
+        Ok(0)
+    }
+
+    /// The jobs with a number above `number`, in order.
+    fn jobs_after(&mut self, number: i64) -> Result<Vec<Opening>, DbError> {
+        let mut jobs = self.jobs()?;
+        jobs.retain(|job| job.number > number);
+        Ok(jobs)
+    }
+
+    /// The last moment of all logs, from which on [`Reader::changed`] tells what is new.
+    fn last_moment(&mut self) -> Result<u64, DbError> {
+        Ok(0)
+    }
+
+    /// The jobs that have calls or images of this moment or a later one, each with the last moment of these. A database whose only
+    /// process leads need not know: then it is `None`.
+    fn changed(&mut self, _since: u64) -> Result<Option<Vec<(i64, u64)>>, DbError> {
+        Ok(None)
+    }
+
+    /// The entries of jobs, each after a place: those of a job in order and without gaps. There are at most `most` of all, and about
+    /// [`PAGE_BYTES`]; none if there are no more.
+    fn logs(&mut self, after: &[(i64, u64)], most: u32) -> Result<LogPage, DbError> {
+        let (mut page, mut bytes) = (LogPage::new(), 0);
+        for (job, seq) in after {
+            let room = most.saturating_sub(u32::try_from(page.len()).unwrap_or(most));
+            if room == 0 || bytes >= PAGE_BYTES {
+                break;
+            }
+            let entries = self.log(*job, *seq, room)?;
+            bytes += entries.iter().map(|entry| entry.line.len() + entry.answer.len()).sum::<usize>();
+            page.extend(entries);
+        }
+        Ok(page)
+    }
+
+    /// The images of jobs, in order.
+    fn images_of(&mut self, jobs: &[i64]) -> Result<Vec<(i64, KeptImage)>, DbError> {
+        let mut found = Vec::new();
+        for job in jobs {
+            found.extend(self.images(*job)?.into_iter().map(|image| (*job, image)));
+        }
+        Ok(found)
+    }
+
+    /// The summaries of jobs, in order.
+    fn summaries_of(&mut self, jobs: &[i64]) -> Result<Vec<(i64, KeptSummary)>, DbError> {
+        let mut found = Vec::new();
+        for job in jobs {
+            found.extend(self.summaries(*job)?.into_iter().map(|summary| (*job, summary)));
+        }
+        Ok(found)
+    }
+
+    /// The images at these places. One that is gone is left out.
+    fn images_at(&mut self, places: &[(i64, u64)]) -> Result<Vec<SavedImage>, DbError> {
+        let mut found = Vec::new();
+        for (job, seq) in places {
+            let image = self.image(*job, seq.saturating_sub(1))?;
+            found.extend(image.filter(|saved| saved.image.seq == *seq));
+        }
+        Ok(found)
+    }
+
+    /// The first calls that the logs of jobs have.
+    fn firsts(&mut self, jobs: &[i64]) -> Result<Vec<(i64, u64)>, DbError> {
+        let mut found = Vec::new();
+        for job in jobs {
+            found.extend(self.first(*job)?.map(|first| (*job, first)));
+        }
+        Ok(found)
+    }
 
     /// The address of the leader, if it is known.
     fn leader(&mut self) -> Option<String>;

@@ -1,10 +1,19 @@
 //! All jobs of the service, brought up to date with the log.
-use crate::model::{parse_line, Entry, Fault, Job, Keeping, Kept, NoJob, Opening, Outcome};
-use crate::store::{Reader, Which};
-use std::collections::HashMap;
-use std::fmt;
+use crate::model::{parse_line, Entry, Fault, Job, Keeping, Kept, KeptImage, KeptSummary, NoJob, Opening, Outcome};
+use crate::store::{DbError, Failure, Reader, SavedImage};
+use std::collections::{BTreeMap, HashMap};
+use thiserror::Error;
 
 const PAGE: u32 = 10_000;
+/// From which job on: all.
+const ALL: i64 = i64::MIN;
+/// How many calls are made between two reports that the work goes on.
+const BEAT_EACH: usize = 256;
+/// How many bytes of images are read at once, unless one alone has more.
+const BATCH_BYTES: u64 = 16 << 20;
+
+/// Reports that the work goes on. An error ends it.
+pub type Beat<'a> = &'a mut dyn FnMut() -> Result<(), StartError>;
 
 /// The jobs, each at its place, and their names.
 #[derive(Default)]
@@ -12,40 +21,45 @@ pub struct Jobs {
     jobs: Vec<Job>,
     places: HashMap<String, usize>,
     last_moment: u64,
+    /// The last moment of the logs when they were read.
+    read_to: Option<u64>,
 }
 
 /// Why the jobs could not be replayed from the log.
-#[derive(Debug)]
+#[derive(Debug, Error)]
 pub enum StartError {
     /// The log can't be read.
-    Unread(String),
+    #[error("the log can't be read: {0}")]
+    Unread(#[from] DbError),
     /// A call has another answer than in the log. So another library wrote the log, or the log was changed.
+    #[error("job {job}, call {seq} ({line:?}): the log says {logged:?}, and this program answers {answered:?}")]
     Differs { job: String, seq: u64, line: String, logged: String, answered: String },
     /// A call of the log is missing, or can't be read as one.
+    #[error("job {job}, call {seq}: {why}")]
     Damaged { job: String, seq: u64, why: String },
     /// An image is not as it was written, or the library refuses it.
+    #[error("job {job}, the image after call {seq}: {why}; without its row in the table image the start goes from the image before it")]
     BadImage { job: String, seq: u64, why: String },
     /// Memory ran out. A later start may have more.
+    #[error("job {job}, call {seq}: memory ran out")]
     NoMemory { job: String, seq: u64 },
     /// A job can't be opened.
+    #[error("job {job} can't be opened: {why}")]
     NotOpened { job: String, why: String },
+    /// Another process leads now.
+    #[error("{0}")]
+    NotLeading(Failure),
 }
 
-impl fmt::Display for StartError {
-    fn fmt(&self, f: &mut fmt::Formatter<'_>) -> fmt::Result {
+impl StartError {
+    /// Whether a later start may succeed, without anybody's doing.
+    pub fn may_pass(&self) -> bool {
         match self {
-            StartError::Unread(why) => write!(f, "the log can't be read: {why}"),
-            StartError::Differs { job, seq, line, logged, answered } => write!(
-                f,
-                "job {job}, call {seq} ({line:?}): the log says {logged:?}, and this program answers {answered:?}"
-            ),
-            StartError::Damaged { job, seq, why } => write!(f, "job {job}, call {seq}: {why}"),
-            StartError::BadImage { job, seq, why } => write!(
-                f,
-                "job {job}, the image after call {seq}: {why}; without its row in the table image the start goes from the image before it"
-            ),
-            StartError::NoMemory { job, seq } => write!(f, "job {job}, call {seq}: memory ran out"),
-            StartError::NotOpened { job, why } => write!(f, "job {job} can't be opened: {why}"),
+            StartError::Unread(_) | StartError::NoMemory { .. } | StartError::NotLeading(_) => true,
+            StartError::Differs { .. }
+            | StartError::Damaged { .. }
+            | StartError::BadImage { .. }
+            | StartError::NotOpened { .. } => false,
         }
     }
 }
@@ -59,8 +73,22 @@ impl Jobs {
         &mut self.jobs[place]
     }
 
+    pub fn name(&self, place: usize) -> &str {
+        &self.jobs[place].opening.name
+    }
+
     pub fn place(&self, name: &str) -> Option<usize> {
         self.places.get(name).copied()
+    }
+
+    /// A job's number in the database.
+    pub fn number(&self, name: &str) -> Option<i64> {
+        Some(self.jobs[self.place(name)?].opening.number)
+    }
+
+    /// Each job's number, and how many calls it has.
+    pub fn lengths(&self) -> Vec<(i64, u64)> {
+        self.jobs.iter().map(|job| (job.opening.number, job.seq)).collect()
     }
 
     pub fn all(&mut self) -> impl Iterator<Item = &mut Job> {
@@ -74,7 +102,7 @@ impl Jobs {
 
     /// The number that a new job gets.
     pub fn next_number(&self) -> i64 {
-        self.jobs.iter().map(|job| job.opening.number).max().unwrap_or(0) + 1
+        self.jobs.last().map_or(0, |job| job.opening.number) + 1
     }
 
     /// Opens a job, and returns its place.
@@ -88,71 +116,190 @@ impl Jobs {
     }
 
     /// Makes the calls of the log that these jobs have not made, and returns how many there were. Compares each answer.
-    /// Calls `beat` now and then, to report that the work goes on.
-    pub fn catch_up(&mut self, reader: &mut dyn Reader, beat: &dyn Fn()) -> Result<u64, StartError> {
-        let mut made = 0;
-        for opening in reader.jobs().map_err(StartError::Unread)? {
-            let place = match self.place(&opening.name) {
-                Some(place) => place,
-                None => {
-                    self.open(opening.clone()).map_err(|NoJob(why)| StartError::NotOpened { job: opening.name, why })?
-                }
-            };
-            made += self.catch_up_job(place, reader, beat)?;
+    /// The number of statements does not depend on that of the jobs. Calls `beat` between them and between calls, and ends if that fails.
+    pub fn catch_up(&mut self, reader: &mut dyn Reader, beat: Beat) -> Result<u64, StartError> {
+        let changed = self.changed(reader)?;
+        beat()?;
+        let last = self.next_number() - 1;
+        let (mut behind, from) = (changed, self.jobs.len());
+        for opening in reader.jobs_after(last)? {
+            let name = opening.name.clone();
+            self.open(opening).map_err(|NoJob(why)| StartError::NotOpened { job: name, why })?;
+        }
+        behind.extend(from..self.jobs.len());
+        self.resume_all(from..self.jobs.len(), reader, beat)?;
+        self.read_logs(behind, reader, beat)
+    }
+
+    /// The places of jobs that may have calls which were not made here.
+    fn changed(&mut self, reader: &mut dyn Reader) -> Result<Vec<usize>, StartError> {
+        let Some(since) = self.read_to else {
+            self.read_to = Some(reader.last_moment()?);
+            return Ok((0..self.jobs.len()).collect());
+        };
+        let Some(changed) = reader.changed(since)? else {
+            return Ok((0..self.jobs.len()).collect());
+        };
+        // calls that are committed later have this moment or a later one
+        self.read_to = changed.iter().map(|(_, at)| *at).max().max(Some(since));
+        Ok(changed.iter().filter_map(|(job, _)| self.place_of(*job)).collect())
+    }
+
+    /// The place of a job by its number, in whose order the jobs are.
+    fn place_of(&self, number: i64) -> Option<usize> {
+        self.jobs.binary_search_by_key(&number, |job| job.opening.number).ok()
+    }
+
+    /// Makes the calls of several jobs, and goes on from images where calls were cut. Returns how many calls there were.
+    fn read_logs(&mut self, behind: Vec<usize>, reader: &mut dyn Reader, beat: Beat) -> Result<u64, StartError> {
+        let (mut behind, mut made) = (behind, 0);
+        while !behind.is_empty() {
+            let stopped = self.read_pages(&behind, &mut made, reader, beat)?;
+            // the leader may have cut faster than this process reads
+            behind = self.resume_all(stopped.keys().copied(), reader, beat)?;
+            let gap = stopped
+                .iter()
+                .find_map(|(place, found)| (*found).filter(|_| !behind.contains(place)).map(|seq| (*place, seq)));
+            if let Some((place, seq)) = gap {
+                let (job, why) = (self.jobs[place].opening.name.clone(), missing(&self.jobs[place]));
+                return Err(StartError::Damaged { job, seq, why });
+            }
         }
         Ok(made)
     }
 
-    fn catch_up_job(&mut self, place: usize, reader: &mut dyn Reader, beat: &dyn Fn()) -> Result<u64, StartError> {
-        let job = &mut self.jobs[place];
-        let mut made = 0;
-        if job.seq == 0 {
-            resume(job, reader)?;
-        }
+    /// Makes the calls that follow in the logs of several jobs. Returns the places of those jobs that have none, or that have a later one,
+    /// and which.
+    fn read_pages(
+        &mut self,
+        places: &[usize],
+        made: &mut u64,
+        reader: &mut dyn Reader,
+        beat: Beat,
+    ) -> Result<BTreeMap<usize, Option<u64>>, StartError> {
+        let mut behind: BTreeMap<i64, usize> =
+            places.iter().map(|place| (self.jobs[*place].opening.number, *place)).collect();
+        let mut stopped: BTreeMap<usize, Option<u64>> = places.iter().map(|place| (*place, None)).collect();
+        let mut from = ALL;
         loop {
-            beat();
-            let page = reader.log(job.opening.number, job.seq, PAGE).map_err(StartError::Unread)?;
-            let follows = page.first().is_some_and(|entry| entry.seq == job.seq + 1);
-            // a standby may have been slower than the leader's cuts
-            if !follows && resume(job, reader)? {
-                continue;
+            beat()?;
+            let asked = behind.range(from..).map(|(job, place)| (*job, self.jobs[*place].seq));
+            let page = reader.logs(&asked.collect::<Vec<_>>(), PAGE)?;
+            match page.last() {
+                // the jobs before it have been read, if the rows came in order: then the last page, of all jobs, has none
+                Some(entry) => from = entry.job,
+                None if from == ALL => return Ok(stopped),
+                None => from = ALL,
             }
-            page.iter().try_for_each(|entry| repeat(job, entry))?;
-            made += page.len() as u64;
-            self.last_moment = self.last_moment.max(job.at);
-            if page.is_empty() {
-                return Ok(made);
+            for entries in page.chunk_by(|one, next| one.job == next.job) {
+                let (number, first) = (entries[0].job, entries[0].seq);
+                let Some(place) = behind.get(&number).copied() else {
+                    continue;
+                };
+                if first != self.jobs[place].seq + 1 {
+                    behind.remove(&number);
+                    stopped.insert(place, Some(first));
+                    continue;
+                }
+                self.make_all(place, entries, beat)?;
+                *made += entries.len() as u64;
+                stopped.remove(&place);
             }
         }
     }
 
+    fn make_all(&mut self, place: usize, entries: &[Entry], beat: Beat) -> Result<(), StartError> {
+        let job = &mut self.jobs[place];
+        for piece in entries.chunks(BEAT_EACH) {
+            beat()?;
+            piece.iter().try_for_each(|entry| repeat(job, entry))?;
+        }
+        self.last_moment = self.last_moment.max(job.at);
+        Ok(())
+    }
+
+    /// Goes on from the last images of jobs that are after the calls which these have. Returns the places of those jobs. If the leader
+    /// has deleted an image meanwhile, its job stays as it is: there is a later one.
+    fn resume_all(
+        &mut self,
+        places: impl Iterator<Item = usize>,
+        reader: &mut dyn Reader,
+        beat: Beat,
+    ) -> Result<Vec<usize>, StartError> {
+        let numbers: Vec<i64> = places.map(|place| self.jobs[place].opening.number).collect();
+        if numbers.is_empty() {
+            return Ok(Vec::new());
+        }
+        // of each job the last one stays
+        let mut newest: BTreeMap<i64, KeptImage> = reader.images_of(&numbers)?.into_iter().collect();
+        newest.retain(|job, image| self.place_of(*job).is_some_and(|place| image.seq > self.jobs[place].seq));
+        for batch in batches(&newest) {
+            for saved in reader.images_at(&batch)? {
+                beat()?;
+                if let Some(place) = self.place_of(saved.image.job) {
+                    resume(&mut self.jobs[place], &saved)?;
+                    self.last_moment = self.last_moment.max(saved.image.at);
+                }
+            }
+        }
+        Ok(newest.keys().filter_map(|job| self.place_of(*job)).collect())
+    }
+
     /// Reads what the database has of each job's log.
-    pub fn take_stock(&mut self, reader: &mut dyn Reader, keeping: Keeping) -> Result<(), StartError> {
+    pub fn take_stock(&mut self, reader: &mut dyn Reader, keeping: Keeping, beat: Beat) -> Result<(), StartError> {
+        let numbers: Vec<i64> = self.jobs.iter().map(|job| job.opening.number).collect();
+        let mut images: HashMap<i64, Vec<KeptImage>> = HashMap::new();
+        for (job, image) in reader.images_of(&numbers)? {
+            images.entry(job).or_default().push(image);
+        }
+        beat()?;
+        let mut summaries: HashMap<i64, Vec<KeptSummary>> = HashMap::new();
+        for (job, summary) in reader.summaries_of(&numbers)? {
+            summaries.entry(job).or_default().push(summary);
+        }
+        beat()?;
+        let firsts: HashMap<i64, u64> = reader.firsts(&numbers)?.into_iter().collect();
         for job in &mut self.jobs {
             let number = job.opening.number;
-            let images = reader.images(number).map_err(StartError::Unread)?;
-            let first = reader.first(number).map_err(StartError::Unread)?;
-            job.kept = Kept::of(images, first, keeping);
+            let images = images.remove(&number).unwrap_or_default();
+            let summaries = summaries.remove(&number).unwrap_or_default();
+            job.kept = Kept::of(images, &summaries, firsts.get(&number).copied(), keeping);
         }
         Ok(())
     }
 }
 
-/// Goes on from a job's last image, if that is after the calls that the job has. Returns whether there is one.
-fn resume(job: &mut Job, reader: &mut dyn Reader) -> Result<bool, StartError> {
-    let newest = reader.image(job.opening.number, job.seq, Which::Newest).map_err(StartError::Unread)?;
-    let Some(saved) = newest else {
-        return Ok(false);
-    };
+/// Places of images, in groups whose texts have some megabytes.
+fn batches(images: &BTreeMap<i64, KeptImage>) -> Vec<Vec<(i64, u64)>> {
+    let (mut batches, mut bytes) = (Vec::<Vec<(i64, u64)>>::new(), 0);
+    for (job, image) in images {
+        bytes += image.bytes;
+        match batches.last_mut() {
+            Some(batch) if bytes <= BATCH_BYTES => batch.push((*job, image.seq)),
+            _ => {
+                batches.push(vec![(*job, image.seq)]);
+                bytes = image.bytes;
+            }
+        }
+    }
+    batches
+}
+
+/// Goes on from an image of a job.
+fn resume(job: &mut Job, saved: &SavedImage) -> Result<(), StartError> {
     let (name, seq) = (job.opening.name.clone(), saved.image.seq);
     let bad = |why: &str| StartError::BadImage { job: name.clone(), seq, why: why.to_string() };
     if saved.image.digest() != saved.digest {
         return Err(bad("its digest is not that of what it says, so it is damaged"));
     }
-    job.resume(&saved.image).map(|()| true).map_err(|fault| match fault {
+    job.resume(&saved.image).map_err(|fault| match fault {
         Fault::Memory => StartError::NoMemory { job: name.clone(), seq },
         Fault::Refused { name: refusal, .. } => bad(&format!("the library refuses it: {refusal}")),
     })
+}
+
+fn missing(job: &Job) -> String {
+    format!("call {} is missing", job.seq + 1)
 }
 
 /// Makes a call of the log again, and compares its answer.
@@ -160,7 +307,7 @@ fn repeat(job: &mut Job, entry: &Entry) -> Result<(), StartError> {
     let name = job.opening.name.clone();
     let damaged = |why: String| StartError::Damaged { job: name.clone(), seq: entry.seq, why };
     if entry.seq != job.seq + 1 {
-        return Err(damaged(format!("call {} is missing", job.seq + 1)));
+        return Err(damaged(missing(job)));
     }
     let (now, call) = parse_line(&entry.line).ok_or_else(|| damaged(format!("{:?} is no call", entry.line)))?;
     let answered = match job.repeat(&entry.line, &call, now) {

@@ -4,24 +4,47 @@ use super::message::Board;
 use super::round::Round;
 use crate::log;
 use crate::metrics::Metrics;
-use crate::model::{Job, Keeping};
+use crate::model::{Job, Keeping, Kept, Moment};
 use crate::store::Group;
-use std::collections::BTreeSet;
-use std::time::Instant;
+use std::collections::{BTreeMap, BTreeSet};
+use std::time::{Duration, Instant};
 
 /// How many old calls a round deletes, beside as many as it adds.
 const CUT_CALLS: u64 = 1000;
+
+/// After an image or a cut could not be written, none is tried for this time, and that of the same job for twice as long as before.
+const PAUSE: Duration = Duration::from_secs(2);
+const LONGEST_PAUSE: Duration = Duration::from_secs(256);
 
 pub struct Keeper {
     keeping: Keeping,
     /// The places of jobs that may need an image or a cut.
     attend: BTreeSet<usize>,
+    /// The jobs whose last image or cut could not be written.
+    failing: BTreeMap<usize, Pause>,
+    last_failure: Option<Moment>,
+}
+
+/// An image or a cut that is put off.
+struct Pause {
+    since: Moment,
+    length: Duration,
+}
+
+/// What a round writes for one job beside calls, and what the database has of its log if that can't be written.
+pub struct Upkeep {
+    place: usize,
+    before: Kept,
 }
 
 impl Keeper {
     /// Looks at all jobs first.
     pub fn new(keeping: Keeping, jobs: usize) -> Keeper {
-        Keeper { keeping, attend: (0..jobs).collect() }
+        Keeper { keeping, attend: (0..jobs).collect(), failing: BTreeMap::new(), last_failure: None }
+    }
+
+    pub fn keeping(&self) -> Keeping {
+        self.keeping
     }
 
     /// These jobs were called.
@@ -33,15 +56,27 @@ impl Keeper {
     /// the log says. `added` calls were written in the last one.
     pub fn work(&mut self, jobs: &mut Jobs, board: &Board, metrics: &Metrics, added: usize) -> Round {
         let mut round = Round::default();
+        if self.last_failure.is_some_and(|at| at.elapsed() < PAUSE) {
+            return round;
+        }
         let mut later = BTreeSet::new();
         while let Some(place) = self.attend.pop_first() {
+            if self.failing.get(&place).is_some_and(|pause| pause.since.elapsed() < pause.length) {
+                later.insert(place);
+                continue;
+            }
             let job = jobs.at(place);
+            let before = job.kept.clone();
             if job.kept.wants_image(job.seq, self.keeping) {
                 self.save(job, metrics, &mut round.group);
             }
             let (number, most) = (job.opening.number, CUT_CALLS + added as u64);
+            let (images, summaries) = job.kept.take_old();
+            round.group.dropped.extend(images.into_iter().map(|seq| (number, seq)));
+            round.group.dropped_summaries.extend(summaries.into_iter().map(|seq| (number, seq)));
             round.group.cuts.extend(job.kept.cut(number, most, board.history(&job.opening.name)));
             if !round.group.is_empty() {
+                round.upkeep = Some(Upkeep { place, before });
                 round.touched.insert(place);
                 later.insert(place);
                 break;
@@ -57,11 +92,40 @@ impl Keeper {
         let started = Instant::now();
         let Some(image) = job.image() else {
             log::warn(&format!("image job={} calls={}: memory ran out; the log grows", job.opening.name, job.seq));
+            metrics.image_fails(&job.opening.name, true);
             return job.kept.postpone(job.seq);
         };
         metrics.image(started.elapsed());
         let gone = job.kept.add(&image, self.keeping);
         group.dropped.extend(gone.into_iter().map(|seq| (image.job, seq)));
         group.images.push(image);
+    }
+
+    /// The database rolled a round back: takes the image or the cut out of it, so its calls are written without.
+    pub fn put_off(&mut self, jobs: &mut Jobs, round: &mut Round, metrics: &Metrics, why: &str) {
+        let Some(Upkeep { place, before }) = round.upkeep.take() else {
+            return;
+        };
+        let group = &mut round.group;
+        let images = std::mem::take(&mut group.images);
+        group.dropped.clear();
+        group.dropped_summaries.clear();
+        group.cuts.clear();
+        let job = jobs.at(place);
+        job.kept = before;
+        let length = self.failing.get(&place).map_or(PAUSE, |pause| (pause.length * 2).min(LONGEST_PAUSE));
+        self.failing.insert(place, Pause { since: Moment::now(), length });
+        self.last_failure = Some(Moment::now());
+        let (name, what) = (&job.opening.name, if images.is_empty() { "a cut" } else { "an image" });
+        log::warn(&format!("{what} of job {name} is put off for {} s, and calls go on: {why}", length.as_secs()));
+        metrics.image_fails(name, true);
+    }
+
+    /// A round was written.
+    pub fn written(&mut self, round: &Round, jobs: &Jobs, metrics: &Metrics) {
+        if let Some(upkeep) = &round.upkeep {
+            self.failing.remove(&upkeep.place);
+            metrics.image_fails(jobs.name(upkeep.place), false);
+        }
     }
 }

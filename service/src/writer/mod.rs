@@ -1,26 +1,34 @@
 //! The writer: one thread that owns all jobs, makes their calls, commits them in groups, and then answers.
+mod batch;
 mod jobs;
 mod keeper;
+mod lag;
+mod lease;
 mod message;
+mod old_keys;
 mod round;
 mod state;
 mod timer;
 
 pub use jobs::{Jobs, StartError};
-pub use message::{Board, CallsDone, Created, Key, Message, Read, ReadDone};
+pub use lease::Lease;
+pub use message::{Board, CallsDone, Created, ForKeeping, Key, Message, Read, ReadDone};
 pub use state::{JobState, RecordState};
 
 use crate::exit;
 use crate::log;
 use crate::metrics::Metrics;
-use crate::model::{Call, Clock, Keeping, Outcome};
+use crate::model::{Call, Clock, Keeping, Moment, Outcome};
 use crate::store::{Failure, Group, Store};
+use batch::Answered;
 use keeper::Keeper;
+use old_keys::OldKeys;
 use round::Round;
 use std::sync::mpsc::{Receiver, RecvTimeoutError};
 use std::sync::Arc;
 use std::time::{Duration, Instant};
 use timer::Timer;
+use tokio::sync::oneshot::Sender;
 
 /// How many calls share a commit at most.
 const MOST_CALLS: usize = 4096;
@@ -29,9 +37,10 @@ const RETRY_FOR: Duration = Duration::from_secs(10);
 const RETRY_EACH: Duration = Duration::from_millis(200);
 /// How long a tick that could not be made waits for its next try, in milliseconds.
 const TICK_AGAIN: u64 = 1000;
-/// How long answers are kept under their key, in milliseconds.
-const KEEP_KEYS: u64 = 24 * 3_600_000;
-const FORGET_EACH: Duration = Duration::from_secs(60);
+/// How long the writer sleeps at most. Each time it reports that it works, and follows the system's clock.
+const SLEEP: Duration = Duration::from_secs(1);
+/// How often it writes down that the service runs, though no calls come.
+const NOTE_EACH: Duration = Duration::from_secs(3600);
 /// The exit status after which the service is to be started again.
 pub const START_AGAIN: u8 = 75;
 
@@ -45,8 +54,10 @@ pub struct Writer {
     keeper: Keeper,
     /// The next round, with what it writes beside calls.
     next: Round,
-    forgot: Instant,
-    committed: Instant,
+    old_keys: OldKeys,
+    followed: Moment,
+    noted: Moment,
+    lease: Lease,
 }
 
 impl Writer {
@@ -54,15 +65,29 @@ impl Writer {
     pub fn new(
         store: Box<dyn Store>,
         jobs: Jobs,
+        clock: Clock,
+        lease: Lease,
         board: Arc<Board>,
         metrics: Arc<Metrics>,
         keeping: Keeping,
     ) -> Writer {
-        let clock = Clock::starting_after(jobs.last_moment());
         let (timer, keeper, next) = (Timer::default(), Keeper::new(keeping, jobs.len()), Round::default());
-        let now = Instant::now();
-        let mut writer =
-            Writer { store, jobs, clock, timer, board, metrics, keeper, next, forgot: now, committed: now };
+        let (old_keys, now) = (OldKeys::new(), Moment::now());
+        board.set_lease(&lease);
+        let mut writer = Writer {
+            store,
+            jobs,
+            clock,
+            timer,
+            board,
+            metrics,
+            keeper,
+            next,
+            old_keys,
+            followed: now,
+            noted: now,
+            lease,
+        };
         for place in 0..writer.jobs.len() {
             writer.publish(place);
         }
@@ -72,33 +97,54 @@ impl Writer {
     /// Works until a message says to stop.
     pub fn run(mut self, inbox: &Receiver<Message>) {
         loop {
-            let mut next = match inbox.recv_timeout(self.patience()) {
+            let first = match inbox.recv_timeout(self.patience()) {
                 Ok(message) => Some(message),
                 Err(RecvTimeoutError::Timeout) => None,
                 Err(RecvTimeoutError::Disconnected) => return,
             };
             let mut round = std::mem::take(&mut self.next);
-            while let Some(message) = next {
-                self.take_in(&mut round, message);
-                let is_full = round.group.entries.len() >= MOST_CALLS || round.stop;
-                next = if is_full { None } else { inbox.try_recv().ok() };
+            let messages = batch::gather(first, inbox);
+            let answered = Answered::read(&messages, &self.jobs, self.store.as_mut()).unwrap_or_else(|why| lose(&why));
+            for message in messages {
+                self.take_in(&mut round, &answered, message);
             }
             self.tick_due(&mut round);
-            self.commit(&round.group);
-            let (stop, added) = (round.stop, round.group.entries.len());
+            self.commit(&mut round);
+            let (stop, added, keys) = (round.stop, round.group.entries.len(), round.group.requests.len());
             self.keeper.called(&round.touched);
+            let given = std::mem::take(&mut round.given);
             self.answer(round);
+            self.keep(given);
             if stop {
+                self.board.end_lease();
                 self.store.release();
                 return;
             }
+            self.old_keys.work(self.store.as_mut(), &self.metrics, keys, self.clock.now());
             self.next = self.keeper.work(&mut self.jobs, &self.board, &self.metrics, added);
+            self.look_at_clock();
+        }
+    }
+
+    /// Follows the system's clock, and writes a moment down now and then.
+    fn look_at_clock(&mut self) {
+        self.board.beat();
+        if self.followed.elapsed() < SLEEP {
+            return;
+        }
+        self.followed = Moment::now();
+        self.metrics.clock(self.clock.follow());
+        if self.noted.elapsed() >= NOTE_EACH {
+            self.noted = Moment::now();
+            if let Err(why) = self.store.note(self.clock.now()) {
+                log::warn(&format!("the moment is not written down: {why}"));
+            }
         }
     }
 
     /// How long to wait for a message: until a job has to be ticked, or the lease to be renewed.
     fn patience(&self) -> Duration {
-        let beat = self.store.beat().saturating_sub(self.committed.elapsed());
+        let beat = self.store.beat().saturating_sub(self.lease.age()).min(SLEEP).min(self.old_keys.wait());
         let beat = if self.next.group.is_empty() { beat.max(Duration::from_millis(1)) } else { Duration::ZERO };
         match self.timer.next() {
             None => beat,
@@ -106,10 +152,11 @@ impl Writer {
         }
     }
 
-    fn take_in(&mut self, round: &mut Round, message: Message) {
+    fn take_in(&mut self, round: &mut Round, answered: &Answered, message: Message) {
         match message {
             Message::Stop => round.stop = true,
             Message::Read(read, reply) => round.reads.push((read, reply)),
+            Message::Keep(given, reply) => round.given.push((given, reply)),
             Message::Create { name, settings, shape, reply } => {
                 let created = round.create(&mut self.jobs, &name, settings, shape, self.clock.now());
                 round.created.push((created, reply));
@@ -117,7 +164,7 @@ impl Writer {
             Message::Calls { job, calls, key, reply } => {
                 let done = match self.jobs.place(&job) {
                     None => CallsDone::NoJob,
-                    Some(place) => self.keyed_calls(round, place, &calls, key),
+                    Some(place) => self.keyed_calls(round, answered, place, &calls, key),
                 };
                 round.done.push((done, reply));
             }
@@ -125,19 +172,22 @@ impl Writer {
     }
 
     /// Makes the calls of a request, unless it was answered under its key before.
-    fn keyed_calls(&mut self, round: &mut Round, place: usize, calls: &[Call], key: Option<Key>) -> CallsDone {
+    fn keyed_calls(
+        &mut self,
+        round: &mut Round,
+        answered: &Answered,
+        place: usize,
+        calls: &[Call],
+        key: Option<Key>,
+    ) -> CallsDone {
         let Some(key) = key else {
             return CallsDone::Made(self.calls(round, place, calls));
         };
         let job = self.jobs.at(place).opening.number;
-        let known = match round.keyed(job, &key.name) {
-            Some(known) => Ok(Some(known)),
-            None => self.store.keyed(job, &key.name),
-        };
-        match known {
-            Ok(Some(known)) if known.digest == key.digest => CallsDone::Known(known.answers),
-            Ok(Some(_)) => CallsDone::KeyUsed,
-            Ok(None) => {
+        match round.keyed(job, &key.name).or_else(|| answered.get(job, &key.name)) {
+            Some(known) if known.digest == key.digest => CallsDone::Known(known.answers),
+            Some(_) => CallsDone::KeyUsed,
+            None => {
                 let outcomes = self.calls(round, place, calls);
                 let answers = self.board.answers(&outcomes);
                 // if nothing was made, a repeat makes nothing twice
@@ -146,7 +196,6 @@ impl Writer {
                 }
                 CallsDone::Known(answers)
             }
-            Err(why) => lose(&why),
         }
     }
 
@@ -193,50 +242,48 @@ impl Writer {
     }
 
     /// Commits a group, or ends the process: what it left uncommitted was never answered.
-    fn commit(&mut self, group: &Group) {
-        if group.is_empty() && self.committed.elapsed() < self.store.beat() {
+    fn commit(&mut self, round: &mut Round) {
+        if round.group.is_empty() && self.lease.age() < self.store.beat() {
             return;
         }
-        self.write(group);
-        self.forget_keys();
+        self.write(round);
     }
 
-    fn write(&mut self, group: &Group) {
+    fn write(&mut self, round: &mut Round) {
         let first = Instant::now();
-        let mut started = first;
+        self.board.commits(true);
         loop {
-            match self.store.commit(group) {
-                Ok(()) => break,
+            let since = Moment::now();
+            match self.store.commit(&round.group) {
+                Ok(()) => {
+                    self.lease.renewed(since);
+                    break;
+                }
+                // calls do not wait for an image that can't be written
+                Err(Failure::Again(why) | Failure::TooLarge(why)) if round.upkeep.is_some() => {
+                    self.keeper.put_off(&mut self.jobs, round, &self.metrics, &why.to_string());
+                }
                 Err(Failure::Again(why)) if first.elapsed() < RETRY_FOR => {
                     log::warn(&format!("commit is tried again: {why}"));
                     self.board.beat();
                     std::thread::sleep(RETRY_EACH);
-                    started = Instant::now();
                 }
-                Err(Failure::Again(why) | Failure::Lost(why)) => lose(&why),
+                Err(why) => lose(&why),
             }
         }
-        self.committed = started;
+        self.board.commits(false);
+        self.board.set_lease(&self.lease);
         self.board.beat();
-        if !group.entries.is_empty() {
-            self.metrics.commit(group.entries.len(), first.elapsed());
+        self.keeper.written(round, &self.jobs, &self.metrics);
+        if !round.group.entries.is_empty() {
+            self.metrics.commit(round.group.entries.len(), first.elapsed());
         }
     }
 
-    /// Renews the lease if it is old: a leader returns the state of its jobs only while it surely leads.
+    /// Renews the lease if it is old: a leader answers only while it surely leads.
     fn renew(&mut self) {
-        if self.store.lease().is_some_and(|lease| self.committed.elapsed() >= lease) {
-            self.write(&Group::default());
-        }
-    }
-
-    fn forget_keys(&mut self) {
-        if self.forgot.elapsed() < FORGET_EACH {
-            return;
-        }
-        self.forgot = Instant::now();
-        if let Err(why) = self.store.forget_keys(self.clock.now().saturating_sub(KEEP_KEYS)) {
-            log::warn(&format!("old keys stay: {why}"));
+        if !self.lease.is_sure() {
+            self.write(&mut Round::default());
         }
     }
 
@@ -264,6 +311,32 @@ impl Writer {
         }
     }
 
+    /// Commits what the history gives, apart from calls, so that these neither wait for it nor fail with it.
+    fn keep(&mut self, given: Vec<(ForKeeping, Sender<bool>)>) {
+        for (one, reply) in given {
+            let (job, whole, group) = match one {
+                ForKeeping::Summary { job, part } => {
+                    let whole = (part.whole > 0).then_some(part.seq);
+                    (self.jobs.place(&job), whole, Group { summaries: vec![part], ..Group::default() })
+                }
+                ForKeeping::Past(past) => (None, None, Group { past, ..Group::default() }),
+            };
+            let is_written = match self.store.commit(&group) {
+                Ok(()) => true,
+                Err(Failure::Again(why) | Failure::TooLarge(why)) => {
+                    log::warn(&format!("a summary of the history was not written: {why}"));
+                    false
+                }
+                Err(Failure::Lost(why)) => lose(&why),
+            };
+            if let (true, Some(place), Some(seq)) = (is_written, job, whole) {
+                self.jobs.at(place).kept.add_summary(seq, self.keeper.keeping());
+                self.keeper.called(&[place].into());
+            }
+            let _ = reply.send(is_written);
+        }
+    }
+
     /// Wakes the requests that wait for the job's events, and sets its timer.
     fn publish(&mut self, place: usize) {
         let job = self.jobs.at(place);
@@ -279,7 +352,7 @@ fn did_its_work(ticked: &Outcome) -> bool {
 }
 
 /// Ends the process: nothing of the group was answered, and the next start reads what was committed.
-fn lose(why: &str) -> ! {
+fn lose(why: &dyn std::error::Error) -> ! {
     log::error(&format!("the group was not committed, or that is not known; nothing of it was answered: {why}"));
     exit::now(START_AGAIN)
 }

@@ -1,6 +1,7 @@
 //! What one commit collects, and the requests that wait for it.
 use super::jobs::Jobs;
-use super::message::{CallsDone, Created, Key, Read, ReadDone};
+use super::keeper::Upkeep;
+use super::message::{CallsDone, Created, ForKeeping, Key, Read, ReadDone};
 use crate::model::{NoJob, Opening, Settings};
 use crate::store::{Group, Keyed};
 use std::collections::{BTreeSet, HashMap};
@@ -9,9 +10,12 @@ use tokio::sync::oneshot::Sender;
 #[derive(Default)]
 pub struct Round {
     pub group: Group,
+    /// What the group writes beside calls.
+    pub upkeep: Option<Upkeep>,
     pub done: Vec<(CallsDone, Sender<CallsDone>)>,
     pub created: Vec<(Created, Sender<Created>)>,
     pub reads: Vec<(Read, Sender<ReadDone>)>,
+    pub given: Vec<(ForKeeping, Sender<bool>)>,
     /// The places of jobs that were called.
     pub touched: BTreeSet<usize>,
     /// Jobs whose tick did nothing, and when it is tried again.

@@ -1,5 +1,5 @@
 //! A small engine: each subtask acknowledges each checkpoint of a job with a new file, until a number of them have completed.
-//! Its arguments are the service's address, the job's name and that number.
+//! Its arguments are the service's addresses with commas between them, the job's name and that number.
 use relkvanu_client::{Call, Job, Service};
 use serde_json::{json, Value};
 use std::error::Error;
@@ -7,11 +7,11 @@ use std::error::Error;
 #[tokio::main(flavor = "current_thread")]
 async fn main() -> Result<(), Box<dyn Error>> {
     let words: Vec<String> = std::env::args().skip(1).collect();
-    let [url, name, wanted] = &words[..] else {
-        return Err("usage: engine URL JOB CHECKPOINTS".into());
+    let [urls, name, wanted] = &words[..] else {
+        return Err("usage: engine URL[,URL..] JOB CHECKPOINTS".into());
     };
     let wanted: u64 = wanted.parse()?;
-    let service = Service::new(&[url], None)?;
+    let service = Service::new(&urls.split(',').collect::<Vec<_>>(), None)?;
     let job = service.open(name, json!({"interval": 20, "retained": 1}), &[2, 3]).await?;
     let completed = follow(&job, wanted).await?;
     let files = job.take(64).await?;
@@ -22,13 +22,16 @@ async fn main() -> Result<(), Box<dyn Error>> {
 
 /// Takes part in checkpoints until this many have completed.
 async fn follow(job: &Job, wanted: u64) -> Result<u64, Box<dyn Error>> {
-    let (mut after, mut completed) = (0, 0);
+    let (mut follower, mut completed) = (job.follower(Some(0)), 0);
     loop {
-        let (upto, events) = job.events(after, 25).await?;
-        after = upto;
+        let events = follower.next(25).await?;
         completed += events.iter().filter(|event| event["event"] == "completed").count() as u64;
         if completed >= wanted {
             return Ok(completed);
+        }
+        // the job has failed, or a backup of the service was restored
+        if events.iter().any(|event| event["event"] == "failed") {
+            job.calls(&[Call::Restore { savepoint: None, shape: None }]).await?;
         }
         for id in events.iter().filter(|event| event["event"] == "triggered").filter_map(number) {
             job.calls(&acknowledgements(id)).await?;

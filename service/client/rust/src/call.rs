@@ -56,11 +56,6 @@ impl Call {
             Call::Undeleted { file } => json!({"call": "undeleted", "file": file.to_string()}),
         }
     }
-
-    /// Whether a repeat of the call does its work a second time.
-    pub(crate) fn wants_key(&self) -> bool {
-        matches!(self, Call::Take { .. } | Call::Savepoint)
-    }
 }
 
 fn texts(files: &[u64]) -> Vec<String> {
@@ -96,6 +91,7 @@ impl Answer {
     }
 
     /// The files of a take.
+    #[must_use]
     pub fn files(&self) -> Option<Vec<u64>> {
         let Answer::Made { reply, .. } = self else {
             return None;
@@ -104,6 +100,7 @@ impl Answer {
     }
 
     /// Whether the call completed a record.
+    #[must_use]
     pub fn is_completed(&self) -> bool {
         matches!(self, Answer::Made { reply, .. } if reply["ack"] == "completed")
     }

@@ -1,25 +1,35 @@
 //! Requests over HTTP, which are made again until they are answered.
+use crate::addresses::{jittered, Addresses};
+use hyper::body::HttpBody;
 use hyper::client::HttpConnector;
-use hyper::header::{HeaderValue, AUTHORIZATION, CONTENT_TYPE};
+use hyper::header::{HeaderMap, HeaderValue, AUTHORIZATION, CONTENT_TYPE, RETRY_AFTER};
 use hyper::{Body, Client, Method, Request, Uri};
+use hyper_tls::HttpsConnector;
 use serde_json::Value;
 use std::collections::hash_map::RandomState;
 use std::fmt;
+use std::future::Future;
 use std::hash::BuildHasher;
-use std::sync::atomic::{AtomicUsize, Ordering};
-use std::time::Duration;
+use std::sync::Arc;
+use std::time::{Duration, SystemTime};
 use tokio::time::Instant;
 
-/// For how long a request is made again.
+/// For how long a request is made again, if nothing else is said.
 const PATIENCE: Duration = Duration::from_secs(60);
-/// How long one try may take: longer than a poll of events waits.
-const ONE_TRY: Duration = Duration::from_secs(90);
+/// In what time a machine that is there takes a connection.
+const CONNECT: Duration = Duration::from_secs(2);
+/// In what time an address has to answer, besides the wait of a poll, and a second for this many bytes of the request.
+const ONE_TRY: Duration = Duration::from_secs(10);
+const BYTES_EACH_SECOND: usize = 256 << 10;
 const FIRST_PAUSE: Duration = Duration::from_millis(50);
 const LONGEST_PAUSE: Duration = Duration::from_secs(1);
+/// The longest Retry-After that is believed.
+const LONGEST_LATER: Duration = Duration::from_secs(60);
+const LEADER: &str = "relkvanu-leader";
 
 #[derive(Debug)]
 pub enum Error {
-    /// The address or the token can't be used.
+    /// The address, its certificate or the token can't be used.
     Address(String),
     /// The service was not reached, or did not answer.
     Unreached(String),
@@ -42,15 +52,62 @@ impl fmt::Display for Error {
 
 impl std::error::Error for Error {}
 
+/// Is told of each try that failed and is made again.
+pub type Notice = Arc<dyn Fn(&Error) + Send + Sync>;
+
+/// For how long requests are made again, and who is told.
+#[derive(Clone)]
+pub struct Manner {
+    /// `None`: for ever.
+    pub patience: Option<Duration>,
+    pub notice: Option<Notice>,
+}
+
+impl Default for Manner {
+    fn default() -> Manner {
+        Manner { patience: Some(PATIENCE), notice: None }
+    }
+}
+
 pub struct Requests {
-    client: Client<HttpConnector>,
-    urls: Vec<String>,
-    /// The place of the address that answered last.
-    current: AtomicUsize,
+    client: Client<HttpsConnector<HttpConnector>>,
+    addresses: Addresses,
     token: Option<HeaderValue>,
 }
 
+/// A request, without the address.
+pub struct Asked {
+    method: Method,
+    path: String,
+    body: Option<String>,
+    key: Option<String>,
+    /// How long the service may wait with its answer.
+    wait: Duration,
+}
+
+impl Asked {
+    pub fn get(path: String) -> Asked {
+        Asked { method: Method::GET, path, body: None, key: None, wait: Duration::ZERO }
+    }
+
+    pub fn poll(path: String, wait: Duration) -> Asked {
+        Asked { wait, ..Asked::get(path) }
+    }
+
+    pub fn post(path: String, body: &Value, key: Option<&str>) -> Asked {
+        Asked { method: Method::POST, body: Some(body.to_string()), key: key.map(str::to_string), ..Asked::get(path) }
+    }
+}
+
+/// An answer of any status.
+pub struct Told {
+    pub status: u16,
+    bytes: Vec<u8>,
+    headers: HeaderMap,
+}
+
 /// A new Idempotency-Key, from the system's random numbers, as std has them for its maps.
+#[must_use]
 pub fn new_key() -> String {
     let words = RandomState::new();
     format!("{:016x}{:016x}", words.hash_one(0), words.hash_one(1))
@@ -65,84 +122,134 @@ impl Requests {
         }
         for url in &urls {
             let uri = url.parse::<Uri>().map_err(|error| bad(&format!("{url}: {error}")))?;
-            if uri.scheme_str() != Some("http") || uri.host().is_none() {
+            if !matches!(uri.scheme_str(), Some("http" | "https")) || uri.host().is_none() {
                 return Err(bad(&format!("{url}: is no address such as http://127.0.0.1:7780")));
             }
         }
         let token = token.map(|token| HeaderValue::from_str(&format!("Bearer {token}")).map_err(|error| bad(&error)));
-        Ok(Requests { client: Client::new(), urls, current: AtomicUsize::new(0), token: token.transpose()? })
+        let mut connector = HttpConnector::new();
+        connector.set_connect_timeout(Some(CONNECT));
+        connector.enforce_http(false);
+        let tls = native_tls::TlsConnector::new().map_err(|error| bad(&error))?;
+        let client = Client::builder().build(HttpsConnector::from((connector, tls.into())));
+        Ok(Requests { client, addresses: Addresses::new(urls), token: token.transpose()? })
     }
 
-    pub async fn get(&self, path: &str) -> Result<Value, Error> {
-        self.request(Method::GET, path, None, None).await
+    /// The body of the answer to a request. An answer that is an error is one here.
+    pub async fn body(&self, manner: &Manner, asked: Asked) -> Result<Value, Error> {
+        self.ask(manner, asked).await?.body()
     }
 
-    pub async fn post(&self, path: &str, body: &Value, key: Option<&str>) -> Result<Value, Error> {
-        self.request(Method::POST, path, Some(body.to_string()), key).await
-    }
-
-    async fn request(
-        &self,
-        method: Method,
-        path: &str,
-        body: Option<String>,
-        key: Option<&str>,
-    ) -> Result<Value, Error> {
-        let until = Instant::now() + PATIENCE;
+    /// Makes a request until it is answered.
+    pub async fn ask(&self, manner: &Manner, asked: Asked) -> Result<Told, Error> {
+        let until = manner.patience.and_then(|patience| Instant::now().checked_add(patience + asked.wait));
         let mut pause = FIRST_PAUSE;
         loop {
-            let place = self.current.load(Ordering::Relaxed);
-            let url = &self.urls[place % self.urls.len()];
-            let told = tokio::time::timeout(ONE_TRY, self.once(method.clone(), url, path, body.clone(), key)).await;
-            match told.unwrap_or_else(|_| Err(Error::Unreached("it did not answer in time".to_string()))) {
-                Err(Error::Unreached(_) | Error::Status { status: 503, .. }) if Instant::now() < until => {
-                    self.current.store(place + 1, Ordering::Relaxed);
-                    tokio::time::sleep(pause).await;
-                    pause = (pause * 2).min(LONGEST_PAUSE);
+            let (place, url) = self.addresses.current();
+            let told = self.once(&asked, url, self.one_try(manner, &asked)).await;
+            let (error, later, leader) = match told {
+                Ok(told) if !told.is_passing(&asked.method) => {
+                    self.addresses.answered(place);
+                    return Ok(told);
                 }
-                told => return told,
+                Ok(told) => (told.error(), told.later(), told.leader()),
+                Err(error @ Error::Unreached(_)) => (error, Duration::ZERO, None),
+                Err(error) => return Err(error),
+            };
+            let rest = self.addresses.after(place, later.max(jittered(pause)), leader.as_deref());
+            if until.is_some_and(|until| Instant::now() + rest >= until) {
+                return Err(error);
             }
+            if let Some(notice) = &manner.notice {
+                notice(&error);
+            }
+            tokio::time::sleep(rest).await;
+            pause = (pause * 2).min(LONGEST_PAUSE);
         }
     }
 
-    async fn once(
-        &self,
-        method: Method,
-        url: &str,
-        path: &str,
-        body: Option<String>,
-        key: Option<&str>,
-    ) -> Result<Value, Error> {
-        let mut request = Request::builder().method(method).uri(format!("{url}{path}"));
+    /// How long one try may take. There is time for each address, and for the first again.
+    fn one_try(&self, manner: &Manner, asked: &Asked) -> Duration {
+        let tries = u32::try_from(self.addresses.len() + 1).unwrap_or(u32::MAX);
+        let share = manner.patience.map_or(ONE_TRY, |patience| patience / tries);
+        let sending = asked.body.as_ref().map_or(0, |body| body.len() / BYTES_EACH_SECOND);
+        share.min(ONE_TRY) + asked.wait + Duration::from_secs(sending as u64)
+    }
+
+    /// One try, whose head and each part of whose body come within a time.
+    async fn once(&self, asked: &Asked, url: &str, most: Duration) -> Result<Told, Error> {
+        let answer = within(most, self.client.request(self.request(asked, url)?)).await?;
+        let (head, mut body) = answer.into_parts();
+        let mut bytes = Vec::new();
+        while let Some(part) = within(most, async { body.data().await.transpose() }).await? {
+            bytes.extend_from_slice(&part);
+        }
+        Ok(Told { status: head.status.as_u16(), bytes, headers: head.headers })
+    }
+
+    fn request(&self, asked: &Asked, url: &str) -> Result<Request<Body>, Error> {
+        let mut request = Request::builder().method(&asked.method).uri(format!("{url}{}", asked.path));
         request = request.header(CONTENT_TYPE, "application/json");
         if let Some(token) = &self.token {
             request = request.header(AUTHORIZATION, token);
         }
-        if let Some(key) = key {
+        if let Some(key) = &asked.key {
             request = request.header("idempotency-key", key);
         }
-        let request = request
-            .body(body.map_or_else(Body::empty, Body::from))
-            .map_err(|error| Error::Address(error.to_string()))?;
-        let unreached = |error: hyper::Error| Error::Unreached(error.to_string());
-        let answer = self.client.request(request).await.map_err(unreached)?;
-        let status = answer.status().as_u16();
-        let bytes = hyper::body::to_bytes(answer.into_body()).await.map_err(unreached)?;
-        told(status, &bytes)
+        let body = asked.body.clone().map_or_else(Body::empty, Body::from);
+        request.body(body).map_err(|error| Error::Address(error.to_string()))
     }
 }
 
-fn told(status: u16, bytes: &[u8]) -> Result<Value, Error> {
-    let value: Result<Value, _> = serde_json::from_slice(bytes);
-    match value {
-        Ok(value) if status < 400 => Ok(value),
-        Ok(value) => {
-            let text = |name: &str| value[name].as_str().map(str::to_string);
-            Err(Error::Status { status, text: text("error").unwrap_or_default(), field: text("field") })
+async fn within<T>(most: Duration, work: impl Future<Output = Result<T, hyper::Error>>) -> Result<T, Error> {
+    match tokio::time::timeout(most, work).await {
+        Ok(Ok(done)) => Ok(done),
+        Ok(Err(error)) => {
+            let why = error.to_string();
+            // another try has the same certificate
+            let is_bad = why.contains("certificate verify failed");
+            Err(if is_bad { Error::Address(why) } else { Error::Unreached(why) })
         }
-        Err(_) if status >= 400 => {
-            Err(Error::Status { status, text: String::from_utf8_lossy(bytes).into_owned(), field: None })
+        Err(_) => Err(Error::Unreached(format!("it did not answer within {:.1} s", most.as_secs_f64()))),
+    }
+}
+
+impl Told {
+    /// Whether a proxy, a standby or a service that starts answers so: another try may be answered otherwise.
+    fn is_passing(&self, method: &Method) -> bool {
+        matches!(self.status, 429 | 502 | 503 | 504) || self.status == 500 && method == Method::GET
+    }
+
+    /// How long the answer asks to wait: a number of seconds, or a moment.
+    fn later(&self) -> Duration {
+        let text = self.headers.get(RETRY_AFTER).and_then(|value| value.to_str().ok()).unwrap_or("");
+        let seconds = text.parse().ok().map(Duration::from_secs);
+        let moment = || httpdate::parse_http_date(text).ok()?.duration_since(SystemTime::now()).ok();
+        seconds.or_else(moment).unwrap_or(Duration::ZERO).min(LONGEST_LATER)
+    }
+
+    fn leader(&self) -> Option<String> {
+        let named = self.headers.get(LEADER)?.to_str().ok()?;
+        Some(named.trim_end_matches('/').to_string())
+    }
+
+    fn error(&self) -> Error {
+        let value: Value = serde_json::from_slice(&self.bytes).unwrap_or(Value::Null);
+        let text = |name: &str| value[name].as_str().map(str::to_string);
+        let whole = || String::from_utf8_lossy(&self.bytes).into_owned();
+        Error::Status { status: self.status, text: text("error").unwrap_or_else(whole), field: text("field") }
+    }
+
+    /// The body of an answer that is no error.
+    pub fn body(self) -> Result<Value, Error> {
+        if self.status >= 300 {
+            return Err(self.error());
         }
-        Err(error) => Err(Error::Answer(format!("is no JSON: {error}"))),
+        self.value()
+    }
+
+    /// The body of any answer.
+    pub fn value(&self) -> Result<Value, Error> {
+        serde_json::from_slice(&self.bytes).map_err(|error| Error::Answer(format!("is no JSON: {error}")))
     }
 }

@@ -10,62 +10,97 @@
 //! # Ok(())
 //! # }
 //! ```
-//! If the answer to a request is lost, the client makes the request again for a minute, to the service's next address. A
-//! call that must not be made twice has an Idempotency-Key, so the service makes it once.
+//! If a request is not answered, the client makes it again, for a minute if nothing else is said, at the service's next
+//! address. Calls have an Idempotency-Key, so the service makes them once. An address may be `https`: the system's
+//! certificates are trusted, or those of the file that `SSL_CERT_FILE` names.
+mod addresses;
 mod call;
+mod follow;
 mod http;
 
 pub use call::{Answer, Call};
-pub use http::Error;
+pub use follow::Follower;
+pub use http::{new_key, Error};
 
-use http::Requests;
+use follow::events_of;
+use http::{Asked, Manner, Requests, Told};
 use serde_json::{json, Value};
 use std::sync::Arc;
+use std::time::Duration;
 
 /// A service, at one address or at several of which one leads. Clones share their connections.
 #[derive(Clone)]
 pub struct Service {
     requests: Arc<Requests>,
+    manner: Manner,
 }
 
 /// A job of a service.
 #[derive(Clone)]
 pub struct Job {
     requests: Arc<Requests>,
+    manner: Manner,
     path: String,
 }
 
 impl Service {
     /// A service at these addresses, as `http://127.0.0.1:7780`, with a token if it needs one.
     pub fn new(urls: &[&str], token: Option<&str>) -> Result<Service, Error> {
-        Ok(Service { requests: Arc::new(Requests::new(urls, token)?) })
+        Ok(Service { requests: Arc::new(Requests::new(urls, token)?), manner: Manner::default() })
+    }
+
+    /// The same service, which makes a request again for this long, or for ever.
+    #[must_use]
+    pub fn within(&self, patience: Option<Duration>) -> Service {
+        let manner = Manner { patience, ..self.manner.clone() };
+        Service { requests: Arc::clone(&self.requests), manner }
+    }
+
+    /// The same service, which tells of each try that failed and is made again.
+    #[must_use]
+    pub fn noticing(&self, notice: impl Fn(&Error) + Send + Sync + 'static) -> Service {
+        let manner = Manner { notice: Some(Arc::new(notice)), ..self.manner.clone() };
+        Service { requests: Arc::clone(&self.requests), manner }
     }
 
     /// Opens a job, or finds it: the same name, settings and shape give the same job. Settings are those of the API, as
     /// `{"interval": 60000}`.
     pub async fn open(&self, name: &str, settings: Value, shape: &[u64]) -> Result<Job, Error> {
         let body = json!({"name": name, "settings": settings, "shape": shape});
-        self.requests.post("/v1/jobs", &body, None).await?;
+        self.requests.body(&self.manner, Asked::post("/v1/jobs".to_string(), &body, None)).await?;
         Ok(self.job(name))
     }
 
     /// A job that exists.
+    #[must_use]
     pub fn job(&self, name: &str) -> Job {
-        Job { requests: Arc::clone(&self.requests), path: format!("/v1/jobs/{name}") }
+        let (requests, manner) = (Arc::clone(&self.requests), self.manner.clone());
+        Job { requests, manner, path: format!("/v1/jobs/{name}") }
     }
 
     /// The state of each job.
     pub async fn jobs(&self) -> Result<Value, Error> {
-        self.requests.get("/v1/jobs").await
+        self.requests.body(&self.manner, Asked::get("/v1/jobs".to_string())).await
     }
 }
 
 impl Job {
+    /// The same job, which makes a request again for this long, or for ever.
+    #[must_use]
+    pub fn within(&self, patience: Option<Duration>) -> Job {
+        Job { manner: Manner { patience, ..self.manner.clone() }, ..self.clone() }
+    }
+
     /// Makes calls in order, and returns the answer of each. They are no transaction.
     pub async fn calls(&self, calls: &[Call]) -> Result<Vec<Answer>, Error> {
+        self.calls_with_key(calls, &new_key()).await
+    }
+
+    /// The same under a key of the caller's, who can give it again if the request was not answered.
+    pub async fn calls_with_key(&self, calls: &[Call], key: &str) -> Result<Vec<Answer>, Error> {
         let body = json!({"calls": calls.iter().map(Call::json).collect::<Vec<_>>()});
-        let key = calls.iter().any(Call::wants_key).then(http::new_key);
-        let told = self.requests.post(&format!("{}/calls", self.path), &body, key.as_deref()).await?;
+        let asked = Asked::post(format!("{}/calls", self.path), &body, Some(key));
+        let told = self.requests.body(&self.manner, asked).await?;
         let answers = told["answers"].as_array().ok_or(Error::Answer("has no answers".to_string()))?;
         Ok(answers.iter().map(Answer::of).collect())
     }
@@ -81,31 +116,50 @@ impl Job {
 
     /// The state of the job.
     pub async fn state(&self) -> Result<Value, Error> {
-        self.requests.get(&self.path).await
+        self.get("").await
     }
 
     /// A record: its metadata, its missing subtasks, and its history.
     pub async fn record(&self, id: u64) -> Result<Value, Error> {
-        self.requests.get(&format!("{}/records/{id}", self.path)).await
+        self.get(&format!("/records/{id}")).await
     }
 
     /// A file: the records that use it, and its history.
     pub async fn file(&self, file: u64) -> Result<Value, Error> {
-        self.requests.get(&format!("{}/files/{file}", self.path)).await
+        self.get(&format!("/files/{file}")).await
     }
 
     /// Files that were taken and not reported, and those that were deleted last.
     pub async fn files(&self, limit: u64) -> Result<Value, Error> {
-        self.requests.get(&format!("{}/files?limit={limit}", self.path)).await
+        self.get(&format!("/files?limit={limit}")).await
     }
 
-    /// The events after a place, and the place to go on from. Waits at most this many seconds for an event, and at most 60.
+    /// The events after a place, and the place to go on from. Waits at most this many seconds for an event, and at most
+    /// 60. Fails with status 410 if the log does not have them; a [`Follower`] goes on from the job's state.
     pub async fn events(&self, after: u64, wait: u64) -> Result<(u64, Vec<Value>), Error> {
-        let mut told = self.requests.get(&format!("{}/events?after={after}&wait={wait}", self.path)).await?;
+        let path = format!("{}/events?after={after}&wait={wait}", self.path);
+        let mut told = self.ask(Asked::poll(path, Duration::from_secs(wait))).await?.body()?;
         let upto = told["upto"].as_u64().ok_or(Error::Answer("has no upto".to_string()))?;
-        match told["events"].take() {
-            Value::Array(events) => Ok((upto, events)),
-            _ => Err(Error::Answer("has no events".to_string())),
-        }
+        Ok((upto, events_of(&mut told)?))
+    }
+
+    /// The events after a place, by default after the last one, in pieces.
+    #[must_use]
+    pub fn follower(&self, after: Option<u64>) -> Follower {
+        Follower::new(self.clone(), after, None)
+    }
+
+    /// The events after a place of a log that had this identity.
+    #[must_use]
+    pub fn follower_at(&self, after: u64, log: &str) -> Follower {
+        Follower::new(self.clone(), Some(after), Some(log.to_string()))
+    }
+
+    async fn get(&self, rest: &str) -> Result<Value, Error> {
+        self.ask(Asked::get(format!("{}{rest}", self.path))).await?.body()
+    }
+
+    async fn ask(&self, asked: Asked) -> Result<Told, Error> {
+        self.requests.ask(&self.manner, asked).await
     }
 }

@@ -1,0 +1,119 @@
+//! The events of a job, from a place on.
+use crate::http::Asked;
+use crate::{Error, Job};
+use serde_json::{json, Value};
+use std::time::Duration;
+
+const GONE: u16 = 410;
+
+/// The events of a job from a place on.
+///
+/// If the log does not have them any more, it goes on from the job's state. Then an event `missed` comes, with its
+/// `reason` and the `state`, and after it events that bring an engine up to date. If the log was cut: `completed` for
+/// the record that a restore would begin from, `triggered` for each pending record, and `failed` or `cancelled` if the
+/// job is. The engine may have heard of some before. If a backup was restored: `failed`, because records that the
+/// engine knows may be no more, so the job has to begin again.
+pub struct Follower {
+    job: Job,
+    after: Option<u64>,
+    log: Option<String>,
+}
+
+impl Follower {
+    pub(crate) fn new(job: Job, after: Option<u64>, log: Option<String>) -> Follower {
+        Follower { job, after, log }
+    }
+
+    /// The place to go on from, and the log's identity that it belongs to. An engine that keeps them can go on after its
+    /// own restart, by [`Job::follower_at`].
+    #[must_use]
+    pub fn place(&self) -> (Option<u64>, Option<&str>) {
+        (self.after, self.log.as_deref())
+    }
+
+    /// The next events, once there is one or this many seconds are over, at most 60.
+    pub async fn next(&mut self, wait: u64) -> Result<Vec<Value>, Error> {
+        let after = match self.after {
+            Some(after) => after,
+            None => self.go_on(&self.job.state().await?)?,
+        };
+        let log = self.log.as_ref().map(|log| format!("&log={log}")).unwrap_or_default();
+        let path = format!("{}/events?after={after}&wait={wait}{log}", self.job.path);
+        let told = self.job.ask(Asked::poll(path, Duration::from_secs(wait))).await?;
+        if told.status == GONE {
+            let reason = told.value()?["reason"].as_str().unwrap_or("cut").to_string();
+            let state = self.job.state().await?;
+            self.go_on(&state)?;
+            return Ok(instead(&state, &reason));
+        }
+        let mut told = told.body()?;
+        self.after = Some(told["upto"].as_u64().ok_or(Error::Answer("has no upto".to_string()))?);
+        self.log = told["log"].as_str().map(str::to_string);
+        events_of(&mut told)
+    }
+
+    /// Goes on after the calls that a state has.
+    fn go_on(&mut self, state: &Value) -> Result<u64, Error> {
+        let after = state["seq"].as_u64().ok_or(Error::Answer("has no seq".to_string()))?;
+        self.after = Some(after);
+        self.log = state["log"].as_str().map(str::to_string);
+        Ok(after)
+    }
+}
+
+pub(crate) fn events_of(told: &mut Value) -> Result<Vec<Value>, Error> {
+    match told["events"].take() {
+        Value::Array(events) => Ok(events),
+        _ => Err(Error::Answer("has no events".to_string())),
+    }
+}
+
+/// The events that a job's state stands for.
+fn instead(state: &Value, reason: &str) -> Vec<Value> {
+    let event = |word: &str| json!({"seq": state["last_event"], "at": state["now"], "event": word, "ended": []});
+    let with = |word: &str, more: &[(&str, &Value)]| {
+        let mut event = event(word);
+        for (name, value) in more {
+            event[*name] = (*value).clone();
+        }
+        event
+    };
+    let mut events = vec![with("missed", &[("reason", &json!(reason)), ("state", state)])];
+    let mode = state["mode"].as_str().unwrap_or("failed");
+    let is_running = mode == "running";
+    if reason == "other_log" {
+        events.push(event(if is_running { "failed" } else { mode }));
+        return events;
+    }
+    let choice = &state["choice"]["id"];
+    events.extend((!choice.is_null()).then(|| with("completed", &[("id", choice)])));
+    let live = state["live"].as_array().map(Vec::as_slice).unwrap_or_default();
+    let pending = live.iter().filter(|record| record["done"] == false);
+    events.extend(pending.map(|record| with("triggered", &[("id", &record["id"]), ("kind", &record["kind"])])));
+    events.extend((!is_running).then(|| event(mode)));
+    events
+}
+
+#[cfg(test)]
+mod tests {
+    use super::*;
+
+    fn words(events: &[Value]) -> Vec<String> {
+        events.iter().map(|event| format!("{} {}", event["event"], event["id"]).replace('"', "")).collect()
+    }
+
+    #[test]
+    fn a_state_stands_for_events() {
+        let live =
+            json!([{"id": 3, "kind": "checkpoint", "done": true}, {"id": 4, "kind": "savepoint", "done": false}]);
+        let mut state = json!({"last_event": 9, "now": 1, "mode": "running", "choice": {"kind": "checkpoint", "id": 3}, "live": live});
+        let events = instead(&state, "cut");
+        assert_eq!(words(&events), ["missed null", "completed 3", "triggered 4"]);
+        assert_eq!((&events[2]["kind"], &events[2]["seq"]), (&json!("savepoint"), &json!(9)));
+        assert_eq!(words(&instead(&state, "other_log")), ["missed null", "failed null"]);
+        state["mode"] = json!("cancelled");
+        assert_eq!(words(&instead(&state, "other_log")), ["missed null", "cancelled null"]);
+        state = json!({"last_event": 0, "now": 1, "mode": "failed", "choice": {"kind": "fresh"}, "live": []});
+        assert_eq!(words(&instead(&state, "cut")), ["missed null", "failed null"]);
+    }
+}

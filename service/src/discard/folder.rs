@@ -1,0 +1,247 @@
+//! The folder of a job's files: held open, marked as the job's, and synced after deletions.
+use crate::cli;
+use crate::log;
+use rustix::fd::OwnedFd;
+use rustix::fs::{openat, renameat, statat, unlinkat, AtFlags, Mode, OFlags};
+use rustix::io::Errno;
+use std::collections::HashSet;
+use std::fs::{File, TryLockError};
+use std::io::{Read, Write};
+use std::os::unix::fs::MetadataExt;
+use std::path::{Path, PathBuf};
+
+/// Why the work ends.
+#[derive(Debug, thiserror::Error)]
+pub enum Stop {
+    /// Another start may go on.
+    #[error("{0}")]
+    Again(String),
+    /// Somebody has to look first.
+    #[error("{0}")]
+    Never(String),
+}
+
+/// Whose files the folder has.
+pub struct Owner {
+    pub job: String,
+    /// When the job was opened: another service may have a job of the same name.
+    pub opened: u64,
+    /// None of the job's files was taken before.
+    pub is_first: bool,
+}
+
+impl Owner {
+    /// What the marker says.
+    fn text(&self) -> String {
+        format!(
+            "relkvanu discard deletes files of the job {}, opened at {}, from this folder.\n",
+            self.job, self.opened
+        )
+    }
+}
+
+/// What became of a file.
+#[derive(Clone, Copy, Debug, PartialEq, Eq)]
+pub enum Outcome {
+    Deleted,
+    /// It was not there.
+    Absent,
+    Failed,
+}
+
+/// An open folder. It stays the same one if another is mounted or renamed to its path.
+pub struct Folder {
+    path: PathBuf,
+    folder: File,
+    /// The marker's name, and the open file, which is locked: it keeps other discarders out.
+    name: String,
+    marker: File,
+    prefix: String,
+    suffix: String,
+    allow_absent: bool,
+}
+
+impl Folder {
+    /// Opens the folder, and checks its marker. Makes the marker in the first run for a job, or with `--init`.
+    pub fn open(given: &cli::Discard, owner: &Owner) -> Result<Folder, Stop> {
+        let path = given.folder.clone();
+        let failed = |error: std::io::Error| Stop::Again(format!("{}: {error}", path.display()));
+        let folder = File::open(&path).map_err(failed)?;
+        let name = format!(".relkvanu-{}", owner.job);
+        let found = open_marker(&folder, &name);
+        let is_ours = found.as_ref().is_ok_and(|marker| says(marker, owner));
+        let marker = match found {
+            Ok(marker) if is_ours => marker,
+            Ok(_) if !given.init => return Err(Stop::Never(other_marker(&path, &name))),
+            Err(Errno::NOENT) if !given.init && !owner.is_first => return Err(Stop::Never(no_marker(&path, &name))),
+            Err(error) if error != Errno::NOENT => return Err(failed(error.into())),
+            _ => {
+                write_marker(&folder, &name, owner).map_err(failed)?;
+                log::info(&format!("{} is marked as the folder of the job {}", path.display(), owner.job));
+                open_marker(&folder, &name).map_err(|error| failed(error.into()))?
+            }
+        };
+        lock(&marker, &path)?;
+        let (prefix, suffix) = (given.prefix.clone(), given.suffix.clone());
+        Ok(Folder { path, folder, name, marker, prefix, suffix, allow_absent: given.allow_absent })
+    }
+
+    /// Deletes files, and syncs the folder. Deletes none if all are absent, unless an earlier run began with these, or
+    /// it is allowed.
+    pub fn delete(&self, files: &[u64]) -> Result<Vec<Outcome>, Stop> {
+        if files.is_empty() {
+            return Ok(Vec::new());
+        }
+        self.check()?;
+        if files.iter().any(|file| self.is_there(*file)) {
+            self.begin(files);
+        } else if !self.allow_absent && !self.has_begun(files) {
+            return Err(Stop::Never(self.all_absent(files)));
+        }
+        let outcomes = files.iter().map(|file| self.delete_one(*file)).collect();
+        self.sync().map_err(|error| Stop::Again(format!("{} is not synced: {error}", self.path.display())))?;
+        Ok(outcomes)
+    }
+
+    fn all_absent(&self, files: &[u64]) -> String {
+        let (count, path, name) = (files.len(), self.path.display(), self.file_name(files[0]));
+        format!(
+            "none of {count} files is in {path}, as {name}: is it the wrong folder, --prefix or --suffix? They wait for \
+             deletion again. If they were deleted by others, run it once with --allow-absent"
+        )
+    }
+
+    /// The folder still has its marker.
+    fn check(&self) -> Result<(), Stop> {
+        let failed = |error: std::io::Error| Stop::Again(format!("{}: {error}", self.path.display()));
+        let held = self.marker.metadata().map_err(failed)?;
+        match statat(&self.folder, &self.name, AtFlags::SYMLINK_NOFOLLOW) {
+            Ok(found) if found.st_ino == held.ino() => Ok(()),
+            Ok(_) | Err(Errno::NOENT) => Err(Stop::Never(no_marker(&self.path, &self.name))),
+            Err(error) => Err(failed(error.into())),
+        }
+    }
+
+    fn file_name(&self, file: u64) -> String {
+        format!("{}{file}{}", self.prefix, self.suffix)
+    }
+
+    /// Whether there is such a file, or it is not known.
+    fn is_there(&self, file: u64) -> bool {
+        !matches!(statat(&self.folder, self.file_name(file), AtFlags::SYMLINK_NOFOLLOW), Err(Errno::NOENT))
+    }
+
+    fn delete_one(&self, file: u64) -> Outcome {
+        match unlinkat(&self.folder, self.file_name(file), AtFlags::empty()) {
+            Ok(()) => Outcome::Deleted,
+            Err(Errno::NOENT) => Outcome::Absent,
+            Err(error) => {
+                log::warn(&format!(
+                    "{}: {}",
+                    self.path.join(self.file_name(file)).display(),
+                    std::io::Error::from(error)
+                ));
+                Outcome::Failed
+            }
+        }
+    }
+
+    /// Writes down which files it deletes now. If it is killed before it reports, the next run finds them absent, and
+    /// knows why.
+    fn begin(&self, files: &[u64]) {
+        let text = files.iter().map(u64::to_string).collect::<Vec<_>>().join(" ");
+        let flags = OFlags::WRONLY | OFlags::CREATE | OFlags::TRUNC;
+        let written = open_in(&self.folder, &self.begun(), flags).map_err(std::io::Error::from).and_then(|mut file| {
+            file.write_all(format!("{text}\n").as_bytes())?;
+            file.sync_all()
+        });
+        // on a full disk deletions matter most
+        if let Err(error) = written {
+            log::warn(&format!("{}/{}: {error}", self.path.display(), self.begun()));
+        }
+    }
+
+    /// Whether an earlier run wrote down all these files.
+    fn has_begun(&self, files: &[u64]) -> bool {
+        let mut text = String::new();
+        let read = open_in(&self.folder, &self.begun(), OFlags::RDONLY).map_err(std::io::Error::from);
+        if read.and_then(|mut file| file.read_to_string(&mut text)).is_err() || !text.ends_with('\n') {
+            return false;
+        }
+        let begun: HashSet<u64> = text.split_whitespace().filter_map(|word| word.parse().ok()).collect();
+        files.iter().all(|file| begun.contains(file))
+    }
+
+    fn begun(&self) -> String {
+        format!("{}.begun", self.name)
+    }
+
+    fn sync(&self) -> std::io::Result<()> {
+        sync(&self.folder)
+    }
+}
+
+fn no_marker(path: &Path, name: &str) -> String {
+    let path = path.display();
+    format!(
+        "{path} has no file {name}: it may be the wrong folder, or its disk is not mounted. If it is the job's, run it \
+         once with --init"
+    )
+}
+
+fn other_marker(path: &Path, name: &str) -> String {
+    let path = path.display();
+    format!(
+        "{path}/{name} names another job, or a job of this name of another service: its files have other numbers. If the \
+         folder is of this one, run it once with --init"
+    )
+}
+
+fn open_in(folder: &File, name: &str, flags: OFlags) -> Result<File, Errno> {
+    let flags = flags | OFlags::CLOEXEC | OFlags::NOFOLLOW;
+    openat(folder, name, flags, Mode::from_raw_mode(0o644)).map(|file| File::from(OwnedFd::from(file)))
+}
+
+/// NFS locks only a file that is open for writing.
+fn open_marker(folder: &File, name: &str) -> Result<File, Errno> {
+    match open_in(folder, name, OFlags::RDWR) {
+        Err(Errno::ACCESS | Errno::ROFS) => open_in(folder, name, OFlags::RDONLY),
+        opened => opened,
+    }
+}
+
+/// Keeps other discarders out of the folder, if its file system has locks.
+fn lock(marker: &File, path: &Path) -> Result<(), Stop> {
+    match marker.try_lock() {
+        Ok(()) => Ok(()),
+        Err(TryLockError::WouldBlock) => Err(Stop::Again(format!("another discarder works in {}", path.display()))),
+        Err(TryLockError::Error(error)) if matches!(error.raw_os_error(), Some(libc::ENOLCK | libc::EOPNOTSUPP)) => {
+            log::warn(&format!("{} has no locks: see to it that there is one discarder", path.display()));
+            Ok(())
+        }
+        Err(TryLockError::Error(error)) => Err(Stop::Again(format!("{}: {error}", path.display()))),
+    }
+}
+
+fn says(mut marker: &File, owner: &Owner) -> bool {
+    let mut text = String::new();
+    marker.read_to_string(&mut text).is_ok() && text == owner.text()
+}
+
+/// Writes the marker whole, or not at all.
+fn write_marker(folder: &File, name: &str, owner: &Owner) -> std::io::Result<()> {
+    let new = format!("{name}.new");
+    let mut file = open_in(folder, &new, OFlags::WRONLY | OFlags::CREATE | OFlags::TRUNC)?;
+    file.write_all(owner.text().as_bytes())?;
+    file.sync_all()?;
+    renameat(folder, &new, folder, name)?;
+    sync(folder)
+}
+
+/// Syncs a folder. Some file systems, as FUSE's, can't.
+fn sync(folder: &File) -> std::io::Result<()> {
+    match folder.sync_all() {
+        Err(error) if error.raw_os_error() == Some(libc::EINVAL) => Ok(()),
+        synced => synced,
+    }
+}

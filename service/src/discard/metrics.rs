@@ -1,0 +1,100 @@
+//! The discarder's metrics for Prometheus, which `--metrics` serves.
+use super::folder::{Outcome, Stop};
+use crate::log;
+use hyper::service::{make_service_fn, service_fn};
+use hyper::{Body, Request, Response, Server, StatusCode};
+use prometheus::{Encoder, Gauge, IntCounter, IntCounterVec, Opts, Registry, TextEncoder};
+use relkvanu_client::Error;
+use std::convert::Infallible;
+use std::net::SocketAddr;
+use std::sync::Arc;
+use std::time::{SystemTime, UNIX_EPOCH};
+
+pub struct Metrics {
+    registry: Registry,
+    files: IntCounterVec,
+    lost: IntCounter,
+    reported: Gauge,
+}
+
+impl Metrics {
+    pub fn new(job: &str) -> Result<Metrics, prometheus::Error> {
+        let of = |name: &str, help: &str| Opts::new(name, help).const_label("job_name", job);
+        let metrics = Metrics {
+            registry: Registry::new(),
+            files: IntCounterVec::new(
+                of("relkvanu_discard_files_total", "Files that were reported, by what became of them."),
+                &["outcome"],
+            )?,
+            lost: IntCounter::with_opts(of(
+                "relkvanu_discard_lost_requests_total",
+                "Tries to reach the service that were not answered, or with an error that passes.",
+            ))?,
+            reported: Gauge::with_opts(of(
+                "relkvanu_discard_report_timestamp_seconds",
+                "When files were reported last.",
+            ))?,
+        };
+        for outcome in [Outcome::Deleted, Outcome::Absent, Outcome::Failed] {
+            metrics.files.with_label_values(&[word(outcome)]);
+        }
+        metrics.registry.register(Box::new(metrics.files.clone()))?;
+        metrics.registry.register(Box::new(metrics.lost.clone()))?;
+        metrics.registry.register(Box::new(metrics.reported.clone()))?;
+        Ok(metrics)
+    }
+
+    /// A try was not answered.
+    pub fn lost(&self, error: &Error) {
+        self.lost.inc();
+        log::warn(&format!("it tries again: {error}"));
+    }
+
+    /// Files were reported.
+    pub fn reported(&self, outcomes: &[Outcome]) {
+        for outcome in outcomes {
+            self.files.with_label_values(&[word(*outcome)]).inc();
+        }
+        let now = SystemTime::now().duration_since(UNIX_EPOCH).unwrap_or_default();
+        self.reported.set(now.as_secs_f64());
+    }
+
+    fn answer(&self, request: &Request<Body>) -> Response<Body> {
+        let mut text = Vec::new();
+        let mut answer = Response::new(Body::empty());
+        if request.uri().path() != "/metrics" {
+            *answer.status_mut() = StatusCode::NOT_FOUND;
+            return answer;
+        }
+        match TextEncoder::new().encode(&self.registry.gather(), &mut text) {
+            Ok(()) => *answer.body_mut() = Body::from(text),
+            Err(_) => *answer.status_mut() = StatusCode::INTERNAL_SERVER_ERROR,
+        }
+        answer
+    }
+}
+
+fn word(outcome: Outcome) -> &'static str {
+    match outcome {
+        Outcome::Deleted => "deleted",
+        Outcome::Absent => "absent",
+        Outcome::Failed => "failed",
+    }
+}
+
+/// Serves `/metrics` at an address, beside the work.
+pub fn serve(metrics: &Arc<Metrics>, address: SocketAddr) -> Result<(), Stop> {
+    let server = Server::try_bind(&address).map_err(|error| Stop::Again(format!("--metrics {address}: {error}")))?;
+    let metrics = Arc::clone(metrics);
+    let make = make_service_fn(move |_| {
+        let metrics = Arc::clone(&metrics);
+        async move {
+            Ok::<_, Infallible>(service_fn(move |request| {
+                let answer = metrics.answer(&request);
+                async move { Ok::<_, Infallible>(answer) }
+            }))
+        }
+    });
+    tokio::spawn(server.serve(make));
+    Ok(())
+}

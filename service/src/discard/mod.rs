@@ -1,0 +1,227 @@
+//! `relkvanu discard`: deletes the files that a job hands out. They are in a folder, with their numbers in their names.
+mod folder;
+mod metrics;
+
+use crate::cli;
+use crate::log;
+use folder::{Folder, Outcome, Owner, Stop};
+use metrics::Metrics;
+use relkvanu_client::{new_key, Answer, Call, Error, Job, Service};
+use serde_json::Value;
+use std::future::Future;
+use std::process::ExitCode;
+use std::sync::Arc;
+use std::time::{Duration, Instant};
+
+/// How many files one request takes.
+const MOST: u64 = 64;
+/// How long it waits if no file waits for deletion.
+const IDLE: Duration = Duration::from_secs(1);
+/// How often an idle one looks for files that were taken and not reported, as after a report that found no memory.
+const LOOK_EACH: Duration = Duration::from_secs(60);
+/// How long it waits after files that could not be deleted, or an answer that is an error: the first time, and at most.
+const FIRST_PAUSE: Duration = Duration::from_millis(500);
+const LONGEST_PAUSE: Duration = Duration::from_secs(60);
+/// For how long `--once` makes a request again.
+const ONCE_PATIENCE: Duration = Duration::from_secs(60);
+/// How long a new marker waits for the history, which tells whether files were deleted before.
+const HISTORY_PATIENCE: Duration = Duration::from_secs(10);
+
+/// The exit status if somebody has to look, so another start would end in the same way.
+const NOT_TO_START: u8 = 78;
+
+struct Discarder {
+    job: Job,
+    folder: Arc<Folder>,
+    metrics: Arc<Metrics>,
+    once: bool,
+}
+
+/// Pauses that grow.
+struct Pause(Duration);
+
+impl Pause {
+    fn new() -> Pause {
+        Pause(FIRST_PAUSE)
+    }
+
+    async fn rest(&mut self) {
+        tokio::time::sleep(self.0).await;
+        self.0 = (self.0 * 2).min(LONGEST_PAUSE);
+    }
+}
+
+pub fn run(given: &cli::Discard) -> ExitCode {
+    let runtime = tokio::runtime::Builder::new_current_thread().enable_all().build();
+    let worked = match runtime {
+        Ok(runtime) => runtime.block_on(work(given)),
+        Err(error) => Err(Stop::Again(error.to_string())),
+    };
+    let Err(stop) = worked else {
+        return ExitCode::SUCCESS;
+    };
+    log::error(&stop.to_string());
+    match stop {
+        Stop::Again(_) => ExitCode::FAILURE,
+        Stop::Never(_) => ExitCode::from(NOT_TO_START),
+    }
+}
+
+async fn work(given: &cli::Discard) -> Result<(), Stop> {
+    let service = service(given)?;
+    let metrics = Arc::new(Metrics::new(&given.job).map_err(|error| Stop::Again(error.to_string()))?);
+    if let Some(address) = given.metrics {
+        metrics::serve(&metrics, address)?;
+    }
+    let noticed = Arc::clone(&metrics);
+    let service = service.within(given.once.then_some(ONCE_PATIENCE)).noticing(move |error| noticed.lost(error));
+    let job = service.job(&given.job);
+    let owner = owner(&job, given).await?;
+    let folder = Arc::new(Folder::open(given, &owner)?);
+    Discarder { job, folder, metrics, once: given.once }.work().await
+}
+
+fn service(given: &cli::Discard) -> Result<Service, Stop> {
+    if !given.folder.is_dir() {
+        return Err(Stop::Again(format!("--folder: {} is no folder", given.folder.display())));
+    }
+    if !crate::http::is_name(&given.job) {
+        return Err(Stop::Again(format!("--job: {:?} is no name of a job", given.job)));
+    }
+    if given.prefix.contains('/') || given.suffix.contains('/') {
+        return Err(Stop::Again("--prefix and --suffix: a '/' would name another folder".to_string()));
+    }
+    let token = given.token_file.as_ref().map(std::fs::read_to_string).transpose();
+    let token = token.map_err(|error| Stop::Again(format!("--token-file: {error}")))?;
+    let token = token.as_deref().and_then(|text| text.lines().next()).map(str::trim);
+    let urls: Vec<&str> = given.urls.iter().map(String::as_str).collect();
+    Service::new(&urls, token).map_err(|error| Stop::Again(error.to_string()))
+}
+
+/// Whose files the folder has, and whether this is the first run for the job: none of its files was taken before.
+async fn owner(job: &Job, given: &cli::Discard) -> Result<Owner, Stop> {
+    let until = Instant::now() + HISTORY_PATIENCE;
+    loop {
+        let state = insist(given.once, || job.state()).await?;
+        let files = insist(given.once, || job.files(1)).await?;
+        let number = |value: &Value, name: &str| value[name].as_u64().unwrap_or(0);
+        let is_empty = |name: &str| files[name].as_array().is_some_and(Vec::is_empty);
+        let is_read = number(&files, "upto") >= number(&state, "seq");
+        if is_read || Instant::now() >= until {
+            let is_first = is_read && number(&state, "first") == 1 && is_empty("taken") && is_empty("deleted");
+            return Ok(Owner { job: given.job.clone(), opened: number(&state, "opened"), is_first });
+        }
+        tokio::time::sleep(Duration::from_millis(100)).await;
+    }
+}
+
+/// Asks until the answer is no error: the job may be opened later, and the token may be one day in the service's file.
+/// `--once` does not.
+async fn insist<T, F>(once: bool, ask: impl Fn() -> F) -> Result<T, Stop>
+where
+    F: Future<Output = Result<T, Error>>,
+{
+    let mut pause = Pause::new();
+    loop {
+        match ask().await {
+            Ok(told) => return Ok(told),
+            Err(error) if once => return Err(Stop::Again(error.to_string())),
+            Err(error) => log::warn(&format!("it asks again: {error}")),
+        }
+        pause.rest().await;
+    }
+}
+
+impl Discarder {
+    /// Deletes the files that an earlier run left taken, then those that wait: for ever, or until none waits.
+    async fn work(&self) -> Result<(), Stop> {
+        let mut pause = Pause::new();
+        let mut looked = Instant::now();
+        let mut files = self.left().await?;
+        loop {
+            if self.discard(&files).await? {
+                pause = Pause::new();
+            } else {
+                pause.rest().await;
+            }
+            files = self.take().await?;
+            match (files.is_empty(), self.once) {
+                (true, true) => return Ok(()),
+                (true, false) if looked.elapsed() >= LOOK_EACH => {
+                    looked = Instant::now();
+                    files = self.left().await?;
+                }
+                (true, false) => tokio::time::sleep(IDLE).await,
+                (false, _) => {}
+            }
+        }
+    }
+
+    /// The files that were taken and never reported.
+    async fn left(&self) -> Result<Vec<u64>, Stop> {
+        let files = insist(self.once, || self.job.files(1000)).await?;
+        let taken = files["taken"].as_array().map(Vec::as_slice).unwrap_or_default();
+        let number = |row: &Value| row["file"].as_str()?.parse().ok();
+        Ok(taken.iter().filter_map(number).collect())
+    }
+
+    async fn take(&self) -> Result<Vec<u64>, Stop> {
+        let key = new_key();
+        let ask = || async {
+            let answers = self.job.calls_with_key(&[Call::Take { most: MOST }], &key).await?;
+            let files = answers.first().and_then(Answer::files);
+            files.ok_or_else(|| Error::Answer(format!("to take is {answers:?}")))
+        };
+        insist(self.once, ask).await
+    }
+
+    /// Deletes files, syncs their folder and then reports each. Returns whether none is still there.
+    async fn discard(&self, files: &[u64]) -> Result<bool, Stop> {
+        let mut failed = 0;
+        for files in files.chunks(MOST as usize) {
+            failed += self.discard_some(files.to_vec()).await?;
+        }
+        Ok(failed == 0)
+    }
+
+    /// Returns how many could not be deleted.
+    async fn discard_some(&self, files: Vec<u64>) -> Result<usize, Stop> {
+        let folder = Arc::clone(&self.folder);
+        let given = files.clone();
+        let done = tokio::task::spawn_blocking(move || folder.delete(&given)).await;
+        match done.map_err(|error| Stop::Again(error.to_string()))? {
+            Ok(outcomes) => {
+                let reports: Vec<Call> =
+                    files.iter().zip(&outcomes).map(|(file, outcome)| report(*file, *outcome)).collect();
+                let refused = self.report(&reports).await?;
+                self.metrics.reported(&outcomes);
+                let of = |wanted: Outcome| outcomes.iter().filter(|outcome| **outcome == wanted).count();
+                let (deleted, absent, failed) = (of(Outcome::Deleted), of(Outcome::Absent), of(Outcome::Failed));
+                log::info(&format!("deleted={deleted} absent={absent} failed={failed} refused_reports={refused}"));
+                Ok(failed)
+            }
+            Err(Stop::Never(why)) => {
+                // no file was deleted: they wait again
+                let reports: Vec<Call> = files.iter().map(|file| Call::Undeleted { file: *file }).collect();
+                self.report(&reports).await?;
+                Err(Stop::Never(why))
+            }
+            Err(stop) => Err(stop),
+        }
+    }
+
+    /// Makes reports, and returns how many were refused.
+    async fn report(&self, reports: &[Call]) -> Result<usize, Stop> {
+        let key = new_key();
+        let answers = insist(self.once, || self.job.calls_with_key(reports, &key)).await?;
+        Ok(answers.iter().filter(|answer| matches!(answer, Answer::Refused { .. })).count())
+    }
+}
+
+/// A file that was absent counts as deleted for the coordinator.
+fn report(file: u64, outcome: Outcome) -> Call {
+    match outcome {
+        Outcome::Deleted | Outcome::Absent => Call::Deleted { file },
+        Outcome::Failed => Call::Undeleted { file },
+    }
+}

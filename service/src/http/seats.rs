@@ -1,0 +1,232 @@
+//! The places of connections, by what they do. Connections of one kind never keep out those of another.
+use crate::config::Limits;
+use std::collections::BTreeMap;
+use std::sync::atomic::{AtomicU64, Ordering};
+use std::sync::{Arc, Mutex, MutexGuard, PoisonError};
+use tokio::sync::Notify;
+
+/// How many connections may ask for the health.
+const HEALTH: usize = 64;
+
+/// What a connection does, by its last request.
+#[derive(Clone, Copy, Debug, PartialEq, Eq)]
+pub enum Kind {
+    /// It made no request that needs a token.
+    Stranger,
+    /// It asked whether the service works or leads.
+    Health,
+    /// It waits for events.
+    Poll,
+    /// It made calls or other reads.
+    Client,
+}
+
+/// The places of each kind.
+pub struct Places([Mutex<Pool>; 4]);
+
+/// The places of one kind. If all are taken, a new connection gets that of the one that has had no request for the longest time.
+struct Pool {
+    most: usize,
+    /// Connections whose request is being answered.
+    busy: usize,
+    /// Those without a request, in the order of their tickets, and how each is told to go.
+    idle: BTreeMap<u64, Arc<Notify>>,
+    tickets: u64,
+}
+
+impl Pool {
+    fn new(most: usize) -> Mutex<Pool> {
+        Mutex::new(Pool { most, busy: 0, idle: BTreeMap::new(), tickets: 0 })
+    }
+
+    /// Frees a place if none is free. Returns whether there is one.
+    fn make_room(&mut self) -> bool {
+        if self.busy + self.idle.len() < self.most {
+            return true;
+        }
+        let longest_idle = self.idle.pop_first();
+        if let Some((_, goes)) = &longest_idle {
+            goes.notify_one();
+        }
+        longest_idle.is_some()
+    }
+
+    fn add_idle(&mut self, goes: &Arc<Notify>) -> u64 {
+        self.tickets += 1;
+        self.idle.insert(self.tickets, Arc::clone(goes));
+        self.tickets
+    }
+}
+
+impl Places {
+    pub fn of(limits: &Limits) -> Arc<Places> {
+        let most = [limits.new_connections, HEALTH, limits.polls, limits.connections];
+        Arc::new(Places(most.map(Pool::new)))
+    }
+
+    /// The place of a new connection; `None` if all strangers are being answered.
+    pub fn enter(self: &Arc<Places>) -> Option<Arc<Seat>> {
+        let goes = Arc::new(Notify::new());
+        let mut strangers = self.pool(Kind::Stranger);
+        let ticket = strangers.make_room().then(|| strangers.add_idle(&goes))?;
+        drop(strangers);
+        let (requests, state) = (AtomicU64::new(0), Mutex::new(State::Idle(Kind::Stranger, ticket)));
+        Some(Arc::new(Seat { places: Arc::clone(self), goes, requests, state }))
+    }
+
+    fn pool(&self, kind: Kind) -> MutexGuard<'_, Pool> {
+        self.0[kind as usize].lock().unwrap_or_else(PoisonError::into_inner)
+    }
+}
+
+/// A connection's place. It is free again when this is dropped.
+pub struct Seat {
+    places: Arc<Places>,
+    goes: Arc<Notify>,
+    requests: AtomicU64,
+    state: Mutex<State>,
+}
+
+#[derive(Clone, Copy)]
+enum State {
+    /// No request, and its ticket. Another connection may have the place by now.
+    Idle(Kind, u64),
+    /// A request, and which of the connection's.
+    Busy(Kind, u64),
+    None,
+}
+
+/// A request that is being answered, or whose answer is being sent. The place is idle once this is dropped.
+pub struct Turn {
+    seat: Arc<Seat>,
+    number: u64,
+}
+
+impl Drop for Turn {
+    fn drop(&mut self) {
+        self.seat.end(self.number);
+    }
+}
+
+impl Seat {
+    /// A request of this kind begins, if there is a place for it; if not, the connection has to end.
+    pub fn begin(self: &Arc<Seat>, kind: Kind) -> Option<Turn> {
+        self.leave();
+        let number = self.requests.fetch_add(1, Ordering::SeqCst);
+        let mut pool = self.places.pool(kind);
+        pool.make_room().then(|| {
+            pool.busy += 1;
+            *self.state() = State::Busy(kind, number);
+            Turn { seat: Arc::clone(self), number }
+        })
+    }
+
+    /// The request is answered. The place is kept for the next one, until another connection needs it.
+    fn end(&self, number: u64) {
+        let kind = match *self.state() {
+            State::Busy(kind, current) if current == number => kind,
+            _ => return,
+        };
+        let mut pool = self.places.pool(kind);
+        pool.busy -= 1;
+        *self.state() = State::Idle(kind, pool.add_idle(&self.goes));
+    }
+
+    /// Ends once another connection has got the place.
+    pub async fn lost(&self) {
+        self.goes.notified().await;
+    }
+
+    fn leave(&self) {
+        let left = std::mem::replace(&mut *self.state(), State::None);
+        match left {
+            State::Idle(kind, ticket) => drop(self.places.pool(kind).idle.remove(&ticket)),
+            State::Busy(kind, _) => self.places.pool(kind).busy -= 1,
+            State::None => {}
+        }
+    }
+
+    fn state(&self) -> MutexGuard<'_, State> {
+        self.state.lock().unwrap_or_else(PoisonError::into_inner)
+    }
+}
+
+impl Drop for Seat {
+    fn drop(&mut self) {
+        self.leave();
+    }
+}
+
+#[cfg(test)]
+mod tests {
+    use super::*;
+    use std::future::Future;
+    use std::pin::pin;
+    use std::task::{Context, Wake};
+
+    fn places() -> Arc<Places> {
+        Places::of(&Limits { connections: 2, polls: 1, new_connections: 2, ..Limits::default() })
+    }
+
+    fn seat(places: &Arc<Places>) -> Arc<Seat> {
+        places.enter().unwrap_or_else(|| panic!("there is a place"))
+    }
+
+    struct Nobody;
+
+    impl Wake for Nobody {
+        fn wake(self: Arc<Nobody>) {}
+    }
+
+    fn is_lost(seat: &Arc<Seat>) -> bool {
+        pin!(seat.lost()).poll(&mut Context::from_waker(&Arc::new(Nobody).into())).is_ready()
+    }
+
+    #[test]
+    fn a_new_connection_gets_the_place_that_is_idle_longest() {
+        let places = places();
+        let (first, second) = (seat(&places), seat(&places));
+        let third = seat(&places);
+        assert_eq!([&first, &second, &third].map(is_lost), [true, false, false]);
+        drop(second);
+        let fourth = seat(&places);
+        assert_eq!([&third, &fourth].map(is_lost), [false, false]);
+        let turns = [&third, &fourth].map(|seat| seat.begin(Kind::Stranger));
+        assert!(turns.iter().all(Option::is_some) && places.enter().is_none());
+        let [turn, other] = turns;
+        drop(other);
+        assert!(places.enter().is_some() && is_lost(&fourth) && !is_lost(&third));
+        drop(turn);
+    }
+
+    #[test]
+    fn a_kind_keeps_out_no_other() {
+        let places = places();
+        let waits = seat(&places);
+        let poll = waits.begin(Kind::Poll);
+        let other = seat(&places);
+        assert!(poll.is_some() && other.begin(Kind::Poll).is_none());
+        let (one, two) = (seat(&places), seat(&places));
+        let (first, second) = (other.begin(Kind::Client), one.begin(Kind::Client));
+        assert!(first.is_some() && second.is_some() && two.begin(Kind::Client).is_none());
+        assert!(two.begin(Kind::Health).is_some());
+        drop(poll);
+        let new = seat(&places);
+        let poll = new.begin(Kind::Poll);
+        assert!(poll.is_some() && is_lost(&waits));
+        // one that lost its place and has another request takes a place anew
+        assert!(waits.begin(Kind::Poll).is_none() && waits.begin(Kind::Client).is_none());
+        drop((one, second));
+        assert!(waits.begin(Kind::Client).is_some());
+    }
+
+    #[test]
+    fn an_answer_that_is_still_sent_does_not_end_the_next_request() {
+        let places = places();
+        let one = seat(&places);
+        let before = one.begin(Kind::Poll);
+        let next = one.begin(Kind::Poll);
+        drop(before);
+        assert!(next.is_some() && seat(&places).begin(Kind::Poll).is_none());
+    }
+}

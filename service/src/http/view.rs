@@ -1,0 +1,102 @@
+//! All that a tab of the page shows, in one answer: the jobs by name and mode, and one job with its pending records, its savepoints,
+//! its history and its files.
+use super::query::{numbers, Parameter};
+use super::reads::{files_of, metadata, FilesRead};
+use super::render;
+use super::reply::{error, json_reply, Reply};
+use super::App;
+use crate::history::{self, HistoryReader};
+use crate::model::Kind;
+use crate::writer::{JobState, Read, ReadDone};
+use serde_json::{json, Value};
+
+const RECORDS: Parameter = Parameter { name: "records", most: 1000, default: 60 };
+const SAMPLES: Parameter = Parameter { name: "samples", most: 20_000, default: 600 };
+const FILES: Parameter = Parameter { name: "files", most: 1000, default: 40 };
+/// Pending records, and missing subtasks of one, beyond which only the number is told.
+const MOST_PENDING: usize = 20;
+const MOST_MISSING: usize = 24;
+/// The newest savepoints that are told.
+const MOST_SAVEPOINTS: usize = 100;
+
+/// How much of the history a tab shows.
+struct Wanted {
+    records: u64,
+    samples: u64,
+    files: u64,
+}
+
+/// The job of this name is shown, or the first one if there is none.
+pub async fn answer(app: &App, name: Option<String>, query: &str) -> Result<Reply, Box<Reply>> {
+    let [records, samples, files] = numbers(query, [RECORDS, SAMPLES, FILES])?;
+    let ReadDone::Jobs(jobs) = app.read(Read::Jobs).await? else {
+        return Err(error(500, "the writer answered something else").into());
+    };
+    let names: Vec<Value> =
+        jobs.iter().map(|job| json!({"name": job.opening.name, "mode": render::mode(job.mode)})).collect();
+    let mut told = json!({"epoch": app.board.epoch(), "jobs": names, "job": null});
+    let shown = jobs.iter().find(|job| Some(&job.opening.name) == name.as_ref()).or(jobs.first());
+    if let (Some(job), Some(object)) = (shown, told.as_object_mut()) {
+        let wanted = Wanted { records, samples, files };
+        object.insert("job".to_string(), render::job(job, app.board.log()));
+        object.insert("pending".to_string(), Value::Array(pending(app, job).await?));
+        object.append(&mut history(app, job, wanted).await?);
+    }
+    Ok(json_reply(200, &told))
+}
+
+/// The pending records of a job, each with the subtasks that are missing. One that has ended meanwhile is left out.
+async fn pending(app: &App, job: &JobState) -> Result<Vec<Value>, Box<Reply>> {
+    let mut found = Vec::new();
+    for (record, _) in job.live.iter().filter(|(record, _)| !record.done).take(MOST_PENDING) {
+        let read = Read::Record { job: job.opening.name.clone(), id: record.id };
+        let ReadDone::Record(live) = app.read(read).await? else { continue };
+        if let Some(live) = metadata(live)? {
+            let missing = live.missing();
+            found.push(json!({
+                "id": record.id,
+                "kind": record.kind.to_string(),
+                "started": live.started(),
+                "subtasks": live.subtasks(),
+                "missing": missing[..missing.len().min(MOST_MISSING)],
+                "more_missing": missing.len().saturating_sub(MOST_MISSING),
+            }));
+        }
+    }
+    Ok(found)
+}
+
+/// What the history has of a job, how far it is, and the files that were taken and deleted.
+async fn history(app: &App, job: &JobState, wanted: Wanted) -> Result<serde_json::Map<String, Value>, Box<Reply>> {
+    let number = job.opening.number;
+    let FilesRead { upto, taken, deleted } = files_of(app, job, wanted.files).await?;
+    let savepoints: Vec<u64> = savepoints(job).collect();
+    app.read_history(move |history| {
+        let told = json!({
+            "upto": upto,
+            "records": history.records(number, u64::MAX, wanted.records)?,
+            "samples": history.samples(number, 0, wanted.samples)?,
+            "savepoints": kept(history, number, &savepoints)?,
+            "taken": taken,
+            "deleted": deleted,
+        });
+        Ok(told.as_object().cloned().unwrap_or_default())
+    })
+    .await
+}
+
+/// The savepoints of a job that are complete, the newest first.
+fn savepoints(job: &JobState) -> impl Iterator<Item = u64> + '_ {
+    let kept = job.live.iter().rev().filter(|(record, _)| record.done && record.kind == Kind::Savepoint);
+    kept.take(MOST_SAVEPOINTS).map(|(record, _)| record.id)
+}
+
+/// When each savepoint was triggered and completed, as far as the history knows it.
+fn kept(history: &HistoryReader, job: i64, savepoints: &[u64]) -> Result<Vec<Value>, history::Error> {
+    let told = |id: &u64| {
+        let row = history.record(job, *id)?;
+        let (started, finished) = row.map_or((None, None), |row| (Some(row.started), row.finished));
+        Ok(json!({"id": id, "started": started, "finished": finished}))
+    };
+    savepoints.iter().map(told).collect()
+}

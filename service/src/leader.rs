@@ -1,0 +1,141 @@
+//! The writer's thread: it follows the log until this process may write, and then works.
+use crate::exit;
+use crate::log;
+use crate::metrics::Metrics;
+use crate::model::{check_clock, lengths_text, shown, wall, Clock, Keeping, Moment};
+use crate::serve::Stop;
+use crate::store::{Lead, Reader, Store};
+use crate::writer::{Board, Jobs, Lease, Message, StartError, Writer};
+use std::sync::mpsc::Receiver;
+use std::sync::Arc;
+use std::time::Duration;
+
+/// How often a standby looks at the log and at the lease.
+const LOOK_EACH: Duration = Duration::from_millis(100);
+
+pub struct Leader {
+    pub store: Box<dyn Store>,
+    pub reader: Box<dyn Reader>,
+    pub board: Arc<Board>,
+    pub metrics: Arc<Metrics>,
+    pub messages: Receiver<Message>,
+    pub listen: String,
+    pub keeping: Keeping,
+    /// Whether the clock may be far ahead of the log.
+    pub accept_clock: bool,
+}
+
+/// What a take-over has so far.
+#[derive(Default)]
+struct Followed {
+    jobs: Jobs,
+    calls: u64,
+}
+
+impl Leader {
+    /// Ends the process if it can't lead.
+    pub fn run(mut self) {
+        let led = self.lead().unwrap_or_else(|stop| {
+            log::error(&stop.to_string());
+            exit::now(stop.status())
+        });
+        let Some((jobs, lease)) = led else {
+            return self.store.release();
+        };
+        let clock = Clock::starting_after(jobs.last_moment());
+        let writer = Writer::new(self.store, jobs, clock, lease, Arc::clone(&self.board), self.metrics, self.keeping);
+        // the writer has published all jobs, so the first request finds them
+        self.board.open();
+        log::info(&format!("serves on {}", self.listen));
+        writer.run(&self.messages);
+    }
+
+    /// Follows the log until this process may write. So a take-over has little to read. `None` if the process was told to stop first.
+    fn lead(&mut self) -> Result<Option<(Jobs, Lease)>, Stop> {
+        let (mut followed, started) = (Followed::default(), Moment::now());
+        self.follow(&mut followed)?;
+        self.check_clock(&followed.jobs)?;
+        let mut waits = false;
+        while !self.board.is_stopping() {
+            self.board.beat();
+            let asked = Moment::now();
+            match self.store.lead()? {
+                Lead::Here { epoch } => {
+                    let lease = self.take_over(&mut followed, asked, epoch)?;
+                    followed.tell(&format!("leads epoch={epoch}"), started, asked);
+                    return Ok(Some((followed.jobs, lease)));
+                }
+                Lead::Elsewhere { committed: true } => self.follow(&mut followed)?,
+                Lead::Elsewhere { committed: false } => {}
+            }
+            if !std::mem::replace(&mut waits, true) {
+                let (jobs, calls) = (followed.jobs.len(), followed.calls);
+                log::info(&format!("another process leads; follows jobs={jobs} calls={calls}"));
+            }
+            std::thread::sleep(LOOK_EACH);
+        }
+        Ok(None)
+    }
+
+    fn follow(&mut self, followed: &mut Followed) -> Result<(), Stop> {
+        let board = &self.board;
+        followed.catch_up(self.reader.as_mut(), &mut || {
+            board.beat();
+            Ok(())
+        })
+    }
+
+    /// Reads what the last leader wrote since this process read the log. It keeps its lease meanwhile.
+    fn take_over(&mut self, followed: &mut Followed, asked: Moment, epoch: u64) -> Result<Lease, Stop> {
+        let mut lease = Lease::of(self.store.as_ref(), asked);
+        let (store, board) = (self.store.as_mut(), &self.board);
+        let mut keep = || {
+            board.beat();
+            lease.keep(store).map_err(StartError::NotLeading)
+        };
+        followed.catch_up(self.reader.as_mut(), &mut keep)?;
+        keep()?;
+        followed.jobs.take_stock(self.reader.as_mut(), self.keeping, &mut keep)?;
+        keep()?;
+        self.check_clock(&followed.jobs).inspect_err(|_| self.store.release())?;
+        let now = wall().max(followed.jobs.last_moment());
+        self.store.note(now).unwrap_or_else(|why| log::warn(&format!("the moment is not written down: {why}")));
+        let log = relkvanu_client::new_key();
+        self.store.begin(&log, &lengths_text(&followed.jobs.lengths()))?;
+        self.board.lead(epoch, log);
+        lease.renew(self.store.as_mut()).map_err(|why| Stop::Again(why.to_string()))?;
+        Ok(lease)
+    }
+
+    /// Refuses a clock that is far ahead of the log. If it is behind, the moments count on from the log's last one.
+    fn check_clock(&mut self, jobs: &Jobs) -> Result<(), Stop> {
+        let last = jobs.last_moment();
+        if !self.accept_clock {
+            check_clock(self.reader.noted()?.max(last)).map_err(Stop::Never)?;
+        }
+        if last > wall().saturating_add(1000) {
+            log::warn(&format!(
+                "the log ends at {}, which this machine's clock has not reached: moments count on from there",
+                shown(last)
+            ));
+        }
+        Ok(())
+    }
+}
+
+impl Followed {
+    fn tell(&self, what: &str, started: Moment, asked: Moment) {
+        let (took, over) = (started.elapsed().as_millis(), asked.elapsed().as_millis());
+        let (calls, jobs) = (self.calls, self.jobs.len());
+        log::info(&format!("{what} jobs={jobs} calls={calls} start_ms={took} take_over_ms={over}"));
+    }
+
+    fn catch_up(
+        &mut self,
+        reader: &mut dyn Reader,
+        beat: &mut dyn FnMut() -> Result<(), StartError>,
+    ) -> Result<(), Stop> {
+        self.calls += self.jobs.catch_up(reader, beat)?;
+        Ok(())
+    }
+}

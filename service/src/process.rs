@@ -1,0 +1,23 @@
+//! What the process asks of the system for itself.
+use libc::{getrlimit, rlimit, setrlimit, umask, RLIMIT_NOFILE};
+
+/// Files that are made from now on are this user's alone: a database has the names of jobs and files, and a log may have more.
+pub fn make_files_private() {
+    // SAFETY: the call takes any mask, cannot fail and reads no memory of ours. No other thread runs yet.
+    unsafe { umask(0o077) };
+}
+
+/// Raises the number of files that may be open as far as the system allows, and returns it.
+pub fn most_files() -> u64 {
+    let mut limit = rlimit { rlim_cur: 0, rlim_max: 0 };
+    // SAFETY: the call writes to `limit`, which lives until it returns.
+    if unsafe { getrlimit(RLIMIT_NOFILE, &raw mut limit) } != 0 {
+        return u64::MAX;
+    }
+    let raised = rlimit { rlim_cur: limit.rlim_max, ..limit };
+    // SAFETY: the call reads `raised`, which lives until it returns.
+    if limit.rlim_cur < limit.rlim_max && unsafe { setrlimit(RLIMIT_NOFILE, &raw const raised) } == 0 {
+        return raised.rlim_cur;
+    }
+    limit.rlim_cur
+}

@@ -1,0 +1,258 @@
+//! One parser of rows for both databases.
+use super::error::DbError;
+use super::rows::{Keyed, SavedImage};
+use crate::model::{parse_config, Entry, Image, KeptImage, KeptSummary, Opening, PastRecord};
+use rusqlite::types::{Type, ValueRef};
+
+/// A cell of a row. PostgreSQL gives numbers as texts.
+#[derive(Debug)]
+pub enum Cell {
+    Null,
+    Number(i64),
+    Text(String),
+}
+
+/// A row, whose cells are read in their order.
+pub struct Row {
+    cells: Vec<Cell>,
+    next: usize,
+}
+
+impl Row {
+    /// A row of SQLite.
+    pub fn of_lite(row: &rusqlite::Row) -> rusqlite::Result<Row> {
+        let cell = |place| match row.get_ref(place)? {
+            ValueRef::Null => Ok(Cell::Null),
+            ValueRef::Integer(number) => Ok(Cell::Number(number)),
+            other => Ok(Cell::Text(other.as_str()?.to_string())),
+        };
+        let cells = (0..row.as_ref().column_count()).map(cell).collect::<rusqlite::Result<_>>()?;
+        Ok(Row { cells, next: 0 })
+    }
+
+    /// A row of PostgreSQL.
+    pub fn of_pg(row: Vec<Option<String>>) -> Row {
+        Row { cells: row.into_iter().map(|cell| cell.map_or(Cell::Null, Cell::Text)).collect(), next: 0 }
+    }
+
+    /// What the row says.
+    pub fn read<T: FromRow>(mut self) -> Result<T, DbError> {
+        T::read(&mut self).ok_or_else(|| {
+            let column = self.next;
+            let cell = self.cells.get(column.saturating_sub(1)).map_or("nothing".to_string(), |it| format!("{it:?}"));
+            DbError::BadRow { table: T::TABLE, column, cell }
+        })
+    }
+
+    fn cell(&mut self) -> Option<&mut Cell> {
+        self.next += 1;
+        self.cells.get_mut(self.next - 1)
+    }
+
+    fn number<T: TryFrom<i64>>(&mut self) -> Option<T> {
+        self.number_or_null()?
+    }
+
+    /// `Some(None)` if it is null.
+    fn number_or_null<T: TryFrom<i64>>(&mut self) -> Option<Option<T>> {
+        let number = match self.cell()? {
+            Cell::Null => return Some(None),
+            Cell::Number(number) => *number,
+            Cell::Text(text) => text.parse().ok()?,
+        };
+        T::try_from(number).ok().map(Some)
+    }
+
+    fn text(&mut self) -> Option<String> {
+        self.text_or_null()?
+    }
+
+    /// `Some(None)` if it is null. The text is moved: that of an image may be large.
+    fn text_or_null(&mut self) -> Option<Option<String>> {
+        match self.cell()? {
+            Cell::Null => Some(None),
+            Cell::Number(_) => None,
+            Cell::Text(text) => Some(Some(std::mem::take(text))),
+        }
+    }
+
+    /// What a text says.
+    fn parsed<T>(&mut self, parse: impl FnOnce(&str) -> Option<T>) -> Option<T> {
+        match self.cell()? {
+            Cell::Text(text) => parse(text),
+            Cell::Null | Cell::Number(_) => None,
+        }
+    }
+}
+
+/// What a row of a statement says.
+pub trait FromRow: Sized {
+    /// The table that an error names.
+    const TABLE: &'static str;
+
+    /// `None` if a cell is not as this program writes it: the last one that was read.
+    fn read(row: &mut Row) -> Option<Self>;
+}
+
+impl FromRow for Opening {
+    const TABLE: &'static str = "job";
+
+    fn read(row: &mut Row) -> Option<Opening> {
+        Some(Opening {
+            number: row.number()?,
+            name: row.text()?,
+            settings: row.parsed(parse_config)?,
+            shape: row.parsed(|words| words.split(' ').map(|word| word.parse().ok()).collect())?,
+            started: row.number()?,
+        })
+    }
+}
+
+impl FromRow for Entry {
+    const TABLE: &'static str = "call";
+
+    fn read(row: &mut Row) -> Option<Entry> {
+        Some(Entry {
+            job: row.number()?,
+            seq: row.number()?,
+            at: row.number()?,
+            record: row.number_or_null()?,
+            line: row.text()?,
+            answer: row.text()?,
+            ended: row.text_or_null()?,
+            waiting: row.number()?,
+        })
+    }
+}
+
+impl FromRow for Keyed {
+    const TABLE: &'static str = "request";
+
+    fn read(row: &mut Row) -> Option<Keyed> {
+        Some(Keyed {
+            job: row.number()?,
+            key: row.text()?,
+            at: row.number()?,
+            digest: row.text()?,
+            answers: row.text()?,
+        })
+    }
+}
+
+impl FromRow for SavedImage {
+    const TABLE: &'static str = "image";
+
+    fn read(row: &mut Row) -> Option<SavedImage> {
+        let (job, seq, at, digest) = (row.number()?, row.number()?, row.number()?, row.text()?);
+        // a word that is no number shows in the digest
+        let shape = row.parsed(|words| Some(words.split(' ').filter_map(|word| word.parse().ok()).collect()))?;
+        let (last_completed, last_event, text) = (row.number_or_null()?, row.number()?, row.text()?);
+        Some(SavedImage { image: Image { job, seq, at, shape, last_completed, last_event, text }, digest })
+    }
+}
+
+impl FromRow for KeptImage {
+    const TABLE: &'static str = "image";
+
+    fn read(row: &mut Row) -> Option<KeptImage> {
+        Some(KeptImage { seq: row.number()?, at: row.number()?, bytes: row.number()? })
+    }
+}
+
+impl FromRow for KeptSummary {
+    const TABLE: &'static str = "summary";
+
+    fn read(row: &mut Row) -> Option<KeptSummary> {
+        Some(KeptSummary { seq: row.number()?, bytes: row.number()? })
+    }
+}
+
+/// A part of a summary, and how many bytes all parts have if it is the last one.
+impl FromRow for (String, u64) {
+    const TABLE: &'static str = "summary";
+
+    fn read(row: &mut Row) -> Option<(String, u64)> {
+        Some((row.text()?, row.number()?))
+    }
+}
+
+impl FromRow for PastRecord {
+    const TABLE: &'static str = "past";
+
+    fn read(row: &mut Row) -> Option<PastRecord> {
+        Some(PastRecord { job: row.number()?, id: row.number()?, text: row.text()? })
+    }
+}
+
+/// A place in the log.
+impl FromRow for u64 {
+    const TABLE: &'static str = "call";
+
+    fn read(row: &mut Row) -> Option<u64> {
+        row.number()
+    }
+}
+
+/// A number that may be null, as the least of no rows.
+impl FromRow for Option<u64> {
+    const TABLE: &'static str = "call";
+
+    fn read(row: &mut Row) -> Option<Option<u64>> {
+        row.number_or_null()
+    }
+}
+
+/// A job's number before what the row says of the job.
+impl<T: FromRow> FromRow for (i64, T) {
+    const TABLE: &'static str = T::TABLE;
+
+    fn read(row: &mut Row) -> Option<(i64, T)> {
+        Some((row.number()?, T::read(row)?))
+    }
+}
+
+/// An entry of SQLite's columns [`COLUMNS`](super::rows::COLUMNS).
+pub fn entry_of(row: &rusqlite::Row) -> rusqlite::Result<Entry> {
+    let bad = |error| rusqlite::Error::FromSqlConversionFailure(0, Type::Null, Box::new(error));
+    Row::of_lite(row)?.read().map_err(bad)
+}
+
+#[cfg(test)]
+mod tests {
+    use super::*;
+    use rusqlite::Connection;
+
+    fn of_pg(cells: [Option<&str>; 8]) -> Row {
+        Row::of_pg(cells.into_iter().map(|cell| cell.map(str::to_string)).collect())
+    }
+
+    fn of_lite(values: &str) -> Result<Row, DbError> {
+        let connection = Connection::open_in_memory()?;
+        Ok(connection.query_row(&format!("select {values}"), [], Row::of_lite)?)
+    }
+
+    #[test]
+    fn both_databases_give_the_same() -> Result<(), DbError> {
+        let cells = [Some("1"), Some("9"), Some("3010"), None, Some("tick 3010"), Some("held"), None, Some("0")];
+        let entry: Entry = of_lite("1, 9, 3010, null, 'tick 3010', 'held', null, 0")?.read()?;
+        assert_eq!(entry, of_pg(cells).read()?);
+        assert_eq!((entry.job, entry.seq, entry.at, entry.record), (1, 9, 3010, None));
+        assert_eq!((entry.line.as_str(), entry.answer.as_str(), entry.ended), ("tick 3010", "held", None));
+        let cells = [Some("1"), Some("9"), Some("3010"), Some("d"), Some("2 3"), None, Some("8"), Some("{}")];
+        let saved: SavedImage = of_lite("1, 9, 3010, 'd', '2 3', null, 8, '{}'")?.read()?;
+        assert_eq!(saved, of_pg(cells).read()?);
+        assert_eq!((saved.image.shape, saved.image.last_completed, saved.digest.as_str()), (vec![2, 3], None, "d"));
+        Ok(())
+    }
+
+    #[test]
+    fn an_error_names_the_cell() {
+        let told = of_pg([Some("1"), Some("x"), None, None, None, None, None, None]).read::<Entry>();
+        let told = told.map_err(|error| error.to_string());
+        assert_eq!(told, Err("a row of call has Text(\"x\") in column 2".to_string()));
+        let told = of_lite("1, -9, 0").and_then(Row::read::<(i64, KeptSummary)>).map_err(|error| error.to_string());
+        assert_eq!(told, Err("a row of summary has Number(-9) in column 2".to_string()));
+        let told = of_lite("1").and_then(Row::read::<(i64, u64)>).map_err(|error| error.to_string());
+        assert_eq!(told, Err("a row of call has nothing in column 2".to_string()));
+    }
+}

@@ -1,0 +1,91 @@
+//! Why a database did not do what it was asked, and whether it may do it later.
+use super::pq::Failed;
+use super::rows::VERSION;
+use std::io;
+use std::path::{Path, PathBuf};
+use thiserror::Error;
+
+/// What kept a database from being opened, read or written.
+#[derive(Debug, Error)]
+pub enum DbError {
+    /// What SQLite says.
+    #[error("{0}")]
+    Lite(#[from] rusqlite::Error),
+    /// What SQLite says of the file that it opens.
+    #[error("{}: {why}", .path.display())]
+    Unopened { path: PathBuf, why: rusqlite::Error },
+    /// What the system says of a file of the database.
+    #[error("{}: {why}", .path.display())]
+    File { path: PathBuf, why: io::Error },
+    /// Another program has replaced or locked a file, or the folder can't have a write-ahead log.
+    #[error("{}: {why}", .path.display())]
+    Unfit { path: PathBuf, why: String },
+    /// What PostgreSQL or libpq says.
+    #[error("{0}")]
+    Pg(#[from] Failed),
+    /// The database can lose what it committed.
+    #[error("fsync is off in this database, so that it can lose what it committed")]
+    NoSync,
+    /// The database answered something else than the statement asks for.
+    #[error("{0}")]
+    Odd(&'static str),
+    #[error("another process leads, epoch {epoch} has ended")]
+    NotLeading { epoch: u64 },
+    /// A row is not as any version of this program writes it.
+    #[error("a row of {table} has {cell} in column {column}")]
+    BadRow { table: &'static str, column: usize, cell: String },
+}
+
+impl DbError {
+    pub fn file(path: &Path) -> impl Fn(io::Error) -> DbError + '_ {
+        |why| DbError::File { path: path.to_path_buf(), why }
+    }
+
+    pub fn unopened(path: &Path) -> impl Fn(rusqlite::Error) -> DbError + '_ {
+        |why| DbError::Unopened { path: path.to_path_buf(), why }
+    }
+}
+
+/// Why a start can't use a database.
+#[derive(Debug, Error)]
+pub enum Unusable {
+    /// A newer program made its tables, so no start of this program can read them.
+    #[error(
+        "the tables of the database have version {0}, and this program knows those up to {VERSION}: run the program that made them, or a newer one"
+    )]
+    Newer(i64),
+    /// A later start may succeed.
+    #[error("database: {0}")]
+    Failed(DbError),
+}
+
+impl<E: Into<DbError>> From<E> for Unusable {
+    fn from(error: E) -> Unusable {
+        Unusable::Failed(error.into())
+    }
+}
+
+impl Unusable {
+    /// Refuses tables of a newer version.
+    pub fn check(found: i64) -> Result<(), Unusable> {
+        match found {
+            _ if found > VERSION as i64 => Err(Unusable::Newer(found)),
+            _ => Ok(()),
+        }
+    }
+}
+
+/// Why a group was not committed.
+#[derive(Debug, Error)]
+pub enum Failure {
+    /// Certainly rolled back: the same group may be written again.
+    #[error("{0}")]
+    Again(DbError),
+    /// Certainly rolled back, and it is too large ever to be written.
+    #[error("{0}")]
+    TooLarge(DbError),
+    /// It may or may not have been committed, or this process no longer leads. The process ends, and its next start reads
+    /// what was committed.
+    #[error("{0}")]
+    Lost(DbError),
+}

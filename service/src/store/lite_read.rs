@@ -1,0 +1,117 @@
+//! Reads of the log in an SQLite file.
+use super::cells::{FromRow, Row};
+use super::error::DbError;
+use super::lite::{signed, BUSY};
+use super::room::room_of;
+use super::rows::{whole, LogPage, Reader, Room, SavedImage, COLUMNS, IMAGE_COLUMNS, IS_EVENT, PAGE_BYTES};
+use crate::model::{Entry, KeptImage, KeptSummary, Opening, PastRecord};
+use rusqlite::{params, Connection, OpenFlags, OptionalExtension, Params};
+use std::path::Path;
+
+/// A connection that only reads.
+pub struct LiteReader(Connection);
+
+impl LiteReader {
+    /// Opens a database that a [`Lite`](super::Lite) has made.
+    pub fn open(path: &Path) -> Result<LiteReader, DbError> {
+        let flags = OpenFlags::SQLITE_OPEN_READ_ONLY | OpenFlags::SQLITE_OPEN_NO_MUTEX;
+        let opened = Connection::open_with_flags(path, flags).and_then(|connection| {
+            connection.busy_timeout(BUSY)?;
+            Ok(connection)
+        });
+        opened.map(LiteReader).map_err(DbError::unopened(path))
+    }
+
+    fn all<T: FromRow>(&self, sql: &str, given: impl Params) -> Result<Vec<T>, DbError> {
+        let mut query = self.0.prepare_cached(sql)?;
+        let rows = query.query_map(given, Row::of_lite)?;
+        rows.map(|row| row?.read()).collect()
+    }
+
+    fn one<T: FromRow>(&self, sql: &str, given: impl Params) -> Result<Option<T>, DbError> {
+        self.0.query_row(sql, given, Row::of_lite).optional()?.map(Row::read).transpose()
+    }
+
+    fn entries(&mut self, rest: &str, given: impl Params) -> Result<LogPage, DbError> {
+        let mut query = self.0.prepare_cached(&format!("select {COLUMNS} from call where {rest}"))?;
+        let (mut page, mut bytes) = (LogPage::new(), 0);
+        for row in query.query_map(given, Row::of_lite)? {
+            let entry: Entry = row?.read()?;
+            bytes += entry.line.len() + entry.answer.len();
+            page.push(entry);
+            if bytes >= PAGE_BYTES {
+                break;
+            }
+        }
+        Ok(page)
+    }
+}
+
+impl Reader for LiteReader {
+    fn jobs(&mut self) -> Result<Vec<Opening>, DbError> {
+        self.all("select job, name, config, shape, started from job order by job", [])
+    }
+
+    fn log(&mut self, job: i64, after: u64, most: u32) -> Result<LogPage, DbError> {
+        self.entries("job = ? and seq > ? order by seq limit ?", params![job, signed(after), most])
+    }
+
+    fn events(&mut self, job: i64, after: u64, most: u32) -> Result<LogPage, DbError> {
+        let rest = format!("job = ? and seq > ? and {IS_EVENT} order by seq limit ?");
+        self.entries(&rest, params![job, signed(after), most])
+    }
+
+    fn about(&mut self, job: i64, record: u64, after: u64, most: u32) -> Result<LogPage, DbError> {
+        let rest = "job = ? and record = ? and seq > ? order by seq limit ?";
+        self.entries(rest, params![job, signed(record), signed(after), most])
+    }
+
+    fn entry(&mut self, job: i64, seq: u64) -> Result<Option<Entry>, DbError> {
+        Ok(self.entries("job = ? and seq = ?", params![job, signed(seq)])?.pop())
+    }
+
+    fn image(&mut self, job: i64, after: u64) -> Result<Option<SavedImage>, DbError> {
+        let sql = format!("select {IMAGE_COLUMNS} from image where job = ? and seq > ? order by seq limit 1");
+        self.one(&sql, params![job, signed(after)])
+    }
+
+    fn images(&mut self, job: i64) -> Result<Vec<KeptImage>, DbError> {
+        self.all("select seq, at, bytes from image where job = ? order by seq", [job])
+    }
+
+    fn summaries(&mut self, job: i64) -> Result<Vec<KeptSummary>, DbError> {
+        self.all("select seq, max(whole) from summary where job = ? group by seq order by seq", [job])
+    }
+
+    fn summary(&mut self, job: i64, seq: u64) -> Result<Option<String>, DbError> {
+        let sql = "select text, whole from summary where job = ? and seq = ? order by part";
+        Ok(whole(self.all(sql, params![job, signed(seq)])?))
+    }
+
+    fn past(&mut self, job: i64, after: u64, most: u32) -> Result<Vec<PastRecord>, DbError> {
+        let sql = "select job, id, text from past where job = ? and id > ? order by id limit ?";
+        self.all(sql, params![job, signed(after), most])
+    }
+
+    fn room(&mut self) -> Result<Room, DbError> {
+        let path = self.0.path().ok_or(DbError::Odd("the database has no file"))?;
+        room_of(path).map_err(DbError::file(path))
+    }
+
+    fn first(&mut self, job: i64) -> Result<Option<u64>, DbError> {
+        Ok(self.one("select min(seq) from call where job = ?", [job])?.flatten())
+    }
+
+    fn lengths_after(&mut self, name: &str) -> Result<Option<String>, DbError> {
+        let sql = "select lengths from log_start where number > (select number from log_start where name = ?) order by number limit 1";
+        Ok(self.0.query_row(sql, [name], |row| row.get(0)).optional()?)
+    }
+
+    fn noted(&mut self) -> Result<u64, DbError> {
+        Ok(self.one::<Option<u64>>("select max(at) from clock", [])?.flatten().unwrap_or(0))
+    }
+
+    fn leader(&mut self) -> Option<String> {
+        None
+    }
+}

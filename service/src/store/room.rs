@@ -1,0 +1,34 @@
+//! How much room an SQLite file takes, and its disk has.
+use super::rows::Room;
+use std::ffi::{CString, OsString};
+use std::io::{Error, ErrorKind, Result};
+use std::mem::MaybeUninit;
+use std::os::unix::ffi::OsStrExt;
+use std::path::Path;
+
+/// The room of an SQLite file with its write-ahead log.
+pub fn room_of(path: &Path) -> Result<Room> {
+    let length = |end: &str| {
+        let mut name: OsString = path.as_os_str().to_owned();
+        name.push(end);
+        std::fs::metadata(name).map(|it| it.len())
+    };
+    let log = match length("-wal") {
+        Err(error) if error.kind() == ErrorKind::NotFound => 0,
+        told => told?,
+    };
+    Ok(Room { bytes: length("")? + log, free: Some(free(path)?) })
+}
+
+/// How many bytes a user without privileges may still write to the disk of a file.
+fn free(path: &Path) -> Result<u64> {
+    let path = CString::new(path.as_os_str().as_bytes())?;
+    let mut told = MaybeUninit::<libc::statvfs>::uninit();
+    // SAFETY: `path` ends with a zero byte, and `told` has room for what the call writes.
+    if unsafe { libc::statvfs(path.as_ptr(), told.as_mut_ptr()) } != 0 {
+        return Err(Error::last_os_error());
+    }
+    // SAFETY: the call was successful, so it has written all of it.
+    let told = unsafe { told.assume_init() };
+    Ok(told.f_bavail * told.f_frsize)
+}

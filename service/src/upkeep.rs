@@ -1,0 +1,92 @@
+//! Metrics of what the service does beside its calls: the history, deletions, and the room that it takes.
+use crate::auth::{Access, Tokens};
+use prometheus::{Gauge, GaugeVec, IntGauge, IntGaugeVec, Opts, Registry};
+use std::time::{Duration, SystemTime, UNIX_EPOCH};
+
+pub struct Upkeep {
+    history_up: IntGauge,
+    history_lag: GaugeVec,
+    keys_behind: Gauge,
+    samples_behind: Gauge,
+    bytes: IntGaugeVec,
+    free: IntGaugeVec,
+    token_until: GaugeVec,
+}
+
+impl Upkeep {
+    pub fn new() -> Result<Upkeep, prometheus::Error> {
+        let sized = |name: &str, help: &str| IntGaugeVec::new(Opts::new(name, help), &["of"]);
+        let lag = "How long the history has not read calls that were committed, 0 if it has read all.";
+        Ok(Upkeep {
+            history_up: IntGauge::new("relkvanu_history_up", "1 while the history can be read and written.")?,
+            history_lag: GaugeVec::new(Opts::new("relkvanu_history_lag_seconds", lag), &["job_name"])?,
+            keys_behind: Gauge::new(
+                "relkvanu_keys_behind_seconds",
+                "For how long keys that are older than a day have been left.",
+            )?,
+            samples_behind: Gauge::new(
+                "relkvanu_samples_behind_seconds",
+                "For how long samples that are older than a week have been left.",
+            )?,
+            bytes: sized("relkvanu_stored_bytes", "How large the database and the history are.")?,
+            free: sized("relkvanu_disk_free_bytes", "How much room the disks of these files have left.")?,
+            token_until: GaugeVec::new(
+                Opts::new(
+                    "relkvanu_token_until_timestamp_seconds",
+                    "When the last token for this access ends, in Unix time; +Inf if it does not.",
+                ),
+                &["access"],
+            )?,
+        })
+    }
+
+    pub fn register(&self, registry: &Registry) -> Result<(), prometheus::Error> {
+        registry.register(Box::new(self.history_up.clone()))?;
+        [&self.history_lag, &self.token_until]
+            .into_iter()
+            .try_for_each(|it| registry.register(Box::new(it.clone())))?;
+        [&self.keys_behind, &self.samples_behind]
+            .into_iter()
+            .try_for_each(|it| registry.register(Box::new(it.clone())))?;
+        [&self.bytes, &self.free].into_iter().try_for_each(|it| registry.register(Box::new(it.clone())))
+    }
+
+    pub fn history_up(&self, is_up: bool) {
+        self.history_up.set(i64::from(is_up));
+    }
+
+    pub fn history_lag(&self, job: &str, lag: Duration) {
+        self.history_lag.with_label_values(&[job]).set(lag.as_secs_f64());
+    }
+
+    /// When the last token for each access ends, if it does.
+    pub fn tokens(&self, tokens: Option<&Tokens>) {
+        let since = |until: SystemTime| until.duration_since(UNIX_EPOCH).unwrap_or(Duration::ZERO).as_secs_f64();
+        for (word, access) in [("read", Access::Read), ("write", Access::Write)] {
+            let until = tokens.and_then(|tokens| tokens.until(access));
+            self.token_until.with_label_values(&[word]).set(until.map_or(f64::INFINITY, since));
+        }
+    }
+
+    pub fn keys_behind(&self, time: Duration) {
+        self.keys_behind.set(time.as_secs_f64());
+    }
+
+    pub fn samples_behind(&self, time: Duration) {
+        self.samples_behind.set(time.as_secs_f64());
+    }
+
+    /// How large the database or the history is.
+    pub fn stored(&self, of: &str, bytes: u64) {
+        set(&self.bytes, of, bytes);
+    }
+
+    /// How much room its disk has left.
+    pub fn free(&self, of: &str, bytes: u64) {
+        set(&self.free, of, bytes);
+    }
+}
+
+fn set(gauge: &IntGaugeVec, of: &str, value: u64) {
+    gauge.with_label_values(&[of]).set(i64::try_from(value).unwrap_or(i64::MAX));
+}

@@ -1,0 +1,54 @@
+//! The messages that share a commit, and the answers that were given before under their keys, read for all at once.
+use super::message::{Key, Message};
+use super::{Jobs, MOST_CALLS};
+use crate::store::{DbError, Keyed, Store};
+use std::collections::HashMap;
+use std::sync::mpsc::Receiver;
+
+/// What was answered under the keys of a batch, by job and key.
+#[derive(Default)]
+pub struct Answered(HashMap<(i64, String), Keyed>);
+
+impl Answered {
+    /// Reads what the database has under the keys of these messages.
+    pub fn read(messages: &[Message], jobs: &Jobs, store: &mut dyn Store) -> Result<Answered, DbError> {
+        let keys: Vec<(i64, String)> = messages.iter().filter_map(|message| key_of(message, jobs)).collect();
+        if keys.is_empty() {
+            return Ok(Answered::default());
+        }
+        let found = store.keyed(&keys)?;
+        Ok(Answered(found.into_iter().map(|keyed| ((keyed.job, keyed.key.clone()), keyed)).collect()))
+    }
+
+    pub fn get(&self, job: i64, key: &str) -> Option<Keyed> {
+        self.0.get(&(job, key.to_string())).cloned()
+    }
+}
+
+/// The messages that wait behind a first one, until their calls fill a commit.
+pub fn gather(first: Option<Message>, inbox: &Receiver<Message>) -> Vec<Message> {
+    let (mut batch, mut calls) = (Vec::new(), 0);
+    let mut next = first;
+    while let Some(message) = next {
+        calls += calls_of(&message);
+        let is_last = calls >= MOST_CALLS || matches!(message, Message::Stop);
+        batch.push(message);
+        next = if is_last { None } else { inbox.try_recv().ok() };
+    }
+    batch
+}
+
+fn calls_of(message: &Message) -> usize {
+    match message {
+        Message::Calls { calls, .. } => calls.len(),
+        _ => 0,
+    }
+}
+
+/// The job and key under which a message may have been answered.
+fn key_of(message: &Message, jobs: &Jobs) -> Option<(i64, String)> {
+    let Message::Calls { job, key: Some(Key { name, .. }), .. } = message else {
+        return None;
+    };
+    Some((jobs.number(job)?, name.clone()))
+}

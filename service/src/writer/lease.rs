@@ -1,0 +1,57 @@
+//! How long this process surely leads.
+use crate::model::Moment;
+use crate::store::{Failure, Group, Store};
+use std::time::Duration;
+
+/// A leader takes this part of its lease as over before it is: clocks are not equally fast, and an answer needs time to be sent.
+const MARGIN: u32 = 3;
+
+/// A lease counts from when it was asked for, which is before the database wrote it. A standby counts from when it saw it.
+pub struct Lease {
+    /// `None`: nobody else can lead.
+    length: Option<Duration>,
+    since: Moment,
+}
+
+impl Lease {
+    /// The lease of a store that leads since it was asked then.
+    pub fn of(store: &dyn Store, asked: Moment) -> Lease {
+        Lease { length: store.lease(), since: asked }
+    }
+
+    /// It was renewed by a commit that began then.
+    pub fn renewed(&mut self, since: Moment) {
+        self.since = since;
+    }
+
+    /// How long ago it was renewed.
+    pub fn age(&self) -> Duration {
+        self.since.elapsed()
+    }
+
+    /// Whether nobody else leads while an answer is sent.
+    pub fn is_sure(&self) -> bool {
+        self.length.is_none_or(|length| self.age() < length.saturating_sub(length / MARGIN))
+    }
+
+    /// When it ends, in milliseconds since the machine's start.
+    pub fn until(&self) -> u64 {
+        self.length.map_or(u64::MAX, |length| self.since.millis().saturating_add(crate::model::millis(length)))
+    }
+
+    /// Renews it if that is due.
+    pub fn keep(&mut self, store: &mut dyn Store) -> Result<(), Failure> {
+        if self.age() < store.beat() {
+            return Ok(());
+        }
+        self.renew(store)
+    }
+
+    /// Renews it by an empty commit.
+    pub fn renew(&mut self, store: &mut dyn Store) -> Result<(), Failure> {
+        let since = Moment::now();
+        store.commit(&Group::default())?;
+        self.since = since;
+        Ok(())
+    }
+}

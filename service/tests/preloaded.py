@@ -1,0 +1,54 @@
+"""Libraries that are loaded into a process before its own: faults of a disk, and clocks that are set."""
+import mmap
+import os
+import struct
+import subprocess
+import time
+
+from harness import HERE
+
+
+def built(at, name):
+    """Compiles NAME.c of this folder, and returns the library's path."""
+    library = f"{at}/{name}.so"
+    subprocess.run(["cc", "-O1", "-shared", "-fPIC", "-o", library, f"{HERE}/{name}.c", "-ldl"], check=True)
+    os.chmod(library, 0o755)
+    return library
+
+
+class Clocks:
+    """Clocks of processes whose words begin with `prefix`, or whose environment has `environment`."""
+
+    def __init__(self, at, name="clocks"):
+        path = f"{at}/{name}-set"
+        with open(path, "wb") as it:
+            it.write(bytes(16))
+        os.chmod(path, 0o644)
+        with open(path, "r+b") as it:
+            self.map = mmap.mmap(it.fileno(), 16)
+        self.environment = {"LD_PRELOAD": built(at, "clocks"), "CLOCKS": path}
+        self.prefix = ["env", *(f"{name}={value}" for name, value in self.environment.items())]
+        self.set()
+
+    def set(self, day=0, start=0):
+        """Adds seconds to the time of day, and to the time since the machine's start without suspensions."""
+        self.map[:] = struct.pack("qq", int(day), int(start))
+
+
+class Suspended:
+    """Stops a process as a suspension of its machine does: its clock stops too, but for the one that counts suspensions. A process goes on
+    when its time is a whole number of seconds."""
+
+    def __init__(self, server, clocks):
+        import signal
+
+        self.server, self.clocks, self.signal = server, clocks, signal
+        self.since = time.monotonic()
+        server.process.send_signal(signal.SIGSTOP)
+
+    def over(self):
+        slept = int(time.monotonic() - self.since) + 1
+        time.sleep(self.since + slept - time.monotonic())
+        self.clocks.set(start=-slept)
+        self.server.process.send_signal(self.signal.SIGCONT)
+        return slept

@@ -1,0 +1,44 @@
+"""A slow line to a server: a proxy that holds each answer, and counts what is asked."""
+import asyncio
+import threading
+
+from harness import free_port, until
+
+
+class Slow(threading.Thread):
+    """Holds each answer of the server at a port of this machine for `delay` seconds, which may be set at any time."""
+
+    def __init__(self, to, delay):
+        super().__init__(daemon=True)
+        self.to, self.delay, self.port = to, delay, free_port()
+        self.asked, self.listens = 0, False
+        self.start()
+        until(lambda: self.listens)
+
+    def run(self):
+        asyncio.run(self.serve())
+
+    async def serve(self):
+        server = await asyncio.start_server(self.connected, "127.0.0.1", self.port)
+        self.listens = True
+        await server.serve_forever()
+
+    async def connected(self, reader, writer):
+        try:
+            other_reader, other_writer = await asyncio.open_connection("127.0.0.1", self.to)
+        except OSError:
+            return writer.close()
+        await asyncio.gather(self.pipe(reader, other_writer, False), self.pipe(other_reader, writer, True))
+
+    async def pipe(self, reader, writer, answers):
+        try:
+            while data := await reader.read(1 << 20):
+                if answers:
+                    await asyncio.sleep(self.delay)
+                else:
+                    self.asked += 1
+                writer.write(data)
+                await writer.drain()
+        except OSError:
+            pass
+        writer.close()

@@ -1,0 +1,104 @@
+"""`relkvanu backup` copies an SQLite database while a service commits to it."""
+import os
+import signal
+import sqlite3
+import subprocess
+import threading
+import time
+
+from harness import PROGRAM, Archive, Server, check_log, folder, served
+from relkvanu_service import Service
+from writers import check_kept
+
+MEGABYTES = int(os.environ.get("RELKVANU_BACKUP_MB", "64"))
+
+
+def backup(database, copy, status=0):
+    words = [PROGRAM, "backup", "--database", database, "--to", copy]
+    told = subprocess.run(words, stderr=subprocess.PIPE, text=True, timeout=600, check=False)
+    assert told.returncode == status, told
+    return told.stderr
+
+
+def filled(server):
+    """A job, in a database of this many megabytes."""
+    Service(server.url).open("orders", {"interval": 1 << 40}, [1])
+    server.stop()
+    with sqlite3.connect(server.database) as base:
+        at = int(time.time() * 1000)
+        base.executemany("insert into request values(1, ?, ?, 'd', ?)", ((f"f{i}", at, "x" * 1_000_000) for i in range(MEGABYTES)))
+    base.close()
+    server.start()
+    return Service(server.url).job("orders")
+
+
+class Load(threading.Thread):
+    """Commits one call after the other."""
+
+    def __init__(self, job):
+        super().__init__(daemon=True)
+        self.job, self.over, self.times = job, threading.Event(), []
+
+    def run(self):
+        while not self.over.is_set():
+            asked = time.monotonic()
+            self.job.call({"call": "savepoint"})
+            self.times.append(time.monotonic() - asked)
+
+    def end(self):
+        self.over.set()
+        self.join()
+
+
+def test_a_backup_under_load():
+    with served() as server:
+        job, archive = filled(server), Archive(server.database)
+        load = Load(job)
+        load.start()
+        copy = f"{server.folder}/copy.db"
+        time.sleep(0.2)
+        first, started = job.state()["seq"], time.monotonic()
+        told = backup(server.database, copy)
+        took, last = time.monotonic() - started, job.state()["seq"]
+        load.end()
+        assert "bytes=" in told and last > first and os.stat(copy).st_mode & 0o777 == 0o600, (told, first, last)
+        assert not os.path.exists(f"{copy}.part") and not os.path.exists(f"{copy}-wal")
+        whole = archive.log("orders")
+        with folder() as at:
+            restored = Server(at, database=copy).start()
+            try:
+                job = Service(restored.url).job("orders")
+                state, log = job.state(), list(job.log())
+                assert first <= state["seq"] <= last, (first, state["seq"], last)
+                check_log(state, [1], check_kept(whole[: state["seq"]], log, 1))
+            finally:
+                restored.stop()
+        return f"{MEGABYTES} MB in {took:.1f} s beside {last - first} commits, of which the slowest took {max(load.times) * 1000:.0f} ms"
+
+
+def test_what_is_no_backup():
+    with served() as server:
+        job, copy = filled(server), f"{server.folder}/copy.db"
+        with open(f"{server.folder}/there", "w", encoding="utf-8") as it:
+            it.write("mine")
+        assert "is there already" in backup(server.database, f"{server.folder}/there", 1)
+        assert "pg_dump" in backup("postgres://x@127.0.0.1/x", copy, 1)
+        assert "none.db" in backup(f"{server.folder}/none.db", copy, 1)
+        sqlite3.connect(f"{server.folder}/other.db").executescript("create table t(x)")
+        assert "no database of a service" in backup(f"{server.folder}/other.db", copy, 1)
+        assert not os.path.exists(copy) and not os.path.exists(f"{copy}.part") and not os.path.exists(f"{server.folder}/none.db")
+        # one that is killed is no copy, keeps another one out while it lives, and is in the way of no later one
+        process = subprocess.Popen([PROGRAM, "backup", "--database", server.database, "--to", copy], stderr=subprocess.DEVNULL)
+        while not (os.path.exists(f"{copy}.part") and os.path.getsize(f"{copy}.part")) and process.poll() is None:
+            pass
+        process.send_signal(signal.SIGSTOP)
+        running = process.poll() is None
+        assert not running or "another backup writes it" in backup(server.database, copy, 1)
+        process.kill()
+        process.wait()
+        assert running and not os.path.exists(copy), "the backup ended before it was killed"
+        backup(server.database, copy)
+        assert os.path.getsize(copy) > MEGABYTES * 1_000_000 and job.state()["seq"] == 0
+        with open(f"{server.folder}/there", encoding="utf-8") as it:
+            assert it.read() == "mine"
+        return "5 refusals, and one that was killed"

@@ -1,0 +1,168 @@
+"""Clocks that are wrong, that are set while the service runs, and that stop while its machine is suspended."""
+import re
+import time
+
+from harness import Server, folder, until
+from postgres import postgres
+from preloaded import Clocks, Suspended
+from relkvanu_service import Refused, Service, ack, savepoint
+
+HOUR, DAY = 3600, 24 * 3600
+SETTINGS = {"interval": 1 << 40, "timeout": 600_000}
+
+
+def now_of(job):
+    return job.state()["now"] / 1000
+
+
+def metric(server, name):
+    found = re.search(rf"^{name} (\S+)$", server.get("/metrics")[2], re.M)
+    assert found, f"there is no {name}"
+    return float(found[1])
+
+
+def test_a_start_with_a_clock_that_is_far_ahead():
+    with folder() as at:
+        clocks = Clocks(at)
+        server = Server(at, prefix=clocks.prefix).start()
+        job = Service(server.url).open("orders", SETTINGS, [1])
+        job.call(savepoint())
+        assert server.stop() == 0
+        clocks.set(day=3650 * DAY)
+        server.start(ready=False)
+        assert server.process.wait(20) == 78, server.log()[-300:]
+        assert "--accept-clock" in server.log() and "more than a day" in server.log(), server.log()[-300:]
+        # the refused start wrote no moment down
+        clocks.set()
+        server.start()
+        assert abs(now_of(job) - time.time()) < 2
+        assert server.stop() == 0
+        # a service that is restarted now and then need not have calls
+        for hours in (20, 40, 60):
+            clocks.set(day=hours * HOUR)
+            server.start()
+            assert server.stop() == 0
+        clocks.set(day=61 * HOUR + 4 * DAY)
+        server.start(ready=False)
+        assert server.process.wait(20) == 78, server.log()[-300:]
+        server.args = ["--accept-clock"]
+        server.start()
+        ahead = now_of(job) - time.time()
+        assert abs(ahead - 61 * HOUR - 4 * DAY) < 5, ahead
+        job.call(savepoint())
+        assert server.stop() == 0
+        # behind the log, the moments count on from its end
+        server.args = []
+        clocks.set()
+        server.start()
+        assert "has not reached" in server.log(), server.log()[-300:]
+        until(lambda: metric(server, "relkvanu_clock_ahead_seconds") > 6 * DAY)
+        server.stop()
+        return "refused when 3650 days ahead, accepted after a day and with the option"
+
+
+def test_steps_of_the_clock():
+    """Moments follow a clock that was set, a tenth faster or slower. So no step expires a record."""
+    with folder() as at:
+        clocks = Clocks(at)
+        server = Server(at, prefix=clocks.prefix).start()
+        job = Service(server.url).open("orders", SETTINGS, [1])
+        job.call(savepoint())
+        gains = []
+        for step in (HOUR, -HOUR):
+            clocks.set(day=step)
+            until(lambda: abs(metric(server, "relkvanu_clock_ahead_seconds") + step) < 5)
+            began, first = time.monotonic(), now_of(job)
+            time.sleep(3)
+            gains.append((now_of(job) - first) / (time.monotonic() - began) - 1)
+        assert 0.05 < gains[0] < 0.15 and -0.15 < gains[1] < -0.05, gains
+        # far away it is not followed
+        clocks.set(day=400 * DAY)
+        until(lambda: metric(server, "relkvanu_clock_ahead_seconds") < -399 * DAY)
+        began, first = time.monotonic(), now_of(job)
+        time.sleep(2)
+        gains.append((now_of(job) - first) / (time.monotonic() - began) - 1)
+        assert abs(gains[2]) < 0.04, gains
+        # the record of ten minutes is still pending
+        try:
+            told = job.call(ack(1, "0.0", [1]))
+        except Refused as refused:
+            raise AssertionError("a step expired the record") from refused
+        assert told["ack"] == "completed", told
+        server.stop()
+        return f"moments went by {', '.join(f'{gain:+.1%}' for gain in gains)} after steps of an hour, back, and of 400 days"
+
+
+def test_a_suspended_machine_keeps_no_lease():
+    with postgres() as database, folder() as at:
+        clocks = Clocks(at)
+        with open(f"{at}/service.toml", "w", encoding="utf-8") as it:
+            it.write("lease_seconds = 2\n")
+        args = ["--config", f"{at}/service.toml"]
+        first, second = Server(at, database.url, args, clocks.prefix).start(), Server(at, database.url, args)
+        job = Service(first.url).open("orders", SETTINGS, [1])
+        second.start(ready=False)
+        until(lambda: "another process leads" in second.log())
+        suspension = Suspended(first, clocks)
+        second.wait_ready()
+        Service(second.url).job("orders").call(savepoint())
+        slept = suspension.over()
+        # the first look after it
+        told = first.get("/v1/jobs/orders"), first.get("/readyz")
+        assert not any(status == 200 for status, _, _ in told), told
+        assert first.process.wait(10) == 75
+        assert job.name == "orders"
+        second.stop()
+        return f"after {slept} s it answered nothing and ended with 75"
+
+
+def test_the_clock_of_the_database_may_be_set():
+    with folder() as at, folder() as own:
+        clocks = Clocks(at)
+        with open(f"{at}/service.toml", "w", encoding="utf-8") as it:
+            it.write("lease_seconds = 2\n")
+        args = ["--config", f"{at}/service.toml"]
+        with postgres(own, environment=clocks.environment) as database:
+            first, second = (Server(at, database.url, args) for _ in range(2))
+            first.start()
+            job = Service(first.url).open("orders", SETTINGS, [1])
+            second.start(ready=False)
+            until(lambda: "another process leads" in second.log())
+            both = 0
+            for ahead in (HOUR, 0, DAY):
+                clocks.set(day=ahead)
+                end = time.monotonic() + 1.5
+                while time.monotonic() < end:
+                    both += second.get("/readyz")[0] == 200
+                    time.sleep(0.05)
+                job.call(savepoint())
+            assert both == 0 and int(database.sql("select epoch from leader")) == 1, both
+            # set back by a day while nobody renews the lease
+            first.kill()
+            clocks.set(day=0)
+            began = time.monotonic()
+            second.wait_ready(20)
+            took = time.monotonic() - began
+            assert took < 4, took
+            second.stop()
+        return f"one leader while it was set by an hour, back and by a day; a take-over {took:.1f} s after a kill, though it was set back"
+
+
+def test_threads_that_have_nothing_to_do():
+    """A standby over an empty database, and a leader with a long lease, without calls: their clock goes on by half a minute."""
+    with postgres() as database, folder() as at:
+        clocks = [Clocks(at, name) for name in ("leader", "standby")]
+        with open(f"{at}/long.toml", "w", encoding="utf-8") as it:
+            it.write("lease_seconds = 600\n")
+        args = ["--config", f"{at}/long.toml"]
+        servers = [Server(at, database.url, args, one.prefix) for one in clocks]
+        servers[0].start()
+        servers[1].start(ready=False)
+        until(lambda: "another process leads" in servers[1].log())
+        time.sleep(1)
+        for one in clocks:
+            one.set(start=30)
+        until(lambda: all(server.get("/healthz")[0] == 200 for server in servers), 10)
+        for server in servers:
+            server.stop()
+        return "both are healthy"

@@ -1,0 +1,163 @@
+"""Connections of one kind keep out none of another: many long polls, connections without a token, and slow readers."""
+import http.client
+import json
+import os
+import resource
+import socket
+import time
+
+from harness import Server, folder, until
+from test_api import JOB, served_with
+
+POLLS = 1500
+
+
+def memory(server, name="VmRSS"):
+    """A line of the process's status, in KiB; `Threads` is a number."""
+    with open(f"/proc/{server.process.pid}/status", encoding="utf-8") as it:
+        return next(int(line.split()[1]) for line in it if line.startswith(f"{name}:"))
+
+
+def opened(server, text):
+    it = socket.create_connection(("127.0.0.1", server.port), timeout=30)
+    it.sendall(text.encode())
+    return it
+
+
+def poll(after, wait=50, token=""):
+    header = f"Authorization: Bearer {token}\r\n" if token else ""
+    return f"GET /v1/jobs/orders/events?after={after}&wait={wait} HTTP/1.1\r\nHost: localhost\r\n{header}\r\n"
+
+
+def answer(connection):
+    """The status and the body of the next answer on a connection."""
+    it = http.client.HTTPResponse(connection)
+    it.begin()
+    text = it.read()
+    return it.status, json.loads(text) if text.startswith(b"{") else text
+
+
+def within(seconds, ask):
+    started = time.monotonic()
+    told = ask()
+    took = time.monotonic() - started
+    assert took < seconds, f"{told} after {took:.1f} s"
+    return told
+
+
+def many_files():
+    """This process may have the connections of all polls."""
+    soft, hard = resource.getrlimit(resource.RLIMIT_NOFILE)
+    resource.setrlimit(resource.RLIMIT_NOFILE, (min(hard, 65536) if soft < 65536 else soft, hard))
+
+
+def test_polls_keep_nobody_out_and_cost_little(polls=int(os.environ.get("RELKVANU_POLLS", POLLS))):
+    many_files()
+    with served_with("[limits]\nconnections = 16\n", ["--config"]) as server:
+        server.request("POST", "/v1/jobs", JOB)
+        calls = {"calls": [{"call": "tick"}]}
+        before, threads = memory(server), memory(server, "Threads")
+        held = [opened(server, poll(1000)) for _ in range(polls - 1)]
+        watched = opened(server, poll(0))
+        until(lambda: f"relkvanu_http_connections {polls + 1}" in server.get("/metrics")[2], 30)
+        each = (memory(server) - before) / polls
+        assert each < 24, f"a poll takes {each:.0f} KiB"
+        assert memory(server, "Threads") <= threads + 4, memory(server, "Threads")
+        for path in "/healthz", "/readyz":
+            assert within(2, lambda path=path: server.get(path)[0]) == 200, path
+        assert within(2, lambda: server.request("POST", "/v1/jobs/orders/calls", calls)[0]) == 200
+        key = [("Idempotency-Key", "a")]
+        assert within(2, lambda: server.request("POST", "/v1/jobs/orders/calls", {"calls": [{"call": "savepoint"}]}, headers=key)[0]) == 200
+        status, told = within(5, lambda: answer(watched))
+        assert status == 200 and told["events"][0]["event"] == "triggered", told
+        # a connection that polled keeps its place for the next poll
+        watched.sendall(poll(0).encode())
+        assert answer(watched)[0] == 200
+        for it in [*held, watched]:
+            it.close()
+        return f"{polls} polls beside 16 places of calls: {each:.1f} KiB each, {memory(server, 'Threads')} threads"
+
+
+def test_an_event_wakes_all_polls():
+    many_files()
+    with served_with("", ["--config"]) as server:
+        server.request("POST", "/v1/jobs", JOB)
+        held = [opened(server, poll(0)) for _ in range(400)]
+        until(lambda: "relkvanu_http_connections 401" in server.get("/metrics")[2], 30)
+        threads = memory(server, "Threads")
+        server.request("POST", "/v1/jobs/orders/calls", {"calls": [{"call": "savepoint"}]}, headers=[("Idempotency-Key", "a")])
+        most, started = threads, time.monotonic()
+        for place, it in enumerate(held):
+            status, told = answer(it)
+            assert status == 200 and told["upto"] == 1, told
+            most = max(most, memory(server, "Threads")) if place % 20 == 0 else most
+            it.close()
+        assert most <= threads + 4, f"{most} threads"
+        return f"{len(held)} polls in {time.monotonic() - started:.2f} s by {most} threads"
+
+
+def test_a_poll_too_many_is_told_so():
+    with served_with("[limits]\npolls = 2\n", ["--config"]) as server:
+        server.request("POST", "/v1/jobs", JOB)
+        held = [opened(server, poll(0)) for _ in range(2)]
+        until(lambda: "relkvanu_http_connections 3" in server.get("/metrics")[2])
+        status, headers, told = server.get("/v1/jobs/orders/events?after=0&wait=5")
+        assert status == 503 and headers["retry-after"] == "1" and headers["connection"] == "close", (status, headers, told)
+        held[0].close()
+        until(lambda: server.get("/v1/jobs/orders/events?after=0&wait=0")[0] == 200)
+        held[1].close()
+        return "2 polls wait; the third is answered 503"
+
+
+def test_connections_without_a_token_keep_nobody_out():
+    with folder() as at:
+        token = "0123456789abcdef0123"
+        with open(f"{at}/tokens", "w", encoding="utf-8") as it:
+            it.write(f"write {token}\n")
+        with open(f"{at}/service.toml", "w", encoding="utf-8") as it:
+            it.write("[limits]\nconnections = 30\nnew_connections = 20\n")
+        server = Server(at, args=["--config", f"{at}/service.toml", "--token-file", f"{at}/tokens"]).start()
+        assert server.request("POST", "/v1/jobs", JOB, token)[0] == 201
+        head = "GET {} HTTP/1.1\r\nHost: localhost\r\n\r\n"
+        silent = [opened(server, "") for _ in range(100)]
+        checks = [opened(server, head.format("/healthz")) for _ in range(100)]
+        refused = [opened(server, head.format("/v1/jobs")) for _ in range(100)]
+        slow = [opened(server, "GET /healthz HT") for _ in range(100)]
+        waiting = [opened(server, poll(0, token=token)) for _ in range(5)]
+        for _ in range(3):
+            assert within(2, lambda: server.get("/healthz")[0]) == 200
+            assert within(2, lambda: server.get("/v1/jobs", token)[0]) == 200
+            assert within(2, lambda: server.request("POST", "/v1/jobs/orders/calls", {"calls": [{"call": "tick"}]}, token)[0]) == 200
+        # none of them took the place of one with a token
+        key = [("Idempotency-Key", "a")]
+        assert server.request("POST", "/v1/jobs/orders/calls", {"calls": [{"call": "savepoint"}]}, token, key)[0] == 200
+        assert [answer(it)[0] for it in waiting] == [200] * 5
+        for it in [*silent, *checks, *refused, *slow, *waiting]:
+            it.close()
+        assert server.stop() == 0
+        return "400 connections without a token beside 20 places for them"
+
+
+def test_a_slow_reader_gets_its_whole_answer():
+    with served_with("[limits]\nidle_seconds = 1\n", ["--config"]) as server:
+        server.request("POST", "/v1/jobs", {**JOB, "shape": [64]})
+        fresh = [str((1 << 63) + place) for place in range(3000)]
+        calls = [{"call": "ack", "id": 1, "subtask": "0.0", "fresh": fresh}] + [
+            {"call": "ack", "id": 1, "subtask": f"0.{place}", "reused": []} for place in range(1, 64)]
+        key = [("Idempotency-Key", "a")]
+        server.request("POST", "/v1/jobs/orders/calls", {"calls": [{"call": "savepoint"}, *calls, {"call": "savepoint"}]}, headers=key)
+        again = [{"call": "ack", "id": 2, "subtask": f"0.{place}", "reused": fresh} for place in range(63)]
+        assert server.request("POST", "/v1/jobs/orders/calls", {"calls": again})[0] == 200
+        it = socket.socket()
+        it.setsockopt(socket.SOL_SOCKET, socket.SO_RCVBUF, 1 << 14)
+        it.connect(("127.0.0.1", server.port))
+        it.sendall(b"GET /v1/jobs/orders/log?after=66&limit=1000 HTTP/1.1\r\nHost: localhost\r\nConnection: close\r\n\r\n")
+        got, started = b"", time.monotonic()
+        while part := it.recv(1 << 16):
+            got += part
+            # slowly at first: the answer takes longer than a connection may be idle
+            time.sleep(0.05 if time.monotonic() - started < 3 else 0)
+        head, body = got.split(b"\r\n\r\n", 1)
+        length = int(head.lower().split(b"content-length: ")[1].split(b"\r\n")[0])
+        assert len(body) == length > 1_000_000 and json.loads(body)["calls"][0]["seq"] == 67, (len(body), length)
+        return f"{length} bytes in {time.monotonic() - started:.1f} s, with idle_seconds = 1"

@@ -1,0 +1,225 @@
+"""`relkvanu discard` in a wrong folder, in one that goes away, and where it or the service is killed: it gives up no file that is there."""
+import contextlib
+import os
+import re
+import subprocess
+import time
+import urllib.request
+
+from between import Between
+from harness import PROGRAM, SERVICE, folder, free_port, served, until
+from relkvanu_service import Service, ack, dispose, savepoint
+from run import Skipped
+
+SETTINGS = {"interval": 1 << 40}
+
+
+def files_of(job, folder, first, count, there=None):
+    """Files that wait for deletion, of which some are in the folder."""
+    record = job.call(savepoint())["id"]
+    files = list(range(first, first + count))
+    for file in files if there is None else there:
+        with open(f"{folder}/s-{file}", "w", encoding="utf-8") as it:
+            it.write("state")
+    job.calls([ack(record, "0.0", files), dispose(record)])
+    return files
+
+
+def present(folder):
+    return sorted(int(name[2:]) for name in os.listdir(folder) if name.startswith("s-"))
+
+
+def discard(server, folder, *more, prefix="s-", before=()):
+    words = [PROGRAM, "discard", "--job", "a", "--folder", folder, "--url", server.url, "--prefix", prefix, *more]
+    return subprocess.Popen([*before, *words], stderr=subprocess.PIPE, text=True)
+
+
+def ended(run, status, text):
+    told = run.communicate(timeout=30)[1]
+    assert run.returncode == status and text in told, (run.returncode, told)
+    return told
+
+
+@contextlib.contextmanager
+def at_work(server, folder, *more, **given):
+    run = discard(server, folder, *more, **given)
+    try:
+        yield run
+    finally:
+        if run.poll() is None:
+            run.kill()
+        run.communicate()
+
+
+@contextlib.contextmanager
+def a_job():
+    with served() as server:
+        folder = f"{server.folder}/files"
+        os.mkdir(folder)
+        yield server, Service(server.url).open("a", SETTINGS, [1]), folder
+
+
+def counts(job):
+    files = job.state()["files"]
+    return files["waiting"], files["taken"]
+
+
+def test_a_wrong_prefix():
+    with a_job() as (server, job, folder):
+        files = files_of(job, folder, 100, 20)
+        told = ended(discard(server, folder, "--once", prefix="state-"), 78, "none of 20 files")
+        assert "state-100" in told and "--allow-absent" in told, told
+        assert present(folder) == files and counts(job) == (20, 0), (present(folder), job.state())
+        # the right one deletes them, and those that are absent are counted apart
+        more = files_of(job, folder, 200, 3, there=[201])
+        told = ended(discard(server, folder, "--once"), 0, "deleted=21 absent=2 failed=0")
+        assert present(folder) == [] and counts(job) == (0, 0)
+        # absent ones that are said to be
+        files_of(job, folder, 300, 5, there=[])
+        ended(discard(server, folder, "--once"), 78, "none of 5 files")
+        ended(discard(server, folder, "--once", "--allow-absent"), 0, "deleted=0 absent=5 failed=0")
+        assert counts(job) == (0, 0) and job.file(more[0])["history"]["deleted"]
+        return "20 files stay, and wait again"
+
+
+def test_a_folder_without_the_marker():
+    with a_job() as (server, job, folder):
+        marker = f"{folder}/.relkvanu-a"
+        other = f"{server.folder}/other"
+        os.mkdir(other)
+        files = files_of(job, folder, 100, 4)
+        ended(discard(server, folder, "--once"), 0, "deleted=4")
+        with open(marker, encoding="utf-8") as it:
+            text = it.read()
+        assert f"the job a, opened at {job.state()['opened']}," in text, text
+        files = files_of(job, folder, 200, 4)
+        # an empty folder, as a mount point without its disk
+        ended(discard(server, other, "--once"), 78, ".relkvanu-a")
+        # one of a job of this name in another service
+        with open(f"{other}/.relkvanu-a", "w", encoding="utf-8") as it:
+            it.write(text.replace("opened at ", "opened at 9"))
+        ended(discard(server, other, "--once"), 78, "names another job")
+        # a marker that goes while it works
+        with at_work(server, folder) as run:
+            until(lambda: counts(job) == (0, 0))
+            os.rename(marker, f"{server.folder}/kept")
+            files = files_of(job, folder, 300, 4)
+            ended(run, 78, ".relkvanu-a")
+        assert present(folder) == files and counts(job) == (4, 0), job.state()
+        ended(discard(server, folder, "--once", "--init"), 0, "deleted=4")
+        with open(marker, encoding="utf-8") as it:
+            assert it.read() == text
+        with at_work(server, folder):
+            time.sleep(0.5)
+            ended(discard(server, folder), 1, "another discarder")
+        return "refused in 3 folders, and marked by --init"
+
+
+def test_a_disk_that_goes():
+    """Its mount is taken away lazily, while somebody holds it open: the discarder deletes there, and not in the mount point."""
+    with a_job() as (server, job, folder):
+        if os.geteuid() != 0 or subprocess.run(["mount", "-t", "tmpfs", "-o", "size=1m", "tmpfs", folder], stderr=subprocess.DEVNULL, check=False).returncode:
+            raise Skipped("a file system can't be mounted here")
+        try:
+            with at_work(server, folder) as run:
+                files_of(job, folder, 100, 2)
+                until(lambda: counts(job) == (0, 0))
+                for file in range(200, 220):
+                    with open(f"{folder}/s-{file}", "w", encoding="utf-8"):
+                        pass
+                held = os.open(folder, os.O_RDONLY)
+                subprocess.run(["umount", "--lazy", folder], check=True)
+                files_of(job, folder, 200, 20, there=[])
+                until(lambda: counts(job) == (0, 0))
+                left = [name for name in os.listdir(held) if name.startswith("s-")]
+                os.close(held)
+                assert left == [] and run.poll() is None, left
+                run.terminate()
+            # the mount point has no marker
+            ended(discard(server, folder, "--once"), 78, ".relkvanu-a")
+        finally:
+            subprocess.run(["umount", "--lazy", folder], check=False, stderr=subprocess.DEVNULL)
+        return "20 files deleted on the disk that is out of sight; its mount point is refused"
+
+
+def test_it_syncs_the_folder_before_it_reports():
+    with a_job() as (server, job, folder):
+        files_of(job, folder, 100, 20)
+        trace = f"{server.folder}/trace"
+        strace = ["strace", "-f", "-y", "-o", trace, "-e", "trace=unlinkat,fsync,fdatasync,write,writev,sendto"]
+        try:
+            run = discard(server, folder, "--once", before=strace)
+        except FileNotFoundError:
+            raise Skipped("strace is not here") from None
+        ended(run, 0, "deleted=20")
+        with open(trace, encoding="utf-8", errors="replace") as it:
+            lines = it.read().splitlines()
+        unlinks = [at for at, line in enumerate(lines) if "unlinkat(" in line and '"s-' in line]
+        syncs = [at for at, line in enumerate(lines) if re.search(r"fsync\(\d+<[^>]*/files>\) += 0", line) and at > unlinks[-1]]
+        reports = [at for at, line in enumerate(lines) if "/calls" in line and at > unlinks[0]]
+        assert len(unlinks) == 20 and syncs and reports and unlinks[-1] < syncs[0] < reports[0], (unlinks, syncs, reports)
+        return "20 unlinks, then the sync, then the report"
+
+
+def test_it_is_killed_before_it_reports():
+    """A proxy keeps the report from the service. The next run finds all of the take absent, and knows why."""
+    with a_job() as (server, job, folder):
+        files_of(job, folder, 100, 20)
+        between = Between(server, lambda number, body: (503, {}) if b'"deleted"' in body else None)
+        with at_work(between, folder):
+            until(lambda: b'"deleted"' in between.last)
+            assert present(folder) == [] and counts(job) == (0, 20), job.state()
+        between.http.shutdown()
+        ended(discard(server, folder, "--once"), 0, "deleted=0 absent=20 failed=0")
+        assert counts(job) == (0, 0), job.state()
+        # the same files that nobody has begun to delete
+        files_of(job, folder, 200, 20, there=[])
+        assert len(job.take(20)) == 20
+        ended(discard(server, folder, "--once"), 78, "none of 20 files")
+        assert counts(job) == (20, 0), job.state()
+        return "20 files that were taken and deleted are reported by the next run"
+
+
+def test_it_never_gives_up_by_itself():
+    """There is no such job yet; then the service is away, at the first of two addresses; and it exports what it did."""
+    with served() as server:
+        folder, port = f"{server.folder}/files", free_port()
+        os.mkdir(folder)
+
+        def metrics():
+            with urllib.request.urlopen(f"http://127.0.0.1:{port}/metrics", timeout=10) as it:
+                lines = [line for line in it.read().decode().splitlines() if not line.startswith("#")]
+            return {line.rsplit(" ", 1)[0]: float(line.rsplit(" ", 1)[1]) for line in lines}
+
+        with at_work(server, folder, "--url", f"http://127.0.0.1:{free_port()}", "--metrics", f"127.0.0.1:{port}") as run:
+            time.sleep(1)
+            job = Service(server.url).open("a", SETTINGS, [1])
+            until(lambda: os.path.exists(f"{folder}/.relkvanu-a"))
+            files_of(job, folder, 100, 5, there=range(100, 103))
+            until(lambda: counts(job) == (0, 0))
+            server.kill()
+            until(lambda: metrics()['relkvanu_discard_lost_requests_total{job_name="a"}'] > 3)
+            server.start()
+            files_of(job, folder, 200, 5)
+            os.mkdir(f"{folder}/s-300")
+            record = job.call(savepoint())["id"]
+            job.calls([ack(record, "0.0", [300]), dispose(record)])
+            until(lambda: metrics()['relkvanu_discard_files_total{job_name="a",outcome="failed"}'] > 0)
+            told, now = metrics(), time.time()
+            outcomes = {word: told[f'relkvanu_discard_files_total{{job_name="a",outcome="{word}"}}'] for word in ("deleted", "absent")}
+            assert outcomes == {"deleted": 8, "absent": 2}, told
+            assert now - 20 < told['relkvanu_discard_report_timestamp_seconds{job_name="a"}'] <= now, told
+            assert run.poll() is None
+            with open(f"{SERVICE}/deploy/alerts.yml", encoding="utf-8") as it:
+                named = set(re.findall(r"relkvanu_discard_[a-z_]+", it.read()))
+            assert named and all(any(line.startswith(name + "{") for line in told) for name in named), named
+        lost = told['relkvanu_discard_lost_requests_total{job_name="a"}']
+        return f"{outcomes}, {lost:.0f} tries that were not answered"
+
+
+def test_words_that_it_refuses():
+    with folder() as at:
+        for more, status, text in [(["--url", "here"], 1, "no address"), (["--metrics", "here"], 2, "--metrics"), (["--url", "ftp://a"], 1, "no address")]:
+            told = subprocess.run([PROGRAM, "discard", "--job", "a", "--folder", at, *more], stderr=subprocess.PIPE, text=True, timeout=20, check=False)
+            assert told.returncode == status and text in told.stderr, told
+        return "3 refused"

@@ -1,0 +1,255 @@
+"""Events that the log does not have: after a cut, and after a backup was restored. Engines go on from the job's state."""
+import contextlib
+import os
+import shutil
+import signal
+import sqlite3
+import subprocess
+import sys
+import threading
+import time
+
+from harness import PROGRAM, TOP, Server, folder, served, until
+from postgres import postgres
+from relkvanu_service import Gone, Service, ack, cancel, deleted, dispose, savepoint
+from run import Skipped
+
+SETTINGS = {"interval": 1 << 40}
+CUTTING = ["--image-calls", "40", "--keep-calls", "0"]
+ENGINE = f"{os.path.dirname(PROGRAM)}/examples/engine"
+
+
+def cut_behind(job, calls):
+    """Makes calls that are no events until the log is cut behind the last event. Returns the state."""
+    def is_cut():
+        calls()
+        state = job.state()
+        return state["first"] > state["last_event"] and state
+    return until(is_cut)
+
+
+def polls(server):
+    """How many polls of events were answered, by status."""
+    lines = [line for line in server.get("/metrics")[2].splitlines() if line.startswith('relkvanu_http_requests_total{route="events"')]
+    return {line.split('status="')[1][:3]: int(line.rsplit(" ", 1)[1]) for line in lines}
+
+
+def test_after_a_cut():
+    with served(args=CUTTING) as server:
+        service = Service(server.url)
+        job = service.open("a", SETTINGS, [1])
+        job.calls([savepoint(), ack(1, "0.0", list(range(300))), savepoint()])
+        assert [server.get(f"/v1/jobs/a/events?after={after}&limit={most}")[2]["upto"] for after, most in ((0, 1), (1, 1), (1, 0), (3, 1))] == [1, 2, 1, 3]
+        missed = job.events()[0] - 1  # an engine that has not heard of savepoint 2
+        job.call(dispose(1))
+        knew = job.state()["last_event"]  # and one that has heard of all
+        state = cut_behind(job, lambda: job.calls([deleted(file) for file in job.take(8)]))
+        assert {server.get(path)[1]["relkvanu-log"] for path in ("/readyz", "/v1/jobs/a/files", "/v1/jobs/none")} == {state["log"]}
+        begun = time.monotonic()
+        try:
+            raise AssertionError(job.events(missed, 20))
+        except Gone as gone:
+            assert (gone.status, gone.reason, gone.first) == (410, "cut", state["first"]) and gone.log == state["log"], vars(gone)
+        assert time.monotonic() - begun < 5
+        # whoever missed nothing waits as before
+        assert job.events(knew, 1) == (state["seq"], [])
+        assert server.get("/v1/jobs/a/events")[2] == {"first": state["first"], "log": state["log"], "upto": state["seq"], "events": []}
+        told, follower = [], job.follower(missed)
+        told += follower.next()
+        assert [(event["event"], event.get("id")) for event in told] == [("missed", None), ("triggered", 2)], told
+        assert told[0]["reason"] == "cut" and told[0]["state"]["first"] >= state["first"] and told[1]["kind"] == "savepoint"
+        job.call(cancel())
+        told = follower.next()
+        assert [event["event"] for event in told] == ["cancelled"], told
+        return f"410 with first={state['first']}, then the pending savepoint and the cancel"
+
+
+class Copy:
+    """A backup of a service's database that is restored, as docs/SERVICE.md says."""
+
+    def __init__(self, server, database):
+        self.server, self.database = server, database
+        self.path = f"{server.folder}/copy.db"
+
+    def make(self):
+        if self.database:
+            self.database.run("pg_dump", "--format=custom", f"--file={self.database.data}/dump", f"--dbname={self.database.url}")
+        else:
+            with contextlib.closing(sqlite3.connect(self.server.database)) as base, contextlib.closing(sqlite3.connect(self.path)) as copy:
+                base.backup(copy)
+
+    def restore(self):
+        server = self.server
+        server.stop()
+        for name in (name for name in os.listdir(server.folder) if name.startswith("history")):
+            os.remove(f"{server.folder}/{name}")
+        if self.database:
+            self.database.sql("drop schema public cascade")
+            self.database.sql("create schema public")
+            self.database.run("pg_restore", "--single-transaction", f"--dbname={self.database.url}", f"{self.database.data}/dump")
+        else:
+            for end in ("-wal", "-shm"):
+                with contextlib.suppress(FileNotFoundError):
+                    os.remove(server.database + end)
+            shutil.copyfile(self.path, server.database)
+        server.start()
+
+
+def restored(server, database):
+    """An engine, over a start that changes nothing and a restore that loses what it knows."""
+    job, copy = Service(server.url).open("a", SETTINGS, [1]), Copy(server, database)
+    for number in range(1, 4):
+        job.calls([savepoint(), ack(number, "0.0", [number])])
+    told = job.poll(0)
+    early, after, log = told["events"][2]["seq"], told["upto"], told["log"]
+    server.kill()
+    server.start()
+    state = job.state()
+    assert state["log"] != log and after == state["last_event"] == 6
+    # places from before the start are places of this log
+    follower = job.follower(after, log)
+    job.call(savepoint())
+    assert [event["seq"] for event in follower.next(5)] == [7]
+    copy.make()
+    job.call(ack(4, "0.0", [4]))
+    for number in range(5, 9):
+        job.calls([savepoint(), ack(number, "0.0", [number])])
+    assert len(follower.next(5)) == 9 and follower.after == 16
+    other = job.follower(follower.after, follower.log)
+    copy.restore()
+    # the log is shorter than the place
+    assert job.state()["seq"] == 7
+    told = follower.next(20)
+    assert [event["event"] for event in told] == ["missed", "failed"] and told[0]["reason"] == "other_log", told
+    assert follower.after == 7 and told[0]["state"]["live"][-1] == {"id": 4, "kind": "savepoint", "done": False, "missing": 1}
+    # the log has grown beyond the place again, by other calls
+    for number in range(20):
+        job.calls([savepoint(), ack(5 + number, "0.0", [100 + number])])
+    assert len(follower.next(5)) == 40
+    assert [event["event"] for event in other.next(5)] == ["missed", "failed"]
+    # a place from before the backup is one of this log
+    assert [event["seq"] for event in job.follower(early, log).next(5)] == list(range(early + 1, 48))
+    status, _, body = server.get("/v1/jobs/a/events?after=5&log=nobody")
+    assert (status, body["field"], body["reason"]) == (410, "after", "other_log"), body
+    return "410 after a restore, before and after the log grew beyond the place; none after a start"
+
+
+def of_version_1(server, database):
+    """The tables are as a program had them before the log had an identity."""
+    server.stop()
+    if database:
+        database.sql("drop table log_start; update schema_version set number = 1")
+    else:
+        with contextlib.closing(sqlite3.connect(server.database)) as base:
+            base.executescript("drop table log_start; pragma user_version = 1")
+    server.start()
+    job = Service(server.url).job("a")
+    state = job.state()
+    assert state["log"] and job.poll(state["seq"]) == {"first": 1, "log": state["log"], "upto": state["seq"], "events": []}
+    follower = job.follower(state["seq"], state["log"])
+    server.kill()
+    server.start()
+    job.call(savepoint())
+    assert [event["seq"] for event in follower.next(5)] == [state["seq"] + 1]
+    return "an older database gets an identity"
+
+
+def test_after_a_restored_backup():
+    with served() as server:
+        return f"{restored(server, None)}; {of_version_1(server, None)}"
+
+
+def test_after_a_restored_dump_of_postgres():
+    with postgres() as database, folder() as at:
+        with open(f"{at}/service.toml", "w", encoding="utf-8") as it:
+            it.write("lease_seconds = 1\n")
+        server = Server(at, database.url, ["--config", f"{at}/service.toml"]).start()
+        try:
+            return f"{restored(server, database)}; {of_version_1(server, database)}"
+        finally:
+            server.stop()
+
+
+def test_an_engine_in_rust_over_a_restored_backup():
+    if not os.path.exists(ENGINE):
+        raise Skipped(f"{ENGINE} is not built")
+    with served() as server:
+        run = subprocess.Popen([ENGINE, server.url, "rust", "60"], stdout=subprocess.PIPE, stderr=subprocess.STDOUT, text=True)
+        job, copy = Service(server.url).job("rust"), Copy(server, None)
+        until(lambda: (server.get("/v1/jobs/rust")[2] or {}).get("seq", 0) > 40)
+        copy.make()
+        far = job.state()["seq"] + 200
+        until(lambda: job.state()["seq"] > far)
+        copy.restore()
+        told = run.communicate(timeout=60)[0]
+        assert run.returncode == 0 and " checkpoints completed, " in told, told
+        restores = [entry for entry in job.log() if entry["line"].startswith("restore ")]
+        assert len(restores) == 1, restores
+        return told.strip()
+
+
+def test_the_dask_engine_over_a_cut():
+    """Its driver is suspended while its job fails over and the log is cut behind that. It restores the job, and completes checkpoints."""
+    if subprocess.run(["/usr/bin/python3", "-c", "import distributed"], stderr=subprocess.DEVNULL, check=False).returncode:
+        raise Skipped("python3-distributed is not here")
+    with served(args=CUTTING) as server:
+        words = [f"{TOP}/embed/dask/run", "60", "--service", server.url, "--storage", f"{server.folder}/storage"]
+        engine = subprocess.Popen(words, stdout=subprocess.DEVNULL, stderr=subprocess.DEVNULL, start_new_session=True)
+        try:
+            job = Service(server.url).job("dask")
+            until(lambda: (server.get("/v1/jobs/dask")[2] or {}).get("seq", 0) > 40, 90)
+            os.kill(engine.pid, signal.SIGSTOP)
+            until(lambda: job.state()["mode"] == "failed")
+            state = cut_behind(job, lambda: job.calls([ack(1, "0.0")] * 20))
+            before = state["choice"].get("id", 0)
+            os.kill(engine.pid, signal.SIGCONT)
+            after = until(lambda: (it := job.state()["choice"].get("id", 0)) > before and it, 60)
+            assert engine.poll() is None
+        finally:
+            os.killpg(engine.pid, signal.SIGKILL)
+            engine.wait()
+        assert polls(server).get("410", 0) >= 1, polls(server)
+        return f"it missed the failure at {state['last_event']}, cut to {state['first']}; then it completed checkpoint {after}"
+
+
+class Driver:
+    """What the coordinator of embed/dask needs of its job: a job of one task, which acknowledges each barrier with a new file."""
+
+    def __init__(self, coordinator):
+        self.coordinator, self.lock, self.stream, self.is_over = coordinator, threading.RLock(), threading.Lock(), threading.Event()
+        self.channels, self.cuts, self.barriers, self.failures, self.file = [], {}, [], [], 0
+
+    def send_barriers(self, number, _channels):
+        self.cuts[number] = {}
+        self.barriers.append(number)
+        self.file += 1
+        self.coordinator.ack(number, (0, 0), [self.file], [])
+
+    def note(self, reply):
+        self.failures.append(reply)
+
+
+def test_the_dask_engine_over_a_restored_backup():
+    sys.path += [f"{TOP}/embed/dask", f"{TOP}/embed/python"]
+    from over_service import OverService
+
+    with served() as server:
+        driver = Driver(OverService(server.url, "dask", {"interval": 50, "retained": 2}, [1]))
+        copy, running = Copy(server, None), threading.Thread(target=lambda: driver.coordinator.run(driver))
+        driver.coordinator.restore((1,))
+        running.start()
+        try:
+            until(lambda: len(driver.barriers) > 5)
+            copy.make()
+            until(lambda: len(driver.barriers) > 20)
+            copy.restore()
+            until(lambda: driver.failures)
+            driver.coordinator.restore((1,))
+            count, last = len(driver.barriers), Service(server.url).job("dask").state()["choice"]["id"]
+            until(lambda: len(driver.barriers) > count + 5)
+        finally:
+            driver.is_over.set()
+            running.join(20)
+        assert len(driver.failures) == 1 and min(driver.barriers[count:]) > last, (driver.barriers, last)
+        assert set(driver.barriers[count:]) & set(driver.barriers[:count]), driver.barriers
+        return f"one failure; the records from {driver.barriers[count]} on are taken anew"

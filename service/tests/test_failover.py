@@ -1,0 +1,217 @@
+"""Clients whose first machine is gone, whose answers are lost, and whose proxy answers: they go on, and do nothing twice. Also `https`."""
+import contextlib
+import os
+import re
+import socket
+import ssl
+import subprocess
+import threading
+import time
+
+import requests
+
+from between import Between
+from harness import PROGRAM, Server, folder, free_port, served, until
+from postgres import postgres
+from relkvanu_service import Failed, Service, ack, cancel, dispose, restore, savepoint
+from run import Skipped
+
+SETTINGS = {"interval": 1 << 40}
+ENGINE = f"{os.path.dirname(PROGRAM)}/examples/engine"
+
+
+@contextlib.contextmanager
+def gone():
+    """The addresses of a machine that drops what it gets, as one without power, and of a process that takes connections and is mute."""
+    with contextlib.ExitStack() as all_of_them:
+        full, mute = (all_of_them.enter_context(socket.socket()) for _ in range(2))
+        for it, queue in ((full, 0), (mute, 64)):
+            it.bind(("127.0.0.1", free_port()))
+            it.listen(queue)
+        for _ in range(4):  # more than its queue takes
+            filler = all_of_them.enter_context(socket.socket())
+            filler.setblocking(False)
+            with contextlib.suppress(BlockingIOError):
+                filler.connect(full.getsockname())
+        yield {name: "http://127.0.0.1:%d" % it.getsockname()[1] for name, it in (("drops", full), ("mute", mute))}
+
+
+def test_a_machine_that_is_gone():
+    """Python, the engine in Rust, and `discard`: each gets to the second address."""
+    if not os.path.exists(ENGINE):
+        raise Skipped(f"{ENGINE} is not built")
+    with served() as server, gone() as first:
+        os.mkdir(f"{server.folder}/files")
+        Service(server.url).open("files", SETTINGS, [1])
+        runs, took = {}, {}
+        for name, url in first.items():
+            words = [PROGRAM, "discard", "--job", "files", "--folder", f"{server.folder}/files", "--once", "--url", url, "--url", server.url]
+            runs[f"engine, {name}"] = [ENGINE, f"{url},{server.url}", f"job-{name}", "2"]
+            runs[f"discard, {name}"] = words
+        begun = time.monotonic()
+        runs = {name: subprocess.Popen(words, stdout=subprocess.PIPE, stderr=subprocess.STDOUT, text=True) for name, words in runs.items()}
+        for name, url in first.items():
+            asked = time.monotonic()
+            assert Service(url, server.url).jobs()
+            took[f"Python, {name}"] = time.monotonic() - asked
+        for name, run in runs.items():
+            told = run.communicate(timeout=60)[0]
+            took[name] = time.monotonic() - begun
+            assert run.returncode == 0, (name, told)
+        assert all(seconds < 30 for seconds in took.values()), took
+        assert took["Python, drops"] < 9, took
+        return ", ".join(f"{name} {seconds:.1f} s" for name, seconds in took.items())
+
+
+def test_answers_that_are_lost_are_answered_again():
+    """Each request of the client is made twice, as its first answer is lost. Nothing is done twice, and nothing is refused."""
+    with served() as server:
+        between = Between(server, lambda number, body: "lost" if number % 2 else None)
+        job = Service(between.url).open("a", SETTINGS, [1])
+        assert job.call(savepoint())["id"] == 1
+        assert job.call(ack(1, "0.0", [7]))["ack"] == "completed"
+        assert job.call(savepoint())["id"] == 2 and job.call(ack(2, "0.0", [8]))["ack"] == "completed"
+        assert job.call(restore(1))["restore"] == "savepoint"
+        assert job.call(dispose(2))["seq"]
+        assert job.take() == [8]
+        assert job.call(cancel())["seq"]
+        made = [entry["line"].split(" ")[0] for entry in Service(server.url).job("a").log()]
+        assert made == ["savepoint", "ack"] * 2 + ["restore", "dispose", "take", "cancel"], made
+        keys = [key for method, path, key in between.came if path.endswith("/calls")]
+        assert None not in keys and keys[::2] == keys[1::2] and len(set(keys)) == 8, keys
+        between.http.shutdown()
+        return f"{len(between.came)} requests, {len(made)} calls"
+
+
+def test_which_answers_are_asked_again():
+    with served() as server:
+        Service(server.url).open("a", SETTINGS, [1])
+        fates = []
+        between = Between(server, lambda number, body: fates.pop(0) if fates else None)
+
+        def asked(*answers, call=lambda: Service(between.url, patience=5).jobs()):
+            fates[:] = [(answer, {}) if isinstance(answer, int) else answer for answer in answers]
+            between.came.clear()
+            begun = time.monotonic()
+            try:
+                call()
+                told = 200
+            except Failed as failed:
+                told = failed.status
+            fates.clear()
+            return told, len(between.came), time.monotonic() - begun
+
+        job = Service(between.url, patience=5).job("a")
+        for status in (429, 500, 502, 503, 504):
+            assert asked(status)[:2] == (200, 2), status
+        for status in (400, 401, 404, 409, 422, 301):
+            assert asked(status)[:2] == (status, 1), status
+        # a call may have been made before the 500
+        assert asked(500, call=lambda: job.call(savepoint()))[:2] == (500, 1)
+        assert asked(502, 504, call=lambda: job.call(savepoint()))[:2] == (200, 3)
+        told = asked((503, {"Retry-After": "1"}))
+        assert told[:2] == (200, 2) and 1 <= told[2] < 5, told
+        told = asked((503, {"Retry-After": "30"}))  # longer than it may take
+        assert told[:2] == (503, 1) and told[2] < 5, told
+        for url in ("nowhere", "http://", "ftp://127.0.0.1/"):
+            begun = time.monotonic()
+            try:
+                raise AssertionError(Service(url, patience=5).jobs())
+            except (requests.RequestException, ValueError):
+                assert time.monotonic() - begun < 5, url
+        between.http.shutdown()
+        return "5 statuses are asked again, 6 are not"
+
+
+def test_a_deadline_of_the_caller():
+    with gone() as first:
+        service, took = Service(first["mute"], patience=None), []
+        for ask in (service.within(0.5).jobs, service.within(0.5).job("a").state, service.job("a").within(0.5).take):
+            begun = time.monotonic()
+            try:
+                raise AssertionError(ask())
+            except requests.RequestException:
+                took.append(time.monotonic() - begun)
+        assert all(0.2 < seconds < 5 for seconds in took), took
+        return f"{max(took):.1f} s at most"
+
+
+def test_the_leader_that_a_standby_names():
+    with postgres() as database, folder() as at:
+        leader = Server(at, database.url).start()
+        standby = Server(at, database.url).start(ready=False)
+        until(lambda: standby.get("/readyz")[1].get("relkvanu-leader") == leader.url)
+        with gone() as first:
+            begun = time.monotonic()
+            Service(standby.url, first["mute"], leader.url).open("a", SETTINGS, [1])
+            took = time.monotonic() - begun
+        standby.kill()
+        leader.stop()
+        assert took < 9, took
+        return f"{took:.2f} s, past a mute address between them"
+
+
+def test_keys_are_looked_up_for_a_group():
+    """Many requests at once, whose commits take a while: those that wait share a statement that looks up their keys."""
+    with postgres() as database, folder() as at:
+        with open(f"{database.data}/postgresql.conf", "a", encoding="utf-8") as it:
+            it.write("log_statement = 'all'\nlog_min_messages = log\n")
+        database.stop("fast")
+        database.start()
+        server = Server(at, database.url).start()
+        job = Service(server.url).open("a", SETTINGS, [1])
+        job.calls([savepoint(), ack(1, "0.0", [1])])
+        database.sql("""create function slow() returns trigger language plpgsql as 'begin perform pg_sleep(0.05); return null; end';
+            create trigger slow after insert on request for each statement execute function slow()""")
+        begun = threading.Barrier(64)
+
+        def late(number):
+            begun.wait()
+            for _ in range(4):
+                job.calls([ack(1, "0.0", [1000 + number])])
+
+        threads = [threading.Thread(target=late, args=(number,)) for number in range(64)]
+        for thread in threads:
+            thread.start()
+        for thread in threads:
+            thread.join()
+        keys = int(database.sql("select count(*) from request"))
+        server.stop()
+        with open(f"{database.data}/log", encoding="utf-8") as it:
+            looked = len(re.findall(r"execute keyed: ", it.read()))
+        assert keys >= 257 and 0 < looked < keys / 4, (keys, looked)
+        return f"{keys} requests with a key, {looked} statements for all their keys"
+
+
+def with_tls(server, certificate):
+    """A proxy with TLS before a service: its URL."""
+    context = ssl.SSLContext(ssl.PROTOCOL_TLS_SERVER)
+    context.load_cert_chain(certificate, f"{certificate}.key")
+    between = Between(server, lambda number, body: None)
+    between.http.socket = context.wrap_socket(between.http.socket, server_side=True)
+    return f"https://localhost:{between.http.server_address[1]}"
+
+
+def test_https():
+    if not os.path.exists(ENGINE):
+        raise Skipped(f"{ENGINE} is not built")
+    with served() as server:
+        path = f"{server.folder}/certificate"
+        words = ["openssl", "req", "-x509", "-newkey", "ec", "-pkeyopt", "ec_paramgen_curve:prime256v1", "-nodes", "-days", "2", "-subj", "/CN=localhost"]
+        subprocess.run([*words, "-addext", "subjectAltName=DNS:localhost", "-keyout", f"{path}.key", "-out", path], check=True, stderr=subprocess.DEVNULL)
+        url = with_tls(server, path)
+        begun = time.monotonic()
+        told = subprocess.run([ENGINE, url, "a", "2"], env={**os.environ, "SSL_CERT_FILE": path}, capture_output=True, text=True, timeout=60, check=False)
+        assert told.returncode == 0 and "checkpoints completed" in told.stdout, told
+        assert [job["name"] for job in Service(url, ca=path).jobs()] == ["a"]
+        # a certificate that is not trusted stays so: no other try
+        begun = time.monotonic()
+        told = subprocess.run([ENGINE, url, "a", "2"], capture_output=True, text=True, timeout=60, check=False)
+        assert told.returncode == 1 and "certificate verify failed" in told.stderr, told
+        try:
+            raise AssertionError(Service(url).jobs())
+        except requests.exceptions.SSLError:
+            pass
+        took = time.monotonic() - begun
+        assert took < 20, took
+        return "the engine in Rust and the client in Python; not without the certificate"

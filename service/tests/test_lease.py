@@ -1,0 +1,158 @@
+"""The lease of a leader over PostgreSQL: a process that takes over through a slow line, and standbys beside many jobs."""
+import threading
+import time
+
+from harness import Kept, Server, folder, until
+from postgres import postgres
+from relkvanu_service import Service, savepoint
+from slow import Slow
+
+SETTINGS = {"interval": 1 << 40}
+DELAY = 0.02
+
+
+def opened(at, url, jobs):
+    """A database with these jobs, without a leader."""
+    server = Server(at, url).start()
+
+    def some(part):
+        service = Service(server.url)
+        for number in range(part, jobs, 8):
+            service.open(f"j{number}", SETTINGS, [1])
+
+    threads = [threading.Thread(target=some, args=(part,)) for part in range(8)]
+    for thread in threads:
+        thread.start()
+    for thread in threads:
+        thread.join()
+    assert server.stop() == 0
+
+
+def configured(at, lease):
+    path = f"{at}/lease-{lease}.toml"
+    with open(path, "w", encoding="utf-8") as it:
+        it.write(f"lease_seconds = {lease}\n")
+    return ["--config", path]
+
+
+def epoch(database):
+    return int(database.sql("select epoch from leader"))
+
+
+def is_ready(server):
+    return server.get("/readyz")[0] == 200
+
+
+def looked(slow, fast, seconds):
+    """Looks at a slow leader and a fast standby. Returns how often both were ready, and how often the slow one answered what was over."""
+    both = stale = 0
+    end = time.monotonic() + seconds
+    while time.monotonic() < end:
+        if is_ready(slow) and is_ready(fast):
+            both += 1
+            seq = fast.request("POST", "/v1/jobs/j0/calls", {"calls": [{"call": "tick"}]})[2]["answers"][0]["seq"]
+            told = slow.get("/v1/jobs/j0")
+            stale += told[0] == 200 and told[2]["seq"] < seq
+        time.sleep(0.02)
+    return both, stale
+
+
+def test_a_take_over_through_a_slow_line():
+    """It takes over in fewer statements than there are jobs, so a standby beside it finds no lease that has run out."""
+    with postgres() as database, folder() as at:
+        opened(at, database.url, 40)
+        line = Slow(database.port, DELAY)
+        far = database.url.replace(str(database.port), str(line.port))
+        slow = Server(at, far, configured(at, 2)).start(ready=False)
+        until(lambda: epoch(database) == 2)
+        fast = Server(at, database.url, configured(at, 2)).start(ready=False)
+        both, stale = looked(slow, fast, 5)
+        assert (both, stale) == (0, 0), f"both ready in {both} looks, {stale} stale answers"
+        slow.wait_ready()
+        assert epoch(database) == 2 and slow.process.poll() is None, slow.log()[-300:]
+        slow.stop()
+        fast.kill()
+        return f"40 jobs over a line of {DELAY * 1000:.0f} ms with a lease of 2 s"
+
+
+def test_a_take_over_keeps_its_lease():
+    """Its statements take longer than the lease, so it renews the lease between them, and a standby finds none that has run out."""
+    with postgres() as database, folder() as at:
+        opened(at, database.url, 5)
+        line = Slow(database.port, 0)
+        far = database.url.replace(str(database.port), str(line.port))
+        first = Server(at, database.url, configured(at, 2)).start()
+        slow = Server(at, far, configured(at, 2)).start(ready=False)
+        until(lambda: "another process leads" in slow.log())
+        before = epoch(database)
+        line.delay = 0.35
+        first.stop()
+        until(lambda: epoch(database) > before)
+        fast = Server(at, database.url, configured(at, 2)).start(ready=False)
+        until(lambda: "another process leads" in fast.log())
+        slow.wait_ready()
+        took = int(slow.log().rsplit("take_over_ms=", 1)[1].split()[0]) / 1000
+        assert epoch(database) == before + 1 and took > 2, (before, epoch(database), took)
+        assert not is_ready(fast)
+        slow.kill()
+        fast.kill()
+        return f"it took {took:.1f} s with a lease of 2 s"
+
+
+def test_two_processes_on_slow_lines():
+    """One of them leads, and serves."""
+    with postgres() as database, folder() as at:
+        opened(at, database.url, 40)
+        line = Slow(database.port, DELAY)
+        far = database.url.replace(str(database.port), str(line.port))
+        servers = [Server(at, far, configured(at, 2)) for _ in range(2)]
+        kept = [Kept(server.start(ready=False)) for server in servers]
+        for one in kept:
+            one.start()
+        until(lambda: any(is_ready(server) for server in servers), 20)
+        before, made = epoch(database), 0
+        leader = next(server for server in servers if is_ready(server))
+        end = time.monotonic() + 4
+        while time.monotonic() < end:
+            made += leader.request("POST", "/v1/jobs/j0/calls", {"calls": [{"call": "tick"}]})[0] == 200
+        for one in kept:
+            one.over.set()
+            one.join()
+        assert made > 20 and epoch(database) == before, (made, before, epoch(database), [one.ended for one in kept])
+        for server in servers:
+            server.kill()
+        return f"{made} calls in 4 s in one epoch"
+
+
+def standby_asks(at, database, url, jobs):
+    """How many statements a second a standby beside these jobs asks for, of which one is called. It leads then, and knows its calls."""
+    opened(at, url, jobs)
+    line = Slow(database.port, 0)
+    leader = Server(at, url, configured(at, 2)).start()
+    standby = Server(at, url.replace(str(database.port), str(line.port)), configured(at, 2)).start(ready=False)
+    until(lambda: "another process leads" in standby.log())
+    job = Service(leader.url).job("j1")
+    before, began = line.asked, time.monotonic()
+    for _ in range(20):
+        job.call(savepoint())
+        time.sleep(0.05)
+    asks = (line.asked - before) / (time.monotonic() - began)
+    state = job.state()
+    leader.kill()
+    standby.wait_ready()
+    after = Service(standby.url).job("j1").state()
+    assert after["seq"] == state["seq"] and after["live"] == state["live"], (after, state)
+    standby.stop()
+    return asks
+
+
+def test_a_standby_beside_many_jobs():
+    """What it asks does not grow with their number."""
+    with postgres() as database, folder() as at:
+        asked = []
+        for jobs in (2, 200):
+            database.sql(f"create database jobs{jobs}")
+            asked.append(standby_asks(at, database, f"{database.url.rsplit('/', 1)[0]}/jobs{jobs}", jobs))
+        few, many = asked
+        assert many < few * 1.5 + 5, asked
+        return f"{few:.0f} statements a second beside 2 jobs, and {many:.0f} beside 200"

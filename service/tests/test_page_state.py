@@ -1,0 +1,108 @@
+"""The page's state: it agrees with itself, keeps the focus, says what a checkpoint waits for and what is old, and asks once for a look."""
+import time
+
+import test_page
+from harness import served, until
+from relkvanu_service import Service, ack, decline, savepoint
+
+SETTINGS = {"interval": 3_600_000, "timeout": 7_200_000, "tolerable": 0, "retained": 2}
+
+
+def evaluated(page, script):
+    """What a script returns that imports the page's own modules."""
+    return page.execute_async_script(f"""
+        const done = arguments[arguments.length - 1];
+        Promise.all([import("/views.js"), import("/api.js")]).then(([views, api]) => (async () => {{ {script} }})()).then(done, (error) => done(String(error)));""")
+
+
+def opened(server):
+    """A job with a savepoint that is kept, one that was declined, and one that is pending."""
+    job = Service(server.url).open("orders", SETTINGS, [2])
+    job.calls([savepoint()])
+    job.calls([ack(1, "0.0", [1]), ack(1, "0.1", [2, 3])])
+    job.calls([savepoint()])
+    job.calls([decline(2, "0.1")])
+    job.calls([savepoint()])
+    job.calls([ack(3, "0.0", [4])])
+    return job
+
+
+def test_the_page_agrees_with_itself():
+    page = test_page.started(1200, 900)
+    try:
+        with served() as server:
+            job = opened(server)
+            page.get(f"{server.url}/#/jobs/orders")
+            until(lambda: len(test_page.texts(page, "#records tr")) == 3, 20)
+            rows = [[cell for cell in row] for row in page.execute_script("return [...document.querySelectorAll('#records tr')].map(r => [...r.children].map(c => c.textContent))")]
+            # who declined, what the pending one lacks and for how long
+            assert rows[1][:2] == ["2", "declined by 0.1"], rows
+            assert rows[0][:2] == ["3", "pending"] and rows[0][2].endswith(" so far") and rows[0][3] == "0.1", rows
+            assert [text.split(",")[0] for text in test_page.texts(page, "#savepoints li")] == ["savepoint 1"], test_page.texts(page, "#savepoints li")
+            # the chart ends with the state that the facts have, at its moment, and so does its table
+            told = page.execute_script("""
+                const facts = (name) => Number(document.querySelector(`[data-fact="${name}"]`).textContent);
+                const lines = Chart.getChart('counts').data.datasets.map(d => d.data[d.data.length - 1]);
+                return {facts: [facts("Files in use"), facts("Files waiting"), facts("Files taken")], ends: lines.map(l => l.y), at: lines.map(l => l.x),
+                        row: [...document.querySelector("#count-rows tr").children].slice(1).map(c => Number(c.textContent))}""")
+            assert told["facts"] == told["ends"] == told["row"] == [4, 0, 0], told
+            assert abs(told["at"][0] - job.state()["now"]) < 10_000, told
+            shows_the_focus(page)
+            asks_once(page)
+            server.kill()
+            until(lambda: page.execute_script("return document.body.classList.contains('old')"), 20)
+            assert "what is shown is of" in test_page.texts(page, "#status")[0], test_page.texts(page, "#status")
+            server.start()
+            until(lambda: not page.execute_script("return document.body.classList.contains('old')"), 20)
+            return f"{len(rows)} records"
+    finally:
+        page.quit()
+
+
+def shows_the_focus(page):
+    """A link keeps the focus while the page shows what is new."""
+    page.execute_script("document.querySelector('#jobs a').focus()")
+    looks = page.execute_script("return document.querySelector('#status').textContent")
+    until(lambda: page.execute_script("return document.querySelector('#status').textContent") != looks, 10)
+    time.sleep(1)
+    assert page.execute_script("return document.activeElement.matches('#jobs a')"), "the focus was lost"
+
+
+def asks_once(page):
+    """Each look is one request; beside it the page waits for an event."""
+    page.execute_script("performance.clearResourceTimings()")
+    time.sleep(3)
+    asked = page.execute_script("return performance.getEntriesByType('resource').map(it => new URL(it.name).pathname)")
+    assert any(path.startswith("/v1/view/") for path in asked), asked
+    assert {path for path in asked if not path.startswith("/v1/view/")} <= {"/v1/jobs/orders/events"}, asked
+
+
+def test_what_the_page_says():
+    page = test_page.started(1200, 900)
+    try:
+        with served() as server:
+            opened(server)
+            page.get(f"{server.url}/#/jobs/orders")
+            until(lambda: test_page.texts(page, "#job-name") == ["orders"], 20)
+            told = evaluated(page, """
+                const job = {mode: "running", due: 5, now: 9, seq: 293, settings: {pause: 0, at_once: 1}, choice: {kind: "checkpoint", id: 4},
+                             files: {in_use: 0, waiting: 0, taken: 0}, shape: [1], last_completed: null, image: null};
+                const due = (job, pending) => views.facts(job, pending)[2].querySelector("dd").textContent;
+                const checkpoint = {id: 57, kind: "checkpoint"};
+                return {due: [due(job, []), due(job, [checkpoint]), due({...job, due: 2009}, [checkpoint]), due({...job, mode: "failed"}, [])],
+                        hints: [views.hint(job), views.hint({...job, mode: "failed"})],
+                        upto: [views.progress(293, 293), views.progress(240, 293), views.lags(240, 293), views.lags(100, 293)]}""")
+            assert told["due"] == ["at the next tick", "when checkpoint 57 ends", "in 2.0 s", "not while it is failed"], told
+            assert told["hints"][0] == "" and "call restore" in told["hints"][1] and "from checkpoint 4" in told["hints"][1], told
+            assert told["upto"][0] == "" and "240 of 293 calls" in told["upto"][1] and told["upto"][2:] == [False, True], told
+            # a process that stands by names the leader, as its answer does
+            page.execute_script("""window.fetch = async () => new Response('{"error": "another process leads"}',
+                {status: 503, headers: {"relkvanu-leader": "http://10.0.0.7:7780"}})""")
+            until(lambda: not page.execute_script("return document.getElementById('leader').hidden"), 20)
+            link = page.execute_script("const it = document.getElementById('leader-link'); return [it.textContent, it.href]")
+            assert link == ["http://10.0.0.7:7780", "http://10.0.0.7:7780/"], link
+            heads = page.execute_script("return [...document.querySelectorAll('th')].map(it => it.scope)")
+            assert heads and set(heads) == {"col"}, heads
+            return f"{len(heads)} columns"
+    finally:
+        page.quit()

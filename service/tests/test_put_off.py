@@ -1,0 +1,80 @@
+"""Images that a database has no room for: calls go on, a metric tells it, and the image is made later."""
+import errno
+import re
+
+from harness import Server, check_log, folder, until
+from postgres import postgres
+from preloaded import built
+from relkvanu_service import Service, ack, savepoint
+
+SETTINGS = {"interval": 1 << 40}
+TICK = {"calls": [{"call": "tick"}]}
+FAILING = 'relkvanu_image_failing{job_name="orders"}'
+
+
+def metric(server, name):
+    found = re.search(rf"^{re.escape(name)} (\S+)$", server.get("/metrics")[2], re.M)
+    return found and float(found[1])
+
+
+def tick(server):
+    return server.request("POST", "/v1/jobs/orders/calls", TICK)[0] == 200
+
+
+def test_an_image_that_postgresql_has_no_room_for():
+    with postgres() as database, folder() as at:
+        server = Server(at, database.url, ["--image-calls", "20", "--keep-calls", "0"]).start()
+        job = Service(server.url).open("orders", SETTINGS, [1])
+        database.sql("""create function no_room() returns trigger language plpgsql as
+            $$ begin raise exception 'no room' using errcode = '53100'; end $$;
+            create trigger no_room before insert on image for each row execute function no_room()""")
+        for _ in range(60):
+            assert tick(server), server.log()[-400:]
+        assert metric(server, FAILING) == 1 and job.state()["image"] is None
+        assert "an image of job orders is put off" in server.log(), server.log()[-400:]
+        assert server.process.poll() is None
+        # one that is too long for the database is no reason to end either
+        database.sql("""create or replace function no_room() returns trigger language plpgsql as
+            $$ begin raise exception 'too long' using errcode = '54000'; end $$""")
+        until(lambda: tick(server) and "too long" in server.log(), 20, 0.2)
+        database.sql("drop trigger no_room on image")
+        until(lambda: tick(server) and job.state()["image"], 20, 0.2)
+        assert metric(server, FAILING) == 0
+        seq = job.state()["seq"]
+        server.kill()
+        server.start()
+        assert job.state()["seq"] == seq and server.replayed()[-1] < seq
+        server.stop()
+        return f"{seq} calls; the image was made {seq - server.replayed()[-1]} calls after the job's opening"
+
+
+def test_an_image_that_sqlite_has_no_room_for():
+    """The write-ahead log has room for calls until it is brought into the database, and not for the image: on a full disk, and by a
+    quota."""
+    with folder() as at:
+        server = Server(at, args=["--image-calls", "0"]).start()
+        job = Service(server.url).open("orders", SETTINGS, [76])
+        job.call(savepoint())
+        for subtask in range(75):
+            first = 10**15 + subtask * 4000
+            job.call(ack(1, f"0.{subtask}", list(range(first, first + 4000))))
+        server.stop()
+        server.args = ["--image-calls", "20"]
+        library = built(at, "faults")
+        for number in (errno.ENOSPC, errno.EDQUOT):
+            server.prefix = ["env", f"LD_PRELOAD={library}", "FAIL_ON=-wal", "FULL_AT=5000000", f"FULL_ERROR={number}"]
+            server.start()
+            put_off = server.log().count("an image of job orders is put off")
+            answered = sum(tick(server) for _ in range(60))
+            assert answered == 60, (number, answered, server.log()[-400:])
+            assert server.log().count("an image of job orders is put off") > put_off, server.log()[-400:]
+            assert metric(server, FAILING) == 1 and server.process.poll() is None
+            server.kill()
+        server.prefix = []
+        server.start()
+        until(lambda: tick(server) and job.state()["image"], 30, 0.2)
+        assert metric(server, FAILING) == 0
+        log, state = list(job.log()), job.state()
+        server.stop()
+        check_log(state, [76], log)
+        return f"{len(log)} calls; an image of {state['image']['bytes'] / 1e6:.1f} MB was made later"

@@ -1,0 +1,101 @@
+"""A stop: every call that is committed has its answer, and what waits ends at once."""
+import http.client
+import json
+import socket
+import threading
+import time
+
+from harness import Server, folder, until
+from postgres import postgres
+from test_api import JOB
+from test_connections import answer, opened, poll
+
+CONNECTIONS = 48
+
+
+class Caller(threading.Thread):
+    """Ticks a job of its own, without a key, until the service stops."""
+
+    def __init__(self, server, name):
+        super().__init__(daemon=True)
+        self.server, self.name, self.answered, self.refused = server, name, 0, None
+
+    def run(self):
+        it = http.client.HTTPConnection("127.0.0.1", self.server.port, timeout=20)
+        try:
+            while self.refused is None:
+                it.request("POST", f"/v1/jobs/{self.name}/calls", '{"calls":[{"call":"tick"}]}', {"Content-Type": "application/json"})
+                told = it.getresponse()
+                body = json.loads(told.read())
+                if told.status == 200:
+                    self.answered = body["answers"][0]["seq"]
+                else:
+                    self.refused = told.status
+        except (OSError, http.client.HTTPException):
+            pass
+
+
+def test_each_committed_call_has_its_answer():
+    made = 0
+    with folder() as at:
+        server = Server(at)
+        for _ in range(3):
+            server.start()
+            callers = [Caller(server, f"j{number}") for number in range(CONNECTIONS)]
+            for it in callers:
+                server.request("POST", "/v1/jobs", {"name": it.name, "settings": {"interval": 1 << 40}, "shape": [1]})
+            was = {it.name: server.get(f"/v1/jobs/{it.name}")[2]["seq"] for it in callers}
+            for it in callers:
+                it.start()
+            time.sleep(0.5)
+            assert server.stop() == 0
+            for it in callers:
+                it.join()
+            server.start()
+            for it in callers:
+                seq = server.get(f"/v1/jobs/{it.name}")[2]["seq"]
+                assert seq == max(it.answered, was[it.name]), f"{it.name}: {seq} calls are committed, and {it.answered} were answered"
+                made += seq - was[it.name]
+            assert not any(it.refused not in (None, 503) for it in callers)
+            server.stop()
+    assert made > 3 * CONNECTIONS, made
+    return f"3 stops among {CONNECTIONS} connections: each of {made} calls was answered"
+
+
+def test_a_stop_ends_polls_and_slow_bodies():
+    with folder() as at:
+        server = Server(at).start()
+        server.request("POST", "/v1/jobs", JOB)
+        head = "POST /v1/jobs/orders/calls HTTP/1.1\r\nHost: localhost\r\nContent-Type: application/json\r\nContent-Length: 100\r\n\r\n{"
+        waits, slow, idle, silent = (opened(server, text) for text in (poll(0), head, "GET /healthz HTTP/1.1\r\nHost: localhost\r\n\r\n", ""))
+        assert answer(idle)[0] == 200
+        started = time.monotonic()
+        server.process.terminate()
+        status, told = answer(waits)
+        polled = time.monotonic() - started
+        assert status == 200 and told["events"] == [] and polled < 2, (status, told, polled)
+        assert idle.recv(10) == b"" and silent.recv(10) == b""
+        try:
+            socket.create_connection(("127.0.0.1", server.port), timeout=5).close()
+            raise AssertionError("it still accepts connections")
+        except ConnectionRefusedError:
+            pass
+        assert answer(slow)[0] == 503
+        assert server.process.wait(20) == 0
+        took = time.monotonic() - started
+        assert took < 9, took
+        return f"a poll was answered after {polled:.2f} s, a body that did not come was refused, and the end came after {took:.1f} s"
+
+
+def test_a_standby_stops_at_once():
+    with folder() as at, postgres() as database:
+        leader = Server(at, database=database.url).start()
+        standby = Server(at, database=database.url).start(ready=False)
+        until(lambda: "another process leads" in standby.log())
+        times = []
+        for server in (standby, leader):
+            started = time.monotonic()
+            assert server.stop() == 0
+            times.append(time.monotonic() - started)
+        assert times[0] < 2 and times[1] < 4, times
+        return f"a standby ended after {times[0]:.2f} s, the leader after {times[1]:.2f} s"

@@ -1,0 +1,230 @@
+"""While the database takes no commits, or does not answer: what health checks, metrics and reads say then, and what they do not."""
+import asyncio
+import os
+import sqlite3
+import subprocess
+import threading
+import time
+
+from harness import PROGRAM, SERVICE, Server, folder, free_port, served, until
+from postgres import postgres
+from test_api import JOB
+from test_connections import within
+
+CALLS = {"calls": [{"call": "tick"}]}
+
+
+def metric(server, name):
+    lines = [line for line in server.get("/metrics")[2].splitlines() if line.startswith(f"{name} ")]
+    return float(lines[0].split()[1])
+
+
+def test_health_and_metrics_answer_while_a_commit_is_stuck():
+    with served() as server:
+        server.request("POST", "/v1/jobs", JOB)
+        assert "relkvanu_commit_under_way_seconds 0\n" in server.get("/metrics")[2]
+        base = sqlite3.connect(server.database, isolation_level=None, timeout=20)
+        base.execute("begin immediate")
+        told = []
+        calling = threading.Thread(target=lambda: told.append(server.request("POST", "/v1/jobs/orders/calls", CALLS)[0]))
+        calling.start()
+        started = time.monotonic()
+        refused = until(lambda: (it := within(2, lambda: server.get("/readyz")))[0] == 503 and it, 8)
+        after = time.monotonic() - started
+        assert "no commit is possible" in refused[2]["error"] and refused[1]["retry-after"] == "1", refused
+        assert after > 2, after
+        assert within(2, lambda: server.get("/healthz")[0]) == 200
+        text = within(3, lambda: server.get("/metrics"))
+        assert text[0] == 200 and 'relkvanu_files{job_name="orders"' in text[2], text
+        assert metric(server, "relkvanu_commit_under_way_seconds") > 2
+        base.execute("rollback")
+        calling.join()
+        assert told == [200], told
+        until(lambda: server.get("/readyz")[0] == 200, 5)
+        assert metric(server, "relkvanu_commit_under_way_seconds") == 0
+        return f"/readyz was 503 after {after:.1f} s, and 200 again after the commit"
+
+
+def test_errors_of_the_database_are_not_for_clients():
+    with served() as server:
+        server.request("POST", "/v1/jobs", JOB)
+        with sqlite3.connect(server.database, timeout=20) as base:
+            base.execute("alter table call rename to elsewhere")
+        for path in "/v1/jobs/orders/log", "/v1/jobs/orders/events?after=0":
+            status, headers, told = server.get(path)
+            assert status == 503 and headers["retry-after"] == "1", (path, status, told)
+            assert told == {"error": "the database can't be read now"}, told
+        assert "no such table" in server.log()
+        with sqlite3.connect(server.database, timeout=20) as base:
+            base.execute("alter table elsewhere rename to call")
+        until(lambda: server.get("/v1/jobs/orders/log")[0] == 200)
+        return "2 reads"
+
+
+def test_long_names_are_not_repeated_whole():
+    long = "x" * 100_000
+    with served() as server:
+        server.request("POST", "/v1/jobs", JOB)
+        bodies = [
+            {"calls": [{"call": long}]}, {"calls": [{"call": "tick", long: 1}]}, {long: 1, "calls": [{"call": "tick"}]},
+            {"calls": [{"call": "ack", "id": 1, "subtask": long}]}, {"calls": [{"call": "restore", "from": long}]},
+            {"calls": [{"call": "deleted", "file": long}]},
+        ]
+        for body in bodies:
+            status, _, told = server.request("POST", "/v1/jobs/orders/calls", body)
+            assert status == 400 and len(str(told)) < 500, (status, str(told)[:600])
+        for body in {**JOB, long: 1}, {**JOB, "settings": {"interval": 100, long: 1}}, {**JOB, "name": long}:
+            status, _, told = server.request("POST", "/v1/jobs", body)
+            assert status == 400 and len(str(told)) < 500, (status, str(told)[:600])
+        assert len(str(server.get(f"/v1/jobs?{long[:20000]}=1"))) < 1000
+        return f"{len(bodies) + 4} requests"
+
+
+class Forgetful(threading.Thread):
+    """A proxy that forgets connections: it goes on, and passes nothing more."""
+
+    def __init__(self, to):
+        super().__init__(daemon=True)
+        self.to, self.port, self.links, self.listens = to, free_port(), [], threading.Event()
+        self.start()
+        assert self.listens.wait(10), "the proxy does not listen"
+
+    def run(self):
+        asyncio.run(self.main())
+
+    async def pipe(self, reader, writer, link):
+        while data := await reader.read(1 << 16):
+            link["at"] = time.monotonic()
+            if not link["is_forgotten"]:
+                writer.write(data)
+                await writer.drain()
+        writer.close()
+
+    async def link(self, reader, writer):
+        it = {"at": time.monotonic(), "is_forgotten": False}
+        self.links.append(it)
+        there, back = await asyncio.open_connection("127.0.0.1", self.to)
+        await asyncio.gather(self.pipe(reader, back, it), self.pipe(there, writer, it), return_exceptions=True)
+
+    async def main(self):
+        async with await asyncio.start_server(self.link, "127.0.0.1", self.port) as it:
+            self.listens.set()
+            await it.serve_forever()
+
+    def forget(self, idle):
+        """Forgets the connections that were idle for so many seconds. Returns how many."""
+        chosen = [link for link in self.links if time.monotonic() - link["at"] > idle]
+        for link in chosen:
+            link["is_forgotten"] = True
+        return len(chosen)
+
+
+def test_a_connection_to_postgresql_that_was_forgotten():
+    with folder() as at, postgres() as database:
+        proxy = Forgetful(database.port)
+        server = Server(at, database=database.url.replace(str(database.port), str(proxy.port))).start()
+        server.request("POST", "/v1/jobs", {"name": "orders", "settings": {"interval": 500, "timeout": 1 << 40, "at_once": 64}, "shape": [1]})
+        until(lambda: server.get("/v1/jobs/orders/log")[2]["calls"])
+        until(lambda: server.get("/v1/jobs/orders/events?after=0")[2]["events"])
+        time.sleep(5.5)
+        count = proxy.forget(5.2)
+        assert count >= 2, count
+        times = []
+        for path in "/v1/jobs/orders/events?after=0", "/v1/jobs/orders/log", "/v1/jobs/orders":
+            started = time.monotonic()
+            status, _, told = within(12, lambda path=path: server.get(path))
+            assert status == 200, (path, status, told)
+            times.append(time.monotonic() - started)
+        assert server.process.poll() is None and max(times) < 6, times
+        assert kept_alive(proxy.port) >= 2
+        server.stop()
+        return f"{count} connections: the reads took {', '.join(f'{it:.1f} s' for it in times)}"
+
+
+def kept_alive(port):
+    """How many connections to a port of this machine have a timer for keeping them alive."""
+    with open("/proc/net/tcp", encoding="utf-8") as it:
+        rows = [line.split() for line in it][1:]
+    return sum(row[2].endswith(f":{port:04X}") and row[3] == "01" and row[5].startswith("02:") for row in rows)
+
+
+EVENTS = open(f"{SERVICE}/sql/event.sql", encoding="utf-8").read()
+
+
+def test_events_are_read_by_an_index():
+    with served() as server:
+        plan = sqlite3.connect(server.database).execute(
+            f"explain query plan select * from call where job = ? and seq > ? and {EVENTS} order by seq limit ?", (1, 0, 10)).fetchall()
+        assert len(plan) == 1 and "USING INDEX call_event (job=? AND seq>?)" in plan[0][3], plan
+    with folder() as at, postgres() as database:
+        server = Server(at, database=database.url).start()
+        told = database.sql(f"set enable_seqscan = off; set enable_bitmapscan = off;"
+            f"explain select * from call where job = 1 and seq > 0 and {EVENTS} order by seq limit 10")
+        assert "Index Scan using call_event" in told and "Sort" not in told, told
+        server.stop()
+    return "in both databases"
+
+
+def test_files_of_long_lists():
+    """The oldest of the taken files come first, whether the history knows them or not."""
+    with folder() as at:
+        server = Server(at).start()
+        server.request("POST", "/v1/jobs", JOB)
+        path = "/v1/jobs/orders/calls"
+        files = [str(9000 - place) for place in range(3000)]
+        calls = [{"call": "savepoint"}, {"call": "ack", "id": 1, "subtask": "0.0", "fresh": files}, {"call": "ack", "id": 1, "subtask": "0.1"},
+                 {"call": "ack", "id": 1, "subtask": "1.0"}, {"call": "dispose", "id": 1}]
+        server.request("POST", path, {"calls": calls}, headers=[("Idempotency-Key", "a")])
+        taken = []
+        for key in "bcd":
+            taken += server.request("POST", path, {"calls": [{"call": "take", "most": 20}]}, headers=[("Idempotency-Key", key)])[2]["answers"][0]["files"]
+        server.request("POST", path, {"calls": [{"call": "deleted", "file": taken[0]}]})
+        wanted = sorted(taken[1:20], key=int) + sorted(taken[20:40], key=int)
+
+        def listed(limit=39):
+            told = server.get(f"/v1/jobs/orders/files?limit={limit}")[2]
+            return [row["file"] for row in sorted(told["taken"], key=lambda row: (row["taken"] or 0, int(row["file"])))], told
+
+        until(lambda: listed()[1]["upto"] == 9)
+        assert listed()[0] == wanted, (listed()[0], wanted)
+        assert [row["file"] for row in listed()[1]["deleted"]] == [taken[0]]
+        assert len(listed(1000)[0]) == 59 and len(listed(5)[0]) == 5
+        server.stop()
+        os.remove(f"{at}/history-{server.port}")
+        server.start()
+        assert sorted(listed(1000)[0], key=int) == sorted(taken[1:], key=int)
+        server.stop()
+        return "59 files"
+
+
+def test_what_is_no_database_is_refused():
+    with folder() as at:
+        for text in "host=db dbname=x password=secret", "dbname = x", "mysql://u:secret@db/x", "":
+            words = [PROGRAM, "serve", "--listen", "127.0.0.1:0", "--database", text]
+            told = subprocess.run(words, stderr=subprocess.PIPE, text=True, timeout=20, check=False, cwd=at)
+            assert told.returncode == 78 and "database: " in told.stderr and "secret" not in told.stderr, (text, told)
+        assert os.listdir(at) == [], os.listdir(at)
+        words = [PROGRAM, "serve", "--listen", "127.0.0.1:0", "--database", f"Postgres://u@127.0.0.1:{free_port()}/x"]
+        told = subprocess.run(words, stderr=subprocess.PIPE, text=True, timeout=20, check=False, cwd=at)
+        assert told.returncode == 75 and "onnection" in told.stderr and os.listdir(at) == [], told
+        return "5 words"
+
+
+def test_files_are_private_and_a_link_is_no_other_database():
+    with folder() as at:
+        old = os.umask(0o022)
+        try:
+            server = Server(at).start()
+        finally:
+            os.umask(old)
+        server.request("POST", "/v1/jobs", JOB)
+        until(lambda: server.get("/v1/jobs/orders/records")[0] == 200)
+        made = [name for name in os.listdir(at) if not name.startswith("log-")]
+        modes = {name: os.stat(f"{at}/{name}").st_mode & 0o777 for name in made}
+        assert len(modes) >= 6 and set(modes.values()) == {0o600}, {name: oct(mode) for name, mode in modes.items()}
+        os.symlink(server.database, f"{at}/link.db")
+        words = [PROGRAM, "serve", "--listen", "127.0.0.1:0", "--database", f"{at}/link.db", "--history", f"{at}/h"]
+        told = subprocess.run(words, stderr=subprocess.PIPE, text=True, timeout=20, check=False)
+        assert told.returncode == 75 and "another process serves this database" in told.stderr, told
+        server.stop()
+        return f"{len(modes)} files of mode 600; a symbolic link ended with 75"

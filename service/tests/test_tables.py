@@ -1,0 +1,73 @@
+"""Tables that are made or upgraded only where their version says so."""
+import sqlite3
+import subprocess
+import time
+
+from harness import Server, folder, until
+from postgres import postgres
+from relkvanu_service import Service
+
+SETTINGS = {"interval": 1 << 40}
+TICK = {"calls": [{"call": "tick"}]}
+
+
+def tick(server):
+    return server.request("POST", "/v1/jobs/orders/calls", TICK)[0] == 200
+
+
+def longest_gap(server, seconds):
+    """The longest time between two acknowledgements."""
+    end, gaps, last = time.monotonic() + seconds, [0.0], time.monotonic()
+    while time.monotonic() < end:
+        if tick(server):
+            now = time.monotonic()
+            gaps.append(now - last)
+            last = now
+        time.sleep(0.005)
+    return max([*gaps, time.monotonic() - last])
+
+
+def test_a_standby_that_starts_beside_a_vacuum():
+    """The lock that VACUUM holds keeps a start from locking a table: so no start does, and no call of the leader waits behind one."""
+    with postgres() as database, folder() as at:
+        leader, standby = Server(at, database.url).start(), Server(at, database.url)
+        Service(leader.url).open("orders", SETTINGS, [1])
+        held = "begin; lock table call, request, image in share update exclusive mode; select pg_sleep(60); commit"
+        vacuum = subprocess.Popen([*database.user, f"{database.bin}/psql", "-XAtq", database.url, "-c", held], stdout=subprocess.DEVNULL, cwd="/")
+        until(lambda: database.sql("select count(*) from pg_locks where mode = 'ShareUpdateExclusiveLock' and relation = 'call'::regclass") == "1")
+        standby.start(ready=False)
+        gap = longest_gap(leader, 2)
+        assert "another process leads" in standby.log(), standby.log()[-300:]
+        assert gap < 1, gap
+        # a service that is alone starts beside it too
+        standby.kill()
+        leader.stop()
+        leader.start()
+        assert vacuum.poll() is None, "the lock was not held"
+        leader.stop()
+        database.stop()
+        vacuum.wait()
+        return f"the longest gap of the leader's answers was {gap:.2f} s"
+
+
+def test_tables_of_an_earlier_version_are_upgraded():
+    """With what they have."""
+    with postgres() as database, folder() as at:
+        for url in (None, database.url):
+            server = Server(at, url).start()
+            job = Service(server.url).open("orders", SETTINGS, [1])
+            assert all(tick(server) for _ in range(5))
+            before = job.state()["seq"]
+            server.stop()
+            if url:
+                database.sql("drop table clock; drop index call_at, image_at; alter table leader drop column lease; update schema_version set number = 1")
+            else:
+                base = sqlite3.connect(server.database)
+                base.executescript("drop table clock; pragma user_version = 1")
+                base.close()
+            server.start()
+            assert job.state()["seq"] == before and tick(server)
+            server.stop()
+        assert database.sql("select number from schema_version") == "2"
+        assert database.sql("select count(*) from pg_indexes where indexname in ('call_at', 'image_at')") == "2"
+        return "both databases, from version 1"

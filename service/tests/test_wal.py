@@ -1,0 +1,192 @@
+"""The write-ahead log of SQLite: syncs that fail, losses of power after them, and files that another program takes away."""
+import http.client
+import json
+import os
+import random
+import shutil
+import sqlite3
+import threading
+import time
+
+from harness import Kept, Server, check_log, folder, served, until
+from preloaded import built
+from relkvanu_service import Service
+
+JOB = {"name": "orders", "settings": {"interval": 1 << 40}, "shape": [1]}
+TICK = {"calls": [{"call": "tick"}]}
+
+
+def after_power_loss(server, at):
+    """A service over what a loss of power leaves: the bytes that were synced."""
+    place = f"{at}/after-{random.randrange(1 << 30)}"
+    os.mkdir(place)
+    for end in ("", "-wal"):
+        if os.path.exists(f"{server.database}{end}.safe"):
+            shutil.copy(f"{server.database}{end}.safe", f"{place}/relkvanu.db{end}")
+    return Server(place).start()
+
+
+def tick(server):
+    """Makes a call, and returns its place, or None if it was not answered."""
+    told = server.request("POST", "/v1/jobs/orders/calls", TICK)
+    return told[2]["answers"][0]["seq"] if told[0] == 200 else None
+
+
+def check_acknowledged(acknowledged, server, at):
+    """Each call that was acknowledged is there after a loss of power, and the log is whole."""
+    restored = after_power_loss(server, at)
+    try:
+        job = Service(restored.url).job("orders")
+        state, log = job.state(), list(job.log())
+        lost = sorted(seq for seq in acknowledged if seq > state["seq"])
+        assert not lost, f"{len(lost)} of {len(acknowledged)} acknowledged calls are lost, from call {lost[0]} on"
+        check_log(state, [1], log)
+    finally:
+        restored.stop()
+
+
+def test_a_loss_of_power_after_a_failed_sync():
+    """The process ends when the sync fails. It starts again, acknowledges calls, and then the power is lost."""
+    with folder() as at:
+        faults = f"LD_PRELOAD={built(at, 'faults')}"
+        server = Server(at, prefix=["env", faults]).start()
+        server.request("POST", "/v1/jobs", JOB)
+        acknowledged = [tick(server) for _ in range(5)]
+        server.stop()
+        server.prefix = ["env", faults, "FAIL_ON=-wal", "FAIL_SYNC=20"]
+        server.start()
+        while (seq := tick(server)) is not None:
+            acknowledged.append(seq)
+            assert len(acknowledged) < 50, "no sync failed"
+        assert server.process.wait(20) == 75, server.log()[-400:]
+        assert "disk I/O error" in server.log(), server.log()[-400:]
+        # a start that is killed before it has served has settled nothing that was answered
+        server.prefix = ["env", faults]
+        server.start()
+        acknowledged += [tick(server) for _ in range(20)]
+        server.kill()
+        assert None not in acknowledged and len(acknowledged) == len(set(acknowledged)), acknowledged
+        check_acknowledged(acknowledged, server, at)
+        return f"{len(acknowledged)} acknowledged calls, 20 of them after the failed sync"
+
+
+class Load(threading.Thread):
+    """Makes calls until it is stopped, and keeps those that were acknowledged."""
+
+    def __init__(self, server):
+        super().__init__(daemon=True)
+        self.server, self.over, self.acknowledged = server, threading.Event(), []
+
+    def run(self):
+        while not self.over.is_set():
+            connection = http.client.HTTPConnection("127.0.0.1", self.server.port, timeout=20)
+            try:
+                while not self.over.is_set():
+                    connection.request("POST", "/v1/jobs/orders/calls", json.dumps(TICK), {"Content-Type": "application/json"})
+                    told = connection.getresponse()
+                    body = told.read()
+                    if told.status == 200:
+                        self.acknowledged.append(json.loads(body)["answers"][0]["seq"])
+            except (OSError, http.client.HTTPException, ValueError):
+                time.sleep(0.02)
+            finally:
+                connection.close()
+
+
+def test_losses_of_power_after_random_failed_syncs():
+    counts, ends = [], 0
+    with folder() as at:
+        library = built(at, "faults")
+        for trial in range(3):
+            place = f"{at}/{trial}"
+            os.mkdir(place)
+            prefix = ["env", f"LD_PRELOAD={library}", "FAIL_ON=-wal", "FAIL_EACH=60"]
+            server = Server(place, args=["--image-calls", "200", "--keep-calls", "1000000"], prefix=prefix)
+            server.start(ready=False)
+            kept = Kept(server)
+            kept.start()
+            server.wait_ready(kept=True)
+            until(lambda: server.request("POST", "/v1/jobs", JOB)[0] in (200, 201))
+            loads = [Load(server) for _ in range(8)]
+            for load in loads:
+                load.start()
+            time.sleep(random.uniform(1.5, 2.5))
+            kept.over.set()
+            kept.join()
+            server.process.kill()
+            server.process.wait()
+            for load in loads:
+                load.over.set()
+            for load in loads:
+                load.join(30)
+            acknowledged = [seq for load in loads for seq in load.acknowledged]
+            assert set(kept.ended) <= {75} and len(acknowledged) > 20, (kept.ended, len(acknowledged))
+            check_acknowledged(acknowledged, server, place)
+            counts.append(len(acknowledged))
+            ends += len(kept.ended)
+    assert ends > 0, "no sync failed"
+    return f"{sum(counts)} acknowledged calls in {len(counts)} losses of power, {ends} failed syncs before them"
+
+
+def test_a_log_that_another_program_deletes():
+    """As the sqlite3 shell does at its end, if this process lost its lock on the database: no call is acknowledged after it."""
+    with served() as server:
+        server.request("POST", "/v1/jobs", JOB)
+        acknowledged = [tick(server) for _ in range(5)]
+        base = sqlite3.connect(server.database)
+        base.execute("pragma wal_checkpoint(full)")
+        base.close()
+        os.unlink(f"{server.database}-wal")
+        acknowledged += [seq for seq in (tick(server) for _ in range(3)) if seq]
+        if server.process.poll() is None:
+            server.kill()
+        assert server.process.wait(20) == 75, server.log()[-300:]
+        # its own readers may have made a new one
+        assert any(text in server.log() for text in ("-wal: No such file", "-wal: another program has replaced")), server.log()[-300:]
+        server.start()
+        assert Service(server.url).job("orders").state()["seq"] >= max(acknowledged), acknowledged
+        return f"{len(acknowledged)} calls were acknowledged before it"
+
+
+def test_a_journal_that_is_no_write_ahead_log():
+    """If a sync fails while a new database is switched to its write-ahead log, SQLite may say that it was."""
+    with folder() as at:
+        library = built(at, "faults")
+        modes, ends = set(), 0
+        for number in range(1, 7):
+            place = f"{at}/{number}"
+            os.mkdir(place)
+            server = Server(place, prefix=["env", f"LD_PRELOAD={library}", "FAIL_ON=.db", f"FAIL_SYNC={number}"])
+            server.start(ready=False)
+            try:
+                server.wait_ready(10)
+            except AssertionError:
+                assert server.process.wait(10) == 75, server.log()[-300:]
+                ends += 1
+                server.prefix = server.prefix[:2]
+                server.start()
+            server.request("POST", "/v1/jobs", JOB)
+            assert tick(server) is not None
+            modes.add(os.path.exists(f"{server.database}-wal"))
+            server.kill()
+        assert modes == {True}, "a service runs without a write-ahead log"
+        return f"{ends} of 6 starts ended with 75, and each next one served"
+
+
+def test_a_reader_of_another_program_keeps_a_start_waiting():
+    """A start empties the write-ahead log before it serves."""
+    with served() as server:
+        server.request("POST", "/v1/jobs", JOB)
+        assert all(tick(server) for _ in range(5))
+        base = sqlite3.connect(server.database, isolation_level=None)
+        base.execute("begin")
+        base.execute("select count(*) from call").fetchone()
+        assert tick(server)
+        server.kill()
+        server.start(ready=False)
+        time.sleep(1)
+        assert server.log().count("serves on") == 1
+        base.close()
+        server.wait_ready()
+        assert os.path.getsize(f"{server.database}-wal") == 0 or tick(server)
+        return "it served once the reader had ended"
