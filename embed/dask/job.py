@@ -20,7 +20,7 @@ from typing import Any, Callable, Dict, Iterable, List, Sequence, Tuple
 
 from channel import Channel
 from cluster import Cluster, wait_for
-from relkvanu import AckCompleted, DeclineFailed, Discarder, Failed, Patience, Refused, Reply, RestoredCheckpoint, RestoredFresh
+from relkvanu import AckCompleted, DeclineFailed, Discarder, Failed, Patience, Refused, Reply, RestoredCheckpoint
 from storage import Storage
 from stream import PARTITIONS, VERTICES, State, counted, read
 

@@ -8,7 +8,7 @@ import signal
 import subprocess
 import sys
 import time
-from typing import IO, Dict, List, Optional
+from typing import IO, List, Optional
 
 from log import Place, whole_log
 from bookkeeping import Bookkeeping

@@ -59,7 +59,8 @@ def test_answers_fit_the_description():
         until(lambda: server.get("/v1/jobs/a/files")[2]["upto"] == server.get("/v1/jobs/a")[2]["seq"])
         until(lambda: server.get("/v1/jobs/a/samples")[2]["samples"])
         for path, route in [
-            ("/v1/jobs", "/v1/jobs"), ("/v1/view", "/v1/view"), ("/v1/view/a", "/v1/view/{job}"), ("/v1/jobs/a", job), ("/v1/jobs/a/records", f"{job}/records"), ("/v1/jobs/a/records/1", f"{job}/records/{{id}}"),
+            ("/v1/jobs", "/v1/jobs"), ("/v1/view", "/v1/view"), ("/v1/view/a", "/v1/view/{job}"), ("/v1/jobs/a", job),
+            ("/v1/jobs/a/records", f"{job}/records"), ("/v1/jobs/a/records/1", f"{job}/records/{{id}}"),
             ("/v1/jobs/a/records/2", f"{job}/records/{{id}}"), ("/v1/jobs/a/records/77", f"{job}/records/{{id}}"), ("/v1/jobs/a/files", f"{job}/files"),
             ("/v1/jobs/a/files/1", f"{job}/files/{{file}}"), ("/v1/jobs/a/files/9", f"{job}/files/{{file}}"), ("/v1/jobs/a/files/5", f"{job}/files/{{file}}"),
             ("/v1/jobs/a/log", f"{job}/log"), ("/v1/jobs/a/log?limit=x", f"{job}/log"), ("/v1/jobs/a/events", f"{job}/events"),

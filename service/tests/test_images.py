@@ -11,7 +11,7 @@ import threading
 
 from harness import PROGRAM, TOP, Archive, PgArchive, Server, check_log, folder, served, until
 from postgres import postgres
-from relkvanu_service import Service, ack, deleted, dispose, savepoint, take
+from relkvanu_service import Service, ack, deleted, dispose, savepoint
 from writers import check_kept
 
 KEEPING = ["--image-calls", "20", "--keep-calls", "30"]

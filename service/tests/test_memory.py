@@ -16,7 +16,8 @@ def test_no_memory_in_calls():
         raise Skipped("no C compiler is here")
     with folder() as at:
         subprocess.run(["cc", "-O2", "-Wall", "-Wextra", "-Werror", "-shared", "-fPIC", "-o", f"{at}/hungry.so", f"{HERE}/hungry.c"], check=True)
-        symbols = dict(reversed(line.split()[::2]) for line in subprocess.run(["nm", PROGRAM], stdout=subprocess.PIPE, text=True, check=True).stdout.splitlines() if line.endswith((" rattle_alloc", " rattle_realloc")))
+        names = subprocess.run(["nm", PROGRAM], stdout=subprocess.PIPE, text=True, check=True).stdout.splitlines()
+        symbols = dict(reversed(line.split()[::2]) for line in names if line.endswith((" rattle_alloc", " rattle_realloc")))
         offsets = f"{symbols['rattle_alloc']} {symbols['rattle_realloc']} 2"
         server = Server(at, args=["--image-calls", "30"], prefix=["env", f"LD_PRELOAD={at}/hungry.so", f"HUNGRY={offsets}"]).start()
         service = Service(server.url)

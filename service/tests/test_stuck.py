@@ -158,8 +158,10 @@ def test_events_are_read_by_an_index():
         assert len(plan) == 1 and "USING INDEX call_event (job=? AND seq>?)" in plan[0][3], plan
     with folder() as at, postgres() as database:
         server = Server(at, database=database.url).start()
-        told = database.sql(f"set enable_seqscan = off; set enable_bitmapscan = off;"
-            f"explain select * from call where job = 1 and seq > 0 and {EVENTS} order by seq limit 10")
+        told = database.sql(
+            "set enable_seqscan = off; set enable_bitmapscan = off;"
+            f"explain select * from call where job = 1 and seq > 0 and {EVENTS} order by seq limit 10"
+        )
         assert "Index Scan using call_event" in told and "Sort" not in told, told
         server.stop()
     return "in both databases"

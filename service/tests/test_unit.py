@@ -58,4 +58,6 @@ def test_under_systemd():
         with open(f"{at}/told", encoding="utf-8") as it:
             told = json.loads(it.read())
         assert told["exposure"] < 3 and told["discard_exposure"] < 3, told
-        return f"exposure {told['exposure']}; ready again {told['after_kill']:.1f} s after SIGKILL, {told['after_stop']:.1f} s after SIGSTOP with a watchdog of 2 s; 78 ends it; a backup was restored; the discarder has exposure {told['discard_exposure']}"
+        again = f"ready again {told['after_kill']:.1f} s after SIGKILL, {told['after_stop']:.1f} s after SIGSTOP with a watchdog of 2 s"
+        rest = f"78 ends it; a backup was restored; the discarder has exposure {told['discard_exposure']}"
+        return f"exposure {told['exposure']}; {again}; {rest}"

@@ -27,7 +27,10 @@ def test_old_keys_go_in_pieces():
         with sqlite3.connect(server.database) as base:
             base.executemany("insert into request values(1, ?, ?, 'd', '{}')", ((f"old{i}", now() - DAY - 60_000) for i in range(20_000)))
             base.executemany("insert into request values(1, ?, ?, 'd', '{}')", ((f"young{i}", now() - DAY + 3_600_000) for i in range(100)))
-        count = lambda which: base.execute("select count(*) from request where key like ?", (which,)).fetchone()[0]
+
+        def count(which):
+            return base.execute("select count(*) from request where key like ?", (which,)).fetchone()[0]
+
         server.start()
         early = keyed_call(server, "new")
         started, longest = time.monotonic(), 0

@@ -139,7 +139,11 @@ class Calls(unittest.TestCase):
     def test_threads_share_it(self):
         with Coordinator(SETTINGS, [64], 0) as job:
             job.tick(1000)
-            share = lambda first: [job.ack(1000, 1, 0, index, [index]) for index in range(first, first + 8)]
+
+            def share(first):
+                for index in range(first, first + 8):
+                    job.ack(1000, 1, 0, index, [index])
+
             threads = [threading.Thread(target=share, args=(first,)) for first in range(0, 64, 8)]
             for thread in threads:
                 thread.start()
