@@ -351,7 +351,7 @@ uint64_t coordinator_new_file(struct coordinator *c) {
 
 struct progress coordinator_progress(struct coordinator *c) {
     pthread_mutex_lock(&c->lock);
-    struct progress progress = {.completed = c->answers[RELKVANU_ACK_COMPLETED] - c->restored, .is_rolled_back = c->answers[RELKVANU_RESTORED_SAVEPOINT] != 0};
+    struct progress progress = {.completed = c->answers[RELKVANU_ACK_COMPLETED] - c->restored, .cuts = c->cuts, .is_rolled_back = c->answers[RELKVANU_RESTORED_SAVEPOINT] != 0};
     relkvanu_answer live = relkvanu_live(&c->script.handle, 0);
     for (size_t place = 1; live.what != RELKVANU_LIVE_NONE; live = relkvanu_live(&c->script.handle, place++)) {
         if (live.what == RELKVANU_LIVE_SAVEPOINT) {

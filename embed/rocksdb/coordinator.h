@@ -43,6 +43,7 @@ struct coordinator {
 struct progress {
     uint64_t savepoint, savepoint_pending; /* 0: none */
     uint64_t completed;                    /* since the last restore */
+    uint64_t cuts;                         /* of the log, by this process */
     bool is_rolled_back;
 };
 

@@ -257,7 +257,7 @@ static enum end drive_on(struct job *job) {
             return ROLLS_BACK;
         } else if (has_passed(job, 75) && progress.is_rolled_back && !is_rescaled) {
             return RESCALES;
-        } else if (is_over(job) && is_rescaled && progress.completed != 0 && job->victim == TASKS) {
+        } else if (is_over(job) && is_rescaled && progress.completed != 0 && progress.cuts != 0 && job->victim == TASKS) {
             return OVER;
         }
         CHECK(now() - job->started < job->seconds * 1000 + GUARD_MS, "the job comes to no end");
