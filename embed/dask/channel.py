@@ -1,9 +1,12 @@
 """A task's queue in the driver: a thread that makes the actor's calls one after the other, and acknowledges."""
+import contextlib
 import queue
 import threading
+import time
+from asyncio import TimeoutError
 from typing import Any, Dict, List, Optional, Sequence, Tuple, Union
 
-from distributed import Client
+from distributed import ActorFuture, Client
 
 from cluster import WAIT, Worker
 from relkvanu import AckLate, Refused
@@ -37,11 +40,22 @@ class Channel(threading.Thread):
         if self.worker.has_ended():
             raise Lost
         try:
-            return getattr(self.actor, method)(*arguments).result(timeout=WAIT)
+            return self.result(getattr(self.actor, method)(*arguments))
         except (OSError, ValueError) as fault:
             if self.worker.has_ended(within=5):  # the connection breaks a moment before
                 raise Lost from fault
             raise
+
+    def result(self, future: ActorFuture) -> Any:
+        """Waits for the result of a call for as long as the worker lives: a busy machine is no loss."""
+        end = time.monotonic() + 2 * WAIT  # a task that is to be killed waits for WAIT
+        while not future.done():
+            if self.worker.has_ended():
+                raise Lost
+            assert time.monotonic() < end, "a call of a task does not end"
+            with contextlib.suppress(TimeoutError):
+                return future.result(timeout=1)
+        return future.result()
 
     def advance(self, ends: Dict[int, int]) -> None:
         """Puts the records of its partitions before these offsets."""

@@ -13,8 +13,8 @@ from distributed import Client, LocalCluster
 
 HERE = pathlib.Path(__file__).resolve().parent
 WAIT = 120  # seconds for what takes one on a fast machine
-# a call of an actor whose process has ended tries to connect for this long
-dask.config.set({"distributed.comm.timeouts.connect": "8s"})
+# on a busy machine a worker takes a connection late; a call of one that has ended is given up before (channel.py)
+dask.config.set({"distributed.comm.timeouts.connect": f"{WAIT}s"})
 
 
 def wait_for(condition: Callable[[], Any]) -> None:
