@@ -1,9 +1,6 @@
--- Calls: what an accepted call may rely on and leaves, the table of refusals, and the calls that read or move a file.
-pub mod Accepted
+-- Calls: what an accepted call leaves, the refusals as the parts find them, and the calls that read or move a file.
 pub mod Calls
 pub mod Reads
 pub mod RefusalLookups
 pub mod RefusalRepeats
-pub mod RefusalRows
 pub mod Reports
-pub mod StepCases

@@ -4,12 +4,8 @@ pub mod Answering
 pub mod Completing
 pub mod Crossings
 pub mod Ending
-pub mod Histories
 pub mod Loaded
 pub mod Reading
 pub mod Records
-pub mod Reordering
-pub mod Soundness
-pub mod Stepping
 pub mod Triggering
 pub mod Using

@@ -1,10 +1,8 @@
 -- What is made from an image.
-pub mod Alike
 pub mod Bounds
 pub mod Groups
 pub mod Joining
 pub mod Loads
 pub mod Reopened
 pub mod Saving
-pub mod Settled
 pub mod Uses

@@ -1,6 +1,4 @@
--- What is read without a call: when a tick may trigger, when a record expires, the live records by place
--- and by number.
-pub mod Due
+-- What is read without a call: when a record expires, the live records by place and by number.
 pub mod Expiry
 pub mod Live
 pub mod Numbers

@@ -1,16 +1,2 @@
--- The definitions that contracts cite.
-pub mod Coordinator
-pub mod FaultTexts
-pub mod Histories
-pub mod Images
+-- The definitions that contracts of private functions cite.
 pub mod Inside
-pub mod Interleavings
-pub mod Laws
-pub mod Memory
-pub mod Opening
-pub mod Reads
-pub mod Refusals
-pub mod Soundness
-pub mod State
-pub mod Steps
-pub mod WorkedExamples

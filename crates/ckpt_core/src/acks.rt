@@ -1,8 +1,8 @@
 //! Acknowledgements of records that are pending.
 ghost use Rattle.std.specs.Prelude.{◌≡◌, ◌<◌, ◌≤◌, ◌+◌, ◌++◌, ◌==◌, find, length, IfOk, OnOk, OnErr, IsSome, true, IfErr};
 ghost use Rattle.ckpt_ids.specs.declared.call.Call.TheVariants as call;
-ghost use Rattle.ckpt_core.specs.declared.coordinator.CoreFault.TheVariants.{Memory};
-ghost use Rattle.ckpt_core.specs.Coordinator.{may_want_memory};
+ghost use Rattle.ckpt_model.specs.declared.faults.CoreFault.TheVariants.{Memory};
+ghost use Rattle.ckpt_model.specs.Coordinator.{may_want_memory};
 ghost use Rattle.ckpt_core.specs.Inside.Completing.{IsMissing};
 ghost use Rattle.ckpt_core.specs.Inside.FileFacts.{ascending};
 ghost use Rattle.ckpt_core.specs.Inside.Moving.{taken_in, with_room};
@@ -11,9 +11,9 @@ ghost use Rattle.ckpt_core.specs.Inside.RecordFacts.{IsIn, IsInOrder, IsPending,
 ghost use Rattle.ckpt_ids.specs.Places.{LiesAt};
 ghost use Rattle.ckpt_store.specs.Storing.{id_of};
 
-use crate::coordinator::CoreFault;
 use crate::parts::Parts;
 use ckpt_ids::{CheckpointId, FileId, Files, MOST_FILES, Reply, SubtaskId};
+use ckpt_model::CoreFault;
 use std::alloc::{AllocError, Global};
 
 /// The files of an acknowledgement, fresh and reused together.

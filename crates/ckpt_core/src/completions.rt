@@ -3,18 +3,19 @@ ghost use Rattle.std.specs.Prelude.{◌≡◌, ◌<◌, ◌≤◌, ◌+◌, ◌^
 ghost use Rattle.ckpt_ids.specs.declared.call.Call.TheVariants as call;
 ghost use Rattle.ckpt_ids.specs.declared.numbers.Kind.TheVariants as kind;
 ghost use Rattle.ckpt_ids.specs.declared.reply.Reply.TheVariants as reply;
-ghost use Rattle.ckpt_core.specs.declared.coordinator.CoreFault.TheVariants.{Memory};
+ghost use Rattle.ckpt_model.specs.declared.faults.CoreFault.TheVariants.{Memory};
 ghost use Rattle.ckpt_core.specs.Inside.Completing.{IsMissing, superseded, surplus};
 ghost use Rattle.ckpt_core.specs.Inside.Moving.{checkpoint_completed, completion, savepoint_completed, with_checkpoint, without_pending};
-ghost use Rattle.ckpt_core.specs.Inside.Parts.{Answers, AreInUseAlone, AreSound, IsAccepted, Stays, present_in};
+ghost use Rattle.ckpt_core.specs.Inside.Parts.{Answers, AreInUseAlone, AreSound, IsAccepted, Stays};
+ghost use Rattle.ckpt_model.specs.Reads.{present_in};
 ghost use Rattle.ckpt_core.specs.Inside.RecordFacts.{IsAbove, Record, has_savepoint};
 ghost use Rattle.ckpt_ids.specs.Places.{LiesAt};
 ghost use Rattle.ckpt_ids.specs.Records.{missing};
 ghost use Rattle.ckpt_store.specs.Storing.{id_of};
 
-use crate::coordinator::CoreFault;
 use crate::parts::Parts;
 use ckpt_ids::{CheckpointId, Files, Kind, Reply, SubtaskId};
+use ckpt_model::CoreFault;
 use ckpt_pending::Done;
 
 impl Parts {

@@ -3,66 +3,17 @@ ghost use Rattle.std.specs.Prelude.{◌≡◌, ◌↔◌, true, false, Some, Err
 ghost use Rattle.std.specs.Result.{result_err};
 ghost use Rattle.ckpt_ids.specs.declared.reply.Answer.TheVariants.{Done};
 ghost use Rattle.ckpt_ids.specs.declared.reply.Refusal.{Refusal};
-ghost use Rattle.ckpt_core.specs.declared.coordinator.CoreFault.TheVariants.{Memory};
-ghost use Rattle.ckpt_core.specs.Coordinator.{IsCall, may_want_memory, open_fault, opened, refusal, step};
+ghost use Rattle.ckpt_model.specs.declared.faults.CoreFault.TheVariants.{Memory};
+ghost use Rattle.ckpt_model.specs.Coordinator.{IsCall, may_want_memory, open_fault, opened, refusal, step};
 ghost use Rattle.ckpt_core.specs.Inside.Parts.{Answers, AreSound, IsAccepted, IsPlaceIn, Stays, never_fails, state_of, tests_itself};
 
 use crate::parts::Parts;
 use crate::triggers::Ticked;
 use ckpt_hash::Secret;
 use ckpt_ids::{Call, Config, MOMENTS_END, NUMBERS_END, Refusal, Reply, Shape};
-use std::alloc::{AllocError, Global};
-use std::fmt;
+use ckpt_model::{CoreFault, OpenFault};
+use std::alloc::Global;
 use std::marker::Model;
-use thiserror::Error;
-
-/// Why a coordinator was not opened. They are tested in this order.
-#[derive(Clone, Copy, Debug, PartialEq, Eq, Error)]
-pub enum OpenFault {
-    /// The moment is above 2^62 - 1 milliseconds.
-    #[error("the moment is above 2^62 - 1 milliseconds")]
-    MomentTooLarge,
-    /// The first number is 0, or above 2^62 - 1.
-    #[error("the first number is not within 1 to 2^62 - 1")]
-    BadFirst,
-}
-
-/// Why a call has changed nothing.
-#[derive(Clone, Copy, Debug, PartialEq, Eq)]
-pub enum CoreFault {
-    /// The coordinator refuses the call in its current state.
-    Refused(Refusal),
-    /// No refusal applies, and memory ran out.
-    Memory,
-}
-
-/// `refused` with the name of the refusal and the file that it names, or `out of memory`.
-impl fmt::Display for CoreFault {
-    ghost use Rattle.std.specs.Prelude.{Some};
-    ghost use Rattle.ckpt_core.specs.FaultTexts.{fault_text};
-
-    ghost output = { λ fault. Some (fault_text fault) };
-
-    fn fmt<W: fmt::Write>(&self, f: &mut fmt::Formatter<W>) -> fmt::Result {
-        match self {
-            CoreFault::Refused(why) => write!(f, "refused {why}"),
-            CoreFault::Memory => f.write_str("out of memory"),
-        }
-    }
-}
-
-impl std::error::Error for CoreFault {}
-
-impl From<AllocError> for CoreFault {
-    ghost use Rattle.std.specs.Prelude.{◌≡◌};
-    ghost use Rattle.ckpt_core.specs.declared.coordinator.CoreFault.TheVariants.{Memory};
-
-    ghost from_gives = { λ _ fault. fault ≡ Memory };
-
-    fn from(_error: AllocError) -> CoreFault {
-        CoreFault::Memory
-    }
-}
 
 /// The checkpoint coordinator of one job, for one thread.
 ///
@@ -85,7 +36,7 @@ impl Drop for Core {
 
 impl Model for Core {
     ghost use Rattle.ckpt_core.specs.Inside.Parts.{AreSound, state_of};
-    ghost use Rattle.ckpt_core.specs.State.{State};
+    ghost use Rattle.ckpt_model.specs.State.{State};
 
     ghost Value = { State };
 

@@ -2,7 +2,8 @@
 ghost use Rattle.std.specs.Prelude.{◌≡◌, ◌≤◌, ◌++◌, ◌||◌, ◌==◌, ◌+◌, [], length, map, vec_capacity, vec_len};
 ghost use Rattle.ckpt_core.specs.Inside.FileFacts.{after_end, released, without};
 ghost use Rattle.ckpt_core.specs.Inside.Moving.{releasing, without_checkpoints};
-ghost use Rattle.ckpt_core.specs.Inside.Parts.{AreInUseAlone, AreSound, AreTied, Drops, NotesPendingOnly, is_noted, present_in, records_in};
+ghost use Rattle.ckpt_core.specs.Inside.Parts.{AreInUseAlone, AreSound, AreTied, Drops, NotesPendingOnly, is_noted, records_in};
+ghost use Rattle.ckpt_model.specs.Reads.{present_in};
 ghost use Rattle.ckpt_core.specs.Inside.RecordFacts.{IsInOrder, id_before, is_done_checkpoint, is_pending};
 ghost use Rattle.ckpt_ids.specs.Places.{LiesAt};
 ghost use Rattle.ckpt_store.specs.Storing.{id_of};

@@ -3,17 +3,16 @@ ghost use Rattle.std.specs.Prelude.{◌≡◌, ◌≢◌, ◌↔◌, ℕ, ◌||�
 ghost use Rattle.ckpt_ids.specs.declared.call.Target.TheVariants.{Savepoint};
 ghost use Rattle.ckpt_ids.specs.declared.call.Call.TheVariants as call;
 ghost use Rattle.ckpt_ids.specs.declared.reply.Refusal.{Refusal};
-ghost use Rattle.ckpt_core.specs.declared.coordinator.CoreFault.TheVariants.{Memory};
+ghost use Rattle.ckpt_model.specs.declared.faults.CoreFault.TheVariants.{Memory};
 ghost use Rattle.ckpt_core.specs.Inside.Parts.{Answers, AreSound, AreTied, Drops, IsAccepted, IsPlaceOf, Stays, records_in, state_of};
 ghost use Rattle.ckpt_core.specs.Inside.RecordFacts.{IsInOrder, id_before, is_done_checkpoint, is_pending};
-ghost use Rattle.ckpt_core.specs.Refusals.{is_done_savepoint, refusal};
-ghost use Rattle.ckpt_core.specs.State.{choice_of, drop, released_by};
-ghost use Rattle.ckpt_core.specs.Steps.{cancelled, dropped_by, failed_over, rolled_back, with_base};
+ghost use Rattle.ckpt_model.specs.Refusals.{is_done_savepoint, refusal};
+ghost use Rattle.ckpt_model.specs.State.{choice_of, drop, released_by};
+ghost use Rattle.ckpt_model.specs.Steps.{cancelled, dropped_by, failed_over, rolled_back, with_base};
 
-use crate::coordinator::CoreFault;
-use crate::mode::Mode;
 use crate::parts::Parts;
 use ckpt_ids::{CheckpointId, Choice, Kind, Refusal, Reply, Shape, SubtaskId, Target};
+use ckpt_model::{CoreFault, Mode};
 use ckpt_store::DisposeFault;
 
 impl Parts {

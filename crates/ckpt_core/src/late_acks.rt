@@ -1,15 +1,16 @@
 //! Acknowledgements of records that have ended.
 ghost use Rattle.std.specs.Prelude.{◌≡◌, ◌<◌, ◌≤◌, ℕ, not, filter, length, count_by, IfOk, OnOk, OnErr, None, true, false, IfErr};
 ghost use Rattle.ckpt_ids.specs.declared.call.Call.TheVariants as call;
-ghost use Rattle.ckpt_core.specs.declared.coordinator.CoreFault.TheVariants.{Memory};
-ghost use Rattle.ckpt_core.specs.Coordinator.{may_want_memory, pending_of};
+ghost use Rattle.ckpt_model.specs.declared.faults.CoreFault.TheVariants.{Memory};
+ghost use Rattle.ckpt_model.specs.Coordinator.{may_want_memory, pending_of};
 ghost use Rattle.ckpt_core.specs.Inside.FileFacts.{AreDistinct, is_in, is_known};
 ghost use Rattle.ckpt_core.specs.Inside.Moving.{with_waiting};
-ghost use Rattle.ckpt_core.specs.Inside.Parts.{Answers, AreSound, IsAccepted, Stays, is_known_in, present_in, state_of};
+ghost use Rattle.ckpt_core.specs.Inside.Parts.{Answers, AreSound, IsAccepted, Stays, is_known_in, state_of};
+ghost use Rattle.ckpt_model.specs.Reads.{present_in};
 
-use crate::coordinator::CoreFault;
 use crate::parts::Parts;
 use ckpt_ids::{CheckpointId, FileId, Files, Reply, SubtaskId};
+use ckpt_model::CoreFault;
 use std::alloc::AllocError;
 
 impl Parts {

@@ -1,10 +1,9 @@
 //! The checkpoint coordinator of one job, for one thread.
 //!
 //! [`Core`] is the coordinator: `Core::apply` makes one [`ckpt_ids::Call`], which is exactly the
-//! step that `specs/Steps.antt` defines. `specs/State.antt` has the state of a coordinator,
-//! `specs/Refusals.antt` says which calls are refused, `specs/Soundness.antt` what holds at each
-//! moment, and [`laws`] what holds over all lists of calls. `specs/WorkedExamples.antt` has lists
-//! of calls with their answers, which the definitions compute.
+//! step that `ckpt_model` defines. That crate has the definitions, and [`laws`] over all lists of
+//! calls. This one has the code, and the proofs that it makes these steps: `specs/Inside` has what
+//! its private functions promise one another.
 #![tactic(auto)]
 
 mod acks;
@@ -14,9 +13,7 @@ mod drops;
 mod endings;
 mod image;
 mod late_acks;
-pub mod laws;
 mod loading;
-pub mod mode;
 mod opening;
 mod parts;
 mod pending_records;
@@ -30,9 +27,7 @@ mod saving;
 mod triggers;
 
 pub use ckpt_hash::Secret;
-pub use coordinator::{Core, CoreFault, OpenFault};
-pub use image::{Image, ImageFault, Saved};
-pub use mode::Mode;
-pub use queries::Live;
-pub use recovery::Standing;
+pub use ckpt_model::{CoreFault, Image, Live, Mode, OpenFault, Saved, Standing, laws, mode};
+pub use coordinator::Core;
+pub use image::ImageFault;
 pub use refusals::test_files;

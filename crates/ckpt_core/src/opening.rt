@@ -2,13 +2,13 @@
 ghost use Rattle.std.specs.Prelude.{◌≡◌, ◌<◌, ◌≤◌};
 ghost use Rattle.ckpt_ids.specs.declared.limits.TheConstants.{MOMENTS_END, NUMBERS_END};
 ghost use Rattle.ckpt_core.specs.Inside.Parts.{AreSound, state_of};
-ghost use Rattle.ckpt_core.specs.State.{opened};
+ghost use Rattle.ckpt_model.specs.State.{opened};
 
-use crate::mode::Mode;
 use crate::parts::{Opened, Parts};
 use crate::pending_records::PendingRecords;
 use ckpt_hash::Secret;
 use ckpt_ids::{Config, Shape};
+use ckpt_model::Mode;
 use ckpt_outbox::Outbox;
 use ckpt_registry::Registry;
 use ckpt_rules::{Clock, Failures};

@@ -3,9 +3,9 @@
 ghost use Rattle.std.specs.Prelude.{◌<◌};
 ghost use Rattle.ckpt_ids.specs.declared.limits.TheConstants.{MOMENTS_END, NUMBERS_END};
 
-use crate::mode::Mode;
 use crate::pending_records::PendingRecords;
 use ckpt_ids::{CheckpointId, Config, Shape};
+use ckpt_model::Mode;
 use ckpt_outbox::Outbox;
 use ckpt_registry::Registry;
 use ckpt_rules::{Clock, Failures};

@@ -3,7 +3,7 @@ ghost use Rattle.std.specs.Prelude.{◌≡◌, ℕ, ◌+◌, ◌<◌, ◌≤◌,
 ghost use Rattle.std.specs.List.{list_any};
 ghost use Rattle.ckpt_core.specs.Inside.PendingRecords.{Expects, acked, retracted};
 ghost use Rattle.ckpt_core.specs.Inside.RecordFacts.{IsIn, IsInOrder, IsPending, Record, has_acknowledged, id_before, is_checkpoint};
-ghost use Rattle.ckpt_core.specs.Reads.{has_come, live_of};
+ghost use Rattle.ckpt_model.specs.Reads.{has_come, live_of};
 ghost use Rattle.ckpt_ids.specs.Places.{LiesAt};
 ghost use Rattle.ckpt_store.specs.Storing.{has_id, id_of};
 

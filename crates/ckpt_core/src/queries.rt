@@ -2,28 +2,18 @@
 
 ghost use Rattle.std.specs.Prelude.{◌≡◌, length, find, nat_le, option_map, slice_get};
 ghost use Rattle.ckpt_ids.specs.Records.{missing, uses};
-ghost use Rattle.ckpt_core.specs.Coordinator.{IsSound, choice_of, pending_of};
-ghost use Rattle.ckpt_core.specs.Inside.Parts.{AreSound, present_in, records_in, state_of};
+ghost use Rattle.ckpt_model.specs.Coordinator.{IsSound, choice_of, pending_of};
+ghost use Rattle.ckpt_core.specs.Inside.Parts.{AreSound, records_in, state_of};
+ghost use Rattle.ckpt_model.specs.Reads.{present_in, IsNextExpiry, NoneIsEarlyFrom, NoneTriggersBefore, live_of, next_due, sooner};
 ghost use Rattle.ckpt_core.specs.Inside.RecordFacts.{IsInOrder, IsStored, id_before};
-ghost use Rattle.ckpt_core.specs.State.{is_known};
-ghost use Rattle.ckpt_core.specs.Reads.{IsNextExpiry, NoneIsEarlyFrom, NoneTriggersBefore, live_of, next_due, sooner};
+ghost use Rattle.ckpt_model.specs.State.{is_known};
 
 use crate::coordinator::Core;
-use crate::mode::Mode;
 use crate::parts::Parts;
 use ckpt_ids::{CheckpointId, Choice, FileId, Kind};
+pub use ckpt_model::Live;
+use ckpt_model::Mode;
 use ckpt_pending::{Done, Pending};
-
-/// A live record in short.
-#[derive(Clone, Copy, Debug, PartialEq, Eq)]
-pub struct Live {
-    /// Its number.
-    pub id: CheckpointId,
-    /// Whether it is a checkpoint or a savepoint.
-    pub kind: Kind,
-    /// Whether it is done; otherwise it is pending.
-    pub done: bool,
-}
 
 impl Core {
     /// What the job is doing. The contract also says that the coordinator is sound.

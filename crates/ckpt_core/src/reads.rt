@@ -3,16 +3,16 @@ ghost use Rattle.std.specs.Prelude.{◌≡◌, ◌↔◌, true, Some, Err, IsSom
 ghost use Rattle.ckpt_ids.specs.Records.{metadata_of};
 ghost use Rattle.ckpt_ids.specs.declared.call.Call.TheVariants as call;
 ghost use Rattle.ckpt_ids.specs.declared.reply.Refusal.{Refusal};
-ghost use Rattle.ckpt_core.specs.declared.coordinator.CoreFault.TheVariants.{Memory};
-ghost use Rattle.ckpt_core.specs.Coordinator.{may_want_memory};
+ghost use Rattle.ckpt_model.specs.declared.faults.CoreFault.TheVariants.{Memory};
+ghost use Rattle.ckpt_model.specs.Coordinator.{may_want_memory};
 ghost use Rattle.ckpt_core.specs.Inside.Parts.{Answers, AreSound, IsAccepted, Stays, records_in, state_of};
 ghost use Rattle.ckpt_core.specs.Inside.RecordFacts.{IsInOrder, id_before};
-ghost use Rattle.ckpt_core.specs.Refusals.{refusal};
-ghost use Rattle.ckpt_core.specs.State.{record_of};
+ghost use Rattle.ckpt_model.specs.Refusals.{refusal};
+ghost use Rattle.ckpt_model.specs.State.{record_of};
 
-use crate::coordinator::CoreFault;
 use crate::parts::Parts;
 use ckpt_ids::{CheckpointId, FileId, Metadata, Refusal, Reply};
+use ckpt_model::CoreFault;
 use std::alloc::AllocError;
 
 impl Parts {

@@ -7,31 +7,16 @@ ghost use Rattle.std.specs.Option.{option_and_then};
 ghost use Rattle.ckpt_ids.specs.Ascending.{ascending};
 ghost use Rattle.ckpt_pending.specs.Acknowledging.{files_from};
 ghost use Rattle.ckpt_core.specs.Inside.Parts.{AreSound, records_in, state_of};
-ghost use Rattle.ckpt_core.specs.Reads.{live_of, pins_in, standing, standing_without};
-ghost use Rattle.ckpt_core.specs.Refusals.{pending_of};
-ghost use Rattle.ckpt_core.specs.State.{record_of};
+ghost use Rattle.ckpt_model.specs.Reads.{live_of, pins_in, standing, standing_without};
+ghost use Rattle.ckpt_model.specs.Refusals.{pending_of};
+ghost use Rattle.ckpt_model.specs.State.{record_of};
 
 use crate::coordinator::Core;
 use crate::parts::Parts;
-use crate::queries::Live;
 use ckpt_ids::{CheckpointId, FileId, Files, SubtaskId};
+use ckpt_model::Live;
+pub use ckpt_model::Standing;
 use std::alloc::AllocError;
-
-/// What a number is.
-#[derive(Clone, Copy, Debug, PartialEq, Eq)]
-pub enum Standing {
-    /// The live record of this number lacks an acknowledgement.
-    Pending,
-    /// The live record of this number has all acknowledgements.
-    Done,
-    /// A record had this number, and is no longer live: it failed, or was dropped.
-    Ended,
-    /// No record has had the number so far: it is the next record's, or above it.
-    NotYet,
-    /// No record has had the number, and none will: it is below the first one that the coordinator
-    /// was opened with.
-    Never,
-}
 
 impl Core {
     /// The first live record whose number is at least this one, or `None` if there is none. Makes a

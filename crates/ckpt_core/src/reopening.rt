@@ -4,18 +4,18 @@ ghost use Rattle.std.specs.Prelude.{◌≡◌, ◌≢◌, ◌<◌, ◌≤◌, �
 ghost use Rattle.ckpt_ids.specs.declared.limits.TheConstants.{MOMENTS_END, NUMBERS_END};
 ghost use Rattle.ckpt_ids.specs.Ordered.{AreDistinct, IsIn};
 ghost use Rattle.ckpt_ids.specs.Records.{Record, is_present};
-ghost use Rattle.ckpt_core.specs.declared.mode.Mode.TheVariants.{Running};
-ghost use Rattle.ckpt_core.specs.Images.{CanHold, HasSoundMoments, HasSoundNumbers, state_in};
+ghost use Rattle.ckpt_model.specs.declared.mode.Mode.TheVariants.{Running};
+ghost use Rattle.ckpt_model.specs.Images.{CanHold, HasSoundMoments, HasSoundNumbers, state_in};
 ghost use Rattle.ckpt_core.specs.Inside.Loading.{AreFilesApart, HasBase, MayWait, emptied, with_more_waiting};
 ghost use Rattle.ckpt_core.specs.Inside.Parts.{AreSound, AreTied, records_in, state_of};
 
-use crate::image::{Image, ImageFault};
-use crate::mode::Mode;
+use crate::image::ImageFault;
 use crate::parts::{Opened, Parts};
 use crate::pending_records::PendingRecords;
 use crate::recall::recall_limits;
 use ckpt_hash::Secret;
 use ckpt_ids::{CheckpointId, FileId, Files, Handed, LONGEST_DURATION, MOMENTS_END, NUMBERS_END};
+use ckpt_model::{Image, Mode};
 use ckpt_outbox::Outbox;
 use ckpt_registry::Registry;
 use ckpt_rules::{Clock, Failures};

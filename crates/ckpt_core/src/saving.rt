@@ -3,14 +3,13 @@
 ghost use Rattle.std.specs.Prelude.{◌≡◌, ◌+◌, ◌<◌, ◌^◌, map, IfOk, IsSome, Some};
 ghost use Rattle.ckpt_ids.specs.Ordered.{IsIn};
 ghost use Rattle.ckpt_ids.specs.Records.{Record};
-ghost use Rattle.ckpt_core.specs.Images.{CanHold, record_in, settled, state_in};
+ghost use Rattle.ckpt_model.specs.Images.{CanHold, record_in, settled, state_in};
 ghost use Rattle.ckpt_core.specs.Inside.Parts.{AreSound, records_in, state_of};
-ghost use Rattle.ckpt_core.specs.State.{record_of};
+ghost use Rattle.ckpt_model.specs.State.{record_of};
 
-use crate::image::{Image, Saved};
 use crate::parts::Parts;
-use crate::queries::Live;
 use ckpt_ids::{CheckpointId, Files};
+use ckpt_model::{Image, Live, Saved};
 use std::alloc::AllocError;
 
 /// The number after that of a record.

@@ -3,16 +3,16 @@ ghost use Rattle.std.specs.Prelude.{◌≡◌, ℕ, ◌<◌, ◌^◌, ◌≤◌,
 ghost use Rattle.ckpt_ids.specs.declared.call.Call.TheVariants as call;
 ghost use Rattle.ckpt_ids.specs.declared.reply.Answer.TheVariants as answer;
 ghost use Rattle.ckpt_ids.specs.declared.reply.Reply.TheVariants as reply;
-ghost use Rattle.ckpt_core.specs.declared.coordinator.CoreFault.TheVariants.{Memory};
-ghost use Rattle.ckpt_core.specs.declared.mode.Mode.TheVariants.{Running};
-ghost use Rattle.ckpt_core.specs.Coordinator.{IsSound, answer_wants, may_want_memory};
+ghost use Rattle.ckpt_model.specs.declared.faults.CoreFault.TheVariants.{Memory};
+ghost use Rattle.ckpt_model.specs.declared.mode.Mode.TheVariants.{Running};
+ghost use Rattle.ckpt_model.specs.Coordinator.{IsSound, answer_wants, may_want_memory};
 ghost use Rattle.ckpt_core.specs.Inside.Expiring.{IsExpiry};
 ghost use Rattle.ckpt_core.specs.Inside.Parts.{Answers, AreSound, AreTied, IsAccepted, Stays, records_in, state_of};
 ghost use Rattle.ckpt_core.specs.Inside.Starting.{Go, HasNoUse, IsIn, IsInOrder, NUMBERS_END, Pin, Starts, count, files_chosen, held_at, pinned, tick, triggered, use_before};
 
-use crate::coordinator::CoreFault;
 use crate::parts::Parts;
 use ckpt_ids::{CheckpointId, Choice, Kind, Reply, Shape, TickEnd};
+use ckpt_model::CoreFault;
 use ckpt_pending::Pending;
 use ckpt_rules::{Failures, Hold};
 use std::alloc::AllocError;

@@ -8,12 +8,12 @@ use Rattle.ckpt_ids.specs.declared.reply.Refusal.{Refusal as Why}
 use Rattle.ckpt_ids.specs.declared.reply.Answer as ids
 use Rattle.ckpt_ids.specs.declared.reply.Answer.TheVariants.{Done, Refused as Refused-answer}
 use Rattle.ckpt_ids.specs.declared.call.Call.TheVariants as call
-use Rattle.ckpt_core.specs.declared.coordinator.CoreFault.{CoreFault}
-use Rattle.ckpt_core.specs.declared.coordinator.CoreFault.TheVariants.{Refused, Memory}
-use Rattle.ckpt_core.specs.Refusals.{refusal}
-use Rattle.ckpt_core.specs.State.{State}
-use Rattle.ckpt_core.specs.Steps.{step, effect, take_files, Stepped, unless_refused}
-use Rattle.ckpt_core.proofs.Answering.StepCases.{step_refused}
+use Rattle.ckpt_model.specs.declared.faults.CoreFault.{CoreFault}
+use Rattle.ckpt_model.specs.declared.faults.CoreFault.TheVariants.{Refused, Memory}
+use Rattle.ckpt_model.specs.Refusals.{refusal}
+use Rattle.ckpt_model.specs.State.{State}
+use Rattle.ckpt_model.specs.Steps.{step, effect, take_files, Stepped, unless_refused}
+use Rattle.ckpt_model.proofs.Answering.StepCases.{step_refused}
 use Rattle.ckpt_embed.specs.Buffers.{files_in, StandsInFront}
 use Rattle.ckpt_embed.specs.Told.{fault_told, refusal_told, told, no_memory}
 use Rattle.ckpt_embed.specs.declared.answer.Answer.{Answer}

@@ -1,7 +1,7 @@
 -- Each line of an opening is no longer than the three together.
 use Rattle.std.proofs.Common.{◌≡◌, ℕ, ◌+◌, ◌≤◌, List, ◌++◌, length, ap, ◌∙◌, subst, arith}
 use Rattle.std.proofs.lemmas.List.{length-append}
-use Rattle.ckpt_core.specs.State.{Opening}
+use Rattle.ckpt_model.specs.State.{Opening}
 use Rattle.ckpt_call_lines.specs.CallTexts.{config_text, job_text, start_text}
 use Rattle.ckpt_embed.specs.Writing.{newline, opening_text}
 

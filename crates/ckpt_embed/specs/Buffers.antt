@@ -5,8 +5,8 @@ use Rattle.ckpt_ids.specs.declared.reply.Reply.{Reply}
 use Rattle.ckpt_ids.specs.declared.reply.Reply.TheVariants.{Taken, Shown}
 use Rattle.ckpt_ids.specs.declared.reply.Answer as ids
 use Rattle.ckpt_ids.specs.declared.reply.Answer.TheVariants.{Done, Refused}
-use Rattle.ckpt_core.specs.State.{State}
-use Rattle.ckpt_core.specs.Steps.{step}
+use Rattle.ckpt_model.specs.State.{State}
+use Rattle.ckpt_model.specs.Steps.{step}
 use Rattle.ckpt_texts.specs.MetadataTexts.{metadata_bytes}
 use Rattle.ckpt_embed.specs.declared.answer.Answer.{Answer}
 use Rattle.ckpt_embed.specs.Told.{reply_told, refusal_told, done, no_memory, too_short}

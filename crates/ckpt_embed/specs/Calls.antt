@@ -7,9 +7,9 @@ use Rattle.ckpt_ids.specs.declared.call.Target.{Target}
 use Rattle.ckpt_ids.specs.declared.call.Target.TheVariants.{Latest, Savepoint}
 use Rattle.ckpt_ids.specs.Ascending.{ascending}
 use Rattle.ckpt_ids.specs.Shapes.{is_shape}
-use Rattle.ckpt_core.specs.Memory.{may_want_memory}
-use Rattle.ckpt_core.specs.State.{State}
-use Rattle.ckpt_core.specs.Steps.{step}
+use Rattle.ckpt_model.specs.Memory.{may_want_memory}
+use Rattle.ckpt_model.specs.State.{State}
+use Rattle.ckpt_model.specs.Steps.{step}
 use Rattle.ckpt_embed.specs.declared.answer.Answer.{Answer}
 use Rattle.ckpt_embed.specs.Told.{told, is_closed, bad_argument, no_memory, out_of_memory}
 

@@ -1,8 +1,8 @@
 -- The text that is saved for a handle's coordinator, and the state in which a handle is opened with it.
 use Rattle.std.specs.Prelude.{◌≡◌, ◌≢◌, ℕ, nat_lt, if◌then◌else◌, List, length, Option, Some, None}
 use Rattle.core.specs.Str.{IsUtf8}
-use Rattle.ckpt_core.specs.Images.{CanHold, settled}
-use Rattle.ckpt_core.specs.State.{State}
+use Rattle.ckpt_model.specs.Images.{CanHold, settled}
+use Rattle.ckpt_model.specs.State.{State}
 use Rattle.ckpt_image.specs.Images.{image_read}
 use Rattle.ckpt_image.specs.Written.{image_bytes}
 use Rattle.ckpt_embed.specs.declared.answer.Answer.{Answer}

@@ -4,9 +4,9 @@ use Rattle.std.specs.Int.{from_bool}
 use Rattle.ckpt_ids.specs.declared.call.Call.{Call}
 use Rattle.ckpt_ids.specs.declared.call.Call.TheVariants as call
 use Rattle.ckpt_ids.specs.declared.shape.ShapeFault.{ShapeFault}
-use Rattle.ckpt_core.specs.Memory as core
-use Rattle.ckpt_core.specs.State.{State}
-use Rattle.ckpt_core.specs.Steps.{step, Stepped}
+use Rattle.ckpt_model.specs.Memory as core
+use Rattle.ckpt_model.specs.State.{State}
+use Rattle.ckpt_model.specs.Steps.{step, Stepped}
 use Rattle.ckpt_lines.specs.declared.fault.LineFault.{LineFault}
 use Rattle.ckpt_lines.specs.declared.fault.LineFault.TheVariants as fault
 use Rattle.ckpt_lines.specs.declared.line.Line.{Line}

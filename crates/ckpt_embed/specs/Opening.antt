@@ -2,10 +2,10 @@
 use Rattle.std.specs.Prelude.{◌≡◌, ◌≢◌, ℕ, true, not, if◌then◌else◌, List, Option, Some, None}
 use Rattle.ckpt_ids.specs.Configuration.{Configuration, configured, is_within_limits}
 use Rattle.ckpt_ids.specs.Shapes.{is_shape}
-use Rattle.ckpt_core.specs.declared.coordinator.OpenFault.{OpenFault}
-use Rattle.ckpt_core.specs.declared.coordinator.OpenFault.TheVariants.{MomentTooLarge, BadFirst}
-use Rattle.ckpt_core.specs.Opening.{open_fault}
-use Rattle.ckpt_core.specs.State.{State, Opening, opened}
+use Rattle.ckpt_model.specs.declared.faults.OpenFault.{OpenFault}
+use Rattle.ckpt_model.specs.declared.faults.OpenFault.TheVariants.{MomentTooLarge, BadFirst}
+use Rattle.ckpt_model.specs.Opening.{open_fault}
+use Rattle.ckpt_model.specs.State.{State, Opening, opened}
 use Rattle.ckpt_embed.specs.declared.answer.Answer.{Answer}
 use Rattle.ckpt_embed.specs.declared.opening.Settings.{Settings}
 use Rattle.ckpt_embed.specs.Told.{bad_config, bad_shape, bad_moment, bad_first, bad_argument, already_open, done, no_memory}

@@ -6,11 +6,11 @@ use Rattle.ckpt_ids.specs.declared.numbers.Kind.TheVariants as kind
 use Rattle.ckpt_ids.specs.declared.reply.Choice.{Choice}
 use Rattle.ckpt_ids.specs.declared.reply.Choice.TheVariants as choice
 use Rattle.ckpt_ids.specs.Records.{uses}
-use Rattle.ckpt_core.specs.declared.mode.Mode.{Mode}
-use Rattle.ckpt_core.specs.declared.mode.Mode.TheVariants.{Running, Failed, Cancelled}
-use Rattle.ckpt_core.specs.declared.queries.Live.{Live}
-use Rattle.ckpt_core.specs.Inside.Parts.{present_in}
-use Rattle.ckpt_core.specs.State.{State}
+use Rattle.ckpt_model.specs.declared.mode.Mode.{Mode}
+use Rattle.ckpt_model.specs.declared.mode.Mode.TheVariants.{Running, Failed, Cancelled}
+use Rattle.ckpt_model.specs.declared.reads.Live.{Live}
+use Rattle.ckpt_model.specs.Reads.{present_in}
+use Rattle.ckpt_model.specs.State.{State}
 use Rattle.ckpt_embed.specs.declared.answer.Answer.{Answer}
 use Rattle.ckpt_embed.specs.declared.reads.FileCounts.{FileCounts}
 use Rattle.ckpt_embed.specs.Told.{done}

@@ -3,9 +3,9 @@ use Rattle.std.specs.Prelude.{◌≡◌, ◌≢◌, ℕ, nat_lt, if◌then◌els
 use Rattle.std.specs.Option.{option_and_then}
 use Rattle.ckpt_ids.specs.declared.subtask.SubtaskId.{SubtaskId}
 use Rattle.ckpt_pending.specs.Acknowledging.{files_from}
-use Rattle.ckpt_core.specs.declared.recovery.Standing.{Standing}
-use Rattle.ckpt_core.specs.declared.recovery.Standing.TheVariants as stands
-use Rattle.ckpt_core.specs.State.{State, record_of}
+use Rattle.ckpt_model.specs.declared.reads.Standing.{Standing}
+use Rattle.ckpt_model.specs.declared.reads.Standing.TheVariants as stands
+use Rattle.ckpt_model.specs.State.{State, record_of}
 use Rattle.ckpt_embed.specs.declared.answer.Answer.{Answer}
 use Rattle.ckpt_embed.specs.Buffers.{StandsInFront}
 use Rattle.ckpt_embed.specs.Told.{done, no_memory, too_short}

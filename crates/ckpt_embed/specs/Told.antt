@@ -10,8 +10,8 @@ use Rattle.ckpt_ids.specs.declared.reply.Refusal.{Refusal}
 use Rattle.ckpt_ids.specs.declared.reply.Refusal.TheVariants as refusal
 use Rattle.ckpt_ids.specs.declared.reply.Answer as ids
 use Rattle.ckpt_ids.specs.declared.reply.Answer.TheVariants.{Done, Refused}
-use Rattle.ckpt_core.specs.declared.coordinator.CoreFault.{CoreFault}
-use Rattle.ckpt_core.specs.declared.coordinator.CoreFault.TheVariants as fault
+use Rattle.ckpt_model.specs.declared.faults.CoreFault.{CoreFault}
+use Rattle.ckpt_model.specs.declared.faults.CoreFault.TheVariants as fault
 use Rattle.ckpt_embed.specs.declared.answer.Answer.{Answer}
 
 -- the codes

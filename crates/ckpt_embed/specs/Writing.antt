@@ -3,7 +3,7 @@ use Rattle.std.specs.Prelude.{◌≡◌, ℕ, nat_lt, if◌then◌else◌, List,
 use Rattle.ckpt_ids.specs.declared.call.Call.{Call}
 use Rattle.ckpt_ids.specs.declared.call.Call.TheVariants as call
 use Rattle.ckpt_ids.specs.declared.subtask.SubtaskId.{SubtaskId}
-use Rattle.ckpt_core.specs.State.{Opening}
+use Rattle.ckpt_model.specs.State.{Opening}
 use Rattle.ckpt_lines.specs.declared.limits.TheConstants.{LONGEST_LINE}
 use Rattle.ckpt_lines.specs.declared.line.Line.TheVariants as line
 use Rattle.ckpt_lines.specs.Meanings.{is_new_shape}

@@ -2,7 +2,7 @@
 
 ghost use Rattle.std.specs.Prelude.{◌≡◌, ◌≢◌, ◌↔◌, true, [], None, Some, Err, IfOk};
 ghost use Rattle.ckpt_ids.specs.Ascending.{ascending};
-ghost use Rattle.ckpt_core.specs.Memory.{may_want_memory};
+ghost use Rattle.ckpt_model.specs.Memory.{may_want_memory};
 ghost use Rattle.ckpt_embed.specs.Calls.{HasNoNumbers, IsAnswered, IsBadShape, IsRefusedAs, IsStepTold, StaysAsItWas, StaysClosed, WantsMemory, ack_of, restore_of, takes_no_memory, target_of};
 ghost use Rattle.ckpt_embed.specs.Told.{bad_shape, fault_told, no_memory};
 

@@ -4,7 +4,7 @@ ghost use Rattle.std.specs.Prelude.{◌≡◌, Option, None, Some};
 ghost use Rattle.std.specs.Option.{option_map};
 ghost use Rattle.ckpt_embed.specs.Kept.{kept};
 ghost use Rattle.ckpt_core.specs.contracts.coordinator.Core.{the_row};
-ghost use Rattle.ckpt_core.specs.State.{State};
+ghost use Rattle.ckpt_model.specs.State.{State};
 
 use ckpt_core::Core;
 use ckpt_raw_box::RawBox;

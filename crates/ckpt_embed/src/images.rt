@@ -2,8 +2,8 @@
 
 ghost use Rattle.std.specs.Prelude.{◌≡◌, ◌≢◌, Some, IfOk, IfErr, length, string_bytes};
 ghost use Rattle.core.specs.Str.{IsUtf8};
-ghost use Rattle.ckpt_core.specs.Images.{settled, state_in};
-ghost use Rattle.ckpt_core.specs.State.{State};
+ghost use Rattle.ckpt_model.specs.Images.{settled, state_in};
+ghost use Rattle.ckpt_model.specs.State.{State};
 ghost use Rattle.ckpt_image.specs.Images.{image_read};
 ghost use Rattle.ckpt_image.specs.Written.{image_bytes};
 ghost use Rattle.ckpt_embed.specs.Buffers.{StandsInFront};

@@ -2,9 +2,9 @@
 
 ghost use Rattle.std.specs.Prelude.{◌≡◌, ◌≢◌, ◌||◌, true, length, Ok, Err, Some, IfOk, IfErr};
 ghost use Rattle.ckpt_ids.specs.declared.call.Call.TheVariants as call;
-ghost use Rattle.ckpt_core.specs.Memory.{may_want_memory};
-ghost use Rattle.ckpt_core.specs.State.{State};
-ghost use Rattle.ckpt_core.specs.Steps.{step};
+ghost use Rattle.ckpt_model.specs.Memory.{may_want_memory};
+ghost use Rattle.ckpt_model.specs.State.{State};
+ghost use Rattle.ckpt_model.specs.Steps.{step};
 ghost use Rattle.ckpt_lines.specs.Reading as lines;
 ghost use Rattle.ckpt_embed.specs.Buffers.{StandsInFront};
 ghost use Rattle.ckpt_embed.specs.Calls.{HasNoNumbers, StaysAsItWas, StaysClosed};

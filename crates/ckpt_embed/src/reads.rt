@@ -2,8 +2,8 @@
 
 ghost use Rattle.std.specs.Prelude.{◌≡◌, None, Some, option_map, slice_get};
 ghost use Rattle.ckpt_ids.specs.Records.{missing};
-ghost use Rattle.ckpt_core.specs.Coordinator.{IsSound, State, choice_of, pending_of};
-ghost use Rattle.ckpt_core.specs.Reads.{IsNextExpiry, NoneIsEarlyFrom, NoneTriggersBefore, live_of, next_due};
+ghost use Rattle.ckpt_model.specs.Coordinator.{IsSound, State, choice_of, pending_of};
+ghost use Rattle.ckpt_model.specs.Reads.{IsNextExpiry, NoneIsEarlyFrom, NoneTriggersBefore, live_of, next_due};
 ghost use Rattle.ckpt_embed.specs.Calls.{StaysClosed};
 ghost use Rattle.ckpt_embed.specs.Reads.{choice_told, counts_of, due_told, expiry_in, expiry_told, live_told, missing_told, mode_told, moment_told, no_counts};
 

@@ -3,9 +3,9 @@
 
 ghost use Rattle.std.specs.Prelude.{◌≡◌, ◌≢◌, Some, IfOk, IsErr, IsSome, find, length, nat_le, option_map, slice_get};
 ghost use Rattle.ckpt_ids.specs.Ascending.{ascending};
-ghost use Rattle.ckpt_core.specs.Coordinator.{pending_of};
-ghost use Rattle.ckpt_core.specs.Reads.{live_of, pins_in, standing};
-ghost use Rattle.ckpt_core.specs.State.{State};
+ghost use Rattle.ckpt_model.specs.Coordinator.{pending_of};
+ghost use Rattle.ckpt_model.specs.Reads.{live_of, pins_in, standing};
+ghost use Rattle.ckpt_model.specs.State.{State};
 ghost use Rattle.ckpt_embed.specs.Calls.{HasNoNumbers, StaysClosed};
 ghost use Rattle.ckpt_embed.specs.Reads.{live_told};
 ghost use Rattle.ckpt_embed.specs.Recovery.{BringsList, IsListTold, acked_in, acked_told, files_acked, list_told, standing_told, waiting_told};

@@ -4,7 +4,7 @@ use Rattle.std.specs.Prelude.{max}
 use Rattle.ckpt_ids.specs.declared.ack.Acked.{Acked}
 use Rattle.ckpt_ids.specs.Configuration.{Configuration}
 use Rattle.ckpt_ids.specs.Records.{Record}
-use Rattle.ckpt_core.specs.State.{Opening, State}
+use Rattle.ckpt_model.specs.State.{Opening, State}
 use Rattle.ckpt_texts.proofs.NoFloats.{no_floats, numbers}
 use Rattle.ckpt_texts.specs.MetadataTexts.{natural}
 use Rattle.serde_json.specs.Data.{Data, null, boolean, number, string, array, object, Members, member, no_members, depth, items_depth, members_depth}

@@ -15,9 +15,9 @@ use Rattle.ckpt_ids.specs.Ordered.{IsIn}
 use Rattle.ckpt_ids.specs.Records.{Record}
 use Rattle.ckpt_ids.specs.Shapes.{IsShape, is_shape}
 use Rattle.ckpt_ids.proofs.AscendingLemmas.{ascending_already}
-use Rattle.ckpt_core.specs.declared.mode.Mode.{Mode}
-use Rattle.ckpt_core.specs.declared.mode.Mode.TheVariants.{Running, Failed, Cancelled}
-use Rattle.ckpt_core.specs.State.{Opening, State}
+use Rattle.ckpt_model.specs.declared.mode.Mode.{Mode}
+use Rattle.ckpt_model.specs.declared.mode.Mode.TheVariants.{Running, Failed, Cancelled}
+use Rattle.ckpt_model.specs.State.{Opening, State}
 use Rattle.ckpt_texts.specs.MetadataTexts.{kind_name, list, natural, state_name}
 use Rattle.serde_json.specs.Data.{Data, string}
 use Rattle.serde_json.specs.View.{items_of}

@@ -7,7 +7,7 @@ use Rattle.ckpt_ids.specs.Configuration.{IsWithinLimits}
 use Rattle.ckpt_ids.specs.Ordered.{IsIn}
 use Rattle.ckpt_ids.specs.Records.{Record}
 use Rattle.ckpt_ids.specs.Shapes.{IsShape}
-use Rattle.ckpt_core.specs.State.{State}
+use Rattle.ckpt_model.specs.State.{State}
 
 pub record AckFits (a : Acked) : Type 0 where
   pub vertex : a.subtask.vertex < 2 ^ 16

@@ -1,6 +1,6 @@
 -- What a text is read as: JSON first, then an image of this version. `Reads` ties a function to what is read.
 use Rattle.std.specs.Prelude.{◌≡◌, ◌≢◌, ℕ, ◌^◌, List, codes, Option, Some, None, option_and_then, Result, Ok, Err}
-use Rattle.ckpt_core.specs.State.{State}
+use Rattle.ckpt_model.specs.State.{State}
 use Rattle.ckpt_image.specs.declared.fault.TextFault.{TextFault}
 use Rattle.ckpt_image.specs.declared.fault.TextFault.TheVariants.{Memory, NotJson}
 use Rattle.ckpt_image.specs.Members.{clock_of, list_of, mode_of, number_below, number_of, opening_of, optional_of, outbox_of, saved_of, shape_of, version_of, with_key}

@@ -9,9 +9,9 @@ use Rattle.ckpt_ids.specs.Ascending.{ascending}
 use Rattle.ckpt_ids.specs.Configuration.{Configuration, configured, is_within_limits}
 use Rattle.ckpt_ids.specs.Records.{Record}
 use Rattle.ckpt_ids.specs.Shapes.{is_shape}
-use Rattle.ckpt_core.specs.declared.mode.Mode.{Mode}
-use Rattle.ckpt_core.specs.declared.mode.Mode.TheVariants.{Running, Failed, Cancelled}
-use Rattle.ckpt_core.specs.State.{Opening}
+use Rattle.ckpt_model.specs.declared.mode.Mode.{Mode}
+use Rattle.ckpt_model.specs.declared.mode.Mode.TheVariants.{Running, Failed, Cancelled}
+use Rattle.ckpt_model.specs.State.{Opening}
 use Rattle.ckpt_image.specs.declared.members.Moments.{Moments}
 use Rattle.ckpt_image.specs.declared.members.Opened.{Opened}
 use Rattle.ckpt_image.specs.declared.members.Outbox.{Outbox}

@@ -1,7 +1,7 @@
 //! A law about the texts of images, as the contract of a function that does nothing.
 
 ghost use Rattle.std.specs.Prelude.{◌≡◌, Some};
-ghost use Rattle.ckpt_core.specs.State.{State};
+ghost use Rattle.ckpt_model.specs.State.{State};
 ghost use Rattle.ckpt_image.specs.Fits.{Fits};
 ghost use Rattle.ckpt_image.specs.Images.{image_of};
 ghost use Rattle.ckpt_image.specs.Written.{image_data};

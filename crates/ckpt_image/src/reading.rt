@@ -1,7 +1,7 @@
 //! Reads the text of an image.
 
 ghost use Rattle.std.specs.Prelude.{◌≡◌, ◌≢◌, Some, None, Err, IfOk, IfErr, option_and_then};
-ghost use Rattle.ckpt_core.specs.Images.{state_in};
+ghost use Rattle.ckpt_model.specs.Images.{state_in};
 ghost use Rattle.ckpt_image.specs.Images.{Reads, image_of, image_read};
 ghost use Rattle.ckpt_image.specs.Members.{clock_of, opening_in, opening_of, outbox_of};
 ghost use Rattle.serde_json.specs.Data.{Data};

@@ -2,7 +2,7 @@
 
 ghost use Rattle.std.specs.Prelude.{◌≡◌, IsTrue, map, option_and_then};
 ghost use Rattle.ckpt_ids.specs.Acknowledged.{AreInSubtaskOrder, is_before};
-ghost use Rattle.ckpt_core.specs.Images.{record_in};
+ghost use Rattle.ckpt_model.specs.Images.{record_in};
 ghost use Rattle.ckpt_image.specs.Images.{Reads};
 ghost use Rattle.ckpt_image.specs.Members.{ack_of, acks_of, are_in_subtask_order, list_of, saved_of};
 ghost use Rattle.serde_json.specs.Find.{get};

@@ -8,7 +8,7 @@ ghost use Rattle.ckpt_ids.specs.Configuration.{IsWithinLimits};
 ghost use Rattle.ckpt_ids.specs.Ordered.{IsIn};
 ghost use Rattle.ckpt_ids.specs.Records.{Record};
 ghost use Rattle.ckpt_ids.specs.Shapes.{IsShape};
-ghost use Rattle.ckpt_core.specs.Images.{record_in, state_in};
+ghost use Rattle.ckpt_model.specs.Images.{record_in, state_in};
 ghost use Rattle.ckpt_texts.specs.MetadataTexts.{list, members, natural};
 ghost use Rattle.serde_json.specs.Data.{no_members};
 ghost use Rattle.serde_json.specs.View.{members_view, view};

@@ -10,8 +10,8 @@ use Rattle.ckpt_ids.specs.Ordered.{IsIn, ComesBefore, in_order}
 use Rattle.ckpt_ids.specs.Shapes.{is_subtask, same_subtask}
 use Rattle.ckpt_ids.proofs.OrderLemmas.{same_subtask-Decides, subtasks_in_order}
 use Rattle.ckpt_ids.proofs.OrderedLemmas.{ComesBefore-at, IsIn-in_order}
-use Rattle.ckpt_core.specs.Laws.{Acknowledgements}
-use Rattle.ckpt_core.specs.Soundness.{IsSound}
+use Rattle.ckpt_model.specs.Laws.{Acknowledgements}
+use Rattle.ckpt_model.specs.Soundness.{IsSound}
 use Rattle.ckpt_ids.proofs.CountLemmas.{count_by-in_order, count_by_no, count_by_yes, count_by-none}
 use Rattle.ckpt_locked.specs.Books.{History, calls_of, state_of_book}
 use Rattle.ckpt_locked.specs.Promises.{ExactlyOne, accepted_in, times_of}

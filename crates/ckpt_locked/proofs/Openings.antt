@@ -2,9 +2,9 @@
 use Rattle.std.proofs.Common.{◌≡◌, ℕ, ◌<◌, ◌≤◌, ◌^◌, [], refl, arith}
 use Rattle.std.specs.Prelude.{None}
 use Rattle.std.proofs.lemmas.Bool.Decides.{nat_tests}
-use Rattle.ckpt_core.specs.Laws.{CanOpen}
-use Rattle.ckpt_core.specs.Opening.{open_fault}
-use Rattle.ckpt_core.specs.State.{Opening, opened}
+use Rattle.ckpt_model.specs.Laws.{CanOpen}
+use Rattle.ckpt_model.specs.Opening.{open_fault}
+use Rattle.ckpt_model.specs.State.{Opening, opened}
 use Rattle.ckpt_locked.specs.Books.{IsKept, state_of_book}
 
 pub record InBounds (now first : ℕ) : Type 0 where

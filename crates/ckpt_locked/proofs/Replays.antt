@@ -4,13 +4,13 @@ use Rattle.std.proofs.lemmas.List.{map-append}
 use Rattle.ckpt_ids.specs.declared.call.Call.{Call}
 use Rattle.ckpt_ids.specs.declared.call.Call.TheVariants.{Count}
 use Rattle.ckpt_ids.specs.declared.reply.Answer.{Answer}
-use Rattle.ckpt_core.specs.Histories.{replay}
-use Rattle.ckpt_core.specs.Laws.{CanOpen, AreCalls}
-use Rattle.ckpt_core.specs.Refusals.{refusal}
-use Rattle.ckpt_core.specs.Soundness.{IsCall}
-use Rattle.ckpt_core.specs.State.{State, Opening, opened}
-use Rattle.ckpt_core.specs.Steps.{effect, step}
-use Rattle.ckpt_core.proofs.Stepping.Walk.{step_is}
+use Rattle.ckpt_model.specs.Histories.{replay}
+use Rattle.ckpt_model.specs.Laws.{CanOpen, AreCalls}
+use Rattle.ckpt_model.specs.Refusals.{refusal}
+use Rattle.ckpt_model.specs.Soundness.{IsCall}
+use Rattle.ckpt_model.specs.State.{State, Opening, opened}
+use Rattle.ckpt_model.specs.Steps.{effect, step}
+use Rattle.ckpt_model.proofs.Stepping.Walk.{step_is}
 use Rattle.ckpt_locked.specs.declared.book.Entry.{Entry}
 use Rattle.ckpt_locked.specs.Books.{History, IsKept, calls_of, counted, history_of, state_of_book, answer_to, entered}
 

@@ -5,10 +5,10 @@ use Rattle.ckpt_ids.specs.declared.reply.Answer.{Answer}
 use Rattle.ckpt_ids.specs.declared.reply.Answer.TheVariants.{Done}
 use Rattle.ckpt_ids.specs.declared.reply.Reply.TheVariants.{Counted}
 use Rattle.ckpt_ids.specs.Records.{count, uses}
-use Rattle.ckpt_core.specs.State.{State, Opening, opened}
-use Rattle.ckpt_core.specs.Steps.{step}
-use Rattle.ckpt_core.specs.Histories.{replay}
-use Rattle.ckpt_core.specs.Laws.{CanOpen, AreCalls}
+use Rattle.ckpt_model.specs.State.{State, Opening, opened}
+use Rattle.ckpt_model.specs.Steps.{step}
+use Rattle.ckpt_model.specs.Histories.{replay}
+use Rattle.ckpt_model.specs.Laws.{CanOpen, AreCalls}
 use Rattle.ckpt_recent.specs.Lists.{all}
 use Rattle.ckpt_locked.specs.declared.book.Entry.{Entry}
 

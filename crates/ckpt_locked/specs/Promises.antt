@@ -7,8 +7,8 @@ use Rattle.ckpt_ids.specs.Counting.{one_if}
 use Rattle.ckpt_ids.specs.Ordered.{IsIn}
 use Rattle.ckpt_ids.specs.Records.{Record, IsFull}
 use Rattle.ckpt_ids.specs.Shapes.{is_subtask, same_subtask}
-use Rattle.ckpt_core.specs.State.{State, opened}
-use Rattle.ckpt_core.specs.Laws.{along, accepted_by, Pinned, Savepoints, UsedNoMore}
+use Rattle.ckpt_model.specs.State.{State, opened}
+use Rattle.ckpt_model.specs.Laws.{along, accepted_by, Pinned, Savepoints, UsedNoMore}
 use Rattle.ckpt_locked.specs.Books.{History, calls_of, state_of_book}
 
 -- each done record has exactly one acknowledgement of each subtask, and no other

@@ -1,7 +1,7 @@
 //! The book: a coordinator and the log of all its calls.
 
 ghost use Rattle.std.specs.Prelude.{◌≡◌, ◌↔◌, ℕ, [], length, min, IsTrue, IfOk, IfErr, OnOk, OnErr};
-ghost use Rattle.ckpt_core.specs.Soundness.{IsSound};
+ghost use Rattle.ckpt_model.specs.Soundness.{IsSound};
 
 use ckpt_core::{Core, CoreFault, OpenFault, Secret, laws};
 use ckpt_ids::{Answer, Call, Config, Shape};
@@ -54,8 +54,8 @@ impl Book {
     ghost use Rattle.std.specs.Option.{option_copied};
     ghost use Rattle.std.specs.Result.{result_err};
     ghost use Rattle.ckpt_ids.specs.declared.call.Call.TheVariants.{Count};
-    ghost use Rattle.ckpt_core.specs.Laws.{Accounted, Acknowledgements, Balance, ChoiceIsLive, Handed, Numbers, Outbox};
-    ghost use Rattle.ckpt_core.specs.Opening.{open_fault};
+    ghost use Rattle.ckpt_model.specs.Laws.{Accounted, Acknowledgements, Balance, ChoiceIsLive, Handed, Numbers, Outbox};
+    ghost use Rattle.ckpt_model.specs.Opening.{open_fault};
     ghost use Rattle.ckpt_locked.specs.Books.{IsHistory, answer_to, calls_of, counted, entered, entry_at, newly_opened, state_of_book};
     ghost use Rattle.ckpt_locked.specs.Promises.{AreDoneFull, AreHandedForGood, ExactlyOne, PinsHold, SavepointsStay};
 

@@ -4,7 +4,7 @@ use Rattle.std.specs.List.{enumerate_from}
 use Rattle.std.proofs.lemmas.List.{take_more, length-take-le}
 use Rattle.ckpt_ids.specs.declared.call.Call.{Call}
 use Rattle.ckpt_ids.specs.declared.subtask.SubtaskId.{SubtaskId}
-use Rattle.ckpt_core.specs.Interleavings.{ack_with}
+use Rattle.ckpt_model.specs.Interleavings.{ack_with}
 use Rattle.ckpt_session.specs.declared.all.AllLine.{AllLine}
 use Rattle.ckpt_session.specs.AllLines.{acks_for}
 

@@ -6,12 +6,12 @@ use Rattle.ckpt_ids.specs.declared.limits.TheConstants.{MOMENTS_END}
 use Rattle.ckpt_ids.specs.declared.call.Call.{Call}
 use Rattle.ckpt_ids.specs.declared.reply.Answer.{Answer}
 use Rattle.ckpt_ids.specs.Configuration.{Configuration}
-use Rattle.ckpt_core.specs.declared.coordinator.OpenFault.{OpenFault}
-use Rattle.ckpt_core.specs.declared.coordinator.OpenFault.TheVariants as fault
-use Rattle.ckpt_core.specs.State.{State, Opening, opened}
-use Rattle.ckpt_core.specs.Steps.{step}
-use Rattle.ckpt_core.specs.Histories.{replay}
-use Rattle.ckpt_core.proofs.Histories.Replays.{replay-append}
+use Rattle.ckpt_model.specs.declared.faults.OpenFault.{OpenFault}
+use Rattle.ckpt_model.specs.declared.faults.OpenFault.TheVariants as fault
+use Rattle.ckpt_model.specs.State.{State, Opening, opened}
+use Rattle.ckpt_model.specs.Steps.{step}
+use Rattle.ckpt_model.specs.Histories.{replay}
+use Rattle.ckpt_model.proofs.Histories.Replays.{replay-append}
 use Rattle.ckpt_locked.specs.declared.book.Entry.{Entry}
 use Rattle.ckpt_locked.specs.Books.{History, calls_of, newly_opened, entered, answer_to, state_of_book}
 use Rattle.ckpt_session.specs.declared.outcome.Outcome.TheVariants.{Silent, Answered}

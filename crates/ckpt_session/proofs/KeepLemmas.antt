@@ -7,7 +7,7 @@ use Rattle.ckpt_ids.specs.declared.call.Call.{Call}
 use Rattle.ckpt_ids.specs.declared.shape.ShapeFault.{ShapeFault}
 use Rattle.ckpt_ids.specs.Configuration.{Configuration}
 use Rattle.ckpt_ids.specs.Shapes.{is_shape}
-use Rattle.ckpt_core.specs.State.{State}
+use Rattle.ckpt_model.specs.State.{State}
 use Rattle.ckpt_lines.specs.declared.meaning.Meaning.{Meaning}
 use Rattle.ckpt_lines.specs.declared.meaning.Meaning.TheVariants as meaning
 use Rattle.ckpt_session.specs.declared.all.AllLine.{AllLine}

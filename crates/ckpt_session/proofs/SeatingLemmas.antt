@@ -6,7 +6,7 @@ use Rattle.ckpt_ids.specs.declared.call.Call.{Call}
 use Rattle.ckpt_ids.specs.declared.call.Call.TheVariants.{Show}
 use Rattle.ckpt_locked.specs.declared.book.Entry.{Entry}
 use Rattle.ckpt_locked.specs.declared.limits.TheConstants.{MOST_SEATS}
-use Rattle.ckpt_core.specs.State.{State}
+use Rattle.ckpt_model.specs.State.{State}
 use Rattle.ckpt_locked.specs.Books.{History, entered}
 use Rattle.ckpt_locked.specs.Seats.{SeatsBelow}
 use Rattle.ckpt_lines.specs.declared.fault.LineFault.{LineFault}

@@ -6,13 +6,13 @@ use Rattle.std.proofs.lemmas.Bool.{cases_Bool, and_parts, eqb-true, both_ways, n
 use Rattle.ckpt_ids.specs.declared.call.Call.TheVariants.{Show}
 use Rattle.ckpt_ids.specs.Ordered.{IsIn}
 use Rattle.ckpt_ids.specs.Records.{Record, metadata_of}
-use Rattle.ckpt_core.specs.State.{State, is_pending, record_of}
-use Rattle.ckpt_core.specs.Refusals.{refusal, pending_of}
-use Rattle.ckpt_core.specs.Soundness.{IsSound}
-use Rattle.ckpt_core.specs.Steps.{Stepped, step, effect, show}
-use Rattle.ckpt_core.proofs.Records.Counts.{IsIn-from_find}
-use Rattle.ckpt_core.proofs.Histories.Choice.{found}
-use Rattle.ckpt_core.proofs.Reordering.MissingFiles.{pending_record}
+use Rattle.ckpt_model.specs.State.{State, is_pending, record_of}
+use Rattle.ckpt_model.specs.Refusals.{refusal, pending_of}
+use Rattle.ckpt_model.specs.Soundness.{IsSound}
+use Rattle.ckpt_model.specs.Steps.{Stepped, step, effect, show}
+use Rattle.ckpt_model.proofs.Records.Counts.{IsIn-from_find}
+use Rattle.ckpt_model.proofs.Histories.Choice.{found}
+use Rattle.ckpt_model.proofs.Reordering.MissingFiles.{pending_record}
 use Rattle.ckpt_session.specs.AllLines.{pending_metadata, shown_pending}
 
 -- a Show changes nothing

@@ -10,13 +10,13 @@ use Rattle.ckpt_ids.specs.declared.reply.Answer.{Answer}
 use Rattle.ckpt_ids.specs.declared.subtask.SubtaskId.{SubtaskId}
 use Rattle.ckpt_ids.specs.Ordered.{IsIn}
 use Rattle.ckpt_ids.specs.Records.{Record, metadata_of}
-use Rattle.ckpt_core.specs.State.{State}
-use Rattle.ckpt_core.specs.Steps.{step}
-use Rattle.ckpt_core.specs.Soundness.{IsSound}
-use Rattle.ckpt_core.specs.Refusals.{pending_of}
-use Rattle.ckpt_core.specs.Histories.{replay, answers}
-use Rattle.ckpt_core.specs.Interleavings.{of_seat}
-use Rattle.ckpt_core.proofs.Reordering.DealtCalls.{SeatsFrom, seated_answers, all_missing, ComesToTheSame, dealt_calls}
+use Rattle.ckpt_model.specs.State.{State}
+use Rattle.ckpt_model.specs.Steps.{step}
+use Rattle.ckpt_model.specs.Soundness.{IsSound}
+use Rattle.ckpt_model.specs.Refusals.{pending_of}
+use Rattle.ckpt_model.specs.Histories.{replay, answers}
+use Rattle.ckpt_model.specs.Interleavings.{of_seat}
+use Rattle.ckpt_model.proofs.Reordering.DealtCalls.{SeatsFrom, seated_answers, all_missing, ComesToTheSame, dealt_calls}
 use Rattle.ckpt_locked.specs.declared.book.Entry.{Entry}
 use Rattle.ckpt_locked.specs.Books.{History, calls_of, entered, answer_to, state_of_book}
 use Rattle.ckpt_locked.specs.Seats.{calls_by, answers_by, SeatsBelow}

@@ -9,11 +9,11 @@ use Rattle.ckpt_ids.specs.declared.reply.Reply.TheVariants.{Shown}
 use Rattle.ckpt_ids.specs.declared.reply.Answer.{Answer}
 use Rattle.ckpt_ids.specs.declared.reply.Answer.TheVariants.{Done}
 use Rattle.ckpt_ids.specs.Records.{metadata_of}
-use Rattle.ckpt_core.specs.State.{State}
-use Rattle.ckpt_core.specs.Refusals.{pending_of}
-use Rattle.ckpt_core.specs.Histories.{replay, answers}
-use Rattle.ckpt_core.specs.Interleavings.{NewFile, first_completed}
-pub use Rattle.ckpt_core.specs.Interleavings.{ack_with}
+use Rattle.ckpt_model.specs.State.{State}
+use Rattle.ckpt_model.specs.Refusals.{pending_of}
+use Rattle.ckpt_model.specs.Histories.{replay, answers}
+use Rattle.ckpt_model.specs.Interleavings.{NewFile, first_completed}
+pub use Rattle.ckpt_model.specs.Interleavings.{ack_with}
 use Rattle.ckpt_locked.specs.declared.limits.TheConstants.{MOST_SEATS}
 use Rattle.ckpt_locked.specs.Books.{state_of_book}
 use Rattle.ckpt_texts.specs.MetadataTexts.{missing, missing_subtasks}

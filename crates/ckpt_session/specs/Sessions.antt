@@ -6,8 +6,8 @@ use Rattle.ckpt_ids.specs.declared.shape.ShapeFault.{ShapeFault}
 use Rattle.ckpt_ids.specs.Configuration.{Configuration, is_within_limits}
 use Rattle.ckpt_ids.specs.Configuration as configuration
 use Rattle.ckpt_ids.specs.Shapes.{is_shape}
-use Rattle.ckpt_core.specs.State.{State, Opening, opened}
-use Rattle.ckpt_core.specs.Steps.{step}
+use Rattle.ckpt_model.specs.State.{State, Opening, opened}
+use Rattle.ckpt_model.specs.Steps.{step}
 use Rattle.ckpt_lines.specs.declared.line.Line.{Line}
 use Rattle.ckpt_lines.specs.declared.fault.LineFault.{LineFault}
 use Rattle.ckpt_lines.specs.declared.meaning.Meaning.{Meaning}

@@ -8,9 +8,9 @@ use Rattle.ckpt_ids.specs.Records.{uses, count, is_present}
 use Rattle.ckpt_ids.proofs.CountLemmas.{one_if-true, one_if-false, times-append}
 use Rattle.ckpt_ids.proofs.AscendingLemmas.{numbers_in_order}
 use Rattle.ckpt_ids.proofs.OrderedLemmas.{IsIn-append_right, IsIn-from_test, not_in-from_test, AreDistinct-from_order}
-use Rattle.ckpt_core.specs.State.{Opening, is_known, in_outbox}
-use Rattle.ckpt_core.proofs.Records.Lists.{outbox_of}
-use Rattle.ckpt_core.proofs.Histories.Balances.{times_none, times_once}
+use Rattle.ckpt_model.specs.State.{Opening, is_known, in_outbox}
+use Rattle.ckpt_model.proofs.Records.Lists.{outbox_of}
+use Rattle.ckpt_model.proofs.Histories.Balances.{times_none, times_once}
 use Rattle.ckpt_terms.specs.declared.call.FencedCall.{FencedCall}
 use Rattle.ckpt_terms.specs.Fencing.{Fenced, fenced, fenced_replay, is_unspent, is_garbage, may_be_deleted}
 use Rattle.ckpt_terms.specs.FencedLaws.{CanFence, AreFencedCalls, IsFenced, Classified, GarbageForGood, DeletionsAreSafe}

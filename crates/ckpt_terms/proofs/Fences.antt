@@ -1,7 +1,7 @@
 -- What always holds, and what stays so, over every list of calls.
 use Rattle.std.proofs.Common.{refl, ℕ, List, [], ◌∷◌, arith}
-use Rattle.ckpt_core.specs.State.{Opening}
-use Rattle.ckpt_core.proofs.Soundness.Histories.{opening_is_sound}
+use Rattle.ckpt_model.specs.State.{Opening}
+use Rattle.ckpt_model.proofs.Soundness.Histories.{opening_is_sound}
 use Rattle.ckpt_terms.specs.declared.call.FencedCall.{FencedCall}
 use Rattle.ckpt_terms.specs.Fencing.{Fenced, fenced, FencedStepped, fenced_step, fenced_replay}
 use Rattle.ckpt_terms.specs.FencedLaws.{CanFence, IsFencedCall, AreFencedCalls, IsFenced}

@@ -12,11 +12,11 @@ use Rattle.ckpt_ids.specs.Ordered.{IsIn}
 use Rattle.ckpt_ids.specs.Records.{uses, is_present}
 use Rattle.ckpt_ids.proofs.CountLemmas.{IsIn-from_times, times-from_IsIn}
 use Rattle.ckpt_ids.proofs.OrderedLemmas.{IsIn-from_filter, IsIn-from_test, test-from_IsIn}
-use Rattle.ckpt_core.specs.State.{State, is_known, in_outbox}
-use Rattle.ckpt_core.specs.Steps.{step}
-use Rattle.ckpt_core.specs.Soundness.{IsSound}
-use Rattle.ckpt_core.specs.Laws.{registered_as, registered_by, handed_by, deleted_by, new_by, is_ack_taken}
-use Rattle.ckpt_core.proofs.Histories.StepBalances.{step_settled}
+use Rattle.ckpt_model.specs.State.{State, is_known, in_outbox}
+use Rattle.ckpt_model.specs.Steps.{step}
+use Rattle.ckpt_model.specs.Soundness.{IsSound}
+use Rattle.ckpt_model.specs.Laws.{registered_as, registered_by, handed_by, deleted_by, new_by, is_ack_taken}
+use Rattle.ckpt_model.proofs.Histories.StepBalances.{step_settled}
 use Rattle.ckpt_terms.specs.Fencing.{fresh_of, is_accepted}
 
 -- a file in the outbox is known, and so is a present one

@@ -11,10 +11,10 @@ use Rattle.ckpt_ids.specs.Ascending.{ascending}
 use Rattle.ckpt_rules.specs.Trigger.{hold}
 use Rattle.ckpt_rules.specs.declared.hold.Hold.{Hold}
 use Rattle.ckpt_rules.specs.declared.hold.Hold.TheVariants.{Interval, AtOnce, Pause, Go}
-use Rattle.ckpt_core.specs.State.{State, is_checkpoint, is_expired, drop}
-use Rattle.ckpt_core.specs.Refusals.{is_cancelled, moment_of, pending_of}
-use Rattle.ckpt_core.specs.Steps.{Stepped, with_records, replaced, superseded, dropped_by, pending_checkpoints, failures_with, fails_the_job, triggered, failed_over, start_or_hold, after_expiry, tick, completed_with, acknowledged_in, ack, decline, decline_pending, dropping, dispose, restore, restarted, cancel, take_files, show, effect, at_moment, step}
-use Rattle.ckpt_core.proofs.Answering.StepCases.{step_by}
+use Rattle.ckpt_model.specs.State.{State, is_checkpoint, is_expired, drop}
+use Rattle.ckpt_model.specs.Refusals.{is_cancelled, moment_of, pending_of}
+use Rattle.ckpt_model.specs.Steps.{Stepped, with_records, replaced, superseded, dropped_by, pending_checkpoints, failures_with, fails_the_job, triggered, failed_over, start_or_hold, after_expiry, tick, completed_with, acknowledged_in, ack, decline, decline_pending, dropping, dispose, restore, restarted, cancel, take_files, show, effect, at_moment, step}
+use Rattle.ckpt_model.proofs.Answering.StepCases.{step_by}
 use Rattle.ckpt_terms.specs.Fencing.{ends_the_term, is_accepted}
 
 -- not cancelled, or as before

@@ -5,10 +5,10 @@ use Rattle.ckpt_ids.specs.declared.call.Call.{Call}
 use Rattle.ckpt_ids.specs.Ordered.{IsIn}
 use Rattle.ckpt_ids.specs.Records.{uses, count}
 use Rattle.ckpt_ids.proofs.OrderedLemmas.{IsIn-append_cases}
-use Rattle.ckpt_core.specs.State.{State, Opening, opened}
-use Rattle.ckpt_core.specs.Histories.{replay}
-use Rattle.ckpt_core.specs.Laws.{AreCalls, NoneAgain, along, handed_by, registered_by, deleted_by}
-use Rattle.ckpt_core.proofs.Histories.Balance.{handed}
+use Rattle.ckpt_model.specs.State.{State, Opening, opened}
+use Rattle.ckpt_model.specs.Histories.{replay}
+use Rattle.ckpt_model.specs.Laws.{AreCalls, NoneAgain, along, handed_by, registered_by, deleted_by}
+use Rattle.ckpt_model.proofs.Histories.Balance.{handed}
 use Rattle.ckpt_terms.specs.declared.call.FencedCall.{FencedCall}
 use Rattle.ckpt_terms.specs.declared.call.FencedCall.TheVariants.{Reserve, Forfeit, Make}
 use Rattle.ckpt_terms.specs.Fencing.{Fenced, fenced, made, passed, FencedStepped, fenced_replay, core_calls}

@@ -8,12 +8,12 @@ use Rattle.ckpt_ids.specs.Ordered.{IsIn}
 use Rattle.ckpt_ids.specs.Ascending.{IsAscendingSet}
 use Rattle.ckpt_ids.specs.Records.{uses, is_present}
 use Rattle.ckpt_ids.proofs.OrderedLemmas.{IsIn-append_cases, IsIn-from_filter, IsIn-from_test, test-from_IsIn, IsInOrder-append, IsInOrder-filter, ComesBefore-from}
-use Rattle.ckpt_core.specs.State.{is_known}
-use Rattle.ckpt_core.specs.Refusals.{is_cancelled}
-use Rattle.ckpt_core.specs.Steps.{Stepped, step}
-use Rattle.ckpt_core.specs.Laws.{registered_by}
-use Rattle.ckpt_core.proofs.Records.Counts.{fails-from_find}
-use Rattle.ckpt_core.proofs.Soundness.Calls.{step_keeps}
+use Rattle.ckpt_model.specs.State.{is_known}
+use Rattle.ckpt_model.specs.Refusals.{is_cancelled}
+use Rattle.ckpt_model.specs.Steps.{Stepped, step}
+use Rattle.ckpt_model.specs.Laws.{registered_by}
+use Rattle.ckpt_model.proofs.Records.Counts.{fails-from_find}
+use Rattle.ckpt_model.proofs.Soundness.Calls.{step_keeps}
 use Rattle.ckpt_terms.specs.declared.call.FencedCall.{FencedCall}
 use Rattle.ckpt_terms.specs.declared.call.FencedCall.TheVariants.{Reserve, Forfeit, Make}
 use Rattle.ckpt_terms.specs.declared.call.FencedRefusal.{FencedRefusal}

@@ -6,15 +6,15 @@ use Rattle.std.proofs.lemmas.Bool.{cond-true, cond-false, not_from_false, not_fr
 use Rattle.ckpt_ids.specs.declared.call.Call.{Call}
 use Rattle.ckpt_ids.proofs.OrderedLemmas.{filter-all}
 use Rattle.std.proofs.lemmas.Bool.Decides.{nat_tests}
-use Rattle.ckpt_core.specs.Opening.{open_fault}
-use Rattle.ckpt_core.specs.State.{State}
-use Rattle.ckpt_core.specs.Steps.{Stepped, step}
+use Rattle.ckpt_model.specs.Opening.{open_fault}
+use Rattle.ckpt_model.specs.State.{State}
+use Rattle.ckpt_model.specs.Steps.{Stepped, step}
 use Rattle.ckpt_terms.specs.declared.call.FencedCall.TheVariants.{Reserve, Forfeit, Make}
 use Rattle.ckpt_terms.specs.declared.call.FencedRefusal.TheVariants.{OldTerm}
 use Rattle.ckpt_terms.specs.declared.call.FencedAnswer.TheVariants as answer
 use Rattle.ckpt_terms.specs.Fencing.{Fenced, fence, fenced_step, without_all, unspent_after, after_call, fresh_of, ends_the_term}
 use Rattle.ckpt_terms.specs.FencedLaws.{IsFenced}
-use Rattle.ckpt_core.specs.Soundness.{IsCall}
+use Rattle.ckpt_model.specs.Soundness.{IsCall}
 use Rattle.ckpt_ids.specs.declared.reply.Answer.{Answer}
 use Rattle.ckpt_terms.proofs.Stepping.{fenced_off, fenced_on, reserve_keeps, forfeit_keeps, make_keeps}
 

@@ -3,8 +3,8 @@ use Rattle.std.proofs.Common.{◌≡◌, ℕ, ◌+◌, ◌<◌, ◌≤◌, true,
 use Rattle.std.specs.Prelude.{Some}
 use Rattle.std.proofs.lemmas.Bool.{cases_Bool, both_ways, and_parts, and_from, ne_eqb, not_from_false, cond-true}
 use Rattle.ckpt_ids.specs.Ordered.{IsIn}
-use Rattle.ckpt_core.specs.State.{Opening, is_known}
-use Rattle.ckpt_core.specs.Steps.{Stepped, step}
+use Rattle.ckpt_model.specs.State.{Opening, is_known}
+use Rattle.ckpt_model.specs.Steps.{Stepped, step}
 use Rattle.ckpt_terms.specs.declared.call.FencedCall.{FencedCall}
 use Rattle.ckpt_terms.specs.declared.call.FencedCall.TheVariants.{Reserve, Forfeit, Make}
 use Rattle.ckpt_terms.specs.declared.call.FencedRefusal.{FencedRefusal}

@@ -4,11 +4,11 @@ use Rattle.ckpt_ids.specs.Ascending.{IsAscendingSet}
 use Rattle.ckpt_ids.specs.Counting.{one_if, times}
 use Rattle.ckpt_ids.specs.Ordered.{IsIn}
 use Rattle.ckpt_ids.specs.Records.{uses, count, is_present}
-use Rattle.ckpt_core.specs.State.{Opening, opened, is_known}
-use Rattle.ckpt_core.specs.Refusals.{is_cancelled}
-use Rattle.ckpt_core.specs.Histories.{replay}
-use Rattle.ckpt_core.specs.Soundness.{IsSound, IsCall}
-use Rattle.ckpt_core.specs.Laws.{CanOpen, NoneAgain, along, handed_by, registered_by}
+use Rattle.ckpt_model.specs.State.{Opening, opened, is_known}
+use Rattle.ckpt_model.specs.Refusals.{is_cancelled}
+use Rattle.ckpt_model.specs.Histories.{replay}
+use Rattle.ckpt_model.specs.Soundness.{IsSound, IsCall}
+use Rattle.ckpt_model.specs.Laws.{CanOpen, NoneAgain, along, handed_by, registered_by}
 use Rattle.ckpt_terms.specs.declared.call.TheConstants.{LAST_TERM, NAMES_END}
 use Rattle.ckpt_terms.specs.declared.call.FencedCall.{FencedCall}
 use Rattle.ckpt_terms.specs.declared.call.FencedCall.TheVariants.{Reserve, Forfeit, Make}

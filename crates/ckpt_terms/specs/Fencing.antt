@@ -5,9 +5,9 @@ use Rattle.ckpt_ids.specs.declared.call.Call.{Call}
 use Rattle.ckpt_ids.specs.declared.call.Call.TheVariants.{Ack, Decline, Restore, Cancel}
 use Rattle.ckpt_ids.specs.declared.reply.Answer.{Answer}
 use Rattle.ckpt_ids.specs.declared.reply.Answer.TheVariants.{Done, Refused}
-use Rattle.ckpt_core.specs.State.{State, Opening, opened, is_known}
-use Rattle.ckpt_core.specs.Refusals.{is_cancelled}
-use Rattle.ckpt_core.specs.Steps.{Stepped, step}
+use Rattle.ckpt_model.specs.State.{State, Opening, opened, is_known}
+use Rattle.ckpt_model.specs.Refusals.{is_cancelled}
+use Rattle.ckpt_model.specs.Steps.{Stepped, step}
 use Rattle.ckpt_terms.specs.declared.call.TheConstants.{LAST_TERM, MOST_NAMES, NAMES_END}
 use Rattle.ckpt_terms.specs.declared.call.FencedCall.{FencedCall}
 use Rattle.ckpt_terms.specs.declared.call.FencedCall.TheVariants.{Reserve, Forfeit, Make}

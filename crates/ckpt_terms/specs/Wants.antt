@@ -1,6 +1,6 @@
 -- The calls that may run out of memory. All others, and each call that the layer refuses, take no memory.
 use Rattle.std.specs.Prelude.{Bool, true, is_none, nat_lt, ◌&&◌, ◌||◌, length}
-use Rattle.ckpt_core.specs.Memory.{may_want_memory}
+use Rattle.ckpt_model.specs.Memory.{may_want_memory}
 use Rattle.ckpt_terms.specs.declared.call.FencedCall.{FencedCall}
 use Rattle.ckpt_terms.specs.declared.call.FencedCall.TheVariants.{Make}
 use Rattle.ckpt_terms.specs.Fencing.{Fenced, fence, fresh_of}

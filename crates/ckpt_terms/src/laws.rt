@@ -1,7 +1,7 @@
 //! The laws of a fenced coordinator, each on a function that does nothing.
 
 ghost use Rattle.std.specs.Prelude.{ℕ, List};
-ghost use Rattle.ckpt_core.specs.State.{Opening};
+ghost use Rattle.ckpt_model.specs.State.{Opening};
 ghost use Rattle.ckpt_terms.specs.declared.call.FencedCall.{FencedCall};
 ghost use Rattle.ckpt_terms.specs.Fencing.{fenced, fenced_replay};
 ghost use Rattle.ckpt_terms.specs.FencedLaws.{CanFence, AreFencedCalls, IsFenced, Classified, GarbageForGood, DeletionsAreSafe, IssuedOnce, ZombiesAreFenced, SweepIsExact, CancelledIsSwept};

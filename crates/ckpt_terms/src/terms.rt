@@ -3,7 +3,7 @@
 ghost use Rattle.std.specs.Prelude.{◌≡◌, ◌↔◌, ◌<◌, ◌≤◌, ◌+◌, ℕ, [], IfOk, IfSome, OnErr, None, find, length, not, true, unwrap_or, ◌^◌, if◌then◌else◌};
 ghost use Rattle.std.specs.Result.{result_err};
 ghost use Rattle.ckpt_ids.specs.declared.call.Call.TheVariants as call;
-ghost use Rattle.ckpt_core.specs.Soundness.{IsCall};
+ghost use Rattle.ckpt_model.specs.Soundness.{IsCall};
 ghost use Rattle.ckpt_terms.specs.declared.call.FencedCall.TheVariants.{Reserve, Forfeit, Make};
 ghost use Rattle.ckpt_terms.specs.Fencing.{ends_the_term, fence, fenced, fenced_step, fresh_of, is_garbage, is_unspent, is_of_task, not_held, not_reserved, unspent_after};
 ghost use Rattle.ckpt_terms.specs.FencedLaws.{IsFenced, IsFencedCall};

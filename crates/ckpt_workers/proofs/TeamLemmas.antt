@@ -13,7 +13,7 @@ use Rattle.ckpt_locked.specs.Seats.{answers_by, calls_by}
 use Rattle.ckpt_locked.proofs.SeatLists.{below-push}
 use Rattle.ckpt_workers.specs.declared.team.Made.{Made}
 use Rattle.ckpt_workers.specs.Teams.{IsOneMore, IsTally, IsTeamwork, dealt_to, is_accepted}
-use Rattle.ckpt_core.specs.Interleavings.{completed_by, first_completed}
+use Rattle.ckpt_model.specs.Interleavings.{completed_by, first_completed}
 use Rattle.ckpt_workers.proofs.Dealing.{dealt_to-push, in_turn}
 use Rattle.ckpt_workers.proofs.SeatLemmas.{after, after-nil, after-append, answers_by-append, calls_by-append}
 use Rattle.ckpt_workers.proofs.TallyLemmas.{opposite}

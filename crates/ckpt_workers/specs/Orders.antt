@@ -2,7 +2,7 @@
 use Rattle.std.specs.Prelude.{◌≡◌, Bool, true, false, None}
 use Rattle.ckpt_ids.specs.declared.call.Call.{Call}
 use Rattle.ckpt_ids.specs.declared.call.Call.TheVariants.{Ack}
-use Rattle.ckpt_core.specs.Refusals.{moment_of, moment_too_large, repeated_file, too_many_files}
+use Rattle.ckpt_model.specs.Refusals.{moment_of, moment_too_large, repeated_file, too_many_files}
 
 abbrev pub is_ack : Call → Bool
 is_ack (Ack now id subtask fresh reused) = true

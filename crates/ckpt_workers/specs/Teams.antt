@@ -5,7 +5,7 @@ use Rattle.std.specs.Option.{option_or}
 use Rattle.ckpt_ids.specs.declared.call.Call.{Call}
 use Rattle.ckpt_ids.specs.declared.reply.Answer.{Answer}
 use Rattle.ckpt_ids.specs.declared.reply.Answer.TheVariants.{Done, Refused}
-use Rattle.ckpt_core.specs.Interleavings.{completed_by, first_completed}
+use Rattle.ckpt_model.specs.Interleavings.{completed_by, first_completed}
 use Rattle.ckpt_locked.specs.declared.book.Entry.{Entry}
 use Rattle.ckpt_locked.specs.Books.{History, answer_to, entered}
 use Rattle.ckpt_locked.specs.Seats.{SeatsBelow, answers_by, calls_by}

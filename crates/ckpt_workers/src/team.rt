@@ -3,7 +3,7 @@ ghost use Rattle.std.specs.Prelude.{◌≡◌, ◌+◌, ◌^◌, ◌<◌, ◌≤
 ghost use Rattle.std.specs.Option.{option_or};
 ghost use Rattle.ckpt_locked.specs.Books.{calls_of};
 ghost use Rattle.ckpt_workers.specs.Teams.{IsOneMore, IsTeamwork, is_accepted};
-ghost use Rattle.ckpt_core.specs.Interleavings.{completed_by};
+ghost use Rattle.ckpt_model.specs.Interleavings.{completed_by};
 
 use ckpt_ids::{Answer, Call, Reply};
 use ckpt_locked::{Book, MOST_SEATS};

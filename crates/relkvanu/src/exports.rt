@@ -2,7 +2,7 @@
 
 ghost use Rattle.std.specs.Prelude.{◌≡◌, ◌≢◌, ◌<◌, ◌≤◌, [], None, Some, length};
 ghost use Rattle.ckpt_ids.specs.declared.call.Call.TheVariants as call;
-ghost use Rattle.ckpt_core.specs.Coordinator.{State};
+ghost use Rattle.ckpt_model.specs.Coordinator.{State};
 ghost use Rattle.ckpt_embed.specs.Buffers.{BringsFiles, BringsJson, IsShowTold, StandsInFront};
 ghost use Rattle.ckpt_embed.specs.Calls.{HasNoNumbers, IsAnswered, IsBadShape, IsMade, IsRefusedAs, StaysAsItWas, StaysClosed, WantsMemory, ack_of, restore_of};
 ghost use Rattle.ckpt_embed.specs.Names.{refusal_name};

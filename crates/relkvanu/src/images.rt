@@ -1,7 +1,7 @@
 //! The exports that save a coordinator, and open a handle with an image.
 
 ghost use Rattle.std.specs.Prelude.{◌≡◌, ◌≢◌, Some, length};
-ghost use Rattle.ckpt_core.specs.State.{State};
+ghost use Rattle.ckpt_model.specs.State.{State};
 ghost use Rattle.ckpt_embed.specs.Calls.{HasNoNumbers, StaysAsItWas, StaysClosed};
 ghost use Rattle.ckpt_embed.specs.Images.{BringsImage, IsNotOpenedSaved, IsOpenedSaved, IsSaveTold, SavedWantsMemory};
 ghost use Rattle.ckpt_embed.specs.Opening.{StaysOpen};

@@ -1,7 +1,7 @@
 //! Lines of a script through C: what a line says, the call of a line, and the line of a call.
 
 ghost use Rattle.std.specs.Prelude.{◌≡◌, ◌≢◌, true, Some, IsOk, length};
-ghost use Rattle.ckpt_core.specs.Coordinator.{State};
+ghost use Rattle.ckpt_model.specs.Coordinator.{State};
 ghost use Rattle.ckpt_lines.specs.Reading.{may_want_memory, reading};
 ghost use Rattle.ckpt_embed.specs.Buffers.{StandsInFront};
 ghost use Rattle.ckpt_embed.specs.Calls.{HasNoNumbers, StaysAsItWas, StaysClosed};

@@ -2,8 +2,8 @@
 
 ghost use Rattle.std.specs.Prelude.{◌≡◌, ◌≢◌, IsSome, Some, find, length, nat_le, option_map, slice_get};
 ghost use Rattle.ckpt_ids.specs.Ascending.{ascending};
-ghost use Rattle.ckpt_core.specs.Coordinator.{State, pending_of};
-ghost use Rattle.ckpt_core.specs.Reads.{live_of, pins_in, standing};
+ghost use Rattle.ckpt_model.specs.Coordinator.{State, pending_of};
+ghost use Rattle.ckpt_model.specs.Reads.{live_of, pins_in, standing};
 ghost use Rattle.ckpt_embed.specs.Calls.{HasNoNumbers, StaysClosed};
 ghost use Rattle.ckpt_embed.specs.Reads.{live_told};
 ghost use Rattle.ckpt_embed.specs.Recovery.{BringsList, IsListTold, acked_by, acked_told, files_acked, standing_told, waiting_told};

@@ -13,22 +13,16 @@ use Rattle.ckpt_ids.proofs.OrderedLemmas.{IsIn-from_filter, filter-same, AreDist
 use Rattle.ckpt_outbox.specs.Queues as queues
 use Rattle.ckpt_rules.specs.Moments.{Moments}
 use Rattle.ckpt_core.specs.declared.parts.Parts.{Parts}
-use Rattle.ckpt_core.specs.Memory.{may_want_memory, answer_wants}
-use Rattle.ckpt_core.specs.Inside.Parts.{Answers, AreSound, AreTied, IsAccepted, is_known_in, present_in, state_of}
-use Rattle.ckpt_core.specs.Refusals.{refusal, pending_of}
-use Rattle.ckpt_core.specs.State.{State, is_known}
-use Rattle.ckpt_core.specs.Steps.{Stepped, ack, effect, step, unless_refused}
-use Rattle.ckpt_core.proofs.Answering.Accepted.{IsAcceptedAck, accepted_ack}
-use Rattle.ckpt_core.proofs.Ending.Released.{distinct-from_test}
+use Rattle.ckpt_model.specs.Memory.{may_want_memory, answer_wants}
+use Rattle.ckpt_core.specs.Inside.Parts.{Answers, AreSound, AreTied, IsAccepted, is_known_in, state_of}
+use Rattle.ckpt_model.specs.Reads.{present_in}
+use Rattle.ckpt_model.specs.Refusals.{refusal, pending_of}
+use Rattle.ckpt_model.specs.State.{State, is_known}
+use Rattle.ckpt_model.specs.Steps.{Stepped, ack, effect, step, unless_refused}
+use Rattle.ckpt_model.proofs.Answering.Accepted.{IsAcceptedAck, accepted_ack}
+use Rattle.ckpt_model.proofs.Answering.StepCases.{ack_step}
+use Rattle.ckpt_model.proofs.Records.Released.{distinct-from_test}
 use Rattle.ckpt_ids.specs.Ordered.{AreDistinct}
-
--- what an accepted acknowledgement does
-pub ack_step : (m : State) (now id : ℕ) (subtask : SubtaskId) (fresh reused : List ℕ) (o : Option Record) → refusal m (Ack now id subtask fresh reused) ≡ None → pending_of m.records id ≡ o →
-    step m (Ack now id subtask fresh reused) ≡ ack (record m { latest = max now m.latest }) o subtask fresh reused
-unfolding step effect
-ack_step m now id subtask fresh reused o accepted found =
-    ap (unless_refused m (Ack now id subtask fresh reused)) accepted
-    ∙ ap (λ q. ack (record m { latest = max now m.latest }) q subtask fresh reused) found
 
 -- the unknown files
 abbrev pub unknown_in : Parts → List ℕ → List ℕ

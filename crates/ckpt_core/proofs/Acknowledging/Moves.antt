@@ -10,10 +10,10 @@ use Rattle.ckpt_ids.specs.Ordered.{IsIn, IsInOrder, in_order, in_order_once}
 use Rattle.ckpt_ids.specs.Records.{Record, Use, Holder, Subtask, Pin, use_before, uses, uses_of, acknowledged}
 use Rattle.ckpt_ids.proofs.OrderedLemmas.{IsIn-append_cases, IsIn-append_left, IsIn-append_right, IsIn-map, IsIn-from_map, IsIn-flat_map, IsIn-from_flat_map, IsIn-filter, IsIn-from_filter, IsInOrder-filter, IsInOrder-in_order_once, IsIn-in_order_once, IsIn-from_in_order_once, IsIn-put, IsIn-put_itself, IsIn-put_cases, same_from_members}
 use Rattle.ckpt_ids.proofs.OrderLemmas.{uses_in_order}
-use Rattle.ckpt_core.specs.Soundness.{id_before}
-use Rattle.ckpt_core.specs.Steps.{replaced}
+use Rattle.ckpt_model.specs.Soundness.{id_before}
+use Rattle.ckpt_model.specs.Steps.{replaced}
 use Rattle.ckpt_core.specs.Inside.Grouped.{is_pin, pins, pins_of, with_pins, grouped, records_of}
-use Rattle.ckpt_core.proofs.Records.Counts.{map_same, map_itself}
+use Rattle.ckpt_model.proofs.Records.Counts.{map_same, map_itself}
 use Rattle.ckpt_core.proofs.Records.Grouped.{in_order-map}
 use Rattle.std.proofs.lemmas.Simd.{map-map}
 use Rattle.ckpt_core.proofs.Using.Order.{holds, from_holds}

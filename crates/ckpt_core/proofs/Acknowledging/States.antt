@@ -21,28 +21,28 @@ use Rattle.ckpt_store.specs.Storing.{IsStored}
 use Rattle.ckpt_core.specs.declared.parts.Parts.{Parts}
 use Rattle.ckpt_core.specs.Inside.Completing.{IsMissing}
 use Rattle.ckpt_core.specs.Inside.Grouped.{with_pins, grouped, records_of}
-use Rattle.ckpt_core.specs.Memory.{may_want_memory, answer_wants}
-use Rattle.ckpt_core.specs.Inside.Parts.{Answers, AreSound, AreTied, IsAccepted, Stays, present_in, records_in, state_of}
+use Rattle.ckpt_model.specs.Memory.{may_want_memory, answer_wants}
+use Rattle.ckpt_core.specs.Inside.Parts.{Answers, AreSound, AreTied, IsAccepted, Stays, records_in, state_of}
+use Rattle.ckpt_model.specs.Reads.{present_in}
 use Rattle.ckpt_core.specs.Inside.PendingRecords.{acked}
-use Rattle.ckpt_core.specs.Refusals.{refusal}
-use Rattle.ckpt_core.specs.Soundness.{IsSound, id_before}
-use Rattle.ckpt_core.specs.State.{State}
-use Rattle.ckpt_core.specs.Steps.{Stepped, ack, acknowledged_in, completed_with, replaced, step, with_records}
-use Rattle.ckpt_core.proofs.Answering.Accepted.{accepted_ack}
-use Rattle.ckpt_core.proofs.Acknowledging.Late.{ack_step}
+use Rattle.ckpt_model.specs.Refusals.{refusal}
+use Rattle.ckpt_model.specs.Soundness.{IsSound, id_before}
+use Rattle.ckpt_model.specs.State.{State}
+use Rattle.ckpt_model.specs.Steps.{Stepped, ack, acknowledged_in, completed_with, replaced, step, with_records}
+use Rattle.ckpt_model.proofs.Answering.Accepted.{accepted_ack}
+use Rattle.ckpt_model.proofs.Answering.StepCases.{ack_step}
 use Rattle.ckpt_core.proofs.Acknowledging.Moves.{ack_groups, ack_uses, no_pin-holds, with_instead, id-with_instead, replaced_members}
-use Rattle.ckpt_core.proofs.Acknowledging.Records.{IsAcknowledged}
+use Rattle.ckpt_model.proofs.Records.Acknowledged.{IsAcknowledged}
 use Rattle.ckpt_core.proofs.Acknowledging.Takes.{found_record}
 use Rattle.ckpt_core.proofs.Acknowledging.Uses.{present_more}
-use Rattle.ckpt_core.proofs.Records.Counts.{IsIn-from_find, map_same}
+use Rattle.ckpt_model.proofs.Records.Counts.{IsIn-from_find, map_same}
 use Rattle.ckpt_core.proofs.Ending.Drops.{apart_in}
 use Rattle.ckpt_core.proofs.Records.Grouped.{apart_between}
 use Rattle.ckpt_core.proofs.Ending.HandOut.{present-from_use}
 use Rattle.ckpt_core.proofs.Records.Lookups.{has_number}
 use Rattle.ckpt_core.proofs.Records.Pending.{find-from_IsIn}
-use Rattle.ckpt_core.proofs.Records.Replacing.{same_record}
-use Rattle.ckpt_core.proofs.Soundness.Acks.{IsAcking, with_ack, with_ack_is}
-use Rattle.ckpt_core.proofs.Soundness.Acks.{acking}
+use Rattle.ckpt_model.proofs.Records.Replacing.{same_record}
+use Rattle.ckpt_model.proofs.Soundness.Acks.{IsAcking, with_ack, with_ack_is, acking}
 use Rattle.ckpt_core.proofs.Using.Order.{from_holds, all_uses_in_order, record_in_order, record_uses_in_order, uses-in_order}
 use Rattle.ckpt_core.specs.Inside.Moving.{taken_in}
 

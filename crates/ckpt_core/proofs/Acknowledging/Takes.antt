@@ -19,20 +19,19 @@ use Rattle.ckpt_core.specs.declared.parts.Parts.{Parts}
 use Rattle.ckpt_core.specs.Inside.Grouped.{with_pins}
 use Rattle.ckpt_core.specs.Inside.Parts.{AreSound, IsAccepted, records_in, state_of}
 use Rattle.ckpt_core.specs.Inside.PendingRecords.{acked}
-use Rattle.ckpt_core.specs.Refusals.{pending_of}
-use Rattle.ckpt_core.specs.Soundness.{IsSound, id_before}
-use Rattle.ckpt_core.specs.State.{in_outbox}
-use Rattle.ckpt_core.proofs.Answering.Accepted.{IsAcceptedAck, accepted_ack}
-use Rattle.ckpt_core.proofs.Acknowledging.Records.{new_subtask}
-use Rattle.ckpt_core.proofs.Records.Counts.{IsIn-from_find}
+use Rattle.ckpt_model.specs.Refusals.{pending_of}
+use Rattle.ckpt_model.specs.Soundness.{IsSound, id_before}
+use Rattle.ckpt_model.specs.State.{in_outbox}
+use Rattle.ckpt_model.proofs.Answering.Accepted.{IsAcceptedAck, accepted_ack}
+use Rattle.ckpt_model.proofs.Records.Acknowledged.{new_subtask}
+use Rattle.ckpt_model.proofs.Records.Counts.{IsIn-from_find, find_agree}
 use Rattle.ckpt_core.proofs.Ending.Drops.{apart_in, groups_of}
-use Rattle.ckpt_core.proofs.Records.Lookups.{has_number, pending_of-groups, find-map, find_agree}
-use Rattle.ckpt_core.proofs.Records.Replacing.{same_record}
-use Rattle.ckpt_core.proofs.Soundness.Acks.{IsAcking}
-use Rattle.ckpt_core.proofs.Soundness.Acks.{acking}
+use Rattle.ckpt_core.proofs.Records.Lookups.{has_number, pending_of-groups, find-map}
+use Rattle.ckpt_model.proofs.Records.Replacing.{same_record}
+use Rattle.ckpt_model.proofs.Soundness.Acks.{IsAcking, acking}
 use Rattle.ckpt_core.proofs.Triggering.TriggerParts.{live_records}
 use Rattle.ckpt_core.proofs.Using.Order.{holds, from_holds, use_of_record}
-use Rattle.ckpt_core.proofs.Reordering.ExchangeLemmas.{has_its_own}
+use Rattle.ckpt_model.proofs.Reordering.ExchangeLemmas.{has_its_own}
 use Rattle.ckpt_core.proofs.Using.CountBound.{count-records}
 
 -- the record of this number, with its pins

@@ -9,7 +9,7 @@ use Rattle.ckpt_ids.specs.Ordered.{IsIn, put_once}
 use Rattle.ckpt_ids.specs.Records.{Use, count, is_present}
 use Rattle.ckpt_ids.proofs.AscendingLemmas.{numbers_in_order}
 use Rattle.ckpt_ids.proofs.OrderedLemmas.{IsIn-map, IsIn-from_map, IsIn-filter, IsIn-from_filter, IsInOrder-filter, IsInOrder-in_order_once, IsIn-in_order_once, IsIn-from_in_order_once, same_from_members}
-use Rattle.ckpt_core.specs.Inside.Parts.{present_in}
+use Rattle.ckpt_model.specs.Reads.{present_in}
 use Rattle.ckpt_core.proofs.Ending.HandOut.{present-from_use}
 use Rattle.ckpt_ids.proofs.CountLemmas.{IsIn-from_counted}
 

@@ -7,15 +7,15 @@ use Rattle.ckpt_ids.specs.declared.call.Target.{Target}
 use Rattle.ckpt_ids.specs.declared.reply.Reply.{Reply}
 use Rattle.ckpt_ids.specs.Records.{Record}
 use Rattle.ckpt_core.specs.declared.parts.Parts.{Parts}
-use Rattle.ckpt_core.specs.Memory.{answer_wants, may_want_memory}
+use Rattle.ckpt_model.specs.Memory.{answer_wants, may_want_memory}
 use Rattle.ckpt_core.specs.Inside.Parts.{AreSound, Answers, Stays, state_of}
-use Rattle.ckpt_core.specs.Refusals.{moment_of, no_record, refusal}
-use Rattle.ckpt_core.specs.Soundness.{IsCall, IsSound}
-use Rattle.ckpt_core.specs.State.{State, record_of}
-use Rattle.ckpt_core.specs.Steps.{Stepped, at_moment, effect, restore, show, take_files}
-use Rattle.ckpt_core.proofs.Soundness.Calls.{step_keeps}
-use Rattle.ckpt_core.proofs.Answering.StepCases.{step_accepted}
-use Rattle.ckpt_core.proofs.Answering.RefusalRows.{first_row-none}
+use Rattle.ckpt_model.specs.Refusals.{moment_of, no_record, refusal}
+use Rattle.ckpt_model.specs.Soundness.{IsCall, IsSound}
+use Rattle.ckpt_model.specs.State.{State, record_of}
+use Rattle.ckpt_model.specs.Steps.{Stepped, at_moment, effect, restore, show, take_files}
+use Rattle.ckpt_model.proofs.Soundness.Calls.{step_keeps}
+use Rattle.ckpt_model.proofs.Answering.StepCases.{step_accepted}
+use Rattle.ckpt_model.proofs.Answering.RefusalRows.{first_row-none}
 
 -- after a call
 

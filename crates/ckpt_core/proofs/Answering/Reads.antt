@@ -15,15 +15,15 @@ use Rattle.ckpt_store.specs.Storing as storing
 use Rattle.ckpt_core.specs.declared.parts.Parts.{Parts}
 use Rattle.ckpt_core.specs.Inside.Grouped.{with_pins, grouped}
 use Rattle.ckpt_core.specs.Inside.Parts.{Answers, AreTied, AreSound, IsAccepted, records_in, state_of}
-use Rattle.ckpt_core.specs.Refusals.{refusal, no_record}
-use Rattle.ckpt_core.specs.Soundness.{id_before}
-use Rattle.ckpt_core.specs.State.{State, record_of}
-use Rattle.ckpt_core.specs.Steps.{Stepped, effect, take_files, without, show}
+use Rattle.ckpt_model.specs.Refusals.{refusal, no_record}
+use Rattle.ckpt_model.specs.Soundness.{id_before}
+use Rattle.ckpt_model.specs.State.{State, record_of}
+use Rattle.ckpt_model.specs.Steps.{Stepped, effect, take_files, without, show}
 use Rattle.ckpt_core.proofs.Records.Grouped.{apart-from_in_order}
 use Rattle.ckpt_core.proofs.Records.GroupLookups.{record_of-groups}
 use Rattle.ckpt_core.proofs.Records.Lookups.{has_number}
-use Rattle.ckpt_core.proofs.Answering.StepCases.{step_accepted}
-use Rattle.ckpt_core.proofs.Answering.RefusalRows.{row_last}
+use Rattle.ckpt_model.proofs.Answering.StepCases.{step_accepted}
+use Rattle.ckpt_model.proofs.Answering.RefusalRows.{row_last}
 
 -- another outbox with as many places reserved
 tied_with : (p : Parts) (outbox : Queues) → AreTied p → outbox.spare ≡ p.outbox.spare → AreTied (record p { outbox = outbox })

@@ -15,12 +15,12 @@ use Rattle.ckpt_store.specs.Storing.{IsStored, has_id, has_savepoint, id_of}
 use Rattle.ckpt_store.proofs.RowLemmas.{find-place}
 use Rattle.ckpt_outbox.specs.Queues as queues
 use Rattle.ckpt_core.specs.declared.parts.Parts.{Parts}
-use Rattle.ckpt_core.specs.State.{is_checkpoint, is_known}
-use Rattle.ckpt_core.specs.Refusals.{first_some, is_foreign, is_repeat, is_done_savepoint, savepoints, named, pending_of, where_pending}
-use Rattle.ckpt_core.specs.Soundness.{id_before}
+use Rattle.ckpt_model.specs.State.{is_checkpoint, is_known}
+use Rattle.ckpt_model.specs.Refusals.{first_some, is_foreign, is_repeat, is_done_savepoint, savepoints, named, pending_of, where_pending}
+use Rattle.ckpt_model.specs.Soundness.{id_before}
 use Rattle.ckpt_core.specs.Inside.Grouped.{with_pins, grouped}
 use Rattle.ckpt_core.specs.Inside.Parts.{AreSound, AreTied, IsPlaceOf, records_in, state_of, is_known_in}
-use Rattle.ckpt_core.proofs.Answering.RefusalRows.{rows_only}
+use Rattle.ckpt_model.proofs.Answering.RefusalRows.{rows_only}
 use Rattle.ckpt_core.proofs.Records.Grouped.{AreApart, apart-from_in_order}
 use Rattle.ckpt_core.proofs.Records.Lookups.{pending_of-groups}
 use Rattle.ckpt_core.proofs.Records.GroupLookups.{savepoints-groups, done_savepoint-groups}

@@ -11,8 +11,8 @@ use Rattle.ckpt_ids.specs.Counting.{times}
 use Rattle.ckpt_ids.proofs.OrderedLemmas.{ComesBefore-at, ComesBefore-from, IsIn-from_list_any, list_any-from_IsIn, AreDistinct-append, AreDistinct-left, AreDistinct-right, AreDistinct-apart, AreDistinct-from_order, IsIn-from_test, test-from_IsIn}
 use Rattle.ckpt_ids.proofs.AscendingLemmas.{ascending_at, numbers_in_order}
 use Rattle.ckpt_ids.proofs.CountLemmas.{times-from_IsIn, IsIn-from_times}
-use Rattle.ckpt_core.specs.Refusals.{has_repeats}
-use Rattle.ckpt_core.proofs.Ending.Released.{distinct-from_test}
+use Rattle.ckpt_model.specs.Refusals.{has_repeats}
+use Rattle.ckpt_model.proofs.Records.Released.{distinct-from_test}
 use Rattle.ckpt_core.proofs.Records.GroupLookups.{same_tests}
 use Rattle.ckpt_registry.proofs.PartLemmas.{times-from_search}
 

@@ -10,12 +10,12 @@ use Rattle.ckpt_ids.specs.declared.reply.Answer.TheVariants.{Done}
 use Rattle.ckpt_ids.specs.declared.reply.Answer.TheVariants as answers
 use Rattle.ckpt_ids.specs.declared.reply.Refusal.{Refusal}
 use Rattle.ckpt_ids.specs.declared.reply.Refusal.TheVariants.{InUse, NoSuchSavepoint, NotTaken}
-use Rattle.ckpt_core.specs.declared.coordinator.CoreFault.{CoreFault}
-use Rattle.ckpt_core.specs.declared.coordinator.CoreFault.TheVariants.{Memory, Refused}
-use Rattle.ckpt_core.specs.Refusals.{first_some, is_done_savepoint, is_number, refuse_if, refusal}
-use Rattle.ckpt_core.specs.State.{State}
-use Rattle.ckpt_core.specs.Steps.{Stepped, step}
-use Rattle.ckpt_core.proofs.Answering.StepCases.{step_refused}
+use Rattle.ckpt_model.specs.declared.faults.CoreFault.{CoreFault}
+use Rattle.ckpt_model.specs.declared.faults.CoreFault.TheVariants.{Memory, Refused}
+use Rattle.ckpt_model.specs.Refusals.{first_some, is_done_savepoint, is_number, refuse_if, refusal}
+use Rattle.ckpt_model.specs.State.{State}
+use Rattle.ckpt_model.specs.Steps.{Stepped, step}
+use Rattle.ckpt_model.proofs.Answering.StepCases.{step_refused}
 
 -- the rows of a report
 

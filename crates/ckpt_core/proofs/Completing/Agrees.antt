@@ -17,21 +17,21 @@ use Rattle.ckpt_core.specs.Inside.Completing as completing
 use Rattle.ckpt_core.specs.Inside.Completing.{is_before, earlier, surplus}
 use Rattle.ckpt_core.specs.Inside.Grouped.{with_pins, grouped}
 use Rattle.ckpt_core.specs.Inside.Parts.{is_noted, records_in, state_of}
-use Rattle.ckpt_core.specs.Soundness.{id_before}
-use Rattle.ckpt_core.specs.State.{State, is_checkpoint, is_done_checkpoint, is_pending, is_subsumed, is_surplus}
-use Rattle.ckpt_core.specs.Steps.{dropped_by, replaced, superseded, with_records}
+use Rattle.ckpt_model.specs.Soundness.{id_before}
+use Rattle.ckpt_model.specs.State.{State, is_checkpoint, is_done_checkpoint, is_pending, is_subsumed, is_surplus}
+use Rattle.ckpt_model.specs.Steps.{dropped_by, replaced, superseded, with_records}
 use Rattle.ckpt_core.proofs.Acknowledging.Moves.{replaced_members, still_in_replaced}
 use Rattle.ckpt_core.proofs.Acknowledging.States.{IsTaking, moved, taken_records}
 use Rattle.ckpt_core.proofs.Completing.Lists.{IsFinishing, is_past, later_in, noted_pending, noted_row, noted_savepoint, others, past_count, past_is_surplus}
 use Rattle.ckpt_core.proofs.Completing.Moves.{count_completed}
 use Rattle.ckpt_core.proofs.Completing.Taken.{taken_there, taken_apart, taken_groups, checkpoint_ending, ending_completes}
-use Rattle.ckpt_core.proofs.Records.Counts.{IsIn-from_find}
-use Rattle.ckpt_core.proofs.Records.GroupLookups.{is_checkpoint-kind, is_savepoint-kind}
+use Rattle.ckpt_model.proofs.Records.Counts.{IsIn-from_find}
+use Rattle.ckpt_model.proofs.Records.Lists.{is_checkpoint-kind, is_savepoint-kind}
 use Rattle.ckpt_core.proofs.Records.Lookups.{AreGroups, has_number}
 use Rattle.ckpt_ids.proofs.CountLemmas.{count_by-none, count_by-same}
 use Rattle.ckpt_core.specs.Inside.Moving.{taken_in}
-use Rattle.ckpt_core.proofs.Soundness.Completions.{completed}
-use Rattle.ckpt_core.proofs.Soundness.Acks.{with_ack}
+use Rattle.ckpt_model.proofs.Soundness.Completions.{completed}
+use Rattle.ckpt_model.proofs.Soundness.Acks.{with_ack}
 
 -- the tests of the step on one record
 

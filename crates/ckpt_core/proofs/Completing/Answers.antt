@@ -18,9 +18,10 @@ use Rattle.ckpt_store.specs.Storing.{by_id, retained_of}
 use Rattle.ckpt_core.specs.declared.parts.Parts.{Parts}
 use Rattle.ckpt_core.specs.Inside.Completing as completing
 use Rattle.ckpt_core.specs.Inside.Grouped.{records_of}
-use Rattle.ckpt_core.specs.Inside.Parts.{Answers, AreTied, is_noted, present_in, records_in, state_of}
-use Rattle.ckpt_core.specs.State.{State, is_checkpoint, is_subsumed, is_surplus}
-use Rattle.ckpt_core.specs.Steps.{cleared, dropped_by, replaced, step, superseded}
+use Rattle.ckpt_core.specs.Inside.Parts.{Answers, AreTied, is_noted, records_in, state_of}
+use Rattle.ckpt_model.specs.Reads.{present_in}
+use Rattle.ckpt_model.specs.State.{State, is_checkpoint, is_subsumed, is_surplus}
+use Rattle.ckpt_model.specs.Steps.{cleared, dropped_by, replaced, step, superseded}
 use Rattle.ckpt_core.proofs.Acknowledging.Moves.{with_instead}
 use Rattle.ckpt_core.proofs.Acknowledging.States.{IsRoomier, IsTaking, moved, now_complete, one_less, roomier_state, taken_step, taken_tied}
 use Rattle.ckpt_core.proofs.Completing.Agrees.{completing_in, finishing, gone_by, row_of, row_rises, superseded_is, superseded_count}
@@ -29,12 +30,12 @@ use Rattle.ckpt_core.proofs.Completing.Lists.{IsFinishing, is_past, noted_row, n
 use Rattle.ckpt_core.proofs.Completing.Moves.{IsEnding, completed_is, kept_records, left_groups, left_records, left_uses, released_files}
 use Rattle.ckpt_core.proofs.Completing.Taken.{checkpoint_ending, ending_completes, savepoint_ending}
 use Rattle.ckpt_core.proofs.Ending.Drops.{present_after, stays, staying}
-use Rattle.ckpt_core.proofs.Records.GroupLookups.{is_savepoint-kind}
+use Rattle.ckpt_model.proofs.Records.Lists.{is_savepoint-kind}
 use Rattle.ckpt_ids.proofs.CountLemmas.{count_by-none}
 use Rattle.ckpt_core.specs.Inside.Grouped.{with_pins}
 use Rattle.ckpt_core.specs.Inside.Moving.{checkpoint_completed, savepoint_completed, taken_in}
-use Rattle.ckpt_core.proofs.Soundness.Completions.{completed}
-use Rattle.ckpt_core.proofs.Soundness.Acks.{with_ack}
+use Rattle.ckpt_model.proofs.Soundness.Completions.{completed}
+use Rattle.ckpt_model.proofs.Soundness.Acks.{with_ack}
 
 -- the step, if the records of these numbers are dropped
 last_step : {p : Parts} {now id : ℕ} {s : SubtaskId} {fresh reused : List ℕ} {r : Record} {more_checkpoints more_savepoints : List Record} → IsTaking p now id s fresh reused r → missing r ≡ 1 →

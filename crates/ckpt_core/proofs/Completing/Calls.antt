@@ -21,9 +21,10 @@ use Rattle.ckpt_store.specs.Storing.{id_of}
 use Rattle.ckpt_core.specs.declared.parts.Parts.{Parts}
 use Rattle.ckpt_core.specs.Inside.Completing.{IsMissing}
 use Rattle.ckpt_core.specs.Inside.Grouped.{with_pins}
-use Rattle.ckpt_core.specs.Inside.Parts.{AreSound, AreTied, IsAccepted, present_in, records_in, state_of}
-use Rattle.ckpt_core.specs.Soundness.{id_before}
-use Rattle.ckpt_core.specs.State.{in_outbox}
+use Rattle.ckpt_core.specs.Inside.Parts.{AreSound, AreTied, IsAccepted, records_in, state_of}
+use Rattle.ckpt_model.specs.Reads.{present_in}
+use Rattle.ckpt_model.specs.Soundness.{id_before}
+use Rattle.ckpt_model.specs.State.{in_outbox}
 use Rattle.ckpt_core.proofs.Acknowledging.Moves.{with_instead}
 use Rattle.ckpt_core.proofs.Acknowledging.States.{IsRoomier, IsTaking, its_number, room_made, taking_from, one_less, taken_records, taken_tied, taking}
 use Rattle.ckpt_core.proofs.Acknowledging.Takes.{acked_in_order, lies_acked, found_acked}
@@ -33,13 +34,12 @@ use Rattle.ckpt_core.proofs.Completing.Taken.{taken_there, not_done_number}
 use Rattle.ckpt_core.proofs.Ending.Drops.{none_known}
 use Rattle.ckpt_core.proofs.Ending.HandOut.{present-from_use}
 use Rattle.ckpt_core.proofs.Records.Lookups.{has_number, length-records_of}
-use Rattle.ckpt_core.proofs.Soundness.Acks.{IsAcking}
+use Rattle.ckpt_model.proofs.Soundness.Acks.{IsAcking, with_ack}
 use Rattle.ckpt_core.proofs.Triggering.TriggerParts.{live_records}
 use Rattle.ckpt_core.proofs.Using.Order.{from_holds}
 use Rattle.ckpt_ids.proofs.CountLemmas.{IsIn-from_counted}
 use Rattle.ckpt_core.specs.Inside.Moving.{taken_in}
-use Rattle.ckpt_core.proofs.Soundness.Completions.{completed}
-use Rattle.ckpt_core.proofs.Soundness.Acks.{with_ack}
+use Rattle.ckpt_model.proofs.Soundness.Completions.{completed}
 
 -- the parts without the pending record
 abbrev pub taken_out : Parts → ℕ → ℕ → SubtaskId → List ℕ → List ℕ → Record → Parts

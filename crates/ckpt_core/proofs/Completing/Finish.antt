@@ -8,11 +8,11 @@ use Rattle.ckpt_ids.specs.declared.ack.Acked.{Acked}
 use Rattle.ckpt_ids.specs.Ordered.{IsIn, in_order}
 use Rattle.ckpt_ids.specs.Records.{Record, Use, Subtask, Pin, uses, uses_of}
 use Rattle.ckpt_ids.proofs.OrderedLemmas.{IsIn-append_cases, IsIn-append_left, IsIn-append_right, IsIn-map, IsIn-from_map, IsIn-from_flat_map, IsIn-filter, IsIn-from_filter, filter-all, filter-same, filter-none, filter-filter}
-use Rattle.ckpt_core.specs.Soundness.{id_before}
-use Rattle.ckpt_core.specs.State.{unpinned}
-use Rattle.ckpt_core.specs.Steps.{replaced}
+use Rattle.ckpt_model.specs.Soundness.{id_before}
+use Rattle.ckpt_model.specs.State.{unpinned}
+use Rattle.ckpt_model.specs.Steps.{replaced}
 use Rattle.ckpt_core.specs.Inside.Grouped.{is_pin, pins, with_pins, grouped, records_of}
-use Rattle.ckpt_core.proofs.Records.Counts.{map_same}
+use Rattle.ckpt_model.proofs.Records.Counts.{map_same}
 use Rattle.ckpt_core.proofs.Records.Grouped.{AreApart, in_order-filter, in_order-map, in_order_same, apart-filter, apart-map, apart-append, apart_left, apart_between}
 use Rattle.ckpt_core.proofs.Records.GroupMoves.{filter-map, with_pins_kept}
 use Rattle.std.proofs.lemmas.Simd.{map-map}

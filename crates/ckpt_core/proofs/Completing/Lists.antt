@@ -14,9 +14,9 @@ use Rattle.ckpt_store.specs.Storing.{Stored, AreRising, IsAbove, lowest, past_re
 use Rattle.ckpt_core.specs.Inside.Completing.{number_in, surplus, earlier, superseded, is_before}
 use Rattle.ckpt_core.specs.Inside.Grouped.{with_pins, grouped}
 use Rattle.ckpt_core.specs.Inside.Parts.{is_noted}
-use Rattle.ckpt_core.specs.Soundness.{id_before}
-use Rattle.ckpt_core.specs.State.{is_checkpoint}
-use Rattle.ckpt_core.proofs.Records.Counts.{count_by_at_most_more}
+use Rattle.ckpt_model.specs.Soundness.{id_before}
+use Rattle.ckpt_model.specs.State.{is_checkpoint}
+use Rattle.ckpt_model.proofs.Records.Counts.{count_by_at_most_more}
 use Rattle.ckpt_core.proofs.Ending.Drops.{noted-from_IsIn, IsIn-from_noted}
 use Rattle.ckpt_core.proofs.Records.Grouped.{AreApart, apart_left, apart_right, apart_between}
 use Rattle.ckpt_core.proofs.Records.Lookups.{one_of_number}

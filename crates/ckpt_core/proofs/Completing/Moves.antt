@@ -11,9 +11,9 @@ use Rattle.ckpt_ids.proofs.OrderedLemmas.{IsIn-append_left, IsIn-map, IsIn-from_
 use Rattle.ckpt_registry.specs.Uses.{after_end, is_ended, is_owned}
 use Rattle.ckpt_core.specs.Inside.Grouped.{pins, with_pins, grouped, records_of}
 use Rattle.ckpt_core.specs.Inside.Parts.{is_noted}
-use Rattle.ckpt_core.specs.Soundness.{id_before}
-use Rattle.ckpt_core.specs.State.{State, drop, kept, released_by, unpinned}
-use Rattle.ckpt_core.specs.Steps.{cleared, completed_with, dropped_by, replaced, superseded}
+use Rattle.ckpt_model.specs.Soundness.{id_before}
+use Rattle.ckpt_model.specs.State.{State, drop, kept, released_by, unpinned}
+use Rattle.ckpt_model.specs.Steps.{cleared, completed_with, dropped_by, replaced, superseded}
 use Rattle.ckpt_core.proofs.Acknowledging.Moves.{with_instead}
 use Rattle.ckpt_core.proofs.Completing.Lists.{others}
 use Rattle.ckpt_ids.proofs.CountLemmas.{count_by-map, count_by-same}

@@ -10,18 +10,18 @@ use Rattle.ckpt_store.specs.Storing.{by_id}
 use Rattle.ckpt_core.specs.declared.parts.Parts.{Parts}
 use Rattle.ckpt_core.specs.Inside.Grouped.{with_pins, grouped}
 use Rattle.ckpt_core.specs.Inside.Parts.{records_in, state_of}
-use Rattle.ckpt_core.specs.Soundness.{id_before}
+use Rattle.ckpt_model.specs.Soundness.{id_before}
 use Rattle.ckpt_core.proofs.Acknowledging.Moves.{replaced_members}
 use Rattle.ckpt_core.proofs.Acknowledging.States.{IsTaking, acked_replaced, replaced_in_order, taken_records, taken_uses}
 use Rattle.ckpt_core.proofs.Acknowledging.Takes.{found_acked}
 use Rattle.ckpt_core.proofs.Completing.Moves.{IsCompleting, IsEnding}
-use Rattle.ckpt_core.proofs.Records.Counts.{IsIn-from_find}
+use Rattle.ckpt_model.proofs.Records.Counts.{IsIn-from_find}
 use Rattle.ckpt_core.proofs.Ending.Drops.{groups_of}
 use Rattle.ckpt_core.proofs.Records.Grouped.{AreApart, IsNew, apart-append, apart-from_in_order, apart_between, apart_left, apart_right}
 use Rattle.ckpt_core.proofs.Records.Lookups.{AreGroups, has_number}
-use Rattle.ckpt_core.proofs.Soundness.Acks.{with_ack}
+use Rattle.ckpt_model.proofs.Soundness.Acks.{with_ack}
 use Rattle.ckpt_core.specs.Inside.Moving.{taken_in}
-use Rattle.ckpt_core.proofs.Soundness.Completions.{completed}
+use Rattle.ckpt_model.proofs.Soundness.Completions.{completed}
 
 pub taken_there : {p : Parts} {now id : ℕ} {s : SubtaskId} {fresh reused : List ℕ} {r : Record} → IsTaking p now id s fresh reused r → IsIn (with_ack r s fresh reused) (taken_in p now id s fresh reused).pending
 taken_there {p} {now} {id} {s} {fresh} {reused} {r} t =

@@ -6,9 +6,10 @@ use Rattle.ckpt_ids.specs.Records.{Record}
 use Rattle.ckpt_store.specs.Storing.{IsStored}
 use Rattle.ckpt_core.specs.declared.parts.Parts.{Parts}
 use Rattle.ckpt_core.specs.Inside.Parts.{AreSound, records_in, state_of}
-use Rattle.ckpt_core.specs.State.{is_pending, is_checkpoint, is_done_checkpoint}
-use Rattle.ckpt_core.specs.Steps.{cancelled, dropped_by}
-use Rattle.ckpt_core.proofs.Records.GroupLookups.{is_checkpoint-kind, is_savepoint-kind, pending_checkpoints-groups, savepoints-groups}
+use Rattle.ckpt_model.specs.State.{is_pending, is_checkpoint, is_done_checkpoint}
+use Rattle.ckpt_model.specs.Steps.{cancelled, dropped_by}
+use Rattle.ckpt_core.proofs.Records.GroupLookups.{pending_checkpoints-groups, savepoints-groups}
+use Rattle.ckpt_model.proofs.Records.Lists.{is_checkpoint-kind, is_savepoint-kind}
 use Rattle.ckpt_core.proofs.Records.Lookups.{AreGroups, count_by-records_of}
 use Rattle.ckpt_core.proofs.Records.Pending.{count_by-others}
 use Rattle.ckpt_ids.proofs.CountLemmas.{count_by-none, count_by-same, count_by-all}

@@ -15,11 +15,11 @@ use Rattle.ckpt_store.specs.Storing.{has_savepoint, has_id}
 use Rattle.ckpt_core.specs.declared.parts.Parts.{Parts}
 use Rattle.ckpt_core.specs.Inside.Grouped.{with_pins, grouped}
 use Rattle.ckpt_core.specs.Inside.Parts.{AreTied, Drops, is_noted, records_in, state_of}
-use Rattle.ckpt_core.specs.Soundness.{IsSound, id_before}
-use Rattle.ckpt_core.specs.State.{is_pending, is_checkpoint, is_done_checkpoint}
-use Rattle.ckpt_core.proofs.Records.Counts.{IsIn-from_find}
+use Rattle.ckpt_model.specs.Soundness.{IsSound, id_before}
+use Rattle.ckpt_model.specs.State.{is_pending, is_checkpoint, is_done_checkpoint}
+use Rattle.ckpt_model.proofs.Records.Counts.{IsIn-from_find}
 use Rattle.ckpt_core.proofs.Records.Grouped.{AreApart, apart_between, apart_right}
-use Rattle.ckpt_core.proofs.Records.GroupLookups.{is_checkpoint-kind, is_savepoint-kind}
+use Rattle.ckpt_model.proofs.Records.Lists.{is_checkpoint-kind, is_savepoint-kind}
 use Rattle.ckpt_core.proofs.Records.Lookups.{AreGroups}
 use Rattle.ckpt_core.proofs.Ending.Drops.{left, staying, stays, numbers, apart_in, noted-from_IsIn, IsIn-from_noted, drops_from, drops_same, staying_done}
 

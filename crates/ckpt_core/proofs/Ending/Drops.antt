@@ -17,10 +17,11 @@ use Rattle.ckpt_registry.specs.Uses.{without}
 use Rattle.ckpt_store.specs.Storing.{IsStored}
 use Rattle.ckpt_core.specs.declared.parts.Parts.{Parts}
 use Rattle.ckpt_core.specs.Inside.Grouped.{with_pins, grouped}
-use Rattle.ckpt_core.specs.Inside.Parts.{AreTied, AreSound, Drops, is_noted, present_in, records_in, state_of}
-use Rattle.ckpt_core.specs.Soundness.{IsSound, id_before}
-use Rattle.ckpt_core.specs.State.{State, drop, kept, released_by, unpinned, is_pending}
-use Rattle.ckpt_core.proofs.Records.Counts.{map_itself}
+use Rattle.ckpt_core.specs.Inside.Parts.{AreTied, AreSound, Drops, is_noted, records_in, state_of}
+use Rattle.ckpt_model.specs.Reads.{present_in}
+use Rattle.ckpt_model.specs.Soundness.{IsSound, id_before}
+use Rattle.ckpt_model.specs.State.{State, drop, kept, released_by, unpinned, is_pending}
+use Rattle.ckpt_model.proofs.Records.Counts.{map_itself}
 use Rattle.ckpt_core.proofs.Records.Grouped.{AreApart, apart-from_in_order, apart_between}
 use Rattle.ckpt_core.proofs.Records.GroupMoves.{drop_groups}
 use Rattle.ckpt_core.proofs.Records.Lookups.{AreGroups, length-records_of, done_in}

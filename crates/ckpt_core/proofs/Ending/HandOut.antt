@@ -6,8 +6,8 @@ use Rattle.ckpt_ids.specs.Ordered.{IsIn, AreDistinct}
 use Rattle.ckpt_ids.specs.Ascending.{ascending_set}
 use Rattle.ckpt_ids.specs.Records.{Use, count, is_present, released}
 use Rattle.ckpt_outbox.specs.Queues.{Queues, is_in, is_known}
-use Rattle.ckpt_core.specs.Inside.Parts.{present_in}
-use Rattle.ckpt_core.proofs.Ending.Released.{ascending-released, before-from_released}
+use Rattle.ckpt_model.specs.Reads.{present_in}
+use Rattle.ckpt_model.proofs.Records.Released.{ascending-released, before-from_released}
 use Rattle.ckpt_ids.proofs.CountLemmas.{counted-from_IsIn}
 use Rattle.ckpt_ids.proofs.OrderedLemmas.{AreDistinct-from_order, IsIn-from_in_order_once, IsIn-from_map, filter-none, IsIn-from_test}
 use Rattle.ckpt_ids.proofs.AscendingLemmas.{numbers_in_order}

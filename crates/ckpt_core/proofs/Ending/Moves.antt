@@ -24,22 +24,22 @@ use Rattle.ckpt_rules.specs.Moments.{Moments}
 use Rattle.ckpt_rules.specs.Trigger.{gap}
 use Rattle.ckpt_store.specs.Storing as storing
 use Rattle.ckpt_store.specs.Storing.{IsStored, Stored}
-use Rattle.ckpt_core.specs.declared.mode.Mode.{Mode}
-use Rattle.ckpt_core.specs.declared.mode.Mode.TheVariants.{Running, Failed, Cancelled}
+use Rattle.ckpt_model.specs.declared.mode.Mode.{Mode}
+use Rattle.ckpt_model.specs.declared.mode.Mode.TheVariants.{Running, Failed, Cancelled}
 use Rattle.ckpt_core.specs.declared.parts.Parts.{Parts}
 use Rattle.ckpt_core.specs.Inside.Grouped.{with_pins, grouped}
 use Rattle.ckpt_core.specs.Inside.Parts.{Answers, AreTied, AreSound, Drops, IsAccepted, records_in, state_of}
-use Rattle.ckpt_core.specs.Refusals.{refusal, pending_of, is_done_savepoint}
-use Rattle.ckpt_core.specs.Soundness.{IsSound, id_before}
-use Rattle.ckpt_core.specs.State.{State, choice_of, choice_from, last_checkpoint, drop, kept, released_by, unpinned, is_pending}
-use Rattle.ckpt_core.specs.Steps.{Stepped, effect, failures_with, fails_the_job, decline, decline_pending, dispose, dropping, failed_over, restarted, restore, rolled_back, with_base, cancel, cancelled, dropped_by}
-use Rattle.ckpt_core.proofs.Records.Counts.{IsIn-from_find}
+use Rattle.ckpt_model.specs.Refusals.{refusal, pending_of, is_done_savepoint}
+use Rattle.ckpt_model.specs.Soundness.{IsSound, id_before}
+use Rattle.ckpt_model.specs.State.{State, choice_of, choice_from, last_checkpoint, drop, kept, released_by, unpinned, is_pending}
+use Rattle.ckpt_model.specs.Steps.{Stepped, effect, failures_with, fails_the_job, decline, decline_pending, dispose, dropping, failed_over, restarted, restore, rolled_back, with_base, cancel, cancelled, dropped_by}
+use Rattle.ckpt_model.proofs.Records.Counts.{IsIn-from_find}
 use Rattle.ckpt_core.proofs.Ending.Drops.{apart_in}
 use Rattle.ckpt_core.proofs.Records.Grouped.{apart-from_in_order}
 use Rattle.ckpt_core.proofs.Records.GroupLookups.{last_id-greatest, last_checkpoint-groups}
 use Rattle.ckpt_core.proofs.Records.Lookups.{AreGroups, has_number, pending_of-groups}
-use Rattle.ckpt_core.proofs.Records.Lists.{in_order-changed}
-use Rattle.ckpt_core.proofs.Answering.StepCases.{step_accepted}
+use Rattle.ckpt_model.proofs.Records.Lists.{in_order-changed}
+use Rattle.ckpt_model.proofs.Answering.StepCases.{step_accepted}
 
 -- a state and a number, by what they are equal to
 pub answered : (say : ℕ → Reply) (s t : State) (k n : ℕ) → t ≡ s → n ≡ k → (let x : Stepped = (s, Done (say k)) in x) ≡ (t, Done (say n))

@@ -14,12 +14,13 @@ use Rattle.ckpt_rules.specs.FailureCount.{FailureCount}
 use Rattle.ckpt_store.specs.Storing.{Stored, retained_of}
 use Rattle.ckpt_core.specs.declared.parts.Opened.{Opened}
 use Rattle.ckpt_core.specs.declared.parts.Parts.{Parts}
-use Rattle.ckpt_core.specs.Inside.Parts.{AreTied, present_in, records_in}
-use Rattle.ckpt_core.specs.Soundness.{id_before}
+use Rattle.ckpt_core.specs.Inside.Parts.{AreTied, records_in}
+use Rattle.ckpt_model.specs.Reads.{present_in}
+use Rattle.ckpt_model.specs.Soundness.{id_before}
 use Rattle.ckpt_core.specs.Inside.Grouped.{is_pin, pins, pins_of, with_pins, grouped, records_of}
 use Rattle.ckpt_core.specs.Inside.Loading.{uses_of_acks, uses_held}
 use Rattle.ckpt_core.proofs.Loaded.Uses.{id_of_acks}
-use Rattle.ckpt_core.proofs.Records.Counts.{map_same}
+use Rattle.ckpt_model.proofs.Records.Counts.{map_same}
 use Rattle.ckpt_core.proofs.Records.Grouped.{in_order-newest, put_last}
 use Rattle.ckpt_core.proofs.Records.GroupMoves.{pins_of-append, pins_of-none, pins_of-holds}
 use Rattle.ckpt_core.proofs.Using.Order.{from_holds, holds, use_of_record}

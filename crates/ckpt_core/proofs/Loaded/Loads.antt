@@ -9,21 +9,22 @@ use Rattle.ckpt_ids.proofs.CountLemmas.{count_by-none, count_by-all}
 use Rattle.ckpt_pending.proofs.FullLemmas.{missing_from_full}
 use Rattle.ckpt_pending.specs.Acknowledging.{IsPending, pending_record}
 use Rattle.ckpt_rules.specs.Trigger.{limit}
-use Rattle.ckpt_core.specs.declared.image.Saved.{Saved}
+use Rattle.ckpt_model.specs.declared.image.Saved.{Saved}
 use Rattle.ckpt_core.specs.declared.parts.Parts.{Parts}
-use Rattle.ckpt_core.specs.declared.queries.Live.{Live}
-use Rattle.ckpt_core.specs.Images.{record_in}
+use Rattle.ckpt_model.specs.declared.reads.Live.{Live}
+use Rattle.ckpt_model.specs.Images.{record_in}
 use Rattle.ckpt_core.specs.Inside.Grouped.{records_of}
 use Rattle.ckpt_core.specs.Inside.Loading.{IsMade}
 use Rattle.ckpt_core.specs.Inside.Moving.{with_done}
 use Rattle.ckpt_core.specs.Inside.Parts.{records_in, state_of}
-use Rattle.ckpt_core.specs.Inside.SoundRecords.{HasRoom, NamesEachOnce, is_pending_checkpoint}
-use Rattle.ckpt_core.specs.Reads.{live_of}
-use Rattle.ckpt_core.specs.Soundness.{IsRecord}
-use Rattle.ckpt_core.specs.State.{Opening, is_checkpoint, is_done_checkpoint, is_pending}
+use Rattle.ckpt_core.specs.Inside.SoundRecords.{HasRoom, NamesEachOnce}
+use Rattle.ckpt_model.specs.SoundRecords.{is_pending_checkpoint}
+use Rattle.ckpt_model.specs.Reads.{live_of}
+use Rattle.ckpt_model.specs.Soundness.{IsRecord}
+use Rattle.ckpt_model.specs.State.{Opening, is_checkpoint, is_done_checkpoint, is_pending}
 use Rattle.ckpt_core.proofs.Reading.Live.{is_from}
-use Rattle.ckpt_core.proofs.Records.Counts.{IsIn-from_find, fails-from_find}
-use Rattle.ckpt_core.proofs.Records.GroupLookups.{is_checkpoint-kind, is_savepoint-kind}
+use Rattle.ckpt_model.proofs.Records.Counts.{IsIn-from_find, fails-from_find}
+use Rattle.ckpt_model.proofs.Records.Lists.{is_checkpoint-kind, is_savepoint-kind}
 use Rattle.ckpt_core.proofs.Records.Lookups.{AreGroups, count_by-records_of}
 
 -- its number

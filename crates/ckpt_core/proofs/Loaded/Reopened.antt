@@ -10,21 +10,22 @@ use Rattle.ckpt_ids.proofs.OrderedLemmas.{AreDistinct-apart, AreDistinct-left, A
 use Rattle.ckpt_outbox.specs.Queues.{Queues, is_in}
 use Rattle.ckpt_pending.specs.Acknowledging.{IsPending}
 use Rattle.ckpt_store.specs.Storing.{IsStored, Stored}
-use Rattle.ckpt_core.specs.declared.mode.Mode.TheVariants.{Running}
+use Rattle.ckpt_model.specs.declared.mode.Mode.TheVariants.{Running}
 use Rattle.ckpt_core.specs.declared.parts.Parts.{Parts}
-use Rattle.ckpt_core.specs.declared.image.Saved.{Saved}
-use Rattle.ckpt_core.specs.Images.{CanHold, HasSoundNumbers, record_in, state_in}
+use Rattle.ckpt_model.specs.declared.image.Saved.{Saved}
+use Rattle.ckpt_model.specs.Images.{CanHold, HasSoundNumbers, record_in, state_in}
 use Rattle.ckpt_core.specs.Inside.Grouped.{grouped, with_pins}
 use Rattle.ckpt_core.specs.Inside.Loading.{AreFilesApart, emptied, with_more_waiting}
 use Rattle.ckpt_core.specs.Inside.Parts.{opening_of, records_in, state_of}
-use Rattle.ckpt_core.specs.Inside.SoundRecords.{AreSoundRecords, Joins}
-use Rattle.ckpt_core.specs.Refusals.{is_done_savepoint}
-use Rattle.ckpt_core.specs.Soundness.{id_before}
-use Rattle.ckpt_core.specs.State.{Opening, State}
-use Rattle.ckpt_core.specs.declared.image.Image.{Image}
+use Rattle.ckpt_core.specs.Inside.SoundRecords.{Joins}
+use Rattle.ckpt_model.specs.SoundRecords.{AreSoundRecords}
+use Rattle.ckpt_model.specs.Refusals.{is_done_savepoint}
+use Rattle.ckpt_model.specs.Soundness.{id_before}
+use Rattle.ckpt_model.specs.State.{Opening, State}
+use Rattle.ckpt_model.specs.declared.image.Image.{Image}
 use Rattle.ckpt_core.proofs.Ending.Drops.{groups_of}
 use Rattle.ckpt_core.proofs.Loaded.Joining.{joins_from_sound, sound_front}
-use Rattle.ckpt_core.proofs.Records.Lists.{outbox_of, sound_from}
+use Rattle.ckpt_model.proofs.Records.Lists.{outbox_of, sound_from}
 use Rattle.ckpt_core.proofs.Records.Lookups.{done_in}
 
 -- what the parts have of the state that they stand for

@@ -12,15 +12,15 @@ use Rattle.ckpt_pending.specs.Acknowledging.{IsPending}
 use Rattle.ckpt_registry.specs.Uses.{pins_by}
 use Rattle.ckpt_store.specs.Storing.{IsStored}
 use Rattle.ckpt_core.specs.declared.parts.Parts.{Parts}
-use Rattle.ckpt_core.specs.declared.queries.Live.{Live}
+use Rattle.ckpt_model.specs.declared.reads.Live.{Live}
 use Rattle.ckpt_core.specs.Inside.Grouped.{grouped, with_pins}
 use Rattle.ckpt_core.specs.Inside.Parts.{AreSound, records_in, state_of}
-use Rattle.ckpt_core.specs.Reads.{live_of}
-use Rattle.ckpt_core.specs.Soundness.{id_before}
-use Rattle.ckpt_core.specs.State.{record_of}
+use Rattle.ckpt_model.specs.Reads.{live_of}
+use Rattle.ckpt_model.specs.Soundness.{id_before}
+use Rattle.ckpt_model.specs.State.{record_of}
 use Rattle.ckpt_core.proofs.Ending.Drops.{groups_of}
 use Rattle.ckpt_core.proofs.Reading.Live.{found_at, is_below, is_from, none_of, one_more, past, some_of}
-use Rattle.ckpt_core.proofs.Records.Counts.{IsIn-from_find}
+use Rattle.ckpt_model.proofs.Records.Counts.{IsIn-from_find}
 use Rattle.ckpt_core.proofs.Records.Pending.{find-from_IsIn}
 use Rattle.ckpt_core.proofs.Records.Lookups.{done_in}
 

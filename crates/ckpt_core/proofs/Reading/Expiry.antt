@@ -11,9 +11,9 @@ use Rattle.ckpt_store.specs.Storing.{IsStored}
 use Rattle.ckpt_core.specs.declared.parts.Parts.{Parts}
 use Rattle.ckpt_core.specs.Inside.Grouped.{with_pins, grouped}
 use Rattle.ckpt_core.specs.Inside.Parts.{records_in, state_of}
-use Rattle.ckpt_core.specs.Reads.{IsNextExpiry, has_come}
-use Rattle.ckpt_core.specs.Soundness.{IsSound, id_before}
-use Rattle.ckpt_core.specs.State.{is_pending}
+use Rattle.ckpt_model.specs.Reads.{IsNextExpiry, has_come}
+use Rattle.ckpt_model.specs.Soundness.{IsSound, id_before}
+use Rattle.ckpt_model.specs.State.{is_pending}
 use Rattle.ckpt_core.proofs.Ending.Drops.{groups_of}
 use Rattle.ckpt_core.proofs.Records.GroupLookups.{same_tests}
 use Rattle.ckpt_core.proofs.Records.Lookups.{AreGroups, done_in}

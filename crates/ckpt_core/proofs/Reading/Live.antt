@@ -9,14 +9,14 @@ use Rattle.ckpt_ids.specs.Records.{Record, Use}
 use Rattle.ckpt_ids.proofs.CountLemmas.{count_by_yes, count_by_no, count_by-none}
 use Rattle.ckpt_ids.proofs.OrderedLemmas.{ComesBefore-at, IsIn-append_left, IsIn-append_right, IsIn-append_cases, IsIn-map, IsIn-from_map, IsIn-in_order, IsIn-from_in_order, list_any-none}
 use Rattle.ckpt_ids.proofs.PlaceLemmas.{find-none}
-use Rattle.ckpt_core.specs.declared.queries.Live.{Live}
+use Rattle.ckpt_model.specs.declared.reads.Live.{Live}
 use Rattle.ckpt_core.specs.declared.parts.Parts.{Parts}
 use Rattle.ckpt_core.specs.Inside.Grouped.{with_pins, grouped}
 use Rattle.ckpt_core.specs.Inside.Parts.{AreSound, records_in, state_of}
-use Rattle.ckpt_core.specs.Reads.{live_of, sooner}
-use Rattle.ckpt_core.specs.Soundness.{IsSound, id_before}
-use Rattle.ckpt_core.proofs.Records.Counts.{IsIn-from_find, fails-from_find}
-use Rattle.ckpt_core.proofs.Records.Replacing.{same_record}
+use Rattle.ckpt_model.specs.Reads.{live_of, sooner}
+use Rattle.ckpt_model.specs.Soundness.{IsSound, id_before}
+use Rattle.ckpt_model.proofs.Records.Counts.{IsIn-from_find, fails-from_find}
+use Rattle.ckpt_model.proofs.Records.Replacing.{same_record}
 
 -- whether the number is at least this one
 abbrev pub is_from : ℕ → Record → Bool

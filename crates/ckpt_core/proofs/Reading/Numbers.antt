@@ -11,16 +11,16 @@ use Rattle.ckpt_registry.specs.Uses.{pins_by}
 use Rattle.ckpt_store.specs.Storing as storing
 use Rattle.ckpt_store.specs.Storing.{IsStored, Stored}
 use Rattle.ckpt_core.specs.declared.parts.Parts.{Parts}
-use Rattle.ckpt_core.specs.declared.recovery.Standing.{Standing}
-use Rattle.ckpt_core.specs.declared.recovery.Standing.TheVariants as stands
+use Rattle.ckpt_model.specs.declared.reads.Standing.{Standing}
+use Rattle.ckpt_model.specs.declared.reads.Standing.TheVariants as stands
 use Rattle.ckpt_core.specs.Inside.Grouped.{with_pins}
 use Rattle.ckpt_core.specs.Inside.Parts.{records_in, state_of}
-use Rattle.ckpt_core.specs.Reads.{pins_in, standing, standing_of, standing_without}
-use Rattle.ckpt_core.specs.Refusals.{pending_of}
-use Rattle.ckpt_core.specs.Soundness.{id_before}
-use Rattle.ckpt_core.specs.State.{State, is_pending, record_of}
+use Rattle.ckpt_model.specs.Reads.{pins_in, standing, standing_of, standing_without}
+use Rattle.ckpt_model.specs.Refusals.{pending_of}
+use Rattle.ckpt_model.specs.Soundness.{id_before}
+use Rattle.ckpt_model.specs.State.{State, is_pending, record_of}
 use Rattle.ckpt_core.proofs.Answering.Reads.{pending_live, stored_record}
-use Rattle.ckpt_core.proofs.Records.Counts.{IsIn-from_find}
+use Rattle.ckpt_model.proofs.Records.Counts.{IsIn-from_find}
 use Rattle.ckpt_core.proofs.Records.Lookups.{has_number}
 
 -- the standing, by what is found

@@ -11,18 +11,13 @@ use Rattle.ckpt_ids.specs.declared.numbers.Kind.TheVariants as kind
 use Rattle.ckpt_ids.specs.Ordered.{IsIn, IsInOrder, in_order}
 use Rattle.ckpt_ids.specs.Records.{Record, Use}
 use Rattle.ckpt_ids.proofs.OrderedLemmas.{IsIn-append_cases, IsIn-append_right, IsIn-from_map, IsIn-in_order, IsIn-from_in_order, list_any-from_IsIn, IsIn-from_list_any, filter-all, filter-none}
-use Rattle.ckpt_core.specs.Soundness.{id_before}
-use Rattle.ckpt_core.specs.State.{is_pending, is_checkpoint, is_done_checkpoint, last_checkpoint}
+use Rattle.ckpt_model.specs.Soundness.{id_before}
+use Rattle.ckpt_model.specs.State.{is_pending, is_checkpoint, is_done_checkpoint, last_checkpoint}
 use Rattle.ckpt_core.specs.Inside.Grouped.{with_pins, grouped, records_of}
+use Rattle.ckpt_model.proofs.Records.Lists.{is_checkpoint-kind, is_savepoint-kind}
 use Rattle.ckpt_core.proofs.Records.Grouped.{AreApart, in_order-from_apart, apart_left, apart_right, same_records, in_order-filter}
 use Rattle.ckpt_core.proofs.Records.Lookups.{AreGroups, has_number, find-records_of, find-map, count_by-records_of}
 use Rattle.ckpt_ids.proofs.CountLemmas.{count_by-none, count_by-same, count_by-all}
-
-pub is_checkpoint-kind : (r : Record) → r.kind ≡ kind.Checkpoint → is_checkpoint r ≡ true
-is_checkpoint-kind r e = ap (λ k. is_checkpoint (record r { kind = k })) e
-
-pub is_savepoint-kind : (r : Record) → r.kind ≡ kind.Savepoint → is_checkpoint r ≡ false
-is_savepoint-kind r e = ap (λ k. is_checkpoint (record r { kind = k })) e
 
 -- the record of a number: pending, or a checkpoint, or a savepoint
 pub record_of-groups : (id : ℕ) (us : List Use) (pending checkpoints savepoints : List Record) → AreApart (grouped us pending checkpoints savepoints) →

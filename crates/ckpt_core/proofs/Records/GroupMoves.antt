@@ -9,9 +9,9 @@ use Rattle.ckpt_ids.specs.Ascending.{IsAscendingSet}
 use Rattle.ckpt_ids.specs.Ordered.{IsIn, IsInOrder, in_order, in_order_once}
 use Rattle.ckpt_ids.specs.Records.{Record, Use, Subtask, Pin, use_before, uses, uses_of}
 use Rattle.ckpt_ids.proofs.OrderedLemmas.{IsIn-append_left, IsIn-map, IsIn-from_filter, IsInOrder-append, filter-none}
-use Rattle.ckpt_core.specs.Soundness.{id_before}
+use Rattle.ckpt_model.specs.Soundness.{id_before}
 use Rattle.ckpt_core.specs.Inside.Grouped.{is_pin, pins, pins_of, with_pins, grouped, records_of}
-use Rattle.ckpt_core.proofs.Records.Counts.{map_same}
+use Rattle.ckpt_model.proofs.Records.Counts.{map_same}
 use Rattle.ckpt_core.proofs.Records.Grouped.{AreApart, in_order-filter, in_order-newest}
 use Rattle.ckpt_core.proofs.Using.Order.{holds, from_holds, holds_in_order, in_order_once-itself, earlier_record}
 

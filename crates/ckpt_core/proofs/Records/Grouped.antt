@@ -5,7 +5,7 @@ use Rattle.std.proofs.lemmas.Bool.{cases_Bool, lt-ltb, ltb-true, ltb-false, le-l
 use Rattle.ckpt_ids.specs.Ordered.{IsIn, ComesBefore, IsInOrder, put, in_order}
 use Rattle.ckpt_ids.specs.Records.{Record}
 use Rattle.ckpt_ids.proofs.OrderedLemmas.{IsIn-append_left, IsIn-append_right, IsIn-append_cases, IsIn-from_map, IsIn-filter, IsIn-from_filter, ComesBefore-at, ComesBefore-from, IsInOrder-filter, IsIn-put, IsIn-put_cases, IsIn-in_order, IsIn-from_in_order}
-use Rattle.ckpt_core.specs.Soundness.{id_before}
+use Rattle.ckpt_model.specs.Soundness.{id_before}
 
 -- no record has the number of x
 abbrev pub IsNew : Record → List Record → Type 0

@@ -9,12 +9,12 @@ use Rattle.ckpt_ids.specs.Ordered.{IsIn, put, in_order}
 use Rattle.ckpt_ids.specs.Records.{Record, Use}
 use Rattle.ckpt_ids.proofs.OrderedLemmas.{IsIn-append_cases, IsIn-in_order, IsIn-from_in_order, list_any-none}
 use Rattle.ckpt_ids.proofs.PlaceLemmas.{find-none}
-use Rattle.ckpt_core.specs.Soundness.{id_before}
-use Rattle.ckpt_core.specs.State.{is_pending}
-use Rattle.ckpt_core.specs.Refusals.{pending_of}
+use Rattle.ckpt_model.specs.Soundness.{id_before}
+use Rattle.ckpt_model.specs.State.{is_pending}
+use Rattle.ckpt_model.specs.Refusals.{pending_of}
 use Rattle.ckpt_core.specs.Inside.Grouped.{with_pins, grouped, records_of}
 use Rattle.ckpt_ids.proofs.CountLemmas.{count_by-append, count_by-map, count_by-in_order, count_by-same}
-use Rattle.ckpt_core.proofs.Records.Counts.{IsIn-from_find, fails-from_find}
+use Rattle.ckpt_model.proofs.Records.Counts.{IsIn-from_find, fails-from_find, find_agree}
 use Rattle.ckpt_core.proofs.Records.Grouped.{AreApart}
 
 -- counts
@@ -82,10 +82,6 @@ find-map p f [] = refl
 find-map {X} {Y} p f (x ∷ xs) =
     let P : Bool → Type 0 = λ b. cond b (Some (f x)) (find p (map f xs)) ≡ option_map f (cond b (Some x) (find (λ y. p (f y)) xs)) in
     ⊎_elim (λ (e : p (f x) ≡ true). subst P (sym e) refl) (λ (e : p (f x) ≡ false). subst P (sym e) (find-map p f xs)) (cases_Bool (p (f x)))
-
-pub find_agree : {X : Type 0} (p q : X → Bool) (xs : List X) → ((x : X) → IsIn x xs → p x ≡ q x) → find p xs ≡ find q xs
-find_agree p q [] agree = refl
-find_agree p q (x ∷ xs) agree = ap (λ b. cond b (Some x) (find p xs)) (agree x (inl refl)) ∙ ap (λ o. cond (q x) (Some x) o) (find_agree p q xs (λ y h. agree y (inr h)))
 
 -- what the groups hold
 pub record AreGroups (pending checkpoints savepoints : List Record) : Type 0 where

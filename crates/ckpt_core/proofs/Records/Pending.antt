@@ -20,10 +20,10 @@ use Rattle.ckpt_pending.specs.Acknowledging.{IsPending, without_ack}
 use Rattle.ckpt_pending.proofs.PendingLemmas.{without-with_ack}
 use Rattle.ckpt_store.specs.Storing.{has_id, id_of}
 use Rattle.ckpt_store.proofs.RowLemmas.{find-place, remove-place}
-use Rattle.ckpt_core.specs.State.{is_checkpoint}
-use Rattle.ckpt_core.specs.Soundness.{id_before}
+use Rattle.ckpt_model.specs.State.{is_checkpoint}
+use Rattle.ckpt_model.specs.Soundness.{id_before}
 use Rattle.ckpt_core.specs.Inside.PendingRecords.{acked, retracted, AreKept}
-use Rattle.ckpt_core.proofs.Records.Counts.{map_itself}
+use Rattle.ckpt_model.proofs.Records.Counts.{map_itself}
 use Rattle.std.proofs.lemmas.Simd.{map-map}
 
 -- the record of this number changed

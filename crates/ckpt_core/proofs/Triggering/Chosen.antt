@@ -14,10 +14,10 @@ use Rattle.ckpt_registry.specs.Uses.{files_by}
 use Rattle.ckpt_core.specs.declared.parts.Parts.{Parts}
 use Rattle.ckpt_core.specs.Inside.Parts.{AreTied, state_of}
 use Rattle.ckpt_core.specs.Inside.Starting.{files_chosen}
-use Rattle.ckpt_core.specs.Laws.{names}
-use Rattle.ckpt_core.specs.Soundness.{IsSound, id_before}
-use Rattle.ckpt_core.specs.State.{State, choice_of, chosen, files_of, pins_now, record_of}
-use Rattle.ckpt_core.proofs.Histories.Choice.{chosen_is_done}
+use Rattle.ckpt_model.specs.Laws.{names}
+use Rattle.ckpt_model.specs.Soundness.{IsSound, id_before}
+use Rattle.ckpt_model.specs.State.{State, choice_of, chosen, files_of, pins_now, record_of}
+use Rattle.ckpt_model.proofs.Histories.Choice.{chosen_is_done}
 use Rattle.ckpt_core.proofs.Using.Order.{uses-filter}
 
 -- no other record has the number

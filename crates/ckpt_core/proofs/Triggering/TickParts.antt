@@ -29,25 +29,25 @@ use Rattle.ckpt_rules.specs.Trigger.{gap}
 use Rattle.ckpt_core.specs.declared.parts.Parts.{Parts}
 use Rattle.ckpt_core.specs.declared.triggers.Expiry.{Expiry}
 use Rattle.ckpt_core.specs.Inside.Grouped.{with_pins, grouped}
-use Rattle.ckpt_core.specs.Memory.{answer_wants, may_want_memory}
+use Rattle.ckpt_model.specs.Memory.{answer_wants, may_want_memory}
 use Rattle.ckpt_core.specs.Inside.Parts.{Answers, AreSound, AreTied, IsAccepted, is_noted, records_in, state_of}
-use Rattle.ckpt_core.specs.Soundness.{IsSound, id_before}
+use Rattle.ckpt_model.specs.Soundness.{IsSound, id_before}
 use Rattle.ckpt_core.specs.Inside.Expiring.{IsExpiry, is_late, late_in}
 use Rattle.ckpt_core.specs.Inside.Starting.{Starts, held_at}
-use Rattle.ckpt_core.specs.State.{State, drop, is_checkpoint, is_expired}
-use Rattle.ckpt_core.specs.Steps.{Stepped, effect, start_or_hold, tick, triggered, failed_over, dropped_by}
-use Rattle.ckpt_core.proofs.Records.Counts.{count_by-le}
+use Rattle.ckpt_model.specs.State.{State, drop, is_checkpoint, is_expired}
+use Rattle.ckpt_model.specs.Steps.{Stepped, effect, start_or_hold, tick, triggered, failed_over, dropped_by}
+use Rattle.ckpt_model.proofs.Records.Counts.{count_by-le}
 use Rattle.ckpt_core.proofs.Ending.Counts.{few_pending}
 use Rattle.ckpt_core.proofs.Triggering.TriggerParts.{limit_bound}
-use Rattle.ckpt_core.specs.declared.mode.Mode.TheVariants.{Running}
+use Rattle.ckpt_model.specs.declared.mode.Mode.TheVariants.{Running}
 use Rattle.ckpt_core.proofs.Records.Grouped.{AreApart, apart_left, apart_between}
 use Rattle.ckpt_core.proofs.Records.Lookups.{AreGroups, count_by-records_of, one_of_number, done_in}
 use Rattle.ckpt_core.proofs.Records.GroupLookups.{pending_checkpoints-groups}
 use Rattle.ckpt_core.proofs.Ending.Drops.{apart_in, numbers, noted-from_IsIn, IsIn-from_noted}
-use Rattle.ckpt_core.proofs.Soundness.Triggers.{new_record}
+use Rattle.ckpt_model.proofs.Soundness.Triggers.{new_record}
 use Rattle.ckpt_core.proofs.Triggering.TickStates.{started, starts_as, starts_done, starts_unused, stepped, tick_fails, tick_goes, tick_starts, ticked}
 use Rattle.ckpt_ids.proofs.CountLemmas.{count_by-none, count_by-same}
-use Rattle.ckpt_core.proofs.Answering.StepCases.{step_accepted}
+use Rattle.ckpt_model.proofs.Answering.StepCases.{step_accepted}
 
 -- the clock
 

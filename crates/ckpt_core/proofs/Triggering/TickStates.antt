@@ -18,20 +18,20 @@ use Rattle.ckpt_ids.proofs.OrderedLemmas.{IsIn-append_left, IsIn-append_right, I
 use Rattle.ckpt_rules.specs.declared.hold.Hold.{Hold}
 use Rattle.ckpt_rules.specs.declared.hold.Hold.TheVariants as hold
 use Rattle.ckpt_rules.specs.Trigger.{gap}
-use Rattle.ckpt_core.specs.State.{State, is_checkpoint, is_pending, is_expired, drop, kept, unpinned, pins_now, in_outbox}
-use Rattle.ckpt_core.specs.Soundness.{IsSound, id_before}
+use Rattle.ckpt_model.specs.State.{State, is_checkpoint, is_pending, is_expired, drop, kept, unpinned, pins_now, in_outbox}
+use Rattle.ckpt_model.specs.Soundness.{IsSound, id_before}
 use Rattle.ckpt_core.specs.Inside.Expiring.{is_late, late_in}
 use Rattle.ckpt_core.specs.Inside.Starting.{Starts, held_at}
-use Rattle.ckpt_core.specs.Steps.{Stepped, triggered, start_or_hold, after_expiry, tick, failed_over, pending_checkpoints, dropped_by}
+use Rattle.ckpt_model.specs.Steps.{Stepped, triggered, start_or_hold, after_expiry, tick, failed_over, pending_checkpoints, dropped_by}
 use Rattle.ckpt_registry.proofs.ListLemmas.{count_by-filter}
 use Rattle.ckpt_ids.proofs.CountLemmas.{count_by-cons, count_by-same}
-use Rattle.ckpt_core.proofs.Records.Counts.{map_itself}
-use Rattle.ckpt_core.proofs.Using.Present.{IsHeld, Holds, IsHeld-from_present, present-from_IsHeld, Holds-from_use}
-use Rattle.ckpt_core.proofs.Ending.Released.{ascending-released, before-from_released, after-from_released, IsIn-released}
-use Rattle.ckpt_core.proofs.Records.Lists.{IsSoundOutbox}
-use Rattle.ckpt_core.proofs.Soundness.Triggers.{new_record, outbox_triggered, held-from_pins}
+use Rattle.ckpt_model.proofs.Records.Counts.{map_itself}
+use Rattle.ckpt_model.proofs.Records.Present.{IsHeld, Holds, IsHeld-from_present, present-from_IsHeld, Holds-from_use}
+use Rattle.ckpt_model.proofs.Records.Released.{ascending-released, before-from_released, after-from_released, IsIn-released}
+use Rattle.ckpt_model.proofs.Records.Lists.{IsSoundOutbox}
+use Rattle.ckpt_model.proofs.Soundness.Triggers.{new_record, outbox_triggered, held-from_pins}
 use Rattle.ckpt_core.proofs.Ending.Drops.{drop_same}
-use Rattle.ckpt_core.proofs.Triggering.Pins.{pins_stay, pins_same}
+use Rattle.ckpt_model.proofs.Records.Pins.{pins_stay, pins_same}
 
 -- the records after a trigger and a drop
 

@@ -17,15 +17,16 @@ use Rattle.ckpt_ids.proofs.AscendingLemmas.{numbers_in_order}
 use Rattle.ckpt_core.specs.declared.parts.Parts.{Parts}
 use Rattle.ckpt_ids.specs.Configuration.{Configuration, IsWithinLimits}
 use Rattle.ckpt_rules.specs.Trigger.{limit}
-use Rattle.ckpt_core.specs.State.{State, is_pending, is_checkpoint, is_done_checkpoint, pins_now, files_of, chosen, choice_of}
-use Rattle.ckpt_core.specs.Soundness.{IsSound, id_before}
-use Rattle.ckpt_core.specs.Steps.{triggered}
+use Rattle.ckpt_model.specs.State.{State, is_pending, is_checkpoint, is_done_checkpoint, pins_now, files_of, chosen, choice_of}
+use Rattle.ckpt_model.specs.Soundness.{IsSound, id_before}
+use Rattle.ckpt_model.specs.Steps.{triggered}
 use Rattle.ckpt_core.specs.Inside.Grouped.{with_pins, grouped, records_of}
-use Rattle.ckpt_core.specs.Inside.Parts.{state_of, records_in, present_in, AreTied}
+use Rattle.ckpt_core.specs.Inside.Parts.{state_of, records_in, AreTied}
+use Rattle.ckpt_model.specs.Reads.{present_in}
 use Rattle.ckpt_ids.proofs.CountLemmas.{count_by-cons}
 use Rattle.ckpt_core.proofs.Using.Order.{holds, from_holds, use_of_record}
 use Rattle.ckpt_core.proofs.Records.GroupMoves.{trigger_groups, trigger_uses, uses_of-triggered}
-use Rattle.ckpt_core.proofs.Soundness.Triggers.{ascending-pins, chosen_in}
+use Rattle.ckpt_model.proofs.Soundness.Triggers.{ascending-pins, chosen_in}
 
 -- every use is of a record with an earlier number
 pub older_uses : (p : Parts) → AreTied p → IsSound (state_of p) → (u : Use) → IsIn u p.registry → u.id < p.next

@@ -17,10 +17,10 @@ use Rattle.ckpt_ids.proofs.ShapeLemmas.{length-subtasks_from}
 use Rattle.ckpt_pending.proofs.SubtaskLemmas.{IsInOrder-subtasks, IsIn-subtasks}
 use Rattle.ckpt_core.specs.declared.parts.Parts.{Parts}
 use Rattle.ckpt_core.specs.Inside.Parts.{state_of, AreTied}
-use Rattle.ckpt_core.specs.State.{State}
-use Rattle.ckpt_core.specs.Soundness.{IsSound, IsRecord}
+use Rattle.ckpt_model.specs.State.{State}
+use Rattle.ckpt_model.specs.Soundness.{IsSound, IsRecord}
 use Rattle.ckpt_ids.proofs.CountLemmas.{count_by-append, count_by_no}
-use Rattle.ckpt_core.proofs.Records.Counts.{count_by_at_most_more}
+use Rattle.ckpt_model.proofs.Records.Counts.{count_by_at_most_more}
 use Rattle.ckpt_core.proofs.Using.Order.{holds}
 use Rattle.ckpt_core.proofs.Triggering.TriggerParts.{live_bound}
 

@@ -10,7 +10,7 @@ use Rattle.ckpt_ids.specs.Ordered.{IsIn, IsInOrder, in_order_once}
 use Rattle.ckpt_ids.specs.Records.{Record, Use, Holder, Subtask, Pin, use_before, holder_before, same_holder, uses, uses_of}
 use Rattle.ckpt_ids.proofs.OrderedLemmas.{IsIn-append_cases, IsIn-from_map, IsIn-from_flat_map, ComesBefore-at, IsInOrder-append, IsInOrder-map, same_from_members, IsInOrder-in_order_once, IsIn-in_order_once, IsIn-from_in_order_once}
 use Rattle.ckpt_ids.proofs.OrderLemmas.{uses_in_order, same_subtask-Decides}
-use Rattle.ckpt_core.specs.Soundness.{id_before, IsRecord}
+use Rattle.ckpt_model.specs.Soundness.{id_before, IsRecord}
 
 -- an earlier record's uses come first
 pub earlier_record : (u v : Use) → u.id < v.id → use_before u v ≡ true

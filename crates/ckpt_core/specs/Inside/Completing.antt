@@ -2,7 +2,7 @@
 use Rattle.std.specs.Prelude.{Bool, ℕ, ◌≡◌, ◌&&◌, nat_lt, ◌==◌, List, [], ◌∷◌, ◌++◌, map, filter, find, Option, Some, None}
 use Rattle.ckpt_ids.specs.Records.{Record, missing}
 use Rattle.ckpt_store.specs.Storing.{Stored, past_retained}
-use Rattle.ckpt_core.specs.State.{is_checkpoint}
+use Rattle.ckpt_model.specs.State.{is_checkpoint}
 
 -- the pending record with this number lacks this many acknowledgements
 pub record IsMissing (pending : List Record) (id count : ℕ) : Type 0 where

@@ -4,8 +4,8 @@ use Rattle.ckpt_ids.specs.Ordered.{IsIn}
 use Rattle.ckpt_ids.specs.Records.{Record}
 use Rattle.ckpt_core.specs.declared.parts.Parts.{Parts}
 use Rattle.ckpt_core.specs.declared.triggers.Expiry.{Expiry}
-use Rattle.ckpt_core.specs.State.{State, is_checkpoint, is_expired}
-use Rattle.ckpt_core.specs.Steps.{dropped_by, pending_checkpoints}
+use Rattle.ckpt_model.specs.State.{State, is_checkpoint, is_expired}
+use Rattle.ckpt_model.specs.Steps.{dropped_by, pending_checkpoints}
 use Rattle.ckpt_core.specs.Inside.Parts.{is_noted, records_in, state_of}
 
 -- a checkpoint that has expired has failed

@@ -3,7 +3,7 @@
 use Rattle.std.specs.Prelude.{ℕ, Bool, ◌&&◌, ◌==◌, List, ◌++◌, map, filter}
 use Rattle.ckpt_ids.specs.Ordered.{in_order}
 use Rattle.ckpt_ids.specs.Records.{Record, Use, Holder, Pin, same_holder}
-use Rattle.ckpt_core.specs.Soundness.{id_before}
+use Rattle.ckpt_model.specs.Soundness.{id_before}
 
 abbrev pub is_pin : Holder → Bool
 is_pin holder = same_holder holder Pin

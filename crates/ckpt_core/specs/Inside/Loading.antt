@@ -7,13 +7,14 @@ use Rattle.ckpt_ids.specs.Records.{Record, Use, Subtask, Pin, is_present}
 use Rattle.ckpt_ids.specs.Shapes.{is_subtask}
 use Rattle.ckpt_pending.specs.Acknowledging.{pending_record}
 use Rattle.ckpt_registry.specs.Uses.{triples}
-use Rattle.ckpt_core.specs.declared.image.Saved.{Saved}
+use Rattle.ckpt_model.specs.declared.image.Saved.{Saved}
 use Rattle.ckpt_core.specs.declared.parts.Parts.{Parts}
 use Rattle.ckpt_core.specs.Inside.Parts.{opening_of, records_in}
-use Rattle.ckpt_core.specs.Inside.SoundRecords.{AreSoundRecords, Joins, NamesEachOnce}
-use Rattle.ckpt_core.specs.Refusals.{is_done_savepoint}
-use Rattle.ckpt_core.specs.Soundness.{IsRecord}
-use Rattle.ckpt_core.specs.State.{State}
+use Rattle.ckpt_core.specs.Inside.SoundRecords.{Joins, NamesEachOnce}
+use Rattle.ckpt_model.specs.SoundRecords.{AreSoundRecords}
+use Rattle.ckpt_model.specs.Refusals.{is_done_savepoint}
+use Rattle.ckpt_model.specs.Soundness.{IsRecord}
+use Rattle.ckpt_model.specs.State.{State}
 
 -- the uses by these acknowledgements of a record
 abbrev pub uses_of_acks : ℕ → List Acked → List Use

@@ -9,7 +9,8 @@ use Rattle.ckpt_ids.specs.Records.{Record, Use, Subtask, released, use_before}
 use Rattle.ckpt_registry.specs.Uses.{after_end, triples}
 use Rattle.ckpt_store.specs.Storing.{Stored, by_id, completing}
 use Rattle.ckpt_core.specs.declared.parts.Parts.{Parts}
-use Rattle.ckpt_core.specs.Inside.Parts.{is_noted, present_in}
+use Rattle.ckpt_core.specs.Inside.Parts.{is_noted}
+use Rattle.ckpt_model.specs.Reads.{present_in}
 use Rattle.ckpt_core.specs.Inside.PendingRecords.{acked}
 
 -- the outbox has room for the files in use and this many more

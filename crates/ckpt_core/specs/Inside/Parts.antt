@@ -14,10 +14,11 @@ use Rattle.ckpt_outbox.specs.Queues.{is_known}
 use Rattle.ckpt_store.specs.Storing.{id_of}
 use Rattle.ckpt_core.specs.declared.parts.Opened.{Opened}
 use Rattle.ckpt_core.specs.declared.parts.Parts.{Parts}
-use Rattle.ckpt_core.specs.State.{State, Opening, drop, released_by}
-use Rattle.ckpt_core.specs.Refusals.{refusal, first_some, is_foreign, is_repeat, named, pending_of}
-use Rattle.ckpt_core.specs.Steps.{step}
-use Rattle.ckpt_core.specs.Soundness.{IsSound}
+use Rattle.ckpt_model.specs.State.{State, Opening, drop, released_by}
+use Rattle.ckpt_model.specs.Refusals.{refusal, first_some, is_foreign, is_repeat, named, pending_of}
+use Rattle.ckpt_model.specs.Steps.{step}
+use Rattle.ckpt_model.specs.Soundness.{IsSound}
+use Rattle.ckpt_model.specs.Reads.{present_in}
 pub use Rattle.ckpt_core.specs.Inside.Grouped.{records_of, with_pins}
 use Rattle.ckpt_ids.specs.declared.subtask.SubtaskId.{SubtaskId}
 use Rattle.ckpt_ids.specs.declared.reply.Refusal.{Refusal}
@@ -45,10 +46,6 @@ state_of p = record {
   waiting = p.outbox.waiting;
   taken = p.outbox.taken;
 }
-
--- how many files are in use
-abbrev pub present_in : List Use → ℕ
-present_in us = length (ascending_set (map (λ u. u.file) us))
 
 -- what ties the parts together
 pub record AreTied (p : Parts) : Type 0 where

@@ -5,8 +5,8 @@ use Rattle.ckpt_ids.specs.Ordered.{IsIn, IsInOrder}
 use Rattle.ckpt_ids.specs.Records.{Record, acknowledged, has_acknowledged}
 use Rattle.ckpt_ids.specs.Shapes.{is_subtask}
 use Rattle.ckpt_pending.specs.Acknowledging.{IsPending, without_ack}
-use Rattle.ckpt_core.specs.State.{is_checkpoint}
-use Rattle.ckpt_core.specs.Soundness.{id_before}
+use Rattle.ckpt_model.specs.State.{is_checkpoint}
+use Rattle.ckpt_model.specs.Soundness.{id_before}
 
 -- the records after a subtask acknowledged the one of this number
 abbrev pub acked : ℕ → SubtaskId → List ℕ → List Record → List Record

@@ -3,5 +3,5 @@ pub use Rattle.ckpt_ids.specs.Ordered.{IsIn, IsInOrder}
 pub use Rattle.ckpt_ids.specs.Records.{Record, has_acknowledged}
 pub use Rattle.ckpt_pending.specs.Acknowledging.{IsPending}
 pub use Rattle.ckpt_store.specs.Storing.{IsAbove, IsStored, has_savepoint}
-pub use Rattle.ckpt_core.specs.State.{is_checkpoint, is_done_checkpoint, is_pending}
-pub use Rattle.ckpt_core.specs.Soundness.{id_before}
+pub use Rattle.ckpt_model.specs.State.{is_checkpoint, is_done_checkpoint, is_pending}
+pub use Rattle.ckpt_model.specs.Soundness.{id_before}

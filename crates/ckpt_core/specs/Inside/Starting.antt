@@ -17,9 +17,9 @@ pub use Rattle.ckpt_ids.specs.Records.{Pin, count, use_before}
 use Rattle.ckpt_registry.specs.Uses.{files_by, triples}
 pub use Rattle.ckpt_registry.specs.Uses.{HasNoUse}
 use Rattle.ckpt_core.specs.declared.parts.Parts.{Parts}
-use Rattle.ckpt_core.specs.State.{State}
-use Rattle.ckpt_core.specs.Steps.{start_or_hold}
-pub use Rattle.ckpt_core.specs.Steps.{tick, triggered}
+use Rattle.ckpt_model.specs.State.{State}
+use Rattle.ckpt_model.specs.Steps.{start_or_hold}
+pub use Rattle.ckpt_model.specs.Steps.{tick, triggered}
 
 -- what holds a checkpoint back while this many are pending
 abbrev pub held_at : State → ℕ → Hold

@@ -4,7 +4,7 @@ use Rattle.ckpt_ids.specs.Ascending.{IsAscending, IsAscendingSet}
 use Rattle.ckpt_ids.proofs.AscendingLemmas.{numbers_in_order, set-from_distinct}
 use Rattle.ckpt_ids.proofs.OrderedLemmas.{AreDistinct-from_order}
 use Rattle.ckpt_core.proofs.Answering.RefusalRepeats.{test-from_distinct}
-use Rattle.ckpt_core.proofs.Ending.Released.{distinct-from_test}
+use Rattle.ckpt_model.proofs.Records.Released.{distinct-from_test}
 use Rattle.ckpt_core.proofs.loading.rises.Goals as goal
 
 fails : (b r : Bool) → r ≡ b → not r ≡ true → b ≡ false

@@ -1,7 +1,7 @@
 -- Answers the goals of `show_from`.
 use Rattle.std.proofs.Common.{◌≡◌, ◌≢◌, refl, sym, subst, length}
 use Rattle.ckpt_ids.specs.declared.call.Call.TheVariants as call
-use Rattle.ckpt_core.specs.Steps.{step}
+use Rattle.ckpt_model.specs.Steps.{step}
 use Rattle.ckpt_embed.specs.declared.answer.Answer.{Answer}
 use Rattle.ckpt_embed.specs.Buffers.{show_told}
 use Rattle.ckpt_embed.specs.Told.{no_memory}

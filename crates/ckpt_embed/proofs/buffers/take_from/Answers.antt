@@ -1,7 +1,7 @@
 -- Answers the goals of `take_from`.
 use Rattle.std.proofs.Common.{◌≡◌, ◌≢◌, sym, subst}
 use Rattle.ckpt_ids.specs.declared.call.Call.TheVariants as call
-use Rattle.ckpt_core.specs.Steps.{step}
+use Rattle.ckpt_model.specs.Steps.{step}
 use Rattle.ckpt_embed.specs.declared.answer.Answer.{Answer}
 use Rattle.ckpt_embed.specs.Buffers.{StandsInFront, files_in}
 use Rattle.ckpt_embed.specs.Told.{told, no_memory}

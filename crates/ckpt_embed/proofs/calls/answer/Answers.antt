@@ -1,6 +1,6 @@
 -- Answers the goals of `answer`.
 use Rattle.std.proofs.Common.{◌≡◌, ◌≢◌, sym, subst}
-use Rattle.ckpt_core.specs.Steps.{step}
+use Rattle.ckpt_model.specs.Steps.{step}
 use Rattle.ckpt_embed.specs.declared.answer.Answer.{Answer}
 use Rattle.ckpt_embed.specs.Told.{told, no_memory}
 use Rattle.ckpt_embed.proofs.Given.{fault_answered}

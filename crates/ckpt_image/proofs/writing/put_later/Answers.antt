@@ -1,8 +1,8 @@
 -- Answers the goals of `put_later`.
 use Rattle.std.proofs.Common.{map, subst}
 use Rattle.std.specs.Prelude.{List}
-use Rattle.ckpt_core.specs.declared.image.Saved.{Saved}
-use Rattle.ckpt_core.specs.Images.{record_in}
+use Rattle.ckpt_model.specs.declared.image.Saved.{Saved}
+use Rattle.ckpt_model.specs.Images.{record_in}
 use Rattle.ckpt_ids.specs.Ordered.{IsIn}
 use Rattle.ckpt_ids.specs.Records.{Record}
 use Rattle.ckpt_image.specs.Fits.{RecordFits}

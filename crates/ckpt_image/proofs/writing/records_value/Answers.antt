@@ -1,8 +1,8 @@
 -- Answers the goals of `records_value`.
 use Rattle.std.proofs.Common.{◌≡◌, List, [], ◌∷◌, map, refl, ap, ◌∙◌}
 use Rattle.std.proofs.lemmas.List.{take_all}
-use Rattle.ckpt_core.specs.declared.image.Saved.{Saved}
-use Rattle.ckpt_core.specs.Images.{record_in}
+use Rattle.ckpt_model.specs.declared.image.Saved.{Saved}
+use Rattle.ckpt_model.specs.Images.{record_in}
 use Rattle.ckpt_ids.proofs.OrderedLemmas.{IsIn-from_map}
 use Rattle.serde_json.specs.Data.{array}
 use Rattle.serde_json.specs.View.{items_of}

@@ -1,7 +1,7 @@
 -- The loop invariants of `records_value`.
 use Rattle.std.proofs.Common.{◌≡◌, map, take}
-use Rattle.ckpt_core.specs.declared.image.Saved.{Saved}
-use Rattle.ckpt_core.specs.Images.{record_in}
+use Rattle.ckpt_model.specs.declared.image.Saved.{Saved}
+use Rattle.ckpt_model.specs.Images.{record_in}
 use Rattle.ckpt_ids.specs.Ordered.{IsIn}
 use Rattle.serde_json.specs.View.{view}
 use Rattle.ckpt_image.specs.Fits.{RecordFits}

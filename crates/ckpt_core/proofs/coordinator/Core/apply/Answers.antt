@@ -7,12 +7,12 @@ use Rattle.ckpt_ids.specs.declared.call.Call.{Call}
 use Rattle.ckpt_ids.specs.declared.call.Call.TheVariants.{Deleted, Dispose, Undeleted}
 use Rattle.ckpt_ids.specs.declared.reply.Reply.{Reply}
 use Rattle.ckpt_ids.specs.declared.reply.Refusal.{Refusal}
-use Rattle.ckpt_core.specs.declared.coordinator.CoreFault.{CoreFault}
-use Rattle.ckpt_core.specs.declared.coordinator.CoreFault.TheVariants.{Refused}
+use Rattle.ckpt_model.specs.declared.faults.CoreFault.{CoreFault}
+use Rattle.ckpt_model.specs.declared.faults.CoreFault.TheVariants.{Refused}
 use Rattle.ckpt_core.specs.declared.parts.Parts.{Parts}
 use Rattle.ckpt_core.specs.Inside.Parts.{Answers, state_of}
-use Rattle.ckpt_core.specs.Refusals.{refusal}
-use Rattle.ckpt_core.specs.State.{State}
+use Rattle.ckpt_model.specs.Refusals.{refusal}
+use Rattle.ckpt_model.specs.State.{State}
 use Rattle.ckpt_core.proofs.Answering.Calls.{sound_after}
 use Rattle.ckpt_core.proofs.Answering.Reports.{NamesRefusal, accepted_done, names_it, names_none}
 use Rattle.ckpt_core.proofs.coordinator.Core.apply.Goals as goal

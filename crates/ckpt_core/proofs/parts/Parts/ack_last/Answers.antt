@@ -8,7 +8,7 @@ use Rattle.ckpt_ids.specs.Records.{missing}
 use Rattle.ckpt_store.specs.Storing.{has_id, id_of}
 use Rattle.ckpt_store.proofs.RowLemmas.{find-place}
 use Rattle.ckpt_core.specs.Inside.Completing.{IsMissing}
-use Rattle.ckpt_core.specs.Soundness.{id_before}
+use Rattle.ckpt_model.specs.Soundness.{id_before}
 use Rattle.ckpt_ids.specs.declared.reply.Reply.TheVariants.{AckCompleted}
 use Rattle.ckpt_core.specs.declared.parts.Parts.{Parts}
 use Rattle.ckpt_core.specs.Inside.Parts.{Stays}

@@ -15,11 +15,11 @@ use Rattle.ckpt_store.proofs.RowLemmas.{find-place}
 use Rattle.ckpt_core.specs.declared.parts.Parts.{Parts}
 use Rattle.ckpt_core.specs.Inside.Grouped.{with_pins}
 use Rattle.ckpt_core.specs.Inside.Parts.{IsPlaceOf, records_in, state_of, Answers}
-use Rattle.ckpt_core.specs.Refusals.{pending_of}
-use Rattle.ckpt_core.specs.State.{is_checkpoint}
-use Rattle.ckpt_core.specs.Steps.{failures_with, fails_the_job}
-use Rattle.ckpt_core.proofs.Answering.Accepted.{accepted_decline}
-use Rattle.ckpt_core.proofs.Records.Counts.{IsIn-from_find}
+use Rattle.ckpt_model.specs.Refusals.{pending_of}
+use Rattle.ckpt_model.specs.State.{is_checkpoint}
+use Rattle.ckpt_model.specs.Steps.{failures_with, fails_the_job}
+use Rattle.ckpt_model.proofs.Answering.Accepted.{accepted_decline}
+use Rattle.ckpt_model.proofs.Records.Counts.{IsIn-from_find}
 use Rattle.ckpt_core.proofs.Records.Lookups.{has_number}
 use Rattle.ckpt_core.proofs.Ending.Drops.{groups_of}
 use Rattle.ckpt_core.proofs.Ending.Moves.{late_answers, pending_there, few_failed, failed_answers, aborted_answers, declined_as, kind_test, are_too_many}

@@ -8,7 +8,7 @@ use Rattle.ckpt_store.specs.declared.store.DisposeFault.{DisposeFault}
 use Rattle.ckpt_store.specs.declared.store.DisposeFault.TheVariants.{NoSuchSavepoint, InUse}
 use Rattle.ckpt_store.specs.Storing.{has_savepoint}
 use Rattle.ckpt_core.specs.Inside.Parts.{Drops, state_of}
-use Rattle.ckpt_core.specs.Refusals.{is_number, refusal}
+use Rattle.ckpt_model.specs.Refusals.{is_number, refusal}
 use Rattle.ckpt_core.proofs.Answering.RefusalLookups.{done_savepoint-parts}
 use Rattle.ckpt_core.proofs.Answering.Reports.{names_it, names_none, refusal_dispose}
 use Rattle.ckpt_core.proofs.Ending.Drops.{none_known, room_to_note}

@@ -8,8 +8,8 @@ use Rattle.ckpt_ids.specs.Records.{Record, released, uses}
 use Rattle.ckpt_ids.proofs.OrderedLemmas.{filter-all}
 use Rattle.ckpt_core.specs.declared.parts.Parts.{Parts}
 use Rattle.ckpt_core.specs.Inside.Parts.{AreTied, Drops, is_noted, state_of}
-use Rattle.ckpt_core.specs.State.{State, drop, kept, unpinned}
-use Rattle.ckpt_core.proofs.Records.Counts.{map_itself}
+use Rattle.ckpt_model.specs.State.{State, drop, kept, unpinned}
+use Rattle.ckpt_model.proofs.Records.Counts.{map_itself}
 use Rattle.ckpt_core.proofs.Ending.HandOut.{nothing_released}
 use Rattle.ckpt_core.specs.Inside.Grouped.{grouped}
 use Rattle.ckpt_core.proofs.Ending.Drops.{left, staying, drops_from, staying_done}

@@ -6,10 +6,10 @@ use Rattle.ckpt_ids.specs.declared.reply.Answer.TheVariants as answer
 use Rattle.ckpt_ids.specs.declared.reply.Reply.TheVariants as reply
 use Rattle.ckpt_core.specs.declared.triggers.Ticked.{Ticked}
 use Rattle.ckpt_core.specs.Inside.Parts.{state_of}
-use Rattle.ckpt_core.specs.Memory.{answer_wants}
-use Rattle.ckpt_core.specs.Soundness.{IsSound}
-use Rattle.ckpt_core.specs.State.{State}
-use Rattle.ckpt_core.specs.Steps.{tick}
+use Rattle.ckpt_model.specs.Memory.{answer_wants}
+use Rattle.ckpt_model.specs.Soundness.{IsSound}
+use Rattle.ckpt_model.specs.State.{State}
+use Rattle.ckpt_model.specs.Steps.{tick}
 use Rattle.ckpt_core.proofs.parts.Parts.expire.Goals as goal
 
 pub fail_expired-requires-clause-sound : goal.fail_expired-requires-clause-sound

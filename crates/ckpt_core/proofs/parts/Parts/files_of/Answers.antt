@@ -5,7 +5,7 @@ use Rattle.std.specs.Option.{option_and_then, option_copied}
 use Rattle.ckpt_ids.specs.Records.{Record}
 use Rattle.ckpt_pending.specs.Acknowledging.{files_from}
 use Rattle.ckpt_core.specs.Inside.Parts.{state_of}
-use Rattle.ckpt_core.specs.State.{record_of}
+use Rattle.ckpt_model.specs.State.{record_of}
 use Rattle.ckpt_core.proofs.Answering.Reads.{pending_live, stored_record}
 use Rattle.ckpt_core.proofs.Reading.Live.{live_in_order}
 use Rattle.ckpt_core.proofs.Records.Lookups.{has_number}

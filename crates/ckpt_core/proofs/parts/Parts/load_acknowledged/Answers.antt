@@ -1,8 +1,8 @@
 -- Answers the goals of `Parts::load_acknowledged`.
 use Rattle.std.proofs.Common.{◌≡◌, ◌<◌, List, [], ◌∷◌, ◌++◌, refl, sym, ap, subst, ◌∙◌, arith}
 use Rattle.ckpt_ids.specs.Records.{Record, count, uses}
-use Rattle.ckpt_core.specs.declared.image.Saved.{Saved}
-use Rattle.ckpt_core.specs.Images.{record_in}
+use Rattle.ckpt_model.specs.declared.image.Saved.{Saved}
+use Rattle.ckpt_model.specs.Images.{record_in}
 use Rattle.ckpt_core.specs.Inside.Parts.{opening_of, records_in}
 use Rattle.ckpt_core.specs.Inside.SoundRecords.{Joins}
 use Rattle.ckpt_core.proofs.Loaded.Bounds.{few_records, few_uses}

@@ -4,7 +4,7 @@ use Rattle.std.proofs.lemmas.Bool.{both_ways}
 use Rattle.ckpt_store.specs.Storing.{has_savepoint}
 use Rattle.ckpt_core.specs.declared.parts.Parts.{Parts}
 use Rattle.ckpt_core.specs.Inside.Parts.{state_of}
-use Rattle.ckpt_core.specs.Refusals.{is_done_savepoint}
+use Rattle.ckpt_model.specs.Refusals.{is_done_savepoint}
 use Rattle.ckpt_core.proofs.Answering.RefusalLookups.{done_savepoint-parts}
 use Rattle.ckpt_core.proofs.Loaded.Reopened.{set_state, with_base}
 use Rattle.ckpt_core.proofs.parts.Parts.load_base.Goals as goal

@@ -6,15 +6,16 @@ use Rattle.ckpt_ids.specs.Ascending.{IsAscendingSet}
 use Rattle.ckpt_ids.specs.Ordered.{IsIn}
 use Rattle.ckpt_ids.specs.Records.{Record}
 use Rattle.ckpt_core.specs.declared.parts.Parts.{Parts}
-use Rattle.ckpt_core.specs.Images.{record_in}
+use Rattle.ckpt_model.specs.Images.{record_in}
 use Rattle.ckpt_core.specs.Inside.Moving.{with_done}
 use Rattle.ckpt_core.specs.Inside.Parts.{records_in}
-use Rattle.ckpt_core.specs.State.{is_checkpoint}
+use Rattle.ckpt_model.specs.State.{is_checkpoint}
 use Rattle.ckpt_core.proofs.Ending.Drops.{groups_of}
 use Rattle.ckpt_core.proofs.Loaded.Bounds.{few_records, few_uses}
 use Rattle.ckpt_core.proofs.Loaded.Joining.{joined_records}
 use Rattle.ckpt_core.proofs.Loaded.Loads.{done_checkpoints-groups, state_done}
-use Rattle.ckpt_core.proofs.Records.GroupLookups.{is_checkpoint-kind, savepoints-groups}
+use Rattle.ckpt_core.proofs.Records.GroupLookups.{savepoints-groups}
+use Rattle.ckpt_model.proofs.Records.Lists.{is_checkpoint-kind}
 use Rattle.ckpt_core.proofs.parts.Parts.load_done.Goals as goal
 
 -- what holds after a success follows from what does

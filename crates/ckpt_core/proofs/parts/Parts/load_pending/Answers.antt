@@ -11,8 +11,9 @@ use Rattle.ckpt_core.specs.declared.parts.Parts.{Parts}
 use Rattle.ckpt_core.specs.Inside.Grouped.{grouped, with_pins}
 use Rattle.ckpt_core.specs.Inside.Loading.{uses_held}
 use Rattle.ckpt_core.specs.Inside.Moving.{with_room}
-use Rattle.ckpt_core.specs.Inside.Parts.{present_in, records_in}
-use Rattle.ckpt_core.specs.Soundness.{id_before}
+use Rattle.ckpt_core.specs.Inside.Parts.{records_in}
+use Rattle.ckpt_model.specs.Reads.{present_in}
+use Rattle.ckpt_model.specs.Soundness.{id_before}
 use Rattle.ckpt_core.proofs.Loaded.Groups.{HasMore, records-more, tied-more, few_registered, older_registered}
 use Rattle.ckpt_core.proofs.parts.Parts.load_pending.Goals as goal
 

@@ -6,7 +6,7 @@ use Rattle.ckpt_ids.specs.Records.{metadata_of}
 use Rattle.ckpt_ids.proofs.ResultLemmas.{on_each_error}
 use Rattle.ckpt_store.specs.Storing as storing
 use Rattle.ckpt_core.specs.Inside.Parts.{state_of}
-use Rattle.ckpt_core.specs.State.{record_of}
+use Rattle.ckpt_model.specs.State.{record_of}
 use Rattle.ckpt_core.proofs.Loaded.Saving.{some_there}
 use Rattle.ckpt_core.proofs.Records.Lookups.{has_number}
 use Rattle.ckpt_core.proofs.Answering.Reads.{pending_live, pending_metadata, stored_metadata, stored_record}

@@ -5,11 +5,11 @@ use Rattle.std.specs.Option.{option_map}
 use Rattle.std.proofs.lemmas.List.{map-append}
 use Rattle.ckpt_ids.specs.Records.{Record}
 use Rattle.ckpt_core.specs.declared.parts.Parts.{Parts}
-use Rattle.ckpt_core.specs.declared.queries.Live.{Live}
-use Rattle.ckpt_core.specs.Images.{record_in}
+use Rattle.ckpt_model.specs.declared.reads.Live.{Live}
+use Rattle.ckpt_model.specs.Images.{record_in}
 use Rattle.ckpt_core.specs.Inside.Parts.{records_in, state_of}
-use Rattle.ckpt_core.specs.Reads.{live_of}
-use Rattle.ckpt_core.specs.State.{record_of}
+use Rattle.ckpt_model.specs.Reads.{live_of}
+use Rattle.ckpt_model.specs.State.{record_of}
 use Rattle.ckpt_core.proofs.Loaded.Saving.{found_from, found_next, saved_all, saved_next, some_there}
 use Rattle.ckpt_core.proofs.Reading.Live.{is_below, is_from, live_bound, live_in_order, none_below_zero}
 use Rattle.ckpt_core.proofs.parts.Parts.saved.Goals as goal

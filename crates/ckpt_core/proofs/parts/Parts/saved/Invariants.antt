@@ -1,7 +1,7 @@
 -- The loop invariants of `Parts::saved`.
 use Rattle.std.proofs.Common.{◌≡◌, ◌-◌, ◌≤◌, ◌^◌, map, nat_lt, take}
 use Rattle.std.specs.Prelude.{count_by}
-use Rattle.ckpt_core.specs.Images.{record_in}
+use Rattle.ckpt_model.specs.Images.{record_in}
 use Rattle.ckpt_core.specs.Inside.Parts.{records_in}
 use Rattle.ckpt_core.proofs.parts.Parts.saved.Given as goal
 

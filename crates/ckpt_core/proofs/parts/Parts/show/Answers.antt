@@ -3,7 +3,7 @@ use Rattle.std.proofs.Common.{◌∙◌, refl, sym, Ok, Err}
 use Rattle.ckpt_ids.specs.declared.call.Call.TheVariants.{Show}
 use Rattle.ckpt_ids.specs.declared.reply.Refusal.TheVariants.{NoSuchRecord}
 use Rattle.ckpt_ids.specs.declared.reply.Reply.TheVariants.{Shown}
-use Rattle.ckpt_core.specs.declared.coordinator.CoreFault.TheVariants.{Memory}
+use Rattle.ckpt_model.specs.declared.faults.CoreFault.TheVariants.{Memory}
 use Rattle.ckpt_core.specs.Inside.Parts.{state_of}
 use Rattle.ckpt_core.proofs.Answering.Calls.{show_wants}
 use Rattle.ckpt_core.proofs.Answering.Reads.{show_absent, show_live, show_told, shown_answers}

@@ -5,7 +5,7 @@ use Rattle.ckpt_ids.specs.Places.{LiesAt}
 use Rattle.ckpt_ids.specs.Records.{Record}
 use Rattle.ckpt_store.specs.Storing.{id_of}
 use Rattle.ckpt_store.proofs.RowLemmas.{find-place}
-use Rattle.ckpt_core.specs.Soundness.{id_before}
+use Rattle.ckpt_model.specs.Soundness.{id_before}
 use Rattle.ckpt_core.specs.Inside.Moving.{taken_in}
 use Rattle.ckpt_core.specs.Inside.PendingRecords.{acked, retracted}
 use Rattle.ckpt_core.proofs.Acknowledging.Takes.{CanTake, IsFoundAcked, acked_in_order, can_take, is_found_acked, lies_in_new, some_from}

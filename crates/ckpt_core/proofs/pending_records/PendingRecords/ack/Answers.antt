@@ -8,7 +8,7 @@ use Rattle.ckpt_pending.specs.Acknowledging.{IsPending}
 use Rattle.ckpt_pending.proofs.PendingLemmas.{IsPending-put}
 use Rattle.ckpt_store.specs.Storing.{has_id, id_of}
 use Rattle.ckpt_store.proofs.RowLemmas.{find-place}
-use Rattle.ckpt_core.proofs.Records.Counts.{IsIn-from_find}
+use Rattle.ckpt_model.proofs.Records.Counts.{IsIn-from_find}
 use Rattle.ckpt_core.proofs.Records.Pending.{AreKept-changed, changed, its_place, set-place}
 use Rattle.ckpt_core.proofs.pending_records.PendingRecords.ack.Goals as goal
 use Rattle.ckpt_core.proofs.pending_records.PendingRecords.ack.Goals.{in-Ok, in-Err}

@@ -5,7 +5,7 @@ use Rattle.std.specs.Option.{option_copied, option_map}
 use Rattle.std.proofs.lemmas.List.Sorted.{IsPartitionPoint-from_clause}
 use Rattle.ckpt_ids.specs.Records.{Record}
 use Rattle.ckpt_store.proofs.RowLemmas.{copied_from_get, find-partition, partitioned}
-use Rattle.ckpt_core.specs.Reads.{live_of}
+use Rattle.ckpt_model.specs.Reads.{live_of}
 use Rattle.ckpt_core.proofs.pending_records.PendingRecords.first_from.Goals as goal
 
 pub returns-in_err-pending-clause-value : goal.returns-in_err-pending-clause-value

@@ -1,7 +1,7 @@
 -- The loop invariants of `PendingRecords::least_started`.
 use Rattle.std.proofs.Common.{◌≡◌, ℕ, ◌||◌, nat_le}
 use Rattle.std.specs.List.{list_any}
-use Rattle.ckpt_core.specs.Reads.{has_come}
+use Rattle.ckpt_model.specs.Reads.{has_come}
 use Rattle.std.specs.VecDeque.Iter.{deque_iter_rest}
 use Rattle.ckpt_core.proofs.pending_records.PendingRecords.least_started.Given as goal
 

@@ -7,7 +7,7 @@ use Rattle.ckpt_ids.specs.Records.{Record}
 use Rattle.ckpt_pending.specs.Acknowledging.{without_ack}
 use Rattle.ckpt_pending.proofs.PendingLemmas.{IsPending-without}
 use Rattle.ckpt_store.specs.Storing.{has_id, id_of}
-use Rattle.ckpt_core.proofs.Records.Counts.{IsIn-from_find}
+use Rattle.ckpt_model.proofs.Records.Counts.{IsIn-from_find}
 use Rattle.ckpt_core.proofs.Records.Pending.{AreKept-changed, changed, its_place, set-place}
 use Rattle.ckpt_core.proofs.pending_records.PendingRecords.retract.Goals as goal
 

@@ -6,7 +6,7 @@ use Rattle.ckpt_ids.specs.Places.{LiesAt}
 use Rattle.ckpt_ids.specs.Records.{Record}
 use Rattle.ckpt_store.specs.Storing.{has_id, id_of}
 use Rattle.ckpt_store.proofs.RowLemmas.{remove-place}
-use Rattle.ckpt_core.specs.State.{is_checkpoint}
+use Rattle.ckpt_model.specs.State.{is_checkpoint}
 use Rattle.ckpt_core.proofs.Records.Pending.{AreKept-removed, count-removed, found_at, from_bool-cond, its_place}
 use Rattle.ckpt_core.proofs.pending_records.PendingRecords.take_out.Goals as goal
 

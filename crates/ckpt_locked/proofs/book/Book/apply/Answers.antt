@@ -4,10 +4,10 @@ use Rattle.std.specs.Prelude.{Err, Some}
 use Rattle.ckpt_ids.specs.declared.call.Call.{Call}
 use Rattle.ckpt_ids.specs.declared.reply.Answer.TheVariants.{Done, Refused}
 use Rattle.ckpt_ids.specs.declared.reply.Refusal.{Refusal}
-use Rattle.ckpt_core.specs.Refusals.{refusal}
-use Rattle.ckpt_core.specs.State.{State}
-use Rattle.ckpt_core.specs.Steps.{Stepped, step}
-use Rattle.ckpt_core.proofs.Answering.StepCases.{step_refused}
+use Rattle.ckpt_model.specs.Refusals.{refusal}
+use Rattle.ckpt_model.specs.State.{State}
+use Rattle.ckpt_model.specs.Steps.{Stepped, step}
+use Rattle.ckpt_model.proofs.Answering.StepCases.{step_refused}
 use Rattle.ckpt_locked.specs.declared.book.Entry.{Entry}
 use Rattle.ckpt_locked.specs.Books.{History, answer_to, entered, history_of}
 use Rattle.ckpt_locked.proofs.Replays.{kept_entered, answer_is, count_answer, history_entered}

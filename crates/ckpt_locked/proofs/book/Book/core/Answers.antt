@@ -1,7 +1,7 @@
 -- Answers the goals of `Book::core`.
 use Rattle.std.proofs.Common.{◌≡◌, ◌∷◌, sym, subst, ap, ◌∙◌}
-use Rattle.ckpt_core.specs.Laws.{AreCalls}
-use Rattle.ckpt_core.specs.Soundness.{IsSound}
+use Rattle.ckpt_model.specs.Laws.{AreCalls}
+use Rattle.ckpt_model.specs.Soundness.{IsSound}
 use Rattle.ckpt_locked.specs.Books.{History, IsHistory, calls_of, state_of_book}
 use Rattle.ckpt_locked.proofs.AcceptedOnce.{exactly_one}
 use Rattle.ckpt_locked.proofs.Replays.{are_calls-append}

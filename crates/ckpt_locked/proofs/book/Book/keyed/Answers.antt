@@ -1,7 +1,7 @@
 -- Answers the goals of `Book::keyed`.
 use Rattle.std.proofs.Common.{List, sym, subst}
-use Rattle.ckpt_core.specs.Laws.{CanOpen}
-use Rattle.ckpt_core.specs.State.{State, Opening, opened}
+use Rattle.ckpt_model.specs.Laws.{CanOpen}
+use Rattle.ckpt_model.specs.State.{State, Opening, opened}
 use Rattle.ckpt_locked.specs.declared.book.Entry.{Entry}
 use Rattle.ckpt_locked.specs.Books.{IsKept}
 use Rattle.ckpt_locked.proofs.Openings.{InBounds, in_bounds, kept_opened}

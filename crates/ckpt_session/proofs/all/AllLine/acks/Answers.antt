@@ -2,7 +2,7 @@
 use Rattle.std.proofs.Common.{◌≡◌, ℕ, ◌+◌, get_or, [], ◌∷◌, ◌++◌, refl, sym, ap, ◌∙◌, arith}
 use Rattle.ckpt_ids.specs.declared.call.Call.{Call}
 use Rattle.ckpt_ids.specs.declared.subtask.SubtaskId.{SubtaskId}
-use Rattle.ckpt_core.specs.Interleavings.{ack_with}
+use Rattle.ckpt_model.specs.Interleavings.{ack_with}
 use Rattle.ckpt_session.proofs.AckLists.{acks_for-none, acks_for-more}
 use Rattle.ckpt_session.proofs.all.AllLine.acks.Goals as goal
 

@@ -1,7 +1,7 @@
 -- Answers the goals of `Terms::keyed`.
 use Rattle.std.proofs.Common.{ℕ, List, sym, subst, arith}
-use Rattle.ckpt_core.specs.Laws.{CanOpen}
-use Rattle.ckpt_core.specs.State.{State, Opening, opened}
+use Rattle.ckpt_model.specs.Laws.{CanOpen}
+use Rattle.ckpt_model.specs.State.{State, Opening, opened}
 use Rattle.ckpt_terms.specs.FencedLaws.{CanFence, IsFenced}
 use Rattle.ckpt_terms.proofs.Fences.{opening_fenced}
 use Rattle.ckpt_terms.proofs.TermLemmas.{layer, InBounds, in_bounds}

@@ -2,10 +2,10 @@
 use Rattle.std.proofs.Common.{◌≡◌, refl, sym, subst, ap, ◌∙◌, None, Some}
 use Rattle.std.specs.Prelude.{Err, unwrap_or}
 use Rattle.ckpt_ids.specs.declared.reply.Answer.TheVariants.{Done, Refused}
-use Rattle.ckpt_core.specs.State.{State}
-use Rattle.ckpt_core.specs.Refusals.{refusal}
-use Rattle.ckpt_core.specs.Steps.{step}
-use Rattle.ckpt_core.proofs.Answering.StepCases.{step_refused}
+use Rattle.ckpt_model.specs.State.{State}
+use Rattle.ckpt_model.specs.Refusals.{refusal}
+use Rattle.ckpt_model.specs.Steps.{step}
+use Rattle.ckpt_model.proofs.Answering.StepCases.{step_refused}
 use Rattle.ckpt_terms.specs.declared.call.FencedCall.TheVariants.{Make}
 use Rattle.ckpt_terms.specs.declared.call.FencedAnswer.TheVariants as answer
 use Rattle.ckpt_terms.specs.Fencing.{Fenced, fence, fenced_step, unspent_after}

@@ -1,9 +1,0 @@
--- Each call keeps a coordinator sound.
-use Rattle.ckpt_ids.specs.declared.call.Call.{Call}
-use Rattle.ckpt_core.specs.State.{State}
-use Rattle.ckpt_core.specs.Steps.{step}
-use Rattle.ckpt_core.specs.Soundness.{IsSound, IsCall}
-use Rattle.ckpt_core.proofs.Stepping.Walk.{step_is}
-
-pub step_keeps : (m : State) (call : Call) → IsCall call → IsSound m → IsSound (step m call).0
-step_keeps m call c s = (step_is m call).sound c s

@@ -1,6 +1,0 @@
--- Answers the goals of `acknowledgements`.
-use Rattle.ckpt_core.proofs.Histories.Acknowledgements.{acknowledgements}
-use Rattle.ckpt_core.proofs.laws.acknowledgements.Goals as goal
-
-pub returns : goal.returns
-returns c = acknowledgements

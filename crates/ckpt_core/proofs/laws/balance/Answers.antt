@@ -1,6 +1,0 @@
--- Answers the goals of `balance`.
-use Rattle.ckpt_core.proofs.Histories.Balance.{balance}
-use Rattle.ckpt_core.proofs.laws.balance.Goals as goal
-
-pub returns : goal.returns
-returns c = balance

@@ -1,6 +1,0 @@
--- Answers the goals of `handed`.
-use Rattle.ckpt_core.proofs.Histories.Balance.{handed}
-use Rattle.ckpt_core.proofs.laws.handed.Goals as goal
-
-pub returns : goal.returns
-returns c = handed

@@ -1,6 +1,0 @@
--- Answers the goals of `savepoints`.
-use Rattle.ckpt_core.proofs.Histories.Savepoints.{savepoints_stay}
-use Rattle.ckpt_core.proofs.laws.savepoints.Goals as goal
-
-pub returns : goal.returns
-returns c = savepoints_stay

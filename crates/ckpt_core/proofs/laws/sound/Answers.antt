@@ -1,6 +1,0 @@
--- Answers the goals of `sound`.
-use Rattle.ckpt_core.proofs.Soundness.Histories.{replay_is_sound}
-use Rattle.ckpt_core.proofs.laws.sound.Goals as goal
-
-pub returns : goal.returns
-returns c = replay_is_sound

@@ -1,6 +1,0 @@
--- Answers the goals of `used_no_more`.
-use Rattle.ckpt_core.proofs.Histories.Balance.{used_no_more}
-use Rattle.ckpt_core.proofs.laws.used_no_more.Goals as goal
-
-pub returns : goal.returns
-returns c = used_no_more

@@ -1,7 +1,0 @@
--- The definition of a coordinator: the names that contracts on it cite most, passed on from one place. Declares nothing.
-pub use Rattle.ckpt_core.specs.State.{State, choice_of, opened}
-pub use Rattle.ckpt_core.specs.Steps.{step}
-pub use Rattle.ckpt_core.specs.Refusals.{pending_of, refusal}
-pub use Rattle.ckpt_core.specs.Memory.{answer_wants, may_want_memory}
-pub use Rattle.ckpt_core.specs.Opening.{open_fault}
-pub use Rattle.ckpt_core.specs.Soundness.{IsCall, IsSound}

@@ -1,0 +1,120 @@
+-- The acknowledgements of a live record are exactly the accepted ones of its number.
+use Rattle.std.proofs.Common.{◌≡◌, ℕ, ◌<◌, ◌≤◌, ◌&&◌, eqb, List, [], ◌∷◌, ◌++◌, refl, sym, ap, subst, ◌∙◌, inl, inr, ⊎_elim, arith}
+use Rattle.std.specs.Prelude.{Option}
+use Rattle.std.proofs.lemmas.Bool.{and_from, and_left, and_right, eq-eqb, ne_eqb, cond-true, cond-false}
+use Rattle.std.proofs.lemmas.List.{append-nil, append_assoc}
+use Rattle.ckpt_ids.specs.declared.subtask.SubtaskId.{SubtaskId}
+use Rattle.ckpt_ids.specs.declared.ack.Acked.{Acked}
+use Rattle.ckpt_ids.specs.declared.call.Call.{Call}
+use Rattle.ckpt_ids.specs.declared.call.Call.TheVariants.{Ack}
+use Rattle.ckpt_ids.specs.Ordered.{IsIn, in_order}
+use Rattle.ckpt_ids.specs.Acknowledged.{acknowledges_before, put_ack}
+use Rattle.ckpt_ids.specs.Ascending.{ascending}
+use Rattle.ckpt_ids.specs.Records.{Record}
+use Rattle.ckpt_ids.proofs.OrderedLemmas.{IsIn-in_order}
+use Rattle.ckpt_model.specs.State.{State, Opening, opened}
+use Rattle.ckpt_model.specs.Steps.{step}
+use Rattle.ckpt_model.specs.Histories.{replay}
+use Rattle.ckpt_model.specs.Soundness.{IsSound}
+use Rattle.ckpt_model.specs.Laws.{CanOpen, AreCalls, is_ack_taken, along, accepted_by, Acknowledgements}
+use Rattle.ckpt_model.proofs.Records.Acknowledged.{new_subtask}
+use Rattle.ckpt_model.proofs.Reordering.ExchangeLemmas.{acks_commute}
+use Rattle.ckpt_model.proofs.Histories.Moves.{IsMoved, IsTriggered, moved_from}
+use Rattle.ckpt_model.proofs.Histories.Takings.{IsTaken, taken_from, taken_id}
+use Rattle.ckpt_model.proofs.Stepping.Changes.{IsPassedOver, IsTakenBy, passed_moves}
+use Rattle.ckpt_model.proofs.Stepping.Walk.{step_is}
+use Rattle.ckpt_model.proofs.Histories.Numbers.{next_rises}
+use Rattle.ckpt_model.proofs.Soundness.Calls.{step_keeps}
+use Rattle.ckpt_model.proofs.Soundness.Histories.{opening_is_sound, replay_is_sound}
+
+-- one more at the end of the accepted, of a new subtask, is one more in its place
+in_order_push : (a : Acked) (xs : List Acked) → ((x : Acked) → IsIn x xs → x.subtask ≡ a.subtask → ⊥) → in_order acknowledges_before (xs ++ a ∷ []) ≡ put_ack a (in_order acknowledges_before xs)
+in_order_push a [] new = refl
+in_order_push a (x ∷ xs) new =
+    ap (put_ack x) (in_order_push a xs (λ y h. new y (inr h))) ∙ acks_commute x a (in_order acknowledges_before xs) (new x (inl refl))
+
+-- the accepted acknowledgements of each number so far
+pub record AreAccepted (m : State) (so_far : ℕ → List Acked) : Type 0 where
+  pub live : (r : Record) → IsIn r m.records → r.acks ≡ in_order acknowledges_before (so_far r.id)
+  pub later : (id : ℕ) → m.next ≤ id → so_far id ≡ []
+
+-- and those that one call more adds
+abbrev and_then : (ℕ → List Acked) → State → Call → ℕ → List Acked
+and_then so_far m call id = so_far id ++ accepted_by id m call
+
+-- if none is added, they stay
+as_before : (so_far : ℕ → List Acked) (id : ℕ) (m : State) (call : Call) → accepted_by id m call ≡ [] → so_far id ≡ and_then so_far m call id
+as_before so_far id m call none = sym (ap (λ xs. so_far id ++ xs) none ∙ append-nil (so_far id))
+
+-- a call that adds none
+moved_accepted : (m : State) (call : Call) {d : Option ℕ} (so_far : ℕ → List Acked) → ((id : ℕ) → accepted_by id m call ≡ []) → IsMoved m d (step m call).0.records → AreAccepted m so_far → AreAccepted (step m call).0 (and_then so_far m call)
+moved_accepted m call so_far none i a =
+    let same : (id : ℕ) → so_far id ≡ and_then so_far m call id = λ id. as_before so_far id m call (none id) in
+    record {
+      live = λ r h.
+          ⊎_elim
+          (λ (k : IsIn r m.records). a.live r k ∙ ap (in_order acknowledges_before) (same r.id))
+          (λ (k : IsTriggered m r). let from : m.next ≤ r.id = let e : r.id ≡ m.next = k.id in omega arith in k.acks ∙ ap (in_order acknowledges_before) (sym (a.later r.id from) ∙ same r.id))
+          (moved_from i r h);
+      later = λ id h. sym (same id) ∙ a.later id (let up : m.next ≤ ((step m call).0).next = next_rises m call in omega arith);
+    }
+
+-- an acknowledgement that changes no record
+passed_accepted : (m : State) (now id : ℕ) (subtask : SubtaskId) (fresh reused : List ℕ) (so_far : ℕ → List Acked) → IsPassedOver m (step m (Ack now id subtask fresh reused)) → AreAccepted m so_far → AreAccepted (step m (Ack now id subtask fresh reused)).0 (and_then so_far m (Ack now id subtask fresh reused))
+passed_accepted m now id subtask fresh reused so_far i a =
+    let call : Call = Ack now id subtask fresh reused in
+    let its : Acked = record { subtask = subtask; files = ascending (fresh ++ reused) } in
+    moved_accepted m call so_far (λ k. cond-false (eqb id k && is_ack_taken (step m call).1) (its ∷ []) [] (and_right (eqb id k) (is_ack_taken (step m call).1) i.not_taken)) (passed_moves i) a
+
+-- an acknowledgement that is taken by a pending record
+taken_accepted : (m : State) (now id : ℕ) (subtask : SubtaskId) (fresh reused : List ℕ) (so_far : ℕ → List Acked) → IsSound m → IsTakenBy m id subtask fresh reused (step m (Ack now id subtask fresh reused)) → AreAccepted m so_far → AreAccepted (step m (Ack now id subtask fresh reused)).0 (and_then so_far m (Ack now id subtask fresh reused))
+taken_accepted m now id subtask fresh reused so_far s i a =
+    let call : Call = Ack now id subtask fresh reused in
+    let its : Acked = record { subtask = subtask; files = ascending (fresh ++ reused) } in
+    let q : Record = i.q in
+    let t : IsTaken m.records q its (step m call).0.records = i.taken in
+    let there : IsIn q m.records = (i.acking).there in
+    let passes : (k : ℕ) → k ≡ id → accepted_by k m call ≡ its ∷ [] = λ k e. cond-true (eqb id k && is_ack_taken (step m call).1) (its ∷ []) [] (and_from (eqb id k) (is_ack_taken (step m call).1) (eq-eqb id k (sym e)) i.is_taken) in
+    let other : (k : ℕ) → (k ≡ id → ⊥) → accepted_by k m call ≡ [] = λ k ne. cond-false (eqb id k && is_ack_taken (step m call).1) (its ∷ []) [] (and_left (eqb id k) (is_ack_taken (step m call).1) (ne_eqb id k (λ e. ne (sym e)))) in
+    let is_new : (x : Acked) → IsIn x (so_far q.id) → x.subtask ≡ its.subtask → ⊥ = λ x h e.
+    let In : List Acked → Type 0 = λ xs. IsIn x xs in
+    new_subtask q subtask x (i.acking).first (subst In (sym (a.live q there)) (IsIn-in_order acknowledges_before x (so_far q.id) h)) (sym e) in
+    let new_id : (t.new).id ≡ q.id = taken_id t there in
+    let of_new : (t.new).acks ≡ in_order acknowledges_before (and_then so_far m call (t.new).id) =
+    t.acks ∙ ap (put_ack its) (a.live q there) ∙ sym (in_order_push its (so_far q.id) is_new) ∙ ap (λ xs. in_order acknowledges_before (so_far q.id ++ xs)) (sym (passes q.id i.its_id)) ∙ ap (λ k. in_order acknowledges_before (and_then so_far m call k)) (sym new_id) in
+    let Fits : Record → Type 0 = λ r. r.acks ≡ in_order acknowledges_before (and_then so_far m call r.id) in
+    record {
+      live = λ r h.
+          ⊎_elim
+          (λ (e : r ≡ t.new). subst Fits (sym e) of_new)
+          (λ (k : (r.id ≡ q.id → ⊥) × IsIn r m.records). a.live r k.1 ∙ ap (in_order acknowledges_before) (as_before so_far r.id m call (other r.id (λ e. k.0 (e ∙ sym i.its_id)))))
+          (taken_from t r h);
+      later = λ k h.
+          let up : m.next ≤ ((step m call).0).next = next_rises m call in
+          let below : q.id < m.next = s.below_next q there in
+          let its_id : q.id ≡ id = i.its_id in
+          sym (as_before so_far k m call (other k (λ e. absurd (omega arith)))) ∙ a.later k (omega arith);
+    }
+
+-- each call
+step_accepts : (m : State) (call : Call) (so_far : ℕ → List Acked) → IsSound m → AreAccepted m so_far → AreAccepted (step m call).0 (and_then so_far m call)
+step_accepts m (Ack now id subtask fresh reused) so_far s a =
+    ⊎_elim
+    (λ i. passed_accepted m now id subtask fresh reused so_far i a)
+    (λ i. taken_accepted m now id subtask fresh reused so_far s i a)
+    ((step_is m (Ack now id subtask fresh reused)).records s)
+step_accepts m call so_far s a = moved_accepted m call so_far (λ _. refl) ((step_is m call).records s) a
+
+-- each list of calls
+acks_along : (m : State) (calls : List Call) (so_far : ℕ → List Acked) → IsSound m → AreCalls calls → AreAccepted m so_far → (r : Record) → IsIn r (replay m calls).records → r.acks ≡ in_order acknowledges_before (so_far r.id ++ along (accepted_by r.id) m calls)
+acks_along m [] so_far s c a r h = a.live r h ∙ ap (in_order acknowledges_before) (sym (append-nil (so_far r.id)))
+acks_along m (call ∷ calls) so_far s c a r h =
+    let n : State = (step m call).0 in
+    acks_along n calls (and_then so_far m call) (step_keeps m call c.0 s) c.1 (step_accepts m call so_far s a) r h
+    ∙ ap (in_order acknowledges_before) (append_assoc (so_far r.id) (accepted_by r.id m call) (along (accepted_by r.id) n calls))
+
+-- the law
+pub acknowledgements : (o : Opening) (calls : List Call) → CanOpen o → AreCalls calls → Acknowledgements o calls
+acknowledgements o calls c a r h =
+    let at_first : AreAccepted (opened o) (λ id. []) = record { live = λ r h. absurd h; later = λ id h. refl } in
+    (acks_along (opened o) calls (λ id. []) (opening_is_sound o c) a at_first r h, ((replay_is_sound o calls c a).each r h).full)

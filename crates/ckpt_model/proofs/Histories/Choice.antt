@@ -1,0 +1,64 @@
+-- The record that the choice names is live and done.
+use Rattle.std.proofs.Common.{◌≡◌, ℕ, Bool, true, false, not, ◌&&◌, cond, eqb, List, [], ◌∷◌, refl, sym, ap, subst, ◌∙◌, ◌⊎◌, inl, inr, ⊎_elim}
+use Rattle.std.specs.Prelude.{Option, Some, None}
+use Rattle.std.proofs.lemmas.Bool.{cases_Bool, and_parts, eqb-true, eq-eqb}
+use Rattle.ckpt_ids.specs.declared.call.Call.{Call}
+use Rattle.ckpt_ids.specs.Ordered.{IsIn, IsInOrder}
+use Rattle.ckpt_ids.specs.Records.{Record}
+use Rattle.ckpt_ids.proofs.OrderedLemmas.{IsIn-from_list_any}
+use Rattle.ckpt_model.specs.State.{State, Opening, opened, is_checkpoint, is_done_checkpoint, last_checkpoint, choice_from, choice_of, record_of}
+use Rattle.ckpt_model.specs.Histories.{replay}
+use Rattle.ckpt_model.specs.Soundness.{IsSound, id_before}
+use Rattle.ckpt_model.specs.Laws.{names, ChoiceIsLive}
+use Rattle.ckpt_model.proofs.Records.Present.{present-from_IsHeld}
+use Rattle.ckpt_model.proofs.Records.Replacing.{same_record}
+use Rattle.ckpt_model.proofs.Reordering.ExchangeLemmas.{find-only}
+use Rattle.ckpt_model.proofs.Soundness.Drops.{is_savepoint}
+use Rattle.ckpt_model.proofs.Soundness.Triggers.{held-from_files_of}
+
+-- the last done checkpoint of a list, from that of its rest
+last_among : (r : Record) (rs : List Record) (id : ℕ) (o : Option ℕ) → ((i : ℕ) → last_checkpoint rs ≡ Some i → (s : Record) × IsIn s rs × (s.id ≡ i) × (is_done_checkpoint s ≡ true)) → last_checkpoint rs ≡ o → elim o [ Some i ↦ Some i | None ↦ cond (is_done_checkpoint r) (Some r.id) None ] ≡ Some id → (s : Record) × IsIn s (r ∷ rs) × (s.id ≡ id) × (is_done_checkpoint s ≡ true)
+last_among r rs id (Some i) rest k h = let same : i ≡ id = cc in let q = rest i k in (q.0, inr q.1, q.2 ∙ same, q.3)
+last_among r rs id None rest k h =
+    let P : Bool → Type 0 = λ b. cond b (Some r.id) None ≡ Some id in
+    ⊎_elim
+    (λ (t : is_done_checkpoint r ≡ true). let l : ◌≡◌ {A = Option ℕ} (Some r.id) (Some id) = subst P t h in let same : r.id ≡ id = cc in (r, inl refl, same, t))
+    (λ (t : is_done_checkpoint r ≡ false). let l : ◌≡◌ {A = Option ℕ} None (Some id) = subst P t h in absurd (cc))
+    (cases_Bool (is_done_checkpoint r))
+
+-- the last done checkpoint is one of the records
+pub last_is_done : (rs : List Record) (id : ℕ) → last_checkpoint rs ≡ Some id → (r : Record) × IsIn r rs × (r.id ≡ id) × (is_done_checkpoint r ≡ true)
+last_is_done [] id e = absurd (cc)
+last_is_done (r ∷ rs) id e = last_among r rs id (last_checkpoint rs) (λ i k. last_is_done rs i k) refl e
+
+-- what a choice names is a done checkpoint, or the base
+names_is : (last base : Option ℕ) (id : ℕ) → names (choice_from last base) ≡ Some id → (last ≡ Some id) ⊎ (base ≡ Some id)
+names_is (Some i) base id e = inl e
+names_is None (Some i) id e = inr e
+names_is None None id e = absurd (cc)
+
+-- a record is found by its number
+pub found : (m : State) (r : Record) → IsInOrder id_before m.records → IsIn r m.records → record_of m r.id ≡ Some r
+found m r order there = find-only (λ x. eqb x.id r.id) r m.records there (eq-eqb r.id r.id refl) (λ y h t. same_record y r m.records order h there (eqb-true y.id r.id t))
+
+-- the record that the choice of a sound state names
+pub chosen_is_done : (m : State) (id : ℕ) → IsSound m → names (choice_of m) ≡ Some id → (r : Record) × IsIn r m.records × (record_of m id ≡ Some r) × (r.done ≡ true)
+unfolding choice_of
+chosen_is_done m id s e =
+    let Found : Type 0 = (r : Record) × IsIn r m.records × (record_of m id ≡ Some r) × (r.done ≡ true) in
+    let checkpoint : last_checkpoint m.records ≡ Some id → Found = λ (h : last_checkpoint m.records ≡ Some id).
+    let q = last_is_done m.records id h in
+    (q.0, q.1, ap (record_of m) (sym q.2) ∙ found m q.0 s.in_order q.1, (and_parts (q.0).done (is_checkpoint q.0) q.3).0) in
+    let base : m.base ≡ Some id → Found = λ (h : m.base ≡ Some id).
+    let q = IsIn-from_list_any (is_savepoint id) m.records (s.base id h) in
+    let parts = and_parts ((q.0).done && not (is_checkpoint q.0)) (eqb (q.0).id id) q.2 in
+    (q.0, q.1, ap (record_of m) (sym (eqb-true (q.0).id id parts.1)) ∙ found m q.0 s.in_order q.1, (and_parts (q.0).done (not (is_checkpoint q.0)) parts.0).0) in
+    ⊎_elim checkpoint base (names_is (last_checkpoint m.records) m.base id e)
+
+-- the law, of a sound state
+pub choice_is_live : (o : Opening) (calls : List Call) → IsSound (replay (opened o) calls) → ChoiceIsLive o calls
+choice_is_live o calls s id e =
+    let m : State = replay (opened o) calls in
+    let q = chosen_is_done m id s e in
+    let same : (r : Record) → ◌≡◌ {A = Option Record} (Some q.0) (Some r) → IsIn r m.records = λ r k. let P : Record → Type 0 = λ x. IsIn x m.records in let e : q.0 ≡ r = cc in subst P e q.1 in
+    (q.0, q.2, q.3, λ f h. present-from_IsHeld f m.records (held-from_files_of f (Some q.0) m.records same h))

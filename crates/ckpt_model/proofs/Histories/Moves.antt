@@ -1,0 +1,109 @@
+-- What a call that is no acknowledgement does to the records: it drops some, and it may trigger one.
+use Rattle.std.proofs.Common.{◌≡◌, ℕ, Bool, true, false, not, List, [], ◌∷◌, ◌++◌, map, refl, sym, ap, subst, ◌∙◌, ◌⊎◌, inl, inr, ⊎_elim}
+use Rattle.std.specs.Prelude.{Option, Some, None}
+use Rattle.std.specs.List.{filter}
+use Rattle.std.proofs.lemmas.Bool.{not_from_false}
+use Rattle.std.proofs.lemmas.List.{append-nil, append_assoc, map-id}
+use Rattle.ckpt_ids.specs.declared.numbers.Kind.{Kind}
+use Rattle.ckpt_ids.specs.declared.call.Call.{Call}
+use Rattle.ckpt_ids.specs.declared.call.Call.TheVariants.{Dispose}
+use Rattle.ckpt_ids.specs.declared.reply.Answer.{Answer}
+use Rattle.ckpt_ids.specs.declared.reply.Answer.TheVariants.{Refused}
+use Rattle.ckpt_ids.specs.Ordered.{IsIn}
+use Rattle.ckpt_ids.specs.Records.{Record}
+use Rattle.ckpt_ids.proofs.OrderedLemmas.{IsIn-append_left, IsIn-append_cases}
+use Rattle.ckpt_model.specs.State.{State, is_checkpoint, pins_now}
+use Rattle.ckpt_model.proofs.Records.Counts.{IsIn-changed, IsIn-from_changed}
+use Rattle.ckpt_model.proofs.Soundness.Acks.{nothing_dropped}
+use Rattle.ckpt_model.proofs.Soundness.Triggers.{new_record}
+use Rattle.ckpt_model.proofs.Records.Pins.{pins_same}
+
+-- a record that was triggered in a state
+pub record IsTriggered (m : State) (y : Record) : Type 0 where
+  pub id : y.id ≡ m.next
+  pub pending : y.done ≡ false
+  pub acks : y.acks ≡ []
+  pub pins : y.pins ≡ pins_now m
+
+-- some records are dropped, and some triggered; of the done savepoints those of one number at most are dropped
+pub record IsMoved (m : State) (disposed : Option ℕ) (after : List Record) : Type 0 where
+  pub keep : Record → Bool
+  pub new : List Record
+  pub records : after ≡ map (λ r. r) (filter keep m.records) ++ new
+  pub triggered : (y : Record) → IsIn y new → IsTriggered m y
+  pub savepoints : (r : Record) → IsIn r m.records → r.done ≡ true → is_checkpoint r ≡ false → (keep r ≡ true) ⊎ (disposed ≡ Some r.id)
+
+-- a record after it was there before, or was triggered
+pub moved_from : {m : State} {disposed : Option ℕ} {after : List Record} → IsMoved m disposed after → (y : Record) → IsIn y after → IsIn y m.records ⊎ IsTriggered m y
+moved_from {m} {disposed} {after} i y h =
+    let There : List Record → Type 0 = λ rs. IsIn y rs in
+    let left : List Record = map (λ r. r) (filter i.keep m.records) in
+    let old : IsIn y left → IsIn y m.records = λ (k : IsIn y left). let x = IsIn-from_changed (λ (r : Record). r) i.keep y m.records k in let P : Record → Type 0 = λ z. IsIn z m.records in subst P (sym x.3) x.1 in
+    ⊎_elim (λ k. inl (old k)) (λ k. inr (i.triggered y k)) (IsIn-append_cases y left i.new (subst There i.records h))
+
+-- a done savepoint is there after, if it is not the one disposed of
+pub savepoint_moved : {m : State} {disposed : Option ℕ} {after : List Record} → IsMoved m disposed after → (r : Record) → IsIn r m.records → r.done ≡ true → is_checkpoint r ≡ false → (disposed ≡ Some r.id → ⊥) → IsIn r after
+savepoint_moved {m} {disposed} {after} i r h done savepoint other =
+    let There : List Record → Type 0 = λ rs. IsIn r rs in
+    let left : List Record = map (λ r. r) (filter i.keep m.records) in
+    ⊎_elim
+    (λ (k : i.keep r ≡ true). subst There (sym i.records) (IsIn-append_left r left i.new (IsIn-changed (λ (x : Record). x) i.keep r m.records h k)))
+    (λ (k : disposed ≡ Some r.id). absurd (other k))
+    (i.savepoints r h done savepoint)
+
+-- nothing is done to the records
+pub unmoved : (m : State) (disposed : Option ℕ) → IsMoved m disposed m.records
+unmoved m disposed = record {
+  keep = λ _. true;
+  new = [];
+  records = sym (append-nil (map (λ r. r) (filter (λ _. true) m.records)) ∙ nothing_dropped (λ r. r) m.records ∙ map-id m.records);
+  triggered = λ y h. absurd h;
+  savepoints = λ r _ _ _. inl refl;
+}
+
+-- some are dropped, of the done savepoints those of one number at most
+pub dropped_moves : (m : State) (dropped : Record → Bool) (disposed : Option ℕ) → ((r : Record) → IsIn r m.records → r.done ≡ true → is_checkpoint r ≡ false → (dropped r ≡ false) ⊎ (disposed ≡ Some r.id)) → IsMoved m disposed (map (λ r. r) (filter (λ r. not (dropped r)) m.records))
+dropped_moves m dropped disposed other = record {
+  keep = λ r. not (dropped r);
+  new = [];
+  records = sym (append-nil (map (λ r. r) (filter (λ r. not (dropped r)) m.records)));
+  triggered = λ y h. absurd h;
+  savepoints = λ r h done savepoint. ⊎_elim (λ (e : dropped r ≡ false). inl (not_from_false (dropped r) e)) (λ (e : disposed ≡ Some r.id). inr e) (other r h done savepoint);
+}
+
+-- and then one is triggered, if the number and the choice are those of the state before
+pub triggered_moves : (m k : State) (kind : Kind) (disposed : Option ℕ) → k.next ≡ m.next → pins_now k ≡ pins_now m → IsMoved m disposed k.records → IsMoved m disposed (k.records ++ new_record k kind ∷ [])
+triggered_moves m k kind disposed next pins i =
+    let its : Record = new_record k kind in
+    let is_new : IsTriggered m its = record { id = next; pending = refl; acks = refl; pins = pins } in
+    record {
+      keep = i.keep;
+      new = i.new ++ its ∷ [];
+      records = ap (λ rs. rs ++ its ∷ []) i.records ∙ append_assoc (map (λ r. r) (filter i.keep m.records)) i.new (its ∷ []);
+      triggered = λ y h. ⊎_elim (λ (j : IsIn y i.new). i.triggered y j) (⊎_elim (λ (e : y ≡ its). subst (IsTriggered m) (sym e) is_new) (λ (n : ⊥). absurd n)) (IsIn-append_cases y i.new (its ∷ []) h);
+      savepoints = i.savepoints;
+    }
+
+-- the moment does not change what a new record pins
+pins_at : (m : State) (latest : ℕ) → pins_now (record m { latest = latest }) ≡ pins_now m
+pins_at m latest = pins_same m (record m { latest = latest }) refl refl (λ id e. refl)
+
+-- nor does it move records
+pub moves_at : (m : State) (latest : ℕ) (disposed : Option ℕ) (after : List Record) → IsMoved (record m { latest = latest }) disposed after → IsMoved m disposed after
+moves_at m latest disposed after i = record {
+  keep = i.keep;
+  new = i.new;
+  records = i.records;
+  triggered = λ y h. let t = i.triggered y h in record { id = t.id; pending = t.pending; acks = t.acks; pins = t.pins ∙ pins_at m latest };
+  savepoints = i.savepoints;
+}
+
+-- the number that a call disposes of, if it is accepted
+abbrev pub disposed_of : Call → Option ℕ
+disposed_of (Dispose id) = Some id
+disposed_of call = None
+
+-- and with this answer
+abbrev pub disposed_by : Call → Answer → Option ℕ
+disposed_by (Dispose id) (Refused why) = None
+disposed_by call answer = disposed_of call

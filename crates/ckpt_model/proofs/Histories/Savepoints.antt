@@ -1,0 +1,56 @@
+-- A done savepoint stays, unchanged, until an accepted Dispose of its number.
+use Rattle.std.proofs.Common.{◌≡◌, ℕ, true, false, ◌&&◌, eqb, List, [], ◌∷◌, refl, sym, subst, ⊎_elim}
+use Rattle.std.specs.Prelude.{Some}
+use Rattle.std.proofs.lemmas.Bool.{both_ways, and_from, eq-eqb}
+use Rattle.std.proofs.lemmas.Option.{none-some}
+use Rattle.ckpt_ids.specs.declared.call.Call.{Call}
+use Rattle.ckpt_ids.specs.declared.call.Call.TheVariants.{Ack, Dispose}
+use Rattle.ckpt_ids.specs.declared.reply.Answer.{Answer}
+use Rattle.ckpt_ids.specs.declared.reply.Answer.TheVariants.{Done, Refused}
+use Rattle.ckpt_ids.specs.Ordered.{IsIn}
+use Rattle.ckpt_ids.specs.Records.{Record}
+use Rattle.ckpt_model.specs.State.{State, Opening, opened, is_checkpoint}
+use Rattle.ckpt_model.specs.Steps.{Stepped, step}
+use Rattle.ckpt_model.specs.Histories.{replay}
+use Rattle.ckpt_model.specs.Soundness.{IsSound}
+use Rattle.ckpt_model.specs.Laws.{CanOpen, AreCalls, is_disposed_by, IsNeverDisposed, Savepoints}
+use Rattle.ckpt_model.proofs.Histories.Moves.{savepoint_moved, disposed_by}
+use Rattle.ckpt_model.proofs.Histories.Takings.{savepoint_kept}
+use Rattle.ckpt_model.proofs.Stepping.Changes.{IsPassedOver, IsTakenBy}
+use Rattle.ckpt_model.proofs.Stepping.Walk.{step_is}
+use Rattle.ckpt_model.proofs.Soundness.Calls.{step_keeps}
+use Rattle.ckpt_model.proofs.Soundness.Histories.{replay_is_sound}
+
+-- a done savepoint
+pub record IsDoneSavepoint (m : State) (r : Record) : Type 0 where
+  pub there : IsIn r m.records
+  pub done : r.done ≡ true
+  pub savepoint : is_checkpoint r ≡ false
+
+-- a Dispose that is no accepted one of this number does not dispose of it
+disposes_other : (number id : ℕ) (answer : Answer) → (eqb id number && elim answer [ Done reply ↦ true | Refused why ↦ false ]) ≡ false → disposed_by (Dispose id) answer ≡ Some number → ⊥
+disposes_other number id (Done reply) e h = let same : id ≡ number = cc in both_ways (eqb id number && true) e (and_from (eqb id number) true (eq-eqb id number same) refl)
+disposes_other number id (Refused why) e h = none-some number h
+
+-- through each call but an accepted Dispose of its number
+savepoint_stays : (m : State) (call : Call) (r : Record) → IsSound m → IsDoneSavepoint m r → is_disposed_by r.id m call ≡ false → IsIn r (step m call).0.records
+savepoint_stays m (Ack now id subtask fresh reused) r s d e =
+    let x : Stepped = step m (Ack now id subtask fresh reused) in
+    let There : List Record → Type 0 = λ rs. IsIn r rs in
+    ⊎_elim
+    (λ (i : IsPassedOver m x). subst There (sym i.records) d.there)
+    (λ (i : IsTakenBy m id subtask fresh reused x). savepoint_kept i.taken (i.acking).pending r d.there d.done d.savepoint)
+    ((step_is m (Ack now id subtask fresh reused)).records s)
+savepoint_stays m (Dispose id) r s d e = savepoint_moved ((step_is m (Dispose id)).records s) r d.there d.done d.savepoint (disposes_other r.id id (step m (Dispose id)).1 e)
+savepoint_stays m call r s d e = savepoint_moved ((step_is m call).records s) r d.there d.done d.savepoint (none-some r.id)
+
+-- through a list of such calls
+savepoint_stays_along : (m : State) (calls : List Call) (r : Record) → IsSound m → AreCalls calls → IsDoneSavepoint m r → IsNeverDisposed r.id m calls → IsIn r (replay m calls).records
+savepoint_stays_along m [] r s a d n = d.there
+savepoint_stays_along m (call ∷ calls) r s a d n =
+    savepoint_stays_along (step m call).0 calls r (step_keeps m call a.0 s) a.1 (record { there = savepoint_stays m call r s d n.0; done = d.done; savepoint = d.savepoint }) n.1
+
+-- the law
+pub savepoints_stay : (o : Opening) (before calls : List Call) → CanOpen o → AreCalls before → AreCalls calls → Savepoints o before calls
+savepoints_stay o before calls c a b r there done savepoint n =
+    savepoint_stays_along (replay (opened o) before) calls r (replay_is_sound o before c a) b (record { there = there; done = done; savepoint = savepoint }) n

@@ -1,0 +1,122 @@
+-- What a drop, a trigger and an acknowledgement put at the end of waiting, and that the files balance.
+use Rattle.std.proofs.Common.{◌≡◌, ℕ, Bool, true, not, ltb, List, [], ◌∷◌, ◌++◌, map, refl, sym, subst, ◌⊎◌, inl, inr, ⊎_elim}
+use Rattle.std.specs.Prelude.{Option, Some, None}
+use Rattle.std.specs.List.{filter}
+use Rattle.std.proofs.lemmas.Bool.{or_parts}
+use Rattle.std.proofs.lemmas.List.{append-nil}
+use Rattle.ckpt_ids.specs.declared.subtask.SubtaskId.{SubtaskId}
+use Rattle.ckpt_ids.specs.declared.ack.Acked.{Acked}
+use Rattle.ckpt_ids.specs.declared.numbers.Kind.{Kind}
+use Rattle.ckpt_ids.specs.Ordered.{IsIn}
+use Rattle.ckpt_ids.specs.Ascending.{ascending}
+use Rattle.ckpt_ids.specs.Records.{Record, uses, is_present, released}
+use Rattle.ckpt_ids.proofs.OrderedLemmas.{IsIn-append_left, IsIn-append_cases, IsIn-in_order, IsIn-from_in_order, AreDistinct-left}
+use Rattle.ckpt_model.specs.State.{State, is_known, in_outbox, kept, drop, pins_now}
+use Rattle.ckpt_model.specs.Steps.{replaced, with_records, superseded, triggered, ack}
+use Rattle.ckpt_model.specs.Soundness.{IsSound}
+use Rattle.ckpt_model.specs.Laws.{registered_as}
+use Rattle.ckpt_model.proofs.Records.Present.{Holds, Holds-put_ack_new, Holds-put_ack_old, IsHeld, IsHeld-from_present, not_held, Holds-put_ack}
+use Rattle.ckpt_model.proofs.Records.Replacing.{put_in, IsReplacing, put_in_replaces}
+use Rattle.ckpt_model.proofs.Soundness.Drops.{held_before_filter}
+use Rattle.ckpt_model.proofs.Soundness.Triggers.{new_record, held-from_pins}
+use Rattle.ckpt_model.proofs.Soundness.Acks.{IsAcking, with_ack, held_before_kept}
+use Rattle.ckpt_model.proofs.Soundness.Completions.{having, completed}
+use Rattle.ckpt_model.proofs.Records.Held.{held_after_put, held_by_put, held_beside_put}
+use Rattle.ckpt_model.proofs.Histories.Balances.{IsEven, even_same, even_then, even_behind, even_held, even_dropped, even_added}
+
+-- from these records and this outbox to the state after, with these files registered
+pub record IsSpread (rs : List Record) (waiting taken : List ℕ) (after : State) (in_ : List ℕ) : Type 0 where
+  pub out : List ℕ
+  pub waits : after.waiting ≡ waiting ++ out
+  pub fetched : after.taken ≡ taken
+  pub even : IsEven rs after.records in_ out
+
+-- nothing changes
+pub unspread : (m : State) → IsSpread m.records m.waiting m.taken m []
+unspread m = record { out = []; waits = sym (append-nil m.waiting); fetched = refl; even = even_same m.records [] }
+
+-- a drop
+pub drop_spreads : (m : State) (dropped : Record → Bool) → IsSpread m.records m.waiting m.taken (drop m dropped None) []
+unfolding drop
+drop_spreads m dropped =
+    let left : List Record = map (λ r. r) (filter (λ r. not (dropped r)) m.records) in
+    record {
+      out = released (uses m.records) (uses left);
+      waits = refl;
+      fetched = refl;
+      even = even_dropped m.records left (held_before_filter (λ r. not (dropped r)) m.records);
+    }
+
+-- a trigger, of a record that pins files that are held
+pub trigger_spreads : (k : State) (kind : Kind) (due : ℕ) (rs : List Record) (waiting taken : List ℕ) → IsSpread rs waiting taken k [] → IsSpread rs waiting taken (record (triggered k kind) { due = due }) []
+unfolding triggered
+trigger_spreads k kind due rs waiting taken d =
+    let new : Record = new_record k kind in
+    let forth : (f : ℕ) → IsHeld f k.records → IsHeld f (k.records ++ new ∷ []) = λ f h. (h.0, IsIn-append_left h.0 k.records (new ∷ []) h.1, h.2) in
+    let its : (f : ℕ) → Holds f new → IsHeld f k.records = λ f. ⊎_elim (λ a. absurd a.1) (λ (p : IsIn f (pins_now k)). held-from_pins k f p) in
+    let back : (f : ℕ) → IsHeld f (k.records ++ new ∷ []) → IsHeld f k.records = λ f h.
+    ⊎_elim
+    (λ (i : IsIn h.0 k.records). (h.0, i, h.2))
+    (⊎_elim (λ (e : h.0 ≡ new). its f (subst (Holds f) e h.2)) (λ (n : ⊥). absurd n))
+    (IsIn-append_cases h.0 k.records (new ∷ []) h.1) in
+    record {
+      out = d.out;
+      waits = d.waits;
+      fetched = d.fetched;
+      even = even_behind rs k.records (k.records ++ new ∷ []) [] d.out d.even (even_held k.records (k.records ++ new ∷ []) forth back);
+    }
+
+-- acknowledgements
+
+-- a record with one acknowledgement more, done or not, holds its files and what it held
+even_acked : (m : State) (q : Record) (subtask : SubtaskId) (fresh reused : List ℕ) (done : Bool) → IsSound m → IsAcking m q subtask fresh reused → IsEven m.records (map (put_in (record (with_ack q subtask fresh reused) { done = done })) m.records) fresh []
+even_acked m q subtask fresh reused done s a =
+    let files : List ℕ = ascending (fresh ++ reused) in
+    let its : Acked = record { subtask = subtask; files = files } in
+    let w : Record = with_ack q subtask fresh reused in
+    let c : Record = record w { done = done } in
+    let rs : List Record = m.records in
+    let p : IsReplacing (put_in c) q c rs = put_in_replaces q c rs s.in_order a.there refl in
+    let new : (f : ℕ) → IsIn f fresh → IsHeld f rs → ⊥ = λ f h k. not_held f rs (or_parts (is_present (uses rs) f) (in_outbox m f) (a.unknown f h)).0 k in
+    let now_held : (f : ℕ) → IsIn f fresh → IsHeld f (map (put_in c) rs) = λ f h.
+    held_by_put f rs q c a.there refl (Holds-put_ack_new f its q (IsIn-in_order ltb f (fresh ++ reused) (IsIn-append_left f fresh reused h))) in
+    let named : (f : ℕ) → Holds f w → IsIn f fresh ⊎ IsHeld f rs = λ f h.
+    ⊎_elim
+    (λ (k : IsIn f files). ⊎_elim (λ (i : IsIn f fresh). inl i) (λ (i : IsIn f reused). inr (IsHeld-from_present f rs (a.present f i))) (IsIn-append_cases f fresh reused (IsIn-from_in_order ltb f (fresh ++ reused) k)))
+    (λ (k : Holds f q). inr (q, a.there, k))
+    (Holds-put_ack f its q h) in
+    even_added rs (map (put_in c) rs) fresh (AreDistinct-left fresh reused a.once) new now_held
+    (λ f h. held_beside_put f rs q c p a.there refl (Holds-put_ack_old f its q) h)
+    (λ f h. ⊎_elim (λ (k : Holds f c). named f k) (λ (k : IsHeld f rs). inr k) (held_after_put f rs q c p h))
+
+-- one that leaves the record pending
+pub pending_spreads : (m : State) (q : Record) (subtask : SubtaskId) (fresh reused : List ℕ) → IsSound m → IsAcking m q subtask fresh reused → IsSpread m.records m.waiting m.taken (with_records m (replaced m.records (with_ack q subtask fresh reused))) fresh
+pending_spreads m q subtask fresh reused s a = record {
+  out = [];
+  waits = sym (append-nil m.waiting);
+  fetched = refl;
+  even = even_acked m q subtask fresh reused q.done s a;
+}
+
+-- one that completes it, whatever else is set
+pub completed_spreads : (m : State) (q : Record) (subtask : SubtaskId) (fresh reused : List ℕ) (failures : ℕ) (completed_at base : Option ℕ) → IsSound m → IsAcking m q subtask fresh reused → IsSpread m.records m.waiting m.taken (record (drop (having m (completed q subtask fresh reused)) (superseded (having m (completed q subtask fresh reused)) (completed q subtask fresh reused)) (Some q.id)) { failures = failures; completed = completed_at; base = base }) fresh
+unfolding drop
+completed_spreads m q subtask fresh reused failures completed_at base s a =
+    let c : Record = completed q subtask fresh reused in
+    let gone : Record → Bool = superseded (having m c) c in
+    let between : List Record = map (put_in c) m.records in
+    let left : List Record = kept gone (Some c.id) between in
+    let out : List ℕ = released (uses between) (uses left) in
+    record {
+      out = out;
+      waits = refl;
+      fetched = refl;
+      even = even_then m.records between left fresh out (even_acked m q subtask fresh reused true s a) (even_dropped between left (held_before_kept gone (Some c.id) between));
+    }
+
+-- a late one
+pub late_spreads : (m : State) (subtask : SubtaskId) (fresh reused : List ℕ) → IsSpread m.records m.waiting m.taken (ack m None subtask fresh reused).0 (registered_as (ack m None subtask fresh reused).1 fresh (filter (λ f. not (is_known m f)) fresh))
+unfolding ack
+late_spreads m subtask fresh reused =
+    let unknown : List ℕ = filter (λ f. not (is_known m f)) fresh in
+    record { out = unknown; waits = refl; fetched = refl; even = even_same m.records unknown }

@@ -1,0 +1,48 @@
+-- What one step registers, hands out and deletes, and which files are present after it.
+use Rattle.std.proofs.Common.{◌≡◌, ℕ, ◌+◌, ◌<◌, Bool, true, false, not, List, [], refl, sym, ap, subst, ◌∙◌, ◌⊎◌, inl, inr, ⊎_elim, arith}
+use Rattle.std.specs.List.{filter}
+use Rattle.std.proofs.lemmas.Bool.{cond-true}
+use Rattle.ckpt_ids.specs.declared.call.Call.{Call}
+use Rattle.ckpt_ids.specs.declared.call.Call.TheVariants.{Ack, Deleted, Undeleted}
+use Rattle.ckpt_ids.specs.Ordered.{IsIn}
+use Rattle.ckpt_ids.specs.Records.{uses, is_present}
+use Rattle.ckpt_model.specs.State.{State, is_known}
+use Rattle.ckpt_model.specs.Steps.{step}
+use Rattle.ckpt_model.specs.Soundness.{IsSound}
+use Rattle.ckpt_model.specs.Laws.{is_ack_taken, registered_by, handed_by, deleted_by, new_by}
+use Rattle.ckpt_model.proofs.Stepping.Changes.{IsPassedOver, IsTakenBy}
+use Rattle.ckpt_model.proofs.Stepping.Files.{IsSettled}
+use Rattle.ckpt_model.proofs.Stepping.Walk.{registered_taken, step_is}
+use Rattle.ckpt_ids.specs.Counting.{one_if, times}
+use Rattle.ckpt_ids.proofs.CountLemmas.{IsIn-from_times}
+
+-- each call: by computation it registers, hands out and deletes what the laws say
+pub step_settled : (m : State) (call : Call) → IsSound m → IsSettled m (step m call).0 (registered_by m call) (handed_by m call) (deleted_by m call)
+step_settled m (Ack now id subtask fresh reused) s = (step_is m (Ack now id subtask fresh reused)).files s
+step_settled m (Undeleted file) s = (step_is m (Undeleted file)).files s
+step_settled m (Deleted file) s = (step_is m (Deleted file)).files s
+step_settled m call s = (step_is m call).files s
+
+-- a file that is present after was present before, or is newly named: by the balance of one file
+present_before : (a b c : Bool) (n k : ℕ) → n + one_if a ≡ k + one_if b → b ≡ true → (0 < n) ⊎ (a ≡ true)
+present_before true b c n k e t = inr refl
+present_before false b c n k e t = let one : one_if b ≡ 1 = ap one_if t in let g : n + 0 ≡ k + one_if b = e in inl (omega arith)
+
+-- through each call
+pub newly_present : (m : State) (call : Call) (f : ℕ) → IsSound m → is_present (uses (step m call).0.records) f ≡ true → IsIn f (new_by m call) ⊎ (is_present (uses m.records) f ≡ true)
+newly_present m (Ack now id subtask fresh reused) f s h =
+    let call : Call = Ack now id subtask fresh reused in
+    let Goal : Type 0 = IsIn f (new_by m call) ⊎ (is_present (uses m.records) f ≡ true) in
+    let passed : IsPassedOver m (step m call) → Goal = λ (i : IsPassedOver m (step m call)). inr (ap (λ rs. is_present (uses rs) f) (sym i.records) ∙ h) in
+    let taken : IsTakenBy m id subtask fresh reused (step m call) → Goal = λ (i : IsTakenBy m id subtask fresh reused (step m call)).
+    let registered : registered_by m call ≡ fresh = registered_taken (step m call).1 fresh (filter (λ g. not (is_known m g)) fresh) i.is_taken in
+    let new : new_by m call ≡ fresh = cond-true (is_ack_taken (step m call).1) fresh [] i.is_taken in
+    let In : List ℕ → Type 0 = λ xs. IsIn f xs in
+    ⊎_elim
+    (λ (k : 0 < times f (registered_by m call)). inl (subst In (registered ∙ sym new) (IsIn-from_times f (registered_by m call) k)))
+    (λ (k : is_present (uses m.records) f ≡ true). inr k)
+    (present_before (is_present (uses m.records) f) (is_present (uses (step m call).0.records) f) true (times f (registered_by m call)) (times f (handed_by m call)) ((step_settled m call s).even f) h) in
+    ⊎_elim passed taken ((step_is m call).records s)
+newly_present m call f s h =
+    ⊎_elim (λ (k : 0 < 0). absurd (omega arith)) (λ (k : is_present (uses m.records) f ≡ true). inr k)
+    (present_before (is_present (uses m.records) f) (is_present (uses (step m call).0.records) f) true 0 (times f (handed_by m call)) ((step_settled m call s).even f) h)

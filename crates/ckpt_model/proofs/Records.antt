@@ -1,0 +1,9 @@
+-- Records in rising number, and the uses of files by them: what filtering, changing and one more leave, and what is released.
+pub mod Acknowledged
+pub mod Counts
+pub mod Held
+pub mod Lists
+pub mod Pins
+pub mod Present
+pub mod Released
+pub mod Replacing

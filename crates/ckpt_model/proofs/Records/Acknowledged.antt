@@ -1,0 +1,86 @@
+-- A record with one acknowledgement more, and a record that has all of them.
+use Rattle.std.proofs.Common.{◌≡◌, ℕ, true, false, ltb, eqb, List, [], ◌∷◌, refl, sym, ap, subst, ◌∙◌, ⊎_elim, arith}
+use Rattle.std.proofs.lemmas.Bool.{cases_Bool, both_ways, eqb-false}
+use Rattle.ckpt_ids.specs.declared.subtask.SubtaskId.{SubtaskId}
+use Rattle.ckpt_ids.specs.declared.ack.Acked.{Acked}
+use Rattle.ckpt_ids.specs.Ordered.{IsIn, AreDistinct}
+use Rattle.ckpt_ids.specs.Acknowledged.{is_before, acknowledges_before, put_ack, AreInSubtaskOrder}
+use Rattle.ckpt_ids.specs.Ascending.{IsAscendingSet, ascending}
+use Rattle.ckpt_ids.specs.Records.{Record, missing, has_acknowledged, acknowledged}
+use Rattle.ckpt_ids.specs.Shapes.{IsShape, is_subtask, same_subtask}
+use Rattle.ckpt_ids.proofs.AscendingLemmas.{numbers_in_order}
+use Rattle.ckpt_ids.proofs.OrderLemmas.{subtasks_in_order, same_subtask-Decides}
+use Rattle.ckpt_ids.proofs.OrderedLemmas.{IsIn-put_cases, IsInOrder-put, IsInOrder-put_between, IsIn-from_in_order, list_any-from_IsIn}
+use Rattle.ckpt_model.specs.Soundness.{IsRecord}
+use Rattle.ckpt_pending.proofs.FullLemmas.{full_from_missing}
+
+-- a subtask that has not acknowledged is that of no acknowledgement
+pub new_subtask : (r : Record) (s : SubtaskId) (a : Acked) → has_acknowledged r s ≡ false → IsIn a r.acks → s ≡ a.subtask → ⊥
+new_subtask r s a none h e = both_ways (has_acknowledged r s) none (list_any-from_IsIn (λ (b : Acked). same_subtask s b.subtask) a r.acks h ((same_subtask-Decides s a.subtask).1 e))
+
+-- one acknowledgement more, of a new subtask, in its place
+pub in_order-acknowledged : (r : Record) (a : Acked) → has_acknowledged r a.subtask ≡ false → AreInSubtaskOrder r.acks → AreInSubtaskOrder (put_ack a r.acks)
+in_order-acknowledged r a none order =
+    IsInOrder-put_between acknowledges_before
+    (λ x y z h k. subtasks_in_order.transitive x.subtask y.subtask z.subtask h k)
+    a r.acks
+    (λ y h e. ⊎_elim (λ (t : is_before a.subtask y.subtask ≡ true). t) (λ (t : is_before a.subtask y.subtask ≡ false). absurd (new_subtask r a.subtask y none h (subtasks_in_order.total a.subtask y.subtask t e))) (cases_Bool (is_before a.subtask y.subtask)))
+    order
+
+-- numbers without repeats, in ascending order
+pub ascending-distinct : (xs : List ℕ) → AreDistinct xs → IsAscendingSet (ascending xs)
+ascending-distinct [] d = tt
+ascending-distinct (x ∷ xs) d = IsInOrder-put numbers_in_order x (ascending xs) (λ h. d.0 (IsIn-from_in_order ltb x xs h)) (ascending-distinct xs d.1)
+
+-- what holds of a record with one acknowledgement more, apart from what depends on whether it is done
+pub record IsAcknowledged (r : Record) : Type 0 where
+  pub acks_in_order : AreInSubtaskOrder r.acks
+  pub acks_of_subtasks : (a : Acked) → IsIn a r.acks → is_subtask r.shape a.subtask ≡ true
+  pub files : (a : Acked) → IsIn a r.acks → IsAscendingSet a.files
+
+-- an acknowledgement more, of a subtask that lacks it, with ascending files
+pub acknowledged_is : (r : Record) (s : SubtaskId) (files : List ℕ) → IsRecord r → is_subtask r.shape s ≡ true → has_acknowledged r s ≡ false → IsAscendingSet files → IsAcknowledged (acknowledged r s files)
+acknowledged_is r s files i of_shape none up =
+    let a : Acked = record { subtask = s; files = files } in
+    record {
+      acks_in_order = in_order-acknowledged r a none i.acks_in_order;
+      acks_of_subtasks = λ b h. ⊎_elim (λ (e : b ≡ a). ap (λ x. is_subtask r.shape x.subtask) e ∙ of_shape) (i.acks_of_subtasks b) (IsIn-put_cases acknowledges_before a b r.acks h);
+      files = λ b h. let P : Acked → Type 0 = λ x. IsAscendingSet x.files in ⊎_elim (λ (e : b ≡ a). subst P (sym e) up) (i.files b) (IsIn-put_cases acknowledges_before a b r.acks h);
+    }
+
+-- still pending
+pub acknowledged_pending : (r : Record) (s : SubtaskId) (files : List ℕ) → IsRecord r → r.done ≡ false → IsAcknowledged (acknowledged r s files) → eqb (missing (acknowledged r s files)) 0 ≡ false → IsRecord (acknowledged r s files)
+acknowledged_pending r s files i pending a lacks =
+    let some : missing (acknowledged r s files) ≡ 0 → ⊥ = eqb-false (missing (acknowledged r s files)) 0 lacks in
+    record {
+      shape = i.shape;
+      acks_in_order = a.acks_in_order;
+      acks_of_subtasks = a.acks_of_subtasks;
+      files = a.files;
+      pins = i.pins;
+      pending = λ _. omega arith;
+      full = λ e. absurd (both_ways r.done pending e);
+      unpinned = λ e. absurd (both_ways r.done pending e);
+    }
+
+-- done, with no pins
+pub completed_is : (r : Record) → IsRecord r → (a : Record) → a.shape ≡ r.shape → IsAcknowledged a → missing a ≡ 0 → IsRecord (record a { done = true; pins = [] })
+completed_is r i a same k none = record {
+  shape = subst IsShape (sym same) i.shape;
+  acks_in_order = k.acks_in_order;
+  acks_of_subtasks = k.acks_of_subtasks;
+  files = k.files;
+  pins = tt;
+  pending = λ e. absurd (both_ways true e refl);
+  full = λ _.
+      full_from_missing (record a { done = false; pins = [] })
+      (record {
+        not_done = refl;
+        no_pins = refl;
+        has_shape = subst IsShape (sym same) i.shape;
+        in_order = k.acks_in_order;
+        expected = k.acks_of_subtasks;
+      })
+      none;
+  unpinned = λ _. refl;
+}

@@ -1,0 +1,62 @@
+-- What is held after a record is put in the place of another, and after it gets one more acknowledgement.
+use Rattle.std.proofs.Common.{◌≡◌, ℕ, List, ◌++◌, map, refl, sym, subst, ◌⊎◌, inl, inr, ⊎_elim, ltb, eqb}
+use Rattle.std.proofs.lemmas.Bool.{cond-true, eq-eqb}
+use Rattle.ckpt_ids.specs.declared.ack.Acked.{Acked}
+use Rattle.ckpt_ids.specs.declared.subtask.SubtaskId.{SubtaskId}
+use Rattle.ckpt_ids.specs.Ordered.{IsIn, IsInOrder}
+use Rattle.ckpt_ids.specs.Ascending.{ascending}
+use Rattle.ckpt_ids.specs.Records.{Record, acknowledged}
+use Rattle.ckpt_ids.proofs.OrderedLemmas.{IsIn-append_cases, IsIn-map, IsIn-from_map, IsIn-in_order, IsIn-from_in_order}
+use Rattle.ckpt_model.specs.Soundness.{id_before}
+use Rattle.ckpt_model.proofs.Records.Present.{Holds, IsHeld, Holds-put_ack, Holds-put_ack_new, Holds-put_ack_old}
+use Rattle.ckpt_model.proofs.Records.Replacing.{put_in, IsReplacing, put_in_replaces}
+
+-- a file that is held after is held by the record put in, or was held before
+pub held_after_put : (f : ℕ) (rs : List Record) (old new : Record) → IsReplacing (put_in new) old new rs → IsHeld f (map (put_in new) rs) → Holds f new ⊎ IsHeld f rs
+held_after_put f rs old new p h =
+    let x = IsIn-from_map (put_in new) h.0 rs h.1 in
+    let held : Holds f (put_in new x.0) = subst (Holds f) x.2 h.2 in
+    ⊎_elim
+    (λ (c : (x.0 ≡ old) × (put_in new x.0 ≡ new)). inl (subst (Holds f) c.1 held))
+    (λ (c : ((x.0).id ≡ old.id → ⊥) × (put_in new x.0 ≡ x.0)). inr (x.0, x.1, subst (Holds f) c.1 held))
+    (p.cases x.0 x.1)
+
+-- what the record put in holds is held after
+pub held_by_put : (f : ℕ) (rs : List Record) (old new : Record) → IsIn old rs → new.id ≡ old.id → Holds f new → IsHeld f (map (put_in new) rs)
+held_by_put f rs old new there same h =
+    let P : Record → Type 0 = λ r. IsIn r (map (put_in new) rs) in
+    (new, subst P (cond-true (eqb old.id new.id) new old (eq-eqb old.id new.id (sym same))) (IsIn-map (put_in new) old rs there), h)
+
+-- what was held before is held after, if the record put in holds what the old one held
+pub held_beside_put : (f : ℕ) (rs : List Record) (old new : Record) → IsReplacing (put_in new) old new rs → IsIn old rs → new.id ≡ old.id → (Holds f old → Holds f new) → IsHeld f rs → IsHeld f (map (put_in new) rs)
+held_beside_put f rs old new p there same more h =
+    let P : Record → Type 0 = λ r. IsIn r (map (put_in new) rs) in
+    ⊎_elim
+    (λ (c : (h.0 ≡ old) × (put_in new h.0 ≡ new)). held_by_put f rs old new there same (more (subst (Holds f) c.0 h.2)))
+    (λ (c : ((h.0).id ≡ old.id → ⊥) × (put_in new h.0 ≡ h.0)). (h.0, subst P c.1 (IsIn-map (put_in new) h.0 rs h.1), h.2))
+    (p.cases h.0 h.1)
+
+-- with an acknowledgement's files, a file that is held after is one of them, or was held before
+pub held_or_named : (f : ℕ) (rs : List Record) (q : Record) (subtask : SubtaskId) (fresh reused : List ℕ) → IsInOrder id_before rs → IsIn q rs → IsHeld f (map (put_in (acknowledged q subtask (ascending (fresh ++ reused)))) rs) → (IsIn f fresh ⊎ IsIn f reused) ⊎ IsHeld f rs
+held_or_named f rs q subtask fresh reused order there h =
+    let files : List ℕ = ascending (fresh ++ reused) in
+    let w : Record = acknowledged q subtask files in
+    let named : Holds f w → (IsIn f fresh ⊎ IsIn f reused) ⊎ IsHeld f rs = λ (k : Holds f w).
+    ⊎_elim
+    (λ (i : IsIn f files). inl (IsIn-append_cases f fresh reused (IsIn-from_in_order ltb f (fresh ++ reused) i)))
+    (λ (i : Holds f q). inr (q, there, i))
+    (Holds-put_ack f (record { subtask = subtask; files = files }) q k) in
+    ⊎_elim named (λ (k : IsHeld f rs). inr k) (held_after_put f rs q w (put_in_replaces q w rs order there refl) h)
+
+-- each of its files is held after
+pub held_named : (f : ℕ) (rs : List Record) (q : Record) (subtask : SubtaskId) (fresh reused : List ℕ) → IsIn q rs → IsIn f (fresh ++ reused) → IsHeld f (map (put_in (acknowledged q subtask (ascending (fresh ++ reused)))) rs)
+held_named f rs q subtask fresh reused there h =
+    let its : Acked = record { subtask = subtask; files = ascending (fresh ++ reused) } in
+    held_by_put f rs q (acknowledged q subtask its.files) there refl (Holds-put_ack_new f its q (IsIn-in_order ltb f (fresh ++ reused) h))
+
+-- and so is each that was held before
+pub held_still : (f : ℕ) (rs : List Record) (q : Record) (subtask : SubtaskId) (fresh reused : List ℕ) → IsInOrder id_before rs → IsIn q rs → IsHeld f rs → IsHeld f (map (put_in (acknowledged q subtask (ascending (fresh ++ reused)))) rs)
+held_still f rs q subtask fresh reused order there h =
+    let its : Acked = record { subtask = subtask; files = ascending (fresh ++ reused) } in
+    let w : Record = acknowledged q subtask its.files in
+    held_beside_put f rs q w (put_in_replaces q w rs order there refl) there refl (Holds-put_ack_old f its q) h

@@ -1,0 +1,208 @@
+-- What holds of a coordinator's records as a list, and that filtering, changing and appending keep it.
+use Rattle.std.proofs.Common.{◌≡◌, ◌≢◌, ℕ, ◌+◌, ◌<◌, ◌≤◌, ◌^◌, Bool, true, false, not, ◌&&◌, ltb, leb, List, [], ◌∷◌, ◌++◌, map, refl, sym, ap, subst, ◌∙◌, ⊎_elim, arith}
+use Rattle.std.specs.Prelude.{count_by, Some}
+use Rattle.std.specs.List.{filter}
+use Rattle.std.proofs.lemmas.Bool.{cases_Bool, both_ways, and_parts, and_from, and_left, and_right, not-true, not_from_false, ltb-true, lt-ltb, le-ltb, leb-false}
+use Rattle.ckpt_ids.specs.declared.numbers.Kind.{Kind}
+use Rattle.ckpt_ids.specs.declared.numbers.Kind.TheVariants as kind
+use Rattle.ckpt_ids.specs.Ordered.{IsIn, IsInOrder, ComesBefore, AreDistinct}
+use Rattle.ckpt_ids.specs.Configuration.{IsWithinLimits}
+use Rattle.ckpt_ids.specs.Records.{Record, uses, is_present}
+use Rattle.ckpt_ids.specs.Shapes.{IsShape}
+use Rattle.ckpt_ids.proofs.OrderedLemmas.{IsIn-append_cases, IsInOrder-append, IsInOrder-filter, IsInOrder-map, ComesBefore-at, IsIn-from_test, test-from_IsIn}
+use Rattle.ckpt_rules.specs.Trigger.{limit}
+use Rattle.ckpt_model.specs.declared.mode.Mode.TheVariants.{Running}
+use Rattle.ckpt_model.specs.State.{State, Opening, is_checkpoint, is_pending, is_done_checkpoint}
+use Rattle.ckpt_model.specs.Refusals.{is_done_savepoint}
+use Rattle.ckpt_model.specs.Soundness.{IsSound, IsRecord, id_before}
+pub use Rattle.ckpt_model.specs.SoundRecords.{AreSoundRecords, is_pending_checkpoint}
+use Rattle.ckpt_ids.proofs.CountLemmas.{count_by-append, count_by_yes, count_by_no, count_by-same}
+use Rattle.ckpt_model.proofs.Records.Counts.{count_by-le, count_by-changed, IsIn-from_changed}
+
+-- a record is a checkpoint, or none, by its kind
+pub is_checkpoint-kind : (r : Record) → r.kind ≡ kind.Checkpoint → is_checkpoint r ≡ true
+is_checkpoint-kind r e = ap (λ k. is_checkpoint (record r { kind = k })) e
+
+pub is_savepoint-kind : (r : Record) → r.kind ≡ kind.Savepoint → is_checkpoint r ≡ false
+is_savepoint-kind r e = ap (λ k. is_checkpoint (record r { kind = k })) e
+
+-- of its outbox
+pub record IsSoundOutbox (records : List Record) (waiting taken : List ℕ) : Type 0 where
+  pub unused : (f : ℕ) → IsIn f (waiting ++ taken) → is_present (uses records) f ≡ false
+  pub apart : AreDistinct (waiting ++ taken)
+
+-- and of the rest
+pub record IsSoundHead (m : State) : Type 0 where
+  pub config : IsWithinLimits m.opening.config
+  pub shape : IsShape m.shape
+  pub latest : m.latest < 2 ^ 62
+  pub first : 1 ≤ m.opening.first
+  pub next_from : m.opening.first ≤ m.next
+  pub next_to : m.next ≤ 2 ^ 62
+  pub base : (id : ℕ) → m.base ≡ Some id → is_done_savepoint m id ≡ true
+  pub idle : m.mode ≢ Running → (r : Record) → IsIn r m.records → r.done ≡ true
+  pub failures : m.mode ≡ Running → m.failures ≤ m.opening.config.tolerable
+
+-- what a sound state's records are
+pub records_of : {m : State} → IsSound m → AreSoundRecords m.opening m.next m.records
+records_of s = record {
+  in_order = s.in_order;
+  from_first = s.from_first;
+  below_next = s.below_next;
+  each = s.each;
+  started = s.started;
+  retained = s.retained;
+  at_once = s.at_once;
+  savepoints_to = s.savepoints_to;
+  newer = s.newer;
+}
+
+-- and its outbox
+pub outbox_of : {m : State} → IsSound m → IsSoundOutbox m.records m.waiting m.taken
+outbox_of {m} s = record {
+  unused = λ f h. s.unused f (test-from_IsIn f (m.waiting ++ m.taken) h);
+  apart = s.apart;
+}
+
+-- a state is sound if its parts are
+pub sound_from : (m : State) → IsSoundHead m → AreSoundRecords m.opening m.next m.records → IsSoundOutbox m.records m.waiting m.taken → IsSound m
+sound_from m h r o = record {
+  config = h.config;
+  shape = h.shape;
+  latest = h.latest;
+  first = h.first;
+  next_from = h.next_from;
+  next_to = h.next_to;
+  in_order = r.in_order;
+  from_first = r.from_first;
+  below_next = r.below_next;
+  each = r.each;
+  started = r.started;
+  retained = r.retained;
+  at_once = r.at_once;
+  savepoints_to = r.savepoints_to;
+  newer = r.newer;
+  base = h.base;
+  idle = h.idle;
+  failures = h.failures;
+  unused = λ f h. o.unused f (IsIn-from_test f (m.waiting ++ m.taken) h);
+  apart = o.apart;
+}
+
+-- a list that is filtered and then changed
+
+-- a change keeps what the list's order and limits read
+pub record IsKept (before after : Record) : Type 0 where
+  pub kind : after.kind ≡ before.kind
+  pub started : after.started ≡ before.started
+  pub pending : after.done ≡ false → before.done ≡ false
+
+-- a change that keeps the kind keeps checkpoints
+same_checkpoint : (before after : Record) → IsKept before after → is_checkpoint after ≡ is_checkpoint before
+same_checkpoint before after k = let of_kind : Kind → Bool = λ k. elim k [ kind.Checkpoint ↦ true | kind.Savepoint ↦ false ] in ap of_kind k.kind
+
+-- a pending checkpoint was one before
+pub pending_checkpoint_before : (before after : Record) → IsKept before after → is_pending_checkpoint after ≡ true → is_pending_checkpoint before ≡ true
+pending_checkpoint_before before after k h =
+    let parts = and_parts (is_pending after) (is_checkpoint after) h in
+    and_from (is_pending before) (is_checkpoint before) (not_from_false before.done (k.pending (not-true after.done parts.0))) (sym (same_checkpoint before after k) ∙ parts.1)
+
+-- and one that keeps the numbers keeps the order
+pub in_order-changed : (h : Record → Record) (q : Record → Bool) (rs : List Record) → ((r : Record) → (h r).id ≡ r.id) → IsInOrder id_before rs → IsInOrder id_before (map h (filter q rs))
+in_order-changed h q rs same a =
+    let keeps : (x y : Record) → id_before x y ≡ true → id_before (h x) (h y) ≡ true = λ x y e. let less : x.id < y.id = ltb-true x.id y.id e in lt-ltb (h x).id (h y).id (omega (arith, same x, same y)) in
+    IsInOrder-map id_before id_before h (filter q rs) keeps (IsInOrder-filter id_before q rs a)
+
+-- what filtering and changing leaves
+pub changed_records : {o : Opening} {next : ℕ} {rs : List Record} (h : Record → Record) (q : Record → Bool) → AreSoundRecords o next rs → ((r : Record) → (h r).id ≡ r.id) → ((r : Record) → IsIn r rs → IsKept r (h r)) → ((r : Record) → IsIn r rs → q r ≡ true → IsRecord (h r)) → count_by is_done_checkpoint (map h (filter q rs)) ≤ o.config.retained → ((r s : Record) → IsIn r rs → IsIn s rs → q r ≡ true → q s ≡ true → is_pending_checkpoint (h r) ≡ true → is_done_checkpoint (h s) ≡ true → s.id < r.id) → AreSoundRecords o next (map h (filter q rs))
+changed_records {o} {next} {rs} h q a same kept each retained newer = record {
+  in_order = in_order-changed h q rs same a.in_order;
+  from_first = λ r k. let p = IsIn-from_changed h q r rs k in let e : r.id ≡ (h p.0).id = ap (λ x. x.id) p.3 in omega (arith, same p.0, a.from_first p.0 p.1);
+  below_next = λ r k. let p = IsIn-from_changed h q r rs k in let e : r.id ≡ (h p.0).id = ap (λ x. x.id) p.3 in omega (arith, same p.0, a.below_next p.0 p.1);
+  each = λ r k. let p = IsIn-from_changed h q r rs k in subst IsRecord (sym p.3) (each p.0 p.1 p.2);
+  started = λ r k. let p = IsIn-from_changed h q r rs k in let e : r.started ≡ (h p.0).started = ap (λ x. x.started) p.3 in omega (arith, (kept p.0 p.1).started, a.started p.0 p.1);
+  retained = retained;
+  at_once =
+      let fewer : count_by is_pending_checkpoint (map h (filter q rs)) ≤ count_by is_pending_checkpoint rs = count_by-changed is_pending_checkpoint is_pending_checkpoint h q rs (λ x k _ t. pending_checkpoint_before x (h x) (kept x k) t) in
+      omega (arith, a.at_once);
+  savepoints_to =
+      let savepoint : Record → Bool = λ r. not (is_checkpoint r) in
+      let fewer : count_by savepoint (map h (filter q rs)) ≤ count_by savepoint rs = count_by-changed savepoint savepoint h q rs (λ x k _ t. ap not (sym (same_checkpoint x (h x) (kept x k))) ∙ t) in
+      omega (arith, a.savepoints_to);
+  newer = λ r s j k p d.
+      let x = IsIn-from_changed h q r rs j in
+      let y = IsIn-from_changed h q s rs k in
+      let e : r.id ≡ (h x.0).id = ap (λ z. z.id) x.3 in
+      let f : s.id ≡ (h y.0).id = ap (λ z. z.id) y.3 in
+      let less : (y.0).id < (x.0).id = newer x.0 y.0 x.1 y.1 x.2 y.2 (ap is_pending_checkpoint (sym x.3) ∙ p) (ap is_done_checkpoint (sym y.3) ∙ d) in
+      omega (arith, same x.0, same y.0);
+}
+
+-- what filtering alone leaves
+pub filtered_records : {o : Opening} {next : ℕ} {rs : List Record} (q : Record → Bool) → AreSoundRecords o next rs → AreSoundRecords o next (map (λ r. r) (filter q rs))
+filtered_records {o} {next} {rs} q a =
+    let itself : Record → Record = λ r. r in
+    let fewer : count_by is_done_checkpoint (map itself (filter q rs)) ≤ count_by is_done_checkpoint rs = count_by-changed is_done_checkpoint is_done_checkpoint itself q rs (λ x k _ t. t) in
+    changed_records itself q a (λ r. refl) (λ r k. record { kind = refl; started = refl; pending = λ e. e }) (λ r k _. a.each r k) (omega (arith, a.retained)) (λ r s j k _ _ p d. a.newer r s j k p d)
+
+-- one pending record more, with the next number
+pub appended_records : {o : Opening} {next : ℕ} {rs : List Record} (r : Record) → AreSoundRecords o next rs → o.first ≤ next → r.id ≡ next → r.done ≡ false → IsRecord r → r.started < 2 ^ 62 → count_by is_pending_checkpoint (rs ++ r ∷ []) ≤ limit o.config → count_by (λ s. not (is_checkpoint s)) (rs ++ r ∷ []) ≤ 1000 → AreSoundRecords o (next + 1) (rs ++ r ∷ [])
+appended_records {o} {next} {rs} r a first id done each started at_once savepoints_to =
+    let late : (x y : Record) → IsIn x rs → IsIn y (r ∷ []) → id_before x y ≡ true = λ x y j k. ⊎_elim (λ (e : y ≡ r). let f : y.id ≡ r.id = ap (λ z. z.id) e in lt-ltb x.id y.id (omega (arith, a.below_next x j))) (λ (n : ⊥). absurd n) k in
+    record {
+      in_order = IsInOrder-append id_before rs (r ∷ []) a.in_order (tt, tt) late;
+      from_first = λ x k. ⊎_elim (a.from_first x) (⊎_elim (λ (e : x ≡ r). let f : x.id ≡ r.id = ap (λ z. z.id) e in omega arith) (λ (n : ⊥). absurd n)) (IsIn-append_cases x rs (r ∷ []) k);
+      below_next = λ x k. ⊎_elim (λ (j : IsIn x rs). omega (arith, a.below_next x j)) (⊎_elim (λ (e : x ≡ r). let f : x.id ≡ r.id = ap (λ z. z.id) e in omega arith) (λ (n : ⊥). absurd n)) (IsIn-append_cases x rs (r ∷ []) k);
+      each = λ x k. ⊎_elim (a.each x) (⊎_elim (λ (e : x ≡ r). subst IsRecord (sym e) each) (λ (n : ⊥). absurd n)) (IsIn-append_cases x rs (r ∷ []) k);
+      started = λ x k. ⊎_elim (a.started x) (⊎_elim (λ (e : x ≡ r). let f : x.started ≡ r.started = ap (λ z. z.started) e in omega arith) (λ (n : ⊥). absurd n)) (IsIn-append_cases x rs (r ∷ []) k);
+      retained = let none : is_done_checkpoint r ≡ false = and_left r.done (is_checkpoint r) done in omega (arith, count_by-append is_done_checkpoint rs (r ∷ []), count_by_no is_done_checkpoint r [] none, a.retained);
+      at_once = at_once;
+      savepoints_to = savepoints_to;
+      newer = λ x y j k p d.
+          let Goal : Type 0 = y.id < x.id in
+          let old : IsIn y rs → Goal = λ (l : IsIn y rs). ⊎_elim (λ (i : IsIn x rs). a.newer x y i l p d) (⊎_elim (λ (e : x ≡ r). let f : x.id ≡ r.id = ap (λ z. z.id) e in omega (arith, a.below_next y l)) (λ (n : ⊥). absurd n)) (IsIn-append_cases x rs (r ∷ []) j) in
+          let new : y ≡ r → Goal = λ (e : y ≡ r). absurd (both_ways r.done done (ap (λ z. z.done) (sym e) ∙ (and_parts y.done (is_checkpoint y) d).0)) in
+          ⊎_elim old (⊎_elim new (λ (n : ⊥). absurd n)) (IsIn-append_cases y rs (r ∷ []) k);
+    }
+
+-- the newest that pass a test
+
+-- a test that holds adds nothing
+and_true : (b : Bool) → (b && true) ≡ b
+and_true true = refl
+and_true false = refl
+
+-- how many that pass come after a record
+abbrev pub later : (Record → Bool) → Record → List Record → ℕ
+later p r rs = count_by (λ s. p s && ltb r.id s.id) rs
+
+-- the first of a list in order has all others after it
+later_first : (p : Record → Bool) (r : Record) (rs : List Record) → ComesBefore id_before r rs → later p r (r ∷ rs) ≡ count_by p rs
+later_first p r rs c =
+    let test : Record → Bool = λ s. p s && ltb r.id s.id in
+    let not_itself : test r ≡ false = and_right (p r) (ltb r.id r.id) (le-ltb r.id r.id (omega arith)) in
+    let all : (s : Record) → IsIn s rs → test s ≡ p s = λ s h. ap (λ b. p s && b) (ComesBefore-at id_before r s rs c h) ∙ and_true (p s) in
+    count_by_no test r rs not_itself ∙ count_by-same test p rs all
+
+-- one that comes after the first has as many after it without the first
+later_rest : (p : Record → Bool) (x r : Record) (rs : List Record) → x.id ≤ r.id → later p r (x ∷ rs) ≡ later p r rs
+later_rest p x r rs h =
+    let test : Record → Bool = λ s. p s && ltb r.id s.id in
+    count_by_no test x rs (and_right (p x) (ltb r.id x.id) (le-ltb r.id x.id h))
+
+-- of those that pass, the ones with fewer than n later ones are n at most
+pub newest_at_most : (p : Record → Bool) (n : ℕ) (rs : List Record) → IsInOrder id_before rs → count_by (λ r. p r && not (leb n (later p r rs))) rs ≤ n
+newest_at_most p n [] a = omega arith
+newest_at_most p n (x ∷ rs) a =
+    let test : Record → Bool = λ r. p r && not (leb n (later p r (x ∷ rs))) in
+    let test_rest : Record → Bool = λ r. p r && not (leb n (later p r rs)) in
+    let same : (r : Record) → IsIn r rs → test r ≡ test_rest r = λ r h. let less : x.id < r.id = ltb-true x.id r.id (ComesBefore-at id_before x r rs a.0 h) in ap (λ k. p r && not (leb n k)) (later_rest p x r rs (omega arith)) in
+    let tail : count_by test rs ≡ count_by test_rest rs = count_by-same test test_rest rs same in
+    let rest : count_by test_rest rs ≤ n = newest_at_most p n rs a.1 in
+    let fewer : count_by test_rest rs ≤ count_by p rs = count_by-le test_rest p rs (λ r h t. (and_parts (p r) (not (leb n (later p r rs))) t).0) in
+    let yes : test x ≡ true → count_by test (x ∷ rs) ≤ n = λ (e : test x ≡ true).
+    let below : leb n (later p x (x ∷ rs)) ≡ false = not-true (leb n (later p x (x ∷ rs))) (and_parts (p x) (not (leb n (later p x (x ∷ rs)))) e).1 in
+    let room : later p x (x ∷ rs) < n = leb-false n (later p x (x ∷ rs)) below in
+    omega (arith, count_by_yes test x rs e, later_first p x rs a.0) in
+    let no : test x ≡ false → count_by test (x ∷ rs) ≤ n = λ (e : test x ≡ false). omega (arith, count_by_no test x rs e) in
+    ⊎_elim yes no (cases_Bool (test x))

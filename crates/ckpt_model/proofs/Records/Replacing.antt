@@ -1,0 +1,124 @@
+-- One record of a list put in the place of another with its number.
+use Rattle.std.proofs.Common.{◌≡◌, ℕ, ◌<◌, ◌≤◌, Bool, true, false, not, cond, eqb, List, [], ◌∷◌, map, refl, sym, ap, subst, ◌∙◌, ◌⊎◌, inl, inr, ⊎_elim, arith}
+use Rattle.std.specs.Prelude.{count_by, Some}
+use Rattle.std.specs.List.{filter}
+use Rattle.std.proofs.lemmas.Bool.{cases_Bool, both_ways, not-true, and_parts, cond-true, cond-false, eqb-true, eqb-false, eq-eqb, ne_eqb, ltb-true}
+use Rattle.ckpt_ids.specs.Ordered.{IsIn, IsInOrder}
+use Rattle.ckpt_ids.specs.Records.{Record}
+use Rattle.ckpt_ids.proofs.OrderedLemmas.{ComesBefore-at}
+use Rattle.ckpt_model.specs.State.{Opening, is_checkpoint, is_pending, is_done_checkpoint, unpinned}
+use Rattle.ckpt_model.specs.Soundness.{IsRecord, id_before}
+use Rattle.ckpt_model.proofs.Records.Counts.{count_by-changed}
+use Rattle.ckpt_model.proofs.Records.Lists.{AreSoundRecords, IsKept, changed_records, is_pending_checkpoint, pending_checkpoint_before}
+
+-- two records of a list with one number are one
+pub same_record : (x y : Record) (rs : List Record) → IsInOrder id_before rs → IsIn x rs → IsIn y rs → x.id ≡ y.id → x ≡ y
+same_record x y [] a h k e = absurd h
+same_record x y (r ∷ rs) a (inl h) (inl k) e = h ∙ sym k
+same_record x y (r ∷ rs) a (inl h) (inr k) e = let less : r.id < y.id = ltb-true r.id y.id (ComesBefore-at id_before r y rs a.0 k) in let f : x.id ≡ r.id = ap (λ z. z.id) h in absurd (omega arith)
+same_record x y (r ∷ rs) a (inr h) (inl k) e = let less : r.id < x.id = ltb-true r.id x.id (ComesBefore-at id_before r x rs a.0 h) in let f : y.id ≡ r.id = ap (λ z. z.id) k in absurd (omega arith)
+same_record x y (r ∷ rs) a (inr h) (inr k) e = same_record x y rs a.1 h k e
+
+-- what is the same of two values is that of either
+pub cond_same : {X Y : Type 0} (g : X → Y) (b : Bool) (x y : X) → g x ≡ g y → g (cond b x y) ≡ g y
+cond_same g true x y e = e
+cond_same g false x y e = refl
+
+-- the record of this number, in the place of the one that has it
+abbrev pub put_in : Record → Record → Record
+put_in r old = cond (eqb old.id r.id) r old
+
+-- a change that puts `new` in the place of `old`, and leaves all others
+pub record IsReplacing (change : Record → Record) (old new : Record) (rs : List Record) : Type 0 where
+  pub same : (x : Record) → (change x).id ≡ x.id
+  pub cases : (x : Record) → IsIn x rs → ((x ≡ old) × (change x ≡ new)) ⊎ ((x.id ≡ old.id → ⊥) × (change x ≡ x))
+
+-- the number stays
+put_in_same : (r x : Record) → (put_in r x).id ≡ x.id
+put_in_same r x =
+    ⊎_elim
+    (λ (e : eqb x.id r.id ≡ true). ap (λ z. z.id) (cond-true (eqb x.id r.id) r x e) ∙ sym (eqb-true x.id r.id e))
+    (λ (e : eqb x.id r.id ≡ false). ap (λ z. z.id) (cond-false (eqb x.id r.id) r x e))
+    (cases_Bool (eqb x.id r.id))
+
+-- it is such a change
+pub put_in_replaces : (old new : Record) (rs : List Record) → IsInOrder id_before rs → IsIn old rs → new.id ≡ old.id → IsReplacing (put_in new) old new rs
+put_in_replaces old new rs a there id = record {
+  same = put_in_same new;
+  cases = λ x h.
+      ⊎_elim
+      (λ (e : eqb x.id new.id ≡ true). inl (same_record x old rs a h there (eqb-true x.id new.id e ∙ id), cond-true (eqb x.id new.id) new x e))
+      (λ (e : eqb x.id new.id ≡ false). inr (λ k. eqb-false x.id new.id e (k ∙ sym id), cond-false (eqb x.id new.id) new x e))
+      (cases_Bool (eqb x.id new.id));
+}
+
+-- letting the pins go keeps the number
+unpinned_same : (ended : ℕ) (x : Record) → (unpinned (Some ended) x).id ≡ x.id
+unpinned_same ended x = cond_same (λ (z : Record). z.id) (eqb x.id ended) (record x { pins = [] }) x refl
+
+-- the same, without the pins of the record put in
+pub unpinned_replaces : (old new : Record) (rs : List Record) → IsInOrder id_before rs → IsIn old rs → new.id ≡ old.id → IsReplacing (λ x. unpinned (Some new.id) (put_in new x)) old (record new { pins = [] }) rs
+unpinned_replaces old new rs a there id =
+    let p = put_in_replaces old new rs a there id in
+    let free : Record → Record = unpinned (Some new.id) in
+    record {
+      same = λ x. unpinned_same new.id (put_in new x) ∙ p.same x;
+      cases = λ x h.
+          ⊎_elim
+          (λ (e : (x ≡ old) × (put_in new x ≡ new)). inl (e.0, ap free e.1 ∙ cond-true (eqb new.id new.id) (record new { pins = [] }) new (eq-eqb new.id new.id refl)))
+          (λ (e : (x.id ≡ old.id → ⊥) × (put_in new x ≡ x)). inr (e.0, ap free e.1 ∙ cond-false (eqb x.id new.id) (record x { pins = [] }) x (ne_eqb x.id new.id (λ k. e.0 (k ∙ id)))))
+          (p.cases x h);
+    }
+
+-- what a list's order and limits read of the record put in is as it was
+pub replacing_keeps : {change : Record → Record} {old new : Record} {rs : List Record} → IsReplacing change old new rs → old.done ≡ false → new.kind ≡ old.kind → new.started ≡ old.started → (x : Record) → IsIn x rs → IsKept x (change x)
+replacing_keeps {change} {old} {new} p pending kind started x h =
+    let P : Record → Type 0 = λ z. IsKept x z in
+    ⊎_elim
+    (λ (e : (x ≡ old) × (change x ≡ new)). subst P (sym e.1) (record { kind = kind ∙ ap (λ z. z.kind) (sym e.0); started = started ∙ ap (λ z. z.started) (sym e.0); pending = λ _. ap (λ z. z.done) e.0 ∙ pending }))
+    (λ (e : (x.id ≡ old.id → ⊥) × (change x ≡ x)). subst P (sym e.1) (record { kind = refl; started = refl; pending = λ k. k }))
+    (p.cases x h)
+
+-- each record is one after it
+pub replacing_is_record : {change : Record → Record} {old new : Record} {rs : List Record} → IsReplacing change old new rs → ((x : Record) → IsIn x rs → IsRecord x) → IsRecord new → (x : Record) → IsIn x rs → IsRecord (change x)
+replacing_is_record {change} {old} {new} p each i x h =
+    ⊎_elim
+    (λ (e : (x ≡ old) × (change x ≡ new)). subst IsRecord (sym e.1) i)
+    (λ (e : (x.id ≡ old.id → ⊥) × (change x ≡ x)). subst IsRecord (sym e.1) (each x h))
+    (p.cases x h)
+
+-- a done checkpoint after it was one before, if the record put in is none
+done_checkpoint_before : {change : Record → Record} {old new : Record} {rs : List Record} → IsReplacing change old new rs → is_done_checkpoint new ≡ false → (x : Record) → IsIn x rs → is_done_checkpoint (change x) ≡ true → is_done_checkpoint x ≡ true
+done_checkpoint_before {change} {old} {new} p none x h d =
+    ⊎_elim
+    (λ (e : (x ≡ old) × (change x ≡ new)). absurd (both_ways (is_done_checkpoint new) none (ap is_done_checkpoint (sym e.1) ∙ d)))
+    (λ (e : (x.id ≡ old.id → ⊥) × (change x ≡ x)). ap is_done_checkpoint (sym e.1) ∙ d)
+    (p.cases x h)
+
+-- a record put in that is no done checkpoint keeps the list sound
+pub replaced_records : {o : Opening} {next : ℕ} {rs : List Record} {change : Record → Record} {old new : Record} (q : Record → Bool) → AreSoundRecords o next rs → IsReplacing change old new rs → old.done ≡ false → new.kind ≡ old.kind → new.started ≡ old.started → IsRecord new → is_done_checkpoint new ≡ false → AreSoundRecords o next (map change (filter q rs))
+replaced_records {o} {next} {rs} {change} q a p pending kind started i none =
+    let fewer : count_by is_done_checkpoint (map change (filter q rs)) ≤ count_by is_done_checkpoint rs = count_by-changed is_done_checkpoint is_done_checkpoint change q rs (λ x h _ d. done_checkpoint_before p none x h d) in
+    let kept : (x : Record) → IsIn x rs → IsKept x (change x) = replacing_keeps p pending kind started in
+    changed_records change q a p.same kept (λ x h _. replacing_is_record p a.each i x h) (omega (arith, a.retained))
+    (λ x y h k _ _ t d. a.newer x y h k (pending_checkpoint_before x (change x) (kept x h) t) (done_checkpoint_before p none y k d))
+
+-- a record put in that is a done checkpoint keeps it sound, if all pending checkpoints before it are dropped, and enough of the done ones
+pub completed_records : {o : Opening} {next : ℕ} {rs : List Record} {change : Record → Record} {old new : Record} (q : Record → Bool) → AreSoundRecords o next rs → IsReplacing change old new rs → old.done ≡ false → new.done ≡ true → new.kind ≡ old.kind → new.started ≡ old.started → IsRecord new → count_by is_done_checkpoint (map change (filter q rs)) ≤ o.config.retained → ((x : Record) → IsIn x rs → q x ≡ true → change x ≡ x → is_pending_checkpoint x ≡ true → old.id ≤ x.id) → AreSoundRecords o next (map change (filter q rs))
+completed_records {o} {next} {rs} {change} {old} {new} q a p pending done kind started i retained after =
+    changed_records change q a p.same (replacing_keeps p pending kind started) (λ x h _. replacing_is_record p a.each i x h) retained newer
+  where
+    newer : (x y : Record) → IsIn x rs → IsIn y rs → q x ≡ true → q y ≡ true → is_pending_checkpoint (change x) ≡ true → is_done_checkpoint (change y) ≡ true → y.id < x.id
+    newer x y h k qx qy t d =
+        let Goal : Type 0 = y.id < x.id in
+        let x_new : (x ≡ old) × (change x ≡ new) → Goal = λ (e : (x ≡ old) × (change x ≡ new)).
+        absurd (both_ways new.done (not-true new.done (ap (λ z. not z.done) (sym e.1) ∙ (and_parts (is_pending (change x)) (is_checkpoint (change x)) t).0)) done) in
+        let x_old : (x.id ≡ old.id → ⊥) × (change x ≡ x) → Goal = λ (e : (x.id ≡ old.id → ⊥) × (change x ≡ x)).
+        let waits : is_pending_checkpoint x ≡ true = ap is_pending_checkpoint (sym e.1) ∙ t in
+        let ne : x.id ≡ old.id → ⊥ = e.0 in
+        let from : old.id ≤ x.id = after x h qx e.1 waits in
+        ⊎_elim
+        (λ (f : (y ≡ old) × (change y ≡ new)). let g : y.id ≡ old.id = ap (λ z. z.id) f.0 in omega arith)
+        (λ (f : (y.id ≡ old.id → ⊥) × (change y ≡ y)). a.newer x y h k waits (ap is_done_checkpoint (sym f.1) ∙ d))
+        (p.cases y k) in
+        ⊎_elim x_new x_old (p.cases x h)

@@ -1,0 +1,191 @@
+-- The missing acknowledgements of one record come to the same in every order.
+use Rattle.std.proofs.Common.{◌≡◌, ℕ, ◌+◌, ◌≤◌, Bool, true, false, cond, List, [], ◌∷◌, ◌++◌, map, refl, sym, ap, subst, ◌∙◌, inl, inr, ⊎_elim, arith}
+use Rattle.std.specs.Prelude.{count_by, Option, Some, None}
+use Rattle.std.specs.Option.{option_or, is_some}
+use Rattle.std.proofs.lemmas.Bool.{both_ways}
+use Rattle.ckpt_ids.specs.declared.call.Call.{Call}
+use Rattle.ckpt_ids.specs.declared.reply.Answer.{Answer}
+use Rattle.ckpt_ids.specs.Ordered.{IsIn}
+use Rattle.ckpt_ids.specs.Records.{Record}
+use Rattle.ckpt_ids.proofs.CountLemmas.{count_by-cons, count_by_yes, count_by_no}
+use Rattle.ckpt_ids.proofs.OrderedLemmas.{IsIn-append_right}
+use Rattle.ckpt_model.specs.State.{State}
+use Rattle.ckpt_model.specs.Steps.{step}
+use Rattle.ckpt_model.specs.Histories.{replay, answers}
+use Rattle.ckpt_model.specs.Soundness.{IsSound}
+use Rattle.ckpt_model.specs.Interleavings.{SameBySeat, NewFile, ack_with, AreApart, calls_of, completed_by, first_completed, is_completing, SameOutcome, AnyOrder}
+use Rattle.ckpt_model.proofs.Records.Counts.{count_by_at_most_more}
+use Rattle.ckpt_model.proofs.Soundness.Calls.{step_keeps}
+use Rattle.ckpt_model.proofs.Reordering.Rearranged.{Rearranged, IsIn-midst, IsIn-rearranged, Rearranged-map, Rearranged-from_map, rearranged_by_seat, count_by-rearranged}
+use Rattle.ckpt_model.proofs.Reordering.NewFiles.{Awaits, Exchanged, awaits_after, not_completing, exchanged_new}
+
+-- the first completion
+
+-- of two of which one is none, either comes first
+option_or-swap : {X : Type 0} (o p q : Option X) → (is_some o ≡ true → is_some p ≡ true → ⊥) → option_or o (option_or p q) ≡ option_or p (option_or o q)
+option_or-swap None p q apart = refl
+option_or-swap (Some x) None q apart = refl
+option_or-swap (Some x) (Some y) q apart = absurd (apart refl refl)
+
+-- an answer in the middle, if at most one completes
+first-midst : (a : Answer) (front back : List Answer) → count_by is_completing (a ∷ front ++ back) ≤ 1 → first_completed (front ++ a ∷ back) ≡ first_completed (a ∷ front ++ back)
+first-midst a [] back once = refl
+first-midst a (b ∷ front) back once =
+    let rest : List Answer = front ++ back in
+    let fewer : count_by is_completing (a ∷ rest) ≤ 1 = omega (arith, count_by-cons is_completing a (b ∷ rest), count_by-cons is_completing b rest, count_by-cons is_completing a rest) in
+    let apart : is_completing b ≡ true → is_completing a ≡ true → ⊥ = λ h k. let no : ⊥ = omega (arith, count_by_yes is_completing a (b ∷ rest) k, count_by_yes is_completing b rest h) in no in
+    ap (option_or (completed_by b)) (first-midst a front back fewer) ∙ option_or-swap (completed_by b) (completed_by a) (first_completed rest) apart
+
+-- if at most one completes, the order does not matter
+first-rearranged : (xs ys : List Answer) → Rearranged xs ys → count_by is_completing xs ≤ 1 → first_completed xs ≡ first_completed ys
+first-rearranged [] ys e once = ap first_completed (sym e)
+first-rearranged (a ∷ xs) ys r once =
+    let rest : List Answer = (r.0) ++ (r.1) in
+    let as_many : count_by is_completing xs ≡ count_by is_completing rest = count_by-rearranged is_completing xs rest r.3 in
+    let fewer : count_by is_completing xs ≤ 1 = omega (arith, count_by-cons is_completing a xs) in
+    let once_there : count_by is_completing (a ∷ rest) ≤ 1 = omega (arith, count_by-cons is_completing a xs, count_by-cons is_completing a rest) in
+    ap (option_or (completed_by a)) (first-rearranged xs rest r.3 fewer) ∙ sym (ap first_completed r.2 ∙ first-midst a r.0 r.1 once_there)
+
+pub same_completed_by_seat : (xs ys : List (ℕ × Answer)) → SameBySeat xs ys → count_by is_completing (map (λ (x : ℕ × Answer). x.1) xs) ≤ 1 → first_completed (map (λ (x : ℕ × Answer). x.1) xs) ≡ first_completed (map (λ (x : ℕ × Answer). x.1) ys)
+same_completed_by_seat xs ys same once =
+    let value : ℕ × Answer → Answer = λ x. x.1 in
+    first-rearranged (map value xs) (map value ys) (Rearranged-map value xs ys (rearranged_by_seat xs ys same)) once
+
+-- what two lists of calls come to
+
+record Same (m : State) (xs ys : List Call) : Type 0 where
+  state : replay m xs ≡ replay m ys
+  as_often : (asked : Answer → Bool) → count_by asked (answers m xs) ≡ count_by asked (answers m ys)
+  completed : first_completed (answers m xs) ≡ first_completed (answers m ys)
+
+same_itself : (m : State) (xs ys : List Call) → xs ≡ ys → Same m xs ys
+same_itself m xs ys e = record {
+  state = ap (replay m) e;
+  as_often = λ asked. ap (λ zs. count_by asked (answers m zs)) e;
+  completed = ap (λ zs. first_completed (answers m zs)) e;
+}
+
+same_chain : {m : State} {xs ys zs : List Call} → Same m xs ys → Same m ys zs → Same m xs zs
+same_chain a b = record {
+  state = a.state ∙ b.state;
+  as_often = λ asked. a.as_often asked ∙ b.as_often asked;
+  completed = a.completed ∙ b.completed;
+}
+
+-- after one call more at the start
+same_later : (m : State) (call : Call) (xs ys : List Call) → Same (step m call).0 xs ys → Same m (call ∷ xs) (call ∷ ys)
+same_later m call xs ys a =
+    let n : State = (step m call).0 in
+    let first : Answer = (step m call).1 in
+    record {
+      state = a.state;
+      as_often = λ asked. count_by-cons asked first (answers n xs) ∙ ap (λ k. cond (asked first) 1 0 + k) (a.as_often asked) ∙ sym (count_by-cons asked first (answers n ys));
+      completed = ap (option_or (completed_by first)) a.completed;
+    }
+
+-- with the first two exchanged, of which the first does not complete the record
+same_exchanged : (m : State) (a b : Call) (rest : List Call) → Exchanged m a b → is_completing (step m a).1 ≡ false → Same m (a ∷ b ∷ rest) (b ∷ a ∷ rest)
+same_exchanged m a b rest x pending =
+    let a1 : Answer = (step m a).1 in
+    let a2 : Answer = (step (step m a).0 b).1 in
+    let b1 : Answer = (step m b).1 in
+    let b2 : Answer = (step (step m b).0 a).1 in
+    let n : State = (step (step m a).0 b).0 in
+    let n' : State = (step (step m b).0 a).0 in
+    let told : Answer → Answer → State → List Answer = λ c d k. c ∷ d ∷ answers k rest in
+    let later : List Answer = answers n rest in
+    let same_state : n ≡ n' = x.state in
+    let in_turn : (b1 ≡ a1) × (b2 ≡ a2) → told a1 a2 n ≡ told b1 b2 n' = λ e. ap (λ c. told c a2 n) (sym e.0) ∙ ap (λ d. told b1 d n) (sym e.1) ∙ ap (told b1 b2) same_state in
+    let turned : (b1 ≡ a2) × (b2 ≡ a1) → told a2 a1 n ≡ told b1 b2 n' = λ e. ap (λ c. told c a1 n) (sym e.0) ∙ ap (λ d. told b1 d n) (sym e.1) ∙ ap (told b1 b2) same_state in
+    let swapped : (asked : Answer → Bool) → count_by asked (told a1 a2 n) ≡ count_by asked (told a2 a1 n) = λ asked. omega (arith, count_by-cons asked a1 (a2 ∷ later), count_by-cons asked a2 later, count_by-cons asked a2 (a1 ∷ later), count_by-cons asked a1 later) in
+    let first : first_completed (told a1 a2 n) ≡ first_completed (told a2 a1 n) = option_or-swap (completed_by a1) (completed_by a2) (first_completed later) (λ h k. both_ways (is_completing a1) pending h) in
+    record {
+      state = ap (λ k. replay k rest) same_state;
+      as_often = λ asked. ⊎_elim (λ (e : (b1 ≡ a1) × (b2 ≡ a2)). ap (count_by asked) (in_turn e)) (λ (e : (b1 ≡ a2) × (b2 ≡ a1)). swapped asked ∙ ap (count_by asked) (turned e)) x.answers;
+      completed = ⊎_elim (λ (e : (b1 ≡ a1) × (b2 ≡ a2)). ap first_completed (in_turn e)) (λ (e : (b1 ≡ a2) × (b2 ≡ a1)). first ∙ ap first_completed (turned e)) x.answers;
+    }
+
+-- lists of new files
+
+abbrev Differ : NewFile → NewFile → Type 0
+Differ n o = (n.subtask ≡ o.subtask → ⊥) × (n.file ≡ o.file → ⊥)
+
+differ_back : (n o : NewFile) → Differ n o → Differ o n
+differ_back n o d = (λ e. d.0 (sym e), λ e. d.1 (sym e))
+
+apart-midst : (n : NewFile) (front back : List NewFile) → AreApart (front ++ back) → ((o : NewFile) → IsIn o (front ++ back) → Differ n o) → AreApart (front ++ n ∷ back)
+apart-midst n [] back a differ = (differ, a)
+apart-midst n (p ∷ front) back a differ =
+    let P : NewFile → Type 0 = λ o. Differ p o in
+    let from_p : (o : NewFile) → IsIn o (front ++ n ∷ back) → Differ p o = λ o h.
+    ⊎_elim (λ (e : o ≡ n). subst P (sym e) (differ_back n p (differ p (inl refl)))) (λ (k : IsIn o (front ++ back)). a.0 o k) (IsIn-midst o n front back h) in
+    (from_p, apart-midst n front back a.1 (λ o h. differ o (inr h)))
+
+apart-rearranged : (xs ys : List NewFile) → AreApart xs → Rearranged xs ys → AreApart ys
+apart-rearranged [] ys a e = subst AreApart (sym e) a
+apart-rearranged (n ∷ xs) ys a r =
+    let rest : List NewFile = (r.0) ++ (r.1) in
+    let others : AreApart rest = apart-rearranged xs rest a.1 r.3 in
+    subst AreApart (sym r.2) (apart-midst n r.0 r.1 others (λ o h. a.0 o (IsIn-rearranged o xs rest r.3 h)))
+
+-- each is awaited
+abbrev AreAwaited : State → ℕ → List NewFile → Type 0
+AreAwaited m id news = (n : NewFile) → IsIn n news → Awaits m id n
+
+abbrev acks : ℕ → ℕ → List NewFile → List Call
+acks now id news = map (ack_with now id) news
+
+still_awaited : (m : State) (now id : ℕ) (n : NewFile) (news : List NewFile) → IsSound m → AreAwaited m id (n ∷ news) → AreApart (n ∷ news) → AreAwaited (step m (ack_with now id n)).0 id news
+still_awaited m now id n news s w a o h = awaits_after m now id n o s (w n (inl refl)) (w o (inr h)) (a.0 o h).0
+
+-- the one in the midst comes first
+to_front : (m : State) (now id : ℕ) (n : NewFile) (front back : List NewFile) → IsSound m → AreAwaited m id (front ++ n ∷ back) → AreApart (front ++ n ∷ back) → Same m (acks now id (n ∷ front ++ back)) (acks now id (front ++ n ∷ back))
+to_front m now id n [] back s w a = same_itself m (acks now id (n ∷ back)) (acks now id (n ∷ back)) refl
+to_front m now id n (p ∷ front) back s w a =
+    let N : Call = ack_with now id n in
+    let P : Call = ack_with now id p in
+    let rest : List Call = acks now id (front ++ back) in
+    let midst : List NewFile = front ++ n ∷ back in
+    let there : IsIn n midst = IsIn-append_right n front (n ∷ back) (inl refl) in
+    let wn : Awaits m id n = w n (inr there) in
+    let wp : Awaits m id p = w p (inl refl) in
+    let d : Differ n p = differ_back p n (a.0 n there) in
+    let later : Same (step m P).0 (N ∷ rest) (acks now id midst) = to_front (step m P).0 now id n front back (step_keeps m P tt s) (still_awaited m now id p midst s w a) a.1 in
+    same_chain (same_exchanged m N P rest (exchanged_new m now id n p s wn wp d.0 d.1) (not_completing m now id n p wn wp d.0)) (same_later m P (N ∷ rest) (acks now id midst) later)
+
+-- in whatever order
+same_rearranged : (m : State) (now id : ℕ) (xs ys : List NewFile) → IsSound m → AreAwaited m id xs → AreApart xs → Rearranged xs ys → Same m (acks now id xs) (acks now id ys)
+same_rearranged m now id [] ys s w a e = same_itself m [] (acks now id ys) (ap (acks now id) (sym e))
+same_rearranged m now id (n ∷ xs) ys s w a r =
+    let N : Call = ack_with now id n in
+    let rest : List NewFile = (r.0) ++ (r.1) in
+    let whole : List NewFile = (r.0) ++ n ∷ r.1 in
+    let turned : Rearranged (n ∷ xs) whole = (r.0, r.1, refl, r.3) in
+    let later : Same (step m N).0 (acks now id xs) (acks now id rest) = same_rearranged (step m N).0 now id xs rest (step_keeps m N tt s) (still_awaited m now id n xs s w a) a.1 r.3 in
+    let front : Same m (N ∷ acks now id rest) (acks now id whole) = to_front m now id n r.0 r.1 s (λ o h. w o (IsIn-rearranged o (n ∷ xs) whole turned h)) (apart-rearranged (n ∷ xs) whole a turned) in
+    let P : List NewFile → Type 0 = λ zs. Same m (acks now id (n ∷ xs)) (acks now id zs) in
+    subst P (sym r.2) (same_chain (same_later m N (acks now id xs) (acks now id rest) later) front)
+
+-- at most one completes the record
+at_most_one : (m : State) (now id : ℕ) (xs : List NewFile) → IsSound m → AreAwaited m id xs → AreApart xs → count_by is_completing (answers m (acks now id xs)) ≤ 1
+at_most_one m now id [] s w a = omega arith
+at_most_one m now id (n ∷ []) s w a = count_by_at_most_more is_completing (step m (ack_with now id n)).1 []
+at_most_one m now id (n ∷ o ∷ xs) s w a =
+    let N : Call = ack_with now id n in
+    let later : List Answer = answers (step m N).0 (acks now id (o ∷ xs)) in
+    let rest : count_by is_completing later ≤ 1 = at_most_one (step m N).0 now id (o ∷ xs) (step_keeps m N tt s) (still_awaited m now id n (o ∷ xs) s w a) a.1 in
+    let not_here : is_completing (step m N).1 ≡ false = not_completing m now id n o (w n (inl refl)) (w o (inr (inl refl))) (a.0 o (inl refl)).0 in
+    omega (arith, count_by_no is_completing (step m N).1 later not_here)
+
+pub any_order : (m : State) (now id : ℕ) (r : Record) (news : List NewFile) (given made : List (ℕ × Call)) → IsSound m → AnyOrder m now id r news given made
+any_order m now id r news given made s found missing apart is same =
+    let value : ℕ × Call → Call = λ x. x.1 in
+    let P : List Call → Type 0 = λ calls. Rearranged calls (calls_of made) in
+    let turned = Rearranged-from_map (ack_with now id) news (calls_of made) (subst P is (Rearranged-map value given made (rearranged_by_seat given made same))) in
+    let awaited : AreAwaited m id news = λ n h. record { r = r; found = found; lacks = missing n h } in
+    let both : Same m (acks now id news) (acks now id turned.0) = same_rearranged m now id news turned.0 s awaited apart turned.2 in
+    let once : count_by is_completing (answers m (acks now id news)) ≤ 1 = at_most_one m now id news s awaited apart in
+    let outcome : SameOutcome m (acks now id news) (acks now id turned.0) = record { state = both.state; as_often = both.as_often; completed = both.completed; once = once } in
+    let Q : List Call → Type 0 = λ calls. SameOutcome m calls (acks now id turned.0) in
+    let R : List Call → Type 0 = λ calls. SameOutcome m (calls_of given) calls in
+    subst R (sym turned.1) (subst Q (sym is) outcome)

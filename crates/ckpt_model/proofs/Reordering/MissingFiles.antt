@@ -1,0 +1,76 @@
+-- The missing subtasks of a pending record, each with the next file from a first one on, meet the conditions of the law of any order.
+use Rattle.std.proofs.Common.{◌≡◌, ℕ, ◌+◌, ◌≤◌, Bool, true, false, not, ◌&&◌, eqb, List, [], ◌∷◌, map, refl, sym, ap, subst, ◌∙◌, inl, inr, ⊎_elim, arith}
+use Rattle.std.specs.Prelude.{find, Some}
+use Rattle.std.specs.List.{filter, enumerate_from}
+use Rattle.std.proofs.lemmas.Bool.{cases_Bool, both_ways, not-true, not_from_false, and_parts, and_from, cond-true, cond-false}
+use Rattle.ckpt_ids.specs.declared.subtask.SubtaskId.{SubtaskId}
+use Rattle.ckpt_ids.specs.Ordered.{IsIn, IsInOrder}
+use Rattle.ckpt_ids.specs.Acknowledged.{is_before}
+use Rattle.ckpt_ids.specs.Records.{Record, has_acknowledged}
+use Rattle.ckpt_ids.specs.Shapes.{subtasks}
+use Rattle.ckpt_ids.proofs.OrderLemmas.{subtasks_in_order}
+use Rattle.ckpt_ids.proofs.OrderedLemmas.{IsIn-from_filter, IsInOrder-filter, ComesBefore-at}
+use Rattle.ckpt_pending.proofs.SubtaskLemmas.{IsInOrder-subtasks, is_subtask-from_IsIn}
+use Rattle.ckpt_model.specs.State.{State, is_pending, record_of}
+use Rattle.ckpt_model.specs.Refusals.{pending_of}
+use Rattle.ckpt_model.specs.Interleavings.{NewFile, AreApart, AreMissing}
+use Rattle.ckpt_model.proofs.Records.Counts.{IsIn-from_find}
+
+-- the one that a test finds is found by a narrower test that it passes
+find-narrower : {X : Type 0} (wide narrow : X → Bool) (x : X) (xs : List X) → ((y : X) → narrow y ≡ true → wide y ≡ true) → find wide xs ≡ Some x → narrow x ≡ true → find narrow xs ≡ Some x
+find-narrower wide narrow x [] within found passes = absurd (cc)
+find-narrower {X} wide narrow x (y ∷ ys) within found passes =
+    let here : wide y ≡ true → find narrow (y ∷ ys) ≡ Some x = λ (e : wide y ≡ true).
+    let it : Some y ≡ Some x = sym (cond-true (wide y) (Some y) (find wide ys) e) ∙ found in
+    let same : y ≡ x = cc in
+    cond-true (narrow y) (Some y) (find narrow ys) (ap narrow same ∙ passes) ∙ it in
+    let later : wide y ≡ false → find narrow ys ≡ Some x = λ (e : wide y ≡ false). find-narrower wide narrow x ys within (sym (cond-false (wide y) (Some y) (find wide ys) e) ∙ found) passes in
+    let not_it : wide y ≡ false → narrow y ≡ false = λ (e : wide y ≡ false). ⊎_elim (λ (k : narrow y ≡ true). absurd (both_ways (wide y) e (within y k))) (λ (k : narrow y ≡ false). k) (cases_Bool (narrow y)) in
+    ⊎_elim
+    here
+    (λ (e : wide y ≡ false). cond-false (narrow y) (Some y) (find narrow ys) (not_it e) ∙ later e)
+    (cases_Bool (wide y))
+
+-- the record of a number, if it is pending
+pub pending_record : (m : State) (id : ℕ) (r : Record) → record_of m id ≡ Some r → r.done ≡ false → pending_of m.records id ≡ Some r
+pending_record m id r found pending =
+    let wide : Record → Bool = λ x. eqb x.id id in
+    let narrow : Record → Bool = λ x. is_pending x && eqb x.id id in
+    let its : eqb r.id id ≡ true = (IsIn-from_find wide r m.records found).1 in
+    find-narrower wide narrow r m.records (λ y h. (and_parts (is_pending y) (eqb y.id id) h).1) found (and_from (is_pending r) (eqb r.id id) (not_from_false r.done pending) its)
+
+-- the subtasks, each with the next file; the first of them is at this place
+abbrev pub new_files : ℕ → ℕ → List SubtaskId → List NewFile
+new_files first place missing = map (λ p. record { subtask = p.1; file = first + p.0 }) (enumerate_from place missing)
+
+abbrev pub missing_of : Record → List SubtaskId
+missing_of r = filter (λ s. not (has_acknowledged r s)) (subtasks r.shape)
+
+-- each is one of the subtasks, with a file from the first one on
+from_new_files : (first place : ℕ) (missing : List SubtaskId) (n : NewFile) → IsIn n (new_files first place missing) → IsIn n.subtask missing × (first + place ≤ n.file)
+from_new_files first place [] n h = absurd h
+from_new_files first place (s ∷ missing) n h =
+    let P : NewFile → Type 0 = λ o. IsIn o.subtask (s ∷ missing) × (first + place ≤ o.file) in
+    let here : NewFile = record { subtask = s; file = first + place } in
+    let as_first : P here = (inl refl, omega arith) in
+    let rest : IsIn n (new_files first (place + 1) missing) → P n = λ (k : IsIn n (new_files first (place + 1) missing)). let q = from_new_files first (place + 1) missing n k in (inr q.0, omega (arith, q.1)) in
+    ⊎_elim (λ (e : n ≡ here). subst P (sym e) as_first) rest h
+
+-- all different
+pub apart_new_files : (first place : ℕ) (missing : List SubtaskId) → IsInOrder is_before missing → AreApart (new_files first place missing)
+apart_new_files first place [] order = tt
+apart_new_files first place (s ∷ missing) order =
+    let others : (o : NewFile) → IsIn o (new_files first (place + 1) missing) → (s ≡ o.subtask → ⊥) × (first + place ≡ o.file → ⊥) = λ o h.
+    let q = from_new_files first (place + 1) missing o h in
+    let before : is_before s o.subtask ≡ true = ComesBefore-at is_before s o.subtask missing order.0 q.0 in
+    let P : SubtaskId → Type 0 = λ t. is_before s t ≡ true in
+    (λ e. both_ways (is_before s s) (subtasks_in_order.irreflexive s) (subst P (sym e) before), λ e. let no : ⊥ = omega (arith, q.1) in no) in
+    (others, apart_new_files first (place + 1) missing order.1)
+
+pub apart_missing : (first : ℕ) (r : Record) → AreApart (new_files first 0 (missing_of r))
+apart_missing first r = apart_new_files first 0 (missing_of r) (IsInOrder-filter is_before (λ s. not (has_acknowledged r s)) (subtasks r.shape) (IsInOrder-subtasks r.shape))
+
+pub are_missing : (first : ℕ) (r : Record) → AreMissing r (new_files first 0 (missing_of r))
+are_missing first r n h =
+    let q = IsIn-from_filter (λ s. not (has_acknowledged r s)) n.subtask (subtasks r.shape) (from_new_files first 0 (missing_of r) n h).0 in
+    (is_subtask-from_IsIn r.shape n.subtask q.0, not-true (has_acknowledged r n.subtask) q.1)

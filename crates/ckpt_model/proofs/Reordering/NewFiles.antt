@@ -1,0 +1,258 @@
+-- Acknowledgements of missing subtasks, each with one new file: what one does to another.
+use Rattle.std.proofs.Common.{◌≡◌, ℕ, ◌<◌, ◌≤◌, ◌^◌, max, Bool, true, false, not, ◌&&◌, ◌||◌, cond, ltb, leb, eqb, List, [], ◌∷◌, ◌++◌, refl, sym, ap, subst, ◌∙◌, ◌⊎◌, inl, inr, ⊎_elim, arith}
+use Rattle.std.specs.Prelude.{Option, Some, None}
+use Rattle.std.proofs.lemmas.Bool.{cases_Bool, both_ways, not-true, not_from_false, and_parts, or_from, cond-false, eqb-true, leb-false, le-ltb, lt-leb}
+use Rattle.ckpt_ids.specs.declared.call.Call.{Call}
+use Rattle.ckpt_ids.specs.declared.reply.Refusal.{Refusal}
+use Rattle.ckpt_ids.specs.declared.reply.Refusal.TheVariants.{MomentTooLarge, UnknownCheckpoint, UnknownSubtask, AlreadyAcknowledged, NameTaken}
+use Rattle.ckpt_ids.specs.declared.reply.Reply.TheVariants as reply
+use Rattle.ckpt_ids.specs.declared.reply.Answer.TheVariants.{Done, Refused}
+use Rattle.ckpt_ids.specs.Ascending.{ascending}
+use Rattle.ckpt_ids.specs.Ordered.{IsIn}
+use Rattle.ckpt_ids.specs.Records.{Record, uses, is_present, missing, has_acknowledged}
+use Rattle.ckpt_ids.specs.Shapes.{subtasks, is_subtask}
+use Rattle.ckpt_pending.proofs.SubtaskLemmas.{IsIn-subtasks}
+use Rattle.ckpt_model.specs.State.{State, is_pending, is_known, in_outbox}
+use Rattle.ckpt_model.specs.Refusals.{refusal, refuse_if, pending_of, was_not_given, is_foreign, is_repeat, named, where_pending}
+use Rattle.ckpt_model.specs.Steps.{Stepped, replaced, with_records, step}
+use Rattle.ckpt_model.specs.Soundness.{IsSound}
+use Rattle.ckpt_model.specs.Laws.{is_ack_pending, is_ack_taken, Part}
+use Rattle.ckpt_model.specs.Interleavings.{NewFile, ack_with, is_completing}
+use Rattle.ckpt_model.proofs.Records.Counts.{IsIn-from_find}
+use Rattle.ckpt_model.proofs.Records.Present.{IsHeld, IsHeld-from_present, present-from_IsHeld}
+use Rattle.ckpt_model.proofs.Answering.Accepted.{not_refused-ack}
+use Rattle.ckpt_model.proofs.Answering.RefusalRows.{row_holds, row_fails}
+use Rattle.ckpt_model.proofs.Soundness.Acks.{with_ack}
+use Rattle.ckpt_model.proofs.Soundness.Calls.{step_keeps}
+use Rattle.ckpt_model.proofs.Records.Held.{held_or_named, held_still}
+use Rattle.ckpt_model.proofs.Reordering.ExchangeLemmas.{has_not_after, pending_of_replaced}
+use Rattle.ckpt_model.proofs.Reordering.Exchange.{step_ack, left_pending, exchange}
+use Rattle.ckpt_ids.proofs.CountLemmas.{counted-from_IsIn}
+use Rattle.ckpt_model.proofs.Answering.StepCases.{step_refused, step_accepted, step_by}
+use Rattle.ckpt_model.proofs.Stepping.Acknowledged.{acknowledged_is_taken}
+
+-- the record lacks this subtask
+abbrev pub Lacks : Record → NewFile → Type 0
+Lacks r n = (is_subtask r.shape n.subtask ≡ true) × (has_acknowledged r n.subtask ≡ false)
+
+-- the record of this number is pending and lacks this subtask
+pub record Awaits (m : State) (id : ℕ) (n : NewFile) : Type 0 where
+  pub r : Record
+  pub found : pending_of m.records id ≡ Some r
+  pub lacks : Lacks r n
+
+-- a record that lacks a subtask is not full
+not_full : (r : Record) (n : NewFile) → Lacks r n → eqb (missing r) 0 ≡ false
+not_full r n l =
+    let some : 0 < missing r = counted-from_IsIn (λ s. not (has_acknowledged r s)) n.subtask (subtasks r.shape) (IsIn-subtasks r.shape n.subtask l.0) (not_from_false (has_acknowledged r n.subtask) l.1) in
+    ⊎_elim
+    (λ (e : eqb (missing r) 0 ≡ true). let none : missing r ≡ 0 = eqb-true (missing r) 0 e in absurd (let no : ⊥ = omega arith in no))
+    (λ (e : eqb (missing r) 0 ≡ false). e)
+    (cases_Bool (eqb (missing r) 0))
+
+-- two subtasks are awaited by one record
+same_record : {m : State} {id : ℕ} {a b : NewFile} (wa : Awaits m id a) → Awaits m id b → Lacks wa.r b
+same_record {m} {id} {a} {b} wa wb =
+    let left : Record = wa.r in
+    let right : Record = wb.r in
+    let one : pending_of m.records id ≡ Some left = wa.found in
+    let other : pending_of m.records id ≡ Some right = wb.found in
+    let same : right ≡ left = cc in
+    let P : Record → Type 0 = λ r. Lacks r b in
+    subst P same wb.lacks
+
+-- which of them are refused
+
+-- the number of a record was given
+was_given : (m : State) (id : ℕ) (r : Record) → IsSound m → pending_of m.records id ≡ Some r → was_not_given m id ≡ false
+was_given m id r s found =
+    let there = IsIn-from_find (λ x. is_pending x && eqb x.id id) r m.records found in
+    let its : r.id ≡ id = eqb-true r.id id (and_parts (is_pending r) (eqb r.id id) there.1).1 in
+    let from : m.opening.first ≤ r.id = s.from_first r there.0 in
+    let below : r.id < m.next = s.below_next r there.0 in
+    or_from (ltb id m.opening.first) (leb m.next id) (le-ltb id m.opening.first (omega arith)) (lt-leb m.next id (omega arith))
+
+-- all of them if the moment is too large
+pub refused_late : (m : State) (now id : ℕ) (n : NewFile) → leb (2 ^ 62) now ≡ true → refusal m (ack_with now id n) ≡ Some MomentTooLarge
+unfolding refusal
+refused_late m now id n late = sym (row_holds MomentTooLarge (refuse_if (leb (2 ^ 62) now) MomentTooLarge) _ (ap (λ b. refuse_if b MomentTooLarge) (sym late)))
+
+-- else those whose file is known
+pub refused_known : (m : State) (now id : ℕ) (n : NewFile) → IsSound m → Awaits m id n → leb (2 ^ 62) now ≡ false → is_known m n.file ≡ true → refusal m (ack_with now id n) ≡ Some (NameTaken n.file)
+unfolding refusal
+refused_known m now id n s w early known =
+    let pending : Option Record = pending_of m.records id in
+    let r : Record = w.r in
+    let found : pending ≡ Some r = w.found in
+    let its : Lacks r n = w.lacks in
+    let why : Refusal = NameTaken n.file in
+    let taken : Option Record → Bool → Option Refusal = λ o b. where_pending o (named NameTaken (cond b (Some n.file) None)) in
+    sym (row_fails (refuse_if (leb (2 ^ 62) now) MomentTooLarge) _ (Some why) (ap (λ b. refuse_if b MomentTooLarge) (sym early))
+    (row_fails (refuse_if (was_not_given m id) UnknownCheckpoint) _ (Some why) (ap (λ b. refuse_if b UnknownCheckpoint) (sym (was_given m id r s found)))
+    (row_fails (is_foreign pending n.subtask) _ (Some why) (ap (λ b. refuse_if (not b) UnknownSubtask) (sym its.0) ∙ ap (λ o. is_foreign o n.subtask) (sym found))
+    (row_fails (is_repeat pending n.subtask) _ (Some why) (ap (λ b. refuse_if b AlreadyAcknowledged) (sym its.1) ∙ ap (λ o. is_repeat o n.subtask) (sym found))
+    (row_holds why (taken pending (is_known m n.file)) _ (ap (λ b. taken (Some r) b) (sym known) ∙ ap (λ o. taken o (is_known m n.file)) (sym found)))))))
+
+-- and no other
+pub accepted_unknown : (m : State) (now id : ℕ) (n : NewFile) → IsSound m → Awaits m id n → leb (2 ^ 62) now ≡ false → is_known m n.file ≡ false → refusal m (ack_with now id n) ≡ None
+accepted_unknown m now id n s w early unknown =
+    let r : Record = w.r in
+    let found : pending_of m.records id ≡ Some r = w.found in
+    let its : Lacks r n = w.lacks in
+    let same : (x : Record) → pending_of m.records id ≡ Some x → r ≡ x = λ x e. cc in
+    not_refused-ack m now id n.subtask (n.file ∷ []) [] (record {
+      moment = leb-false (2 ^ 62) now early;
+      few = omega arith;
+      once = refl;
+      given = was_given m id r s found;
+      of_subtask = λ x e. ap (λ y. is_subtask y.shape n.subtask) (sym (same x e)) ∙ its.0;
+      first = λ x e. ap (λ y. has_acknowledged y n.subtask) (sym (same x e)) ∙ its.1;
+      unknown = λ x e. cond-false (is_known m n.file) (Some n.file) None unknown;
+      present = λ x e. refl;
+    })
+
+-- what one does
+
+abbrev part_of : NewFile → Part
+part_of n = record { subtask = n.subtask; fresh = n.file ∷ []; reused = [] }
+
+-- the record with it
+abbrev with_new : Record → NewFile → Record
+with_new r n = with_ack r n.subtask (n.file ∷ []) []
+
+abbrev after_new : State → ℕ → Record → NewFile → State
+after_new m now r n = with_records (record m { latest = max now m.latest }) (replaced m.records (with_new r n))
+
+lacks_still : (r : Record) (a b : NewFile) → (a.subtask ≡ b.subtask → ⊥) → Lacks r b → Lacks (with_new r a) b
+lacks_still r a b ne l = (l.0, has_not_after r a.subtask b.subtask (ascending ((a.file ∷ []) ++ [])) (λ e. ne (sym e)) l.1)
+
+-- the record is still pending if it lacks another subtask
+abbrev Left : State → ℕ → ℕ → Record → NewFile → Type 0
+Left m now id r a = step m (ack_with now id a) ≡ (after_new m now r a, Done (reply.AckPending (missing (with_new r a))))
+
+left : (m : State) (now id : ℕ) (r : Record) (a b : NewFile) → pending_of m.records id ≡ Some r → Lacks r b → (a.subtask ≡ b.subtask → ⊥) → refusal m (ack_with now id a) ≡ None → Left m now id r a
+left m now id r a b found lb ne e =
+    let w : Record = with_new r a in
+    step_ack m now id (part_of a) r e found ∙ left_pending (record m { latest = max now m.latest }) w (not_full w b (lacks_still r a b ne lb))
+
+found_after : (m : State) (now id : ℕ) (r : Record) (a : NewFile) → IsSound m → pending_of m.records id ≡ Some r → pending_of (after_new m now r a).records id ≡ Some (with_new r a)
+found_after m now id r a s found =
+    let there = IsIn-from_find (λ x. is_pending x && eqb x.id id) r m.records found in
+    pending_of_replaced m.records id r (with_new r a) s.in_order found refl (not-true r.done (and_parts (is_pending r) (eqb r.id id) there.1).0)
+
+-- no file but its own becomes known by it
+present_after : (m : State) (now id : ℕ) (r : Record) (a : NewFile) (f : ℕ) → IsSound m → pending_of m.records id ≡ Some r → (f ≡ a.file → ⊥) → is_present (uses (after_new m now r a).records) f ≡ is_present (uses m.records) f
+present_after m now id r a f s found ne =
+    let after : List Record = replaced m.records (with_new r a) in
+    let there : IsIn r m.records = (IsIn-from_find (λ x. is_pending x && eqb x.id id) r m.records found).0 in
+    let before : IsHeld f after → IsHeld f m.records = λ (h : IsHeld f after).
+    ⊎_elim
+    (⊎_elim (λ (k : IsIn f (a.file ∷ [])). absurd (⊎_elim ne (λ (l : IsIn f []). l) k)) (λ (k : IsIn f []). absurd (k)))
+    (λ (k : IsHeld f m.records). k)
+    (held_or_named f m.records r a.subtask (a.file ∷ []) [] s.in_order there h) in
+    let then : IsHeld f m.records → IsHeld f after = held_still f m.records r a.subtask (a.file ∷ []) [] s.in_order there in
+    ⊎_elim
+    (λ (e : is_present (uses after) f ≡ true). e ∙ sym (present-from_IsHeld f m.records (before (IsHeld-from_present f after e))))
+    (λ (e : is_present (uses after) f ≡ false). ⊎_elim
+    (λ (k : is_present (uses m.records) f ≡ true). absurd (both_ways (is_present (uses after) f) e (present-from_IsHeld f after (then (IsHeld-from_present f m.records k)))))
+    (λ (k : is_present (uses m.records) f ≡ false). e ∙ sym k)
+    (cases_Bool (is_present (uses m.records) f)))
+    (cases_Bool (is_present (uses after) f))
+
+-- a fact holds of the first of two if it holds of a refusal and of an answer that leaves the record pending
+after_first : (m : State) (now id : ℕ) (a b : NewFile) (wa : Awaits m id a) → Awaits m id b → (a.subtask ≡ b.subtask → ⊥) → (P : Stepped → Type 0) → ((why : Refusal) → P (m, Refused why)) → P (after_new m now wa.r a, Done (reply.AckPending (missing (with_new wa.r a)))) → P (step m (ack_with now id a))
+after_first m now id a b wa wb ne P refused pending =
+    let call : Call = ack_with now id a in
+    step_by m call P (λ why _. refused why) (λ e. subst P (sym (left m now id wa.r a b wa.found (same_record wa wb) ne e) ∙ step_accepted m call e) pending)
+
+-- the other is awaited after the first
+pub awaits_after : (m : State) (now id : ℕ) (a b : NewFile) → IsSound m → Awaits m id a → Awaits m id b → (a.subtask ≡ b.subtask → ⊥) → Awaits (step m (ack_with now id a)).0 id b
+awaits_after m now id a b s wa wb ne =
+    let P : Stepped → Type 0 = λ x. Awaits x.0 id b in
+    after_first m now id a b wa wb ne P (λ why. wb) (record {
+      r = with_new wa.r a;
+      found = found_after m now id wa.r a s wa.found;
+      lacks = lacks_still wa.r a b ne (same_record wa wb);
+    })
+
+-- a file that is not the first's is known after it if it was known before
+pub known_after : (m : State) (now id : ℕ) (a b : NewFile) (f : ℕ) → IsSound m → Awaits m id a → Awaits m id b → (a.subtask ≡ b.subtask → ⊥) → (f ≡ a.file → ⊥) → is_known (step m (ack_with now id a)).0 f ≡ is_known m f
+known_after m now id a b f s wa wb ne other =
+    let P : Stepped → Type 0 = λ x. is_known x.0 f ≡ is_known m f in
+    after_first m now id a b wa wb ne P (λ why. refl) (ap (λ p. p || in_outbox m f) (present_after m now id wa.r a f s wa.found other))
+
+-- the first does not complete the record
+pub not_completing : (m : State) (now id : ℕ) (a b : NewFile) → Awaits m id a → Awaits m id b → (a.subtask ≡ b.subtask → ⊥) → is_completing (step m (ack_with now id a)).1 ≡ false
+not_completing m now id a b wa wb ne =
+    let P : Stepped → Type 0 = λ x. is_completing x.1 ≡ false in
+    after_first m now id a b wa wb ne P (λ why. refl) refl
+
+taken : (m : State) (now id : ℕ) (n : NewFile) → Awaits m id n → refusal m (ack_with now id n) ≡ None → is_ack_taken (step m (ack_with now id n)).1 ≡ true
+taken m now id n w e =
+    ap (λ (x : Stepped). is_ack_taken x.1) (step_ack m now id (part_of n) w.r e w.found) ∙ acknowledged_is_taken (record m { latest = max now m.latest }) (with_new w.r n)
+
+-- two, in either order
+
+-- the same state, and the same two answers, in turn or exchanged
+pub record Exchanged (m : State) (a b : Call) : Type 0 where
+  pub state : (step (step m a).0 b).0 ≡ (step (step m b).0 a).0
+  pub answers : (((step m b).1 ≡ (step m a).1) × ((step (step m b).0 a).1 ≡ (step (step m a).0 b).1)) ⊎ (((step m b).1 ≡ (step (step m a).0 b).1) × ((step (step m b).0 a).1 ≡ (step m a).1))
+
+exchanged_back : {m : State} {a b : Call} → Exchanged m a b → Exchanged m b a
+exchanged_back {m} {a} {b} x = record {
+  state = sym x.state;
+  answers = ⊎_elim
+      (λ (e : ((step m b).1 ≡ (step m a).1) × ((step (step m b).0 a).1 ≡ (step (step m a).0 b).1)). inl (sym e.0, sym e.1))
+      (λ (e : ((step m b).1 ≡ (step (step m a).0 b).1) × ((step (step m b).0 a).1 ≡ (step m a).1)). inr (sym e.1, sym e.0))
+      x.answers;
+}
+
+-- one that is refused, before the other and after it
+exchanged_refused : (m : State) (a b : Call) (why : Refusal) → refusal m a ≡ Some why → refusal (step m b).0 a ≡ Some why → Exchanged m a b
+exchanged_refused m a b why first second =
+    let at_first : step m a ≡ (m, Refused why) = step_refused m a why first in
+    let at_second : step (step m b).0 a ≡ ((step m b).0, Refused why) = step_refused (step m b).0 a why second in
+    let after : step (step m a).0 b ≡ step m b = ap (λ (x : Stepped). step x.0 b) at_first in
+    record {
+      state = ap (λ (x : Stepped). x.0) after ∙ sym (ap (λ (x : Stepped). x.0) at_second);
+      answers = inr (sym (ap (λ (x : Stepped). x.1) after), ap (λ (x : Stepped). x.1) at_second ∙ sym (ap (λ (x : Stepped). x.1) at_first));
+    }
+
+-- the file of the first is known
+exchanged_known : (m : State) (now id : ℕ) (a b : NewFile) → IsSound m → Awaits m id a → Awaits m id b → (a.subtask ≡ b.subtask → ⊥) → (a.file ≡ b.file → ⊥) → leb (2 ^ 62) now ≡ false → is_known m a.file ≡ true → Exchanged m (ack_with now id a) (ack_with now id b)
+exchanged_known m now id a b s wa wb ne other early known =
+    let B : Call = ack_with now id b in
+    let back : b.subtask ≡ a.subtask → ⊥ = λ e. ne (sym e) in
+    let still : is_known (step m B).0 a.file ≡ true = known_after m now id b a a.file s wb wa back other ∙ known in
+    exchanged_refused m (ack_with now id a) B (NameTaken a.file) (refused_known m now id a s wa early known) (refused_known (step m B).0 now id a (step_keeps m B tt s) (awaits_after m now id b a s wb wa back) early still)
+
+-- neither file is known
+exchanged_unknown : (m : State) (now id : ℕ) (a b : NewFile) → IsSound m → Awaits m id a → Awaits m id b → (a.subtask ≡ b.subtask → ⊥) → (a.file ≡ b.file → ⊥) → leb (2 ^ 62) now ≡ false → is_known m a.file ≡ false → is_known m b.file ≡ false → Exchanged m (ack_with now id a) (ack_with now id b)
+exchanged_unknown m now id a b s wa wb ne other early ka kb =
+    let A : Call = ack_with now id a in
+    let B : Call = ack_with now id b in
+    let ea : refusal m A ≡ None = accepted_unknown m now id a s wa early ka in
+    let pending : is_ack_pending (step m A).1 ≡ true = ap (λ (x : Stepped). is_ack_pending x.1) (left m now id wa.r a b wa.found (same_record wa wb) ne ea) in
+    let wb1 : Awaits (step m A).0 id b = awaits_after m now id a b s wa wb ne in
+    let kb1 : is_known (step m A).0 b.file ≡ false = known_after m now id a b b.file s wa wb ne (λ e. other (sym e)) ∙ kb in
+    let eb1 : refusal (step m A).0 B ≡ None = accepted_unknown (step m A).0 now id b (step_keeps m A tt s) wb1 early kb1 in
+    let both = exchange m now id (part_of a) (part_of b) s ne (λ f h k. k) pending (taken (step m A).0 now id b wb1 eb1) in
+    record {
+      state = sym (ap (λ (x : Stepped). x.0) both.1);
+      answers = inl (both.0, ap (λ (x : Stepped). x.1) both.1);
+    }
+
+pub exchanged_new : (m : State) (now id : ℕ) (a b : NewFile) → IsSound m → Awaits m id a → Awaits m id b → (a.subtask ≡ b.subtask → ⊥) → (a.file ≡ b.file → ⊥) → Exchanged m (ack_with now id a) (ack_with now id b)
+exchanged_new m now id a b s wa wb ne other =
+    let A : Call = ack_with now id a in
+    let B : Call = ack_with now id b in
+    let late : leb (2 ^ 62) now ≡ true → Exchanged m A B = λ (e : leb (2 ^ 62) now ≡ true). exchanged_refused m A B MomentTooLarge (refused_late m now id a e) (refused_late (step m B).0 now id a e) in
+    let early : leb (2 ^ 62) now ≡ false → Exchanged m A B = λ (e : leb (2 ^ 62) now ≡ false).
+    ⊎_elim
+    (λ (ka : is_known m a.file ≡ true). exchanged_known m now id a b s wa wb ne other e ka)
+    (λ (ka : is_known m a.file ≡ false). ⊎_elim
+    (λ (kb : is_known m b.file ≡ true). exchanged_back (exchanged_known m now id b a s wb wa (λ x. ne (sym x)) (λ x. other (sym x)) e kb))
+    (λ (kb : is_known m b.file ≡ false). exchanged_unknown m now id a b s wa wb ne other e ka kb)
+    (cases_Bool (is_known m b.file)))
+    (cases_Bool (is_known m a.file)) in
+    ⊎_elim late early (cases_Bool (leb (2 ^ 62) now))

@@ -1,0 +1,161 @@
+-- Lists with the same elements in another order. Two lists in which each seat has the same elements in the same order are such lists.
+use Rattle.std.proofs.Common.{◌≡◌, ℕ, Bool, true, false, cond, eqb, List, [], ◌∷◌, ◌++◌, map, refl, sym, ap, subst, ◌∙◌, ◌⊎◌, inl, inr, ⊎_elim, arith}
+use Rattle.std.specs.Prelude.{count_by}
+use Rattle.std.specs.List.{filter}
+use Rattle.std.proofs.lemmas.Bool.{cases_Bool, cond-true, cond-false, eqb-true, eq-eqb}
+use Rattle.std.proofs.lemmas.List.{map-append}
+use Rattle.ckpt_ids.specs.Ordered.{IsIn}
+use Rattle.ckpt_ids.proofs.CountLemmas.{count_by-cons}
+use Rattle.ckpt_ids.proofs.OrderedLemmas.{IsIn-append_left, IsIn-append_right, IsIn-append_cases}
+use Rattle.ckpt_model.specs.Interleavings.{of_seat, SameBySeat}
+
+-- ys has the elements of xs, in some order
+abbrev pub Rearranged : {X : Type 0} → List X → List X → Type 0
+Rearranged [] ys = ys ≡ []
+Rearranged {X} (x ∷ xs) ys = (front : List X) × (back : List X) × (ys ≡ front ++ x ∷ back) × Rearranged xs (front ++ back)
+
+-- an element in the midst is first or one of the others
+pub IsIn-midst : {X : Type 0} (y x : X) (front back : List X) → IsIn y (front ++ x ∷ back) → (y ≡ x) ⊎ IsIn y (front ++ back)
+IsIn-midst y x front back h =
+    ⊎_elim
+    (λ (k : IsIn y front). inr (IsIn-append_left y front back k))
+    (λ (k : IsIn y (x ∷ back)). ⊎_elim (λ (e : y ≡ x). inl e) (λ (l : IsIn y back). inr (IsIn-append_right y front back l)) k)
+    (IsIn-append_cases y front (x ∷ back) h)
+
+-- each element was there
+pub IsIn-rearranged : {X : Type 0} (y : X) (xs ys : List X) → Rearranged xs ys → IsIn y ys → IsIn y xs
+IsIn-rearranged {X} y [] ys e h = let P : List X → Type 0 = λ zs. IsIn y zs in subst P e h
+IsIn-rearranged {X} y (x ∷ xs) ys r h =
+    let P : List X → Type 0 = λ zs. IsIn y zs in
+    let rest : IsIn y ((r.0) ++ (r.1)) → IsIn y xs = IsIn-rearranged y xs ((r.0) ++ (r.1)) r.3 in
+    ⊎_elim (λ (e : y ≡ x). inl e) (λ (k : IsIn y ((r.0) ++ (r.1))). inr (rest k)) (IsIn-midst y x r.0 r.1 (subst P r.2 h))
+
+-- as many pass a test
+count_by-midst : {X : Type 0} (p : X → Bool) (x : X) (front back : List X) → count_by p (front ++ x ∷ back) ≡ count_by p (x ∷ front ++ back)
+count_by-midst p x [] back = refl
+count_by-midst p x (y ∷ front) back =
+    omega (arith, count_by-midst p x front back, count_by-cons p y (front ++ x ∷ back), count_by-cons p x (front ++ back), count_by-cons p x (y ∷ front ++ back), count_by-cons p y (front ++ back))
+
+pub count_by-rearranged : {X : Type 0} (p : X → Bool) (xs ys : List X) → Rearranged xs ys → count_by p xs ≡ count_by p ys
+count_by-rearranged p [] ys e = ap (count_by p) (sym e)
+count_by-rearranged p (x ∷ xs) ys r =
+    omega (arith, ap (count_by p) r.2, count_by-midst p x r.0 r.1, count_by-cons p x xs, count_by-cons p x ((r.0) ++ (r.1)), count_by-rearranged p xs ((r.0) ++ (r.1)) r.3)
+
+-- what comes of the elements is rearranged with them
+pub Rearranged-map : {X Y : Type 0} (f : X → Y) (xs ys : List X) → Rearranged xs ys → Rearranged (map f xs) (map f ys)
+Rearranged-map f [] ys e = ap (map f) e
+Rearranged-map {X} {Y} f (x ∷ xs) ys r =
+    let P : List Y → Type 0 = λ zs. Rearranged (map f xs) zs in
+    (map f r.0, map f r.1, ap (map f) r.2 ∙ map-append f r.0 (x ∷ r.1), subst P (map-append f r.0 r.1) (Rearranged-map f xs ((r.0) ++ (r.1)) r.3))
+
+-- two parts of what came of a list came of two parts of it
+parts-from_map : {X Y : Type 0} (f : X → Y) (front back : List Y) (zs : List X) → front ++ back ≡ map f zs → (first : List X) × (second : List X) × (zs ≡ first ++ second) × (front ≡ map f first) × (back ≡ map f second)
+parts-from_map f [] back zs e = ([], zs, refl, refl, e)
+parts-from_map f (y ∷ front) back [] e = absurd (cc)
+parts-from_map {X} {Y} f (y ∷ front) back (z ∷ zs) e =
+    let here : y ≡ f z = cc in
+    let later : front ++ back ≡ map f zs = cc in
+    let p = parts-from_map f front back zs later in
+    (z ∷ p.0, p.1, ap (λ ws. z ∷ ws) p.2, ap (λ w. w ∷ front) here ∙ ap (λ ws. f z ∷ ws) p.3, p.4)
+
+-- and a list rearranged after came of one rearranged before
+pub Rearranged-from_map : {X Y : Type 0} (f : X → Y) (xs : List X) (ys : List Y) → Rearranged (map f xs) ys → (zs : List X) × (ys ≡ map f zs) × Rearranged xs zs
+Rearranged-from_map f [] ys e = ([], e, refl)
+Rearranged-from_map {X} {Y} f (x ∷ xs) ys r =
+    let rest = Rearranged-from_map f xs ((r.0) ++ (r.1)) r.3 in
+    let p = parts-from_map f r.0 r.1 rest.0 rest.1 in
+    let P : List X → Type 0 = λ zs. Rearranged xs zs in
+    let made : ys ≡ map f ((p.0) ++ x ∷ p.1) = r.2 ∙ ap (λ zs. zs ++ f x ∷ r.1) p.3 ∙ ap (λ zs. map f p.0 ++ f x ∷ zs) p.4 ∙ sym (map-append f p.0 (x ∷ p.1)) in
+    ((p.0) ++ x ∷ p.1, made, (p.0, p.1, refl, subst P p.2 rest.2))
+
+-- of one seat
+
+pub of_seat-cons : {X : Type 0} (seat : ℕ) (x : ℕ × X) (xs : List (ℕ × X)) → of_seat seat (x ∷ xs) ≡ cond (eqb x.0 seat) (x.1 ∷ of_seat seat xs) (of_seat seat xs)
+of_seat-cons {X} seat x xs =
+    let kept : List (ℕ × X) = filter (λ y. eqb y.0 seat) xs in
+    let both : (b : Bool) → map (λ (y : ℕ × X). y.1) (cond b (x ∷ kept) kept) ≡ cond b (x.1 ∷ map (λ (y : ℕ × X). y.1) kept) (map (λ (y : ℕ × X). y.1) kept) = λ b. elim b as (λ b. map (λ (y : ℕ × X). y.1) (cond b (x ∷ kept) kept) ≡ cond b (x.1 ∷ map (λ (y : ℕ × X). y.1) kept) (map (λ (y : ℕ × X). y.1) kept)) [ true ↦ refl | false ↦ refl ] in
+    both (eqb x.0 seat)
+
+of_seat-its : {X : Type 0} (seat : ℕ) (x : ℕ × X) (xs : List (ℕ × X)) → eqb x.0 seat ≡ true → of_seat seat (x ∷ xs) ≡ x.1 ∷ of_seat seat xs
+of_seat-its seat x xs e = of_seat-cons seat x xs ∙ cond-true (eqb x.0 seat) (x.1 ∷ of_seat seat xs) (of_seat seat xs) e
+
+pub of_seat-other : {X : Type 0} (seat : ℕ) (x : ℕ × X) (xs : List (ℕ × X)) → eqb x.0 seat ≡ false → of_seat seat (x ∷ xs) ≡ of_seat seat xs
+of_seat-other seat x xs e = of_seat-cons seat x xs ∙ cond-false (eqb x.0 seat) (x.1 ∷ of_seat seat xs) (of_seat seat xs) e
+
+-- the place of a seat's first value: without it that seat has the rest, and every other has what it had
+record IsFirst {X : Type 0} (seat : ℕ) (x : X) (rest : List X) (ys : List (ℕ × X)) : Type 0 where
+  front : List (ℕ × X)
+  back : List (ℕ × X)
+  is : ys ≡ front ++ (seat, x) ∷ back
+  its : of_seat seat (front ++ back) ≡ rest
+  others : (other : ℕ) → eqb seat other ≡ false → of_seat other (front ++ back) ≡ of_seat other ys
+
+first_here : {X : Type 0} (seat : ℕ) (x : X) (rest : List X) (y : ℕ × X) (ys : List (ℕ × X)) → eqb y.0 seat ≡ true → of_seat seat (y ∷ ys) ≡ x ∷ rest → IsFirst seat x rest (y ∷ ys)
+first_here {X} seat x rest y ys at e =
+    let its : y.1 ∷ of_seat seat ys ≡ x ∷ rest = sym (of_seat-its seat y ys at) ∙ e in
+    let value : y.1 ≡ x = cc in
+    let later : of_seat seat ys ≡ rest = cc in
+    let place : y.0 ≡ seat = eqb-true y.0 seat at in
+    let pair : ℕ → X → List (ℕ × X) = λ k v. (k, v) ∷ ys in
+    record {
+      front = [];
+      back = ys;
+      is = ap (λ k. pair k y.1) place ∙ ap (λ v. pair seat v) value;
+      its = later;
+      others = λ other ne. sym (of_seat-other other y ys (ap (λ k. eqb k other) place ∙ ne));
+    }
+
+first_later : {X : Type 0} (seat : ℕ) (x : X) (rest : List X) (y : ℕ × X) (ys : List (ℕ × X)) → eqb y.0 seat ≡ false → IsFirst seat x rest ys → IsFirst seat x rest (y ∷ ys)
+first_later {X} seat x rest y ys at f =
+    let front : List (ℕ × X) = f.front in
+    let back : List (ℕ × X) = f.back in
+    let beside : (other : ℕ) → eqb seat other ≡ false → of_seat other (y ∷ front ++ back) ≡ of_seat other (y ∷ ys) = λ other ne. of_seat-cons other y (front ++ back) ∙ ap (λ zs. cond (eqb y.0 other) (y.1 ∷ zs) zs) (f.others other ne) ∙ sym (of_seat-cons other y ys) in
+    record {
+      front = y ∷ front;
+      back = back;
+      is = ap (λ zs. y ∷ zs) f.is;
+      its = of_seat-other seat y (front ++ back) at ∙ f.its;
+      others = beside;
+    }
+
+first_of_seat : {X : Type 0} (seat : ℕ) (x : X) (rest : List X) (ys : List (ℕ × X)) → of_seat seat ys ≡ x ∷ rest → IsFirst seat x rest ys
+first_of_seat seat x rest [] e = absurd (cc)
+first_of_seat {X} seat x rest (y ∷ ys) e =
+    let later : eqb y.0 seat ≡ false → IsFirst seat x rest ys = λ (at : eqb y.0 seat ≡ false). first_of_seat seat x rest ys (sym (of_seat-other seat y ys at) ∙ e) in
+    ⊎_elim
+    (λ (at : eqb y.0 seat ≡ true). first_here seat x rest y ys at e)
+    (λ (at : eqb y.0 seat ≡ false). first_later seat x rest y ys at (later at))
+    (cases_Bool (eqb y.0 seat))
+
+-- if no seat has a value, the list is empty
+empty-by_seat : {X : Type 0} (ys : List (ℕ × X)) → SameBySeat [] ys → ys ≡ []
+empty-by_seat [] same = refl
+empty-by_seat {X} (y ∷ ys) same = let e : [] ≡ y.1 ∷ of_seat y.0 ys = same y.0 ∙ of_seat-its y.0 y ys (eq-eqb y.0 y.0 refl) in absurd (cc)
+
+pub rearranged_by_seat : {X : Type 0} (xs ys : List (ℕ × X)) → SameBySeat xs ys → Rearranged xs ys
+rearranged_by_seat [] ys same = empty-by_seat ys same
+rearranged_by_seat {X} (x ∷ xs) ys same =
+    let f : IsFirst x.0 x.1 (of_seat x.0 xs) ys = first_of_seat x.0 x.1 (of_seat x.0 xs) ys (sym (same x.0) ∙ of_seat-its x.0 x xs (eq-eqb x.0 x.0 refl)) in
+    let without : List (ℕ × X) = f.front ++ f.back in
+    let P : ℕ → Type 0 = λ seat. of_seat seat xs ≡ of_seat seat without in
+    let still : SameBySeat xs without = λ seat.
+    ⊎_elim
+    (λ (at : eqb x.0 seat ≡ true). subst P (eqb-true x.0 seat at) (sym f.its))
+    (λ (at : eqb x.0 seat ≡ false). sym (of_seat-other seat x xs at) ∙ same seat ∙ sym (f.others seat at))
+    (cases_Bool (eqb x.0 seat)) in
+    (f.front, f.back, f.is, rearranged_by_seat xs without still)
+
+-- whatever is asked of the values, as many answer
+pub as_often_by_seat : {X : Type 0} (xs ys : List (ℕ × X)) → SameBySeat xs ys → (asked : X → Bool) → count_by asked (map (λ (x : ℕ × X). x.1) xs) ≡ count_by asked (map (λ (x : ℕ × X). x.1) ys)
+as_often_by_seat {X} xs ys same asked =
+    let value : ℕ × X → X = λ x. x.1 in
+    count_by-rearranged asked (map value xs) (map value ys) (Rearranged-map value xs ys (rearranged_by_seat xs ys same))
+
+-- what a seat has of a list of things that know their seat
+pub of_seat-map : {E X : Type 0} (seat_of : E → ℕ) (value_of : E → X) (seat : ℕ) (es : List E) → of_seat seat (map (λ e. (seat_of e, value_of e)) es) ≡ map value_of (filter (λ e. eqb (seat_of e) seat) es)
+of_seat-map seat_of value_of seat [] = refl
+of_seat-map {E} {X} seat_of value_of seat (e ∷ es) =
+    let pair : E → ℕ × X = λ x. (seat_of x, value_of x) in
+    let its : List E = filter (λ x. eqb (seat_of x) seat) es in
+    let outside : (b : Bool) → cond b (value_of e ∷ map value_of its) (map value_of its) ≡ map value_of (cond b (e ∷ its) its) = λ b. elim b as (λ b. cond b (value_of e ∷ map value_of its) (map value_of its) ≡ map value_of (cond b (e ∷ its) its)) [ true ↦ refl | false ↦ refl ] in
+    of_seat-cons seat (pair e) (map pair es) ∙ ap (λ zs. cond (eqb (seat_of e) seat) (value_of e ∷ zs) zs) (of_seat-map seat_of value_of seat es) ∙ outside (eqb (seat_of e) seat)

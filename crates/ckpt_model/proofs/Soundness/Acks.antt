@@ -1,0 +1,182 @@
+-- An acknowledgement that leaves its record pending keeps a coordinator sound; and lemmas on one that completes it, for Completions.
+use Rattle.std.proofs.Common.{◌≡◌, ℕ, ◌≤◌, Bool, true, false, not, ◌&&◌, ◌||◌, cond, ltb, leb, eqb, List, [], ◌∷◌, ◌++◌, map, refl, sym, ap, subst, ◌∙◌, inl, inr, ⊎_elim, arith}
+use Rattle.std.specs.Prelude.{count_by, Option, Some, None}
+use Rattle.std.specs.List.{filter, list_any}
+use Rattle.std.proofs.lemmas.Bool.{cases_Bool, both_ways, not-true, not-false, not_from_false, and_parts, and_left, and_cases, and_from, or_parts, cond_both, ltb-false}
+use Rattle.ckpt_ids.specs.declared.subtask.SubtaskId.{SubtaskId}
+use Rattle.ckpt_ids.specs.declared.ack.Acked.{Acked}
+use Rattle.ckpt_ids.specs.Ordered.{IsIn, IsInOrder, AreDistinct}
+use Rattle.ckpt_ids.specs.Ascending.{ascending}
+use Rattle.ckpt_ids.specs.Records.{Record, uses, is_present, missing, has_acknowledged, acknowledged}
+use Rattle.ckpt_ids.specs.Shapes.{is_subtask}
+use Rattle.ckpt_ids.proofs.OrderedLemmas.{IsIn-append_cases, IsIn-from_in_order, filter-all, not_in-from_test}
+use Rattle.ckpt_model.specs.State.{State, is_checkpoint, is_pending, is_done_checkpoint, is_subsumed, is_surplus, is_known, in_outbox, kept, unpinned}
+use Rattle.ckpt_model.specs.Refusals.{pending_of}
+use Rattle.ckpt_model.specs.Steps.{replaced, with_records, superseded}
+use Rattle.ckpt_model.specs.Soundness.{IsSound, IsRecord, id_before}
+use Rattle.ckpt_model.proofs.Records.Counts.{count_by-changed, IsIn-from_changed, IsIn-from_find, fails-from_find}
+use Rattle.ckpt_model.proofs.Records.Present.{Holds, IsHeld, Holds-put_ack, absent-from_not_held, not_held}
+use Rattle.ckpt_model.proofs.Records.Released.{distinct-from_test}
+use Rattle.ckpt_model.proofs.Records.Lists.{AreSoundRecords, IsSoundOutbox, sound_from, records_of, outbox_of, is_pending_checkpoint, later, newest_at_most}
+use Rattle.ckpt_model.proofs.Records.Replacing.{put_in, IsReplacing, put_in_replaces, cond_same, replaced_records}
+use Rattle.ckpt_model.proofs.Records.Held.{held_after_put}
+use Rattle.ckpt_model.proofs.Answering.Accepted.{IsAcceptedAck}
+use Rattle.ckpt_model.proofs.Records.Acknowledged.{IsAcknowledged, acknowledged_is, acknowledged_pending, ascending-distinct}
+use Rattle.ckpt_model.proofs.Soundness.Drops.{is_savepoint, savepoint_stays}
+
+-- an acknowledgement of a pending record that is accepted
+pub record IsAcking (m : State) (q : Record) (subtask : SubtaskId) (fresh reused : List ℕ) : Type 0 where
+  pub there : IsIn q m.records
+  pub pending : q.done ≡ false
+  pub of_subtask : is_subtask q.shape subtask ≡ true
+  pub first : has_acknowledged q subtask ≡ false
+  pub once : AreDistinct (fresh ++ reused)
+  pub unknown : (f : ℕ) → IsIn f fresh → is_known m f ≡ false
+  pub present : (f : ℕ) → IsIn f reused → is_present (uses m.records) f ≡ true
+
+-- the acknowledgement of a pending record that is accepted
+pub acking : (m : State) (now id : ℕ) (subtask : SubtaskId) (fresh reused : List ℕ) (q : Record) → IsAcceptedAck m now id subtask fresh reused → pending_of m.records id ≡ Some q → IsAcking m q subtask fresh reused
+acking m now id subtask fresh reused q a e =
+    let found = IsIn-from_find (λ r. is_pending r && eqb r.id id) q m.records e in
+    record {
+      there = found.0;
+      pending = not-true q.done (and_parts (is_pending q) (eqb q.id id) found.1).0;
+      of_subtask = a.of_subtask q e;
+      first = a.first q e;
+      once = distinct-from_test (fresh ++ reused) a.once;
+      unknown = λ f h. fails-from_find (is_known m) f fresh (a.unknown q e) h;
+      present = λ f h. not-false (is_present (uses m.records) f) (fails-from_find (λ g. not (is_present (uses m.records) g)) f reused (a.present q e) h);
+    }
+
+-- the moment is the only thing that an accepted call changes before its effect, and an acknowledgement does not read it
+pub acking_at : (m : State) (latest : ℕ) (q : Record) (subtask : SubtaskId) (fresh reused : List ℕ) → IsAcking m q subtask fresh reused → IsAcking (record m { latest = latest }) q subtask fresh reused
+acking_at m latest q subtask fresh reused a = record {
+  there = a.there;
+  pending = a.pending;
+  of_subtask = a.of_subtask;
+  first = a.first;
+  once = a.once;
+  unknown = a.unknown;
+  present = a.present;
+}
+
+-- the record with it
+abbrev pub with_ack : Record → SubtaskId → List ℕ → List ℕ → Record
+with_ack q subtask fresh reused = acknowledged q subtask (ascending (fresh ++ reused))
+
+-- it is in order, of its subtasks, with ascending files
+pub with_ack_is : {m : State} {q : Record} {subtask : SubtaskId} {fresh reused : List ℕ} → IsSound m → IsAcking m q subtask fresh reused → IsAcknowledged (with_ack q subtask fresh reused)
+with_ack_is {m} {q} {subtask} {fresh} {reused} s a =
+    acknowledged_is q subtask (ascending (fresh ++ reused)) (s.each q a.there) a.of_subtask a.first (ascending-distinct (fresh ++ reused) a.once)
+
+-- the outbox has none of its files
+files_not_out : {m : State} {q : Record} {subtask : SubtaskId} {fresh reused : List ℕ} → IsSound m → IsAcking m q subtask fresh reused → (f : ℕ) → IsIn f (ascending (fresh ++ reused)) → IsIn f (m.waiting ++ m.taken) → ⊥
+files_not_out {m} {q} {subtask} {fresh} {reused} s a f h out =
+    ⊎_elim
+    (λ (k : IsIn f fresh). not_in-from_test f (m.waiting ++ m.taken) (or_parts (is_present (uses m.records) f) (in_outbox m f) (a.unknown f k)).1 out)
+    (λ (k : IsIn f reused). both_ways (is_present (uses m.records) f) ((outbox_of s).unused f out) (a.present f k))
+    (IsIn-append_cases f fresh reused (IsIn-from_in_order ltb f (fresh ++ reused) h))
+
+-- the outbox beside a list of records with one acknowledgement more
+pub outbox_acked : {m : State} {q : Record} {subtask : SubtaskId} {fresh reused : List ℕ} (new : Record) → IsSound m → IsAcking m q subtask fresh reused → new.id ≡ q.id → new.acks ≡ (with_ack q subtask fresh reused).acks → new.pins ≡ q.pins → IsSoundOutbox (map (put_in new) m.records) m.waiting m.taken
+outbox_acked {m} {q} {subtask} {fresh} {reused} new s a id acks pins =
+    let p : IsReplacing (put_in new) q new m.records = put_in_replaces q new m.records s.in_order a.there id in
+    let w : Record = with_ack q subtask fresh reused in
+    let its : Acked = record { subtask = subtask; files = ascending (fresh ++ reused) } in
+    let in_with : (f : ℕ) → Holds f new → Holds f w = λ f h.
+    ⊎_elim
+    (λ (k : (b : Acked) × IsIn b new.acks × IsIn f b.files). let P : List Acked → Type 0 = λ bs. IsIn k.0 bs in inl (k.0, subst P acks k.1, k.2))
+    (λ (k : IsIn f new.pins). let P : List ℕ → Type 0 = λ fs. IsIn f fs in inr (subst P pins k))
+    h in
+    let none : (f : ℕ) → IsIn f (m.waiting ++ m.taken) → IsHeld f (map (put_in new) m.records) → ⊥ = λ f out h.
+    let old : IsHeld f m.records → ⊥ = not_held f m.records ((outbox_of s).unused f out) in
+    let by_new : Holds f new → ⊥ = λ (k : Holds f new). ⊎_elim (λ (i : IsIn f its.files). files_not_out s a f i out) (λ (i : Holds f q). old (q, a.there, i)) (Holds-put_ack f its q (in_with f k)) in
+    ⊎_elim by_new old (held_after_put f m.records q new p h) in
+    record {
+      unused = λ f out. absent-from_not_held f (map (put_in new) m.records) (none f out);
+      apart = (outbox_of s).apart;
+    }
+
+-- a done savepoint is not the pending record
+pub savepoint_is_other : (id : ℕ) (x q : Record) → q.done ≡ false → is_savepoint id x ≡ true → x ≡ q → ⊥
+savepoint_is_other id x q pending t e = both_ways x.done (ap (λ z. z.done) e ∙ pending) (and_parts x.done (not (is_checkpoint x)) (and_parts (x.done && not (is_checkpoint x)) (eqb x.id id) t).0).0
+
+-- a done savepoint stays, if nothing is dropped and a pending record is replaced
+pub savepoint_beside : {change : Record → Record} {old new : Record} {rs : List Record} (id : ℕ) → IsReplacing change old new rs → old.done ≡ false → list_any (is_savepoint id) rs ≡ true → list_any (is_savepoint id) (map change (filter (λ _. true) rs)) ≡ true
+savepoint_beside {change} {old} {new} {rs} id p pending e =
+    savepoint_stays change (λ _. true) id rs (λ x h t. (refl, ⊎_elim (λ (c : (x ≡ old) × (change x ≡ new)). absurd (savepoint_is_other id x old pending t c.0)) (λ (c : (x.id ≡ old.id → ⊥) × (change x ≡ x)). c.1) (p.cases x h))) e
+
+-- a filter that keeps all leaves all
+pub nothing_dropped : (change : Record → Record) (rs : List Record) → map change (filter (λ _. true) rs) ≡ map change rs
+nothing_dropped change rs = ap (map change) (filter-all (λ _. true) rs (λ x h. refl))
+
+-- the record still lacks an acknowledgement
+pub ack_pending_is_sound : (m : State) (q : Record) (subtask : SubtaskId) (fresh reused : List ℕ) → IsSound m → IsAcking m q subtask fresh reused → eqb (missing (with_ack q subtask fresh reused)) 0 ≡ false → IsSound (with_records m (replaced m.records (with_ack q subtask fresh reused)))
+ack_pending_is_sound m q subtask fresh reused s a lacks =
+    let w : Record = with_ack q subtask fresh reused in
+    let rs : List Record = m.records in
+    let p : IsReplacing (put_in w) q w rs = put_in_replaces q w rs s.in_order a.there refl in
+    let i : IsRecord w = acknowledged_pending q subtask (ascending (fresh ++ reused)) (s.each q a.there) a.pending (with_ack_is s a) lacks in
+    let records : AreSoundRecords m.opening m.next (map (put_in w) (filter (λ _. true) rs)) = replaced_records (λ _. true) (records_of s) p a.pending refl refl i (and_left q.done (is_checkpoint q) a.pending) in
+    let Any : List Record → Type 0 = λ xs. AreSoundRecords m.opening m.next xs in
+    sound_from (with_records m (replaced rs w)) (record {
+      config = s.config;
+      shape = s.shape;
+      latest = s.latest;
+      first = s.first;
+      next_from = s.next_from;
+      next_to = s.next_to;
+      base = λ id e. ap (list_any (is_savepoint id)) (sym (nothing_dropped (put_in w) rs)) ∙ savepoint_beside id p a.pending (s.base id e);
+      idle = λ ne. absurd (both_ways q.done a.pending (s.idle ne q a.there));
+      failures = s.failures;
+    }) (subst Any (nothing_dropped (put_in w) rs) records) (outbox_acked w s a refl refl refl)
+
+-- completion
+
+-- filtering after a change is filtering by the changed, and two changes are one
+pub fused : (u g : Record → Record) (k : Record → Bool) (rs : List Record) → map u (filter k (map g rs)) ≡ map (λ x. u (g x)) (filter (λ x. k (g x)) rs)
+fused u g k [] = refl
+fused u g k (x ∷ rs) =
+    let P : Bool → Type 0 = λ b. map u (cond b (g x ∷ filter k (map g rs)) (filter k (map g rs))) ≡ map (λ y. u (g y)) (cond b (x ∷ filter (λ y. k (g y)) rs) (filter (λ y. k (g y)) rs)) in
+    let rest = fused u g k rs in
+    let kept : P true = ap (λ ys. u (g x) ∷ ys) rest in
+    ⊎_elim (λ (e : k (g x) ≡ true). subst P (sym e) kept) (λ (e : k (g x) ≡ false). subst P (sym e) rest) (cases_Bool (k (g x)))
+
+-- a record without its pins holds no more
+Holds-unpinned : (f : ℕ) (ended : Option ℕ) (x : Record) → Holds f (unpinned ended x) → Holds f x
+Holds-unpinned f None x h = h
+Holds-unpinned f (Some ended) x h = cond_both (eqb x.id ended) (record x { pins = [] }) x (λ (z : Record). Holds f z → Holds f x) (λ _. ⊎_elim (λ (k : (a : Acked) × IsIn a x.acks × IsIn f a.files). inl k) (λ (n : ⊥). absurd n)) (λ _ k. k) h
+
+-- what is held after a completion's drop was held before
+pub held_before_kept : (dropped : Record → Bool) (ended : Option ℕ) (rs : List Record) (f : ℕ) → IsHeld f (kept dropped ended rs) → IsHeld f rs
+held_before_kept dropped ended rs f h =
+    let x = IsIn-from_changed (unpinned ended) (λ r. not (dropped r)) h.0 rs h.1 in
+    (x.0, x.1, Holds-unpinned f ended x.0 (subst (Holds f) x.3 h.2))
+
+-- letting the pins go keeps done checkpoints
+unpinned_checkpoint : (ended : ℕ) (x : Record) → is_done_checkpoint (unpinned (Some ended) x) ≡ is_done_checkpoint x
+unpinned_checkpoint ended x = cond_same is_done_checkpoint (eqb x.id ended) (record x { pins = [] }) x refl
+
+-- no more done checkpoints than are retained
+pub retained_after : (m : State) (r : Record) → is_checkpoint r ≡ true → IsInOrder id_before m.records → count_by is_done_checkpoint (kept (superseded m r) (Some r.id) m.records) ≤ m.opening.config.retained
+retained_after m r checkpoint order =
+    let n : ℕ = m.opening.config.retained in
+    let test : Record → Bool = λ x. is_done_checkpoint x && not (leb n (later is_done_checkpoint x m.records)) in
+    let passes : (x : Record) → IsIn x m.records → not (superseded m r x) ≡ true → is_done_checkpoint (unpinned (Some r.id) x) ≡ true → test x ≡ true = λ x _ stays d.
+    let done : is_done_checkpoint x ≡ true = sym (unpinned_checkpoint r.id x) ∙ d in
+    let either : (is_subsumed r.id x || is_surplus m x) ≡ false = ⊎_elim (λ (e : is_checkpoint r ≡ false). absurd (both_ways (is_checkpoint r) e checkpoint)) (λ (e : (is_subsumed r.id x || is_surplus m x) ≡ false). e) (and_cases (is_checkpoint r) (is_subsumed r.id x || is_surplus m x) (not-true (superseded m r x) stays)) in
+    let no_surplus : is_surplus m x ≡ false = (or_parts (is_subsumed r.id x) (is_surplus m x) either).1 in
+    let few : leb n (later is_done_checkpoint x m.records) ≡ false = ⊎_elim (λ (e : is_done_checkpoint x ≡ false). absurd (both_ways (is_done_checkpoint x) e done)) (λ (e : leb n (later is_done_checkpoint x m.records) ≡ false). e) (and_cases (is_done_checkpoint x) (leb n (later is_done_checkpoint x m.records)) no_surplus) in
+    and_from (is_done_checkpoint x) (not (leb n (later is_done_checkpoint x m.records))) done (not_from_false (leb n (later is_done_checkpoint x m.records)) few) in
+    let fewer : count_by is_done_checkpoint (kept (superseded m r) (Some r.id) m.records) ≤ count_by test m.records = count_by-changed is_done_checkpoint test (unpinned (Some r.id)) (λ x. not (superseded m r x)) m.records passes in
+    let most : count_by test m.records ≤ n = newest_at_most is_done_checkpoint n m.records order in
+    omega arith
+
+-- what is not subsumed does not come before
+pub not_before : (m : State) (r x : Record) → is_checkpoint r ≡ true → not (superseded m r x) ≡ true → is_pending_checkpoint x ≡ true → r.id ≤ x.id
+not_before m r x checkpoint stays waits =
+    let either : (is_subsumed r.id x || is_surplus m x) ≡ false = ⊎_elim (λ (e : is_checkpoint r ≡ false). absurd (both_ways (is_checkpoint r) e checkpoint)) (λ (e : (is_subsumed r.id x || is_surplus m x) ≡ false). e) (and_cases (is_checkpoint r) (is_subsumed r.id x || is_surplus m x) (not-true (superseded m r x) stays)) in
+    ⊎_elim
+    (λ (e : is_pending_checkpoint x ≡ false). absurd (both_ways (is_pending_checkpoint x) e waits))
+    (λ (e : ltb x.id r.id ≡ false). ltb-false x.id r.id e)
+    (and_cases (is_pending_checkpoint x) (ltb x.id r.id) (or_parts (is_subsumed r.id x) (is_surplus m x) either).0)

@@ -1,0 +1,160 @@
+-- An acknowledgement that completes a record keeps a coordinator sound, and so does a late one.
+use Rattle.std.proofs.Common.{◌≡◌, ℕ, ◌<◌, ◌≤◌, Bool, true, false, not, eqb, List, [], ◌++◌, map, refl, sym, ap, subst, ◌∙◌, ⊎_elim, arith}
+use Rattle.std.specs.Prelude.{count_by, Option, Some, None}
+use Rattle.std.specs.List.{filter, list_any}
+use Rattle.std.proofs.lemmas.Bool.{cases_Bool, both_ways, not-true, not_from_false, and_left, and_right, or_parts, ltb-true, lt-ltb}
+use Rattle.ckpt_ids.specs.declared.subtask.SubtaskId.{SubtaskId}
+use Rattle.ckpt_ids.specs.Ordered.{IsIn, IsInOrder, AreDistinct}
+use Rattle.ckpt_ids.specs.Records.{Record, uses, is_present, missing}
+use Rattle.ckpt_ids.proofs.OrderedLemmas.{IsIn-append_left, IsIn-append_right, IsIn-append_cases, IsIn-from_filter, IsInOrder-map, AreDistinct-append, AreDistinct-left, AreDistinct-right, AreDistinct-apart, AreDistinct-filter, test-from_IsIn}
+use Rattle.ckpt_model.specs.declared.mode.Mode.TheVariants.{Running}
+use Rattle.ckpt_model.specs.State.{State, is_checkpoint, is_done_checkpoint, is_known, in_outbox, kept, unpinned, drop, released_by}
+use Rattle.ckpt_model.specs.Steps.{replaced, with_records, superseded, ack}
+use Rattle.ckpt_model.specs.Soundness.{IsSound, IsRecord, id_before}
+use Rattle.ckpt_model.proofs.Records.Lists.{AreSoundRecords, IsSoundOutbox, sound_from, records_of, outbox_of, is_pending_checkpoint}
+use Rattle.ckpt_model.proofs.Records.Replacing.{put_in, IsReplacing, put_in_replaces, unpinned_replaces, cond_same, replaced_records, completed_records}
+use Rattle.ckpt_model.proofs.Records.Acknowledged.{completed_is}
+use Rattle.ckpt_model.proofs.Soundness.Drops.{is_savepoint, savepoint_stays, outbox_dropped}
+use Rattle.ckpt_model.proofs.Soundness.Acks.{IsAcking, with_ack, with_ack_is, outbox_acked, savepoint_is_other, fused, held_before_kept, retained_after, not_before}
+
+-- the record with all its acknowledgements, the state that has it, and the change that its completion makes
+abbrev pub completed : Record → SubtaskId → List ℕ → List ℕ → Record
+completed q subtask fresh reused = record (with_ack q subtask fresh reused) { done = true }
+
+-- the state with c in the place of the record of its number
+abbrev pub having : State → Record → State
+having m c = with_records m (replaced m.records c)
+
+-- the same change of one record, without the pins of c
+abbrev pub ending : Record → Record → Record
+ending c x = unpinned (Some c.id) (put_in c x)
+
+-- what the completion of c does not drop
+abbrev pub staying : State → Record → Record → Bool
+staying m c x = not (superseded (having m c) c (put_in c x))
+
+-- the records after it
+abbrev pub left_by : State → Record → List Record
+left_by m c = kept (superseded (having m c) c) (Some c.id) (having m c).records
+
+-- they are those of the state before, filtered and then changed
+pub left_is : (m : State) (c : Record) → left_by m c ≡ map (ending c) (filter (staying m c) m.records)
+left_is m c = fused (unpinned (Some c.id)) (put_in c) (λ x. not (superseded (having m c) c x)) m.records
+
+-- the state in which c is put in the place of q, which an accepted acknowledgement completed
+pub record IsCompleting (m : State) (q c : Record) : Type 0 where
+  pub there : IsIn q m.records
+  pub pending : q.done ≡ false
+  pub id : c.id ≡ q.id
+  pub kind : c.kind ≡ q.kind
+  pub started : c.started ≡ q.started
+  pub done : c.done ≡ true
+  pub free : IsRecord (record c { pins = [] })
+  pub outbox : IsSoundOutbox (map (put_in c) m.records) m.waiting m.taken
+
+-- letting the pins go keeps pending checkpoints
+pending_of_ending : (c x : Record) → is_pending_checkpoint (ending c x) ≡ is_pending_checkpoint (put_in c x)
+pending_of_ending c x = cond_same is_pending_checkpoint (eqb (put_in c x).id c.id) (record (put_in c x) { pins = [] }) (put_in c x) refl
+
+-- the records after it are sound
+records_completed : (m : State) (q c : Record) → IsSound m → IsCompleting m q c → AreSoundRecords m.opening m.next (left_by m c)
+records_completed m q c s i =
+    let rs : List Record = m.records in
+    let p : IsReplacing (ending c) q (record c { pins = [] }) rs = unpinned_replaces q c rs s.in_order i.there i.id in
+    let g : IsReplacing (put_in c) q c rs = put_in_replaces q c rs s.in_order i.there i.id in
+    let Any : List Record → Type 0 = λ xs. AreSoundRecords m.opening m.next xs in
+    let Few : List Record → Type 0 = λ xs. count_by is_done_checkpoint xs ≤ m.opening.config.retained in
+    let of_checkpoint : is_checkpoint c ≡ true → AreSoundRecords m.opening m.next (map (ending c) (filter (staying m c) rs)) = λ (e : is_checkpoint c ≡ true).
+    let order : IsInOrder id_before (map (put_in c) rs) = in_order-put_in q c rs s.in_order i.there i.id in
+    let few : Few (map (ending c) (filter (staying m c) rs)) = subst Few (left_is m c) (retained_after (having m c) c e order) in
+    let after : (x : Record) → IsIn x rs → staying m c x ≡ true → ending c x ≡ x → is_pending_checkpoint x ≡ true → q.id ≤ x.id = λ x _ stays same waits.
+    let still : is_pending_checkpoint (put_in c x) ≡ true = sym (pending_of_ending c x) ∙ ap is_pending_checkpoint same ∙ waits in
+    let from : c.id ≤ (put_in c x).id = not_before (having m c) c (put_in c x) e stays still in
+    let there : (put_in c x).id ≡ x.id = g.same x in
+    let its : c.id ≡ q.id = i.id in
+    omega arith in
+    completed_records (staying m c) (records_of s) p i.pending i.done i.kind i.started i.free few after in
+    let of_savepoint : is_checkpoint c ≡ false → AreSoundRecords m.opening m.next (map (ending c) (filter (staying m c) rs)) = λ (e : is_checkpoint c ≡ false).
+    replaced_records (staying m c) (records_of s) p i.pending i.kind i.started i.free (and_right c.done (is_checkpoint c) e) in
+    subst Any (sym (left_is m c)) (⊎_elim of_checkpoint of_savepoint (cases_Bool (is_checkpoint c)))
+  where
+    in_order-put_in : (q c : Record) (rs : List Record) → IsInOrder id_before rs → IsIn q rs → c.id ≡ q.id → IsInOrder id_before (map (put_in c) rs)
+    in_order-put_in q c rs a there id =
+        let g : IsReplacing (put_in c) q c rs = put_in_replaces q c rs a there id in
+        IsInOrder-map id_before id_before (put_in c) rs (λ x y e. let less : x.id < y.id = ltb-true x.id y.id e in lt-ltb (put_in c x).id (put_in c y).id (omega (arith, g.same x, g.same y))) a
+
+-- of a savepoint's completion each done savepoint is left
+pub savepoints_left : (m : State) (q c : Record) (id : ℕ) → IsSound m → IsCompleting m q c → is_checkpoint c ≡ false → list_any (is_savepoint id) m.records ≡ true → list_any (is_savepoint id) (left_by m c) ≡ true
+savepoints_left m q c id s i e there =
+    let rs : List Record = m.records in
+    let p : IsReplacing (ending c) q (record c { pins = [] }) rs = unpinned_replaces q c rs s.in_order i.there i.id in
+    let stays : (x : Record) → IsIn x rs → is_savepoint id x ≡ true → (staying m c x ≡ true) × (ending c x ≡ x) = λ x h t.
+    (not_from_false (superseded (having m c) c (put_in c x)) (and_left (is_checkpoint c) _ e), ⊎_elim (λ (k : (x ≡ q) × (ending c x ≡ record c { pins = [] })). absurd (savepoint_is_other id x q i.pending t k.0)) (λ (k : (x.id ≡ q.id → ⊥) × (ending c x ≡ x)). k.1) (p.cases x h)) in
+    ap (list_any (is_savepoint id)) (left_is m c) ∙ savepoint_stays (ending c) (staying m c) id rs stays there
+
+-- and so is the outbox
+outbox_completed : (m : State) (q c : Record) → IsSound m → IsCompleting m q c → IsSoundOutbox (left_by m c) (m.waiting ++ released_by (having m c) (superseded (having m c) c) (Some c.id)) m.taken
+outbox_completed m q c s i = outbox_dropped (map (put_in c) m.records) (left_by m c) m.waiting m.taken i.outbox (held_before_kept (superseded (having m c) c) (Some c.id) (map (put_in c) m.records))
+
+-- a record that is pending shows that the job runs
+runs-from_pending : {A : Type 0} (done : Bool) → done ≡ false → done ≡ true → A
+runs-from_pending done e h = absurd (both_ways done e h)
+
+-- a completion, with the settings after
+pub completed_is_sound : (m : State) (q c : Record) (failures : ℕ) (completed_at base : Option ℕ) → IsSound m → IsCompleting m q c → ((id : ℕ) → base ≡ Some id → list_any (is_savepoint id) (left_by m c) ≡ true) → (m.mode ≡ Running → failures ≤ m.opening.config.tolerable) → IsSound (record (drop (having m c) (superseded (having m c) c) (Some c.id)) { failures = failures; completed = completed_at; base = base })
+unfolding drop
+completed_is_sound m q c failures completed_at base s i base_left few =
+    sound_from (record (drop (having m c) (superseded (having m c) c) (Some c.id)) { failures = failures; completed = completed_at; base = base }) (record {
+      config = s.config;
+      shape = s.shape;
+      latest = s.latest;
+      first = s.first;
+      next_from = s.next_from;
+      next_to = s.next_to;
+      base = base_left;
+      idle = λ ne. runs-from_pending q.done i.pending (s.idle ne q i.there);
+      failures = few;
+    }) (records_completed m q c s i) (outbox_completed m q c s i)
+
+-- an acknowledgement after which none is missing completes its record
+pub completing : (m : State) (q : Record) (subtask : SubtaskId) (fresh reused : List ℕ) → IsSound m → IsAcking m q subtask fresh reused → missing (with_ack q subtask fresh reused) ≡ 0 → IsCompleting m q (completed q subtask fresh reused)
+completing m q subtask fresh reused s a none = record {
+  there = a.there;
+  pending = a.pending;
+  id = refl;
+  kind = refl;
+  started = refl;
+  done = refl;
+  free = completed_is q (s.each q a.there) (with_ack q subtask fresh reused) refl (with_ack_is s a) none;
+  outbox = outbox_acked (completed q subtask fresh reused) s a refl refl refl;
+}
+
+-- a late one
+pub late_is_sound : (m : State) (subtask : SubtaskId) (fresh reused : List ℕ) → IsSound m → AreDistinct (fresh ++ reused) → IsSound (ack m None subtask fresh reused).0
+unfolding ack
+late_is_sound m subtask fresh reused s once =
+    let unknown : List ℕ = filter (λ f. not (is_known m f)) fresh in
+    let o = outbox_of s in
+    let not_known : (f : ℕ) → IsIn f unknown → (is_present (uses m.records) f ≡ false) × (in_outbox m f ≡ false) = λ f h. or_parts (is_present (uses m.records) f) (in_outbox m f) (not-true (is_known m f) (IsIn-from_filter (λ g. not (is_known m g)) f fresh h).1) in
+    let out : (f : ℕ) → IsIn f unknown → IsIn f (m.waiting ++ m.taken) → ⊥ = λ f h k. both_ways (in_outbox m f) (not_known f h).1 (test-from_IsIn f (m.waiting ++ m.taken) k) in
+    let outbox : IsSoundOutbox m.records (m.waiting ++ unknown) m.taken = record {
+      unused = λ f h.
+          ⊎_elim
+          (λ (k : IsIn f (m.waiting ++ unknown)). ⊎_elim (λ (w : IsIn f m.waiting). o.unused f (IsIn-append_left f m.waiting m.taken w)) (λ (u : IsIn f unknown). (not_known f u).0) (IsIn-append_cases f m.waiting unknown k))
+          (λ (t : IsIn f m.taken). o.unused f (IsIn-append_right f m.waiting m.taken t))
+          (IsIn-append_cases f (m.waiting ++ unknown) m.taken h);
+      apart =
+          let front : AreDistinct (m.waiting ++ unknown) = AreDistinct-append m.waiting unknown (AreDistinct-left m.waiting m.taken o.apart) (AreDistinct-filter (λ f. not (is_known m f)) fresh (AreDistinct-left fresh reused once)) (λ f w u. out f u (IsIn-append_left f m.waiting m.taken w)) in
+          AreDistinct-append (m.waiting ++ unknown) m.taken front (AreDistinct-right m.waiting m.taken o.apart) (λ f h t. ⊎_elim (λ (w : IsIn f m.waiting). AreDistinct-apart m.waiting m.taken o.apart f w t) (λ (u : IsIn f unknown). out f u (IsIn-append_right f m.waiting m.taken t)) (IsIn-append_cases f m.waiting unknown h));
+    } in
+    sound_from (record m { waiting = m.waiting ++ unknown }) (record {
+      config = s.config;
+      shape = s.shape;
+      latest = s.latest;
+      first = s.first;
+      next_from = s.next_from;
+      next_to = s.next_to;
+      base = s.base;
+      idle = s.idle;
+      failures = s.failures;
+    }) (records_of s) outbox

@@ -1,0 +1,88 @@
+-- After a drop of records, done savepoints, idle states and the outbox are still as in a sound state. A later moment keeps a state sound.
+use Rattle.std.proofs.Common.{◌≡◌, ◌≢◌, ℕ, ◌<◌, ◌^◌, max, Bool, true, false, not, ◌&&◌, eqb, List, ◌++◌, map, ap, subst, ◌∙◌, ⊎_elim, arith}
+use Rattle.std.specs.List.{filter, list_any}
+use Rattle.std.proofs.lemmas.Bool.{cases_Bool, both_ways, not-true, not_from_false}
+use Rattle.ckpt_ids.specs.Ordered.{IsIn, AreDistinct}
+use Rattle.ckpt_ids.specs.Records.{Record, uses, is_present, released}
+use Rattle.ckpt_ids.proofs.OrderedLemmas.{IsIn-append_left, IsIn-append_right, IsIn-append_cases, IsIn-from_list_any, list_any-from_IsIn, AreDistinct-append, AreDistinct-left, AreDistinct-right, AreDistinct-apart, AreDistinct-from_order}
+use Rattle.ckpt_model.specs.declared.mode.Mode.TheVariants.{Running}
+use Rattle.ckpt_model.specs.State.{State, is_checkpoint, is_pending}
+use Rattle.ckpt_model.specs.Soundness.{IsSound}
+use Rattle.ckpt_model.proofs.Records.Counts.{IsIn-changed, IsIn-from_changed}
+use Rattle.ckpt_model.proofs.Records.Present.{Holds, IsHeld, IsHeld_before}
+use Rattle.ckpt_model.proofs.Records.Released.{ascending-released, after-from_released, held-from_released}
+use Rattle.ckpt_model.proofs.Records.Lists.{IsSoundOutbox, sound_from, records_of, outbox_of}
+use Rattle.ckpt_ids.proofs.AscendingLemmas.{numbers_in_order}
+
+-- a done savepoint with this number
+abbrev pub is_savepoint : ℕ → Record → Bool
+is_savepoint id r = r.done && not (is_checkpoint r) && eqb r.id id
+
+-- a done savepoint that is kept and not changed stays
+pub savepoint_stays : (h : Record → Record) (q : Record → Bool) (id : ℕ) (rs : List Record) → ((r : Record) → IsIn r rs → is_savepoint id r ≡ true → (q r ≡ true) × (h r ≡ r)) → list_any (is_savepoint id) rs ≡ true → list_any (is_savepoint id) (map h (filter q rs)) ≡ true
+savepoint_stays h q id rs stays e =
+    let p = IsIn-from_list_any (is_savepoint id) rs e in
+    let s = stays p.0 p.1 p.2 in
+    list_any-from_IsIn (is_savepoint id) (h p.0) (map h (filter q rs)) (IsIn-changed h q p.0 rs p.1 s.0) (ap (is_savepoint id) s.1 ∙ p.2)
+
+-- what is held after filtering was held before
+pub held_before_filter : (q : Record → Bool) (rs : List Record) (f : ℕ) → IsHeld f (map (λ r. r) (filter q rs)) → IsHeld f rs
+held_before_filter q rs f h =
+    let p = IsIn-from_changed (λ (r : Record). r) q h.0 rs h.1 in
+    (p.0, p.1, subst (Holds f) p.3 h.2)
+
+-- the outbox after a drop
+pub outbox_dropped : (before after : List Record) (waiting taken : List ℕ) → IsSoundOutbox before waiting taken → ((f : ℕ) → IsHeld f after → IsHeld f before) → IsSoundOutbox after (waiting ++ released (uses before) (uses after)) taken
+outbox_dropped before after waiting taken s was =
+    let out : List ℕ = released (uses before) (uses after) in
+    let gone : (f : ℕ) → IsIn f (waiting ++ taken) → is_present (uses after) f ≡ false = λ f h. IsHeld_before f before after (λ r k l. was f (r, k, l)) (s.unused f h) in
+    let new : (f : ℕ) → IsIn f out → IsIn f (waiting ++ taken) → ⊥ = λ f h k. both_ways (is_present (uses before) f) (s.unused f k) (held-from_released f before (uses after) h) in
+    record {
+      unused = λ f h.
+          ⊎_elim
+          (λ (k : IsIn f (waiting ++ out)). ⊎_elim
+          (λ (w : IsIn f waiting). gone f (IsIn-append_left f waiting taken w))
+          (λ (r : IsIn f out). after-from_released f (uses before) (uses after) r)
+          (IsIn-append_cases f waiting out k))
+          (λ (t : IsIn f taken). gone f (IsIn-append_right f waiting taken t))
+          (IsIn-append_cases f (waiting ++ out) taken h);
+      apart =
+          let front : AreDistinct (waiting ++ out) = AreDistinct-append waiting out (AreDistinct-left waiting taken s.apart) (AreDistinct-from_order numbers_in_order out (ascending-released (uses before) (uses after))) (λ f w r. new f r (IsIn-append_left f waiting taken w)) in
+          let share_none : (f : ℕ) → IsIn f (waiting ++ out) → IsIn f taken → ⊥ = λ f h t.
+          ⊎_elim
+          (λ (w : IsIn f waiting). AreDistinct-apart waiting taken s.apart f w t)
+          (λ (r : IsIn f out). new f r (IsIn-append_right f waiting taken t))
+          (IsIn-append_cases f waiting out h) in
+          AreDistinct-append (waiting ++ out) taken front (AreDistinct-right waiting taken s.apart) share_none;
+    }
+
+-- the outbox after records were filtered
+pub outbox_filtered : (q : Record → Bool) (rs : List Record) (waiting taken : List ℕ) → IsSoundOutbox rs waiting taken → IsSoundOutbox (map (λ r. r) (filter q rs)) (waiting ++ released (uses rs) (uses (map (λ r. r) (filter q rs)))) taken
+outbox_filtered q rs waiting taken s = outbox_dropped rs (map (λ r. r) (filter q rs)) waiting taken s (held_before_filter q rs)
+
+-- what is idle stays so
+pub idle_stays : {m : State} (dropped : Record → Bool) → IsSound m → m.mode ≢ Running → (r : Record) → IsIn r (map (λ r. r) (filter (λ r. not (dropped r)) m.records)) → r.done ≡ true
+idle_stays {m} dropped s ne r h = let p = IsIn-from_changed (λ (r : Record). r) (λ r. not (dropped r)) r m.records h in ap (λ x. x.done) p.3 ∙ s.idle ne p.0 p.1
+
+-- a later moment
+pub moment_is_sound : (m : State) (now : ℕ) → IsSound m → now < 2 ^ 62 → IsSound (record m { latest = max now m.latest })
+moment_is_sound m now s within =
+    sound_from (record m { latest = max now m.latest }) (record {
+      config = s.config;
+      shape = s.shape;
+      latest = let old : m.latest < 2 ^ 62 = s.latest in omega arith;
+      first = s.first;
+      next_from = s.next_from;
+      next_to = s.next_to;
+      base = s.base;
+      idle = s.idle;
+      failures = s.failures;
+    }) (records_of s) (outbox_of s)
+
+-- no pending record is left if all are dropped
+pub none_pending_left : (rs : List Record) (dropped : Record → Bool) → ((r : Record) → is_pending r ≡ true → dropped r ≡ true) → (r : Record) → IsIn r (map (λ r. r) (filter (λ r. not (dropped r)) rs)) → r.done ≡ true
+none_pending_left rs dropped all r h =
+    let p = IsIn-from_changed (λ (r : Record). r) (λ r. not (dropped r)) r rs h in
+    let stays : dropped p.0 ≡ false = not-true (dropped p.0) p.2 in
+    let done : (p.0).done ≡ true = ⊎_elim (λ (e : (p.0).done ≡ true). e) (λ (e : (p.0).done ≡ false). absurd (both_ways (dropped p.0) stays (all p.0 (not_from_false (p.0).done e)))) (cases_Bool (p.0).done) in
+    ap (λ x. x.done) p.3 ∙ done

@@ -1,0 +1,191 @@
+-- Triggering a checkpoint or savepoint keeps a coordinator sound, and when a tick may trigger one.
+use Rattle.std.proofs.Common.{◌≡◌, ℕ, ◌+◌, ◌<◌, ◌≤◌, ◌^◌, Bool, true, false, not, ◌&&◌, cond, ltb, leb, eqb, List, [], ◌∷◌, ◌++◌, map, sum, length, refl, sym, ap, subst, ◌∙◌, inl, ⊎_elim, arith}
+use Rattle.std.specs.Prelude.{count_by, Option, Some, None}
+use Rattle.std.specs.List.{list_any}
+use Rattle.std.proofs.lemmas.Bool.{cases_Bool, both_ways, and_left, and_cases, or_left, leb-false, ltb-false}
+use Rattle.std.proofs.lemmas.List.Sums.{sum_by-cons}
+use Rattle.std.proofs.lemmas.List.Folds.{list_any-append}
+use Rattle.std.proofs.lemmas.List.{append-nil}
+use Rattle.ckpt_ids.specs.declared.subtask.SubtaskId.{SubtaskId}
+use Rattle.ckpt_ids.specs.declared.numbers.Kind.{Kind}
+use Rattle.ckpt_ids.specs.declared.numbers.Kind.TheVariants as kind
+use Rattle.ckpt_ids.specs.declared.reply.Choice.{Choice}
+use Rattle.ckpt_ids.specs.declared.reply.Choice.TheVariants as choice
+use Rattle.ckpt_ids.specs.Configuration.{Configuration}
+use Rattle.ckpt_ids.specs.Ordered.{IsIn}
+use Rattle.ckpt_ids.specs.Ascending.{IsAscendingSet}
+use Rattle.ckpt_ids.specs.Records.{Record, Use, uses, uses_of, missing, has_acknowledged}
+use Rattle.ckpt_ids.specs.Shapes.{IsShape, subtasks, same_subtask}
+use Rattle.ckpt_ids.proofs.AscendingLemmas.{numbers_in_order}
+use Rattle.ckpt_ids.proofs.ShapeLemmas.{length-subtasks_from}
+use Rattle.ckpt_ids.proofs.OrderedLemmas.{IsIn-append_cases, IsIn-from_map, IsIn-from_in_order_once, IsInOrder-in_order_once}
+use Rattle.ckpt_rules.specs.Trigger.{hold, limit, pause_ends}
+use Rattle.ckpt_rules.specs.declared.hold.Hold.{Hold}
+use Rattle.ckpt_rules.specs.declared.hold.Hold.TheVariants.{Interval, AtOnce, Pause, Go}
+use Rattle.ckpt_model.specs.declared.mode.Mode.TheVariants.{Running}
+use Rattle.ckpt_model.specs.State.{State, is_checkpoint, is_pending, is_expired, files_of, chosen, choice_of, pins_now}
+use Rattle.ckpt_model.specs.Refusals.{savepoints}
+use Rattle.ckpt_model.specs.Steps.{triggered, pending_checkpoints}
+use Rattle.ckpt_model.specs.Soundness.{IsSound, IsRecord}
+use Rattle.ckpt_ids.proofs.CountLemmas.{count_by-append, count_by_yes, count_by_no, counted-from_IsIn}
+use Rattle.ckpt_model.proofs.Records.Counts.{IsIn-from_find}
+use Rattle.ckpt_model.proofs.Records.Present.{Holds, IsHeld, Holds-from_use, absent-from_not_held, not_held}
+use Rattle.ckpt_model.proofs.Records.Lists.{AreSoundRecords, IsSoundOutbox, sound_from, records_of, outbox_of, appended_records, is_pending_checkpoint}
+use Rattle.ckpt_model.proofs.Soundness.Drops.{is_savepoint}
+
+-- the files of a choice are held by live records
+
+-- a file of a live record is held
+pub held-from_files_of : (f : ℕ) (o : Option Record) (rs : List Record) → ((r : Record) → o ≡ Some r → IsIn r rs) → IsIn f (files_of o) → IsHeld f rs
+held-from_files_of f None rs there h = absurd h
+held-from_files_of f (Some r) rs there h =
+    let file : Use → ℕ = λ u. u.file in
+    let q = IsIn-from_map file f (uses (r ∷ [])) (IsIn-from_in_order_once ltb f (map file (uses (r ∷ []))) h) in
+    let P : List Use → Type 0 = λ us. IsIn q.0 us in
+    let its_use : IsIn q.0 (uses_of r) = subst P (append-nil (uses_of r)) q.1 in
+    let Q : ℕ → Type 0 = λ g. Holds g r in
+    (r, there r refl, subst Q (sym q.2) (Holds-from_use q.0 r its_use))
+
+-- the record of a choice is live
+pub chosen_in : (m : State) (c : Choice) (r : Record) → chosen c m ≡ Some r → IsIn r m.records
+chosen_in m (choice.Checkpoint id) r e = (IsIn-from_find (λ s. eqb s.id id) r m.records e).0
+chosen_in m (choice.Savepoint id) r e = (IsIn-from_find (λ s. eqb s.id id) r m.records e).0
+chosen_in m choice.Fresh r e = absurd (cc)
+
+-- so what a new record pins is held
+pub held-from_pins : (m : State) (f : ℕ) → IsIn f (pins_now m) → IsHeld f m.records
+unfolding pins_now
+held-from_pins m f h = held-from_files_of f (chosen (choice_of m) m) m.records (chosen_in m (choice_of m)) h
+
+-- the files of a record are ascending
+ascending-files_of : (o : Option Record) → IsAscendingSet (files_of o)
+ascending-files_of None = tt
+ascending-files_of (Some r) = IsInOrder-in_order_once numbers_in_order (map (λ (u : Use). u.file) (uses (r ∷ [])))
+
+-- so are the pins
+pub ascending-pins : (m : State) → IsAscendingSet (pins_now m)
+unfolding pins_now
+ascending-pins m = ascending-files_of (chosen (choice_of m) m)
+
+-- a shape has a subtask
+
+-- a list that is not empty has an element
+some_element : {X : Type 0} (xs : List X) → 0 < length xs → (x : X) × IsIn x xs
+some_element [] h = absurd (omega arith)
+some_element (x ∷ xs) h = (x, inl refl)
+
+-- a shape has a size above 0
+some_size : (shape : List ℕ) → IsShape shape → 0 < sum shape
+some_size [] s = let n : 1 ≤ 0 = s.vertices_from in absurd (omega arith)
+some_size (p ∷ shape) s = let first : 1 ≤ p = s.each 0 0 (omega arith) in omega (arith, sum_by-cons (λ x. x) p shape)
+
+-- a record with no acknowledgement lacks one
+pub missing_at_first : (r : Record) → r.acks ≡ [] → IsShape r.shape → 0 < missing r
+missing_at_first r none s =
+    let all : length (subtasks r.shape) ≡ sum r.shape = length-subtasks_from 0 r.shape in
+    let some : 0 < length (subtasks r.shape) = omega (arith, some_size r.shape s) in
+    let q = some_element (subtasks r.shape) some in
+    let lacks : SubtaskId → Bool = λ t. not (has_acknowledged r t) in
+    let has_none : lacks q.0 ≡ true = ap (λ acks. not (list_any (λ a. same_subtask q.0 a.subtask) acks)) none in
+    counted-from_IsIn lacks q.0 (subtasks r.shape) q.1 has_none
+
+-- the record that is triggered
+
+-- a record of this kind, triggered now
+abbrev pub new_record : State → Kind → Record
+new_record m kind = record { id = m.next; kind = kind; done = false; shape = m.shape; started = m.latest; acks = []; pins = pins_now m }
+
+-- it is a sound record
+new_record_is : (m : State) (kind : Kind) → IsSound m → IsRecord (new_record m kind)
+new_record_is m kind s = record {
+  shape = s.shape;
+  acks_in_order = tt;
+  acks_of_subtasks = λ a h. absurd h;
+  files = λ a h. absurd h;
+  pins = ascending-pins m;
+  pending = λ _. missing_at_first (new_record m kind) refl s.shape;
+  full = λ e. absurd (both_ways false refl e);
+  unpinned = λ e. absurd (both_ways false refl e);
+}
+
+-- the records with it are sound, if there is room for it
+records_triggered : (m : State) (kind : Kind) → IsSound m → count_by is_pending_checkpoint (m.records ++ new_record m kind ∷ []) ≤ limit m.opening.config → count_by (λ r. not (is_checkpoint r)) (m.records ++ new_record m kind ∷ []) ≤ 1000 → AreSoundRecords m.opening (m.next + 1) (m.records ++ new_record m kind ∷ [])
+records_triggered m kind s at_once savepoints_to = appended_records (new_record m kind) (records_of s) s.next_from refl refl (new_record_is m kind s) s.latest at_once savepoints_to
+
+-- and so is the outbox
+pub outbox_triggered : (m : State) (kind : Kind) → IsSound m → IsSoundOutbox (m.records ++ new_record m kind ∷ []) m.waiting m.taken
+outbox_triggered m kind s =
+    let o = outbox_of s in
+    record {
+      unused = λ f h. absent-from_not_held f (m.records ++ new_record m kind ∷ []) (λ (k : IsHeld f (m.records ++ new_record m kind ∷ [])).
+          let old : IsHeld f m.records → ⊥ = not_held f m.records (o.unused f h) in
+          let in_new : Holds f (new_record m kind) → ⊥ = ⊎_elim (λ a. a.1) (λ (p : IsIn f (pins_now m)). old (held-from_pins m f p)) in
+          let Q : Record → Type 0 = λ r. Holds f r in
+          ⊎_elim (λ (i : IsIn k.0 m.records). old (k.0, i, k.2)) (⊎_elim (λ (e : k.0 ≡ new_record m kind). in_new (subst Q e k.2)) (λ (n : ⊥). n)) (IsIn-append_cases k.0 m.records (new_record m kind ∷ []) k.1));
+      apart = o.apart;
+    }
+
+-- a trigger, if the job runs and there is room
+triggered_is_sound : (m : State) (kind : Kind) (due : ℕ) → IsSound m → m.mode ≡ Running → m.next < 2 ^ 62 → count_by is_pending_checkpoint (m.records ++ new_record m kind ∷ []) ≤ limit m.opening.config → count_by (λ r. not (is_checkpoint r)) (m.records ++ new_record m kind ∷ []) ≤ 1000 → IsSound (record (triggered m kind) { due = due })
+unfolding triggered
+triggered_is_sound m kind due s running room at_once savepoints_to =
+    sound_from (record (triggered m kind) { due = due }) (record {
+      config = s.config;
+      shape = s.shape;
+      latest = s.latest;
+      first = s.first;
+      next_from = let old : m.opening.first ≤ m.next = s.next_from in omega arith;
+      next_to = omega arith;
+      base = λ id e. list_any-append (is_savepoint id) m.records (new_record m kind ∷ []) ∙ or_left (list_any (is_savepoint id) m.records) (list_any (is_savepoint id) (new_record m kind ∷ [])) (s.base id e);
+      idle = λ ne. absurd (ne running);
+      failures = s.failures;
+    }) (records_triggered m kind s at_once savepoints_to) (outbox_triggered m kind s)
+
+-- a checkpoint, if one more may be pending
+pub checkpoint_is_sound : (m : State) (due : ℕ) → IsSound m → m.mode ≡ Running → m.next < 2 ^ 62 → pending_checkpoints m < limit m.opening.config → IsSound (record (triggered m kind.Checkpoint) { due = due })
+checkpoint_is_sound m due s running room fewer =
+    let new : Record = new_record m kind.Checkpoint in
+    let savepoint : Record → Bool = λ r. not (is_checkpoint r) in
+    let old : count_by savepoint m.records ≤ 1000 = s.savepoints_to in
+    triggered_is_sound m kind.Checkpoint due s running room
+    (omega (arith, count_by-append is_pending_checkpoint m.records (new ∷ []), count_by_yes is_pending_checkpoint new [] refl))
+    (omega (arith, count_by-append savepoint m.records (new ∷ []), count_by_no savepoint new [] refl))
+
+-- a savepoint, if there is room for one
+pub savepoint_is_sound : (m : State) → IsSound m → m.mode ≡ Running → m.next < 2 ^ 62 → savepoints m < 1000 → IsSound (triggered m kind.Savepoint)
+unfolding triggered
+savepoint_is_sound m s running room fewer =
+    let new : Record = new_record m kind.Savepoint in
+    let savepoint : Record → Bool = λ r. not (is_checkpoint r) in
+    let old : count_by is_pending_checkpoint m.records ≤ limit m.opening.config = s.at_once in
+    triggered_is_sound m kind.Savepoint m.due s running room
+    (omega (arith, count_by-append is_pending_checkpoint m.records (new ∷ []), count_by_no is_pending_checkpoint new [] refl))
+    (omega (arith, count_by-append savepoint m.records (new ∷ []), count_by_yes savepoint new [] refl))
+
+-- nothing holds a checkpoint back only if fewer are pending than may be
+pub fewer-from_go : (c : Configuration) (due : ℕ) (completed : Option ℕ) (t pending : ℕ) → hold c due completed t pending ≡ Go → pending < limit c
+fewer-from_go c due completed t pending e =
+    let inner : Hold = cond (ltb t (pause_ends c completed)) Pause Go in
+    let middle : Hold = cond (leb (limit c) pending) AtOnce inner in
+    let P : Bool → Type 0 = λ b. cond b Interval middle ≡ Go in
+    let Q : Bool → Type 0 = λ b. cond b AtOnce inner ≡ Go in
+    let waits : ltb t due ≡ true → pending < limit c = λ (h : ltb t due ≡ true). let k : Interval ≡ Go = subst P h e in absurd (cc) in
+    let goes : ltb t due ≡ false → pending < limit c = λ (h : ltb t due ≡ false).
+    let k : middle ≡ Go = subst P h e in
+    ⊎_elim
+    (λ (g : leb (limit c) pending ≡ true). let l : AtOnce ≡ Go = subst Q g k in absurd (cc))
+    (λ (g : leb (limit c) pending ≡ false). leb-false (limit c) pending g)
+    (cases_Bool (leb (limit c) pending)) in
+    ⊎_elim waits goes (cases_Bool (ltb t due))
+
+-- if a tick does not fail over, few enough checkpoints have failed
+pub few_failures : (late failures tolerable : ℕ) → failures ≤ tolerable → (ltb 0 late && ltb tolerable (failures + late)) ≡ false → failures + late ≤ tolerable
+few_failures late failures tolerable few e =
+    ⊎_elim
+    (λ (h : ltb 0 late ≡ false). omega (arith, ltb-false 0 late h))
+    (λ (h : ltb tolerable (failures + late) ≡ false). ltb-false tolerable (failures + late) h)
+    (and_cases (ltb 0 late) (ltb tolerable (failures + late)) e)
+
+-- an expired record is pending
+pub expired_is_pending : (m : State) (t : ℕ) (r : Record) → is_pending r ≡ false → is_expired m t r ≡ false
+expired_is_pending m t r e = and_left (is_pending r) (leb (r.started + m.opening.config.timeout) t) e

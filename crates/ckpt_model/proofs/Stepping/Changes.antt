@@ -1,0 +1,199 @@
+-- What any call changes; and what one that is no acknowledgement changes: nothing, the outbox, or records, by a drop with new settings or by a trigger.
+use Rattle.std.proofs.Common.{◌≡◌, ◌≢◌, ℕ, ◌+◌, ◌≤◌, Bool, true, false, not, ◌&&◌, eqb, List, [], ◌∷◌, ◌++◌, length, refl, sym, ap, subst, ◌∙◌, ◌⊎◌, inl, inr, ⊎_elim}
+use Rattle.std.specs.Prelude.{Option, Some, None}
+use Rattle.std.specs.Prelude as prelude
+use Rattle.std.specs.List.{list_any}
+use Rattle.std.proofs.lemmas.Bool.{not-true, not_from_false, and_parts, eqb-true}
+use Rattle.ckpt_ids.specs.declared.subtask.SubtaskId.{SubtaskId}
+use Rattle.ckpt_ids.specs.declared.numbers.Kind.{Kind}
+use Rattle.ckpt_ids.specs.declared.call.Call.{Call}
+use Rattle.ckpt_ids.specs.declared.call.Call.TheVariants.{Ack}
+use Rattle.ckpt_ids.specs.declared.reply.Refusal.{Refusal}
+use Rattle.ckpt_ids.specs.declared.reply.Answer.{Answer}
+use Rattle.ckpt_ids.specs.declared.reply.Answer.TheVariants.{Refused}
+use Rattle.ckpt_ids.specs.Ordered.{IsIn}
+use Rattle.ckpt_ids.specs.Ascending.{ascending}
+use Rattle.ckpt_ids.specs.Records.{Record}
+use Rattle.ckpt_ids.specs.Shapes.{IsShape}
+use Rattle.ckpt_model.specs.declared.mode.Mode.{Mode}
+use Rattle.ckpt_model.specs.declared.mode.Mode.TheVariants.{Running}
+use Rattle.ckpt_model.specs.State.{State, is_checkpoint, is_pending, drop, pins_now}
+use Rattle.ckpt_model.specs.Steps.{Stepped, triggered}
+use Rattle.ckpt_model.specs.Soundness.{IsSound, IsCall}
+use Rattle.ckpt_model.specs.Laws.{given_as, is_ack_taken}
+use Rattle.ckpt_model.proofs.Records.Lists.{sound_from, records_of, outbox_of, filtered_records}
+use Rattle.ckpt_model.proofs.Soundness.Drops.{is_savepoint, savepoint_stays, idle_stays, none_pending_left, outbox_filtered}
+use Rattle.ckpt_model.proofs.Soundness.Acks.{IsAcking}
+use Rattle.ckpt_model.proofs.Histories.Moves.{IsMoved, unmoved, dropped_moves, triggered_moves, moves_at, disposed_of, disposed_by}
+use Rattle.ckpt_model.proofs.Histories.Takings.{IsTaken}
+use Rattle.ckpt_model.proofs.Histories.Spreads.{IsSpread, unspread, drop_spreads, trigger_spreads}
+use Rattle.ckpt_model.proofs.Stepping.Files.{registers, hands, deletes, IsSettled, spread_settled, refused_registers, refused_hands, refused_deletes}
+
+-- it gives no number, or the next one
+abbrev pub Gives : State → State → List ℕ → Type 0
+Gives m n given = ((given ≡ []) × (n.next ≡ m.next)) ⊎ ((given ≡ m.next ∷ []) × (n.next ≡ m.next + 1))
+
+-- an acknowledgement that changes no record
+pub record IsPassedOver (m : State) (x : Stepped) : Type 0 where
+  pub records : (x.0).records ≡ m.records
+  pub not_taken : is_ack_taken x.1 ≡ false
+
+-- so it moves none
+pub passed_moves : {m : State} {x : Stepped} → IsPassedOver m x → IsMoved m None (x.0).records
+passed_moves {m} i = let After : List Record → Type 0 = IsMoved m None in subst After (sym i.records) (unmoved m None)
+
+-- one that is taken by the pending record of its number
+pub record IsTakenBy (m : State) (id : ℕ) (subtask : SubtaskId) (fresh reused : List ℕ) (x : Stepped) : Type 0 where
+  pub q : Record
+  pub its_id : q.id ≡ id
+  pub acking : IsAcking m q subtask fresh reused
+  pub taken : IsTaken m.records q (record { subtask = subtask; files = ascending (fresh ++ reused) }) (x.0).records
+  pub is_taken : is_ack_taken x.1 ≡ true
+
+-- what a call does to the records
+abbrev pub ChangesRecords : State → Call → Stepped → Type 0
+ChangesRecords m (Ack now id subtask fresh reused) x = IsPassedOver m x ⊎ IsTakenBy m id subtask fresh reused x
+ChangesRecords m call x = IsMoved m (disposed_by call x.1) (x.0).records
+
+-- what any call changes, whatever its answer
+pub record IsStep (m : State) (call : Call) (x : Stepped) : Type 0 where
+  pub opening : (x.0).opening ≡ m.opening
+  pub gives : Gives m x.0 (given_as x.1)
+  pub sound : IsCall call → IsSound m → IsSound x.0
+  pub records : IsSound m → ChangesRecords m call x
+  pub files : IsSound m → IsSettled m x.0 (registers m call x.1) (hands m call x.0) (deletes call x.1)
+
+-- what a call changes that is no acknowledgement and takes no file out of the outbox
+pub record IsPlain (m : State) (call : Call) (n : State) (given : List ℕ) : Type 0 where
+  pub opening : n.opening ≡ m.opening
+  pub gives : Gives m n given
+  pub sound : IsCall call → IsSound m → IsSound n
+  pub moves : IsSound m → IsMoved m (disposed_of call) n.records
+  pub spreads : IsSpread m.records m.waiting m.taken n []
+
+-- it registers and deletes nothing
+pub plain_step : {m : State} {call : Call} (x : Stepped) → IsPlain m call x.0 (given_as x.1) → (IsMoved m (disposed_of call) (x.0).records → ChangesRecords m call x) → registers m call x.1 ≡ [] → hands m call x.0 ≡ prelude.drop (length m.waiting) x.0.waiting → deletes call x.1 ≡ [] → IsStep m call x
+plain_step {m} {call} x p moved registered handed deleted =
+    let WithIn : List ℕ → Type 0 = λ xs. IsSettled m x.0 xs (prelude.drop (length m.waiting) x.0.waiting) [] in
+    let WithOut : List ℕ → Type 0 = λ xs. IsSettled m x.0 (registers m call x.1) xs [] in
+    let WithDeleted : List ℕ → Type 0 = λ xs. IsSettled m x.0 (registers m call x.1) (hands m call x.0) xs in
+    record {
+      opening = p.opening;
+      gives = p.gives;
+      sound = p.sound;
+      records = λ s. moved (p.moves s);
+      files = λ _. subst WithDeleted (sym deleted) (subst WithOut (sym handed) (subst WithIn (sym registered) (spread_settled p.spreads)));
+    }
+
+-- it may be taken from the state with the moment of the call
+pub plain_at : {m : State} {latest : ℕ} {call : Call} {n : State} {given : List ℕ} → (IsSound m → IsSound (record m { latest = latest })) → IsPlain (record m { latest = latest }) call n given → IsPlain m call n given
+plain_at {m} {latest} {call} {n} {given} later p = record {
+  opening = p.opening;
+  gives = p.gives;
+  sound = λ c s. p.sound c (later s);
+  moves = λ s. moves_at m latest (disposed_of call) n.records (p.moves (later s));
+  spreads = p.spreads;
+}
+
+-- nothing changes
+pub unchanged : (m : State) (call : Call) → IsPlain m call m []
+unchanged m call = record {
+  opening = refl;
+  gives = inl (refl, refl);
+  sound = λ _ s. s;
+  moves = λ _. unmoved m (disposed_of call);
+  spreads = unspread m;
+}
+
+-- a refused call changes no record
+refused_records : (m : State) (call : Call) (why : Refusal) → ChangesRecords m call (m, Refused why)
+refused_records m (Ack now id subtask fresh reused) why = inl (record { records = refl; not_taken = refl })
+refused_records m call why = unmoved m (disposed_by call (Refused why))
+
+-- nor anything else
+pub refusal_step : (m : State) (call : Call) (why : Refusal) → IsStep m call (m, Refused why)
+refusal_step m call why = plain_step (m, Refused why) (unchanged m call) (λ _. refused_records m call why) (refused_registers m call why) (refused_hands m call) (refused_deletes call why)
+
+-- the outbox alone changes
+pub outbox_step : (m : State) (call : Call) (waiting taken : List ℕ) (answer : Answer) → given_as answer ≡ [] → ChangesRecords m call (record m { waiting = waiting; taken = taken }, answer) → (IsSound m → IsSound (record m { waiting = waiting; taken = taken })) → (IsSound m → IsSettled m (record m { waiting = waiting; taken = taken }) (registers m call answer) (hands m call (record m { waiting = waiting; taken = taken })) (deletes call answer)) → IsStep m call (record m { waiting = waiting; taken = taken }, answer)
+outbox_step m call waiting taken answer none records sound files = record {
+  opening = refl;
+  gives = inl (none, refl);
+  sound = λ _. sound;
+  records = λ _. records;
+  files = files;
+}
+
+-- a drop
+
+-- what a call may set beside the records, the numbers and the outbox
+pub record Settings : Type 0 where
+  pub shape : List ℕ
+  pub mode : Mode
+  pub due : ℕ
+  pub completed : Option ℕ
+  pub failures : ℕ
+  pub base : Option ℕ
+
+abbrev pub settings : State → Settings
+settings m = record { shape = m.shape; mode = m.mode; due = m.due; completed = m.completed; failures = m.failures; base = m.base }
+
+abbrev pub set : State → Settings → State
+set m k = record m { shape = k.shape; mode = k.mode; due = k.due; completed = k.completed; failures = k.failures; base = k.base }
+
+-- the settings fit the records that are left
+pub record IsDropping (m : State) (call : Call) (k : Settings) (dropped : Record → Bool) : Type 0 where
+  pub shape : IsCall call → IsShape m.shape → IsShape k.shape
+  -- the one done savepoint that may be dropped is the one disposed of, and not the base
+  pub savepoints : IsSound m → (r : Record) → IsIn r m.records → r.done ≡ true → is_checkpoint r ≡ false → (dropped r ≡ false) ⊎ ((disposed_of call ≡ Some r.id) × (k.base ≡ Some r.id → ⊥))
+  pub base : IsSound m → (id : ℕ) → k.base ≡ Some id → list_any (is_savepoint id) m.records ≡ true
+  pub idle : k.mode ≢ Running → (m.mode ≢ Running) ⊎ ((r : Record) → is_pending r ≡ true → dropped r ≡ true)
+  pub failures : IsSound m → k.mode ≡ Running → k.failures ≤ m.opening.config.tolerable
+
+-- the base is not dropped
+base_left : {m : State} {call : Call} {k : Settings} {dropped : Record → Bool} → IsDropping m call k dropped → IsSound m → (id : ℕ) (r : Record) → k.base ≡ Some id → IsIn r m.records → is_savepoint id r ≡ true → dropped r ≡ false
+base_left {m} {call} {k} {dropped} d s id r e h t =
+    let whole = and_parts (r.done && not (is_checkpoint r)) (eqb r.id id) t in
+    let parts = and_parts r.done (not (is_checkpoint r)) whole.0 in
+    ⊎_elim
+    (λ (stays : dropped r ≡ false). stays)
+    (λ (gone : (disposed_of call ≡ Some r.id) × (k.base ≡ Some r.id → ⊥)). absurd (gone.1 (e ∙ ap Some (sym (eqb-true r.id id whole.1)))))
+    (d.savepoints s r h parts.0 (not-true (is_checkpoint r) parts.1))
+
+-- so the state after is sound
+dropped_is_sound : (m : State) (call : Call) (k : Settings) (dropped : Record → Bool) → IsDropping m call k dropped → IsCall call → IsSound m → IsSound (drop (set m k) dropped None)
+unfolding drop
+dropped_is_sound m call k dropped d c s =
+    sound_from (drop (set m k) dropped None) (record {
+      config = s.config;
+      shape = d.shape c s.shape;
+      latest = s.latest;
+      first = s.first;
+      next_from = s.next_from;
+      next_to = s.next_to;
+      base = λ id e. savepoint_stays (λ r. r) (λ r. not (dropped r)) id m.records (λ r h t. (not_from_false (dropped r) (base_left d s id r e h t), refl)) (d.base s id e);
+      idle = λ ne. ⊎_elim (λ (was : m.mode ≢ Running). idle_stays dropped s was) (λ (all : (r : Record) → is_pending r ≡ true → dropped r ≡ true). none_pending_left m.records dropped all) (d.idle ne);
+      failures = d.failures s;
+    }) (filtered_records (λ r. not (dropped r)) (records_of s)) (outbox_filtered (λ r. not (dropped r)) m.records m.waiting m.taken (outbox_of s))
+
+-- a drop gives no number
+pub dropped_is : (m : State) (call : Call) (k : Settings) (dropped : Record → Bool) → IsDropping m call k dropped → IsPlain m call (drop (set m k) dropped None) []
+unfolding drop
+dropped_is m call k dropped d = record {
+  opening = refl;
+  gives = inl (refl, refl);
+  sound = dropped_is_sound m call k dropped d;
+  moves = λ s. dropped_moves m dropped (disposed_of call) (λ r h done savepoint. ⊎_elim (λ (e : dropped r ≡ false). inl e) (λ (e : (disposed_of call ≡ Some r.id) × (k.base ≡ Some r.id → ⊥)). inr e.0) (d.savepoints s r h done savepoint));
+  spreads = drop_spreads (set m k) dropped;
+}
+
+-- a trigger, after a change that gave no number and left the choice
+pub triggered_is : (m k : State) (call : Call) (kind : Kind) (due : ℕ) → IsPlain m call k [] → k.next ≡ m.next → (IsSound m → pins_now k ≡ pins_now m) → (IsSound k → IsSound (record (triggered k kind) { due = due })) → IsPlain m call (record (triggered k kind) { due = due }) (k.next ∷ [])
+unfolding triggered
+triggered_is m k call kind due p next pins sound = record {
+  opening = p.opening;
+  gives = inr (ap (λ i. i ∷ []) next, ap (λ i. i + 1) next);
+  sound = λ c s. sound (p.sound c s);
+  moves = λ s. triggered_moves m k kind (disposed_of call) next (pins s) (p.moves s);
+  spreads = trigger_spreads k kind due m.records m.waiting m.taken p.spreads;
+}

@@ -1,0 +1,157 @@
+-- What a call does to the files: which it registers, hands out and deletes, and that none is lost.
+use Rattle.std.proofs.Common.{◌≡◌, ℕ, ◌+◌, ◌≤◌, true, false, not, eqb, List, [], ◌∷◌, ◌++◌, length, take, drop, refl, sym, ap, subst, ◌∙◌, ◌⊎◌, inl, inr, ⊎_elim, arith}
+use Rattle.std.specs.List.{filter}
+use Rattle.std.proofs.lemmas.Bool.{cases_Bool, eqb-true, not_from_false}
+use Rattle.std.proofs.lemmas.List.{length-drop, take-append-drop}
+use Rattle.ckpt_ids.specs.declared.call.Call.{Call}
+use Rattle.ckpt_ids.specs.declared.call.Call.TheVariants.{Ack, Deleted, Undeleted}
+use Rattle.ckpt_ids.specs.declared.reply.Refusal.{Refusal}
+use Rattle.ckpt_ids.specs.declared.reply.Answer.{Answer}
+use Rattle.ckpt_ids.specs.declared.reply.Answer.TheVariants.{Refused}
+use Rattle.ckpt_ids.specs.Counting.{one_if, times}
+use Rattle.ckpt_ids.specs.Ordered.{IsIn}
+use Rattle.ckpt_ids.specs.Records.{uses, is_present}
+use Rattle.ckpt_ids.proofs.OrderedLemmas.{IsIn-append_left, IsIn-append_right, IsIn-append_cases, IsIn-filter, IsIn-from_filter, IsIn-from_list_any}
+use Rattle.std.specs.List.{list_any}
+use Rattle.ckpt_model.specs.State.{State, is_known}
+use Rattle.ckpt_model.specs.Steps.{without}
+use Rattle.ckpt_model.specs.Soundness.{IsSound}
+use Rattle.ckpt_model.specs.Laws.{registered_as, deleted_as}
+use Rattle.ckpt_model.proofs.Records.Lists.{outbox_of}
+use Rattle.ckpt_model.proofs.Histories.Balances.{drop_front, drop_all}
+use Rattle.ckpt_model.proofs.Histories.Spreads.{IsSpread}
+
+-- what a call with this answer registers
+abbrev pub registers : State → Call → Answer → List ℕ
+registers m (Ack now id subtask fresh reused) answer = registered_as answer fresh (filter (λ f. not (is_known m f)) fresh)
+registers m call answer = []
+
+-- what it hands out, with this state after
+abbrev pub hands : State → Call → State → List ℕ
+hands m (Undeleted file) n = []
+hands m call n = drop (length m.waiting) n.waiting
+
+-- what it deletes
+abbrev pub deletes : Call → Answer → List ℕ
+deletes (Deleted file) answer = deleted_as answer
+deletes call answer = []
+
+-- from a state to the one after, file by file
+pub record IsSettled (m n : State) (registered handed deleted : List ℕ) : Type 0 where
+  -- what is registered or present is handed out or present after, as often
+  pub even : (f : ℕ) → times f registered + one_if (is_present (uses m.records) f) ≡ times f handed + one_if (is_present (uses n.records) f)
+  -- a file of the outbox stays there, or is deleted
+  pub stays : (f : ℕ) → IsIn f (m.waiting ++ m.taken) → IsIn f (n.waiting ++ n.taken) ⊎ IsIn f deleted
+  -- one that is there after was there before, or is handed out, and one that is deleted was there before
+  pub comes : (f : ℕ) → IsIn f (n.waiting ++ n.taken) → IsIn f (m.waiting ++ m.taken) ⊎ IsIn f handed
+  pub were : (f : ℕ) → IsIn f deleted → IsIn f (m.waiting ++ m.taken)
+  -- one that is handed out is there after, and one that is deleted is not present
+  pub out : (f : ℕ) → IsIn f handed → IsIn f (n.waiting ++ n.taken)
+  pub gone : (f : ℕ) → IsIn f deleted → is_present (uses n.records) f ≡ false
+
+-- of a call that puts files at the end of waiting alone
+pub spread_settled : {m n : State} {in_ : List ℕ} → IsSpread m.records m.waiting m.taken n in_ → IsSettled m n in_ (drop (length m.waiting) n.waiting) []
+spread_settled {m} {n} {in_} i =
+    let handed : drop (length m.waiting) n.waiting ≡ i.out = ap (drop (length m.waiting)) i.waits ∙ drop_front m.waiting i.out in
+    let InFront : List ℕ → Type 0 = λ xs. (f : ℕ) → IsIn f (m.waiting ++ i.out) ⊎ IsIn f m.taken → IsIn f (xs ++ n.taken) in
+    let Behind : ℕ → List ℕ → Type 0 = λ f xs. IsIn f ((m.waiting ++ i.out) ++ xs) in
+    let there : InFront n.waiting = subst InFront (sym i.waits) (λ f h. subst (Behind f) (sym i.fetched) (⊎_elim (λ k. IsIn-append_left f (m.waiting ++ i.out) m.taken k) (λ k. IsIn-append_right f (m.waiting ++ i.out) m.taken k) h)) in
+    let In : ℕ → List ℕ → Type 0 = λ f xs. IsIn f xs in
+    record {
+      even = λ f. (i.even).even f ∙ ap (λ xs. times f xs + one_if (is_present (uses n.records) f)) (sym handed);
+      stays = λ f h. inl (there f (⊎_elim (λ (k : IsIn f m.waiting). inl (IsIn-append_left f m.waiting i.out k)) (λ (k : IsIn f m.taken). inr k) (IsIn-append_cases f m.waiting m.taken h)));
+      comes = λ f h.
+          let Front : List ℕ → Type 0 = λ xs. IsIn f (xs ++ n.taken) in
+          ⊎_elim
+          (λ (k : IsIn f (m.waiting ++ i.out)). ⊎_elim (λ (j : IsIn f m.waiting). inl (IsIn-append_left f m.waiting m.taken j)) (λ (j : IsIn f i.out). inr (subst (In f) (sym handed) j)) (IsIn-append_cases f m.waiting i.out k))
+          (λ (k : IsIn f m.taken). inl (IsIn-append_right f m.waiting m.taken k))
+          (IsIn-append_cases f (m.waiting ++ i.out) m.taken (subst (Behind f) i.fetched (subst Front i.waits h)));
+      were = λ f h. absurd h;
+      out = λ f h. there f (inl (IsIn-append_right f m.waiting i.out (subst (In f) handed h)));
+      gone = λ f h. absurd h;
+    }
+
+-- of one that changes the outbox alone, and puts no file at the end of waiting
+inward_settled : (m : State) (waiting taken deleted : List ℕ) → length waiting ≤ length m.waiting → ((f : ℕ) → IsIn f (m.waiting ++ m.taken) → IsIn f (waiting ++ taken) ⊎ IsIn f deleted) → ((f : ℕ) → IsIn f (waiting ++ taken) ⊎ IsIn f deleted → IsIn f (m.waiting ++ m.taken)) → ((f : ℕ) → IsIn f deleted → is_present (uses m.records) f ≡ false) → IsSettled m (record m { waiting = waiting; taken = taken }) [] (drop (length m.waiting) waiting) deleted
+inward_settled m waiting taken deleted shorter stays before gone =
+    let none : drop (length m.waiting) waiting ≡ [] = drop_all (length m.waiting) waiting shorter in
+    let In : ℕ → List ℕ → Type 0 = λ f xs. IsIn f xs in
+    record {
+      even = λ f. ap (λ xs. times f xs + one_if (is_present (uses m.records) f)) (sym none);
+      stays = stays;
+      comes = λ f h. inl (before f (inl h));
+      were = λ f h. before f (inr h);
+      out = λ f h. absurd (subst (In f) none h);
+      gone = gone;
+    }
+
+-- of a Take
+pub take_settled : (m : State) (most : ℕ) → IsSettled m (record m { waiting = drop most m.waiting; taken = m.taken ++ take most m.waiting }) [] (drop (length m.waiting) (drop most m.waiting)) []
+take_settled m most =
+    let front : List ℕ = take most m.waiting in
+    let rest : List ℕ = drop most m.waiting in
+    let In : ℕ → List ℕ → Type 0 = λ f xs. IsIn f xs in
+    inward_settled m rest (m.taken ++ front) [] (omega (arith, length-drop most m.waiting)) (λ f h. inl (⊎_elim
+    (λ (k : IsIn f m.waiting). ⊎_elim (λ (i : IsIn f front). IsIn-append_right f rest (m.taken ++ front) (IsIn-append_right f m.taken front i)) (λ (i : IsIn f rest). IsIn-append_left f rest (m.taken ++ front) i) (IsIn-append_cases f front rest (subst (In f) (sym (take-append-drop most m.waiting)) k)))
+    (λ (k : IsIn f m.taken). IsIn-append_right f rest (m.taken ++ front) (IsIn-append_left f m.taken front k))
+    (IsIn-append_cases f m.waiting m.taken h)))
+    (λ f h.
+    let waited : IsIn f (front ++ rest) → IsIn f (m.waiting ++ m.taken) = λ (k : IsIn f (front ++ rest)). IsIn-append_left f m.waiting m.taken (subst (In f) (take-append-drop most m.waiting) k) in
+    ⊎_elim
+    (λ (k : IsIn f (rest ++ (m.taken ++ front))). ⊎_elim (λ (i : IsIn f rest). waited (IsIn-append_right f front rest i)) (λ (i : IsIn f (m.taken ++ front)). ⊎_elim (λ (j : IsIn f m.taken). IsIn-append_right f m.waiting m.taken j) (λ (j : IsIn f front). waited (IsIn-append_left f front rest j)) (IsIn-append_cases f m.taken front i)) (IsIn-append_cases f rest (m.taken ++ front) k))
+    (λ (k : ⊥). absurd k)
+    h)
+    (λ f h. absurd h)
+
+-- a taken file is the one reported, or stays
+reported_or_taken : (f file : ℕ) (taken : List ℕ) → IsIn f taken → (f ≡ file) ⊎ IsIn f (without file taken)
+reported_or_taken f file taken h =
+    ⊎_elim (λ (e : eqb f file ≡ true). inl (eqb-true f file e)) (λ (e : eqb f file ≡ false). inr (IsIn-filter (λ g. not (eqb g file)) f taken h (not_from_false (eqb f file) e))) (cases_Bool (eqb f file))
+
+-- of an accepted Deleted
+pub deleted_settled : (m : State) (file : ℕ) → IsSound m → list_any (λ f. eqb f file) m.taken ≡ true → IsSettled m (record m { taken = without file m.taken }) [] (drop (length m.waiting) m.waiting) (file ∷ [])
+deleted_settled m file s there =
+    let q = IsIn-from_list_any (λ g. eqb g file) m.taken there in
+    let InTaken : ℕ → Type 0 = λ g. IsIn g m.taken in
+    let was_taken : (f : ℕ) → IsIn f (file ∷ []) → IsIn f m.taken = λ f h. subst InTaken (eqb-true q.0 file q.2 ∙ sym (⊎_elim (λ (e : f ≡ file). e) (λ (n : ⊥). absurd n) h)) q.1 in
+    inward_settled m m.waiting (without file m.taken) (file ∷ []) (omega arith)
+    (λ f h. ⊎_elim (λ (k : IsIn f m.waiting). inl (IsIn-append_left f m.waiting (without file m.taken) k)) (λ (k : IsIn f m.taken). ⊎_elim (λ (e : f ≡ file). inr (inl e)) (λ (i : IsIn f (without file m.taken)). inl (IsIn-append_right f m.waiting (without file m.taken) i)) (reported_or_taken f file m.taken k)) (IsIn-append_cases f m.waiting m.taken h))
+    (λ f h.
+    ⊎_elim
+    (λ (k : IsIn f (m.waiting ++ without file m.taken)). ⊎_elim (λ (i : IsIn f m.waiting). IsIn-append_left f m.waiting m.taken i) (λ (i : IsIn f (without file m.taken)). IsIn-append_right f m.waiting m.taken (IsIn-from_filter (λ g. not (eqb g file)) f m.taken i).0) (IsIn-append_cases f m.waiting (without file m.taken) k))
+    (λ (k : IsIn f (file ∷ [])). IsIn-append_right f m.waiting m.taken (was_taken f k))
+    h)
+    (λ f h. (outbox_of s).unused f (IsIn-append_right f m.waiting m.taken (was_taken f h)))
+
+-- of an Undeleted
+pub undeleted_settled : (m : State) (file : ℕ) → list_any (λ f. eqb f file) m.taken ≡ true → IsSettled m (record m { taken = without file m.taken; waiting = m.waiting ++ file ∷ [] }) [] [] []
+undeleted_settled m file there =
+    let q = IsIn-from_list_any (λ g. eqb g file) m.taken there in
+    let InTaken : ℕ → Type 0 = λ g. IsIn g m.taken in
+    let front : List ℕ = m.waiting ++ file ∷ [] in
+    let left : List ℕ = without file m.taken in
+    record {
+      even = λ f. refl;
+      stays = λ f h. inl (⊎_elim (λ (k : IsIn f m.waiting). IsIn-append_left f front left (IsIn-append_left f m.waiting (file ∷ []) k)) (λ (k : IsIn f m.taken). ⊎_elim (λ (e : f ≡ file). IsIn-append_left f front left (IsIn-append_right f m.waiting (file ∷ []) (inl e))) (λ (i : IsIn f left). IsIn-append_right f front left i) (reported_or_taken f file m.taken k)) (IsIn-append_cases f m.waiting m.taken h));
+      comes = λ f h.
+          ⊎_elim
+          (λ (k : IsIn f (m.waiting ++ file ∷ [])). ⊎_elim (λ (i : IsIn f m.waiting). inl (IsIn-append_left f m.waiting m.taken i)) (⊎_elim (λ (e : f ≡ file). inl (IsIn-append_right f m.waiting m.taken (subst InTaken (eqb-true q.0 file q.2 ∙ sym e) q.1))) (λ (n : ⊥). absurd n)) (IsIn-append_cases f m.waiting (file ∷ []) k))
+          (λ (k : IsIn f left). inl (IsIn-append_right f m.waiting m.taken (IsIn-from_filter (λ g. not (eqb g file)) f m.taken k).0))
+          (IsIn-append_cases f front left h);
+      were = λ f h. absurd h;
+      out = λ f h. absurd h;
+      gone = λ f h. absurd h;
+    }
+
+-- a refused call registers, hands out and deletes nothing
+pub refused_registers : (m : State) (call : Call) (why : Refusal) → registers m call (Refused why) ≡ []
+refused_registers m (Ack now id subtask fresh reused) why = refl
+refused_registers m call why = refl
+
+pub refused_hands : (m : State) (call : Call) → hands m call m ≡ drop (length m.waiting) m.waiting
+refused_hands m (Undeleted file) = sym (drop_all (length m.waiting) m.waiting (omega arith))
+refused_hands m call = refl
+
+pub refused_deletes : (call : Call) (why : Refusal) → deletes call (Refused why) ≡ []
+refused_deletes (Deleted file) why = refl
+refused_deletes call why = refl

@@ -1,0 +1,103 @@
+//! The laws of the coordinator, each on a function that does nothing.
+
+ghost use Rattle.std.specs.Prelude.{ℕ, List, ◌++◌};
+ghost use Rattle.ckpt_ids.specs.declared.call.Call.{Call};
+ghost use Rattle.ckpt_ids.specs.Records.{Record};
+ghost use Rattle.ckpt_model.specs.State.{State, Opening, opened};
+ghost use Rattle.ckpt_model.specs.Histories.{replay};
+ghost use Rattle.ckpt_model.specs.Soundness.{IsSound};
+ghost use Rattle.ckpt_model.specs.Laws.{Exchange, Part, CanOpen, AreCalls, Balance, Handed, Accounted, UsedNoMore, Outbox, Acknowledgements, Numbers, Savepoints, ChoiceIsLive, PinsStay};
+ghost use Rattle.ckpt_model.specs.Images.{AreAlike, CanHold, GoesOnAs, IsCut, settled};
+ghost use Rattle.ckpt_model.specs.Interleavings.{NewFile, SeatedCalls, AnyOrder};
+
+/// Two acknowledgements of different subtasks of one record, one right after the other, go in
+/// either order, with the same answers in turn and the same state after.
+pub fn swap()
+    ensures { (m : State) (now id : ℕ) (p q : Part) → IsSound m → Exchange m now id p q }
+{}
+
+/// Several seats acknowledge different missing subtasks of one record, each with one new file of
+/// its own. Every order of their turns leaves the same state and the same numbers of accepted and
+/// refused calls. If one completes the record, its answer is the same too.
+pub fn any_order()
+    ensures { (m : State) (now id : ℕ) (r : Record) (news : List NewFile) (given made : SeatedCalls) → IsSound m → AnyOrder m now id r news given made }
+{}
+
+/// Each time that a file is registered it is handed out once, or is present still.
+pub fn balance()
+    ensures { (o : Opening) (calls : List Call) → CanOpen o → AreCalls calls → Balance o calls }
+{}
+
+/// If no deleted file is reported as new again, a file was handed out exactly when it was
+/// registered and no live record uses it.
+pub fn handed()
+    ensures { (o : Opening) (calls : List Call) → CanOpen o → AreCalls calls → Handed o calls }
+{}
+
+/// A registered file that no live record uses waits for deletion, or was fetched for it, or was
+/// deleted.
+pub fn accounted()
+    ensures { (o : Opening) (calls : List Call) → CanOpen o → AreCalls calls → Accounted o calls }
+{}
+
+/// A live record's acknowledgements are exactly the accepted ones of its number; a done record has
+/// one of each subtask.
+pub fn acknowledgements()
+    ensures { (o : Opening) (calls : List Call) → CanOpen o → AreCalls calls → Acknowledgements o calls }
+{}
+
+/// Numbers are given from the first on, each the one after the one before.
+pub fn numbers()
+    ensures { (o : Opening) (calls : List Call) → Numbers o calls }
+{}
+
+/// A done savepoint stays, unchanged, until an accepted Dispose of its number.
+pub fn savepoints()
+    ensures { (o : Opening) (before calls : List Call) → CanOpen o → AreCalls before → AreCalls calls → Savepoints o before calls }
+{}
+
+/// The record that the choice names is live and done, and its files are present.
+pub fn choice()
+    ensures { (o : Opening) (calls : List Call) → CanOpen o → AreCalls calls → ChoiceIsLive o calls }
+{}
+
+/// An acknowledgement for a pending record that reuses only files of the choice at that record's
+/// trigger is never refused FileGone.
+pub fn pinned()
+    ensures { PinsStay }
+{}
+
+/// What always holds for a coordinator holds after every list of calls.
+pub fn sound()
+    ensures { (o : Opening) (calls : List Call) → CanOpen o → AreCalls calls → IsSound (replay (opened o) calls) }
+{}
+
+/// No live record uses a file that was handed out, neither then nor later, if no deleted file is
+/// reported as new again.
+pub fn used_no_more()
+    ensures { (o : Opening) (before calls : List Call) → CanOpen o → AreCalls (before ++ calls) → UsedNoMore o before calls }
+{}
+
+/// Each file is in at most one of present, waiting and taken, and there once.
+pub fn outbox()
+    ensures { (o : Opening) (calls : List Call) → CanOpen o → AreCalls calls → Outbox o calls }
+{}
+
+/// A state that an image may have, with the fetched files in ascending order, is one too, and
+/// differs in that order alone.
+pub fn settling()
+    ensures held { (m : State) → CanHold m → CanHold (settled m) }
+    ensures alike { (m : State) → AreAlike m (settled m) }
+{}
+
+/// Two states that differ in the order of the fetched files alone answer every list of calls the
+/// same, and stay so.
+pub fn resumes()
+    ensures { (m n : State) (calls : List Call) → AreAlike m n → GoesOnAs m n calls }
+{}
+
+/// A log may be cut at each place. A coordinator that is made from the image there answers the
+/// calls after it as the first one does, and is alike after them.
+pub fn cutting()
+    ensures { (m : State) (before after : List Call) → IsCut m before after }
+{}
