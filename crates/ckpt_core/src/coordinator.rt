@@ -20,9 +20,9 @@ use std::marker::Model;
 /// It triggers checkpoints and savepoints, collects the acknowledgements of a job's subtasks, keeps
 /// the completed records, and hands out the files that no record uses any more.
 ///
-/// `specs/Steps.antt` defines what each call does, and `specs/Refusals.antt` when it is refused.
-/// `specs/Soundness.antt` lists what always holds for a coordinator. Source: the Flink
-/// documentation, "Checkpoints", "Savepoints" and "Checkpointing".
+/// Of `ckpt_model`, `specs/Steps.antt` defines what each call does, and `specs/Refusals.antt` when
+/// it is refused. `specs/Soundness.antt` lists what always holds for a coordinator. Source: the
+/// Flink documentation, "Checkpoints", "Savepoints" and "Checkpointing".
 #[derive(Debug)]
 pub struct Core {
     pub(crate) parts: Parts,
@@ -92,7 +92,7 @@ impl Core {
 
     /// Makes a call, and returns its reply. Moments are in milliseconds.
     ///
-    /// Returns [`CoreFault::Refused`] exactly if the table of `specs/Refusals.antt` has a row for
+    /// Returns [`CoreFault::Refused`] exactly if the table of refusals of `ckpt_model` has a row for
     /// the call, with the first such row. Otherwise returns [`CoreFault::Memory`] only if memory
     /// runs out. After an error nothing has changed, and the moment of the call is not kept.
     ///

@@ -23,7 +23,7 @@ pub(crate) struct Opened {
     ghost first_to: { first < NUMBERS_END },
 }
 
-/// The parts of a coordinator, which `specs/Parts.antt` sees as its state.
+/// The parts of a coordinator, which `specs/Inside/Parts.antt` sees as its state.
 #[derive(Debug, Drop)]
 pub(crate) struct Parts {
     pub(crate) alloc: Global,

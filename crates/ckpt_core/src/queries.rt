@@ -4,7 +4,7 @@ ghost use Rattle.std.specs.Prelude.{◌≡◌, length, find, nat_le, option_map,
 ghost use Rattle.ckpt_ids.specs.Records.{missing, uses};
 ghost use Rattle.ckpt_model.specs.Coordinator.{IsSound, choice_of, pending_of};
 ghost use Rattle.ckpt_core.specs.Inside.Parts.{AreSound, records_in, state_of};
-ghost use Rattle.ckpt_model.specs.Reads.{present_in, IsNextExpiry, NoneIsEarlyFrom, NoneTriggersBefore, live_of, next_due, sooner};
+ghost use Rattle.ckpt_model.specs.Reads.{IsNextExpiry, NoneIsEarlyFrom, NoneTriggersBefore, live_of, next_due, present_in, sooner};
 ghost use Rattle.ckpt_core.specs.Inside.RecordFacts.{IsInOrder, IsStored, id_before};
 ghost use Rattle.ckpt_model.specs.State.{is_known};
 
