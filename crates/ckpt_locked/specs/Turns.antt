@@ -120,6 +120,8 @@ pub record Orderly (base : Base) (s : State (Option History) View) : Type 0 wher
 abbrev pub Sat : Type 0
 Sat = Me (Option History) View
 
+-- What a step of the table does to the seat that makes it: of the step, what the seat knew and held, the number found or stored, and what
+-- the seat knows and holds then.
 abbrev pub Play : Type 1
 Play = Step (Option History) → Sat → ℕ → Sat → Type 0
 
@@ -157,7 +159,7 @@ committed st m r n =
 abbrev pub passed : Play
 passed st m r n = n ≡ (idle m.0.mine, [])
 
--- one perch changed, and nothing else
+-- one perch changed, and the seat knows what it knew
 abbrev pub stirred : Play
 stirred st m r n = n ≡ m
 

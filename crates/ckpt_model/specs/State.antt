@@ -105,6 +105,7 @@ is_done_checkpoint r = r.done && is_checkpoint r
 abbrev pub is_surplus : State → Record → Bool
 is_surplus m r = is_done_checkpoint r && nat_le m.opening.config.retained (count_by (λ s. is_done_checkpoint s && nat_lt r.id s.id) m.records)
 
+-- the number of the newest done checkpoint, if there is one: records are in rising number
 abbrev pub last_checkpoint : List Record → Option ℕ
 last_checkpoint [] = None
 last_checkpoint (r ∷ rs) = elim (last_checkpoint rs) [ Some id ↦ Some id | None ↦ if is_done_checkpoint r then Some r.id else None ]

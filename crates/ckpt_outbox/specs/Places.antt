@@ -12,7 +12,7 @@ ticket front place = (front + place) % 2 ^ 64
 abbrev pub IsTicketed : (ℕ → Option ℕ) → ℕ → List ℕ → Type 0
 IsTicketed tickets front waiting = (place : ℕ) → place < length waiting → tickets (get_or waiting place 0) ≡ Some (ticket front place)
 
--- whether the file has a ticket and does not wait
+-- whether the file was taken: it has a ticket and does not wait
 abbrev pub is_apart : (ℕ → Option ℕ) → List ℕ → ℕ → Bool
 is_apart tickets waiting file = if is_in file waiting then false else is_some (tickets file)
 
