@@ -68,16 +68,3 @@ make_fenced m term call core its after left c e is is_after is_left i =
     let At : ℕ → Type 0 = λ t. IsFenced (layer core t m.next_name (after_call m call (core, its)).unspent) in
     let Of : List ℕ → Type 0 = λ xs. IsFenced (layer core after m.next_name xs) in
     subst Of (sym is_left) (subst At (sym is_after) (subst Then is (make_keeps m term call c e i)))
-
--- an opening with no fault
-pub record InBounds (now first : ℕ) : Type 0 where
-  pub start : now < 2 ^ 62
-  pub first_from : 1 ≤ first
-  pub first_to : first < 2 ^ 62
-
-pub in_bounds : (now first : ℕ) → open_fault now first ≡ None → InBounds now first
-in_bounds now first e = record {
-  start = grind (arith, nat_tests);
-  first_from = grind (arith, nat_tests);
-  first_to = grind (arith, nat_tests);
-}

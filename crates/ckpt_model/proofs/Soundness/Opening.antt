@@ -1,7 +1,10 @@
--- A coordinator that is opened is sound.
-use Rattle.std.proofs.Common.{◌<◌, ◌≤◌, ◌^◌, [], refl, arith}
+-- A coordinator that is opened is sound, and its opening is within the bounds of what can be opened.
+use Rattle.std.proofs.Common.{◌≡◌, ℕ, ◌<◌, ◌≤◌, ◌^◌, [], refl, arith}
+use Rattle.std.specs.Prelude.{None}
+use Rattle.std.proofs.lemmas.Bool.Decides.{nat_tests}
 use Rattle.ckpt_ids.specs.Configuration.{IsWithinLimits}
 use Rattle.ckpt_ids.specs.Shapes.{IsShape}
+use Rattle.ckpt_model.specs.Opening.{open_fault}
 use Rattle.ckpt_model.specs.State.{Opening, opened}
 use Rattle.ckpt_model.specs.Soundness.{IsSound}
 use Rattle.ckpt_model.proofs.Records.Lists.{IsSoundHead, AreSoundRecords, IsSoundOutbox, sound_from}
@@ -36,3 +39,16 @@ opened_is_sound o config shape start first within =
       apart = tt;
     } in
     sound_from (opened o) head records outbox
+
+-- an opening with no fault
+pub record InBounds (now first : ℕ) : Type 0 where
+  pub start : now < 2 ^ 62
+  pub first_from : 1 ≤ first
+  pub first_to : first < 2 ^ 62
+
+pub in_bounds : (now first : ℕ) → open_fault now first ≡ None → InBounds now first
+in_bounds now first e = record {
+  start = grind (arith, nat_tests);
+  first_from = grind (arith, nat_tests);
+  first_to = grind (arith, nat_tests);
+}

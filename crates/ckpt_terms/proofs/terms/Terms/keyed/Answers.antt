@@ -4,7 +4,8 @@ use Rattle.ckpt_model.specs.Laws.{CanOpen}
 use Rattle.ckpt_model.specs.State.{State, Opening, opened}
 use Rattle.ckpt_terms.specs.FencedLaws.{CanFence, IsFenced}
 use Rattle.ckpt_terms.proofs.Fences.{opening_fenced}
-use Rattle.ckpt_terms.proofs.TermLemmas.{layer, InBounds, in_bounds}
+use Rattle.ckpt_model.proofs.Soundness.Opening.{InBounds, in_bounds}
+use Rattle.ckpt_terms.proofs.TermLemmas.{layer}
 use Rattle.ckpt_terms.proofs.terms.Terms.keyed.Goals as goal
 
 pub invariant_of-result : goal.invariant_of-result
