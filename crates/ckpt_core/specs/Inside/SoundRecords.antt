@@ -1,5 +1,6 @@
 -- The tests of one record more for sound records.
-use Rattle.std.specs.Prelude.{◌≡◌, ℕ, ◌<◌, ◌≤◌, ◌^◌, Bool, true, not, ◌&&◌, List, [], ◌∷◌, ◌++◌, count_by}
+use Rattle.std.specs.Prelude.{◌≡◌, ℕ, ◌<◌, ◌≤◌, Bool, true, not, ◌&&◌, List, [], ◌∷◌, ◌++◌, count_by}
+use Rattle.ckpt_ids.specs.declared.limits.TheConstants.{MOMENTS_END, MOST_SAVEPOINTS}
 use Rattle.ckpt_ids.specs.declared.ack.Acked.{Acked}
 use Rattle.ckpt_ids.specs.Ascending.{IsAscendingSet}
 use Rattle.ckpt_ids.specs.Ordered.{IsIn, IsInOrder}
@@ -15,10 +16,10 @@ pub record Joins (o : Opening) (next : ℕ) (rs : List Record) (r : Record) : Ty
   pub from_first : o.first ≤ r.id
   pub below_next : r.id < next
   pub is_record : IsRecord r
-  pub started : r.started < 2 ^ 62
+  pub started : r.started < MOMENTS_END
   pub retained : is_done_checkpoint r ≡ true → count_by is_done_checkpoint rs < o.config.retained
   pub at_once : is_pending_checkpoint r ≡ true → count_by is_pending_checkpoint rs < limit o.config
-  pub savepoints : not (is_checkpoint r) ≡ true → count_by (λ s. not (is_checkpoint s)) rs < 1000
+  pub savepoints : not (is_checkpoint r) ≡ true → count_by (λ s. not (is_checkpoint s)) rs < MOST_SAVEPOINTS
   pub newer : is_done_checkpoint r ≡ true → count_by is_pending_checkpoint rs ≡ 0
 
 -- sound records stay sound with one that joins them
@@ -41,7 +42,7 @@ FrontIsSound = (o : Opening) (next : ℕ) (xs ys : List Record) → AreSoundReco
 pub record HasRoom (o : Opening) (rs : List Record) (r : Record) : Type 0 where
   pub retained : is_done_checkpoint r ≡ true → count_by is_done_checkpoint rs < o.config.retained
   pub at_once : is_pending_checkpoint r ≡ true → count_by is_pending_checkpoint rs < limit o.config
-  pub savepoints : not (is_checkpoint r) ≡ true → count_by (λ s. not (is_checkpoint s)) rs < 1000
+  pub savepoints : not (is_checkpoint r) ≡ true → count_by (λ s. not (is_checkpoint s)) rs < MOST_SAVEPOINTS
   pub newer : is_done_checkpoint r ≡ true → count_by is_pending_checkpoint rs ≡ 0
 
 -- what is tested of its files
