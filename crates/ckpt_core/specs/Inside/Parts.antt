@@ -1,15 +1,14 @@
 -- The parts of a coordinator, seen as its state, and what ties them to one another.
-use Rattle.std.specs.Prelude.{◌≡◌, ℕ, ◌≤◌, Bool, true, false, ◌||◌, ◌==◌, List, [], ◌++◌, map, length, unwrap_or, None, not, ◌∷◌, find, Option, Some, is_none, if◌then◌else◌, slice_get}
+use Rattle.std.specs.Prelude.{◌≡◌, ℕ, ◌≤◌, Bool, true, false, ◌||◌, ◌==◌, List, [], ◌++◌, length, unwrap_or, None, not, ◌∷◌, find, Option, Some, is_none, if◌then◌else◌, slice_get}
 use Rattle.std.specs.List.{list_any}
 use Rattle.std.specs.Vec.{vec_capacity}
-use Rattle.ckpt_ids.specs.Ascending.{ascending_set}
 use Rattle.ckpt_ids.specs.declared.call.Call.{Call}
 use Rattle.ckpt_ids.specs.declared.call.Call.TheVariants.{Tick, Savepoint, Ack, Decline, Dispose, Restore, Take, Deleted, Undeleted, Show}
 use Rattle.ckpt_ids.specs.declared.reply.Reply.{Reply}
 use Rattle.ckpt_ids.specs.declared.reply.Answer.TheVariants.{Done}
 use Rattle.ckpt_ids.specs.Ordered.{IsIn}
 use Rattle.ckpt_ids.specs.Places.{LiesAt}
-use Rattle.ckpt_ids.specs.Records.{Record, Use, uses, is_present}
+use Rattle.ckpt_ids.specs.Records.{Record, uses, is_present}
 use Rattle.ckpt_outbox.specs.Queues.{is_known}
 use Rattle.ckpt_store.specs.Storing.{id_of}
 use Rattle.ckpt_core.specs.declared.parts.Opened.{Opened}

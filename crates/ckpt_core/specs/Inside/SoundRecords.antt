@@ -1,12 +1,12 @@
 -- The tests of one record more for sound records.
-use Rattle.std.specs.Prelude.{◌≡◌, ℕ, ◌<◌, ◌≤◌, Bool, true, not, ◌&&◌, List, [], ◌∷◌, ◌++◌, count_by}
+use Rattle.std.specs.Prelude.{◌≡◌, ℕ, ◌<◌, ◌≤◌, true, not, List, [], ◌∷◌, ◌++◌, count_by}
 use Rattle.ckpt_ids.specs.declared.limits.TheConstants.{MOMENTS_END, MOST_SAVEPOINTS}
 use Rattle.ckpt_ids.specs.declared.ack.Acked.{Acked}
 use Rattle.ckpt_ids.specs.Ascending.{IsAscendingSet}
-use Rattle.ckpt_ids.specs.Ordered.{IsIn, IsInOrder}
+use Rattle.ckpt_ids.specs.Ordered.{IsIn}
 use Rattle.ckpt_ids.specs.Records.{Record}
 use Rattle.ckpt_rules.specs.Trigger.{limit}
-use Rattle.ckpt_model.specs.State.{Opening, is_checkpoint, is_pending, is_done_checkpoint}
+use Rattle.ckpt_model.specs.State.{Opening, is_checkpoint, is_done_checkpoint}
 use Rattle.ckpt_model.specs.Soundness.{IsRecord}
 use Rattle.ckpt_model.specs.SoundRecords.{AreSoundRecords, is_pending_checkpoint}
 
