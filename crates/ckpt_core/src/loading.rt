@@ -11,9 +11,8 @@ ghost use Rattle.ckpt_model.specs.Images.{record_in};
 ghost use Rattle.ckpt_core.specs.Inside.Loading.{AreOfShape, HaveSoundRecords, IsMade, JoinsParts, MayJoinParts, uses_held};
 ghost use Rattle.ckpt_core.specs.Inside.Moving.{with_done, with_pending};
 ghost use Rattle.ckpt_core.specs.Inside.Parts.{AreTied, opening_of, records_in, state_of};
-ghost use Rattle.ckpt_model.specs.Soundness.{IsRecord};
+ghost use Rattle.ckpt_model.specs.Soundness.{IsRecord, AreSoundRecords};
 ghost use Rattle.ckpt_core.specs.Inside.SoundRecords.{FrontIsSound, HasRoom, JoinedAreSound, LastJoins, NamesEachOnce};
-ghost use Rattle.ckpt_model.specs.SoundRecords.{AreSoundRecords};
 
 use crate::image::ImageFault;
 use crate::parts::Parts;

@@ -46,7 +46,7 @@ exactly_one h sound law r there done =
     let once : (s : SubtaskId) → times_of s accepted ≡ one_if (is_subtask r.shape s) = λ s.
     sym (count_by-in_order (λ (a : Acked). same_subtask s a.subtask) acknowledges_before accepted)
     ∙ ap (times_of s) (sym acks_are)
-    ∙ times_of-in_order s r.acks ((sound.each r there).acks_in_order)
+    ∙ times_of-in_order s r.acks ((sound.records.each r there).acks_in_order)
     ∙ ap (λ ss. one_if (list_any (same_subtask s) ss)) ((law r there).1 done) in
     let In : Acked → List Acked → Type 0 = λ a acks. IsIn a acks in
     (once, λ a k. subst (In a) (sym acks_are) (IsIn-in_order acknowledges_before a accepted k))

@@ -9,7 +9,6 @@ pub mod Memory
 pub mod Opening
 pub mod Reads
 pub mod Refusals
-pub mod SoundRecords
 pub mod Soundness
 pub mod State
 pub mod Steps

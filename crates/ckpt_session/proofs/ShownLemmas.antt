@@ -27,7 +27,7 @@ its_record m id r sound e =
     let narrow : Record → Bool = λ x. is_pending x && eqb x.id id in
     let there : IsIn r m.records × (narrow r ≡ true) = IsIn-from_find narrow r m.records e in
     let parts : (is_pending r ≡ true) × (eqb r.id id ≡ true) = and_parts (is_pending r) (eqb r.id id) there.1 in
-    (ap (record_of m) (sym (eqb-true r.id id parts.1)) ∙ found m r sound.in_order there.0, not-true r.done parts.0)
+    (ap (record_of m) (sym (eqb-true r.id id parts.1)) ∙ found m r sound.records.in_order there.0, not-true r.done parts.0)
 
 none_pending : (m : State) (id : ℕ) → IsSound m → ((r : Record) → record_of m id ≡ Some r → r.done ≡ true) → pending_of m.records id ≡ None
 none_pending m id sound done = by_pending (pending_of m.records id) refl

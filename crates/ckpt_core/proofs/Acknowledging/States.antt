@@ -129,7 +129,7 @@ acked_replaced id s files r rs order found =
 
 pub registry_in_order : (p : Parts) → AreSound p → IsInOrder use_before p.registry
 unfolding state_of
-registry_in_order p sound = let P : List Use → Type 0 = λ us. IsInOrder use_before us in subst P (sym sound.tied.uses_are) (uses-in_order (records_in p) sound.sound.in_order sound.sound.each)
+registry_in_order p sound = let P : List Use → Type 0 = λ us. IsInOrder use_before us in subst P (sym sound.tied.uses_are) (uses-in_order (records_in p) sound.sound.records.in_order sound.sound.records.each)
 
 -- the records after it
 pub taken_records : {p : Parts} {now id : ℕ} {s : SubtaskId} {fresh reused : List ℕ} {r : Record} → IsTaking p now id s fresh reused r → records_in (taken_in p now id s fresh reused) ≡ replaced (records_in p) (with_ack (with_pins p.registry r) s fresh reused)
@@ -153,14 +153,14 @@ taken_uses {p} {now} {id} {s} {fresh} {reused} {r} t =
     let a : Record = with_ack q s fresh reused in
     let k : IsAcking (state_of p) q s fresh reused = taking t in
     let is : IsAcknowledged a = with_ack_is t.sound.sound k in
-    let own : IsInOrder use_before (uses_of a) = record_uses_in_order a is.acks_in_order is.files (t.sound.sound.each q k.there).pins in
+    let own : IsInOrder use_before (uses_of a) = record_uses_in_order a is.acks_in_order is.files (t.sound.sound.records.each q k.there).pins in
     let each : (x : Record) → IsIn x (replaced rs a) → IsInOrder use_before (uses_of x) = λ x h.
     let P : Record → Type 0 = λ w. IsInOrder use_before (uses_of w) in
-    ⊎_elim (λ (e : x ≡ a). subst P (sym e) own) (λ (o : IsIn x rs × (x.id ≡ a.id → ⊥)). record_in_order x (t.sound.sound.each x o.0)) (replaced_members rs a x h) in
+    ⊎_elim (λ (e : x ≡ a). subst P (sym e) own) (λ (o : IsIn x rs × (x.id ≡ a.id → ⊥)). record_in_order x (t.sound.sound.records.each x o.0)) (replaced_members rs a x h) in
     ap (λ us. in_order_once use_before (us ++ triples id (Subtask s) (fresh ++ reused))) t.sound.tied.uses_are
     ∙ ap (λ i. in_order_once use_before (uses rs ++ triples i (Subtask s) (fresh ++ reused))) (sym (its_number t))
-    ∙ ack_uses rs q s (fresh ++ reused) (ascending (fresh ++ reused)) k.there (λ x h e. same_record x q rs t.sound.sound.in_order h k.there e)
-    (λ f h. IsIn-in_order ltb f (fresh ++ reused) h) (λ f h. IsIn-from_in_order ltb f (fresh ++ reused) h) (all_uses_in_order (replaced rs a) (replaced_in_order rs a t.sound.sound.in_order) each)
+    ∙ ack_uses rs q s (fresh ++ reused) (ascending (fresh ++ reused)) k.there (λ x h e. same_record x q rs t.sound.sound.records.in_order h k.there e)
+    (λ f h. IsIn-in_order ltb f (fresh ++ reused) h) (λ f h. IsIn-from_in_order ltb f (fresh ++ reused) h) (all_uses_in_order (replaced rs a) (replaced_in_order rs a t.sound.sound.records.in_order) each)
 
 taken_kept : (us added : List Use) (u : Use) → IsIn u us → IsIn u (in_order_once use_before (us ++ added))
 taken_kept us added u h = IsIn-in_order_once uses_in_order u (us ++ added) (IsIn-append_left u us added h)
@@ -271,4 +271,4 @@ it_lacks p id r sound e pending =
     let there = (IsIn-from_find (has_number id) r p.pending e).0 in
     let q : Record = with_pins p.registry r in
     let all : List Record = grouped p.registry p.pending p.store.checkpoints p.store.savepoints in
-    (sound.each q (IsIn-in_order id_before q all (IsIn-append_left q (map (with_pins p.registry) p.pending) (p.store.checkpoints ++ p.store.savepoints) (IsIn-map (with_pins p.registry) r p.pending there)))).pending (pending r there).not_done
+    (sound.records.each q (IsIn-in_order id_before q all (IsIn-append_left q (map (with_pins p.registry) p.pending) (p.store.checkpoints ++ p.store.savepoints) (IsIn-map (with_pins p.registry) r p.pending there)))).pending (pending r there).not_done

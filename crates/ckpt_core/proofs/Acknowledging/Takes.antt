@@ -73,7 +73,7 @@ pub record CanTake (p : Parts) (now id : ℕ) (subtask : SubtaskId) (fresh reuse
 count_limit : (p : Parts) (f : ℕ) → AreSound p → count p.registry f < 2 ^ 32 - 1
 unfolding state_of
 count_limit p f sound =
-    let bound : count (uses (records_in p)) f ≤ 4097 * length (records_in p) = count-records f (records_in p) sound.sound.each in
+    let bound : count (uses (records_in p)) f ≤ 4097 * length (records_in p) = count-records f (records_in p) sound.sound.records.each in
     let few : length (records_in p) ≤ 2064 = live_records p sound.sound in
     let same : count p.registry f ≡ count (uses (records_in p)) f = ap (λ us. count us f) sound.tied.uses_are in
     omega arith
@@ -84,7 +84,7 @@ no_use p q id s sound there its new u h same holder =
     let P : List Use → Type 0 = λ us. IsIn u us in
     let x = IsIn-from_flat_map uses_of u (records_in p) (subst P sound.tied.uses_are h) in
     let of_x : u.id ≡ x.0.id = use_of_record x.0 u x.2 in
-    let is : x.0 ≡ q = same_record x.0 q (records_in p) sound.sound.in_order x.1 there (sym of_x ∙ same ∙ sym its) in
+    let is : x.0 ≡ q = same_record x.0 q (records_in p) sound.sound.records.in_order x.1 there (sym of_x ∙ same ∙ sym its) in
     let Q : Record → Type 0 = λ r. IsIn u (uses_of r) in
     not_used q s u new (subst Q is x.2) holder
 

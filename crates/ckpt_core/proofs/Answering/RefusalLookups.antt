@@ -28,7 +28,7 @@ use Rattle.ckpt_core.proofs.Ending.Drops.{groups_of}
 
 apart_of : (p : Parts) → AreSound p → AreApart (grouped p.registry p.pending p.store.checkpoints p.store.savepoints)
 unfolding state_of
-apart_of p sound = apart-from_in_order (grouped p.registry p.pending p.store.checkpoints p.store.savepoints) sound.sound.in_order
+apart_of p sound = apart-from_in_order (grouped p.registry p.pending p.store.checkpoints p.store.savepoints) sound.sound.records.in_order
 
 pub pending_of-parts : (p : Parts) (id : ℕ) (o : Option Record) → AreSound p → ((r : Record) → IsIn r p.pending → IsPending r) → IsStored p.store → o ≡ find (λ r. eqb r.id id) p.pending →
     pending_of (records_in p) id ≡ option_map (with_pins p.registry) o

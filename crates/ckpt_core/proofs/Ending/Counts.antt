@@ -25,8 +25,8 @@ few_pending p sound groups =
       count_by-others is_checkpoint p.pending,
       pending_checkpoints-groups p.registry p.pending p.store.checkpoints p.store.savepoints groups,
       savepoints-groups p.registry p.pending p.store.checkpoints p.store.savepoints groups,
-      sound.sound.at_once,
-      sound.sound.savepoints_to,
+      sound.sound.records.at_once,
+      sound.sound.records.savepoints_to,
       limit_to p.opened.config.pause p.opened.config.at_once sound.sound.config.at_once_to,
     )
 

@@ -75,7 +75,7 @@ left p ids spare ended = record p {
 
 pub apart_in : (p : Parts) → IsSound (state_of p) → AreApart (grouped p.registry p.pending p.store.checkpoints p.store.savepoints)
 unfolding state_of
-apart_in p sound = apart-from_in_order (grouped p.registry p.pending p.store.checkpoints p.store.savepoints) sound.in_order
+apart_in p sound = apart-from_in_order (grouped p.registry p.pending p.store.checkpoints p.store.savepoints) sound.records.in_order
 
 left_records : (p : Parts) (ids : List ℕ) (spare : ℕ) (ended : Vec ℕ Global) → AreApart (grouped p.registry p.pending p.store.checkpoints p.store.savepoints) → records_in (left p ids spare ended) ≡ kept (is_noted ids) None (records_in p)
 left_records p ids spare ended apart =

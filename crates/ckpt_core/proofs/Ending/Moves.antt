@@ -191,7 +191,7 @@ unfolding state_of drop
 rolled_back_in_order p q t sound is =
     let same : records_in q ≡ kept (rolled_back t) None (records_in p) = ap (λ s. s.records) is ∙ with_base_records (drop (state_of p) (rolled_back t) None) t in
     let P : List Record → Type 0 = IsInOrder id_before in
-    subst P (sym same) (in_order-changed (unpinned None) (λ r. not (rolled_back t r)) (records_in p) (λ r. refl) sound.in_order)
+    subst P (sym same) (in_order-changed (unpinned None) (λ r. not (rolled_back t r)) (records_in p) (λ r. refl) sound.records.in_order)
 
 -- a state with a base that is there
 pub based_is_sound : (m : State) (id : ℕ) → IsSound m → is_done_savepoint m id ≡ true → IsSound (record m { base = Some id })
@@ -202,15 +202,7 @@ based_is_sound m id s there = record {
   first = s.first;
   next_from = s.next_from;
   next_to = s.next_to;
-  in_order = s.in_order;
-  from_first = s.from_first;
-  below_next = s.below_next;
-  each = s.each;
-  started = s.started;
-  retained = s.retained;
-  at_once = s.at_once;
-  savepoints_to = s.savepoints_to;
-  newer = s.newer;
+  records = s.records;
   base = λ b e. let same : id ≡ b = cc in let P : ℕ → Type 0 = λ i. is_done_savepoint m i ≡ true in subst P same there;
   idle = s.idle;
   failures = s.failures;

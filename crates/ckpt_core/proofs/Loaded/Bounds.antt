@@ -4,7 +4,7 @@ use Rattle.ckpt_ids.specs.Configuration.{IsWithinLimits}
 use Rattle.ckpt_ids.specs.Records.{Record, uses, count}
 use Rattle.ckpt_rules.specs.Trigger.{limit}
 use Rattle.ckpt_model.specs.State.{Opening}
-use Rattle.ckpt_model.specs.SoundRecords.{AreSoundRecords}
+use Rattle.ckpt_model.specs.Soundness.{AreSoundRecords}
 use Rattle.ckpt_core.proofs.Triggering.TriggerParts.{three_kinds, limit_bound}
 use Rattle.ckpt_core.proofs.Using.CountBound.{count-records}
 

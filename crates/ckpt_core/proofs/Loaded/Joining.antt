@@ -8,9 +8,8 @@ use Rattle.ckpt_ids.proofs.CountLemmas.{count_by-append, count_by_no, count_by_y
 use Rattle.ckpt_ids.proofs.OrderedLemmas.{ComesBefore-at, IsIn-append_left, IsIn-append_right, IsIn-append_cases, IsInOrder-append, only_one}
 use Rattle.ckpt_rules.specs.Trigger.{limit}
 use Rattle.ckpt_model.specs.State.{Opening, is_checkpoint, is_pending, is_done_checkpoint}
-use Rattle.ckpt_model.specs.Soundness.{IsRecord, id_before}
+use Rattle.ckpt_model.specs.Soundness.{IsRecord, id_before, AreSoundRecords, is_pending_checkpoint}
 use Rattle.ckpt_core.specs.Inside.SoundRecords.{Joins}
-use Rattle.ckpt_model.specs.SoundRecords.{AreSoundRecords, is_pending_checkpoint}
 
 with_last : (P : Record → Type 0) (rs : List Record) (r : Record) → ((x : Record) → IsIn x rs → P x) → P r → (x : Record) → IsIn x (rs ++ r ∷ []) → P x
 with_last P rs r old last x h =

@@ -18,9 +18,8 @@ use Rattle.ckpt_core.specs.Inside.Loading.{IsMade}
 use Rattle.ckpt_core.specs.Inside.Moving.{with_done}
 use Rattle.ckpt_core.specs.Inside.Parts.{records_in, state_of}
 use Rattle.ckpt_core.specs.Inside.SoundRecords.{HasRoom, NamesEachOnce}
-use Rattle.ckpt_model.specs.SoundRecords.{is_pending_checkpoint}
+use Rattle.ckpt_model.specs.Soundness.{is_pending_checkpoint, IsRecord}
 use Rattle.ckpt_model.specs.Reads.{live_of}
-use Rattle.ckpt_model.specs.Soundness.{IsRecord}
 use Rattle.ckpt_model.specs.State.{Opening, is_checkpoint, is_done_checkpoint, is_pending}
 use Rattle.ckpt_core.proofs.Reading.Live.{is_from}
 use Rattle.ckpt_model.proofs.Records.Counts.{IsIn-from_find, fails-from_find}

@@ -18,9 +18,8 @@ use Rattle.ckpt_core.specs.Inside.Grouped.{grouped, with_pins}
 use Rattle.ckpt_core.specs.Inside.Loading.{AreFilesApart, emptied, with_more_waiting}
 use Rattle.ckpt_core.specs.Inside.Parts.{opening_of, records_in, state_of}
 use Rattle.ckpt_core.specs.Inside.SoundRecords.{Joins}
-use Rattle.ckpt_model.specs.SoundRecords.{AreSoundRecords}
+use Rattle.ckpt_model.specs.Soundness.{AreSoundRecords, id_before}
 use Rattle.ckpt_model.specs.Refusals.{is_done_savepoint}
-use Rattle.ckpt_model.specs.Soundness.{id_before}
 use Rattle.ckpt_model.specs.State.{Opening, State}
 use Rattle.ckpt_model.specs.declared.image.Image.{Image}
 use Rattle.ckpt_core.proofs.Ending.Drops.{groups_of}

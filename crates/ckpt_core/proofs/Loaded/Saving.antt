@@ -52,7 +52,7 @@ looked_up p r id e = let k = IsIn-from_find (λ (q : Record). eqb q.id id) r (re
 -- done records pin nothing
 pub none_pinned : (p : Parts) (r : Record) → AreSound p → IsIn r (records_in p) → r.done ≡ true → r.pins ≡ []
 unfolding state_of
-none_pinned p r sound h is_done = (sound.sound.each r h).unpinned is_done
+none_pinned p r sound h is_done = (sound.sound.records.each r h).unpinned is_done
 
 -- what is saved so is the record
 pub saved_record : (r : Record) (m : Metadata) (o : Option Record) (pins : List ℕ) → o ≡ Some r → option_map metadata_of o ≡ Some m → pins ≡ r.pins → record { id = m.id; kind = m.kind; done = m.done; shape = m.shape; started = m.started; acks = m.acks; pins = pins } ≡ r
@@ -77,7 +77,7 @@ found_next p n live sound is =
     let r : Record = q.0 in
     let its : live.id ≡ r.id = ap (λ (l : Live). l.id) q.2 in
     let k = IsIn-from_find (is_from n) r rs q.1 in
-    (r, find-from_IsIn live.id r rs sound.sound.in_order k.0 (eq-eqb r.id live.id (sym its)), ap (λ (l : Live). l.done) q.2, q.1, its)
+    (r, find-from_IsIn live.id r rs sound.sound.records.in_order k.0 (eq-eqb r.id live.id (sym its)), ap (λ (l : Live). l.done) q.2, q.1, its)
 
 -- with it, one more is saved
 pub saved_next : (rs : List Record) (n : ℕ) (r : Record) → IsInOrder id_before rs → find (is_from n) rs ≡ Some r → take (count_by (is_below (r.id + 1)) rs) rs ≡ take (count_by (is_below n) rs) rs ++ r ∷ []

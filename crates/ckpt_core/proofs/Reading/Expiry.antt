@@ -46,7 +46,7 @@ unfolding state_of
 started_bound p s sound told =
     let x = least_in p.pending s told in
     let low : s ≤ x.0.started = least_is p.pending s told x.0 x.1 in
-    let high : x.0.started < 2 ^ 62 = sound.started (with_pins p.registry x.0) (pending_there p x.0 x.1) in
+    let high : x.0.started < 2 ^ 62 = sound.records.started (with_pins p.registry x.0) (pending_there p x.0 x.1) in
     omega arith
 
 -- a live record that is pending and too old is one of the pending ones

@@ -205,7 +205,7 @@ unfolding state_of
 live_bound p n live sound is =
     let q = some_of live (find (is_from n) (records_in p)) is in
     let its : live.id ≡ q.0.id = ap (λ l. l.id) q.2 in
-    let below : q.0.id < p.next = sound.below_next q.0 (IsIn-from_find (is_from n) q.0 (records_in p) q.1).0 in
+    let below : q.0.id < p.next = sound.records.below_next q.0 (IsIn-from_find (is_from n) q.0 (records_in p) q.1).0 in
     let end : p.next ≤ 2 ^ 62 = sound.next_to in
     omega arith
 
@@ -215,4 +215,4 @@ none_below_zero xs = count_by-none (is_below 0) xs (λ y h. le-ltb y.id 0 (omega
 
 pub live_in_order : (p : Parts) → AreSound p → IsInOrder id_before (records_in p)
 unfolding state_of
-live_in_order p sound = sound.sound.in_order
+live_in_order p sound = sound.sound.records.in_order

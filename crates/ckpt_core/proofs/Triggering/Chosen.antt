@@ -66,8 +66,8 @@ unfolding state_of
 files_by-choice p tied sound id e =
     let m : State = state_of p in
     let q = chosen_is_done m id sound e in
-    let none : q.0.pins ≡ [] = (sound.each q.0 q.1).unpinned q.3 in
-    ap (files_by id) tied.uses_are ∙ files_by-uses id m.records q.0 sound.in_order q.2 none ∙ ap files_of (sym q.2)
+    let none : q.0.pins ≡ [] = (sound.records.each q.0 q.1).unpinned q.3 in
+    ap (files_by id) tied.uses_are ∙ files_by-uses id m.records q.0 sound.records.in_order q.2 none ∙ ap files_of (sym q.2)
 
 pub files_chosen-pins : (p : Parts) → AreTied p → IsSound (state_of p) → (c : Choice) → c ≡ choice_of (state_of p) → files_chosen c p.registry ≡ pins_now (state_of p)
 unfolding pins_now

@@ -193,7 +193,7 @@ next_not_noted p q sound r next = false_from_ne_true (is_noted (numbers (filter 
     let w = IsIn-from_noted r (filter q p.pending) n in
     let v = IsIn-from_filter q w.0 p.pending w.1 in
     let here : IsIn (with_pins p.registry w.0) (grouped p.registry p.pending p.store.checkpoints p.store.savepoints) = IsIn-append_left (with_pins p.registry w.0) (map (with_pins p.registry) p.pending) (p.store.checkpoints ++ p.store.savepoints) (IsIn-map (with_pins p.registry) w.0 p.pending v.0) in
-    let lt : w.0.id < p.next = sound.below_next (with_pins p.registry w.0) (IsIn-in_order id_before (with_pins p.registry w.0) (grouped p.registry p.pending p.store.checkpoints p.store.savepoints) here) in
+    let lt : w.0.id < p.next = sound.records.below_next (with_pins p.registry w.0) (IsIn-in_order id_before (with_pins p.registry w.0) (grouped p.registry p.pending p.store.checkpoints p.store.savepoints) here) in
     let same : p.next ≡ w.0.id = sym next ∙ w.2 in
     omega (arith, same, lt))
 
@@ -245,7 +245,7 @@ late_at_most p timeout moment late e =
 pub few_checkpoints : (p : Parts) → AreSound p → AreGroups p.pending p.store.checkpoints p.store.savepoints → count_by is_checkpoint p.pending ≤ 64
 unfolding state_of
 few_checkpoints p sound groups =
-    omega (arith, pending_checkpoints-groups p.registry p.pending p.store.checkpoints p.store.savepoints groups, sound.sound.at_once, limit_bound p.opened.config sound.sound.config)
+    omega (arith, pending_checkpoints-groups p.registry p.pending p.store.checkpoints p.store.savepoints groups, sound.sound.records.at_once, limit_bound p.opened.config sound.sound.config)
 
 pub few_expired : (p : Parts) (q : Record → Bool) → AreSound p → AreGroups p.pending p.store.checkpoints p.store.savepoints → length (filter q p.pending) ≤ 1064
 few_expired p q sound groups =

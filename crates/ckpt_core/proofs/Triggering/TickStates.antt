@@ -145,13 +145,13 @@ started_outbox m s = outbox_triggered m kind.Checkpoint s
 started_in_order : (m : State) → IsSound m → IsInOrder id_before (started m).records
 unfolding triggered
 started_in_order m s =
-    IsInOrder-append id_before m.records (new_record m kind.Checkpoint ∷ []) s.in_order (tt, tt) (λ x y h k.
-    ⊎_elim (λ (e : y ≡ new_record m kind.Checkpoint). let f : y.id ≡ m.next = ap (λ r. r.id) e in let lt : x.id < m.next = s.below_next x h in lt-ltb x.id y.id (omega arith)) (λ n. absurd n) k)
+    IsInOrder-append id_before m.records (new_record m kind.Checkpoint ∷ []) s.records.in_order (tt, tt) (λ x y h k.
+    ⊎_elim (λ (e : y ≡ new_record m kind.Checkpoint). let f : y.id ≡ m.next = ap (λ r. r.id) e in let lt : x.id < m.next = s.records.below_next x h in lt-ltb x.id y.id (omega arith)) (λ n. absurd n) k)
 
 pub starts_in_order : (m : State) (pending : ℕ) (after : State) (end : TickEnd) → IsSound m → Starts m pending after end → IsInOrder id_before after.records
 starts_in_order m pending after end s starts =
     let P : State → Type 0 = λ k. IsInOrder id_before k.records in
-    ⊎_elim (λ (e : after ≡ m). subst P (sym e) s.in_order) (λ (e : after ≡ started m). subst P (sym e) (started_in_order m s)) (starts_as m pending after end starts)
+    ⊎_elim (λ (e : after ≡ m). subst P (sym e) s.records.in_order) (λ (e : after ≡ started m). subst P (sym e) (started_in_order m s)) (starts_as m pending after end starts)
 
 started_unused : (m : State) → IsSound m → (f : ℕ) → in_outbox (started m) f ≡ true → is_present (uses (started m).records) f ≡ false
 unfolding triggered

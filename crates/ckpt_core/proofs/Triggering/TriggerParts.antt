@@ -35,12 +35,12 @@ older_uses p tied sound u h =
     let P : List Use → Type 0 = λ us. IsIn u us in
     let q = IsIn-from_flat_map uses_of u (records_in p) (subst P tied.uses_are h) in
     let e : u.id ≡ q.0.id = use_of_record q.0 u q.2 in
-    let lt : q.0.id < p.next = sound.below_next q.0 q.1 in
+    let lt : q.0.id < p.next = sound.records.below_next q.0 q.1 in
     omega arith
 
 pub older_records : (p : Parts) → IsSound (state_of p) → (r : Record) → IsIn r (grouped p.registry p.pending p.store.checkpoints p.store.savepoints) → r.id < p.next
 unfolding state_of
-older_records p sound r h = sound.below_next r (IsIn-in_order id_before r (grouped p.registry p.pending p.store.checkpoints p.store.savepoints) h)
+older_records p sound r h = sound.records.below_next r (IsIn-in_order id_before r (grouped p.registry p.pending p.store.checkpoints p.store.savepoints) h)
 
 pub older_pending : (p : Parts) → IsSound (state_of p) → (r : Record) → IsIn r p.pending → r.id < p.next
 older_pending p sound r h =
@@ -157,7 +157,7 @@ limit_bound c within =
     ⊎_elim (λ (e : ltb 0 c.pause ≡ true). subst P (sym e) (omega arith)) (λ (e : ltb 0 c.pause ≡ false). subst P (sym e) within.at_once_to) (cases_Bool (ltb 0 c.pause))
 
 pub live_bound : (m : State) → IsSound m → length m.records ≤ 2064
-live_bound m sound = omega (arith, three_kinds m.records, sound.at_once, sound.retained, sound.savepoints_to, limit_bound m.opening.config sound.config)
+live_bound m sound = omega (arith, three_kinds m.records, sound.records.at_once, sound.records.retained, sound.records.savepoints_to, limit_bound m.opening.config sound.config)
 
 -- the same, from what the calls left
 

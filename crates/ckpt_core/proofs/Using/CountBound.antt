@@ -114,7 +114,7 @@ count-records f (r ∷ rs) each =
 pub count_bound : (m : State) → IsSound m → (f : ℕ) → count (uses m.records) f < 4294967295
 count_bound m sound f =
     let few : length m.records ≤ 2064 = live_bound m sound in
-    let le : count (uses m.records) f ≤ 4097 * length m.records = count-records f m.records sound.each in
+    let le : count (uses m.records) f ≤ 4097 * length m.records = count-records f m.records sound.records.each in
     omega arith
 
 pub registry_bound : (p : Parts) → AreTied p → IsSound (state_of p) → (f : ℕ) → count p.registry f < 4294967295

@@ -11,9 +11,8 @@ use Rattle.ckpt_model.specs.declared.image.Saved.{Saved}
 use Rattle.ckpt_core.specs.declared.parts.Parts.{Parts}
 use Rattle.ckpt_core.specs.Inside.Parts.{opening_of, records_in}
 use Rattle.ckpt_core.specs.Inside.SoundRecords.{Joins, NamesEachOnce}
-use Rattle.ckpt_model.specs.SoundRecords.{AreSoundRecords}
+use Rattle.ckpt_model.specs.Soundness.{AreSoundRecords, IsRecord}
 use Rattle.ckpt_model.specs.Refusals.{is_done_savepoint}
-use Rattle.ckpt_model.specs.Soundness.{IsRecord}
 use Rattle.ckpt_model.specs.State.{State}
 
 -- the uses by these acknowledgements of a record

@@ -7,8 +7,7 @@ use Rattle.ckpt_ids.specs.Ordered.{IsIn}
 use Rattle.ckpt_ids.specs.Records.{Record}
 use Rattle.ckpt_rules.specs.Trigger.{limit}
 use Rattle.ckpt_model.specs.State.{Opening, is_checkpoint, is_done_checkpoint}
-use Rattle.ckpt_model.specs.Soundness.{IsRecord}
-use Rattle.ckpt_model.specs.SoundRecords.{AreSoundRecords, is_pending_checkpoint}
+use Rattle.ckpt_model.specs.Soundness.{IsRecord, AreSoundRecords, is_pending_checkpoint}
 
 -- what is tested of the next record of an image
 pub record Joins (o : Opening) (next : ℕ) (rs : List Record) (r : Record) : Type 0 where

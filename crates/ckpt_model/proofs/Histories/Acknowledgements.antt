@@ -91,7 +91,7 @@ taken_accepted m now id subtask fresh reused so_far s i a =
           (taken_from t r h);
       later = λ k h.
           let up : m.next ≤ ((step m call).0).next = next_rises m call in
-          let below : q.id < m.next = s.below_next q there in
+          let below : q.id < m.next = s.records.below_next q there in
           let its_id : q.id ≡ id = i.its_id in
           sym (as_before so_far k m call (other k (λ e. absurd (omega arith)))) ∙ a.later k (omega arith);
     }
@@ -117,4 +117,4 @@ acks_along m (call ∷ calls) so_far s c a r h =
 pub acknowledgements : (o : Opening) (calls : List Call) → CanOpen o → AreCalls calls → Acknowledgements o calls
 acknowledgements o calls c a r h =
     let at_first : AreAccepted (opened o) (λ id. []) = record { live = λ r h. absurd h; later = λ id h. refl } in
-    (acks_along (opened o) calls (λ id. []) (opening_is_sound o c) a at_first r h, ((replay_is_sound o calls c a).each r h).full)
+    (acks_along (opened o) calls (λ id. []) (opening_is_sound o c) a at_first r h, ((replay_is_sound o calls c a).records.each r h).full)

@@ -48,11 +48,11 @@ chosen_is_done m id s e =
     let Found : Type 0 = (r : Record) × IsIn r m.records × (record_of m id ≡ Some r) × (r.done ≡ true) in
     let checkpoint : last_checkpoint m.records ≡ Some id → Found = λ (h : last_checkpoint m.records ≡ Some id).
     let q = last_is_done m.records id h in
-    (q.0, q.1, ap (record_of m) (sym q.2) ∙ found m q.0 s.in_order q.1, (and_parts (q.0).done (is_checkpoint q.0) q.3).0) in
+    (q.0, q.1, ap (record_of m) (sym q.2) ∙ found m q.0 s.records.in_order q.1, (and_parts (q.0).done (is_checkpoint q.0) q.3).0) in
     let base : m.base ≡ Some id → Found = λ (h : m.base ≡ Some id).
     let q = IsIn-from_list_any (is_savepoint id) m.records (s.base id h) in
     let parts = and_parts ((q.0).done && not (is_checkpoint q.0)) (eqb (q.0).id id) q.2 in
-    (q.0, q.1, ap (record_of m) (sym (eqb-true (q.0).id id parts.1)) ∙ found m q.0 s.in_order q.1, (and_parts (q.0).done (not (is_checkpoint q.0)) parts.0).0) in
+    (q.0, q.1, ap (record_of m) (sym (eqb-true (q.0).id id parts.1)) ∙ found m q.0 s.records.in_order q.1, (and_parts (q.0).done (not (is_checkpoint q.0)) parts.0).0) in
     ⊎_elim checkpoint base (names_is (last_checkpoint m.records) m.base id e)
 
 -- the law, of a sound state

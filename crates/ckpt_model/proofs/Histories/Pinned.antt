@@ -86,7 +86,7 @@ has_pins_first m call number s e =
       given = g.1;
       has = λ y h k pending.
           ⊎_elim
-          (λ (o : (x : Record) × IsIn x m.records × (x.done ≡ false) × (y.id ≡ x.id) × (y.pins ≡ x.pins)). let old : (o.0).id < m.next = s.below_next o.0 o.1 in let same : y.id ≡ (o.0).id = o.3 in absurd (omega arith))
+          (λ (o : (x : Record) × IsIn x m.records × (x.done ≡ false) × (y.id ≡ x.id) × (y.pins ≡ x.pins)). let old : (o.0).id < m.next = s.records.below_next o.0 o.1 in let same : y.id ≡ (o.0).id = o.3 in absurd (omega arith))
           (λ (o : IsTriggered m y). o.pins)
           (step_came m call s y h pending);
     }

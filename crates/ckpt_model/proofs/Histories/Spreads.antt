@@ -76,7 +76,7 @@ even_acked m q subtask fresh reused done s a =
     let w : Record = with_ack q subtask fresh reused in
     let c : Record = record w { done = done } in
     let rs : List Record = m.records in
-    let p : IsReplacing (put_in c) q c rs = put_in_replaces q c rs s.in_order a.there refl in
+    let p : IsReplacing (put_in c) q c rs = put_in_replaces q c rs s.records.in_order a.there refl in
     let new : (f : ℕ) → IsIn f fresh → IsHeld f rs → ⊥ = λ f h k. not_held f rs (or_parts (is_present (uses rs) f) (in_outbox m f) (a.unknown f h)).0 k in
     let now_held : (f : ℕ) → IsIn f fresh → IsHeld f (map (put_in c) rs) = λ f h.
     held_by_put f rs q c a.there refl (Holds-put_ack_new f its q (IsIn-in_order ltb f (fresh ++ reused) (IsIn-append_left f fresh reused h))) in

@@ -63,7 +63,7 @@ taken_pending m q subtask fresh reused s a =
       keep = λ _. true;
       new = w;
       records = sym (nothing_dropped (put_in w) m.records);
-      replaces = put_in_replaces q w m.records s.in_order a.there refl;
+      replaces = put_in_replaces q w m.records s.records.in_order a.there refl;
       acks = refl;
       pins = λ _. refl;
       savepoints = λ r _ _ _. refl;
@@ -84,13 +84,13 @@ not_superseded m q c r g pending h done savepoint =
 pub taken_completed : (m : State) (q : Record) (subtask : SubtaskId) (fresh reused : List ℕ) → IsSound m → IsAcking m q subtask fresh reused → IsTaken m.records q (record { subtask = subtask; files = ascending (fresh ++ reused) }) (left_by m (completed q subtask fresh reused))
 taken_completed m q subtask fresh reused s a =
     let c : Record = completed q subtask fresh reused in
-    let g : IsReplacing (put_in c) q c m.records = put_in_replaces q c m.records s.in_order a.there refl in
+    let g : IsReplacing (put_in c) q c m.records = put_in_replaces q c m.records s.records.in_order a.there refl in
     record {
       change = ending c;
       keep = staying m c;
       new = record c { pins = [] };
       records = left_is m c;
-      replaces = unpinned_replaces q c m.records s.in_order a.there refl;
+      replaces = unpinned_replaces q c m.records s.records.in_order a.there refl;
       acks = refl;
       pins = λ e. absurd (both_ways true e refl);
       savepoints = λ r h done savepoint. not_superseded m q c r g a.pending h done savepoint;

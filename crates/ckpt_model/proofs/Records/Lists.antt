@@ -15,7 +15,7 @@ use Rattle.ckpt_model.specs.declared.mode.Mode.TheVariants.{Running}
 use Rattle.ckpt_model.specs.State.{State, Opening, is_checkpoint, is_pending, is_done_checkpoint}
 use Rattle.ckpt_model.specs.Refusals.{is_done_savepoint}
 use Rattle.ckpt_model.specs.Soundness.{IsSound, IsRecord, id_before}
-pub use Rattle.ckpt_model.specs.SoundRecords.{AreSoundRecords, is_pending_checkpoint}
+pub use Rattle.ckpt_model.specs.Soundness.{AreSoundRecords, is_pending_checkpoint}
 use Rattle.ckpt_ids.proofs.CountLemmas.{count_by-append, count_by_yes, count_by_no, count_by-same}
 use Rattle.ckpt_model.proofs.Records.Counts.{count_by-le, count_by-changed, IsIn-from_changed}
 
@@ -26,7 +26,7 @@ is_checkpoint-kind r e = ap (λ k. is_checkpoint (record r { kind = k })) e
 pub is_savepoint-kind : (r : Record) → r.kind ≡ kind.Savepoint → is_checkpoint r ≡ false
 is_savepoint-kind r e = ap (λ k. is_checkpoint (record r { kind = k })) e
 
--- of its outbox
+-- what holds of its outbox
 pub record IsSoundOutbox (records : List Record) (waiting taken : List ℕ) : Type 0 where
   pub unused : (f : ℕ) → IsIn f (waiting ++ taken) → is_present (uses records) f ≡ false
   pub apart : AreDistinct (waiting ++ taken)
@@ -43,21 +43,7 @@ pub record IsSoundHead (m : State) : Type 0 where
   pub idle : m.mode ≢ Running → (r : Record) → IsIn r m.records → r.done ≡ true
   pub failures : m.mode ≡ Running → m.failures ≤ m.opening.config.tolerable
 
--- what a sound state's records are
-pub records_of : {m : State} → IsSound m → AreSoundRecords m.opening m.next m.records
-records_of s = record {
-  in_order = s.in_order;
-  from_first = s.from_first;
-  below_next = s.below_next;
-  each = s.each;
-  started = s.started;
-  retained = s.retained;
-  at_once = s.at_once;
-  savepoints_to = s.savepoints_to;
-  newer = s.newer;
-}
-
--- and its outbox
+-- a sound state's outbox
 pub outbox_of : {m : State} → IsSound m → IsSoundOutbox m.records m.waiting m.taken
 outbox_of {m} s = record {
   unused = λ f h. s.unused f (test-from_IsIn f (m.waiting ++ m.taken) h);
@@ -73,15 +59,7 @@ sound_from m h r o = record {
   first = h.first;
   next_from = h.next_from;
   next_to = h.next_to;
-  in_order = r.in_order;
-  from_first = r.from_first;
-  below_next = r.below_next;
-  each = r.each;
-  started = r.started;
-  retained = r.retained;
-  at_once = r.at_once;
-  savepoints_to = r.savepoints_to;
-  newer = r.newer;
+  records = r;
   base = h.base;
   idle = h.idle;
   failures = h.failures;

@@ -48,7 +48,7 @@ pub pins_stay : (m k : State) (q : Record → Bool) → IsSound m → k.base ≡
 pins_stay m k q s base records keeps =
     let left : List Record = map (λ r. r) (filter q m.records) in
     let InOrder : List Record → Type 0 = λ rs. IsInOrder id_before rs in
-    let order : IsInOrder id_before k.records = subst InOrder (sym records) (in_order-changed (λ r. r) q m.records (λ r. refl) s.in_order) in
+    let order : IsInOrder id_before k.records = subst InOrder (sym records) (in_order-changed (λ r. r) q m.records (λ r. refl) s.records.in_order) in
     let same : (id : ℕ) → names (choice_of m) ≡ Some id → record_of k id ≡ record_of m id = λ id e.
     let c = chosen_is_done m id s e in
     let There : List Record → Type 0 = λ rs. IsIn c.0 rs in

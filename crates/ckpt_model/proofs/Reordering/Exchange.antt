@@ -88,13 +88,13 @@ accepted_before m now id p q r s k a apart k1 b =
     let same : (x : Record) → pending_of m.records id ≡ Some x → r ≡ x = λ x e. cc in
     let not_known : (f : ℕ) → IsIn f q.fresh → is_known m f ≡ false = λ f h.
     let parts = or_parts (is_present (uses after) f) (in_outbox m f) (fails-from_find (λ g. is_present (uses after) g || in_outbox m g) f q.fresh (b.unknown w k1) h) in
-    or_from (is_present (uses m.records) f) (in_outbox m f) (absent-from_not_held f m.records (λ (l : IsHeld f m.records). not_held f after parts.0 (held_still f m.records r p.subtask p.fresh p.reused s.in_order there l))) parts.1 in
+    or_from (is_present (uses m.records) f) (in_outbox m f) (absent-from_not_held f m.records (λ (l : IsHeld f m.records). not_held f after parts.0 (held_still f m.records r p.subtask p.fresh p.reused s.records.in_order there l))) parts.1 in
     let is_there : (f : ℕ) → IsIn f q.reused → not (is_present (uses m.records) f) ≡ false = λ f h.
     let held : IsHeld f after = IsHeld-from_present f after (not-false (is_present (uses after) f) (fails-from_find (λ g. not (is_present (uses after) g)) f q.reused (b.present w k1) h)) in
     ⊎_elim
     (⊎_elim (λ (l : IsIn f p.fresh). absurd (apart f l h)) (λ (l : IsIn f p.reused). fails-from_find (λ g. not (is_present (uses m.records) g)) f p.reused (a.present r k) l))
     (λ (l : IsHeld f m.records). not_from_true (is_present (uses m.records) f) (present-from_IsHeld f m.records l))
-    (held_or_named f m.records r p.subtask p.fresh p.reused s.in_order there held) in
+    (held_or_named f m.records r p.subtask p.fresh p.reused s.records.in_order there held) in
     record {
       moment = b.moment;
       few = b.few;
@@ -119,11 +119,11 @@ accepted_after m now id p q r s k ne a apart new k2 =
     ⊎_elim
     (⊎_elim (λ (i : IsIn f q.fresh). new f h i) (λ (i : IsIn f q.reused). apart f h i))
     (λ (i : IsHeld f m.records). not_held f m.records parts.0 i)
-    (held_or_named f m.records r q.subtask q.fresh q.reused s.in_order there l) in
+    (held_or_named f m.records r q.subtask q.fresh q.reused s.records.in_order there l) in
     or_from (is_present (uses after) f) (in_outbox m f) (absent-from_not_held f after gone) parts.1 in
     let is_there : (f : ℕ) → IsIn f p.reused → not (is_present (uses after) f) ≡ false = λ f h.
     let held : IsHeld f m.records = IsHeld-from_present f m.records (not-false (is_present (uses m.records) f) (fails-from_find (λ g. not (is_present (uses m.records) g)) f p.reused (a.present r k) h)) in
-    not_from_true (is_present (uses after) f) (present-from_IsHeld f after (held_still f m.records r q.subtask q.fresh q.reused s.in_order there held)) in
+    not_from_true (is_present (uses after) f) (present-from_IsHeld f after (held_still f m.records r q.subtask q.fresh q.reused s.records.in_order there held)) in
     record {
       moment = a.moment;
       few = a.few;
@@ -155,8 +155,8 @@ exchanged m now id p q r s ne apart k ep lacks eq1 =
     let A : Call = ack_of now id p in
     let B : Call = ack_of now id q in
     let pending : r.done ≡ false = not-true r.done (and_parts (is_pending r) (eqb r.id id) (IsIn-from_find (λ x. is_pending x && eqb x.id id) r m.records k).1).0 in
-    let k1 : pending_of (replaced m.records w) id ≡ Some w = pending_of_replaced m.records id r w s.in_order k refl pending in
-    let k2 : pending_of (replaced m.records v) id ≡ Some v = pending_of_replaced m.records id r v s.in_order k refl pending in
+    let k1 : pending_of (replaced m.records w) id ≡ Some w = pending_of_replaced m.records id r w s.records.in_order k refl pending in
+    let k2 : pending_of (replaced m.records v) id ≡ Some v = pending_of_replaced m.records id r v s.records.in_order k refl pending in
     let a : IsAcceptedAck m now id p.subtask p.fresh p.reused = accepted_ack m now id p.subtask p.fresh p.reused ep in
     let b1 : IsAcceptedAck m1 now id q.subtask q.fresh q.reused = accepted_ack m1 now id q.subtask q.fresh q.reused eq1 in
     let b : IsAcceptedAck m now id q.subtask q.fresh q.reused = accepted_before m now id p q r s k a apart k1 b1 in

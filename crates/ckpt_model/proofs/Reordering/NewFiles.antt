@@ -68,8 +68,8 @@ was_given : (m : State) (id : ℕ) (r : Record) → IsSound m → pending_of m.r
 was_given m id r s found =
     let there = IsIn-from_find (λ x. is_pending x && eqb x.id id) r m.records found in
     let its : r.id ≡ id = eqb-true r.id id (and_parts (is_pending r) (eqb r.id id) there.1).1 in
-    let from : m.opening.first ≤ r.id = s.from_first r there.0 in
-    let below : r.id < m.next = s.below_next r there.0 in
+    let from : m.opening.first ≤ r.id = s.records.from_first r there.0 in
+    let below : r.id < m.next = s.records.below_next r there.0 in
     or_from (ltb id m.opening.first) (leb m.next id) (le-ltb id m.opening.first (omega arith)) (lt-leb m.next id (omega arith))
 
 -- all of them if the moment is too large
@@ -138,7 +138,7 @@ left m now id r a b found lb ne e =
 found_after : (m : State) (now id : ℕ) (r : Record) (a : NewFile) → IsSound m → pending_of m.records id ≡ Some r → pending_of (after_new m now r a).records id ≡ Some (with_new r a)
 found_after m now id r a s found =
     let there = IsIn-from_find (λ x. is_pending x && eqb x.id id) r m.records found in
-    pending_of_replaced m.records id r (with_new r a) s.in_order found refl (not-true r.done (and_parts (is_pending r) (eqb r.id id) there.1).0)
+    pending_of_replaced m.records id r (with_new r a) s.records.in_order found refl (not-true r.done (and_parts (is_pending r) (eqb r.id id) there.1).0)
 
 -- no file but its own becomes known by it
 present_after : (m : State) (now id : ℕ) (r : Record) (a : NewFile) (f : ℕ) → IsSound m → pending_of m.records id ≡ Some r → (f ≡ a.file → ⊥) → is_present (uses (after_new m now r a).records) f ≡ is_present (uses m.records) f
@@ -149,8 +149,8 @@ present_after m now id r a f s found ne =
     ⊎_elim
     (⊎_elim (λ (k : IsIn f (a.file ∷ [])). absurd (⊎_elim ne (λ (l : IsIn f []). l) k)) (λ (k : IsIn f []). absurd (k)))
     (λ (k : IsHeld f m.records). k)
-    (held_or_named f m.records r a.subtask (a.file ∷ []) [] s.in_order there h) in
-    let then : IsHeld f m.records → IsHeld f after = held_still f m.records r a.subtask (a.file ∷ []) [] s.in_order there in
+    (held_or_named f m.records r a.subtask (a.file ∷ []) [] s.records.in_order there h) in
+    let then : IsHeld f m.records → IsHeld f after = held_still f m.records r a.subtask (a.file ∷ []) [] s.records.in_order there in
     ⊎_elim
     (λ (e : is_present (uses after) f ≡ true). e ∙ sym (present-from_IsHeld f m.records (before (IsHeld-from_present f after e))))
     (λ (e : is_present (uses after) f ≡ false). ⊎_elim

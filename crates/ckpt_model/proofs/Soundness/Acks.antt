@@ -17,7 +17,7 @@ use Rattle.ckpt_model.specs.Soundness.{IsSound, IsRecord, id_before}
 use Rattle.ckpt_model.proofs.Records.Counts.{count_by-changed, IsIn-from_changed, IsIn-from_find, fails-from_find}
 use Rattle.ckpt_model.proofs.Records.Present.{Holds, IsHeld, Holds-put_ack, absent-from_not_held, not_held}
 use Rattle.ckpt_model.proofs.Records.Released.{distinct-from_test}
-use Rattle.ckpt_model.proofs.Records.Lists.{AreSoundRecords, IsSoundOutbox, sound_from, records_of, outbox_of, is_pending_checkpoint, later, newest_at_most}
+use Rattle.ckpt_model.proofs.Records.Lists.{AreSoundRecords, IsSoundOutbox, sound_from, outbox_of, is_pending_checkpoint, later, newest_at_most}
 use Rattle.ckpt_model.proofs.Records.Replacing.{put_in, IsReplacing, put_in_replaces, cond_same, replaced_records}
 use Rattle.ckpt_model.proofs.Records.Held.{held_after_put}
 use Rattle.ckpt_model.proofs.Answering.Accepted.{IsAcceptedAck}
@@ -67,7 +67,7 @@ with_ack q subtask fresh reused = acknowledged q subtask (ascending (fresh ++ re
 -- it is in order, of its subtasks, with ascending files
 pub with_ack_is : {m : State} {q : Record} {subtask : SubtaskId} {fresh reused : List ℕ} → IsSound m → IsAcking m q subtask fresh reused → IsAcknowledged (with_ack q subtask fresh reused)
 with_ack_is {m} {q} {subtask} {fresh} {reused} s a =
-    acknowledged_is q subtask (ascending (fresh ++ reused)) (s.each q a.there) a.of_subtask a.first (ascending-distinct (fresh ++ reused) a.once)
+    acknowledged_is q subtask (ascending (fresh ++ reused)) (s.records.each q a.there) a.of_subtask a.first (ascending-distinct (fresh ++ reused) a.once)
 
 -- the outbox has none of its files
 files_not_out : {m : State} {q : Record} {subtask : SubtaskId} {fresh reused : List ℕ} → IsSound m → IsAcking m q subtask fresh reused → (f : ℕ) → IsIn f (ascending (fresh ++ reused)) → IsIn f (m.waiting ++ m.taken) → ⊥
@@ -80,7 +80,7 @@ files_not_out {m} {q} {subtask} {fresh} {reused} s a f h out =
 -- the outbox beside a list of records with one acknowledgement more
 pub outbox_acked : {m : State} {q : Record} {subtask : SubtaskId} {fresh reused : List ℕ} (new : Record) → IsSound m → IsAcking m q subtask fresh reused → new.id ≡ q.id → new.acks ≡ (with_ack q subtask fresh reused).acks → new.pins ≡ q.pins → IsSoundOutbox (map (put_in new) m.records) m.waiting m.taken
 outbox_acked {m} {q} {subtask} {fresh} {reused} new s a id acks pins =
-    let p : IsReplacing (put_in new) q new m.records = put_in_replaces q new m.records s.in_order a.there id in
+    let p : IsReplacing (put_in new) q new m.records = put_in_replaces q new m.records s.records.in_order a.there id in
     let w : Record = with_ack q subtask fresh reused in
     let its : Acked = record { subtask = subtask; files = ascending (fresh ++ reused) } in
     let in_with : (f : ℕ) → Holds f new → Holds f w = λ f h.
@@ -115,9 +115,9 @@ pub ack_pending_is_sound : (m : State) (q : Record) (subtask : SubtaskId) (fresh
 ack_pending_is_sound m q subtask fresh reused s a lacks =
     let w : Record = with_ack q subtask fresh reused in
     let rs : List Record = m.records in
-    let p : IsReplacing (put_in w) q w rs = put_in_replaces q w rs s.in_order a.there refl in
-    let i : IsRecord w = acknowledged_pending q subtask (ascending (fresh ++ reused)) (s.each q a.there) a.pending (with_ack_is s a) lacks in
-    let records : AreSoundRecords m.opening m.next (map (put_in w) (filter (λ _. true) rs)) = replaced_records (λ _. true) (records_of s) p a.pending refl refl i (and_left q.done (is_checkpoint q) a.pending) in
+    let p : IsReplacing (put_in w) q w rs = put_in_replaces q w rs s.records.in_order a.there refl in
+    let i : IsRecord w = acknowledged_pending q subtask (ascending (fresh ++ reused)) (s.records.each q a.there) a.pending (with_ack_is s a) lacks in
+    let records : AreSoundRecords m.opening m.next (map (put_in w) (filter (λ _. true) rs)) = replaced_records (λ _. true) s.records p a.pending refl refl i (and_left q.done (is_checkpoint q) a.pending) in
     let Any : List Record → Type 0 = λ xs. AreSoundRecords m.opening m.next xs in
     sound_from (with_records m (replaced rs w)) (record {
       config = s.config;

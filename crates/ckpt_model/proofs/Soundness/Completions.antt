@@ -11,7 +11,7 @@ use Rattle.ckpt_model.specs.declared.mode.Mode.TheVariants.{Running}
 use Rattle.ckpt_model.specs.State.{State, is_checkpoint, is_done_checkpoint, is_known, in_outbox, kept, unpinned, drop, released_by}
 use Rattle.ckpt_model.specs.Steps.{replaced, with_records, superseded, ack}
 use Rattle.ckpt_model.specs.Soundness.{IsSound, IsRecord, id_before}
-use Rattle.ckpt_model.proofs.Records.Lists.{AreSoundRecords, IsSoundOutbox, sound_from, records_of, outbox_of, is_pending_checkpoint}
+use Rattle.ckpt_model.proofs.Records.Lists.{AreSoundRecords, IsSoundOutbox, sound_from, outbox_of, is_pending_checkpoint}
 use Rattle.ckpt_model.proofs.Records.Replacing.{put_in, IsReplacing, put_in_replaces, unpinned_replaces, cond_same, replaced_records, completed_records}
 use Rattle.ckpt_model.proofs.Records.Acknowledged.{completed_is}
 use Rattle.ckpt_model.proofs.Soundness.Drops.{is_savepoint, savepoint_stays, outbox_dropped}
@@ -60,12 +60,12 @@ pending_of_ending c x = cond_same is_pending_checkpoint (eqb (put_in c x).id c.i
 records_completed : (m : State) (q c : Record) → IsSound m → IsCompleting m q c → AreSoundRecords m.opening m.next (left_by m c)
 records_completed m q c s i =
     let rs : List Record = m.records in
-    let p : IsReplacing (ending c) q (record c { pins = [] }) rs = unpinned_replaces q c rs s.in_order i.there i.id in
-    let g : IsReplacing (put_in c) q c rs = put_in_replaces q c rs s.in_order i.there i.id in
+    let p : IsReplacing (ending c) q (record c { pins = [] }) rs = unpinned_replaces q c rs s.records.in_order i.there i.id in
+    let g : IsReplacing (put_in c) q c rs = put_in_replaces q c rs s.records.in_order i.there i.id in
     let Any : List Record → Type 0 = λ xs. AreSoundRecords m.opening m.next xs in
     let Few : List Record → Type 0 = λ xs. count_by is_done_checkpoint xs ≤ m.opening.config.retained in
     let of_checkpoint : is_checkpoint c ≡ true → AreSoundRecords m.opening m.next (map (ending c) (filter (staying m c) rs)) = λ (e : is_checkpoint c ≡ true).
-    let order : IsInOrder id_before (map (put_in c) rs) = in_order-put_in q c rs s.in_order i.there i.id in
+    let order : IsInOrder id_before (map (put_in c) rs) = in_order-put_in q c rs s.records.in_order i.there i.id in
     let few : Few (map (ending c) (filter (staying m c) rs)) = subst Few (left_is m c) (retained_after (having m c) c e order) in
     let after : (x : Record) → IsIn x rs → staying m c x ≡ true → ending c x ≡ x → is_pending_checkpoint x ≡ true → q.id ≤ x.id = λ x _ stays same waits.
     let still : is_pending_checkpoint (put_in c x) ≡ true = sym (pending_of_ending c x) ∙ ap is_pending_checkpoint same ∙ waits in
@@ -73,9 +73,9 @@ records_completed m q c s i =
     let there : (put_in c x).id ≡ x.id = g.same x in
     let its : c.id ≡ q.id = i.id in
     omega arith in
-    completed_records (staying m c) (records_of s) p i.pending i.done i.kind i.started i.free few after in
+    completed_records (staying m c) s.records p i.pending i.done i.kind i.started i.free few after in
     let of_savepoint : is_checkpoint c ≡ false → AreSoundRecords m.opening m.next (map (ending c) (filter (staying m c) rs)) = λ (e : is_checkpoint c ≡ false).
-    replaced_records (staying m c) (records_of s) p i.pending i.kind i.started i.free (and_right c.done (is_checkpoint c) e) in
+    replaced_records (staying m c) s.records p i.pending i.kind i.started i.free (and_right c.done (is_checkpoint c) e) in
     subst Any (sym (left_is m c)) (⊎_elim of_checkpoint of_savepoint (cases_Bool (is_checkpoint c)))
   where
     in_order-put_in : (q c : Record) (rs : List Record) → IsInOrder id_before rs → IsIn q rs → c.id ≡ q.id → IsInOrder id_before (map (put_in c) rs)
@@ -87,7 +87,7 @@ records_completed m q c s i =
 pub savepoints_left : (m : State) (q c : Record) (id : ℕ) → IsSound m → IsCompleting m q c → is_checkpoint c ≡ false → list_any (is_savepoint id) m.records ≡ true → list_any (is_savepoint id) (left_by m c) ≡ true
 savepoints_left m q c id s i e there =
     let rs : List Record = m.records in
-    let p : IsReplacing (ending c) q (record c { pins = [] }) rs = unpinned_replaces q c rs s.in_order i.there i.id in
+    let p : IsReplacing (ending c) q (record c { pins = [] }) rs = unpinned_replaces q c rs s.records.in_order i.there i.id in
     let stays : (x : Record) → IsIn x rs → is_savepoint id x ≡ true → (staying m c x ≡ true) × (ending c x ≡ x) = λ x h t.
     (not_from_false (superseded (having m c) c (put_in c x)) (and_left (is_checkpoint c) _ e), ⊎_elim (λ (k : (x ≡ q) × (ending c x ≡ record c { pins = [] })). absurd (savepoint_is_other id x q i.pending t k.0)) (λ (k : (x.id ≡ q.id → ⊥) × (ending c x ≡ x)). k.1) (p.cases x h)) in
     ap (list_any (is_savepoint id)) (left_is m c) ∙ savepoint_stays (ending c) (staying m c) id rs stays there
@@ -125,7 +125,7 @@ completing m q subtask fresh reused s a none = record {
   kind = refl;
   started = refl;
   done = refl;
-  free = completed_is q (s.each q a.there) (with_ack q subtask fresh reused) refl (with_ack_is s a) none;
+  free = completed_is q (s.records.each q a.there) (with_ack q subtask fresh reused) refl (with_ack_is s a) none;
   outbox = outbox_acked (completed q subtask fresh reused) s a refl refl refl;
 }
 
@@ -157,4 +157,4 @@ late_is_sound m subtask fresh reused s once =
       base = s.base;
       idle = s.idle;
       failures = s.failures;
-    }) (records_of s) outbox
+    }) s.records outbox

@@ -11,7 +11,7 @@ use Rattle.ckpt_model.specs.Soundness.{IsSound}
 use Rattle.ckpt_model.proofs.Records.Counts.{IsIn-changed, IsIn-from_changed}
 use Rattle.ckpt_model.proofs.Records.Present.{Holds, IsHeld, IsHeld_before}
 use Rattle.ckpt_model.proofs.Records.Released.{ascending-released, after-from_released, held-from_released}
-use Rattle.ckpt_model.proofs.Records.Lists.{IsSoundOutbox, sound_from, records_of, outbox_of}
+use Rattle.ckpt_model.proofs.Records.Lists.{IsSoundOutbox, sound_from, outbox_of}
 use Rattle.ckpt_ids.proofs.AscendingLemmas.{numbers_in_order}
 
 -- a done savepoint with this number
@@ -77,7 +77,7 @@ moment_is_sound m now s within =
       base = s.base;
       idle = s.idle;
       failures = s.failures;
-    }) (records_of s) (outbox_of s)
+    }) s.records (outbox_of s)
 
 -- no pending record is left if all are dropped
 pub none_pending_left : (rs : List Record) (dropped : Record → Bool) → ((r : Record) → is_pending r ≡ true → dropped r ≡ true) → (r : Record) → IsIn r (map (λ r. r) (filter (λ r. not (dropped r)) rs)) → r.done ≡ true

@@ -9,7 +9,7 @@ use Rattle.ckpt_ids.proofs.OrderedLemmas.{IsIn-append_left, IsIn-append_right, I
 use Rattle.ckpt_model.specs.State.{State}
 use Rattle.ckpt_model.specs.Steps.{take_files, without}
 use Rattle.ckpt_model.specs.Soundness.{IsSound}
-use Rattle.ckpt_model.proofs.Records.Lists.{IsSoundOutbox, sound_from, records_of, outbox_of}
+use Rattle.ckpt_model.proofs.Records.Lists.{IsSoundOutbox, sound_from, outbox_of}
 
 -- the outbox alone is changed
 pub outbox_is_sound : (m : State) (waiting taken : List ℕ) → IsSound m → IsSoundOutbox m.records waiting taken → IsSound (record m { waiting = waiting; taken = taken })
@@ -24,7 +24,7 @@ outbox_is_sound m waiting taken s o =
       base = s.base;
       idle = s.idle;
       failures = s.failures;
-    }) (records_of s) o
+    }) s.records o
 
 -- the prefix moves behind the end
 outbox_rotated : (rs : List Record) (xs ys taken : List ℕ) → IsSoundOutbox rs (xs ++ ys) taken → IsSoundOutbox rs ys (taken ++ xs)

@@ -30,7 +30,7 @@ use Rattle.ckpt_model.specs.Soundness.{IsSound, IsRecord}
 use Rattle.ckpt_ids.proofs.CountLemmas.{count_by-append, count_by_yes, count_by_no, counted-from_IsIn}
 use Rattle.ckpt_model.proofs.Records.Counts.{IsIn-from_find}
 use Rattle.ckpt_model.proofs.Records.Present.{Holds, IsHeld, Holds-from_use, absent-from_not_held, not_held}
-use Rattle.ckpt_model.proofs.Records.Lists.{AreSoundRecords, IsSoundOutbox, sound_from, records_of, outbox_of, appended_records, is_pending_checkpoint}
+use Rattle.ckpt_model.proofs.Records.Lists.{AreSoundRecords, IsSoundOutbox, sound_from, outbox_of, appended_records, is_pending_checkpoint}
 use Rattle.ckpt_model.proofs.Soundness.Drops.{is_savepoint}
 
 -- the files of a choice are held by live records
@@ -110,7 +110,7 @@ new_record_is m kind s = record {
 
 -- the records with it are sound, if there is room for it
 records_triggered : (m : State) (kind : Kind) → IsSound m → count_by is_pending_checkpoint (m.records ++ new_record m kind ∷ []) ≤ limit m.opening.config → count_by (λ r. not (is_checkpoint r)) (m.records ++ new_record m kind ∷ []) ≤ 1000 → AreSoundRecords m.opening (m.next + 1) (m.records ++ new_record m kind ∷ [])
-records_triggered m kind s at_once savepoints_to = appended_records (new_record m kind) (records_of s) s.next_from refl refl (new_record_is m kind s) s.latest at_once savepoints_to
+records_triggered m kind s at_once savepoints_to = appended_records (new_record m kind) s.records s.next_from refl refl (new_record_is m kind s) s.latest at_once savepoints_to
 
 -- and so is the outbox
 pub outbox_triggered : (m : State) (kind : Kind) → IsSound m → IsSoundOutbox (m.records ++ new_record m kind ∷ []) m.waiting m.taken
@@ -146,7 +146,7 @@ pub checkpoint_is_sound : (m : State) (due : ℕ) → IsSound m → m.mode ≡ R
 checkpoint_is_sound m due s running room fewer =
     let new : Record = new_record m kind.Checkpoint in
     let savepoint : Record → Bool = λ r. not (is_checkpoint r) in
-    let old : count_by savepoint m.records ≤ 1000 = s.savepoints_to in
+    let old : count_by savepoint m.records ≤ 1000 = s.records.savepoints_to in
     triggered_is_sound m kind.Checkpoint due s running room
     (omega (arith, count_by-append is_pending_checkpoint m.records (new ∷ []), count_by_yes is_pending_checkpoint new [] refl))
     (omega (arith, count_by-append savepoint m.records (new ∷ []), count_by_no savepoint new [] refl))
@@ -157,7 +157,7 @@ unfolding triggered
 savepoint_is_sound m s running room fewer =
     let new : Record = new_record m kind.Savepoint in
     let savepoint : Record → Bool = λ r. not (is_checkpoint r) in
-    let old : count_by is_pending_checkpoint m.records ≤ limit m.opening.config = s.at_once in
+    let old : count_by is_pending_checkpoint m.records ≤ limit m.opening.config = s.records.at_once in
     triggered_is_sound m kind.Savepoint m.due s running room
     (omega (arith, count_by-append is_pending_checkpoint m.records (new ∷ []), count_by_no is_pending_checkpoint new [] refl))
     (omega (arith, count_by-append savepoint m.records (new ∷ []), count_by_yes savepoint new [] refl))

@@ -21,7 +21,7 @@ use Rattle.ckpt_model.specs.State.{State, is_checkpoint, is_pending, drop, pins_
 use Rattle.ckpt_model.specs.Steps.{Stepped, triggered}
 use Rattle.ckpt_model.specs.Soundness.{IsSound, IsCall}
 use Rattle.ckpt_model.specs.Laws.{given_as, is_ack_taken}
-use Rattle.ckpt_model.proofs.Records.Lists.{sound_from, records_of, outbox_of, filtered_records}
+use Rattle.ckpt_model.proofs.Records.Lists.{sound_from, outbox_of, filtered_records}
 use Rattle.ckpt_model.proofs.Soundness.Drops.{is_savepoint, savepoint_stays, idle_stays, none_pending_left, outbox_filtered}
 use Rattle.ckpt_model.proofs.Soundness.Acks.{IsAcking}
 use Rattle.ckpt_model.proofs.Histories.Moves.{IsMoved, unmoved, dropped_moves, triggered_moves, moves_at, disposed_of, disposed_by}
@@ -174,7 +174,7 @@ dropped_is_sound m call k dropped d c s =
       base = λ id e. savepoint_stays (λ r. r) (λ r. not (dropped r)) id m.records (λ r h t. (not_from_false (dropped r) (base_left d s id r e h t), refl)) (d.base s id e);
       idle = λ ne. ⊎_elim (λ (was : m.mode ≢ Running). idle_stays dropped s was) (λ (all : (r : Record) → is_pending r ≡ true → dropped r ≡ true). none_pending_left m.records dropped all) (d.idle ne);
       failures = d.failures s;
-    }) (filtered_records (λ r. not (dropped r)) (records_of s)) (outbox_filtered (λ r. not (dropped r)) m.records m.waiting m.taken (outbox_of s))
+    }) (filtered_records (λ r. not (dropped r)) s.records) (outbox_filtered (λ r. not (dropped r)) m.records m.waiting m.taken (outbox_of s))
 
 -- a drop gives no number
 pub dropped_is : (m : State) (call : Call) (k : Settings) (dropped : Record → Bool) → IsDropping m call k dropped → IsPlain m call (drop (set m k) dropped None) []

@@ -112,7 +112,7 @@ decline_is m call id (Some r) e =
     let mine : Record → Bool = λ x. eqb x.id r.id in
     let found = IsIn-from_find (λ x. is_pending x && eqb x.id id) r m.records e in
     let pending : r.done ≡ false = not-true r.done (and_parts (is_pending r) (eqb r.id id) found.1).0 in
-    let other : IsSound m → (x : Record) → IsIn x m.records → x.done ≡ true → mine x ≡ false = λ s x h done. ⊎_elim (λ (t : eqb x.id r.id ≡ true). absurd (both_ways r.done pending (ap (λ z. z.done) (sym (same_record x r m.records s.in_order h found.0 (eqb-true x.id r.id t))) ∙ done))) (λ (t : eqb x.id r.id ≡ false). t) (cases_Bool (eqb x.id r.id)) in
+    let other : IsSound m → (x : Record) → IsIn x m.records → x.done ≡ true → mine x ≡ false = λ s x h done. ⊎_elim (λ (t : eqb x.id r.id ≡ true). absurd (both_ways r.done pending (ap (λ z. z.done) (sym (same_record x r m.records s.records.in_order h found.0 (eqb-true x.id r.id t))) ∙ done))) (λ (t : eqb x.id r.id ≡ false). t) (cases_Bool (eqb x.id r.id)) in
     cond_both (fails_the_job m r) (failed_over counted, _) (drop counted mine None, _) (λ (x : Stepped). IsPlain m call x.0 (given_as x.1))
     (λ _. failed_over_is m call (failures_with m r))
     (λ (e : fails_the_job m r ≡ false). dropped_is m call (record (settings m) { failures = failures_with m r }) mine (record {

@@ -13,7 +13,7 @@ use Rattle.ckpt_core.proofs.parts.Parts.add.Goals as goal
 
 pub choice-choice-requires : goal.choice-choice-requires
 unfolding state_of
-choice-choice-requires c = c.requires.sound.in_order
+choice-choice-requires c = c.requires.sound.records.in_order
 
 pub add-requires : goal.add-requires
 add-requires c = record { newest = λ r h. let lt : r.id < c.args.self.now.next = older_pending c.args.self.now c.requires.sound r h in let e = ap (λ q. q.id) c.new.ensures in omega arith }

@@ -7,7 +7,7 @@ use Rattle.ckpt_model.specs.declared.image.Saved.{Saved}
 use Rattle.ckpt_core.specs.declared.parts.Parts.{Parts}
 use Rattle.ckpt_model.specs.Images.{record_in}
 use Rattle.ckpt_core.specs.Inside.Parts.{opening_of, state_of}
-use Rattle.ckpt_model.specs.SoundRecords.{AreSoundRecords}
+use Rattle.ckpt_model.specs.Soundness.{AreSoundRecords}
 use Rattle.ckpt_core.proofs.Loaded.Joining.{joined_records}
 use Rattle.ckpt_core.proofs.Loaded.Reopened.{beside, beside_itself, joins_before, joins_beside, joins_in_list, more_beside, no_records_sound, sound_beside}
 use Rattle.ckpt_core.proofs.parts.Parts.load_all.Goals as goal

@@ -10,7 +10,6 @@ use Rattle.ckpt_model.specs.Refusals.{is_done_savepoint}
 use Rattle.ckpt_model.specs.Soundness.{IsSound}
 use Rattle.ckpt_model.specs.State.{State}
 use Rattle.ckpt_core.proofs.Loaded.Reopened.{IsTold, after_files, can_hold_from, files_held, idle_held, idle_loaded, records_held, records_loaded, told, state_with_base, state_with_records}
-use Rattle.ckpt_model.proofs.Records.Lists.{records_of}
 use Rattle.ckpt_core.proofs.parts.Parts.of_image.Goals as goal
 
 pub load_all-requires-clause-none : goal.load_all-requires-clause-none
@@ -26,7 +25,7 @@ returns-in_err-load_all-clause-damaged c = λ h can.
     let e0 : state_of p0 ≡ emptied m = c.in_ok-parts.ensures.state in
     let same : map record_in c.deref.result.now ≡ m.records = ap (map record_in) c.deref.ensures.value in
     let bad : c.load_all.result ≡ Err Damaged = search rules in
-    c.load_all.ensures.damaged bad (records_held m p0 (map record_in c.deref.result.now) e0 same (records_of can.sound))
+    c.load_all.ensures.damaged bad (records_held m p0 (map record_in c.deref.result.now) e0 same can.sound.records)
 
 pub load_base-requires-clause-none : goal.load_base-requires-clause-none
 load_base-requires-clause-none c = (told c.load_all.new.self _ (state_with_records c.args.image.now c.in_ok-parts.parts c.load_all.new.self c.deref.result.now c.in_ok-parts.ensures.state c.deref.ensures.value c.in_ok-load_all.ensures.state)).base

@@ -21,7 +21,7 @@ returns-clause-sound c =
     subst IsSound (sym core_is) (its_state_is_sound c)
 
 pub returns-clause-full : goal.returns-clause-full
-returns-clause-full c = λ r there done. ((returns-clause-sound c).each r there).full done
+returns-clause-full c = λ r there done. ((returns-clause-sound c).records.each r there).full done
 
 pub returns-clause-exactly_one : goal.returns-clause-exactly_one
 returns-clause-exactly_one c = let h : History = c.args.self.now in exactly_one h (its_state_is_sound c) (c.acknowledgements.ensures h.opening (calls_of h.entries) (its_history c).can_open (its_history c).are_calls)
