@@ -79,7 +79,8 @@ typedef struct {
     uint64_t taken;   /* files that were fetched, and are not yet reported */
 } relkvanu_counts;
 
-/* A call, for relkvanu_call_line. Fields that its kind does not use are not read. */
+/* A call, for relkvanu_call_line and of relkvanu_line_call. The first does not read fields that its kind does not use; the second
+ * sets them to 0. */
 typedef struct {
     uint32_t kind;   /* RELKVANU_CALL_TICK to RELKVANU_CALL_COUNT */
     uint16_t vertex; /* with index: the subtask of an ack or a decline */
@@ -94,7 +95,7 @@ typedef struct {
 #define RELKVANU_NO_MEMORY 2u    /* nothing has changed; what, a and b are 0: make the same call again later */
 #define RELKVANU_CLOSED 3u       /* the handle has no coordinator; what, a and b are 0 */
 #define RELKVANU_BAD_ARGUMENT 4u /* nothing has changed: what is an argument */
-#define RELKVANU_TOO_SHORT 5u    /* nothing has changed: the buffer needs a places; what and b are 0 */
+#define RELKVANU_TOO_SHORT 5u    /* nothing has changed: the buffer needs a places; what is 0, and b too but in relkvanu_line_call */
 #define RELKVANU_BAD_LINE 6u     /* nothing has changed: what is a fault of a line */
 
 /* what, if code is RELKVANU_DONE */
@@ -145,7 +146,7 @@ typedef struct {
 #define RELKVANU_LINE_CONFIG 39u /* a: 7, the numbers at the start of the buffer: those of relkvanu_settings, in its order */
 #define RELKVANU_LINE_JOB 40u    /* a: how many numbers are at the start of the buffer: the parallelism of each vertex */
 #define RELKVANU_LINE_START 41u  /* a: 1, the number at the start of the buffer: the moment */
-#define RELKVANU_LINE_CALL 42u   /* a: 0 */
+#define RELKVANU_LINE_CALL 42u   /* a: 0; of relkvanu_line_call a, b: the items at the start of first and of second */
 #define RELKVANU_LINE_ALL 43u    /* a: 4, the numbers at the start of the buffer: moment, record, threads, first file */
 #define RELKVANU_WRITTEN 44u     /* a: bytes at the start of the buffer */
 
@@ -359,6 +360,17 @@ relkvanu_answer relkvanu_line(relkvanu *handle, const uint8_t *line, size_t line
  * ack, job or restore line. */
 relkvanu_answer relkvanu_line_says(const uint8_t *line, size_t line_len, uint64_t *numbers, size_t numbers_len);
 
+/* Writes the call that a line says: its kind and numbers to call, and its lists to the start of first and second. For an ack these
+ * are the fresh and the reused files, each in ascending order. For a restore, first is the new shape, or empty. It is the
+ * inverse of relkvanu_call_line: that function writes a line that says this call.
+ *
+ * RELKVANU_LINE_CALL, and a and b are how many items first and second have; RELKVANU_TOO_SHORT, and a and b are how many places they
+ * need. A line that says no call, or a restore line with a bad shape, has the answer of relkvanu_line: RELKVANU_SKIPPED,
+ * RELKVANU_BAD_LINE or RELKVANU_BAD_ARGUMENT. A restore line with the savepoint 0 is RELKVANU_REFUSED with
+ * RELKVANU_NO_SUCH_SAVEPOINT, since 0 stands for the latest record in a relkvanu_call. Only RELKVANU_LINE_CALL changes call and the
+ * buffers. Takes memory only for the lists of an ack, job or restore line. */
+relkvanu_answer relkvanu_line_call(const uint8_t *line, size_t line_len, relkvanu_call *call, uint64_t *first, size_t first_len, uint64_t *second, size_t second_len);
+
 /* Writes the line of a call, without a newline and without a zero at its end. relkvanu_line reads it as that call.
  *
  * For an ack, first and second are the fresh and the reused files, in any order. For a restore, first is the new shape, or
@@ -483,6 +495,10 @@ static inline relkvanu_answer relkvanu_line_says_nullable(const uint8_t *line, s
     return relkvanu_line_says(relkvanu_text_of(line, line_len), line_len, relkvanu_places_of(numbers, numbers_len), numbers_len);
 }
 
+static inline relkvanu_answer relkvanu_line_call_nullable(const uint8_t *line, size_t line_len, relkvanu_call *call, uint64_t *first, size_t first_len, uint64_t *second, size_t second_len) {
+    return relkvanu_line_call(relkvanu_text_of(line, line_len), line_len, call, relkvanu_places_of(first, first_len), first_len, relkvanu_places_of(second, second_len), second_len);
+}
+
 static inline relkvanu_answer relkvanu_call_line_nullable(const relkvanu_call *call, const uint64_t *first, size_t first_len, const uint64_t *second, size_t second_len, uint8_t *line, size_t line_len) {
     return relkvanu_call_line(call, relkvanu_list_of(first, first_len), first_len, relkvanu_list_of(second, second_len), second_len, relkvanu_bytes_of(line, line_len), line_len);
 }
@@ -520,6 +536,7 @@ static inline relkvanu_answer relkvanu_taken_files_nullable(relkvanu *handle, ui
 #define relkvanu_refusal_text relkvanu_refusal_text_nullable
 #define relkvanu_line relkvanu_line_nullable
 #define relkvanu_line_says relkvanu_line_says_nullable
+#define relkvanu_line_call relkvanu_line_call_nullable
 #define relkvanu_call_line relkvanu_call_line_nullable
 #define relkvanu_opening_lines relkvanu_opening_lines_nullable
 #define relkvanu_save relkvanu_save_nullable

@@ -191,6 +191,13 @@ struct answered { relkvanu_answer answer; };
 using line_answer = std::variant<skipped, answered, files, std::string, refused>;
 using text_answer = std::variant<std::string, refused>;
 
+/* The call that a line says, with its lists: the fresh and the reused files of an ack, or the shape of a restore. */
+struct said_call {
+    relkvanu_call call;
+    std::vector<std::uint64_t> first, second;
+};
+using line_call_answer = std::variant<skipped, said_call, refused>;
+
 enum class mode { running, failed, cancelled };
 
 /* What a number is. A live record has it (pending or done), or one that is no longer live had it. Or no record has had it yet. Or none
@@ -376,8 +383,8 @@ public:
      * buffer. If it would fetch more files than the buffer has places, it is refused as error::too_short. */
     line_answer line(std::string_view text, span<std::uint64_t> buffer = {}) {
         relkvanu_answer told = relkvanu_line(&handle_, reinterpret_cast<const std::uint8_t *>(text.data()), text.size(), buffer.data(), buffer.size());
-        if (told.code == RELKVANU_TOO_SHORT && text.find("show") != text.npos) {
-            return shown_by(text);
+        if (told.code == RELKVANU_TOO_SHORT) {
+            return longer(text, told);
         } else if (told.code != RELKVANU_DONE) {
             return refusal(told);
         }
@@ -516,16 +523,14 @@ private:
         return std::variant<Coordinator, refused>(std::move(it));
     }
 
-    /* The JSON of a show line. The library reads the number of the record from a job line with the same number. */
-    line_answer shown_by(std::string_view text) {
-        std::string job(text);
-        job.replace(job.find("show"), 4, "job");
-        std::uint64_t id = 0;
-        relkvanu_answer says = relkvanu_line_says(reinterpret_cast<const std::uint8_t *>(job.data()), job.size(), &id, 1);
-        if (says.code != RELKVANU_DONE) { /* out of memory */
-            return refusal(says);
+    /* The answer of a line whose answer needs more room than there is: the JSON of a show line, or how many places a take line needs. */
+    line_answer longer(std::string_view text, relkvanu_answer told) {
+        relkvanu_call call = {};
+        relkvanu_answer says = relkvanu_line_call(reinterpret_cast<const std::uint8_t *>(text.data()), text.size(), &call, nullptr, 0, nullptr, 0);
+        if (says.code != RELKVANU_DONE || call.kind != RELKVANU_CALL_SHOW) {
+            return refusal(told);
         }
-        show_answer shown = show(id);
+        show_answer shown = show(call.number);
         std::string *json = std::get_if<std::string>(&shown);
         return json != nullptr ? line_answer(std::move(*json)) : line_answer(std::get<refused>(shown));
     }
@@ -596,6 +601,26 @@ private:
     return written([&](std::uint8_t *text, std::size_t len) {
         return relkvanu_call_line(&call, first.data(), first.size(), second.data(), second.size(), text, len);
     });
+}
+
+/* The call that a line says: what call_line writes as that line. A line that makes no call is refused, as error::line_no_call, and so is
+ * a restore to savepoint 0, as error::no_such_savepoint. */
+[[nodiscard]] inline line_call_answer line_call(std::string_view text) {
+    said_call it = {};
+    auto say = [&] {
+        return relkvanu_line_call(
+            reinterpret_cast<const std::uint8_t *>(text.data()), text.size(), &it.call, it.first.data(), it.first.size(), it.second.data(), it.second.size());
+    };
+    relkvanu_answer told = say();
+    if (told.code == RELKVANU_TOO_SHORT) {
+        it.first.resize(static_cast<std::size_t>(told.a));
+        it.second.resize(static_cast<std::size_t>(told.b));
+        told = say();
+    }
+    if (told.code != RELKVANU_DONE) {
+        return refusal(told);
+    }
+    return told.what == RELKVANU_SKIPPED ? line_call_answer(skipped{}) : line_call_answer(std::move(it));
 }
 
 /* The lines config, job and start of a coordinator whose first record has the number 1, each with its newline. */

@@ -87,23 +87,6 @@ static relkvanu_answer show(struct script *script, uint64_t id, size_t bytes) {
     return relkvanu_show(&script->handle, id, script->json, script->json_len);
 }
 
-/* Shows the record of a show line, with a buffer of this many bytes. The library reads the number of the record from a job
- * line with the same number. */
-static relkvanu_answer show_line(struct script *script, const char *line, size_t len, size_t bytes) {
-    uint64_t id = 0;
-    size_t before = (size_t)((const char *)memmem(line, len, "show", 4) - line), after = before + 4;
-    char *job = malloc(len);
-    if (job == NULL) {
-        return (relkvanu_answer){RELKVANU_NO_MEMORY, 0, 0, 0};
-    }
-    memcpy(job, line, before);
-    memcpy(job + before, "job", 3);
-    memcpy(job + before + 3, line + after, len - after);
-    relkvanu_answer says = relkvanu_line_says((const uint8_t *)job, len - 1, &id, 1);
-    free(job);
-    return says.code == RELKVANU_DONE ? show(script, id, bytes) : says;
-}
-
 /* Makes the call of a take line with room for this many files. */
 static relkvanu_answer take_line(struct script *script, const char *line, size_t len, size_t files) {
     uint64_t *more = files <= SIZE_MAX / sizeof *more ? realloc(script->taken, files * sizeof *more) : NULL;
@@ -115,10 +98,14 @@ static relkvanu_answer take_line(struct script *script, const char *line, size_t
     return relkvanu_line(&script->handle, (const uint8_t *)line, len, script->taken, script->taken_room);
 }
 
-/* Makes the call of a line whose answer found too little room, and says how much it takes. */
+/* Makes the call of a line whose answer found too little room, and says how much it takes: a show or a take line. */
 static relkvanu_answer longer(struct script *script, const char *line, size_t len, size_t room) {
-    bool is_show = memmem(line, len, "show", 4) != NULL; /* only show and take lines have answers that need room */
-    return is_show ? show_line(script, line, len, room) : take_line(script, line, len, room);
+    relkvanu_call call = {0};
+    relkvanu_answer says = relkvanu_line_call((const uint8_t *)line, len, &call, NULL, 0, NULL, 0);
+    if (says.code != RELKVANU_DONE) {
+        return says;
+    }
+    return call.kind == RELKVANU_CALL_SHOW ? show(script, call.number, room) : take_line(script, line, len, room);
 }
 
 static void configure(relkvanu_settings *settings, const uint64_t *numbers) {

@@ -1,10 +1,12 @@
-/* The C++ header, call by call and read by read, with values that are worked out from docs/RULES.md. */
+/* coordinator SCRIPT..: the C++ header, call by call and read by read, with values that are worked out from docs/RULES.md; and the calls
+ * that the lines of the scripts say. */
 #include "../../include/relkvanu.hpp"
 
 #include "aborts.hpp"
 
 #include <cstdio>
 #include <cstdlib>
+#include <fstream>
 #include <type_traits>
 #include <vector>
 
@@ -200,6 +202,40 @@ static void lines() {
     CHECK(std::get<ckpt::files>(job.line("take 9", buffer)).size() == 2 && buffer[0] == 1 && buffer[1] == 2);
 }
 
+/* A line says the call that it was written for. */
+static void said() {
+    ckpt::line_call_answer ack = ckpt::line_call("ack 5 1 1.2 +12 =7 +11");
+    const ckpt::said_call &it = std::get<ckpt::said_call>(ack);
+    CHECK(it.call.kind == RELKVANU_CALL_ACK && it.call.vertex == 1 && it.call.index == 2 && it.call.now == 5 && it.call.number == 1);
+    CHECK((it.first == std::vector<std::uint64_t>{11, 12} && it.second == std::vector<std::uint64_t>{7}));
+    CHECK(std::get<std::string>(ckpt::call_line(it.call, it.first, it.second)) == "ack 5 1 1.2 +11 +12 =7");
+    ckpt::line_call_answer restore = ckpt::line_call("restore 5 latest 1 2");
+    CHECK((std::get<ckpt::said_call>(restore).first == std::vector<std::uint64_t>{1, 2} && std::get<ckpt::said_call>(restore).call.number == 0));
+    CHECK(std::get<ckpt::said_call>(ckpt::line_call("show 7")).call.number == 7);
+    CHECK(std::holds_alternative<ckpt::skipped>(ckpt::line_call("# a comment")) && std::holds_alternative<ckpt::skipped>(ckpt::line_call({})));
+    CHECK(is(ckpt::line_call("start 7"), ckpt::error::line_no_call) && is(ckpt::line_call("tick"), ckpt::error::line_missing));
+    CHECK(is(ckpt::line_call("restore 5 0"), ckpt::error::no_such_savepoint) && is(ckpt::line_call("restore 5 latest 0"), ckpt::error::bad_shape));
+}
+
+/* The lines of scripts that say a call: each is written again, and that line says the same call. */
+static std::size_t said_in(const char *path) {
+    std::ifstream script(path);
+    std::size_t calls = 0;
+    for (std::string line; std::getline(script, line);) {
+        ckpt::line_call_answer told = ckpt::line_call(line);
+        const ckpt::said_call *it = std::get_if<ckpt::said_call>(&told);
+        if (it == nullptr) {
+            continue;
+        }
+        ckpt::line_call_answer written = ckpt::line_call(std::get<std::string>(ckpt::call_line(it->call, it->first, it->second)));
+        const ckpt::said_call &again = std::get<ckpt::said_call>(written);
+        CHECK(again.call.kind == it->call.kind && again.call.vertex == it->call.vertex && again.call.index == it->call.index);
+        CHECK(again.call.now == it->call.now && again.call.number == it->call.number && again.first == it->first && again.second == it->second);
+        calls++;
+    }
+    return calls;
+}
+
 /* A moment that is far ahead is refused, and changes nothing. */
 static void ahead() {
     const std::uint64_t day = 24 * 60 * 60 * 1000, late = 1000 + 5000 + day + 1; /* a timer may wait until checkpoint 1 expires */
@@ -220,7 +256,13 @@ static void ahead() {
     CHECK(std::holds_alternative<ckpt::answered>(moved.line("tick 1000000000000")) && moved.moment() == 1000000000000);
 }
 
-int main() {
+int main(int argc, char **argv) {
+    std::size_t calls = 0;
+    for (int at = 1; at < argc; at++) {
+        calls += said_in(argv[at]);
+    }
+    CHECK(argc == 1 || calls > 0);
+    said();
     ahead();
     reads();
     recovers();

@@ -8,5 +8,6 @@ pub mod Names
 pub mod Opening
 pub mod Reads
 pub mod Recovery
+pub mod Saying
 pub mod Told
 pub mod Writing

@@ -58,6 +58,10 @@ bad_image = 7
 abbrev pub too_short : ℕ → Answer
 too_short needed = answer 5 0 needed 0
 
+-- of two buffers
+abbrev pub too_short_for : ℕ → ℕ → Answer
+too_short_for first second = answer 5 0 first second
+
 abbrev pub tick_told : ℕ → TickEnd → Answer
 tick_told expired (end.Triggered id) = done 1 expired id
 tick_told expired end.HeldInterval = done 2 expired 0

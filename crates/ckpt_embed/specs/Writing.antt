@@ -6,13 +6,14 @@ use Rattle.ckpt_ids.specs.declared.subtask.SubtaskId.{SubtaskId}
 use Rattle.ckpt_model.specs.State.{Opening}
 use Rattle.ckpt_lines.specs.declared.limits.TheConstants.{LONGEST_LINE}
 use Rattle.ckpt_lines.specs.declared.line.Line.TheVariants as line
+use Rattle.ckpt_lines.specs.declared.meaning.Meaning.TheVariants as meant
 use Rattle.ckpt_lines.specs.Meanings.{is_new_shape}
 use Rattle.ckpt_lines.specs.Reading.{reading}
 use Rattle.ckpt_call_lines.specs.CallTexts.{call_text, config_text, job_text, line_of_call, line_of_config, start_text}
 use Rattle.ckpt_embed.specs.declared.answer.Answer.{Answer}
 use Rattle.ckpt_embed.specs.declared.writing.CallFields.{CallFields}
 use Rattle.ckpt_embed.specs.Calls.{ack_of, restore_of}
-use Rattle.ckpt_embed.specs.Lines.{bad_line}
+use Rattle.ckpt_embed.specs.Lines.{bad_line, said}
 use Rattle.ckpt_embed.specs.Opening.{bad_opening}
 use Rattle.ckpt_embed.specs.Told.{bad_argument, bad_shape, done, too_short}
 
@@ -50,6 +51,11 @@ call_line_told (Err what) places = bad_argument what
 abbrev pub call_line_text : Result Call ℕ → List ℕ
 call_line_text (Ok call) = call_text call
 call_line_text (Err what) = []
+
+-- the bytes that were written say the call
+abbrev pub SaysBack : Result Call ℕ → List ℕ → Answer → Type 0
+SaysBack given written answer =
+    (call : Call) → given ≡ Ok call → answer.code ≡ 0 → said (take answer.a written) ≡ Ok (meant.Call call)
 
 -- the bytes that were written are read as the line of the call
 abbrev pub ReadsBack : Result Call ℕ → List ℕ → Answer → Type 0

@@ -2,7 +2,7 @@
 
 ghost use Rattle.std.specs.Prelude.{◌≡◌};
 ghost use Rattle.ckpt_embed.specs.Lines.{bad_line};
-ghost use Rattle.ckpt_embed.specs.Told.{refusal_told, reply_told, restore_told, tick_told, done, refused, out_of_memory, is_closed, bad_argument, too_short};
+ghost use Rattle.ckpt_embed.specs.Told.{refusal_told, reply_told, restore_told, tick_told, done, refused, out_of_memory, is_closed, bad_argument, too_short, too_short_for};
 
 use ckpt_ids::{Choice, FileId, Refusal, Reply, TickEnd};
 
@@ -32,7 +32,7 @@ pub const NO_MEMORY: u32 = 2;
 pub const CLOSED: u32 = 3;
 /// An argument is outside its limits, and nothing has changed.
 pub const BAD_ARGUMENT: u32 = 4;
-/// The buffer is too short, and nothing has changed.
+/// A buffer is too short, and nothing has changed.
 pub const TOO_SHORT: u32 = 5;
 /// The line makes no call, or would be too long to be read, and nothing has changed.
 pub const BAD_LINE: u32 = 6;
@@ -95,6 +95,18 @@ impl Answer {
             what: 0,
             a: needed,
             b: 0,
+        }
+    }
+
+    /// The answer if two buffers need this many places.
+    pub(crate) fn too_short_for(first: u64, second: u64) -> Answer
+        ensures { result ≡ too_short_for first second }
+    {
+        Answer {
+            code: TOO_SHORT,
+            what: 0,
+            a: first,
+            b: second,
         }
     }
 

@@ -16,6 +16,7 @@ pub mod names;
 pub mod opening;
 pub mod reads;
 pub mod recovery;
+pub mod saying;
 pub mod writing;
 
 pub use answer::Answer;
@@ -28,4 +29,5 @@ pub use names::refusal_text;
 pub use opening::{Settings, close, open};
 pub use reads::{FileCounts, choice, due, file_counts, live, missing, mode, moment, oldest_expiry};
 pub use recovery::{files_of, live_from, pins_of, standing, taken_files, waiting_file};
+pub use saying::line_call;
 pub use writing::{CallFields, call_line, opening_lines};

@@ -22,7 +22,7 @@ use ckpt_lines::{Line, LineFault, Meaning, parse_line};
 use std::alloc::Global;
 
 // what the answer is
-const SKIPPED: u32 = 37;
+pub(crate) const SKIPPED: u32 = 37;
 
 const LINE_SKIP: u32 = 38;
 
@@ -32,7 +32,7 @@ const LINE_JOB: u32 = 40;
 
 const LINE_START: u32 = 41;
 
-const LINE_CALL: u32 = 42;
+pub(crate) const LINE_CALL: u32 = 42;
 
 const LINE_ALL: u32 = 43;
 
@@ -47,7 +47,7 @@ const FAULT_NUMBER: u32 = 4;
 
 const FAULT_EXTRA: u32 = 5;
 
-const FAULT_NO_CALL: u32 = 6;
+pub(crate) const FAULT_NO_CALL: u32 = 6;
 
 /// Makes the call of a script's line, and returns the answer of that call.
 ///
@@ -136,7 +136,7 @@ fn fetchable(core: &Core, most: u64) -> u64
 
 /// What the line says, or the answer if it has a fault.
 #[tactic(auto, unfolding(crate::specs::Lines::said, crate::specs::Lines::reading_wants))]
-fn said(alloc: Global, line: &[u8]) -> Result<Meaning, Answer>
+pub(crate) fn said(alloc: Global, line: &[u8]) -> Result<Meaning, Answer>
     ensures value { IfOk result (λ meant. said line.now ≡ Ok meant) }
     ensures fault { IfErr result (λ answer. answer.code ≢ no_memory → said line.now ≡ Err answer) }
     ensures memory { IfErr result (λ answer. answer.code ≡ no_memory → reading_wants line.now ≡ true) }

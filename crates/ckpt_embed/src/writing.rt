@@ -9,7 +9,7 @@ ghost use Rattle.ckpt_embed.specs.Buffers.{StandsInFront};
 ghost use Rattle.ckpt_embed.specs.Calls.{HasNoNumbers, IsWhyNoCall};
 ghost use Rattle.ckpt_embed.specs.Opening.{IsWhyNot, OpeningWantsMemory, bad_opening, configuration_of, opening_of};
 ghost use Rattle.ckpt_embed.specs.Told.{no_memory};
-ghost use Rattle.ckpt_embed.specs.Writing.{OpeningReadsBack, ReadsBack, call_line_text, call_line_told, given, opening_text, opening_told, text_told};
+ghost use Rattle.ckpt_embed.specs.Writing.{OpeningReadsBack, ReadsBack, SaysBack, call_line_text, call_line_told, given, opening_text, opening_told, text_told};
 
 use crate::answer::Answer;
 use crate::calls::{BAD_SHAPE, ack_of, restore_of};
@@ -20,29 +20,29 @@ use ckpt_ids::{Call, CheckpointId, Config, FileId, MOMENTS_END, Shape, ShapeFaul
 use ckpt_lines::LONGEST_LINE;
 use std::alloc::{AllocError, Global};
 
-const CALL_TICK: u32 = 1;
+pub(crate) const CALL_TICK: u32 = 1;
 
-const CALL_SAVEPOINT: u32 = 2;
+pub(crate) const CALL_SAVEPOINT: u32 = 2;
 
-const CALL_ACK: u32 = 3;
+pub(crate) const CALL_ACK: u32 = 3;
 
-const CALL_DECLINE: u32 = 4;
+pub(crate) const CALL_DECLINE: u32 = 4;
 
-const CALL_DISPOSE: u32 = 5;
+pub(crate) const CALL_DISPOSE: u32 = 5;
 
-const CALL_RESTORE: u32 = 6;
+pub(crate) const CALL_RESTORE: u32 = 6;
 
-const CALL_CANCEL: u32 = 7;
+pub(crate) const CALL_CANCEL: u32 = 7;
 
-const CALL_TAKE: u32 = 8;
+pub(crate) const CALL_TAKE: u32 = 8;
 
-const CALL_DELETED: u32 = 9;
+pub(crate) const CALL_DELETED: u32 = 9;
 
-const CALL_UNDELETED: u32 = 10;
+pub(crate) const CALL_UNDELETED: u32 = 10;
 
-const CALL_SHOW: u32 = 11;
+pub(crate) const CALL_SHOW: u32 = 11;
 
-const CALL_COUNT: u32 = 12;
+pub(crate) const CALL_COUNT: u32 = 12;
 
 const BAD_KIND: u32 = 6;
 
@@ -82,6 +82,7 @@ pub fn call_line(
     ensures told { result.code ≢ no_memory → result ≡ call_line_told (given fields.entry.now first.now second.now) (length line.old) }
     ensures front { result.code ≡ 0 → StandsInFront (call_line_text (given fields.entry.now first.now second.now)) line.old line.new }
     ensures read { ReadsBack (given fields.entry.now first.now second.now) line.new result }
+    ensures said { SaysBack (given fields.entry.now first.now second.now) line.new result }
     ensures kept { result.code ≢ 0 → line.new ≡ line.old }
     ensures memory { result.code ≡ no_memory → IsOk (given fields.entry.now first.now second.now) }
     ensures numbers { HasNoNumbers result }

@@ -5,10 +5,11 @@ ghost use Rattle.ckpt_model.specs.Coordinator.{State};
 ghost use Rattle.ckpt_lines.specs.Reading.{may_want_memory, reading};
 ghost use Rattle.ckpt_embed.specs.Buffers.{StandsInFront};
 ghost use Rattle.ckpt_embed.specs.Calls.{HasNoNumbers, StaysAsItWas, StaysClosed};
-ghost use Rattle.ckpt_embed.specs.Lines.{BringsLineFiles, IsLineAnswered, LineWantsMemory, says_numbers, says_told};
+ghost use Rattle.ckpt_embed.specs.Lines.{BringsLineFiles, IsLineAnswered, LineWantsMemory, reading_wants, said, says_numbers, says_told};
 ghost use Rattle.ckpt_embed.specs.Opening.{OpeningWantsMemory, opening_of};
+ghost use Rattle.ckpt_embed.specs.Saying.{BringsCallList, BringsFields, GivesBack, first_of, meant_told, says_call, second_of};
 ghost use Rattle.ckpt_embed.specs.Told.{no_memory};
-ghost use Rattle.ckpt_embed.specs.Writing.{OpeningReadsBack, ReadsBack, call_line_text, call_line_told, given, opening_text, opening_told};
+ghost use Rattle.ckpt_embed.specs.Writing.{OpeningReadsBack, ReadsBack, SaysBack, call_line_text, call_line_told, given, opening_text, opening_told};
 
 use ckpt_embed::{Answer, CallFields, Handle, Settings};
 use std::alloc::Global;
@@ -44,6 +45,27 @@ pub extern "C" fn relkvanu_line_says(alloc: Global, line: &[u8], numbers: &mut [
     ckpt_embed::line_says(alloc, line, numbers)
 }
 
+/// Writes the call that a line says.
+#[unsafe(no_mangle)]
+pub extern "C" fn relkvanu_line_call(
+    alloc: Global,
+    line: &[u8],
+    call: &mut CallFields,
+    first: &mut [u64],
+    second: &mut [u64],
+) -> Answer
+    ensures told { result.code ≢ no_memory → result ≡ meant_told (said line.now) (length first.old) (length second.old) }
+    ensures fields { BringsFields line.now result call.new }
+    ensures first { BringsCallList first_of line.now result first.old first.new }
+    ensures second { BringsCallList second_of line.now result second.old second.new }
+    ensures given { GivesBack line.now result call.new first.new second.new }
+    ensures kept { result.what ≢ says_call → (call.new ≡ call.old) × (first.new ≡ first.old) × (second.new ≡ second.old) }
+    ensures memory { result.code ≡ no_memory → reading_wants line.now ≡ true }
+    ensures numbers { HasNoNumbers result }
+{
+    ckpt_embed::line_call(alloc, line, call, first, second)
+}
+
 /// Writes the line of a call.
 #[unsafe(no_mangle)]
 pub extern "C" fn relkvanu_call_line(
@@ -56,6 +78,7 @@ pub extern "C" fn relkvanu_call_line(
     ensures told { result.code ≢ no_memory → result ≡ call_line_told (given call.entry.now first.now second.now) (length line.old) }
     ensures front { result.code ≡ 0 → StandsInFront (call_line_text (given call.entry.now first.now second.now)) line.old line.new }
     ensures read { ReadsBack (given call.entry.now first.now second.now) line.new result }
+    ensures said { SaysBack (given call.entry.now first.now second.now) line.new result }
     ensures kept { result.code ≢ 0 → line.new ≡ line.old }
     ensures memory { result.code ≡ no_memory → IsOk (given call.entry.now first.now second.now) }
     ensures numbers { HasNoNumbers result }

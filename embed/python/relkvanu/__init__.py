@@ -4,7 +4,7 @@ librelkvanu.so.0 comes from the folder that RELKVANU_LIB names. Otherwise it is 
 the system's loader finds it. If there is none, the import raises ImportError. docs/RULES.md says what each call does, and when it is
 refused. All exceptions of the package are an Error.
 """
-from relkvanu import lines
+from relkvanu import calls, lines
 from relkvanu.coordinator import (
     BadArgument, BadLine, Closed, Coordinator, Error, OutOfMemory, OutOfRange, Refused, Settings, TooShort, version,
 )
@@ -21,5 +21,5 @@ __all__ = [
     "DeclineAborted", "DeclineFailed", "DeclineLate", "Deleted", "Discarded", "Discarder", "Disposed", "Error", "Failed", "FileCounts", "HeldAtOnce",
     "HeldInterval", "HeldPause", "Kind", "Live", "Mode", "OutOfMemory", "OutOfRange", "Outbox", "Patience", "Refused", "Reply", "RestoredCheckpoint",
     "RestoredFresh", "RestoredSavepoint", "SavepointTriggered", "Settings", "Shown", "Standing", "Taken", "TooShort", "Triggered", "Undeleted",
-    "lines", "version",
+    "calls", "lines", "version",
 ]

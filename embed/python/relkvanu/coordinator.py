@@ -195,11 +195,10 @@ def _written(write: Callable[[Any, int], Any]) -> str:
 
 
 def _shown(line: bytes) -> Optional[int]:
-    """The record of a show line, or None for a take line. The library reads the number from a job line with the same number."""
-    job = line.replace(b"show", b"job", 1)
-    number = U64()
-    answer = _done(_shared().relkvanu_line_says(_text(job), len(job), ctypes.byref(number), 1))
-    return number.value if answer.what == header.LINE_JOB else None
+    """The record of a show line, or None for another line."""
+    call, none = header.relkvanu_call(), _words(())
+    _shared().relkvanu_line_call(_text(line), len(line), ctypes.byref(call), none, 0, none, 0)
+    return call.number if call.kind == header.CALL_SHOW else None
 
 
 def _live(answer: header.relkvanu_answer) -> Optional[Live]:

@@ -185,6 +185,7 @@ FUNCTIONS: Dict[str, Tuple[Any, List[Any]]] = {
     "relkvanu_refusal_text": (c_size_t, [c_uint32, POINTER(c_uint8), c_size_t]),
     "relkvanu_line": (relkvanu_answer, [POINTER(relkvanu), POINTER(c_uint8), c_size_t, POINTER(c_uint64), c_size_t]),
     "relkvanu_line_says": (relkvanu_answer, [POINTER(c_uint8), c_size_t, POINTER(c_uint64), c_size_t]),
+    "relkvanu_line_call": (relkvanu_answer, [POINTER(c_uint8), c_size_t, POINTER(relkvanu_call), POINTER(c_uint64), c_size_t, POINTER(c_uint64), c_size_t]),
     "relkvanu_call_line": (relkvanu_answer, [POINTER(relkvanu_call), POINTER(c_uint64), c_size_t, POINTER(c_uint64), c_size_t, POINTER(c_uint8), c_size_t]),
     "relkvanu_opening_lines": (relkvanu_answer, [POINTER(relkvanu_settings), POINTER(c_uint64), c_size_t, c_uint64, POINTER(c_uint8), c_size_t]),
     "relkvanu_save": (relkvanu_answer, [POINTER(relkvanu), POINTER(c_uint8), c_size_t]),

@@ -6,7 +6,7 @@ import unittest
 
 from relkvanu import (
     AckCompleted, AckPending, Cancelled, Coordinator, DeclineFailed, Deleted, OutOfMemory, RestoredCheckpoint, Settings,
-    Taken, Triggered, lines,
+    Taken, Triggered, calls, lines,
 )
 
 SETTINGS = Settings(interval=1000, at_once=2, timeout=5000)
@@ -88,6 +88,8 @@ class Memory(unittest.TestCase):
             self.told(job, lambda it: it.pins_of(4), (1, 4, 5))
             self.told(job, lambda it: it.files_of(3, 0, 0), (1, 4), takes_memory=False)
             self.told(job, lambda it: lines.ack_line(5, 1, 0, 0, [2], [1]), "ack 5 1 0.0 +2 =1")
+            self.told(job, lambda it: calls.line_call(b"ack 5 1 0.0 +2 =1"), calls.Ack(5, 1, 0, 0, (2,), (1,)))
+            self.told(job, lambda it: calls.line_call(b"show 3"), calls.Show(3), takes_memory=False)
 
     def opens(self, make):
         """Opens a coordinator, once with all memory and once with each request refused. Returns the first."""

@@ -9,7 +9,7 @@ import unittest
 from relkvanu import (
     AckCompleted, AckLate, AckPending, BadArgument, BadLine, Cancelled, Coordinator, Counted, DeclineAborted, DeclineFailed,
     DeclineLate, Deleted, Disposed, Failed, FileCounts, HeldAtOnce, HeldInterval, HeldPause, Refused, RestoredCheckpoint,
-    RestoredFresh, RestoredSavepoint, SavepointTriggered, Settings, Shown, Taken, TooShort, Triggered, Undeleted, lines,
+    RestoredFresh, RestoredSavepoint, SavepointTriggered, Settings, Shown, Taken, TooShort, Triggered, Undeleted, calls, lines,
 )
 
 ROWS = pathlib.Path(__file__).resolve().parents[3] / "examples/rows"
@@ -69,7 +69,26 @@ def told(job, number, line):
     return [TEXTS[type(reply)].format(reply)]
 
 
+def said(line):
+    """The call that a line says; None if it says none."""
+    try:
+        return calls.line_call(line)
+    except (BadLine, BadArgument, Refused):
+        return None
+
+
 class Rows(unittest.TestCase):
+    def test_the_calls_of_rows_are_written_again(self):
+        found = set()
+        for path in sorted(ROWS.glob("*.in")):
+            for line in path.read_bytes().removesuffix(b"\n").split(b"\n"):
+                call = said(line)
+                if call is not None:
+                    self.assertEqual(calls.line_call(call.line().encode()), call, line)
+                    self.assertEqual(lines.line_says(line), lines.Call())
+                    found.add(type(call))
+        self.assertEqual(found, set(calls.Call.__args__))
+
     def test_rows(self):
         run = 0
         for path in sorted(ROWS.glob("*.in")):
@@ -99,6 +118,24 @@ class Lines(unittest.TestCase):
         self.assertEqual(raised.exception.name, "TooLong")
         self.assertRaises(OverflowError, lines.tick_line, 1 << 64)
         self.assertRaises(BadArgument, lines.restore_line, 5, None, [0])
+
+    def test_a_line_says_its_call(self):
+        wanted = [
+            (b" tick  05 \r", calls.Tick(5)), (b"savepoint 5", calls.Savepoint(5)), (b"decline 5 1 0.3", calls.Decline(5, 1, 0, 3)),
+            (b"ack 5 1 1.2 +12 =9 +11 =7", calls.Ack(5, 1, 1, 2, (11, 12), (7, 9))), (b"ack 5 1 0.0", calls.Ack(5, 1, 0, 0, ())),
+            (b"restore 5 latest", calls.Restore(5)), (b"restore 5 4 1 2", calls.Restore(5, 4, (1, 2))), (b"dispose 3", calls.Dispose(3)),
+            (b"cancel 5", calls.Cancel(5)), (b"take 9", calls.Take(9)), (b"deleted 7", calls.Deleted(7)), (b"undeleted 7", calls.Undeleted(7)),
+            (b"show 3", calls.Show(3)), (b"count 18446744073709551615", calls.Count((1 << 64) - 1)), (b"# a comment", None), (b"", None),
+        ]
+        for line, call in wanted:
+            self.assertEqual(calls.line_call(line), call)
+        for line, kind, name in [
+            (b"start 7", BadLine, "NoCall"), (b"tick x", BadLine, "Number"), (b"restore 5 latest 0", BadArgument, "BadShape"),
+            (b"restore 5 0", Refused, "NoSuchSavepoint"),
+        ]:
+            with self.assertRaises(kind) as raised:
+                calls.line_call(line)
+            self.assertEqual(raised.exception.name, name)
 
     def test_a_log_is_made_again(self):
         settings = Settings(interval=1000, timeout=5000, keep_on_cancel=True)

@@ -37,6 +37,12 @@ impl From<&Subtask> for (u16, u16) {
     }
 }
 
+impl From<(u16, u16)> for Subtask {
+    fn from((vertex, index): (u16, u16)) -> Subtask {
+        Subtask { vertex, index }
+    }
+}
+
 /// What a restore begins from.
 #[derive(Clone, Copy, Debug, PartialEq, Eq)]
 pub enum Target {

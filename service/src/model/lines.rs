@@ -1,7 +1,10 @@
-//! Script lines of calls (docs/SCRIPT.md), which the log has and `ckpt_job` runs. The library writes them, and makes their
-//! calls again.
-use super::call::{Call, Subtask, Target};
+//! Script lines of calls (docs/SCRIPT.md), which the log has and `ckpt_job` runs. The library writes them, reads them, and makes
+//! their calls again.
+use super::call::{Call, Target};
 use relkvanu::Fault;
+use std::alloc::Layout;
+use std::thread;
+use std::time::Duration;
 
 impl Call {
     /// The script line of this call at the moment `now`. The files of an acknowledgement ascend in it.
@@ -29,57 +32,51 @@ impl Call {
     }
 }
 
-/// Reads a line that [`Call::line`] wrote: its moment, which is 0 for calls without one, and the call.
+/// How often a line is read again for which the library had no memory, and how long after the time before.
+const ATTEMPTS: u32 = 10_000;
+const PAUSE: Duration = Duration::from_millis(1);
+
+/// Reads a line that [`Call::line`] wrote: its moment, which is 0 for calls without one, and the call. `None` for another line.
 ///
-/// The library makes the call of a line, but does not return its parts: `relkvanu::Line::of` returns `Call` for each
-/// of these. So this reads the record, subtask, files and shape for the history and the events.
+/// A line that was not read for want of memory must not pass for another one. If memory does not come back, the process ends, as it
+/// does if there is none for a list of its own.
 pub fn parse_line(line: &str) -> Option<(u64, Call)> {
-    let mut words = line.split(' ');
-    let name = words.next()?;
-    let rest: Vec<&str> = words.collect();
-    let number = |place: usize| rest.get(place)?.parse::<u64>().ok();
-    let subtask = |place: usize| rest.get(place)?.parse::<Subtask>().ok();
-    let timed = |call: Call| Some((number(0)?, call));
-    match name {
-        "tick" => timed(Call::Tick),
-        "savepoint" => timed(Call::Savepoint),
-        "cancel" => timed(Call::Cancel),
-        "ack" => timed(Call::Ack {
-            id: number(1)?,
-            subtask: subtask(2)?,
-            fresh: signed(&rest[3..], '+')?,
-            reused: signed(&rest[3..], '=')?,
-        }),
-        "decline" => timed(Call::Decline { id: number(1)?, subtask: subtask(2)? }),
-        "restore" => timed(Call::Restore { target: target(rest.get(1)?)?, shape: shape(&rest[2..])? }),
-        "dispose" => Some((0, Call::Dispose { id: number(0)? })),
-        "take" => Some((0, Call::Take { most: number(0)? })),
-        "deleted" => Some((0, Call::Deleted { file: number(0)? })),
-        "undeleted" => Some((0, Call::Undeleted { file: number(0)? })),
-        _ => None,
+    for _ in 0..ATTEMPTS {
+        match relkvanu::Call::of(line.as_bytes(), &mut Vec::new(), &mut Vec::new()) {
+            Ok(said) => return changing(said?),
+            Err(Fault::Memory) => thread::sleep(PAUSE),
+            Err(_) => return None,
+        }
     }
+    std::alloc::handle_alloc_error(Layout::for_value(line))
 }
 
-fn signed(words: &[&str], sign: char) -> Option<Vec<u64>> {
-    words.iter().filter_map(|word| word.strip_prefix(sign)).map(|digits| digits.parse().ok()).collect()
-}
-
-fn target(word: &str) -> Option<Target> {
-    match word {
-        "latest" => Some(Target::Latest),
-        digits => digits.parse().ok().map(Target::Savepoint),
-    }
-}
-
-fn shape(words: &[&str]) -> Option<Option<Vec<u64>>> {
-    if words.is_empty() {
-        return Some(None);
-    }
-    words.iter().map(|word| word.parse().ok()).collect::<Option<Vec<u64>>>().map(Some)
+/// The call with its moment, if it changes a job.
+fn changing(said: relkvanu::Call<'_>) -> Option<(u64, Call)> {
+    use relkvanu::Call as C;
+    Some(match said {
+        C::Tick { now } => (now, Call::Tick),
+        C::Savepoint { now } => (now, Call::Savepoint),
+        C::Ack { now, id, subtask, fresh, reused } => {
+            (now, Call::Ack { id, subtask: subtask.into(), fresh: fresh.to_vec(), reused: reused.to_vec() })
+        }
+        C::Decline { now, id, subtask } => (now, Call::Decline { id, subtask: subtask.into() }),
+        C::Dispose { id } => (0, Call::Dispose { id }),
+        C::Restore { now, savepoint, shape } => {
+            let target = savepoint.map_or(Target::Latest, |id| Target::Savepoint(id.get()));
+            (now, Call::Restore { target, shape: shape.map(<[u64]>::to_vec) })
+        }
+        C::Cancel { now } => (now, Call::Cancel),
+        C::Take { most } => (0, Call::Take { most }),
+        C::Deleted { file } => (0, Call::Deleted { file }),
+        C::Undeleted { file } => (0, Call::Undeleted { file }),
+        C::Show { .. } | C::Count { .. } => return None,
+    })
 }
 
 #[cfg(test)]
 mod tests {
+    use super::super::call::Subtask;
     use super::*;
 
     const SUBTASK: Subtask = Subtask { vertex: 1, index: 7 };
@@ -128,7 +125,8 @@ mod tests {
 
     #[test]
     fn refuses_other_lines() {
-        for line in ["", "tick", "tick x", "ack 1 2", "ack 1 2 0", "show 1", "restore 5 late", "take"] {
+        let faulty = ["tick", "tick x", "ack 1 2", "ack 1 2 0", "restore 5 late", "restore 5 0", "take"];
+        for line in faulty.into_iter().chain(["", "# tick 5", "show 1", "count 1", "start 5"]) {
             assert_eq!(parse_line(line), None, "{line}");
         }
     }

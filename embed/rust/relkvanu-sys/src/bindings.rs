@@ -15,7 +15,7 @@ pub const RELKVANU_NO_MEMORY: u32 = 2;
 pub const RELKVANU_CLOSED: u32 = 3;
 /// nothing has changed: what is an argument
 pub const RELKVANU_BAD_ARGUMENT: u32 = 4;
-/// nothing has changed: the buffer needs a places; what and b are 0
+/// nothing has changed: the buffer needs a places; what is 0, and b too but in relkvanu_line_call
 pub const RELKVANU_TOO_SHORT: u32 = 5;
 /// nothing has changed: what is a fault of a line
 pub const RELKVANU_BAD_LINE: u32 = 6;
@@ -99,7 +99,7 @@ pub const RELKVANU_LINE_CONFIG: u32 = 39;
 pub const RELKVANU_LINE_JOB: u32 = 40;
 /// a: 1, the number at the start of the buffer: the moment
 pub const RELKVANU_LINE_START: u32 = 41;
-/// a: 0
+/// a: 0; of relkvanu_line_call a, b: the items at the start of first and of second
 pub const RELKVANU_LINE_CALL: u32 = 42;
 /// a: 4, the numbers at the start of the buffer: moment, record, threads, first file
 pub const RELKVANU_LINE_ALL: u32 = 43;
@@ -349,6 +349,17 @@ extern "C" {
         line_len: usize,
         numbers: *mut u64,
         numbers_len: usize,
+    ) -> relkvanu_answer;
+
+    /// Writes the call that a line says: its kind and numbers to call, and its lists to the start of first and second. For an ack these are the fresh and the reused files, each in ascending order. For a restore, first is the new shape, or empty. It is the inverse of relkvanu_call_line: that function writes a line that says this call. RELKVANU_LINE_CALL, and a and b are how many items first and second have; RELKVANU_TOO_SHORT, and a and b are how many places they need. A line that says no call, or a restore line with a bad shape, has the answer of relkvanu_line: RELKVANU_SKIPPED, RELKVANU_BAD_LINE or RELKVANU_BAD_ARGUMENT. A restore line with the savepoint 0 is RELKVANU_REFUSED with RELKVANU_NO_SUCH_SAVEPOINT, since 0 stands for the latest record in a relkvanu_call. Only RELKVANU_LINE_CALL changes call and the buffers. Takes memory only for the lists of an ack, job or restore line.
+    pub fn relkvanu_line_call(
+        line: *const u8,
+        line_len: usize,
+        call: *mut relkvanu_call,
+        first: *mut u64,
+        first_len: usize,
+        second: *mut u64,
+        second_len: usize,
     ) -> relkvanu_answer;
 
     /// Writes the line of a call, without a newline and without a zero at its end. relkvanu_line reads it as that call. For an ack, first and second are the fresh and the reused files, in any order. For a restore, first is the new shape, or empty. RELKVANU_WRITTEN; RELKVANU_TOO_SHORT, and a is how many bytes it needs; RELKVANU_BAD_ARGUMENT with RELKVANU_BAD_KIND or RELKVANU_BAD_SHAPE; RELKVANU_BAD_LINE with RELKVANU_FAULT_TOO_LONG if the line would be too long. No line is cut. Only RELKVANU_WRITTEN changes the buffer. Takes memory.

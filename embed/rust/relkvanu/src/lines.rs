@@ -1,11 +1,11 @@
 //! Lines of a script (`docs/SCRIPT.md`): a log of calls, which the library writes and reads.
 use crate::answer::{self, Answer};
+use crate::call::Call;
 use crate::coordinator::{Coordinator, Settings};
 use crate::fault::{done, text, Fault};
 use relkvanu_sys as sys;
 use std::error::Error;
 use std::fmt;
-use std::num::NonZeroU64;
 
 /// What is wrong with a line: the first fault from the left.
 #[derive(Clone, Copy, Debug, PartialEq, Eq, Hash)]
@@ -146,141 +146,6 @@ pub fn opening_lines(settings: &Settings, shape: &[u64], now: u64) -> Result<Str
     })
 }
 
-/// A call for a log. Its line reads back as this call.
-#[derive(Clone, Copy, Debug, PartialEq, Eq, Hash)]
-pub enum Call<'a> {
-    Tick {
-        now: u64,
-    },
-    Savepoint {
-        now: u64,
-    },
-    Ack {
-        now: u64,
-        id: u64,
-        subtask: (u16, u16),
-        fresh: &'a [u64],
-        reused: &'a [u64],
-    },
-    Decline {
-        now: u64,
-        id: u64,
-        subtask: (u16, u16),
-    },
-    Dispose {
-        id: u64,
-    },
-    Restore {
-        now: u64,
-        savepoint: Option<NonZeroU64>,
-        shape: Option<&'a [u64]>,
-    },
-    Cancel {
-        now: u64,
-    },
-    Take {
-        most: u64,
-    },
-    Deleted {
-        file: u64,
-    },
-    Undeleted {
-        file: u64,
-    },
-    Show {
-        id: u64,
-    },
-    Count {
-        file: u64,
-    },
-}
-
-impl Call<'_> {
-    /// The line of the call, without a newline. A line that would be too long is a [`Fault::BadLine`]. None is cut.
-    pub fn line(&self) -> Result<String, Fault> {
-        if let Call::Restore {
-            shape: Some([]), ..
-        } = self
-        {
-            return Err(Fault::BadShape);
-        }
-        let call = self.fields();
-        let (first, second) = self.lists();
-        text(|bytes| {
-            // SAFETY: the fields, the slices and the buffer outlive the call, and have as many elements as is said.
-            unsafe {
-                sys::relkvanu_call_line(
-                    &call,
-                    first.as_ptr(),
-                    first.len(),
-                    second.as_ptr(),
-                    second.len(),
-                    bytes.as_mut_ptr(),
-                    bytes.len(),
-                )
-            }
-        })
-    }
-
-    fn lists(&self) -> (&[u64], &[u64]) {
-        match self {
-            Call::Ack { fresh, reused, .. } => (fresh, reused),
-            Call::Restore { shape, .. } => (shape.unwrap_or(&[]), &[]),
-            _ => (&[], &[]),
-        }
-    }
-
-    fn fields(&self) -> sys::relkvanu_call {
-        let of = |kind, now, number| sys::relkvanu_call {
-            kind,
-            vertex: 0,
-            index: 0,
-            now,
-            number,
-        };
-        let part = |kind, now, number, (vertex, index): (u16, u16)| sys::relkvanu_call {
-            vertex,
-            index,
-            ..of(kind, now, number)
-        };
-        match *self {
-            Call::Tick { now } => of(sys::RELKVANU_CALL_TICK, now, 0),
-            Call::Savepoint { now } => of(sys::RELKVANU_CALL_SAVEPOINT, now, 0),
-            Call::Ack {
-                now, id, subtask, ..
-            } => part(sys::RELKVANU_CALL_ACK, now, id, subtask),
-            Call::Decline { now, id, subtask } => {
-                part(sys::RELKVANU_CALL_DECLINE, now, id, subtask)
-            }
-            Call::Dispose { id } => of(sys::RELKVANU_CALL_DISPOSE, 0, id),
-            Call::Restore { now, savepoint, .. } => of(
-                sys::RELKVANU_CALL_RESTORE,
-                now,
-                savepoint.map_or(0, NonZeroU64::get),
-            ),
-            Call::Cancel { now } => of(sys::RELKVANU_CALL_CANCEL, now, 0),
-            Call::Take { most } => of(sys::RELKVANU_CALL_TAKE, 0, most),
-            Call::Deleted { file } => of(sys::RELKVANU_CALL_DELETED, 0, file),
-            Call::Undeleted { file } => of(sys::RELKVANU_CALL_UNDELETED, 0, file),
-            Call::Show { id } => of(sys::RELKVANU_CALL_SHOW, 0, id),
-            Call::Count { file } => of(sys::RELKVANU_CALL_COUNT, 0, file),
-        }
-    }
-}
-
-/// The record of a show line, `None` for a take line. The library reads the number from a job line with the same
-/// number.
-fn shown_record(line: &[u8]) -> Result<Option<u64>, Fault> {
-    let Some(word) = line.windows(4).position(|word| word == b"show") else {
-        return Ok(None);
-    };
-    let job = [&line[..word], b"job", &line[word + 4..]].concat();
-    match Line::of(&job)? {
-        Line::Job(numbers) => Ok(numbers.first().copied()),
-        other => unreachable!("a show line is {other:?}"),
-    }
-}
-
 impl Coordinator {
     /// Makes the call of a line: the bytes before its newline. A carriage return at the end is dropped.
     ///
@@ -299,9 +164,9 @@ impl Coordinator {
             )
         };
         if told.code == sys::RELKVANU_TOO_SHORT {
-            return match shown_record(line)? {
-                Some(id) => self.show(id).map(Said::Shown),
-                None => Err(Fault::TooShort { places: told.a }),
+            return match Call::of(line, &mut Vec::new(), &mut Vec::new())? {
+                Some(Call::Show { id }) => self.show(id).map(Said::Shown),
+                _ => Err(Fault::TooShort { places: told.a }),
             };
         }
         let told = done(told)?;

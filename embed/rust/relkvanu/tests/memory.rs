@@ -171,6 +171,15 @@ fn texts(job: &mut Coordinator) {
         reused: &[1],
     };
     told(job, true, |_| ack.line(), "ack 5 1 0.0 +2 =1".to_string());
+    let said = |line: &[u8]| {
+        let (mut first, mut second) = (Vec::new(), Vec::new());
+        let call = Call::of(line, &mut first, &mut second)?;
+        Ok(format!("{call:?}"))
+    };
+    let wanted = format!("{:?}", Some(ack));
+    told(job, true, |_| said(b"ack 5 1 0.0 +2 =1"), wanted);
+    let show = format!("{:?}", Some(Call::Show { id: 3 }));
+    told(job, false, |_| said(b"show 3"), show);
 }
 
 #[test]

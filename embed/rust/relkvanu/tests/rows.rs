@@ -5,6 +5,7 @@ use relkvanu::{
     opening_lines, Answer, Call, Coordinator, Fault, Line, LineFault, Refusal, Said, Settings,
 };
 use settings::SETTINGS;
+use std::num::NonZeroU64;
 use std::path::Path;
 
 /// A row: the lines of its script, and what each one prints.
@@ -77,11 +78,27 @@ fn told(job: &mut Coordinator, line: &[u8], number: usize) -> Option<String> {
     }
 }
 
+/// Checks that the line of the call that a line says says the same call. Returns whether the line says a call.
+fn is_written_again(line: &[u8]) -> bool {
+    let (mut first, mut second) = (Vec::new(), Vec::new());
+    let Ok(Some(call)) = Call::of(line, &mut first, &mut second) else {
+        return false;
+    };
+    let written = call.line().unwrap();
+    let (mut first, mut second) = (Vec::new(), Vec::new());
+    assert_eq!(
+        Call::of(written.as_bytes(), &mut first, &mut second),
+        Ok(Some(call))
+    );
+    assert_eq!(Line::of(line), Ok(Line::Call));
+    true
+}
+
 #[test]
 fn rows() {
     let folder = Path::new(env!("CARGO_MANIFEST_DIR")).join("../../../examples/rows");
     let others = std::fs::read_to_string(folder.join("OTHERS")).unwrap();
-    let mut run = 0;
+    let (mut run, mut calls) = (0, 0);
     for entry in std::fs::read_dir(folder).unwrap() {
         let path = entry.unwrap().path();
         if path.extension().is_none_or(|extension| extension != "in") {
@@ -100,9 +117,14 @@ fn rows() {
             .map(|line| line + "\n")
             .collect();
         assert_eq!(output, row.wanted, "{}", path.display());
+        calls += row
+            .lines
+            .iter()
+            .filter(|line| is_written_again(line))
+            .count();
         run += 1;
     }
-    assert!(run > 0, "no row is a list of calls");
+    assert!(run > 0 && calls > 0, "no row is a list of calls");
 }
 
 #[test]
@@ -141,6 +163,48 @@ fn a_call_is_written_as_its_line() {
         shape: Some(&[]),
     };
     assert_eq!(empty.line(), Err(Fault::BadShape));
+}
+
+#[test]
+fn a_line_says_its_call() {
+    let (mut first, mut second) = (vec![1; 9], Vec::new());
+    let ack = Call::Ack {
+        now: 5,
+        id: 1,
+        subtask: (1, 2),
+        fresh: &[11, 12],
+        reused: &[7, 9],
+    };
+    let said = Call::of(b"ack 5 1 1.2 +12 =9 +11 =7\r", &mut first, &mut second);
+    assert_eq!(said, Ok(Some(ack)));
+    let restore = Call::Restore {
+        now: 5,
+        savepoint: NonZeroU64::new(4),
+        shape: Some(&[1, 2]),
+    };
+    let said = Call::of(b"restore 5 4 1 2", &mut first, &mut second);
+    assert_eq!(said, Ok(Some(restore)));
+    let latest = Call::Restore {
+        now: 5,
+        savepoint: None,
+        shape: None,
+    };
+    for (line, said) in [
+        (b"restore 5 latest".as_slice(), Ok(Some(latest))),
+        (b"tick 5", Ok(Some(Call::Tick { now: 5 }))),
+        (b"count 9", Ok(Some(Call::Count { file: 9 }))),
+        (b" # a comment", Ok(None)),
+        (b"", Ok(None)),
+        (b"start 7", Err(Fault::BadLine(LineFault::NoCall))),
+        (b"tick 5 6", Err(Fault::BadLine(LineFault::Extra))),
+        (b"restore 5 latest 0", Err(Fault::BadShape)),
+        (
+            b"restore 5 0",
+            Err(Fault::Refused(Refusal::NoSuchSavepoint)),
+        ),
+    ] {
+        assert_eq!(Call::of(line, &mut Vec::new(), &mut Vec::new()), said);
+    }
 }
 
 #[test]

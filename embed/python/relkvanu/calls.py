@@ -1,0 +1,160 @@
+"""Calls as values: what a line of a log says (docs/SCRIPT.md), and the line of each."""
+import ctypes
+from dataclasses import dataclass
+from typing import Callable, Dict, Optional, Tuple, Union
+
+from relkvanu import header
+from relkvanu.coordinator import U64, _done, _shared, _text
+from relkvanu.lines import (
+    _line, ack_line, cancel_line, decline_line, deleted_line, dispose_line, restore_line, savepoint_line, take_line, tick_line,
+    undeleted_line,
+)
+
+
+@dataclass(frozen=True)
+class Tick:
+    now: int
+
+    def line(self) -> str:
+        return tick_line(self.now)
+
+
+@dataclass(frozen=True)
+class Savepoint:
+    now: int
+
+    def line(self) -> str:
+        return savepoint_line(self.now)
+
+
+@dataclass(frozen=True)
+class Ack:
+    """The files that a line says are in ascending order."""
+
+    now: int
+    id: int
+    vertex: int
+    index: int
+    fresh: Tuple[int, ...]
+    reused: Tuple[int, ...] = ()
+
+    def line(self) -> str:
+        return ack_line(self.now, self.id, self.vertex, self.index, self.fresh, self.reused)
+
+
+@dataclass(frozen=True)
+class Decline:
+    now: int
+    id: int
+    vertex: int
+    index: int
+
+    def line(self) -> str:
+        return decline_line(self.now, self.id, self.vertex, self.index)
+
+
+@dataclass(frozen=True)
+class Dispose:
+    id: int
+
+    def line(self) -> str:
+        return dispose_line(self.id)
+
+
+@dataclass(frozen=True)
+class Restore:
+    """From a savepoint, or from the latest record; in a new shape, or in the current one."""
+
+    now: int
+    savepoint: Optional[int] = None
+    shape: Optional[Tuple[int, ...]] = None
+
+    def line(self) -> str:
+        return restore_line(self.now, self.savepoint, self.shape)
+
+
+@dataclass(frozen=True)
+class Cancel:
+    now: int
+
+    def line(self) -> str:
+        return cancel_line(self.now)
+
+
+@dataclass(frozen=True)
+class Take:
+    most: int
+
+    def line(self) -> str:
+        return take_line(self.most)
+
+
+@dataclass(frozen=True)
+class Deleted:
+    file: int
+
+    def line(self) -> str:
+        return deleted_line(self.file)
+
+
+@dataclass(frozen=True)
+class Undeleted:
+    file: int
+
+    def line(self) -> str:
+        return undeleted_line(self.file)
+
+
+@dataclass(frozen=True)
+class Show:
+    id: int
+
+    def line(self) -> str:
+        return _line(header.CALL_SHOW, number=self.id)
+
+
+@dataclass(frozen=True)
+class Count:
+    file: int
+
+    def line(self) -> str:
+        return _line(header.CALL_COUNT, number=self.file)
+
+
+Call = Union[Tick, Savepoint, Ack, Decline, Dispose, Restore, Cancel, Take, Deleted, Undeleted, Show, Count]
+
+OF_A_MOMENT: Dict[int, Callable[[int], Call]] = {header.CALL_TICK: Tick, header.CALL_SAVEPOINT: Savepoint, header.CALL_CANCEL: Cancel}
+OF_A_NUMBER: Dict[int, Callable[[int], Call]] = {
+    header.CALL_DISPOSE: Dispose, header.CALL_TAKE: Take, header.CALL_DELETED: Deleted, header.CALL_UNDELETED: Undeleted,
+    header.CALL_SHOW: Show, header.CALL_COUNT: Count,
+}
+
+
+def line_call(line: bytes) -> Optional[Call]:
+    """The call that a line says: the bytes before its newline. None for a line without words and a comment.
+
+    Raises BadLine for a line that makes no call, BadArgument for a restore in a bad shape, and Refused for a restore to savepoint 0,
+    which no savepoint has."""
+    text, call = _text(line), header.relkvanu_call()
+    fresh = reused = 0
+    while True:
+        first, second = (U64 * max(fresh, 1))(), (U64 * max(reused, 1))()
+        answer = _shared().relkvanu_line_call(text, len(line), ctypes.byref(call), first, fresh, second, reused)
+        if answer.code != header.TOO_SHORT:
+            break
+        fresh, reused = answer.a, answer.b
+    if _done(answer).what == header.SKIPPED:
+        return None
+    return _call(call, tuple(first[: answer.a]), tuple(second[: answer.b]))
+
+
+def _call(it: header.relkvanu_call, first: Tuple[int, ...], second: Tuple[int, ...]) -> Call:
+    if it.kind in OF_A_MOMENT:
+        return OF_A_MOMENT[it.kind](it.now)
+    if it.kind in OF_A_NUMBER:
+        return OF_A_NUMBER[it.kind](it.number)
+    if it.kind == header.CALL_ACK:
+        return Ack(it.now, it.number, it.vertex, it.index, first, second)
+    if it.kind == header.CALL_DECLINE:
+        return Decline(it.now, it.number, it.vertex, it.index)
+    return Restore(it.now, it.number or None, first or None)
