@@ -13,6 +13,7 @@ mod metrics;
 mod model;
 mod process;
 mod serve;
+mod stop;
 mod store;
 mod upkeep;
 mod writer;

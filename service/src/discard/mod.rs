@@ -3,6 +3,7 @@ mod folder;
 mod metrics;
 
 use crate::cli;
+use crate::exit::NOT_TO_START;
 use crate::log;
 use folder::{Folder, Outcome, Owner, Stop};
 use metrics::Metrics;
@@ -26,9 +27,6 @@ const LONGEST_PAUSE: Duration = Duration::from_secs(60);
 const ONCE_PATIENCE: Duration = Duration::from_secs(60);
 /// How long a new marker waits for the history, which tells whether files were deleted before.
 const HISTORY_PATIENCE: Duration = Duration::from_secs(10);
-
-/// The exit status if somebody has to look, so another start would end in the same way.
-const NOT_TO_START: u8 = 78;
 
 struct Discarder {
     job: Job,

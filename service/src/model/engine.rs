@@ -3,6 +3,7 @@ use super::call::Call;
 use super::live::Live;
 use super::outcome::Reply;
 use relkvanu::{Choice, FileCounts, Mode, Said, Settings};
+use thiserror::Error;
 
 /// Why a call changed nothing.
 pub enum Fault {
@@ -11,8 +12,16 @@ pub enum Fault {
 }
 
 /// A job could not be opened: memory ran out, or its settings were refused.
-#[derive(Debug)]
-pub struct NoJob(pub String);
+#[derive(Clone, Copy, Debug, PartialEq, Eq, Error)]
+#[error("{0:?}")]
+pub struct NoJob(relkvanu::Fault);
+
+impl NoJob {
+    /// Whether memory ran out. A later try may have more.
+    pub fn is_memory(self) -> bool {
+        self.0 == relkvanu::Fault::Memory
+    }
+}
 
 pub struct Engine(relkvanu::Coordinator);
 
@@ -20,7 +29,7 @@ impl Engine {
     /// Opens a coordinator at the moment `now`. Its first record has the number 1.
     pub fn open(settings: &Settings, shape: &[u64], now: u64) -> Result<Engine, NoJob> {
         let opened = relkvanu::Coordinator::open(settings, shape, now, 1);
-        opened.map(Engine).map_err(|fault| NoJob(format!("{fault:?}")))
+        opened.map(Engine).map_err(NoJob)
     }
 
     /// Opens the coordinator of an image.

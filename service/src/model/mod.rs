@@ -13,7 +13,7 @@ mod starts;
 mod summary;
 
 pub use call::{Call, Subtask, Target};
-pub use clock::{check as check_clock, millis, shown, wall, Clock, Moment};
+pub use clock::{check as check_clock, millis, shown, wall, Clock, FarAhead, Moment};
 pub use engine::{Fault, NoJob};
 pub use image::{sha256, Contents, Image, SavedRecord};
 pub use job::{Entry, Job, Opening};

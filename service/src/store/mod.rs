@@ -12,7 +12,7 @@ mod room;
 mod rows;
 
 pub use cells::entry_of;
-pub use error::{DbError, Failure, Unusable};
+pub use error::{is_damage, DbError, Failure, Unusable};
 pub use lite::Lite;
 pub use lite_read::LiteReader;
 pub use pg::Pg;

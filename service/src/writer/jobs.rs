@@ -45,7 +45,7 @@ pub enum StartError {
     NoMemory { job: String, seq: u64 },
     /// A job can't be opened.
     #[error("job {job} can't be opened: {why}")]
-    NotOpened { job: String, why: String },
+    NotOpened { job: String, why: NoJob },
     /// Another process leads now.
     #[error("{0}")]
     NotLeading(Failure),
@@ -55,11 +55,10 @@ impl StartError {
     /// Whether a later start may succeed, without anybody's doing.
     pub fn may_pass(&self) -> bool {
         match self {
-            StartError::Unread(_) | StartError::NoMemory { .. } | StartError::NotLeading(_) => true,
-            StartError::Differs { .. }
-            | StartError::Damaged { .. }
-            | StartError::BadImage { .. }
-            | StartError::NotOpened { .. } => false,
+            StartError::Unread(error) => !error.is_damage(),
+            StartError::NoMemory { .. } | StartError::NotLeading(_) => true,
+            StartError::NotOpened { why, .. } => why.is_memory(),
+            StartError::Differs { .. } | StartError::Damaged { .. } | StartError::BadImage { .. } => false,
         }
     }
 }
@@ -124,7 +123,7 @@ impl Jobs {
         let (mut behind, from) = (changed, self.jobs.len());
         for opening in reader.jobs_after(last)? {
             let name = opening.name.clone();
-            self.open(opening).map_err(|NoJob(why)| StartError::NotOpened { job: name, why })?;
+            self.open(opening).map_err(|why| StartError::NotOpened { job: name, why })?;
         }
         behind.extend(from..self.jobs.len());
         self.resume_all(from..self.jobs.len(), reader, beat)?;

@@ -2,7 +2,7 @@
 use super::lag::Lag;
 use super::lease::Lease;
 use super::state::{JobState, RecordState};
-use crate::model::{Call, Job, Moment, Outcome, PastRecord, Settings, SummaryPart};
+use crate::model::{Call, Job, Moment, NoJob, Outcome, PastRecord, Settings, SummaryPart};
 use serde_json::json;
 use std::collections::HashMap;
 use std::sync::atomic::{AtomicBool, AtomicU64, Ordering};
@@ -59,7 +59,7 @@ pub enum Created {
     Same,
     /// A job of this name has other settings or another shape.
     Other,
-    NotOpened(String),
+    NotOpened(NoJob),
 }
 
 #[derive(Debug)]

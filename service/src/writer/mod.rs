@@ -41,8 +41,6 @@ const TICK_AGAIN: u64 = 1000;
 const SLEEP: Duration = Duration::from_secs(1);
 /// How often it writes down that the service runs, though no calls come.
 const NOTE_EACH: Duration = Duration::from_secs(3600);
-/// The exit status after which the service is to be started again.
-pub const START_AGAIN: u8 = 75;
 
 pub struct Writer {
     store: Box<dyn Store>,
@@ -354,5 +352,5 @@ fn did_its_work(ticked: &Outcome) -> bool {
 /// Ends the process: nothing of the group was answered, and the next start reads what was committed.
 fn lose(why: &dyn std::error::Error) -> ! {
     log::error(&format!("the group was not committed, or that is not known; nothing of it was answered: {why}"));
-    exit::now(START_AGAIN)
+    exit::now(exit::START_AGAIN)
 }
