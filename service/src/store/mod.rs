@@ -6,6 +6,7 @@ mod lite;
 mod lite_read;
 mod parameter;
 mod pg;
+mod pg_columns;
 mod pg_read;
 mod pq;
 mod room;
