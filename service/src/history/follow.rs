@@ -4,8 +4,10 @@ use super::files::{Outbox, UNKNOWN};
 use super::records::{Ended, Pending, Records};
 use super::summary::Summary;
 use super::tables::{Progress, Tables};
+use crate::log;
 use crate::model::{
-    parse_line, Call, Contents, Entry, Image, Keeping, KeptSummary, Opening, SavedRecord, Subtask, CALL_BYTES,
+    parse_line, Answer, Call, Contents, Entry, Image, Keeping, KeptSummary, Opening, Reply, SavedRecord, Subtask,
+    CALL_BYTES,
 };
 use crate::store::{DbError, Reader};
 use std::collections::BTreeMap;
@@ -14,6 +16,21 @@ use std::collections::BTreeMap;
 const ABOUT: u32 = 2000;
 /// How many records that ended are read of the database at once.
 const PAST: u32 = 1000;
+
+/// A row of the log, with its call and its answer.
+pub struct Made<'a> {
+    pub entry: &'a Entry,
+    pub call: Call,
+    pub reply: Reply,
+}
+
+impl Made<'_> {
+    /// `None` if the row has no call, or no answer.
+    fn of(entry: &Entry) -> Option<Made<'_>> {
+        let (_, call) = parse_line(&entry.line)?;
+        Some(Made { entry, call, reply: entry.reply()? })
+    }
+}
 
 pub struct Follower {
     pub job: i64,
@@ -108,10 +125,12 @@ impl Follower {
         tables.within(|| {
             let mut ended = Vec::new();
             for entry in page {
-                if let Some((_, call)) = parse_line(&entry.line) {
-                    let by_it = self.records.follow(tables, &call, entry)?;
+                if let Some(made) = Made::of(entry) {
+                    let by_it = self.records.follow(tables, &made)?;
                     ended.extend(by_it.into_iter().map(|one| (entry.at, one)));
-                    self.outbox.follow(tables, &call, entry)?;
+                    self.outbox.follow(tables, &made)?;
+                } else {
+                    log::warn(&format!("history job={}: call {} can't be read, and is left out", self.name, entry.seq));
                 }
                 (self.upto, self.at) = (entry.seq, entry.at);
             }
@@ -178,9 +197,10 @@ fn acked(reader: &mut dyn Reader, job: i64, id: u64, upto: u64, pending: &mut Pe
 
 /// The acknowledgements of a record among entries of the log up to a place.
 fn acks_of(entries: &[Entry], upto: u64) -> impl Iterator<Item = (Subtask, u64)> + '_ {
-    let accepted = entries.iter().filter(move |entry| entry.seq <= upto && !entry.answer.starts_with("ack late"));
-    accepted.filter_map(|entry| match parse_line(&entry.line)? {
-        (_, Call::Ack { subtask, .. }) => Some((subtask, entry.at)),
+    let made = entries.iter().filter(move |entry| entry.seq <= upto).filter_map(Made::of);
+    made.filter_map(|made| match (made.call, made.reply) {
+        (_, Reply::Answered(Answer::AckLate { .. })) => None,
+        (Call::Ack { subtask, .. }, _) => Some((subtask, made.entry.at)),
         _ => None,
     })
 }

@@ -19,6 +19,6 @@ pub use lite_read::LiteReader;
 pub use pg::Pg;
 pub use pg_read::PgReader;
 pub use room::room_of;
-#[cfg(test)]
-pub use rows::Room;
 pub use rows::{Group, Keyed, Lead, Reader, SavedImage, Store};
+#[cfg(test)]
+pub use rows::{Room, IS_EVENT};

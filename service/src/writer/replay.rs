@@ -50,7 +50,7 @@ pub fn resume(job: &mut Job, saved: &SavedImage) -> Result<(), StartError> {
     }
     job.resume(&saved.image).map_err(|fault| match fault {
         Fault::Memory => StartError::NoMemory { job: name.clone(), seq },
-        Fault::Refused { name: refusal, .. } => bad(&format!("the library refuses it: {refusal}")),
+        refusal => bad(&format!("the library refuses it: {refusal}")),
     })
 }
 
