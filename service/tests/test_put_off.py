@@ -1,10 +1,8 @@
 """Images and summaries that a database has no room for: calls go on, and they are made later. A metric tells it of images."""
 import errno
-import glob
-import os
 import re
 
-from harness import Server, check_log, folder, until
+from harness import Server, caught_up, check_log, folder, lose_history, until
 from postgres import postgres
 from preloaded import built
 from relkvanu_service import Service, ack, dispose, savepoint
@@ -84,10 +82,9 @@ def test_a_summary_that_postgresql_has_no_room_for():
         until(lambda: tick(server) and job.state()["first"] > 1, 30, 0.02)
         first = job.state()["first"]
         server.stop()
-        for path in glob.glob(f"{at}/history-*"):
-            os.remove(path)
+        lose_history(server)
         server.start()
-        until(lambda: server.get("/v1/jobs/orders/records")[2]["upto"] >= job.state()["seq"])
+        caught_up(job)
         assert [job.record(record)["history"] for record in (1, 2, 3)] == before
         server.stop()
         return f"three times; then the log began with call {first}"

@@ -5,7 +5,7 @@ import subprocess
 import threading
 import time
 
-from harness import PROGRAM, Server, check_log, folder, served, until
+from harness import PROGRAM, Server, check_log, folder, over_copy, served, until
 from relkvanu_service import Service
 from run import Skipped
 
@@ -158,9 +158,8 @@ def test_a_backup_of_a_service_that_runs():
         driving.join()
         last = list(Service(server.url).job("orders").log())
         server.stop()
-        restored = Server(at, database=copy).start()
-        log = list(Service(restored.url).job("orders").log())
-        restored.stop()
+        with over_copy(Server(at, database=copy)) as (_, log):
+            pass
         kept = [entry for entry in log if entry["seq"] <= len(last) and entry["at"] <= last[-1]["at"]]
         assert len(kept) >= first and log[:first] == last[:first], (len(log), first)
         return f"{len(kept)} of {len(last)} calls in the copy, {first} before it was made"
