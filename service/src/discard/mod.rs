@@ -5,6 +5,7 @@ mod metrics;
 use crate::cli;
 use crate::exit::NOT_TO_START;
 use crate::log;
+use crate::remote;
 use folder::{Folder, Outcome, Owner, Stop};
 use metrics::Metrics;
 use relkvanu_client::{new_key, Answer, Call, Error, Job, Service};
@@ -89,11 +90,7 @@ fn service(given: &cli::Discard) -> Result<Service, Stop> {
     if given.prefix.contains('/') || given.suffix.contains('/') {
         return Err(Stop::Again("--prefix and --suffix: a '/' would name another folder".to_string()));
     }
-    let token = given.token_file.as_ref().map(std::fs::read_to_string).transpose();
-    let token = token.map_err(|error| Stop::Again(format!("--token-file: {error}")))?;
-    let token = token.as_deref().and_then(|text| text.lines().next()).map(str::trim);
-    let urls: Vec<&str> = given.urls.iter().map(String::as_str).collect();
-    Service::new(&urls, token).map_err(|error| Stop::Again(error.to_string()))
+    remote::service(&given.urls, given.token_file.as_deref()).map_err(|error| Stop::Again(error.to_string()))
 }
 
 /// Whose files the folder has, and whether this is the first run for the job: none of its files was taken before.

@@ -27,6 +27,8 @@ pub enum DbError {
     /// The database can lose what it committed.
     #[error("fsync is off in this database, so that it can lose what it committed")]
     NoSync,
+    #[error("these are no tables of a service")]
+    Foreign,
     /// The database answered something else than the statement asks for.
     #[error("{0}")]
     Odd(&'static str),
@@ -41,7 +43,7 @@ impl DbError {
     /// Whether what the database has is damaged, so that a later read fails in the same way.
     pub fn is_damage(&self) -> bool {
         match self {
-            DbError::BadRow { .. } => true,
+            DbError::BadRow { .. } | DbError::Foreign => true,
             DbError::Lite(why) | DbError::Unopened { why, .. } => is_damage(why),
             // data_corrupted and index_corrupted
             DbError::Pg(failed) => matches!(failed.state.as_deref(), Some("XX001" | "XX002")),

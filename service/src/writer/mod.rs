@@ -8,7 +8,7 @@ mod lag;
 mod lease;
 mod message;
 mod old_keys;
-mod replay;
+pub mod replay;
 mod round;
 mod state;
 mod timer;

@@ -43,15 +43,21 @@ impl StartError {
 
 /// Goes on from an image of a job.
 pub fn resume(job: &mut Job, saved: &SavedImage) -> Result<(), StartError> {
+    undamaged(job, saved)?;
     let (name, seq) = (job.opening.name.clone(), saved.image.seq);
-    let bad = |why: &str| StartError::BadImage { job: name.clone(), seq, why: why.to_string() };
-    if saved.image.digest() != saved.digest {
-        return Err(bad("its digest is not that of what it says, so it is damaged"));
-    }
     job.resume(&saved.image).map_err(|fault| match fault {
-        Fault::Memory => StartError::NoMemory { job: name.clone(), seq },
-        refusal => bad(&format!("the library refuses it: {refusal}")),
+        Fault::Memory => StartError::NoMemory { job: name, seq },
+        refusal => StartError::BadImage { job: name, seq, why: format!("the library refuses it: {refusal}") },
     })
+}
+
+/// Refuses an image whose digest is not that of what it says.
+pub fn undamaged(job: &Job, saved: &SavedImage) -> Result<(), StartError> {
+    if saved.image.digest() == saved.digest {
+        return Ok(());
+    }
+    let why = "its digest is not that of what it says, so it is damaged".to_string();
+    Err(StartError::BadImage { job: job.opening.name.clone(), seq: saved.image.seq, why })
 }
 
 pub fn missing(job: &Job) -> String {
