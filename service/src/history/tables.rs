@@ -149,7 +149,7 @@ impl Tables {
         let mut query = self.0.prepare(PENDING)?;
         let rows = query.query_map([job], |row| {
             let (kind, shape): (String, String) = (row.get(1)?, row.get(2)?);
-            let kind = if kind == "savepoint" { Kind::Savepoint } else { Kind::Checkpoint };
+            let kind = kind.parse().unwrap_or(Kind::Checkpoint);
             let shape = shape.split(' ').filter_map(|word| word.parse().ok()).collect();
             let moment = |at: usize| Ok::<_, rusqlite::Error>(row.get::<_, Option<i64>>(at)?.map(unsigned));
             let mut pending = Pending::new(kind, shape, unsigned(row.get(3)?));
