@@ -86,7 +86,9 @@ pub fn record(record: &Value) -> String {
         rows.push(format!("triggered\t{}", at(&history["started"])));
         rows.push(format!("acknowledgements\t{}", cell(&history["acks"])));
         rows.push(format!("slowest\t{}", cell(&history["slowest"])));
-        rows.push(format!("{}\t{}", cell(&history["how"]), at(&history["finished"])));
+        if !history["finished"].is_null() {
+            rows.push(format!("{}\t{}", cell(&history["how"]), at(&history["finished"])));
+        }
         if !history["gone"].is_null() {
             rows.push(format!("no longer live\t{}: {}", at(&history["gone"]), cell(&history["why"])));
         }
