@@ -140,7 +140,7 @@ def test_statuses():
         ]:
             assert text in ask["read"](*words, status=status), words
         assert "401" in ask["bad"]("jobs", status=78) and "401" in ask["read"]("cancel", "orders", status=78)
-        assert "none" in ran("jobs", "--token-file", f"{at}/none", status=78) and "ftp" in ran("jobs", "--url", "ftp://x", status=78)
+        assert "--token-file: No such file" in ran("jobs", "--token-file", f"{at}/none", status=78) and "ftp" in ran("jobs", "--url", "ftp://x", status=78)
         server.process.send_signal(19)
         began = time.monotonic()
         assert "not reached" in ask["read"]("jobs", "--within", 2, status=75)
@@ -200,7 +200,8 @@ def test_check():
         last, first = job_rows(database)
         assert first > 1
         # an answer, an image that its digest fits, an image that it does not, a gap, and a row that can't be read
-        place, was = one(database, f"select seq, answer from call where job = 1 and seq > {first + 60} and answer like 'ack completed%' order by seq limit 1")
+        base = one(database, f"select min(seq) from image where job = 1 and seq >= {first - 1}")[0]
+        place, was = one(database, f"select seq, answer from call where job = 1 and seq > {base} and answer like 'ack completed%' order by seq limit 1")
         changed(database, "update call set answer = 'ack completed 7 7' where job = 1 and seq = ?", (place,))
         told = ran(*check, status=1)
         assert f'job orders, call {place} ' in told and f'the log says "ack completed 7 7", and this program answers "{was}"' in told, told
@@ -262,7 +263,7 @@ def test_check_of_other_databases():
 
 def test_completions_and_the_manual_page():
     script = ran("completions", "bash")
-    ask = 'source /dev/stdin; COMP_WORDS=(relkvanu "$@"); COMP_CWORD=$#; _relkvanu; echo "${COMPREPLY[@]}"'
+    ask = 'source /dev/stdin; COMP_WORDS=(relkvanu "$@"); COMP_CWORD=$#; _relkvanu relkvanu; echo "${COMPREPLY[@]}"'
 
     def completed(*words):
         return subprocess.run(["bash", "-c", ask, "completed", *words], input=script, stdout=subprocess.PIPE, text=True, check=True).stdout.split()
