@@ -23,6 +23,9 @@ enum Unchecked {
     Database(#[from] NoDatabase),
     #[error(transparent)]
     Unusable(#[from] Unusable),
+    /// Memory ran out, or the log can't be read now.
+    #[error(transparent)]
+    Unread(StartError),
     #[error("there is no job {0}")]
     NoJob(String),
     #[error(transparent)]
@@ -39,6 +42,7 @@ impl Unchecked {
     fn status(&self) -> u8 {
         match self {
             Unchecked::Unusable(error) if error.may_pass() => START_AGAIN,
+            Unchecked::Unread(_) => START_AGAIN,
             Unchecked::Database(_) | Unchecked::Unusable(_) | Unchecked::NoJob(_) | Unchecked::Output(_) => {
                 NOT_TO_START
             }
@@ -79,7 +83,7 @@ fn checked(given: &cli::Check) -> Result<bool, Unchecked> {
         let name = opening.name.clone();
         match compare(reader.as_mut(), opening) {
             Ok(Compared { calls, images }) => tell(given.json, &name, calls, images)?,
-            Err(StartError::Unread(error)) if !error.is_damage() => return Err(error.into()),
+            Err(error) if error.may_pass() => return Err(Unchecked::Unread(error)),
             Err(error) => {
                 all_alike = false;
                 tell_failure(given.json, &name, &error)?;
@@ -114,8 +118,13 @@ fn compare(reader: &mut dyn Reader, opening: Opening) -> Result<Compared, StartE
     let mut images: VecDeque<u64> = images.into_iter().map(|image| image.seq).collect();
     loop {
         let page = reader.log(number, job.seq, PAGE)?;
-        if page.is_empty() {
+        if page.is_empty() && images.is_empty() {
             return Ok(compared);
+        }
+        if page.is_empty() {
+            // an image of calls that the log does not have any more
+            let (name, seq) = (job.opening.name.clone(), job.seq);
+            return Err(StartError::Damaged { job: name, seq, why: replay::missing(&job) });
         }
         page.iter().try_for_each(|entry| {
             replay::repeat(&mut job, entry)?;

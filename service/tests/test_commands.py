@@ -223,6 +223,9 @@ def test_check():
         changed(database, "delete from call where job = 1 and seq = ?", (last - 1,))
         changed(database, "update call set waiting = 0 where job = 1 and seq = ?", (last,))
         assert f"call {last - 1} is missing" in ran(*check, status=1)
+        # the log ends before the last image
+        changed(database, "delete from call where job = 1 and seq >= ?", (row[1],))
+        assert f"call {row[1]} is missing" in ran(*check, status=1)
         return f"{last - first + 1} calls of {last}, with 10 checks beside a service"
 
 
