@@ -57,3 +57,32 @@ impl Stop {
         }
     }
 }
+
+#[cfg(test)]
+mod tests {
+    use super::*;
+
+    #[test]
+    fn damage_stays_and_want_passes() {
+        let bad_row = || DbError::BadRow { table: "job", column: 3, cell: "nothing".to_string() };
+        let no_room = || {
+            DbError::from(rusqlite::Error::SqliteFailure(rusqlite::ffi::Error::new(rusqlite::ffi::SQLITE_FULL), None))
+        };
+        let no_memory = || StartError::NoMemory { job: "orders".to_string(), seq: 7 };
+        let damaged = || StartError::Damaged { job: "orders".to_string(), seq: 7, why: "it is no call".to_string() };
+        let cases: [(Stop, u8); 9] = [
+            (bad_row().into(), NOT_TO_START),
+            (StartError::from(bad_row()).into(), NOT_TO_START),
+            (Unusable::from(bad_row()).into(), NOT_TO_START),
+            (Unusable::Newer(99).into(), NOT_TO_START),
+            (damaged().into(), NOT_TO_START),
+            (no_room().into(), START_AGAIN),
+            (StartError::from(no_room()).into(), START_AGAIN),
+            (no_memory().into(), START_AGAIN),
+            (Failure::Lost(DbError::NotLeading { epoch: 3 }).into(), START_AGAIN),
+        ];
+        for (stop, status) in cases {
+            assert_eq!(stop.status(), status, "{stop}");
+        }
+    }
+}
