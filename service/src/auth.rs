@@ -1,8 +1,10 @@
 //! Tokens: which clients may read, and which may change something.
 use hyper::header::{HeaderMap, AUTHORIZATION};
-use std::path::Path;
+use std::io;
+use std::path::{Path, PathBuf};
 use std::time::SystemTime;
 use subtle::ConstantTimeEq;
+use thiserror::Error;
 
 const SHORTEST: usize = 16;
 
@@ -22,19 +24,43 @@ struct Token {
 /// The tokens of a file. A write token may read too.
 pub struct Tokens(Vec<Token>);
 
+/// Why a file of tokens can't be used. Another start over the same file ends in the same way.
+#[derive(Debug, Error)]
+pub enum NoTokens {
+    #[error("{}: {why}", .path.display())]
+    Unread { path: PathBuf, why: io::Error },
+    #[error("{}: {why}", .path.display())]
+    Bad { path: PathBuf, why: BadTokens },
+}
+
+/// What is wrong in a file of tokens, and in which line. It shows no token.
+#[derive(Debug, PartialEq, Eq, Error)]
+pub enum BadTokens {
+    #[error("has no token")]
+    None,
+    #[error("line {line} is not 'read TOKEN' or 'write TOKEN'")]
+    Words { line: usize },
+    #[error("line {line} has {day:?} after its token, which is not until=YEAR-MONTH-DAY")]
+    Day { line: usize, day: String },
+    #[error("line {line} begins with neither 'read' nor 'write'")]
+    Access { line: usize },
+    #[error("line {line} has a token of less than {SHORTEST} characters")]
+    Short { line: usize },
+}
+
 impl Tokens {
-    pub fn read(path: &Path) -> Result<Tokens, String> {
-        let text = std::fs::read_to_string(path).map_err(|error| format!("{}: {error}", path.display()))?;
-        Tokens::parse(&text).map_err(|error| format!("{}: {error}", path.display()))
+    pub fn read(path: &Path) -> Result<Tokens, NoTokens> {
+        let text = std::fs::read_to_string(path).map_err(|why| NoTokens::Unread { path: path.to_path_buf(), why })?;
+        Tokens::parse(&text).map_err(|why| NoTokens::Bad { path: path.to_path_buf(), why })
     }
 
     /// Reads lines of `read TOKEN` and `write TOKEN`, which may end with `until=YEAR-MONTH-DAY`. Empty lines and those that begin
     /// with `#` are comments.
-    fn parse(text: &str) -> Result<Tokens, String> {
+    fn parse(text: &str) -> Result<Tokens, BadTokens> {
         let lines = text.lines().enumerate().filter(|(_, line)| !line.trim().is_empty() && !line.starts_with('#'));
-        let tokens: Vec<_> = lines.map(|(place, line)| token(place + 1, line)).collect::<Result<_, String>>()?;
+        let tokens: Vec<_> = lines.map(|(place, line)| token(place + 1, line)).collect::<Result<_, _>>()?;
         if tokens.is_empty() {
-            return Err("has no token".to_string());
+            return Err(BadTokens::None);
         }
         Ok(Tokens(tokens))
     }
@@ -58,24 +84,24 @@ impl Tokens {
     }
 }
 
-fn token(number: usize, line: &str) -> Result<Token, String> {
+fn token(line: usize, text: &str) -> Result<Token, BadTokens> {
     let access = |word: &str| match word {
         "read" => Some(Access::Read),
         "write" => Some(Access::Write),
         _ => None,
     };
-    let words: Vec<&str> = line.split_whitespace().collect();
+    let words: Vec<&str> = text.split_whitespace().collect();
     let (word, token, day) = match words[..] {
         [word, token] => (word, token, None),
         [word, token, day] => (word, token, Some(day)),
-        _ => return Err(format!("line {number} is not 'read TOKEN' or 'write TOKEN'")),
+        _ => return Err(BadTokens::Words { line }),
     };
     let start = |day: &str| humantime::parse_rfc3339(&format!("{}T00:00:00Z", day.strip_prefix("until=")?)).ok();
-    let bad = |day| format!("line {number} has {day:?} after its token, which is not until=YEAR-MONTH-DAY");
+    let bad = |day: &str| BadTokens::Day { line, day: day.to_string() };
     let until = day.map(|day| start(day).ok_or_else(|| bad(day))).transpose()?;
-    let access = access(word).ok_or_else(|| format!("line {number} begins with neither 'read' nor 'write'"))?;
+    let access = access(word).ok_or(BadTokens::Access { line })?;
     if token.len() < SHORTEST {
-        return Err(format!("line {number} has a token of less than {SHORTEST} characters"));
+        return Err(BadTokens::Short { line });
     }
     Ok(Token { access, text: token.as_bytes().to_vec(), until })
 }
@@ -95,7 +121,7 @@ mod tests {
     }
 
     #[test]
-    fn a_write_token_reads_too() -> Result<(), String> {
+    fn a_write_token_reads_too() -> Result<(), BadTokens> {
         let tokens = Tokens::parse("# two\nread aaaaaaaaaaaaaaaa\n\nwrite bbbbbbbbbbbbbbbb\n")?;
         assert!(tokens.allow(&bearer("aaaaaaaaaaaaaaaa"), Access::Read, UNIX_EPOCH));
         assert!(!tokens.allow(&bearer("aaaaaaaaaaaaaaaa"), Access::Write, UNIX_EPOCH));
@@ -109,21 +135,22 @@ mod tests {
 
     #[test]
     fn refuses_bad_files() {
-        for text in [
-            "",
-            "# none",
-            "read short",
-            "admin aaaaaaaaaaaaaaaa",
-            "read",
-            "read aaaaaaaaaaaaaaaa b",
-            "read aaaaaaaaaaaaaaaa until=2027-02-30",
+        let day = "until=2027-02-30".to_string();
+        for (text, why) in [
+            ("", BadTokens::None),
+            ("# none", BadTokens::None),
+            ("# one\nread short", BadTokens::Short { line: 2 }),
+            ("admin aaaaaaaaaaaaaaaa", BadTokens::Access { line: 1 }),
+            ("read", BadTokens::Words { line: 1 }),
+            ("read aaaaaaaaaaaaaaaa b", BadTokens::Day { line: 1, day: "b".to_string() }),
+            ("read aaaaaaaaaaaaaaaa until=2027-02-30", BadTokens::Day { line: 1, day }),
         ] {
-            assert!(Tokens::parse(text).is_err(), "{text}");
+            assert_eq!(Tokens::parse(text).err(), Some(why), "{text}");
         }
     }
 
     #[test]
-    fn a_token_ends_with_its_day() -> Result<(), String> {
+    fn a_token_ends_with_its_day() -> Result<(), BadTokens> {
         let text =
             "read aaaaaaaaaaaaaaaa until=1970-01-03\nread bbbbbbbbbbbbbbbb until=1970-01-05\nwrite cccccccccccccccc\n";
         let (tokens, day) = (Tokens::parse(text)?, |number: u64| UNIX_EPOCH + Duration::from_secs(number * 86_400));

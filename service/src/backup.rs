@@ -1,16 +1,45 @@
 //! `relkvanu backup`: copies an SQLite database while a service commits to it.
 use crate::cli;
-use crate::config::Database;
+use crate::config::{Database, NoDatabase};
 use crate::log;
 use rusqlite::{Connection, OpenFlags};
 use std::ffi::OsString;
 use std::fs::{self, File, OpenOptions};
+use std::io;
 use std::os::unix::fs::OpenOptionsExt;
 use std::path::{Path, PathBuf};
 use std::process::ExitCode;
 use std::time::{Duration, Instant};
+use thiserror::Error;
 
 const BUSY: Duration = Duration::from_secs(10);
+
+/// Why there is no copy.
+#[derive(Debug, Error)]
+enum NoBackup {
+    #[error(transparent)]
+    Database(#[from] NoDatabase),
+    #[error("a PostgreSQL database is copied by pg_dump")]
+    Postgres,
+    #[error("{} is there already", .0.display())]
+    Exists(PathBuf),
+    #[error("{}: another backup writes it", .0.display())]
+    Busy(PathBuf),
+    #[error("{}: the name is no UTF-8", .0.display())]
+    Name(PathBuf),
+    #[error("{} is no database of a service", .0.display())]
+    Foreign(PathBuf),
+    /// What the system says of a file.
+    #[error("{}: {why}", .path.display())]
+    File { path: PathBuf, why: io::Error },
+    /// What SQLite says of the database.
+    #[error("{}: {why}", .path.display())]
+    Source { path: PathBuf, why: rusqlite::Error },
+    #[error("the copy can't be read: {0}")]
+    Unread(rusqlite::Error),
+    #[error("the copy has tables of version {version}, and its check says {check:?}")]
+    Differs { version: i64, check: String },
+}
 
 pub fn run(given: &cli::Backup) -> ExitCode {
     let started = Instant::now();
@@ -28,12 +57,12 @@ pub fn run(given: &cli::Backup) -> ExitCode {
 }
 
 /// Makes the copy under another name, and renames it once it is whole and on the disk. Returns its length.
-fn copied(given: &cli::Backup) -> Result<u64, String> {
+fn copied(given: &cli::Backup) -> Result<u64, NoBackup> {
     let Database::Sqlite(database) = Database::of(&given.database)? else {
-        return Err("a PostgreSQL database is copied by pg_dump".to_string());
+        return Err(NoBackup::Postgres);
     };
     if given.to.exists() {
-        return Err(format!("{} is there already", given.to.display()));
+        return Err(NoBackup::Exists(given.to.clone()));
     }
     let unfinished = Unfinished::new(&given.to)?;
     unfinished.fill(&database).and_then(|()| unfinished.finish(&given.to)).inspect_err(|_| {
@@ -60,54 +89,54 @@ struct Unfinished {
 }
 
 impl Unfinished {
-    fn new(copy: &Path) -> Result<Unfinished, String> {
+    fn new(copy: &Path) -> Result<Unfinished, NoBackup> {
         let mut name: OsString = copy.as_os_str().to_owned();
         name.push(".part");
         let path = PathBuf::from(name);
-        let told = |error: std::io::Error| format!("{}: {error}", path.display());
-        let file = OpenOptions::new().write(true).create(true).truncate(false).mode(0o600).open(&path).map_err(told)?;
-        file.try_lock().map_err(|_| format!("{}: another backup writes it", path.display()))?;
-        file.set_len(0).map_err(told)?;
+        let failed = |why: io::Error| NoBackup::File { path: path.clone(), why };
+        let file =
+            OpenOptions::new().write(true).create(true).truncate(false).mode(0o600).open(&path).map_err(failed)?;
+        file.try_lock().map_err(|_| NoBackup::Busy(path.clone()))?;
+        file.set_len(0).map_err(failed)?;
         Ok(Unfinished { path, file })
     }
 
-    fn name(&self) -> Result<&str, String> {
-        self.path.to_str().ok_or_else(|| format!("{}: the name is no UTF-8", self.path.display()))
+    fn name(&self) -> Result<&str, NoBackup> {
+        self.path.to_str().ok_or_else(|| NoBackup::Name(self.path.clone()))
     }
 
-    fn fill(&self, database: &Path) -> Result<(), String> {
-        let told = |error: rusqlite::Error| format!("{}: {error}", database.display());
-        let source = read_only(database).map_err(told)?;
-        let version = version(&source).map_err(told)?;
+    fn fill(&self, database: &Path) -> Result<(), NoBackup> {
+        let failed = |why: rusqlite::Error| NoBackup::Source { path: database.to_path_buf(), why };
+        let source = read_only(database).map_err(failed)?;
+        let version = version(&source).map_err(failed)?;
         if version == 0 {
-            return Err(format!("{} is no database of a service", database.display()));
+            return Err(NoBackup::Foreign(database.to_path_buf()));
         }
-        source.execute("vacuum into ?", [self.name()?]).map_err(told)?;
+        source.execute("vacuum into ?", [self.name()?]).map_err(failed)?;
         self.check(version)
     }
 
     /// Reads all of the copy.
-    fn check(&self, version_of_source: i64) -> Result<(), String> {
-        let told = |error: rusqlite::Error| format!("the copy can't be read: {error}");
-        let copy = read_only(&self.path).map_err(told)?;
-        let check: String = copy.query_row("pragma quick_check(1)", [], |row| row.get(0)).map_err(told)?;
-        match version(&copy).map_err(told)? {
+    fn check(&self, version_of_source: i64) -> Result<(), NoBackup> {
+        let copy = read_only(&self.path).map_err(NoBackup::Unread)?;
+        let check: String = copy.query_row("pragma quick_check(1)", [], |row| row.get(0)).map_err(NoBackup::Unread)?;
+        match version(&copy).map_err(NoBackup::Unread)? {
             version if check == "ok" && version == version_of_source => Ok(()),
-            version => Err(format!("the copy has tables of version {version}, and its check says {check:?}")),
+            version => Err(NoBackup::Differs { version, check }),
         }
     }
 
-    fn finish(&self, copy: &Path) -> Result<u64, String> {
+    fn finish(&self, copy: &Path) -> Result<u64, NoBackup> {
         let folder = match copy.parent() {
             Some(folder) if !folder.as_os_str().is_empty() => folder,
             _ => Path::new("."),
         };
-        let done = || -> std::io::Result<u64> {
+        let done = || -> io::Result<u64> {
             self.file.sync_all()?;
             fs::rename(&self.path, copy)?;
             File::open(folder)?.sync_all()?;
             Ok(self.file.metadata()?.len())
         };
-        done().map_err(|error| format!("{}: {error}", copy.display()))
+        done().map_err(|why| NoBackup::File { path: copy.to_path_buf(), why })
     }
 }

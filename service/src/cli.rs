@@ -1,5 +1,8 @@
 //! The command line.
+use crate::ask::Ask;
+use crate::http::{is_name, NO_NAME};
 use clap::{Args, Parser, Subcommand};
+use clap_complete::Shell;
 use std::net::SocketAddr;
 use std::path::PathBuf;
 
@@ -19,6 +22,15 @@ pub enum Command {
     Discard(Discard),
     /// Copy an SQLite database while a service runs over it
     Backup(Backup),
+    /// Make the calls of a database's log again, and compare each answer
+    Check(Check),
+    #[command(flatten)]
+    Ask(Ask),
+    /// Print a script that completes the words of this program in a shell
+    Completions {
+        /// The shell
+        shell: Shell,
+    },
 }
 
 #[derive(Args)]
@@ -94,4 +106,67 @@ pub struct Backup {
     /// The copy, which must not exist
     #[arg(long, value_name = "FILE")]
     pub to: PathBuf,
+}
+
+#[derive(Args)]
+pub struct Check {
+    /// An SQLite file, or postgres://..
+    #[arg(long, value_name = "DATABASE", default_value = "relkvanu.db")]
+    pub database: String,
+    /// This job alone
+    #[arg(long, value_name = "NAME", value_parser = job_name)]
+    pub job: Option<String>,
+    /// Print JSON for programs
+    #[arg(long)]
+    pub json: bool,
+}
+
+/// A job's name, which is a part of a path of the API.
+pub fn job_name(text: &str) -> Result<String, &'static str> {
+    if is_name(text) {
+        Ok(text.to_string())
+    } else {
+        Err(NO_NAME)
+    }
+}
+
+#[cfg(test)]
+mod tests {
+    use super::*;
+    use clap::CommandFactory;
+
+    const PAGE: &str = include_str!("../deploy/relkvanu.1");
+    const OF_ALL: &str = "Options of the commands that ask a service";
+
+    /// The part of the manual page with this title.
+    fn section(title: &str) -> &'static str {
+        let begin = format!(".Ss {title}\n");
+        let (_, rest) = PAGE.split_once(begin.as_str()).unwrap_or_else(|| panic!("the manual page has no {title}"));
+        rest.split("\n.S").next().unwrap_or_default()
+    }
+
+    #[test]
+    fn the_manual_page_has_each_command_and_option() {
+        let has = |text: &str, option: &str| text.split_whitespace().any(|word| word == format!("-{option}"));
+        for command in Cli::command().get_subcommands() {
+            let own = section(command.get_name());
+            for option in command.get_arguments().filter_map(clap::Arg::get_long) {
+                let is_of_all = Ask::has(command.get_name()) && has(section(OF_ALL), option);
+                assert!(has(own, option) || is_of_all, "{} --{option}", command.get_name());
+            }
+        }
+    }
+
+    #[test]
+    fn the_manual_page_has_no_other() {
+        let command = Cli::command();
+        let known: Vec<&str> = command.get_subcommands().map(clap::Command::get_name).collect();
+        let titles = PAGE.lines().filter_map(|line| line.strip_prefix(".Ss ")).filter(|title| *title != OF_ALL);
+        assert!(titles.clone().eq(known.iter().copied()), "{:?}", titles.collect::<Vec<_>>());
+    }
+
+    #[test]
+    fn the_command_line_is_sound() {
+        Cli::command().debug_assert();
+    }
 }

@@ -3,14 +3,48 @@ use crate::cli::Serve;
 use crate::log;
 use crate::model::Keeping;
 use serde::Deserialize;
+use std::io;
 use std::net::SocketAddr;
 use std::path::{Path, PathBuf};
 use std::time::Duration;
+use thiserror::Error;
 
 const LISTEN: &str = "127.0.0.1:7780";
 const DATABASE: &str = "relkvanu.db";
 const IMAGE_CALLS: u64 = 10_000;
 const KEEP_CALLS: u64 = 1_000_000;
+
+/// What is wrong with which setting. Another start with the same words ends in the same way.
+#[derive(Debug, Error)]
+pub enum BadConfig {
+    #[error("--config {}: {why}", .path.display())]
+    Unread { path: PathBuf, why: io::Error },
+    #[error("{}: {why}", .path.display())]
+    NoToml { path: PathBuf, why: toml::de::Error },
+    #[error("listen: {0:?} is no address with a port")]
+    NoAddress(String),
+    #[error("listen: {0} can be reached from other machines, so a token_file is needed")]
+    NoTokens(SocketAddr),
+    #[error("{name}: {value} is not within {least} to {most}")]
+    Number { name: &'static str, value: u64, least: u64, most: u64 },
+    #[error(transparent)]
+    Database(#[from] NoDatabase),
+}
+
+/// Why a text names no database. It shows nothing of what may be a password.
+#[derive(Debug, PartialEq, Eq, Error)]
+#[error("database: {0}; it is an SQLite file, or a URL as postgres://user@host/name")]
+pub struct NoDatabase(Because);
+
+#[derive(Debug, PartialEq, Eq, Error)]
+pub enum Because {
+    #[error("has a scheme that is neither postgres nor postgresql")]
+    Scheme,
+    #[error("begins as libpq's list of keywords does")]
+    Keywords,
+    #[error("is empty")]
+    Empty,
+}
 
 /// What the file may say.
 #[derive(Deserialize, Default)]
@@ -114,14 +148,14 @@ pub struct Config {
 }
 
 impl Config {
-    /// The configuration of a command line. An error says what is wrong with which setting.
-    pub fn of(given: &Serve) -> Result<Config, String> {
+    /// The configuration of a command line.
+    pub fn of(given: &Serve) -> Result<Config, BadConfig> {
         let file = match &given.config {
             Some(path) => read(path)?,
             None => FileConfig::default(),
         };
         let listen = given.listen.clone().or(file.listen).unwrap_or_else(|| LISTEN.to_string());
-        let listen = listen.parse().map_err(|_| format!("listen: {listen:?} is no address with a port"))?;
+        let listen = listen.parse().map_err(|_| BadConfig::NoAddress(listen))?;
         let database = given.database.clone().or(file.database).unwrap_or_else(|| DATABASE.to_string());
         let database = Database::of(&database)?;
         let config = Config {
@@ -141,7 +175,7 @@ impl Config {
         config.checked()
     }
 
-    fn checked(self) -> Result<Config, String> {
+    fn checked(self) -> Result<Config, BadConfig> {
         let limits = &self.limits;
         let numbers = [
             ("limits.connections", limits.connections as u64, 1, 100_000),
@@ -160,41 +194,36 @@ impl Config {
         ];
         for (name, value, least, most) in numbers {
             if !(least..=most).contains(&value) {
-                return Err(format!("{name}: {value} is not within {least} to {most}"));
+                return Err(BadConfig::Number { name, value, least, most });
             }
         }
         if self.token_file.is_none() && !self.listen.ip().is_loopback() {
-            return Err(format!(
-                "listen: {} can be reached from other machines, so a token_file is needed",
-                self.listen
-            ));
+            return Err(BadConfig::NoTokens(self.listen));
         }
         Ok(self)
     }
 }
 
-fn read(path: &Path) -> Result<FileConfig, String> {
-    let text = std::fs::read_to_string(path).map_err(|error| format!("--config {}: {error}", path.display()))?;
-    toml::from_str(&text).map_err(|error| format!("{}: {error}", path.display()))
+fn read(path: &Path) -> Result<FileConfig, BadConfig> {
+    let text = std::fs::read_to_string(path).map_err(|why| BadConfig::Unread { path: path.to_path_buf(), why })?;
+    toml::from_str(&text).map_err(|why| BadConfig::NoToml { path: path.to_path_buf(), why })
 }
 
 impl Database {
-    /// A URL of PostgreSQL, or the path of an SQLite file. An error shows nothing of what may be a password.
-    pub fn of(text: &str) -> Result<Database, String> {
-        let refused =
-            |why: &str| Err(format!("database: {why}; it is an SQLite file, or a URL as postgres://user@host/name"));
+    /// A URL of PostgreSQL, or the path of an SQLite file.
+    pub fn of(text: &str) -> Result<Database, NoDatabase> {
         if let Some((scheme, rest)) = text.split_once("://") {
             // libpq takes the names of its schemes in lower case alone
             return match scheme.to_ascii_lowercase().as_str() {
                 scheme @ ("postgres" | "postgresql") => Ok(Database::Postgres(format!("{scheme}://{rest}"))),
-                _ => refused("has a scheme that is neither postgres nor postgresql"),
+                _ => Err(NoDatabase(Because::Scheme)),
             };
         }
         let is_word =
             |text: &str| !text.is_empty() && text.bytes().all(|byte| byte.is_ascii_lowercase() || byte == b'_');
         match text.split_once('=') {
-            Some((word, _)) if is_word(word.trim()) => refused("begins as libpq's list of keywords does"),
-            _ if text.is_empty() => refused("is empty"),
+            Some((word, _)) if is_word(word.trim()) => Err(NoDatabase(Because::Keywords)),
+            _ if text.is_empty() => Err(NoDatabase(Because::Empty)),
             _ => Ok(Database::Sqlite(PathBuf::from(text))),
         }
     }
@@ -225,12 +254,17 @@ mod tests {
         assert_eq!(Database::of("./host=db"), file("./host=db"));
         assert_eq!(Database::of("postgres://u@db/x?sslmode=require"), url("postgres://u@db/x?sslmode=require"));
         assert_eq!(Database::of("PostgreSQL://U@DB/X"), url("postgresql://U@DB/X"));
-        for text in ["host=db dbname=x", "dbname = x password=secret", "mysql://u:secret@db/x", "file://x.db", ""] {
-            let told = Database::of(text);
-            assert!(
-                told.as_ref().is_err_and(|why| why.starts_with("database: ") && !why.contains("secret")),
-                "{told:?}"
-            );
+        for (text, why) in [
+            ("host=db dbname=x", Because::Keywords),
+            ("dbname = x password=secret", Because::Keywords),
+            ("mysql://u:secret@db/x", Because::Scheme),
+            ("file://x.db", Because::Scheme),
+            ("", Because::Empty),
+        ] {
+            let refused = NoDatabase(why);
+            let told = refused.to_string();
+            assert!(told.starts_with("database: ") && !told.contains("secret"), "{told}");
+            assert_eq!(Database::of(text), Err(refused), "{text}");
         }
     }
 }

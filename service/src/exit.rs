@@ -1,4 +1,9 @@
-//! How the service ends.
+//! How the program ends.
+
+/// The exit status after which a start may succeed: systemd starts the service again.
+pub const START_AGAIN: u8 = 75;
+/// The exit status if somebody has to look first, because another start would end in the same way.
+pub const NOT_TO_START: u8 = 78;
 
 /// Ends the process at once, with this status.
 ///

@@ -3,7 +3,7 @@ use crate::exit;
 use crate::log;
 use crate::metrics::Metrics;
 use crate::model::{check_clock, lengths_text, shown, wall, Clock, Keeping, Moment};
-use crate::serve::Stop;
+use crate::stop::Stop;
 use crate::store::{Lead, Reader, Store};
 use crate::writer::{Board, Jobs, Lease, Message, StartError, Writer};
 use std::sync::mpsc::Receiver;
@@ -103,7 +103,7 @@ impl Leader {
         let log = relkvanu_client::new_key();
         self.store.begin(&log, &lengths_text(&followed.jobs.lengths()))?;
         self.board.lead(epoch, log);
-        lease.renew(self.store.as_mut()).map_err(|why| Stop::Again(why.to_string()))?;
+        lease.renew(self.store.as_mut())?;
         Ok(lease)
     }
 
@@ -111,7 +111,7 @@ impl Leader {
     fn check_clock(&mut self, jobs: &Jobs) -> Result<(), Stop> {
         let last = jobs.last_moment();
         if !self.accept_clock {
-            check_clock(self.reader.noted()?.max(last)).map_err(Stop::Never)?;
+            check_clock(self.reader.noted()?.max(last))?;
         }
         if last > wall().saturating_add(1000) {
             log::warn(&format!(

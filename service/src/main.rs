@@ -1,6 +1,9 @@
-//! `relkvanu`: serves checkpoint coordinators over HTTP, deletes the files that they hand out, and copies its database.
+//! `relkvanu`: serves checkpoint coordinators over HTTP, asks a service, deletes the files that jobs hand out, and copies and checks a
+//! database.
+mod ask;
 mod auth;
 mod backup;
+mod check;
 mod cli;
 mod config;
 mod discard;
@@ -12,13 +15,16 @@ mod log;
 mod metrics;
 mod model;
 mod process;
+mod remote;
 mod serve;
+mod stop;
 mod store;
 mod upkeep;
 mod writer;
 
-use clap::Parser;
+use clap::{CommandFactory, Parser};
 use cli::{Cli, Command};
+use std::io::Write;
 use std::process::ExitCode;
 
 fn main() -> ExitCode {
@@ -27,6 +33,14 @@ fn main() -> ExitCode {
         Command::Serve(given) => serve::run(&given),
         Command::Discard(given) => discard::run(&given),
         Command::Backup(given) => backup::run(&given),
+        Command::Check(given) => check::run(&given),
+        Command::Ask(given) => ask::run(&given),
+        Command::Completions { shell } => {
+            let mut script = Vec::new();
+            clap_complete::generate(shell, &mut Cli::command(), "relkvanu", &mut script);
+            // whoever reads it may have read enough
+            std::io::stdout().write_all(&script).map_or(ExitCode::FAILURE, |()| ExitCode::SUCCESS)
+        }
     }
 }
 

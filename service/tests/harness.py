@@ -1,6 +1,7 @@
 """What the tests share: a service that is started, killed and stopped, and the oracle that its log is compared with."""
 import atexit
 import fcntl
+import glob
 import json
 import os
 import random
@@ -72,6 +73,13 @@ class Server:
         atexit.register(self.process.kill)  # a test that fails leaves none behind
         if ready:
             self.wait_ready()
+        return self
+
+    def stand_by(self):
+        """Starts it beside a leader, and waits until it has seen that one."""
+        before = self.log().count("another process leads") if self.process else 0
+        self.start(ready=False)
+        until(lambda: self.log().count("another process leads") > before)
         return self
 
     def wait_ready(self, seconds=30, kept=False):
@@ -179,6 +187,44 @@ def served(**given):
             yield server
         finally:
             server.stop()
+
+
+def configured(at, text):
+    """The words of a service with this configuration, in a file of the folder."""
+    path = f"{at}/service-{random.randrange(1 << 30)}.toml"
+    with open(path, "w", encoding="utf-8") as it:
+        it.write(text)
+    return ["--config", path]
+
+
+def leader_and_standby(at, url, text, *prefixes):
+    """Two services of one database of PostgreSQL with this configuration: one leads, and the other has seen it."""
+    args, (first, second) = configured(at, text), (*prefixes, (), ())[:2]
+    return Server(at, url, args, first).start(), Server(at, url, args, second).stand_by()
+
+
+def lose_history(server):
+    """Deletes the history of a service that does not run."""
+    for path in glob.glob(f"{server.folder}/history-{server.port}*"):
+        os.remove(path)
+
+
+def caught_up(job):
+    """Waits until the history has read all calls."""
+    until(lambda: job.files()["upto"] == job.state()["seq"])
+
+
+@contextmanager
+def over_copy(server, job="orders"):
+    """Starts a service over a copy of a database. Gives the state of a job and the calls that its log has."""
+    from relkvanu_service import Service
+
+    server.start()
+    try:
+        it = Service(server.url).job(job)
+        yield it.state(), list(it.log())
+    finally:
+        server.stop()
 
 
 def answer_text(answer):

@@ -4,7 +4,7 @@ import sys
 import time
 from contextlib import contextmanager
 
-from harness import Archive, PgArchive, Server, folder, until
+from harness import Archive, PgArchive, Server, configured, folder, until
 from relkvanu_service import Service
 from writers import SETTINGS, Writer, check
 
@@ -54,9 +54,7 @@ def run(kills, database=None, config=KEEPING, seed=1):
     chance = random.Random(seed)
     told = []
     with folder() as at:
-        with open(f"{at}/service.toml", "w", encoding="utf-8") as it:
-            it.write(config)
-        server = Server(at, database and database.url, ["--config", f"{at}/service.toml"]).start()
+        server = Server(at, database and database.url, configured(at, config)).start()
         archive = PgArchive(database) if database else Archive(server.database)
         with writers_at([server.url], told, archive):
             for _ in range(kills):

@@ -6,7 +6,7 @@ import subprocess
 import threading
 import time
 
-from harness import PROGRAM, Archive, Server, check_log, folder, served
+from harness import PROGRAM, Archive, Server, check_log, folder, over_copy, served
 from relkvanu_service import Service
 from writers import check_kept
 
@@ -65,14 +65,9 @@ def test_a_backup_under_load():
         assert not os.path.exists(f"{copy}.part") and not os.path.exists(f"{copy}-wal")
         whole = archive.log("orders")
         with folder() as at:
-            restored = Server(at, database=copy).start()
-            try:
-                job = Service(restored.url).job("orders")
-                state, log = job.state(), list(job.log())
+            with over_copy(Server(at, database=copy)) as (state, log):
                 assert first <= state["seq"] <= last, (first, state["seq"], last)
                 check_log(state, [1], check_kept(whole[: state["seq"]], log, 1))
-            finally:
-                restored.stop()
         return f"{MEGABYTES} MB in {took:.1f} s beside {last - first} commits, of which the slowest took {max(load.times) * 1000:.0f} ms"
 
 

@@ -30,14 +30,15 @@ def test_answers_fit_the_description():
     with open(f"{SERVICE}/web/openapi.json", encoding="utf-8") as it:
         described = as_json_schema(json.load(it))
 
-    def fits(method, path, route, body=None, key=None):
-        told = server.request(method, path, body, headers=[("Idempotency-Key", key)] if key else [])
+    def fits(method, path, route, body=None, key=None, accept=None):
+        headers = [("Idempotency-Key", key)] if key else []
+        told = server.request(method, path, body, headers=[*headers, ("Accept", accept)] if accept else headers)
         operation = described["paths"][route][method.lower()]
         if body is not None and told[0] in (200, 201):
             wanted = operation["requestBody"]["content"]["application/json"]["schema"]
             jsonschema.validate(body, {**wanted, "components": described["components"]})
         assert str(told[0]) in operation["responses"], (method, path, told)
-        content = operation["responses"][str(told[0])].get("content", {}).get("application/json")
+        content = operation["responses"][str(told[0])].get("content", {}).get(told[1].get("content-type", "").partition(";")[0])
         if content:
             jsonschema.validate(told[2], {**content["schema"], "components": described["components"]})
         return told
@@ -67,7 +68,17 @@ def test_answers_fit_the_description():
             ("/v1/jobs/a/samples", f"{job}/samples"), ("/v1/jobs/b", job), ("/healthz", "/healthz"), ("/readyz", "/readyz"), ("/metrics", "/metrics"),
             ("/openapi.json", "/openapi.json"),
         ]:
-            fits("GET", path, route)
+            told = fits("GET", path, route)
+            # an error is one of RFC 9457 for a client that asks for it, with the same members beside
+            other = fits("GET", path, route, accept="application/json, Application/Problem+JSON;q=0.5")
+            if told[0] >= 400:
+                assert other[1]["content-type"] == "application/problem+json" and told[1]["content-type"] == "application/json", other
+                assert (other[2]["status"], other[2]["type"], other[2]["detail"]) == (told[0], "about:blank", told[2]["error"]), other
+                assert other[2]["title"] and told[2].items() < other[2].items(), (told, other)
+            else:
+                assert other[1]["content-type"] == told[1]["content-type"]
+        assert fits("POST", "/v1/jobs", "/v1/jobs", {"name": "b", "settings": {"interval": 10_000}, "shape": [2]})[1]["location"] == "/v1/jobs/b"
+        assert "location" not in fits("POST", "/v1/jobs", "/v1/jobs", {"name": "b", "settings": {"interval": 10_000}, "shape": [2]})[1]
         texts = {entry["answer"] for entry in server.get("/v1/jobs/a/log")[2]["calls"]}
         check_log(server.get("/v1/jobs/a")[2], [2], server.get("/v1/jobs/a/log")[2]["calls"])
         return f"20 requests, {len(texts)} kinds of answers"

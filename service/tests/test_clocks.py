@@ -2,7 +2,7 @@
 import re
 import time
 
-from harness import Server, folder, until
+from harness import Server, folder, leader_and_standby, until
 from postgres import postgres
 from preloaded import Clocks, Suspended
 from relkvanu_service import Refused, Service, ack, savepoint
@@ -96,13 +96,8 @@ def test_steps_of_the_clock():
 def test_a_suspended_machine_keeps_no_lease():
     with postgres() as database, folder() as at:
         clocks = Clocks(at)
-        with open(f"{at}/service.toml", "w", encoding="utf-8") as it:
-            it.write("lease_seconds = 2\n")
-        args = ["--config", f"{at}/service.toml"]
-        first, second = Server(at, database.url, args, clocks.prefix).start(), Server(at, database.url, args)
+        first, second = leader_and_standby(at, database.url, "lease_seconds = 2\n", clocks.prefix)
         job = Service(first.url).open("orders", SETTINGS, [1])
-        second.start(ready=False)
-        until(lambda: "another process leads" in second.log())
         suspension = Suspended(first, clocks)
         second.wait_ready()
         Service(second.url).job("orders").call(savepoint())
@@ -119,15 +114,9 @@ def test_a_suspended_machine_keeps_no_lease():
 def test_the_clock_of_the_database_may_be_set():
     with folder() as at, folder() as own:
         clocks = Clocks(at)
-        with open(f"{at}/service.toml", "w", encoding="utf-8") as it:
-            it.write("lease_seconds = 2\n")
-        args = ["--config", f"{at}/service.toml"]
         with postgres(own, environment=clocks.environment) as database:
-            first, second = (Server(at, database.url, args) for _ in range(2))
-            first.start()
+            first, second = leader_and_standby(at, database.url, "lease_seconds = 2\n")
             job = Service(first.url).open("orders", SETTINGS, [1])
-            second.start(ready=False)
-            until(lambda: "another process leads" in second.log())
             both = 0
             for ahead in (HOUR, 0, DAY):
                 clocks.set(day=ahead)
@@ -152,13 +141,7 @@ def test_threads_that_have_nothing_to_do():
     """A standby over an empty database, and a leader with a long lease, without calls: their clock goes on by half a minute."""
     with postgres() as database, folder() as at:
         clocks = [Clocks(at, name) for name in ("leader", "standby")]
-        with open(f"{at}/long.toml", "w", encoding="utf-8") as it:
-            it.write("lease_seconds = 600\n")
-        args = ["--config", f"{at}/long.toml"]
-        servers = [Server(at, database.url, args, one.prefix) for one in clocks]
-        servers[0].start()
-        servers[1].start(ready=False)
-        until(lambda: "another process leads" in servers[1].log())
+        servers = leader_and_standby(at, database.url, "lease_seconds = 600\n", *(one.prefix for one in clocks))
         time.sleep(1)
         for one in clocks:
             one.set(start=30)

@@ -9,7 +9,7 @@ import sys
 import threading
 import time
 
-from harness import PROGRAM, TOP, Server, folder, served, until
+from harness import PROGRAM, TOP, Server, configured, folder, served, until
 from postgres import postgres
 from relkvanu_service import Gone, Service, ack, cancel, deleted, dispose, savepoint
 from run import Skipped
@@ -161,9 +161,7 @@ def test_after_a_restored_backup():
 
 def test_after_a_restored_dump_of_postgres():
     with postgres() as database, folder() as at:
-        with open(f"{at}/service.toml", "w", encoding="utf-8") as it:
-            it.write("lease_seconds = 1\n")
-        server = Server(at, database.url, ["--config", f"{at}/service.toml"]).start()
+        server = Server(at, database.url, configured(at, "lease_seconds = 1\n")).start()
         try:
             return f"{restored(server, database)}; {of_version_1(server, database)}"
         finally:

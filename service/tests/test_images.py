@@ -1,6 +1,5 @@
 """Images of jobs: a start begins with the last one, the log is cut behind it, and nothing that was promised is lost. Also damaged
 images, file numbers that were chosen against a coordinator of an image, and databases of other versions."""
-import glob
 import hashlib
 import os
 import re
@@ -9,7 +8,7 @@ import sqlite3
 import subprocess
 import threading
 
-from harness import PROGRAM, TOP, Archive, PgArchive, Server, check_log, folder, served, until
+from harness import PROGRAM, TOP, Archive, PgArchive, Server, caught_up, check_log, configured, folder, lose_history, over_copy, served, until
 from postgres import postgres
 from relkvanu_service import Service, ack, deleted, dispose, savepoint
 from writers import check_kept
@@ -54,7 +53,7 @@ def test_a_start_goes_from_the_last_image():
         for _ in range(2):
             server.kill()
             server.start()
-            until(lambda: job.files()["upto"] == job.state()["seq"])
+            caught_up(job)
             assert seen(job, files) == before
             assert server.replayed()[-1] <= 30 and before[0]["seq"] > 200, (server.replayed(), before[0])
         assert server.request("POST", path, body, headers=key)[2] == early[2]
@@ -132,7 +131,7 @@ def test_an_image_that_is_damaged_stops_the_start():
         # by the remedy that the message names
         base.execute("delete from image where seq = ?", (seq,))
         server.start()
-        until(lambda: job.files()["upto"] == job.state()["seq"])
+        caught_up(job)
         after = seen(job, [200])
         assert after[0]["image"] is not None and after[1:] == before[1:], (before, after)
         job.calls([savepoint(), ack(21, "0.0")])
@@ -175,8 +174,7 @@ def test_a_history_that_is_lost_after_a_cut():
         state, taken = job.state(), job.files(1000)["taken"]
         assert len(taken) == 18 and state["files"]["waiting"] == 3, (taken, state)
         server.stop()
-        for path in glob.glob(f"{server.folder}/history*"):
-            os.remove(path)
+        lose_history(server)
         server.start()
         until(lambda: job.files()["upto"] == state["seq"])
         assert sorted(row["file"] for row in job.files(1000)["taken"]) == sorted(row["file"] for row in taken)
@@ -185,7 +183,7 @@ def test_a_history_that_is_lost_after_a_cut():
         assert job.file(192)["uses"] == 1 and job.file(192)["used_by"] == [{"record": 19, "subtask": "0.1"}], job.file(192)
         files = job.take(3)
         job.calls([deleted(int(taken[0]["file"])), deleted(files[0])])
-        until(lambda: job.files()["upto"] == job.state()["seq"])
+        caught_up(job)
         assert job.file(files[0])["history"]["why"] == "savepoint 20 was disposed of", job.file(files[0])
         assert job.file(int(taken[0]["file"]))["history"]["deleted"]["answer"].startswith("deleted ")
         return "what is taken, waits and is missing is known again"
@@ -202,18 +200,13 @@ def test_a_backup_while_images_are_made():
         working.join()
         whole = archive.log("orders")
         with folder() as at:
-            restored = Server(at, database=copy, args=KEEPING).start()
-            try:
-                job = Service(restored.url).job("orders")
-                log = list(job.log())
-                state = job.state()
+            restored = Server(at, database=copy, args=KEEPING)
+            with over_copy(restored) as (state, log):
                 with sqlite3.connect(copy) as base:
                     all_of_it = [seq for (seq,) in base.execute("select seq from archive union all select seq from call order by seq")]
                 assert state["first"] > 100 and all_of_it == list(range(1, state["seq"] + 1)), (state, all_of_it[:3])
                 check_log(state, [2], check_kept(whole[: state["seq"]], log, state["first"]))
                 assert restored.replayed()[-1] < 60, restored.replayed()
-            finally:
-                restored.stop()
         return f"{state['seq']} of {len(whole)} calls in the copy, {state['first'] - 1} of them cut"
 
 
@@ -236,9 +229,7 @@ def test_postgresql_of_other_versions():
 
 def test_a_standby_that_is_slower_than_the_cuts():
     with postgres() as database, folder() as at:
-        with open(f"{at}/service.toml", "w", encoding="utf-8") as it:
-            it.write("lease_seconds = 1\nimage_calls = 20\nkeep_calls = 0\n")
-        servers = [Server(at, database.url, ["--config", f"{at}/service.toml"]) for _ in range(2)]
+        servers = [Server(at, database.url, configured(at, "lease_seconds = 1\nimage_calls = 20\nkeep_calls = 0\n")) for _ in range(2)]
         leader, standby = servers[0].start(), servers[1].start(ready=False)
         archive, job = PgArchive(database), Service(leader.url).open("orders", SETTINGS, [2])
         worked(job, 2)
@@ -254,7 +245,7 @@ def test_a_standby_that_is_slower_than_the_cuts():
         after = {name: value for name, value in job.state().items() if name not in ("now", "log", "first", "image")}
         assert after == before, (before, after)
         worked(job, 3, 33)
-        until(lambda: job.files()["upto"] == job.state()["seq"])
+        caught_up(job)
         whole = check_kept(archive.log("orders"), list(job.log()), job.state()["first"])
         check_log(job.state(), [2], whole)
         standby.stop()

@@ -2,13 +2,14 @@
 import threading
 import time
 
-from harness import Kept, Server, folder, until
+from harness import Kept, Server, configured, folder, until
 from postgres import postgres
 from relkvanu_service import Service, savepoint
 from slow import Slow
 
 SETTINGS = {"interval": 1 << 40}
 DELAY = 0.02
+LEASE = "lease_seconds = 2\n"
 
 
 def opened(at, url, jobs):
@@ -28,11 +29,14 @@ def opened(at, url, jobs):
     assert server.stop() == 0
 
 
-def configured(at, lease):
-    path = f"{at}/lease-{lease}.toml"
-    with open(path, "w", encoding="utf-8") as it:
-        it.write(f"lease_seconds = {lease}\n")
-    return ["--config", path]
+def far(at, database, delay, url=None):
+    """A service that reaches the database through a slow line, with a lease of 2 s, and the line."""
+    line = Slow(database.port, delay)
+    return Server(at, (url or database.url).replace(str(database.port), str(line.port)), configured(at, LEASE)), line
+
+
+def near(at, url):
+    return Server(at, url, configured(at, LEASE))
 
 
 def epoch(database):
@@ -61,11 +65,10 @@ def test_a_take_over_through_a_slow_line():
     """It takes over in fewer statements than there are jobs, so a standby beside it finds no lease that has run out."""
     with postgres() as database, folder() as at:
         opened(at, database.url, 40)
-        line = Slow(database.port, DELAY)
-        far = database.url.replace(str(database.port), str(line.port))
-        slow = Server(at, far, configured(at, 2)).start(ready=False)
+        slow, _ = far(at, database, DELAY)
+        slow.start(ready=False)
         until(lambda: epoch(database) == 2)
-        fast = Server(at, database.url, configured(at, 2)).start(ready=False)
+        fast = near(at, database.url).start(ready=False)
         both, stale = looked(slow, fast, 5)
         assert (both, stale) == (0, 0), f"both ready in {both} looks, {stale} stale answers"
         slow.wait_ready()
@@ -79,17 +82,14 @@ def test_a_take_over_keeps_its_lease():
     """Its statements take longer than the lease, so it renews the lease between them, and a standby finds none that has run out."""
     with postgres() as database, folder() as at:
         opened(at, database.url, 5)
-        line = Slow(database.port, 0)
-        far = database.url.replace(str(database.port), str(line.port))
-        first = Server(at, database.url, configured(at, 2)).start()
-        slow = Server(at, far, configured(at, 2)).start(ready=False)
-        until(lambda: "another process leads" in slow.log())
+        first = near(at, database.url).start()
+        slow, line = far(at, database, 0)
+        slow.stand_by()
         before = epoch(database)
         line.delay = 0.35
         first.stop()
         until(lambda: epoch(database) > before)
-        fast = Server(at, database.url, configured(at, 2)).start(ready=False)
-        until(lambda: "another process leads" in fast.log())
+        fast = near(at, database.url).stand_by()
         slow.wait_ready()
         took = int(slow.log().rsplit("take_over_ms=", 1)[1].split()[0]) / 1000
         assert epoch(database) == before + 1 and took > 2, (before, epoch(database), took)
@@ -103,9 +103,7 @@ def test_two_processes_on_slow_lines():
     """One of them leads, and serves."""
     with postgres() as database, folder() as at:
         opened(at, database.url, 40)
-        line = Slow(database.port, DELAY)
-        far = database.url.replace(str(database.port), str(line.port))
-        servers = [Server(at, far, configured(at, 2)) for _ in range(2)]
+        servers = [far(at, database, DELAY)[0] for _ in range(2)]
         kept = [Kept(server.start(ready=False)) for server in servers]
         for one in kept:
             one.start()
@@ -127,10 +125,9 @@ def test_two_processes_on_slow_lines():
 def standby_asks(at, database, url, jobs):
     """How many statements a second a standby beside these jobs asks for, of which one is called. It leads then, and knows its calls."""
     opened(at, url, jobs)
-    line = Slow(database.port, 0)
-    leader = Server(at, url, configured(at, 2)).start()
-    standby = Server(at, url.replace(str(database.port), str(line.port)), configured(at, 2)).start(ready=False)
-    until(lambda: "another process leads" in standby.log())
+    leader = near(at, url).start()
+    standby, line = far(at, database, 0, url)
+    standby.stand_by()
     job = Service(leader.url).job("j1")
     before, began = line.asked, time.monotonic()
     for _ in range(20):

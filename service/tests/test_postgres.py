@@ -5,7 +5,7 @@ import signal
 import time
 
 import kills
-from harness import Kept, PgArchive, Server, check_log, folder, until
+from harness import Kept, PgArchive, Server, check_log, configured, folder, until
 from postgres import postgres
 from relkvanu_service import Service
 
@@ -21,9 +21,7 @@ def test_kills():
 
 def test_a_database_that_stops():
     with postgres() as database, folder() as at:
-        with open(f"{at}/service.toml", "w", encoding="utf-8") as it:
-            it.write("lease_seconds = 1\n")
-        server = Server(at, database.url, ["--config", f"{at}/service.toml"]).start()
+        server = Server(at, database.url, configured(at, "lease_seconds = 1\n")).start()
         kept, told = Kept(server), []
         kept.start()
         with kills.writers_at([server.url], told):
@@ -76,12 +74,9 @@ def leads(server):
 def test_take_over():
     config = f"lease_seconds = {LEASE}\n" + kills.KEEPING
     with postgres() as database, folder() as at:
-        with open(f"{at}/service.toml", "w", encoding="utf-8") as it:
-            it.write(config)
-        servers = [Server(at, database.url, ["--config", f"{at}/service.toml"]) for _ in range(2)]
+        servers = [Server(at, database.url, configured(at, config)) for _ in range(2)]
         servers[0].start()
-        servers[1].start(ready=False)
-        until(lambda: "another process leads" in servers[1].log())
+        servers[1].stand_by()
         assert servers[1].get("/healthz")[0] == 200
         told = servers[1].request("GET", "/v1/jobs")
         assert told[0] == 503 and told[1]["retry-after"] == "1" and told[1]["relkvanu-leader"] == servers[0].url, told

@@ -1,11 +1,11 @@
-"""Images that a database has no room for: calls go on, a metric tells it, and the image is made later."""
+"""Images and summaries that a database has no room for: calls go on, and they are made later. A metric tells it of images."""
 import errno
 import re
 
-from harness import Server, check_log, folder, until
+from harness import Server, caught_up, check_log, folder, lose_history, until
 from postgres import postgres
 from preloaded import built
-from relkvanu_service import Service, ack, savepoint
+from relkvanu_service import Service, ack, dispose, savepoint
 
 SETTINGS = {"interval": 1 << 40}
 TICK = {"calls": [{"call": "tick"}]}
@@ -21,23 +21,33 @@ def tick(server):
     return server.request("POST", "/v1/jobs/orders/calls", TICK)[0] == 200
 
 
+def refuse(database, tables, text, code):
+    """PostgreSQL answers each insert into these tables with an error of this SQLSTATE."""
+    database.sql(f"""create or replace function refused() returns trigger language plpgsql as
+        $$ begin raise exception '{text}' using errcode = '{code}'; end $$""")
+    for table in tables:
+        database.sql(f"create or replace trigger refused before insert on {table} for each row execute function refused()")
+
+
+def allow(database, tables):
+    for table in tables:
+        database.sql(f"drop trigger refused on {table}")
+
+
 def test_an_image_that_postgresql_has_no_room_for():
     with postgres() as database, folder() as at:
         server = Server(at, database.url, ["--image-calls", "20", "--keep-calls", "0"]).start()
         job = Service(server.url).open("orders", SETTINGS, [1])
-        database.sql("""create function no_room() returns trigger language plpgsql as
-            $$ begin raise exception 'no room' using errcode = '53100'; end $$;
-            create trigger no_room before insert on image for each row execute function no_room()""")
+        refuse(database, ["image"], "no room", "53100")
         for _ in range(60):
             assert tick(server), server.log()[-400:]
         assert metric(server, FAILING) == 1 and job.state()["image"] is None
         assert "an image of job orders is put off" in server.log(), server.log()[-400:]
         assert server.process.poll() is None
         # one that is too long for the database is no reason to end either
-        database.sql("""create or replace function no_room() returns trigger language plpgsql as
-            $$ begin raise exception 'too long' using errcode = '54000'; end $$""")
+        refuse(database, ["image"], "too long", "54000")
         until(lambda: tick(server) and "too long" in server.log(), 20, 0.2)
-        database.sql("drop trigger no_room on image")
+        allow(database, ["image"])
         until(lambda: tick(server) and job.state()["image"], 20, 0.2)
         assert metric(server, FAILING) == 0
         seq = job.state()["seq"]
@@ -46,6 +56,38 @@ def test_an_image_that_postgresql_has_no_room_for():
         assert job.state()["seq"] == seq and server.replayed()[-1] < seq
         server.stop()
         return f"{seq} calls; the image was made {seq - server.replayed()[-1]} calls after the job's opening"
+
+
+def test_a_summary_that_postgresql_has_no_room_for():
+    """The log is not cut without one. Once there is room, it is, and a history that begins anew has what was cut."""
+    with postgres() as database, folder() as at:
+        server = Server(at, database.url, ["--image-calls", "20", "--keep-calls", "0"]).start()
+        job = Service(server.url).open("orders", SETTINGS, [1])
+        refuse(database, ["past", "summary"], "no room", "53100")
+        for text, code in [("no room", "53100"), ("no memory", "53200"), ("too long", "54000")]:
+            refuse(database, ["summary"], text, code)
+            job.call(savepoint())
+            ended = max(record["id"] for record in job.state()["live"])
+            job.call(ack(ended, "0.0", [1000 + ended]))
+            job.call(dispose(ended))
+            until(lambda: tick(server) and f"a summary of the history was not written: ERROR:  {text}" in server.log(), 20, 0.02)
+            assert job.state()["first"] == 1 and job.state()["image"], job.state()
+            assert database.sql("select count(*) from summary") == "0" and server.process.poll() is None
+            if text == "no room":
+                # a summary comes after the records that ended
+                assert database.sql("select count(*) from past") == "0"
+                allow(database, ["past"])
+        allow(database, ["summary"])
+        before = [job.record(record)["history"] for record in (1, 2, 3)]
+        until(lambda: tick(server) and job.state()["first"] > 1, 30, 0.02)
+        first = job.state()["first"]
+        server.stop()
+        lose_history(server)
+        server.start()
+        caught_up(job)
+        assert [job.record(record)["history"] for record in (1, 2, 3)] == before
+        server.stop()
+        return f"three times; then the log began with call {first}"
 
 
 def test_an_image_that_sqlite_has_no_room_for():

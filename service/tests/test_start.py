@@ -5,7 +5,7 @@ import subprocess
 import threading
 import time
 
-from harness import PROGRAM, Server, check_log, folder, served, until
+from harness import PROGRAM, Server, check_log, folder, over_copy, served, until
 from relkvanu_service import Service
 from run import Skipped
 
@@ -92,6 +92,36 @@ def test_a_log_that_answers_otherwise_stops_the_start():
         return "an answer, a gap and a line"
 
 
+def test_a_database_that_is_damaged_stops_the_start():
+    """For good: a start over the same file ends in the same way."""
+    with folder() as at:
+        server = Server(at).start()
+        driven(server)
+        server.stop()
+        args = ["--database", server.database, "--listen", "127.0.0.1:0"]
+        for table, column, value, cell in [
+            ("job", "config", "config 1 2", 'Text("config 1 2") in column 3'), ("job", "shape", "1 x", 'Text("1 x") in column 4'),
+            ("call", "waiting", -1, "Number(-1) in column 8"), ("call", "line", "cast(x'ff' as text)", None),
+        ]:
+            base = sqlite3.connect(server.database)
+            was = base.execute(f"select {column} from {table} limit 1").fetchone()[0]
+            where = "" if table == "job" else "where seq = 1"
+            # a text that is no UTF-8 is written by an expression
+            given, values = ("?", (value,)) if cell else (value, ())
+            base.execute(f"update {table} set {column} = {given} {where}", values)
+            base.commit()
+            refused(args, 78, f"a row of {table} has {cell}" if cell else "the log can't be read: ")
+            base.execute(f"update {table} set {column} = ? {where}", (was,))
+            base.commit()
+            base.close()
+        server.start()
+        server.stop()
+        with open(server.database, "r+b") as it:
+            it.write(b"no database " * 100)
+        refused(args, 78, "file is not a database")
+        return "4 cells and a file"
+
+
 def test_two_processes_of_one_database():
     with served() as server:
         refused(["--database", server.database, "--listen", "127.0.0.1:0"], 75, "another process serves this database")
@@ -128,9 +158,8 @@ def test_a_backup_of_a_service_that_runs():
         driving.join()
         last = list(Service(server.url).job("orders").log())
         server.stop()
-        restored = Server(at, database=copy).start()
-        log = list(Service(restored.url).job("orders").log())
-        restored.stop()
+        with over_copy(Server(at, database=copy)) as (_, log):
+            pass
         kept = [entry for entry in log if entry["seq"] <= len(last) and entry["at"] <= last[-1]["at"]]
         assert len(kept) >= first and log[:first] == last[:first], (len(log), first)
         return f"{len(kept)} of {len(last)} calls in the copy, {first} before it was made"

@@ -5,7 +5,7 @@ import socket
 import threading
 import time
 
-from harness import Server, folder, until
+from harness import Server, folder
 from postgres import postgres
 from test_api import JOB
 from test_connections import answer, opened, poll
@@ -90,8 +90,7 @@ def test_a_stop_ends_polls_and_slow_bodies():
 def test_a_standby_stops_at_once():
     with folder() as at, postgres() as database:
         leader = Server(at, database=database.url).start()
-        standby = Server(at, database=database.url).start(ready=False)
-        until(lambda: "another process leads" in standby.log())
+        standby = Server(at, database=database.url).stand_by()
         times = []
         for server in (standby, leader):
             started = time.monotonic()

@@ -4,7 +4,7 @@ import glob
 import os
 import sqlite3
 
-from harness import Server, folder, served, small_disk, until
+from harness import Server, caught_up, configured, folder, lose_history, served, small_disk, until
 from postgres import postgres
 from relkvanu_service import Service, ack, deleted, dispose, savepoint
 from test_images import KEEPING, SETTINGS, read_and_cut, seen, worked
@@ -31,17 +31,12 @@ def same(before, after):
         assert old == new, f"{name}: {[pair for pair in zip(old, new) if pair[0] != pair[1]][:3]} of {old!r:.500} and {new!r:.500}"
 
 
-def caught_up(job):
-    until(lambda: job.files()["upto"] == job.state()["seq"])
-
-
 def test_a_lost_history_is_made_again_with_what_was_cut():
     with served(args=KEEPING) as server:
         job = Service(server.url).open("orders", SETTINGS, [2])
         before = prepared(job)
         server.stop()
-        for path in glob.glob(f"{history_of(server)}*"):
-            os.remove(path)
+        lose_history(server)
         server.start()
         caught_up(job)
         same(before, seen(job, FILES))
@@ -63,9 +58,7 @@ def test_a_lost_history_is_made_again_with_what_was_cut():
 
 def test_a_new_leader_knows_what_was_cut():
     with postgres() as database, folder() as at:
-        with open(f"{at}/service.toml", "w", encoding="utf-8") as it:
-            it.write("lease_seconds = 1\nimage_calls = 20\nkeep_calls = 30\n")
-        servers = [Server(at, database.url, ["--config", f"{at}/service.toml"]) for _ in range(3)]
+        servers = [Server(at, database.url, configured(at, "lease_seconds = 1\nimage_calls = 20\nkeep_calls = 30\n")) for _ in range(3)]
         leader, standby = servers[0].start(), servers[1].start(ready=False)
         job = Service(leader.url).open("orders", SETTINGS, [2])
         before = prepared(job)

@@ -8,7 +8,7 @@ import sqlite3
 import threading
 import time
 
-from harness import Kept, Server, check_log, folder, served, until
+from harness import Kept, Server, check_log, folder, over_copy, served, until
 from preloaded import built
 from relkvanu_service import Service
 
@@ -23,7 +23,7 @@ def after_power_loss(server, at):
     for end in ("", "-wal"):
         if os.path.exists(f"{server.database}{end}.safe"):
             shutil.copy(f"{server.database}{end}.safe", f"{place}/relkvanu.db{end}")
-    return Server(place).start()
+    return Server(place)
 
 
 def tick(server):
@@ -34,15 +34,10 @@ def tick(server):
 
 def check_acknowledged(acknowledged, server, at):
     """Each call that was acknowledged is there after a loss of power, and the log is whole."""
-    restored = after_power_loss(server, at)
-    try:
-        job = Service(restored.url).job("orders")
-        state, log = job.state(), list(job.log())
+    with over_copy(after_power_loss(server, at)) as (state, log):
         lost = sorted(seq for seq in acknowledged if seq > state["seq"])
         assert not lost, f"{len(lost)} of {len(acknowledged)} acknowledged calls are lost, from call {lost[0]} on"
         check_log(state, [1], log)
-    finally:
-        restored.stop()
 
 
 def test_a_loss_of_power_after_a_failed_sync():

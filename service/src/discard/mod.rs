@@ -3,7 +3,9 @@ mod folder;
 mod metrics;
 
 use crate::cli;
+use crate::exit::NOT_TO_START;
 use crate::log;
+use crate::remote;
 use folder::{Folder, Outcome, Owner, Stop};
 use metrics::Metrics;
 use relkvanu_client::{new_key, Answer, Call, Error, Job, Service};
@@ -26,9 +28,6 @@ const LONGEST_PAUSE: Duration = Duration::from_secs(60);
 const ONCE_PATIENCE: Duration = Duration::from_secs(60);
 /// How long a new marker waits for the history, which tells whether files were deleted before.
 const HISTORY_PATIENCE: Duration = Duration::from_secs(10);
-
-/// The exit status if somebody has to look, so another start would end in the same way.
-const NOT_TO_START: u8 = 78;
 
 struct Discarder {
     job: Job,
@@ -91,11 +90,7 @@ fn service(given: &cli::Discard) -> Result<Service, Stop> {
     if given.prefix.contains('/') || given.suffix.contains('/') {
         return Err(Stop::Again("--prefix and --suffix: a '/' would name another folder".to_string()));
     }
-    let token = given.token_file.as_ref().map(std::fs::read_to_string).transpose();
-    let token = token.map_err(|error| Stop::Again(format!("--token-file: {error}")))?;
-    let token = token.as_deref().and_then(|text| text.lines().next()).map(str::trim);
-    let urls: Vec<&str> = given.urls.iter().map(String::as_str).collect();
-    Service::new(&urls, token).map_err(|error| Stop::Again(error.to_string()))
+    remote::service(&given.urls, given.token_file.as_deref()).map_err(|error| Stop::Again(error.to_string()))
 }
 
 /// Whose files the folder has, and whether this is the first run for the job: none of its files was taken before.

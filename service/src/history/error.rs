@@ -1,6 +1,5 @@
 //! Why the history can't be made or read.
-use crate::store::DbError;
-use rusqlite::ErrorCode;
+use crate::store::{is_damage, DbError};
 use std::path::PathBuf;
 use thiserror::Error;
 
@@ -31,9 +30,7 @@ impl Error {
     /// is no damage.
     pub fn is_damage(&self) -> bool {
         match self {
-            Error::Tables(error) => {
-                matches!(error.sqlite_error_code(), Some(ErrorCode::DatabaseCorrupt | ErrorCode::NotADatabase))
-            }
+            Error::Tables(error) => is_damage(error),
             Error::Foreign(_) => true,
             Error::Unopened { .. } | Error::Newer(_) | Error::Unread(_) | Error::BadLog(_) => false,
         }

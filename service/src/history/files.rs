@@ -1,8 +1,9 @@
 //! The history of files: which subtask wrote each, which call released it, and when it was taken and deleted. The
 //! coordinator hands files out in the order of their release. So the counts of released files determine which call released
 //! which file.
+use super::follow::Made;
 use super::tables::Tables;
-use crate::model::{Call, Entry};
+use crate::model::{Answer, Call, Entry, Reply};
 use std::collections::VecDeque;
 
 /// The place of the call that released a file, if that call was cut before it was read.
@@ -31,7 +32,8 @@ impl Outbox {
     }
 
     /// Adds a call of the log.
-    pub fn follow(&mut self, tables: &Tables, call: &Call, entry: &Entry) -> rusqlite::Result<()> {
+    pub fn follow(&mut self, tables: &Tables, made: &Made) -> rusqlite::Result<()> {
+        let Made { entry, call, reply } = made;
         let names_files = match call {
             Call::Ack { fresh, .. } => !fresh.is_empty(),
             Call::Take { .. } | Call::Deleted { .. } => true,
@@ -41,8 +43,8 @@ impl Outbox {
             tables.place(call, entry)?;
         }
         match call {
-            Call::Ack { fresh, .. } => Outbox::ack(tables, fresh, entry)?,
-            Call::Take { .. } => return self.take(tables, entry),
+            Call::Ack { fresh, .. } => Outbox::ack(tables, fresh, reply, entry)?,
+            Call::Take { .. } => return self.take(tables, reply, entry),
             Call::Deleted { file } => return tables.deleted(entry.job, *file, entry.seq),
             Call::Undeleted { file } => {
                 let released = tables.undeleted(entry.job, *file)?.unwrap_or(entry.seq);
@@ -54,8 +56,8 @@ impl Outbox {
     }
 
     /// An acknowledgement brings its fresh files. A late one brings only those that were handed out.
-    fn ack(tables: &Tables, fresh: &[u64], entry: &Entry) -> rusqlite::Result<()> {
-        if !entry.answer.starts_with("ack late") {
+    fn ack(tables: &Tables, fresh: &[u64], reply: &Reply, entry: &Entry) -> rusqlite::Result<()> {
+        if !matches!(reply, Reply::Answered(Answer::AckLate { .. })) {
             return fresh.iter().try_for_each(|file| tables.born(entry.job, *file, entry.seq));
         }
         if entry.waiting == 0 {
@@ -74,11 +76,13 @@ impl Outbox {
         tables.set_run(job, run)
     }
 
-    fn take(&mut self, tables: &Tables, entry: &Entry) -> rusqlite::Result<()> {
-        let files = entry.answer.split(' ').skip(1).filter_map(|file| file.parse().ok());
+    fn take(&mut self, tables: &Tables, reply: &Reply, entry: &Entry) -> rusqlite::Result<()> {
+        let Reply::Taken(files) = reply else {
+            return Ok(());
+        };
         for file in files {
             let released = self.pop(tables, entry.job)?;
-            tables.taken(entry.job, file, released, entry.seq)?;
+            tables.taken(entry.job, *file, released, entry.seq)?;
         }
         match self.runs.front() {
             Some(run) => tables.set_run(entry.job, *run),

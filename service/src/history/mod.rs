@@ -9,6 +9,7 @@ mod records;
 mod samples;
 mod summary;
 mod tables;
+mod version;
 
 pub use error::Error;
 pub use historian::Historian;

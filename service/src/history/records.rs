@@ -1,6 +1,7 @@
 //! The history of records: when each was triggered and acknowledged, when and how it ended, and which subtasks were missing.
+use super::follow::Made;
 use super::tables::Tables;
-use crate::model::{Call, Entry, Kind, Subtask};
+use crate::model::{Answer, Call, Entry, Kind, Reply, Subtask};
 use std::collections::{BTreeMap, BTreeSet, HashSet};
 
 /// How a record ended that one of its subtasks declined.
@@ -76,20 +77,21 @@ impl Records {
     }
 
     /// Adds a call of the log, and returns which records stopped being pending by it.
-    pub fn follow(&mut self, tables: &Tables, call: &Call, entry: &Entry) -> rusqlite::Result<Vec<Ended>> {
+    pub fn follow(&mut self, tables: &Tables, made: &Made) -> rusqlite::Result<Vec<Ended>> {
+        let Made { entry, call, reply } = made;
         let mut ended = Vec::new();
-        if let Call::Ack { id, subtask, .. } = call {
-            ended.extend(self.ack(tables, *id, *subtask, entry)?);
+        if let (Call::Ack { id, subtask, .. }, Reply::Answered(answer)) = (call, reply) {
+            ended.extend(self.ack(tables, *id, *subtask, answer, entry)?);
         }
-        for id in entry.ended.iter().flat_map(|ids| ids.split(' ')).filter_map(|id| id.parse().ok()) {
+        for id in entry.ended() {
             ended.extend(self.end(tables, id, call, entry)?);
         }
         if let Call::Restore { shape: Some(shape), .. } = call {
             self.shape.clone_from(shape);
         }
-        let kind = match call {
-            Call::Tick if entry.answer.contains("triggered") => Some(Kind::Checkpoint),
-            Call::Savepoint => Some(Kind::Savepoint),
+        let kind = match reply {
+            Reply::Answered(Answer::Triggered { .. }) => Some(Kind::Checkpoint),
+            Reply::Answered(Answer::SavepointTriggered(_)) => Some(Kind::Savepoint),
             _ => None,
         };
         if let (Some(kind), Some(id)) = (kind, entry.record) {
@@ -100,15 +102,22 @@ impl Records {
         Ok(ended)
     }
 
-    fn ack(&mut self, tables: &Tables, id: u64, subtask: Subtask, entry: &Entry) -> rusqlite::Result<Option<Ended>> {
-        if entry.answer.starts_with("ack late") {
+    fn ack(
+        &mut self,
+        tables: &Tables,
+        id: u64,
+        subtask: Subtask,
+        answer: &Answer,
+        entry: &Entry,
+    ) -> rusqlite::Result<Option<Ended>> {
+        if matches!(answer, Answer::AckLate { .. }) {
             return Ok(None);
         }
         if let Some(pending) = self.pending.get_mut(&id) {
             pending.ack(subtask, entry.at);
             self.changed.insert(id);
         }
-        if entry.answer.starts_with("ack completed") {
+        if matches!(answer, Answer::AckCompleted { .. }) {
             return self.finish(tables, id, "completed", entry);
         }
         Ok(None)

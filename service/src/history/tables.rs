@@ -2,14 +2,12 @@
 use super::error::Error;
 use super::files::Run;
 use super::records::Pending;
-use crate::model::{parse_line, shape_words, Call, Entry, Kind, SavedRecord};
+use super::version::{foreign, steps_after, version};
+use crate::model::{shape_words, Call, Entry, Kind, SavedRecord};
 use crate::writer::JobState;
 use rusqlite::{params, Connection, OptionalExtension, Params, Row};
 use std::path::Path;
 
-/// What makes each version of the tables from the one before. The first is 2.
-const STEPS: [&str; 2] = [include_str!("../../sql/history.sql"), include_str!("../../sql/history_3.sql")];
-const FIRST_VERSION: i64 = 2;
 const PENDING: &str = "select id, kind, shape, started, first_ack, last_ack, slowest from record
     where job = ? and how = 'pending'";
 const PROGRESS: &str = "select upto, at, shape from progress where job = ?";
@@ -151,7 +149,7 @@ impl Tables {
         let mut query = self.0.prepare(PENDING)?;
         let rows = query.query_map([job], |row| {
             let (kind, shape): (String, String) = (row.get(1)?, row.get(2)?);
-            let kind = if kind == "savepoint" { Kind::Savepoint } else { Kind::Checkpoint };
+            let kind = kind.parse().unwrap_or(Kind::Checkpoint);
             let shape = shape.split(' ').filter_map(|word| word.parse().ok()).collect();
             let moment = |at: usize| Ok::<_, rusqlite::Error>(row.get::<_, Option<i64>>(at)?.map(unsigned));
             let mut pending = Pending::new(kind, shape, unsigned(row.get(3)?));
@@ -252,46 +250,6 @@ impl Tables {
         let sql = "delete from sample where (job, at) in (select job, at from sample where at < ? limit ?)";
         self.0.prepare_cached(sql)?.execute([signed(before), signed(most)]).map(|count| count as u64)
     }
-}
-
-/// The version of the tables; 0 if there are none.
-fn version(connection: &Connection) -> Result<i64, Error> {
-    let count: i64 = connection.query_row("select count(*) from sqlite_master", [], |row| row.get(0))?;
-    match count {
-        0 => Ok(0),
-        _ => connection.query_row("select number from version", [], |row| row.get(0)).map_err(foreign),
-    }
-}
-
-/// What is left to do for tables of this version.
-fn steps_after(version: i64) -> Result<&'static [&'static str], Error> {
-    let newest = FIRST_VERSION + STEPS.len() as i64 - 1;
-    match version {
-        0 => Ok(&STEPS),
-        _ if version > newest => Err(Error::Newer(version)),
-        _ if version < FIRST_VERSION => Err(Error::Foreign(format!("version {version}"))),
-        _ => Ok(&STEPS[usize::try_from(version - FIRST_VERSION).map_or(STEPS.len(), |done| done + 1)..]),
-    }
-}
-
-/// A table or column is missing, if SQLite says no more than that the statement is wrong.
-fn foreign(error: rusqlite::Error) -> Error {
-    match &error {
-        rusqlite::Error::QueryReturnedNoRows => Error::Foreign("the version is missing".to_string()),
-        rusqlite::Error::SqliteFailure(code, _) if code.extended_code == rusqlite::ffi::SQLITE_ERROR => {
-            Error::Foreign(error.to_string())
-        }
-        _ => Error::Tables(error),
-    }
-}
-
-/// The acknowledgements of a record among entries of the log up to a place.
-pub fn acks_of(entries: &[Entry], upto: u64) -> impl Iterator<Item = (crate::model::Subtask, u64)> + '_ {
-    let accepted = entries.iter().filter(move |entry| entry.seq <= upto && !entry.answer.starts_with("ack late"));
-    accepted.filter_map(|entry| match parse_line(&entry.line)? {
-        (_, Call::Ack { subtask, .. }) => Some((subtask, entry.at)),
-        _ => None,
-    })
 }
 
 /// A number as SQLite keeps it. Moments, places and numbers of records are below 2^62.

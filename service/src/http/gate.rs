@@ -1,5 +1,5 @@
 //! The checks that every request passes: its route, its token, its origin, and whether this process leads.
-use super::reply::{error, text, with_header, Reply};
+use super::reply::{as_problem, error, text, wants_problems, with_header, Reply};
 use super::route::{NoRoute, Route};
 use super::seats::{Kind, Seat};
 use super::{page, reads, room, writes, App};
@@ -26,6 +26,7 @@ pub async fn answer(app: Arc<App>, seat: &Arc<Seat>, request: Request<Body>) -> 
     let route = Route::of(request.method(), request.uri().path());
     let name = route.as_ref().map_or("none", Route::name);
     let (kind, checked) = checked(&app, route, request.headers());
+    let wants_problems = wants_problems(request.headers());
     let reply = match (seat.begin(kind), checked) {
         (None, _) => crowded(),
         (Some(_), Err(refused)) => *refused,
@@ -34,6 +35,7 @@ pub async fn answer(app: Arc<App>, seat: &Arc<Seat>, request: Request<Body>) -> 
         (Some(turn), Ok(route)) => room::kept(&app, turn, dispatched(&app, route, request).await).await,
     };
     app.metrics.request(name, reply.status().as_u16());
+    let reply = if wants_problems { as_problem(reply) } else { reply };
     match app.board.log() {
         "" => reply,
         log => with_header(reply, HeaderName::from_static(LOG), log),

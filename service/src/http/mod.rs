@@ -17,7 +17,7 @@ mod wire;
 mod writes;
 
 pub use server::serve;
-pub use wire::is_name;
+pub use wire::{is_name, NO_NAME};
 
 use crate::auth::Tokens;
 use crate::config::Limits;

@@ -1,6 +1,6 @@
 //! Whether the log has the events after a place that an engine knows. If it does not, the answer is 410.
 use super::query::Parameter;
-use super::reply::{json_reply, Reply};
+use super::reply::{refusal, Reply};
 use super::{no_job, App};
 use crate::model::length_in;
 use serde_json::json;
@@ -56,9 +56,9 @@ impl Place<'_> {
     fn gone(&self, app: &App, reason: &str, why: &str) -> Reply {
         let first = app.board.first(self.job);
         let error = format!("after {why}; go on from the job's state");
-        json_reply(
+        refusal(
             410,
-            &json!({"error": error, "field": "after", "reason": reason, "first": first, "log": app.board.log()}),
+            json!({"error": error, "field": "after", "reason": reason, "first": first, "log": app.board.log()}),
         )
     }
 }

@@ -1,6 +1,6 @@
 //! JSON of jobs, records, files, events and the log.
 use crate::history::{FileRow, RecordRow};
-use crate::model::{parse_line, settings_json, Call, Choice, Entry, LiveRecord, Mode};
+use crate::model::{kind, settings_json, Answer, Choice, Entry, Event, LiveRecord, Mode, Reply};
 use crate::writer::JobState;
 use serde::{Deserialize, Serialize, Serializer};
 use serde_json::{json, Value};
@@ -65,7 +65,7 @@ pub struct Row<'a> {
 impl Row<'_> {
     fn of(entry: &Entry) -> Row<'_> {
         let Entry { seq, at, record, line, answer, waiting, .. } = entry;
-        Row { seq: *seq, at: *at, record: *record, line, answer, ended: ended(entry), waiting: *waiting }
+        Row { seq: *seq, at: *at, record: *record, line, answer, ended: entry.ended(), waiting: *waiting }
     }
 }
 
@@ -80,45 +80,18 @@ pub fn log(first: u64, log: &str, page: &[Entry]) -> String {
     serde_json::to_string(&Log { first, log, calls: page.iter().map(Row::of).collect() }).unwrap_or_default()
 }
 
-fn ended(entry: &Entry) -> Vec<u64> {
-    entry.ended.iter().flat_map(|ids| ids.split(' ')).filter_map(|id| id.parse().ok()).collect()
-}
-
 /// The event that a row of the log is for an engine, or `None`.
 pub fn event(entry: &Entry) -> Option<Value> {
-    let (_, call) = parse_line(&entry.line)?;
-    let answer = entry.answer.as_str();
-    let word = match call {
-        Call::Tick if answer.ends_with("failed") => "failed",
-        Call::Tick if answer.contains("triggered") => "triggered",
-        Call::Tick => "expired",
-        Call::Savepoint => "triggered",
-        Call::Ack { .. } => "completed",
-        Call::Decline { .. } if answer.starts_with("decline failed") => "failed",
-        Call::Decline { .. } => "declined",
-        Call::Restore { .. } => "restored",
-        Call::Cancel => "cancelled",
-        Call::Dispose { .. } => "disposed",
-        Call::Take { .. } | Call::Deleted { .. } | Call::Undeleted { .. } => return None,
-    };
-    let mut event = json!({"seq": entry.seq, "at": entry.at, "event": word, "ended": ended(entry)});
-    if let (Some(id), Some(object)) = (entry.record, event.as_object_mut()) {
-        object.insert("id".to_string(), json!(id));
+    let reply = entry.reply()?;
+    let word = Event::of(&reply)?.word();
+    let mut event = json!({"seq": entry.seq, "at": entry.at, "event": word, "ended": entry.ended()});
+    if let Some(id) = entry.record {
+        event["id"] = json!(id);
     }
-    if let (Some(kind), Some(object)) = (kind(&call, answer), event.as_object_mut()) {
-        object.insert("kind".to_string(), json!(kind));
+    if let Some(kind) = kind(&reply) {
+        event["kind"] = json!(kind);
     }
     Some(event)
-}
-
-/// The kind of the record that an event names, if the row has it.
-fn kind(call: &Call, answer: &str) -> Option<&'static str> {
-    match call {
-        Call::Savepoint => Some("savepoint"),
-        Call::Tick if answer.contains("triggered") => Some("checkpoint"),
-        Call::Restore { .. } => ["checkpoint", "savepoint", "fresh"].into_iter().find(|kind| answer.contains(kind)),
-        _ => None,
-    }
 }
 
 /// The history of a file, with the log's entries at its places.
@@ -135,20 +108,25 @@ pub fn file_history(row: &FileRow, entries: &[Entry]) -> Value {
 
 /// Why a call released files, in words.
 fn why(entry: &Entry) -> Option<String> {
-    let (_, call) = parse_line(&entry.line)?;
-    let dropped = dropped(&ended(entry));
-    Some(match call {
-        Call::Ack { id, .. } if entry.answer.starts_with("ack late") => {
-            format!("an acknowledgement of record {id} came after the record had ended")
+    use Answer as A;
+    let Reply::Answered(answer) = entry.reply()? else {
+        return None;
+    };
+    let (dropped, id) = (dropped(&entry.ended()), entry.record.unwrap_or_default());
+    Some(match answer {
+        A::AckLate { .. } => format!("an acknowledgement of record {id} came after the record had ended"),
+        A::AckPending { .. } | A::AckCompleted { .. } => format!("record {id} completed, and {dropped}"),
+        A::Failed { .. } => format!("the job failed over, and {dropped}"),
+        A::Triggered { .. } | A::HeldInterval { .. } | A::HeldAtOnce { .. } | A::HeldPause { .. } => {
+            format!("by its timeout {dropped}")
         }
-        Call::Ack { id, .. } => format!("record {id} completed, and {dropped}"),
-        Call::Tick if entry.answer.ends_with("failed") => format!("the job failed over, and {dropped}"),
-        Call::Tick => format!("by its timeout {dropped}"),
-        Call::Decline { id, .. } => format!("record {id} was declined, and {dropped}"),
-        Call::Dispose { id } => format!("savepoint {id} was disposed of"),
-        Call::Restore { .. } => format!("the job was restored, and {dropped}"),
-        Call::Cancel => format!("the job was cancelled, and {dropped}"),
-        Call::Savepoint | Call::Take { .. } | Call::Deleted { .. } | Call::Undeleted { .. } => return None,
+        A::DeclineAborted { .. } | A::DeclineFailed { .. } | A::DeclineLate => {
+            format!("record {id} was declined, and {dropped}")
+        }
+        A::Disposed { .. } => format!("savepoint {id} was disposed of"),
+        A::Restored { .. } => format!("the job was restored, and {dropped}"),
+        A::Cancelled { .. } => format!("the job was cancelled, and {dropped}"),
+        A::SavepointTriggered(_) | A::Deleted(_) | A::Undeleted(_) | A::Counted { .. } => return None,
     })
 }
 

@@ -1,6 +1,8 @@
 //! Answers: JSON bodies, and errors that name the field.
 use super::members::Invalid;
-use hyper::header::{HeaderName, HeaderValue, CONTENT_TYPE, REFERRER_POLICY, X_CONTENT_TYPE_OPTIONS, X_FRAME_OPTIONS};
+use hyper::header::{
+    HeaderMap, HeaderName, HeaderValue, ACCEPT, CONTENT_TYPE, REFERRER_POLICY, X_CONTENT_TYPE_OPTIONS, X_FRAME_OPTIONS,
+};
 use hyper::{Body, Response, StatusCode};
 use serde_json::{json, Value};
 
@@ -31,13 +33,47 @@ pub fn text(status: u16, text: &'static str) -> Reply {
 }
 
 pub fn error(status: u16, why: &str) -> Reply {
-    json_reply(status, &json!({"error": why}))
+    refusal(status, json!({"error": why}))
+}
+
+/// An error's JSON, which the answer keeps beside its body for [`as_problem`].
+struct Said(Value);
+
+/// An error of these members, of which `error` is the text.
+pub fn refusal(status: u16, members: Value) -> Reply {
+    let mut reply = json_reply(status, &members);
+    reply.extensions_mut().insert(Said(members));
+    reply
+}
+
+const PROBLEM: &str = "application/problem+json";
+
+/// Whether a client asks for errors as RFC 9457 describes them.
+pub fn wants_problems(headers: &HeaderMap) -> bool {
+    let accepted = headers.get_all(ACCEPT).iter().filter_map(|value| value.to_str().ok());
+    let mut kinds = accepted.flat_map(|text| text.split(',')).filter_map(|kind| kind.split(';').next());
+    kinds.any(|kind| kind.trim().eq_ignore_ascii_case(PROBLEM))
+}
+
+/// The same answer, whose error is one of RFC 9457: its members, and the standard ones.
+pub fn as_problem(mut reply: Reply) -> Reply {
+    let Some(Said(mut members)) = reply.extensions_mut().remove::<Said>() else {
+        return reply;
+    };
+    let status = reply.status();
+    members["type"] = json!("about:blank");
+    members["title"] = json!(status.canonical_reason());
+    members["status"] = json!(status.as_u16());
+    members["detail"] = members["error"].clone();
+    *reply.body_mut() = Body::from(members.to_string());
+    reply.headers_mut().insert(CONTENT_TYPE, HeaderValue::from_static(PROBLEM));
+    reply
 }
 
 /// A bad request: the field, and what is wrong with it.
 pub fn invalid(invalid: &Invalid) -> Reply {
     let Invalid { field, why } = invalid;
-    json_reply(400, &json!({"error": format!("{field} {why}"), "field": field}))
+    refusal(400, json!({"error": format!("{field} {why}"), "field": field}))
 }
 
 pub fn bad_field(field: &str, why: &str) -> Reply {

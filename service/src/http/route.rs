@@ -190,6 +190,15 @@ mod tests {
     }
 
     #[test]
+    fn each_operation_has_a_name_of_its_own() -> Result<(), serde_json::Error> {
+        let described: serde_json::Value = serde_json::from_str(include_str!("../../web/openapi.json"))?;
+        let name = |(method, path): (&str, &str)| described["paths"][path][method]["operationId"].as_str();
+        let names: std::collections::HashSet<Option<&str>> = API.into_iter().map(name).collect();
+        assert!(names.len() == API.len() && !names.contains(&None), "{names:?}");
+        Ok(())
+    }
+
+    #[test]
     fn other_paths_are_none() {
         for path in [
             "",

@@ -45,7 +45,7 @@ impl Members<'_> {
         let numbers = items(value, MOST_VERTICES)
             .and_then(|items| items.first.into_iter().map(read::<u64>).collect::<Option<Vec<u64>>>());
         let shape = numbers.ok_or_else(|| self.wrong("shape", "is no list of parallelisms"))?;
-        check_shape(&shape).map_err(|why| self.wrong("shape", &why))?;
+        check_shape(&shape).map_err(|why| self.wrong("shape", &why.to_string()))?;
         Ok(Some(shape))
     }
 }

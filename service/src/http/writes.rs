@@ -1,10 +1,10 @@
 //! Requests that change something: a new job, and calls.
-use super::reply::{bad_field, body, error, invalid, json_reply, Reply};
+use super::reply::{bad_field, body, error, invalid, json_reply, refusal, with_header, Reply};
 use super::{gate, no_job, units, wire, App};
 use crate::model::{settings_json, sha256, Call};
 use crate::writer::{CallsDone, Created, Key, Message};
 use hyper::body::HttpBody;
-use hyper::header::HeaderMap;
+use hyper::header::{HeaderMap, LOCATION};
 use hyper::{Body, Request};
 use serde_json::json;
 use std::sync::Arc;
@@ -20,9 +20,10 @@ pub async fn new_job(app: &App, request: Request<Body>) -> Result<Reply, Box<Rep
     let (bytes, _room) = read_body(app, request).await?;
     let wire::NewJob { name, settings, shape } = wire::new_job(&bytes).map_err(|why| invalid(&why))?;
     let told = json!({"name": name, "settings": settings_json(&settings), "shape": shape});
+    let place = format!("/v1/jobs/{name}");
     let created = app.ask(|reply| Message::Create { name, settings, shape, reply }).await?;
     Ok(match created {
-        Created::New => json_reply(201, &told),
+        Created::New => with_header(json_reply(201, &told), LOCATION, &place),
         Created::Same => json_reply(200, &told),
         Created::Other => bad_name_taken(),
         Created::NotOpened(why) => error(507, &format!("the job was not opened: {why}")),
@@ -31,7 +32,7 @@ pub async fn new_job(app: &App, request: Request<Body>) -> Result<Reply, Box<Rep
 
 fn bad_name_taken() -> Reply {
     let why = "name is that of a job with other settings or another shape";
-    json_reply(409, &json!({"error": why, "field": "name"}))
+    refusal(409, json!({"error": why, "field": "name"}))
 }
 
 pub async fn calls(app: &App, job: String, request: Request<Body>) -> Result<Reply, Box<Reply>> {
@@ -49,7 +50,7 @@ pub async fn calls(app: &App, job: String, request: Request<Body>) -> Result<Rep
         CallsDone::Made(outcomes) => body(200, app.board.answers(&outcomes)),
         CallsDone::Known(answers) => body(200, answers),
         CallsDone::KeyUsed => {
-            json_reply(422, &json!({"error": "Idempotency-Key was used with another body", "field": "Idempotency-Key"}))
+            refusal(422, json!({"error": "Idempotency-Key was used with another body", "field": "Idempotency-Key"}))
         }
         CallsDone::NoJob => no_job(&at),
     })

@@ -1,5 +1,6 @@
 //! Time: lengths that count a suspension of the machine, and the moments that calls are given, which never go back.
 use std::time::{Duration, SystemTime, UNIX_EPOCH};
+use thiserror::Error;
 
 /// How far the moments may be from the system's clock and still follow it.
 pub const FOLLOWED: Duration = Duration::from_secs(24 * 3600);
@@ -89,18 +90,25 @@ impl Pace {
     }
 }
 
-/// Refuses a system's clock that is more than a day ahead of the last moment that the database has: what it would give
-/// to calls is kept for good.
-pub fn check(last: u64) -> Result<(), String> {
+/// The system's clock is more than a day ahead of the last moment that the database has.
+#[derive(Debug, PartialEq, Eq, Error)]
+#[error(
+    "the clock of this machine says {}, and the service last ran at {}, more than a day before: if the clock is right, start with --accept-clock",
+    shown(*.now),
+    shown(*.last)
+)]
+pub struct FarAhead {
+    now: u64,
+    last: u64,
+}
+
+/// Refuses such a clock: what it would give to calls is kept for good.
+pub fn check(last: u64) -> Result<(), FarAhead> {
     let now = wall();
     if last == 0 || now <= last.saturating_add(millis(FOLLOWED)) {
         return Ok(());
     }
-    Err(format!(
-        "the clock of this machine says {}, and the service last ran at {}, more than a day before: if the clock is right, start with --accept-clock",
-        shown(now),
-        shown(last)
-    ))
+    Err(FarAhead { now, last })
 }
 
 /// A moment as text.
@@ -155,10 +163,11 @@ mod tests {
         let day = millis(FOLLOWED);
         assert!(check(0).is_ok() && check(wall()).is_ok() && check(wall() + 400 * day).is_ok());
         assert!(check(wall() - day + 60_000).is_ok());
-        let Err(why) = check(wall() - day - 1000) else {
-            panic!("it is refused");
-        };
-        assert!(why.contains("--accept-clock"), "{why}");
+        let last = wall() - day - 1000;
+        assert!(check(last).is_err_and(|far| far.last == last && far.now >= last + day));
+        let told = FarAhead { now: 1_700_000_000_000, last: 1_600_000_000_000 }.to_string();
+        let wanted = "the clock of this machine says 2023-11-14T22:13:20Z, and the service last ran at 2020-09-13T12:26:40Z, more than a day before";
+        assert_eq!(told, format!("{wanted}: if the clock is right, start with --accept-clock"));
         assert_eq!(shown(1_000), "1970-01-01T00:00:01Z");
         assert_eq!(shown(u64::MAX), format!("{} ms", u64::MAX));
     }

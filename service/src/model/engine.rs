@@ -2,17 +2,45 @@
 use super::call::Call;
 use super::live::Live;
 use super::outcome::Reply;
-use relkvanu::{Choice, FileCounts, Mode, Said, Settings};
+use relkvanu::{Choice, FileCounts, Mode, Refusal, Said, Settings};
+use thiserror::Error;
 
-/// Why a call changed nothing.
+/// Why a call changed nothing. The text is the name of a refusal.
+#[derive(Clone, Copy, Debug, PartialEq, Eq, Error)]
 pub enum Fault {
-    Refused { name: String, file: Option<u64> },
+    #[error("{}", .0.name())]
+    Refused(Refusal),
+    /// What was given is not of the form, or not within the limits, that the library takes.
+    #[error("{0:?}")]
+    Unfit(relkvanu::Fault),
+    /// The line is none of a call that changes a job.
+    #[error("NoCall")]
+    NoCall,
+    #[error("Memory")]
     Memory,
 }
 
+impl Fault {
+    /// The file that is to blame, if there is one.
+    pub fn file(self) -> Option<u64> {
+        match self {
+            Fault::Refused(refusal) => refusal.file(),
+            Fault::Unfit(_) | Fault::NoCall | Fault::Memory => None,
+        }
+    }
+}
+
 /// A job could not be opened: memory ran out, or its settings were refused.
-#[derive(Debug)]
-pub struct NoJob(pub String);
+#[derive(Clone, Copy, Debug, PartialEq, Eq, Error)]
+#[error("{0:?}")]
+pub struct NoJob(relkvanu::Fault);
+
+impl NoJob {
+    /// Whether memory ran out. A later try may have more.
+    pub fn is_memory(self) -> bool {
+        self.0 == relkvanu::Fault::Memory
+    }
+}
 
 pub struct Engine(relkvanu::Coordinator);
 
@@ -20,7 +48,7 @@ impl Engine {
     /// Opens a coordinator at the moment `now`. Its first record has the number 1.
     pub fn open(settings: &Settings, shape: &[u64], now: u64) -> Result<Engine, NoJob> {
         let opened = relkvanu::Coordinator::open(settings, shape, now, 1);
-        opened.map(Engine).map_err(|fault| NoJob(format!("{fault:?}")))
+        opened.map(Engine).map_err(NoJob)
     }
 
     /// Opens the coordinator of an image.
@@ -125,14 +153,14 @@ fn reply(said: Result<Said<'_>, relkvanu::Fault>) -> Result<Reply, Fault> {
     match said.map_err(fault)? {
         Said::Called(answer) => Ok(Reply::Answered(answer)),
         Said::Taken(files) => Ok(Reply::Taken(files.to_vec())),
-        Said::Skipped | Said::Shown(_) => Err(Fault::Refused { name: "NoCall".to_string(), file: None }),
+        Said::Skipped | Said::Shown(_) => Err(Fault::NoCall),
     }
 }
 
 fn fault(fault: relkvanu::Fault) -> Fault {
     match fault {
         relkvanu::Fault::Memory => Fault::Memory,
-        relkvanu::Fault::Refused(refusal) => Fault::Refused { name: refusal.name(), file: refusal.file() },
-        other => Fault::Refused { name: format!("{other:?}"), file: None },
+        relkvanu::Fault::Refused(refusal) => Fault::Refused(refusal),
+        other => Fault::Unfit(other),
     }
 }

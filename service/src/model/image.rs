@@ -87,7 +87,7 @@ struct Ack {
 impl From<Record> for SavedRecord {
     fn from(record: Record) -> SavedRecord {
         let Record { id, kind, state, shape, started, acks } = record;
-        let kind = if kind == "savepoint" { Kind::Savepoint } else { Kind::Checkpoint };
+        let kind = kind.parse().unwrap_or(Kind::Checkpoint);
         let acked = acks.into_iter().map(|Ack { vertex, index }| Subtask { vertex, index }).collect();
         SavedRecord { id, kind, is_done: state == "done", shape, started, acked }
     }

@@ -37,6 +37,18 @@ pub struct Entry {
     pub waiting: u64,
 }
 
+impl Entry {
+    /// The answer; `None` if the text is none.
+    pub fn reply(&self) -> Option<Reply> {
+        self.answer.parse().ok()
+    }
+
+    /// The numbers of the records that the call ended.
+    pub fn ended(&self) -> Vec<u64> {
+        self.ended.iter().flat_map(|ids| ids.split(' ')).filter_map(|id| id.parse().ok()).collect()
+    }
+}
+
 pub struct Job {
     pub opening: Opening,
     /// The shape that the job has now.

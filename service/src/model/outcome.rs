@@ -1,8 +1,10 @@
 //! The answer to a call: the script's text, which the log has, and the JSON of the API.
 use super::engine::Fault;
-use relkvanu::{Answer, Choice};
+use super::event::Event;
+use relkvanu::{Answer, Choice, ParseError};
 use serde_json::{json, Value};
 use std::fmt::Write;
+use std::str::FromStr;
 
 /// The answer of a call that was made.
 #[derive(Clone, Debug, PartialEq, Eq)]
@@ -18,7 +20,7 @@ pub enum Outcome {
     /// The call was made. `seq` is its place in the log; a take that finds no file has none.
     Made { seq: Option<u64>, reply: Reply },
     /// The coordinator refused the call: nothing changed.
-    Refused { name: String, file: Option<u64> },
+    Refused(Fault),
     /// Memory ran out: nothing changed.
     NoMemory,
     /// A call before it in the same request found no memory.
@@ -46,20 +48,30 @@ impl Reply {
         matches!(self, Reply::Taken(files) if files.is_empty())
     }
 
-    /// Whether it is an event for engines: a record was triggered, completed or failed, or the job was restored or ended.
     pub fn is_event(&self) -> bool {
-        use Answer as A;
-        match self {
-            Reply::Answered(A::HeldInterval { expired } | A::HeldAtOnce { expired } | A::HeldPause { expired }) => {
-                *expired > 0
-            }
-            Reply::Answered(A::Triggered { .. } | A::Failed { .. } | A::SavepointTriggered(_)) => true,
-            Reply::Answered(A::AckCompleted { .. } | A::DeclineAborted { .. } | A::DeclineFailed { .. }) => true,
-            Reply::Answered(A::Disposed { .. } | A::Restored { .. } | A::Cancelled { .. }) => true,
-            _ => false,
-        }
+        Event::of(self).is_some()
     }
 }
+
+/// Reads what [`Reply::text`] writes, and nothing else.
+impl FromStr for Reply {
+    type Err = ParseError;
+
+    fn from_str(text: &str) -> Result<Reply, ParseError> {
+        if text == NONE {
+            return Ok(Reply::Taken(Vec::new()));
+        }
+        let Some(files) = text.strip_prefix("take ") else {
+            return text.parse().map(Reply::Answered);
+        };
+        let files: Option<Vec<u64>> = files.split(' ').map(|word| word.parse().ok()).collect();
+        // what is written otherwise, as with a sign, is no text of ours
+        files.map(Reply::Taken).filter(|reply| reply.text() == text).ok_or(ParseError)
+    }
+}
+
+/// The answer to a take that finds no file.
+const NONE: &str = "take none";
 
 fn answer_json(answer: Answer) -> Value {
     match answer {
@@ -91,8 +103,8 @@ fn answer_json(answer: Answer) -> Value {
 impl From<Fault> for Outcome {
     fn from(fault: Fault) -> Outcome {
         match fault {
-            Fault::Refused { name, file } => Outcome::Refused { name, file },
             Fault::Memory => Outcome::NoMemory,
+            other => Outcome::Refused(other),
         }
     }
 }
@@ -107,8 +119,10 @@ impl Outcome {
                 }
                 told
             }
-            Outcome::Refused { name, file: Some(file) } => json!({"refused": name, "file": file.to_string()}),
-            Outcome::Refused { name, file: None } => json!({"refused": name}),
+            Outcome::Refused(fault) => match fault.file() {
+                Some(file) => json!({"refused": fault.to_string(), "file": file.to_string()}),
+                None => json!({"refused": fault.to_string()}),
+            },
             Outcome::NoMemory => json!({"no_memory": true}),
             Outcome::NotMade => json!({"not_made": true}),
         }
@@ -118,7 +132,7 @@ impl Outcome {
     pub fn word(&self) -> &'static str {
         match self {
             Outcome::Made { .. } => "made",
-            Outcome::Refused { .. } => "refused",
+            Outcome::Refused(_) => "refused",
             Outcome::NoMemory => "no_memory",
             Outcome::NotMade => "not_made",
         }
@@ -127,7 +141,7 @@ impl Outcome {
 
 fn taken_text(files: &[u64]) -> String {
     if files.is_empty() {
-        return "take none".to_string();
+        return NONE.to_string();
     }
     let mut text = "take".to_string();
     for file in files {

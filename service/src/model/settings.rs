@@ -2,6 +2,7 @@
 use relkvanu::{Line, Settings};
 use serde_json::{json, Value};
 use std::fmt::Write;
+use thiserror::Error;
 
 const LONGEST: u64 = 1 << 40;
 
@@ -67,18 +68,32 @@ pub fn pending_limit(settings: &Settings) -> usize {
     }
 }
 
-/// Whether the numbers are a shape; if not, what is wrong with them.
-pub fn check_shape(shape: &[u64]) -> Result<(), String> {
-    if shape.is_empty() || shape.len() > 256 {
-        return Err(format!("has {} vertices, not 1 to 256", shape.len()));
+/// What is wrong with the numbers of a shape.
+#[derive(Clone, Copy, Debug, PartialEq, Eq, Error)]
+pub enum BadShape {
+    #[error("has {0} vertices, not 1 to {MOST_VERTICES}")]
+    Vertices(usize),
+    #[error("has a parallelism of 0; each is at least 1")]
+    NoSubtask,
+    #[error("has more than {MOST_SUBTASKS} subtasks")]
+    Subtasks,
+}
+
+const MOST_VERTICES: usize = 256;
+const MOST_SUBTASKS: u64 = 4096;
+
+/// Refuses numbers that are no shape.
+pub fn check_shape(shape: &[u64]) -> Result<(), BadShape> {
+    if shape.is_empty() || shape.len() > MOST_VERTICES {
+        return Err(BadShape::Vertices(shape.len()));
     }
     if shape.contains(&0) {
-        return Err("has a parallelism of 0; each is at least 1".to_string());
+        return Err(BadShape::NoSubtask);
     }
     let subtasks = shape.iter().try_fold(0u64, |sum, parallelism| sum.checked_add(*parallelism));
     match subtasks {
-        Some(1..=4096) => Ok(()),
-        _ => Err("has more than 4096 subtasks".to_string()),
+        Some(1..=MOST_SUBTASKS) => Ok(()),
+        _ => Err(BadShape::Subtasks),
     }
 }
 
@@ -103,8 +118,14 @@ mod tests {
     fn shapes_have_limits() {
         assert!(check_shape(&[1, 2]).is_ok());
         assert!(check_shape(&[4096]).is_ok());
-        for shape in [&[][..], &[0], &[4097], &[u64::MAX, 1], &[1; 257]] {
-            assert!(check_shape(shape).is_err());
+        for (shape, why) in [
+            (&[][..], "has 0 vertices, not 1 to 256"),
+            (&[1; 257], "has 257 vertices, not 1 to 256"),
+            (&[0], "has a parallelism of 0; each is at least 1"),
+            (&[4097], "has more than 4096 subtasks"),
+            (&[u64::MAX, 1], "has more than 4096 subtasks"),
+        ] {
+            assert_eq!(check_shape(shape).map_err(|bad| bad.to_string()), Err(why.to_string()));
         }
     }
 }

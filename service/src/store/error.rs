@@ -1,6 +1,7 @@
 //! Why a database did not do what it was asked, and whether it may do it later.
 use super::pq::Failed;
 use super::rows::VERSION;
+use rusqlite::ErrorCode;
 use std::io;
 use std::path::{Path, PathBuf};
 use thiserror::Error;
@@ -26,6 +27,8 @@ pub enum DbError {
     /// The database can lose what it committed.
     #[error("fsync is off in this database, so that it can lose what it committed")]
     NoSync,
+    #[error("these are no tables of a service")]
+    Foreign,
     /// The database answered something else than the statement asks for.
     #[error("{0}")]
     Odd(&'static str),
@@ -37,12 +40,32 @@ pub enum DbError {
 }
 
 impl DbError {
+    /// Whether what the database has is damaged, so that a later read fails in the same way.
+    pub fn is_damage(&self) -> bool {
+        match self {
+            DbError::BadRow { .. } | DbError::Foreign => true,
+            DbError::Lite(why) | DbError::Unopened { why, .. } => is_damage(why),
+            // data_corrupted and index_corrupted
+            DbError::Pg(failed) => matches!(failed.state.as_deref(), Some("XX001" | "XX002")),
+            DbError::File { .. } | DbError::Unfit { .. } | DbError::NoSync => false,
+            DbError::Odd(_) | DbError::NotLeading { .. } => false,
+        }
+    }
+
     pub fn file(path: &Path) -> impl Fn(io::Error) -> DbError + '_ {
         |why| DbError::File { path: path.to_path_buf(), why }
     }
 
     pub fn unopened(path: &Path) -> impl Fn(rusqlite::Error) -> DbError + '_ {
         |why| DbError::Unopened { path: path.to_path_buf(), why }
+    }
+}
+
+/// Whether SQLite's error is one of the file's content. A full disk, a lock or a missing right is no damage.
+pub fn is_damage(error: &rusqlite::Error) -> bool {
+    match error {
+        rusqlite::Error::FromSqlConversionFailure(..) | rusqlite::Error::InvalidColumnType(..) => true,
+        _ => matches!(error.sqlite_error_code(), Some(ErrorCode::DatabaseCorrupt | ErrorCode::NotADatabase)),
     }
 }
 
@@ -54,7 +77,7 @@ pub enum Unusable {
         "the tables of the database have version {0}, and this program knows those up to {VERSION}: run the program that made them, or a newer one"
     )]
     Newer(i64),
-    /// A later start may succeed.
+    /// A later start may succeed, unless it is damaged.
     #[error("database: {0}")]
     Failed(DbError),
 }
@@ -66,6 +89,14 @@ impl<E: Into<DbError>> From<E> for Unusable {
 }
 
 impl Unusable {
+    /// Whether a later start may succeed, without anybody's doing.
+    pub fn may_pass(&self) -> bool {
+        match self {
+            Unusable::Newer(_) => false,
+            Unusable::Failed(error) => !error.is_damage(),
+        }
+    }
+
     /// Refuses tables of a newer version.
     pub fn check(found: i64) -> Result<(), Unusable> {
         match found {

@@ -48,6 +48,20 @@ impl LiteReader {
 }
 
 impl Reader for LiteReader {
+    fn version(&mut self) -> Result<i64, DbError> {
+        let found = self.0.pragma_query_value(None, "user_version", |row| row.get(0))?;
+        let tables: i64 =
+            self.0.query_row("select count(*) from sqlite_master where name = 'call'", [], |row| row.get(0))?;
+        match tables {
+            0 => Err(DbError::Foreign),
+            _ => Ok(found),
+        }
+    }
+
+    fn hold(&mut self) -> Result<(), DbError> {
+        Ok(self.0.execute_batch("begin")?)
+    }
+
     fn jobs(&mut self) -> Result<Vec<Opening>, DbError> {
         self.all("select job, name, config, shape, started from job order by job", [])
     }

@@ -6,18 +6,19 @@ mod lite;
 mod lite_read;
 mod parameter;
 mod pg;
+mod pg_columns;
 mod pg_read;
 mod pq;
 mod room;
 mod rows;
 
 pub use cells::entry_of;
-pub use error::{DbError, Failure, Unusable};
+pub use error::{is_damage, DbError, Failure, Unusable};
 pub use lite::Lite;
 pub use lite_read::LiteReader;
 pub use pg::Pg;
 pub use pg_read::PgReader;
 pub use room::room_of;
-#[cfg(test)]
-pub use rows::Room;
 pub use rows::{Group, Keyed, Lead, Reader, SavedImage, Store};
+#[cfg(test)]
+pub use rows::{Room, IS_EVENT};

@@ -3,9 +3,10 @@
 use super::cells::Row;
 use super::error::{DbError, Failure, Unusable};
 use super::parameter::Parameter;
+use super::pg_columns::columns;
 use super::pq::{Connection, Failed, Rows};
 use super::rows::{steps_after, Group, Keyed, Lead, Store, Written, MOST_STARTS, VERSION};
-use crate::model::{config_line, shape_words, Cut, Entry, Image, Moment, Opening, PastRecord, SummaryPart};
+use crate::model::Moment;
 use std::ffi::CStr;
 use std::time::Duration;
 
@@ -79,15 +80,7 @@ impl Pg {
 
     fn write(&mut self, group: &Group) -> Result<Rows, Failed> {
         let mut given = vec![Parameter::text(&self.seconds())?, Parameter::text(&self.epoch.to_string())?];
-        given.extend(job_columns(&group.jobs));
-        given.extend(call_columns(&group.entries));
-        given.extend(request_columns(&group.requests));
-        given.extend(image_columns(&group.images));
-        given.extend(dropped_columns(&group.dropped));
-        given.extend(cut_columns(&group.cuts));
-        given.extend(summary_columns(&group.summaries));
-        given.extend(past_columns(&group.past));
-        given.extend(dropped_columns(&group.dropped_summaries));
+        given.extend(columns(group));
         self.connection.run_prepared(COMMIT_NAME, &given)
     }
 
@@ -223,89 +216,4 @@ fn failure(failed: Failed) -> Failure {
 /// A cell of the first row.
 fn cell(rows: &Rows, column: usize) -> Option<&str> {
     rows.first()?.get(column)?.as_deref()
-}
-
-fn number(number: u64) -> i64 {
-    i64::try_from(number).unwrap_or(i64::MAX)
-}
-
-fn job_columns(jobs: &[Opening]) -> [Parameter; 6] {
-    [
-        Parameter::numbers(jobs.iter().map(|job| Some(job.number))),
-        Parameter::texts(jobs.iter().map(|job| Some(job.name.clone()))),
-        Parameter::texts(jobs.iter().map(|job| Some(config_line(&job.settings)))),
-        Parameter::texts(jobs.iter().map(|job| Some(shape_words(&job.shape)))),
-        Parameter::numbers(jobs.iter().map(|job| Some(number(job.started)))),
-        Parameter::texts(jobs.iter().map(|_| Some(env!("CARGO_PKG_VERSION").to_string()))),
-    ]
-}
-
-fn call_columns(entries: &[Entry]) -> [Parameter; 8] {
-    [
-        Parameter::numbers(entries.iter().map(|entry| Some(entry.job))),
-        Parameter::numbers(entries.iter().map(|entry| Some(number(entry.seq)))),
-        Parameter::numbers(entries.iter().map(|entry| Some(number(entry.at)))),
-        Parameter::numbers(entries.iter().map(|entry| entry.record.map(number))),
-        Parameter::texts(entries.iter().map(|entry| Some(entry.line.clone()))),
-        Parameter::texts(entries.iter().map(|entry| Some(entry.answer.clone()))),
-        Parameter::texts(entries.iter().map(|entry| entry.ended.clone())),
-        Parameter::numbers(entries.iter().map(|entry| Some(number(entry.waiting)))),
-    ]
-}
-
-fn request_columns(requests: &[Keyed]) -> [Parameter; 5] {
-    [
-        Parameter::numbers(requests.iter().map(|request| Some(request.job))),
-        Parameter::texts(requests.iter().map(|request| Some(request.key.clone()))),
-        Parameter::numbers(requests.iter().map(|request| Some(number(request.at)))),
-        Parameter::texts(requests.iter().map(|request| Some(request.digest.clone()))),
-        Parameter::texts(requests.iter().map(|request| Some(request.answers.clone()))),
-    ]
-}
-
-fn image_columns(images: &[Image]) -> [Parameter; 9] {
-    [
-        Parameter::numbers(images.iter().map(|image| Some(image.job))),
-        Parameter::numbers(images.iter().map(|image| Some(number(image.seq)))),
-        Parameter::numbers(images.iter().map(|image| Some(number(image.at)))),
-        Parameter::texts(images.iter().map(|image| Some(image.digest()))),
-        Parameter::texts(images.iter().map(|image| Some(shape_words(&image.shape)))),
-        Parameter::numbers(images.iter().map(|image| image.last_completed.map(number))),
-        Parameter::numbers(images.iter().map(|image| Some(number(image.last_event)))),
-        Parameter::numbers(images.iter().map(|image| Some(number(image.text.len() as u64)))),
-        Parameter::texts(images.iter().map(|image| Some(image.text.clone()))),
-    ]
-}
-
-fn dropped_columns(places: &[(i64, u64)]) -> [Parameter; 2] {
-    [
-        Parameter::numbers(places.iter().map(|(job, _)| Some(*job))),
-        Parameter::numbers(places.iter().map(|(_, seq)| Some(number(*seq)))),
-    ]
-}
-
-fn cut_columns(cuts: &[Cut]) -> [Parameter; 3] {
-    [
-        Parameter::numbers(cuts.iter().map(|cut| Some(cut.job))),
-        Parameter::numbers(cuts.iter().map(|cut| Some(number(cut.after)))),
-        Parameter::numbers(cuts.iter().map(|cut| Some(number(cut.upto)))),
-    ]
-}
-
-fn summary_columns(parts: &[SummaryPart]) -> [Parameter; 5] {
-    [
-        Parameter::numbers(parts.iter().map(|part| Some(part.job))),
-        Parameter::numbers(parts.iter().map(|part| Some(number(part.seq)))),
-        Parameter::numbers(parts.iter().map(|part| Some(number(part.part)))),
-        Parameter::numbers(parts.iter().map(|part| Some(number(part.whole)))),
-        Parameter::texts(parts.iter().map(|part| Some(part.text.clone()))),
-    ]
-}
-
-fn past_columns(records: &[PastRecord]) -> [Parameter; 3] {
-    [
-        Parameter::numbers(records.iter().map(|record| Some(record.job))),
-        Parameter::numbers(records.iter().map(|record| Some(number(record.id)))),
-        Parameter::texts(records.iter().map(|record| Some(record.text.clone()))),
-    ]
 }

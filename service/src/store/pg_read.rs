@@ -63,6 +63,23 @@ fn connect(url: &str) -> Result<Connection, DbError> {
 }
 
 impl Reader for PgReader {
+    fn version(&mut self) -> Result<i64, DbError> {
+        let there = self.query("select to_regclass('call'), to_regclass('schema_version')", &[])?.pop();
+        let [call, version] = there.and_then(|row| row.try_into().ok()).unwrap_or([None, None]);
+        match (call, version) {
+            (None, _) => Err(DbError::Foreign),
+            (Some(_), None) => Ok(0),
+            (Some(_), Some(_)) => {
+                Ok(self.one::<u64>("select number from schema_version", &[])?.map_or(0, |it| it as i64))
+            }
+        }
+    }
+
+    fn hold(&mut self) -> Result<(), DbError> {
+        self.query("begin isolation level repeatable read", &[])?;
+        Ok(())
+    }
+
     fn jobs(&mut self) -> Result<Vec<Opening>, DbError> {
         self.all("select job, name, config, shape, started from job order by job", &[])
     }

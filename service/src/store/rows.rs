@@ -131,6 +131,16 @@ pub const PAGE_BYTES: usize = 2 << 20;
 /// A connection that only reads. A part of a log that it returns has one call at least, if there is one, and [`PAGE_BYTES`] or one call
 /// more at most. So it is no sign of the end that there are fewer calls than were asked for.
 pub trait Reader: Send {
+    /// The version of the tables. Fails if these are no tables of a service.
+    fn version(&mut self) -> Result<i64, DbError> {
+        Ok(VERSION as i64)
+    }
+
+    /// From now on this connection reads the database as it is now.
+    fn hold(&mut self) -> Result<(), DbError> {
+        Ok(())
+    }
+
     fn jobs(&mut self) -> Result<Vec<Opening>, DbError>;
 
     /// The entries after `after`, at most `most`.

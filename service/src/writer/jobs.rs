@@ -1,8 +1,8 @@
 //! All jobs of the service, brought up to date with the log.
-use crate::model::{parse_line, Entry, Fault, Job, Keeping, Kept, KeptImage, KeptSummary, NoJob, Opening, Outcome};
-use crate::store::{DbError, Failure, Reader, SavedImage};
+use super::replay::{missing, repeat, resume, StartError};
+use crate::model::{Entry, Job, Keeping, Kept, KeptImage, KeptSummary, NoJob, Opening};
+use crate::store::Reader;
 use std::collections::{BTreeMap, HashMap};
-use thiserror::Error;
 
 const PAGE: u32 = 10_000;
 /// From which job on: all.
@@ -23,45 +23,6 @@ pub struct Jobs {
     last_moment: u64,
     /// The last moment of the logs when they were read.
     read_to: Option<u64>,
-}
-
-/// Why the jobs could not be replayed from the log.
-#[derive(Debug, Error)]
-pub enum StartError {
-    /// The log can't be read.
-    #[error("the log can't be read: {0}")]
-    Unread(#[from] DbError),
-    /// A call has another answer than in the log. So another library wrote the log, or the log was changed.
-    #[error("job {job}, call {seq} ({line:?}): the log says {logged:?}, and this program answers {answered:?}")]
-    Differs { job: String, seq: u64, line: String, logged: String, answered: String },
-    /// A call of the log is missing, or can't be read as one.
-    #[error("job {job}, call {seq}: {why}")]
-    Damaged { job: String, seq: u64, why: String },
-    /// An image is not as it was written, or the library refuses it.
-    #[error("job {job}, the image after call {seq}: {why}; without its row in the table image the start goes from the image before it")]
-    BadImage { job: String, seq: u64, why: String },
-    /// Memory ran out. A later start may have more.
-    #[error("job {job}, call {seq}: memory ran out")]
-    NoMemory { job: String, seq: u64 },
-    /// A job can't be opened.
-    #[error("job {job} can't be opened: {why}")]
-    NotOpened { job: String, why: String },
-    /// Another process leads now.
-    #[error("{0}")]
-    NotLeading(Failure),
-}
-
-impl StartError {
-    /// Whether a later start may succeed, without anybody's doing.
-    pub fn may_pass(&self) -> bool {
-        match self {
-            StartError::Unread(_) | StartError::NoMemory { .. } | StartError::NotLeading(_) => true,
-            StartError::Differs { .. }
-            | StartError::Damaged { .. }
-            | StartError::BadImage { .. }
-            | StartError::NotOpened { .. } => false,
-        }
-    }
 }
 
 impl Jobs {
@@ -124,7 +85,7 @@ impl Jobs {
         let (mut behind, from) = (changed, self.jobs.len());
         for opening in reader.jobs_after(last)? {
             let name = opening.name.clone();
-            self.open(opening).map_err(|NoJob(why)| StartError::NotOpened { job: name, why })?;
+            self.open(opening).map_err(|why| StartError::NotOpened { job: name, why })?;
         }
         behind.extend(from..self.jobs.len());
         self.resume_all(from..self.jobs.len(), reader, beat)?;
@@ -283,42 +244,4 @@ fn batches(images: &BTreeMap<i64, KeptImage>) -> Vec<Vec<(i64, u64)>> {
         }
     }
     batches
-}
-
-/// Goes on from an image of a job.
-fn resume(job: &mut Job, saved: &SavedImage) -> Result<(), StartError> {
-    let (name, seq) = (job.opening.name.clone(), saved.image.seq);
-    let bad = |why: &str| StartError::BadImage { job: name.clone(), seq, why: why.to_string() };
-    if saved.image.digest() != saved.digest {
-        return Err(bad("its digest is not that of what it says, so it is damaged"));
-    }
-    job.resume(&saved.image).map_err(|fault| match fault {
-        Fault::Memory => StartError::NoMemory { job: name.clone(), seq },
-        Fault::Refused { name: refusal, .. } => bad(&format!("the library refuses it: {refusal}")),
-    })
-}
-
-fn missing(job: &Job) -> String {
-    format!("call {} is missing", job.seq + 1)
-}
-
-/// Makes a call of the log again, and compares its answer.
-fn repeat(job: &mut Job, entry: &Entry) -> Result<(), StartError> {
-    let name = job.opening.name.clone();
-    let damaged = |why: String| StartError::Damaged { job: name.clone(), seq: entry.seq, why };
-    if entry.seq != job.seq + 1 {
-        return Err(damaged(missing(job)));
-    }
-    let (now, call) = parse_line(&entry.line).ok_or_else(|| damaged(format!("{:?} is no call", entry.line)))?;
-    let answered = match job.repeat(&entry.line, &call, now) {
-        Outcome::Made { reply, .. } if reply.text() == entry.answer => {
-            job.at = entry.at;
-            return Ok(());
-        }
-        Outcome::Made { reply, .. } => reply.text(),
-        Outcome::NoMemory => return Err(StartError::NoMemory { job: name.clone(), seq: entry.seq }),
-        other => other.json().to_string(),
-    };
-    let (line, logged) = (entry.line.clone(), entry.answer.clone());
-    Err(StartError::Differs { job: name.clone(), seq: entry.seq, line, logged, answered })
 }

@@ -1,6 +1,6 @@
 //! Images and cuts of the log, which each round writes beside its calls.
+use super::board::Board;
 use super::jobs::Jobs;
-use super::message::Board;
 use super::round::Round;
 use crate::log;
 use crate::metrics::Metrics;

@@ -1,48 +1,47 @@
 //! The writer: one thread that owns all jobs, makes their calls, commits them in groups, and then answers.
 mod batch;
+mod board;
+mod commit;
 mod jobs;
 mod keeper;
 mod lag;
 mod lease;
 mod message;
 mod old_keys;
+pub mod replay;
 mod round;
 mod state;
 mod timer;
 
-pub use jobs::{Jobs, StartError};
+pub use board::Board;
+pub use jobs::Jobs;
 pub use lease::Lease;
-pub use message::{Board, CallsDone, Created, ForKeeping, Key, Message, Read, ReadDone};
+pub use message::{CallsDone, Created, ForKeeping, Key, Message, Read, ReadDone};
+pub use replay::StartError;
 pub use state::{JobState, RecordState};
 
-use crate::exit;
 use crate::log;
 use crate::metrics::Metrics;
 use crate::model::{Call, Clock, Keeping, Moment, Outcome};
-use crate::store::{Failure, Group, Store};
+use crate::store::Store;
 use batch::Answered;
+use commit::lose;
 use keeper::Keeper;
 use old_keys::OldKeys;
 use round::Round;
 use std::sync::mpsc::{Receiver, RecvTimeoutError};
 use std::sync::Arc;
-use std::time::{Duration, Instant};
+use std::time::Duration;
 use timer::Timer;
-use tokio::sync::oneshot::Sender;
 
 /// How many calls share a commit at most.
 const MOST_CALLS: usize = 4096;
-/// For how long a group is tried again that the database certainly rolled back.
-const RETRY_FOR: Duration = Duration::from_secs(10);
-const RETRY_EACH: Duration = Duration::from_millis(200);
 /// How long a tick that could not be made waits for its next try, in milliseconds.
 const TICK_AGAIN: u64 = 1000;
 /// How long the writer sleeps at most. Each time it reports that it works, and follows the system's clock.
 const SLEEP: Duration = Duration::from_secs(1);
 /// How often it writes down that the service runs, though no calls come.
 const NOTE_EACH: Duration = Duration::from_secs(3600);
-/// The exit status after which the service is to be started again.
-pub const START_AGAIN: u8 = 75;
 
 pub struct Writer {
     store: Box<dyn Store>,
@@ -241,102 +240,6 @@ impl Writer {
         }
     }
 
-    /// Commits a group, or ends the process: what it left uncommitted was never answered.
-    fn commit(&mut self, round: &mut Round) {
-        if round.group.is_empty() && self.lease.age() < self.store.beat() {
-            return;
-        }
-        self.write(round);
-    }
-
-    fn write(&mut self, round: &mut Round) {
-        let first = Instant::now();
-        self.board.commits(true);
-        loop {
-            let since = Moment::now();
-            match self.store.commit(&round.group) {
-                Ok(()) => {
-                    self.lease.renewed(since);
-                    break;
-                }
-                // calls do not wait for an image that can't be written
-                Err(Failure::Again(why) | Failure::TooLarge(why)) if round.upkeep.is_some() => {
-                    self.keeper.put_off(&mut self.jobs, round, &self.metrics, &why.to_string());
-                }
-                Err(Failure::Again(why)) if first.elapsed() < RETRY_FOR => {
-                    log::warn(&format!("commit is tried again: {why}"));
-                    self.board.beat();
-                    std::thread::sleep(RETRY_EACH);
-                }
-                Err(why) => lose(&why),
-            }
-        }
-        self.board.commits(false);
-        self.board.set_lease(&self.lease);
-        self.board.beat();
-        self.keeper.written(round, &self.jobs, &self.metrics);
-        if !round.group.entries.is_empty() {
-            self.metrics.commit(round.group.entries.len(), first.elapsed());
-        }
-    }
-
-    /// Renews the lease if it is old: a leader answers only while it surely leads.
-    fn renew(&mut self) {
-        if !self.lease.is_sure() {
-            self.write(&mut Round::default());
-        }
-    }
-
-    /// Sends the answers to what was committed. A client may have gone away.
-    fn answer(&mut self, round: Round) {
-        // a refusal needs no commit, but only a leader may answer it
-        if !round.done.is_empty() || !round.created.is_empty() {
-            self.renew();
-        }
-        for place in &round.touched {
-            self.publish(*place);
-        }
-        for (place, moment) in round.postponed {
-            self.timer.set(place, Some(moment));
-        }
-        for (done, reply) in round.done {
-            let _ = reply.send(done);
-        }
-        for (created, reply) in round.created {
-            let _ = reply.send(created);
-        }
-        for (read, reply) in round.reads {
-            self.renew();
-            let _ = reply.send(state::read(&mut self.jobs, read, self.clock.now()));
-        }
-    }
-
-    /// Commits what the history gives, apart from calls, so that these neither wait for it nor fail with it.
-    fn keep(&mut self, given: Vec<(ForKeeping, Sender<bool>)>) {
-        for (one, reply) in given {
-            let (job, whole, group) = match one {
-                ForKeeping::Summary { job, part } => {
-                    let whole = (part.whole > 0).then_some(part.seq);
-                    (self.jobs.place(&job), whole, Group { summaries: vec![part], ..Group::default() })
-                }
-                ForKeeping::Past(past) => (None, None, Group { past, ..Group::default() }),
-            };
-            let is_written = match self.store.commit(&group) {
-                Ok(()) => true,
-                Err(Failure::Again(why) | Failure::TooLarge(why)) => {
-                    log::warn(&format!("a summary of the history was not written: {why}"));
-                    false
-                }
-                Err(Failure::Lost(why)) => lose(&why),
-            };
-            if let (true, Some(place), Some(seq)) = (is_written, job, whole) {
-                self.jobs.at(place).kept.add_summary(seq, self.keeper.keeping());
-                self.keeper.called(&[place].into());
-            }
-            let _ = reply.send(is_written);
-        }
-    }
-
     /// Wakes the requests that wait for the job's events, and sets its timer.
     fn publish(&mut self, place: usize) {
         let job = self.jobs.at(place);
@@ -349,10 +252,4 @@ impl Writer {
 /// Whether a tick did what the timer expected: it ended or triggered a record.
 fn did_its_work(ticked: &Outcome) -> bool {
     matches!(ticked, Outcome::Made { reply, .. } if reply.is_event())
-}
-
-/// Ends the process: nothing of the group was answered, and the next start reads what was committed.
-fn lose(why: &dyn std::error::Error) -> ! {
-    log::error(&format!("the group was not committed, or that is not known; nothing of it was answered: {why}"));
-    exit::now(START_AGAIN)
 }

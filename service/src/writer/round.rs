@@ -2,7 +2,7 @@
 use super::jobs::Jobs;
 use super::keeper::Upkeep;
 use super::message::{CallsDone, Created, ForKeeping, Key, Read, ReadDone};
-use crate::model::{NoJob, Opening, Settings};
+use crate::model::{Opening, Settings};
 use crate::store::{Group, Keyed};
 use std::collections::{BTreeSet, HashMap};
 use tokio::sync::oneshot::Sender;
@@ -50,7 +50,7 @@ impl Round {
                 self.touched.insert(place);
                 Created::New
             }
-            Err(NoJob(why)) => Created::NotOpened(why),
+            Err(why) => Created::NotOpened(why),
         }
     }
 }

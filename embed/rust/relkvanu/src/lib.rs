@@ -2,7 +2,8 @@
 //!
 //! - One thread at a time owns a [`Coordinator`]. Its calls borrow it for writing, its reads for reading.
 //! - A [`SharedCoordinator`] lets any number of threads call one, under a mutex.
-//! - A [`Call`] can be written as a line of a log and read from it, and [`Coordinator::line`] makes it again.
+//! - A [`Call`] can be written as a line of a log and read from it, and [`Coordinator::line`] makes it again. The texts of an
+//!   [`Answer`] and of a [`Refusal`] read back as themselves.
 //! - A [`Discarder`] deletes the files that no record uses any more, in threads of its own.
 //!
 //! The coordinator reads no clock and deletes no file by itself. The caller gives the moment of each call, in
@@ -20,6 +21,7 @@ mod coordinator;
 mod discarder;
 mod fault;
 mod lines;
+mod parse;
 mod shared;
 
 pub use answer::{Answer, Choice, FileCounts, Kind, Live, Mode, Standing};
@@ -28,6 +30,7 @@ pub use coordinator::{Coordinator, Settings};
 pub use discarder::{Discarded, Discarder, Outbox, Patience};
 pub use fault::{Fault, Refusal};
 pub use lines::{opening_lines, Line, LineFault, Said};
+pub use parse::ParseError;
 pub use shared::SharedCoordinator;
 
 /// The version of the linked library, such as "0.1.0".

@@ -27,30 +27,39 @@ const LONGEST_PAUSE: Duration = Duration::from_secs(1);
 const LONGEST_LATER: Duration = Duration::from_secs(60);
 const LEADER: &str = "relkvanu-leader";
 
-#[derive(Debug)]
+#[derive(Debug, thiserror::Error)]
 pub enum Error {
     /// The address, its certificate or the token can't be used.
+    #[error("address or token: {0}")]
     Address(String),
     /// The service was not reached, or did not answer.
+    #[error("the service was not reached: {0}")]
     Unreached(String),
     /// The service answered with an error: its status, its text and the field that it names.
+    #[error("the service answered {status}: {text}")]
     Status { status: u16, text: String, field: Option<String> },
     /// The answer is not as the API says.
+    #[error("the service's answer {0}")]
     Answer(String),
 }
 
-impl fmt::Display for Error {
-    fn fmt(&self, f: &mut fmt::Formatter<'_>) -> fmt::Result {
+impl Error {
+    /// Whether the same request may be answered otherwise later, without anybody's doing: the service was not reached, or it or a proxy
+    /// is busy, starts or stops. The client has tried again for as long as it may.
+    #[must_use]
+    pub fn may_pass(&self) -> bool {
         match self {
-            Error::Address(why) => write!(f, "address or token: {why}"),
-            Error::Unreached(why) => write!(f, "the service was not reached: {why}"),
-            Error::Status { status, text, .. } => write!(f, "the service answered {status}: {text}"),
-            Error::Answer(why) => write!(f, "the service's answer {why}"),
+            Error::Unreached(_) => true,
+            Error::Status { status, .. } => is_passing(*status),
+            Error::Address(_) | Error::Answer(_) => false,
         }
     }
 }
 
-impl std::error::Error for Error {}
+/// Whether a proxy, a standby or a service that starts answers with this status.
+fn is_passing(status: u16) -> bool {
+    matches!(status, 429 | 502 | 503 | 504)
+}
 
 /// Is told of each try that failed and is made again.
 pub type Notice = Arc<dyn Fn(&Error) + Send + Sync>;
@@ -215,9 +224,9 @@ async fn within<T>(most: Duration, work: impl Future<Output = Result<T, hyper::E
 }
 
 impl Told {
-    /// Whether a proxy, a standby or a service that starts answers so: another try may be answered otherwise.
+    /// Whether another try may be answered otherwise.
     fn is_passing(&self, method: &Method) -> bool {
-        matches!(self.status, 429 | 502 | 503 | 504) || self.status == 500 && method == Method::GET
+        is_passing(self.status) || self.status == 500 && method == Method::GET
     }
 
     /// How long the answer asks to wait: a number of seconds, or a moment.

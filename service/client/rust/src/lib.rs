@@ -134,6 +134,11 @@ impl Job {
         self.get(&format!("/files?limit={limit}")).await
     }
 
+    /// Calls of the log after a place, at most this many: the first one that the log has, and a list. The last part is empty.
+    pub async fn log(&self, after: u64, limit: u64) -> Result<Value, Error> {
+        self.get(&format!("/log?after={after}&limit={limit}")).await
+    }
+
     /// The events after a place, and the place to go on from. Waits at most this many seconds for an event, and at most
     /// 60. Fails with status 410 if the log does not have them; a [`Follower`] goes on from the job's state.
     pub async fn events(&self, after: u64, wait: u64) -> Result<(u64, Vec<Value>), Error> {

@@ -8,8 +8,8 @@ use tokio::io::{AsyncReadExt, AsyncWriteExt};
 use tokio::net::{TcpListener, TcpStream};
 use tokio::time::Instant;
 
-/// What is soon done takes less than this on a busy machine.
-const BUSY: Duration = Duration::from_secs(15);
+/// What is soon done takes less than this on a busy machine, and what is tried again for a minute does not.
+const BUSY: Duration = Duration::from_secs(45);
 
 /// What a stub answers to each request in turn, the last one again and again: a whole answer, or nothing and the
 /// connection is closed.
@@ -128,16 +128,15 @@ async fn retry_after_is_waited_for() {
     let begun = Instant::now();
     assert!(service(&[&stub.url]).jobs().await.is_ok());
     assert!(begun.elapsed() >= Duration::from_secs(1), "{:?}", begun.elapsed());
-    // another address is asked at once
+    // another address is asked at once: a wait of a minute would end after the deadline
     let (first, second) =
-        (Stub::new(vec![said(503, "retry-after: 30\r\n", &json!({}))]).await, Stub::new(vec![good()]).await);
-    let begun = Instant::now();
+        (Stub::new(vec![said(503, "retry-after: 60\r\n", &json!({}))]).await, Stub::new(vec![good()]).await);
     assert!(service(&[&first.url, &second.url]).jobs().await.is_ok());
-    assert!(begun.elapsed() < BUSY, "{:?}", begun.elapsed());
-    // a wait that ends after the deadline is not begun
-    let asked = service(&[&first.url]).within(Some(Duration::from_secs(2)));
+    assert_eq!((first.count(), second.count()), (1, 1));
+    // such a wait is not begun, so the address is asked once
+    let asked = service(&[&first.url]).within(Some(Duration::from_secs(20)));
     assert!(matches!(asked.jobs().await, Err(Error::Status { status: 503, .. })));
-    assert!(begun.elapsed() < BUSY, "{:?}", begun.elapsed());
+    assert_eq!(first.count(), 2);
 }
 
 #[tokio::test]
@@ -156,7 +155,7 @@ async fn a_mute_machine_does_not_use_up_the_time() {
     let mute = format!("http://{}", mute.local_addr().expect("an address"));
     let stub = Stub::new(vec![good()]).await;
     // a try for each address, and one more
-    assert!(service(&[&mute, &stub.url]).within(Some(Duration::from_secs(3))).jobs().await.is_ok());
+    assert!(service(&[&mute, &stub.url]).within(Some(Duration::from_secs(12))).jobs().await.is_ok());
     let begun = Instant::now();
     let asked = service(&[&mute]).within(Some(Duration::from_secs(1)));
     assert!(matches!(asked.jobs().await, Err(Error::Unreached(_))));

@@ -1,0 +1,327 @@
+//! Reads back the texts of answers and refusals, as a log has them: the inverse of their `Display`.
+use crate::answer::{Answer, Choice, Kind};
+use crate::fault::Refusal;
+use std::error::Error;
+use std::fmt;
+use std::str::FromStr;
+
+/// The text is not one that this library writes.
+#[derive(Clone, Copy, Debug, PartialEq, Eq, Hash)]
+pub struct ParseError;
+
+impl fmt::Display for ParseError {
+    fn fmt(&self, f: &mut fmt::Formatter<'_>) -> fmt::Result {
+        f.write_str("the text is not one that the library writes")
+    }
+}
+
+impl Error for ParseError {}
+
+/// Reads what `Display` writes, and nothing else.
+impl FromStr for Answer {
+    type Err = ParseError;
+
+    fn from_str(text: &str) -> Result<Answer, ParseError> {
+        let words: Vec<&str> = text.split(' ').collect();
+        let answer = match words[0] {
+            "tick" => tick(&words[1..]),
+            "ack" | "decline" => of_task(&words),
+            _ => of_user(&words),
+        };
+        answer.ok_or(ParseError)
+    }
+}
+
+fn tick(rest: &[&str]) -> Option<Answer> {
+    let ["expired", expired, rest @ ..] = rest else {
+        return None;
+    };
+    let expired = number(expired)?;
+    Some(match rest {
+        ["triggered", id] => Answer::Triggered {
+            expired,
+            id: number(id)?,
+        },
+        ["held", "interval"] => Answer::HeldInterval { expired },
+        ["held", "at-once"] => Answer::HeldAtOnce { expired },
+        ["held", "pause"] => Answer::HeldPause { expired },
+        ["failed"] => Answer::Failed { expired },
+        _ => return None,
+    })
+}
+
+fn of_task(words: &[&str]) -> Option<Answer> {
+    Some(match words {
+        ["ack", "pending", missing] => Answer::AckPending {
+            missing: number(missing)?,
+        },
+        ["ack", "completed", dropped, released] => Answer::AckCompleted {
+            dropped: number(dropped)?,
+            released: number(released)?,
+        },
+        ["ack", "late", handed_out] => Answer::AckLate {
+            handed_out: number(handed_out)?,
+        },
+        ["decline", "aborted", released] => Answer::DeclineAborted {
+            released: number(released)?,
+        },
+        ["decline", "failed", released] => Answer::DeclineFailed {
+            released: number(released)?,
+        },
+        ["decline", "late"] => Answer::DeclineLate,
+        _ => return None,
+    })
+}
+
+fn of_user(words: &[&str]) -> Option<Answer> {
+    Some(match words {
+        ["savepoint", "triggered", id] => Answer::SavepointTriggered(number(id)?),
+        ["disposed", released] => Answer::Disposed {
+            released: number(released)?,
+        },
+        ["restored", from @ .., released] => Answer::Restored {
+            from: choice(from)?,
+            released: number(released)?,
+        },
+        ["cancelled", dropped, released] => Answer::Cancelled {
+            dropped: number(dropped)?,
+            released: number(released)?,
+        },
+        ["deleted", file] => Answer::Deleted(number(file)?),
+        ["undeleted", file] => Answer::Undeleted(number(file)?),
+        ["count", file, uses] => Answer::Counted {
+            file: number(file)?,
+            uses: number(uses)?,
+        },
+        _ => return None,
+    })
+}
+
+impl FromStr for Choice {
+    type Err = ParseError;
+
+    fn from_str(text: &str) -> Result<Choice, ParseError> {
+        choice(&text.split(' ').collect::<Vec<_>>()).ok_or(ParseError)
+    }
+}
+
+fn choice(words: &[&str]) -> Option<Choice> {
+    match words {
+        ["checkpoint", id] => number(id).map(Choice::Checkpoint),
+        ["savepoint", id] => number(id).map(Choice::Savepoint),
+        ["fresh"] => Some(Choice::Fresh),
+        _ => None,
+    }
+}
+
+impl FromStr for Kind {
+    type Err = ParseError;
+
+    fn from_str(text: &str) -> Result<Kind, ParseError> {
+        match text {
+            "checkpoint" => Ok(Kind::Checkpoint),
+            "savepoint" => Ok(Kind::Savepoint),
+            _ => Err(ParseError),
+        }
+    }
+}
+
+/// Reads a name, and the file that is to blame, as `NameTaken 7`.
+impl FromStr for Refusal {
+    type Err = ParseError;
+
+    fn from_str(text: &str) -> Result<Refusal, ParseError> {
+        let (name, file) = match text.split_once(' ') {
+            Some((name, file)) => (name, Some(number(file).ok_or(ParseError)?)),
+            None => (text, None),
+        };
+        let of_file = file.unwrap_or_default();
+        let found = all(of_file).into_iter().find(|one| one.name() == name);
+        found.filter(|one| one.file() == file).ok_or(ParseError)
+    }
+}
+
+/// Each refusal, with this file if it names one.
+fn all(file: u64) -> [Refusal; 15] {
+    [
+        Refusal::MomentTooLarge,
+        Refusal::NotRunning,
+        Refusal::TooManyFiles,
+        Refusal::RepeatedFile,
+        Refusal::UnknownCheckpoint,
+        Refusal::UnknownSubtask,
+        Refusal::AlreadyAcknowledged,
+        Refusal::NameTaken(file),
+        Refusal::FileGone(file),
+        Refusal::NoSuchSavepoint,
+        Refusal::InUse,
+        Refusal::TooManySavepoints,
+        Refusal::NotTaken,
+        Refusal::NoSuchRecord,
+        Refusal::IdsUsedUp,
+    ]
+}
+
+/// A number as the library writes it: digits, of which the first is 0 only if it is the only one.
+fn number(word: &str) -> Option<u64> {
+    let is_plain = word == "0" || word.starts_with(|first: char| ('1'..='9').contains(&first));
+    word.parse().ok().filter(|_| is_plain)
+}
+
+#[cfg(test)]
+mod tests {
+    use super::*;
+
+    /// Each answer, with numbers that differ, and its text by docs/SCRIPT.md. The match makes sure that none is left out: a new answer
+    /// does not compile without a place here.
+    fn answers() -> Vec<(Answer, &'static str)> {
+        use Answer as A;
+        let place = |answer: &Answer| match answer {
+            A::Triggered { .. } => 0,
+            A::HeldInterval { .. } => 1,
+            A::HeldAtOnce { .. } => 2,
+            A::HeldPause { .. } => 3,
+            A::Failed { .. } => 4,
+            A::SavepointTriggered(_) => 5,
+            A::AckPending { .. } => 6,
+            A::AckCompleted { .. } => 7,
+            A::AckLate { .. } => 8,
+            A::DeclineAborted { .. } => 9,
+            A::DeclineFailed { .. } => 10,
+            A::DeclineLate => 11,
+            A::Disposed { .. } => 12,
+            A::Restored { .. } => 13,
+            A::Cancelled { .. } => 14,
+            A::Deleted(_) => 15,
+            A::Undeleted(_) => 16,
+            A::Counted { .. } => 17,
+        };
+        #[rustfmt::skip]
+        let all = vec![
+            (A::Triggered { expired: 0, id: 1 }, "tick expired 0 triggered 1"),
+            (A::HeldInterval { expired: 2 }, "tick expired 2 held interval"),
+            (A::HeldAtOnce { expired: 0 }, "tick expired 0 held at-once"),
+            (A::HeldPause { expired: 10 }, "tick expired 10 held pause"),
+            (A::Failed { expired: 1 }, "tick expired 1 failed"),
+            (A::SavepointTriggered(4), "savepoint triggered 4"),
+            (A::AckPending { missing: 2 }, "ack pending 2"),
+            (A::AckCompleted { dropped: 3, released: 12 }, "ack completed 3 12"),
+            (A::AckLate { handed_out: 1 }, "ack late 1"),
+            (A::DeclineAborted { released: 5 }, "decline aborted 5"),
+            (A::DeclineFailed { released: 6 }, "decline failed 6"),
+            (A::DeclineLate, "decline late"),
+            (A::Disposed { released: 3 }, "disposed 3"),
+            (A::Restored { from: Choice::Checkpoint(7), released: 8 }, "restored checkpoint 7 8"),
+            (A::Restored { from: Choice::Savepoint(9), released: 0 }, "restored savepoint 9 0"),
+            (A::Restored { from: Choice::Fresh, released: 30 }, "restored fresh 30"),
+            (A::Cancelled { dropped: 1, released: 2 }, "cancelled 1 2"),
+            (A::Deleted(u64::MAX), "deleted 18446744073709551615"),
+            (A::Undeleted(11), "undeleted 11"),
+            (A::Counted { file: 31, uses: 2 }, "count 31 2"),
+        ];
+        let mut places: Vec<i32> = all.iter().map(|(answer, _)| place(answer)).collect();
+        places.dedup();
+        assert!(places.into_iter().eq(0..18), "an answer is left out");
+        all
+    }
+
+    #[test]
+    fn each_answer_reads_back_as_itself() {
+        for (answer, text) in answers() {
+            assert_eq!(answer.to_string(), text);
+            assert_eq!(text.parse(), Ok(answer), "{text}");
+        }
+    }
+
+    #[test]
+    fn no_other_text_is_an_answer() {
+        for (_, text) in answers() {
+            let cut = &text[..text.rfind(' ').unwrap()];
+            for other in [
+                cut.to_string(),
+                format!("{text} 1"),
+                format!("{text} "),
+                format!(" {text}"),
+                text.replacen(' ', "  ", 1),
+                text.to_uppercase(),
+                text.replacen(|digit: char| digit.is_ascii_digit(), "x", 1),
+                text.replacen(' ', " +", 1),
+            ] {
+                if other != text {
+                    assert_eq!(other.parse::<Answer>(), Err(ParseError), "{other:?}");
+                }
+            }
+        }
+        for other in [
+            "",
+            "tick",
+            "ack",
+            "ack pending",
+            "ack pending 02",
+            "ack pending +2",
+            "ack pending -2",
+            "ack pending 18446744073709551616",
+            "tick expired 0 held",
+            "restored 7 8",
+            "restored fresh",
+            "take none",
+            "refused InUse",
+        ] {
+            assert_eq!(other.parse::<Answer>(), Err(ParseError), "{other:?}");
+        }
+    }
+
+    #[test]
+    fn each_refusal_reads_back_as_itself() {
+        let place = |refusal: &Refusal| match refusal {
+            Refusal::MomentTooLarge => 0,
+            Refusal::NotRunning => 1,
+            Refusal::TooManyFiles => 2,
+            Refusal::RepeatedFile => 3,
+            Refusal::UnknownCheckpoint => 4,
+            Refusal::UnknownSubtask => 5,
+            Refusal::AlreadyAcknowledged => 6,
+            Refusal::NameTaken(_) => 7,
+            Refusal::FileGone(_) => 8,
+            Refusal::NoSuchSavepoint => 9,
+            Refusal::InUse => 10,
+            Refusal::TooManySavepoints => 11,
+            Refusal::NotTaken => 12,
+            Refusal::NoSuchRecord => 13,
+            Refusal::IdsUsedUp => 14,
+        };
+        assert!(all(7).iter().map(place).eq(0..15), "a refusal is left out");
+        for file in [0, 7, u64::MAX] {
+            for refusal in all(file) {
+                let text = refusal.to_string();
+                assert_eq!(text.parse(), Ok(refusal), "{text}");
+                assert_eq!(text.parse::<Answer>(), Err(ParseError), "{text}");
+                assert_eq!(format!("{text} 7").parse::<Refusal>(), Err(ParseError));
+            }
+        }
+        for other in [
+            "",
+            "NameTaken",
+            "NameTaken 07",
+            "InUse 0",
+            "inuse",
+            "InUse ",
+        ] {
+            assert_eq!(other.parse::<Refusal>(), Err(ParseError), "{other:?}");
+        }
+    }
+
+    #[test]
+    fn choices_and_kinds_read_back() {
+        for choice in [Choice::Checkpoint(4), Choice::Savepoint(5), Choice::Fresh] {
+            assert_eq!(choice.to_string().parse(), Ok(choice));
+        }
+        for kind in [Kind::Checkpoint, Kind::Savepoint] {
+            assert_eq!(kind.to_string().parse(), Ok(kind));
+        }
+        for other in ["", "checkpoint", "fresh 1", "savepoint x"] {
+            assert_eq!(other.parse::<Choice>(), Err(ParseError), "{other:?}");
+        }
+        assert_eq!("fresh".parse::<Kind>(), Err(ParseError));
+    }
+}

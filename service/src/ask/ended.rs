@@ -1,0 +1,41 @@
+//! Why a command that asks a service did not do what it was told, and its exit status.
+use crate::exit::{NOT_TO_START, START_AGAIN};
+use crate::remote::NoService;
+use relkvanu_client::Error as Asked;
+use std::io;
+use thiserror::Error;
+
+/// The exit status if the service answered, and the answer is no.
+const NO: u8 = 1;
+const NOT_FOUND: u16 = 404;
+const NO_MEMORY: u16 = 507;
+
+#[derive(Debug, Error)]
+pub enum Ended {
+    #[error(transparent)]
+    NoService(#[from] NoService),
+    #[error(transparent)]
+    Asked(#[from] Asked),
+    #[error("the coordinator refuses it: {0}")]
+    Refused(String),
+    #[error("the service has no memory for it now")]
+    NoMemory,
+    #[error("savepoint {0} ended before it was complete")]
+    Incomplete(u64),
+    #[error("savepoint {0} is not complete yet")]
+    Late(u64),
+    #[error(transparent)]
+    Output(#[from] io::Error),
+}
+
+impl Ended {
+    /// 1 if the answer is no, 75 if another try may be answered otherwise, and 78 if somebody has to look first.
+    pub fn status(&self) -> u8 {
+        match self {
+            Ended::Refused(_) | Ended::Incomplete(_) | Ended::Asked(Asked::Status { status: NOT_FOUND, .. }) => NO,
+            Ended::NoMemory | Ended::Late(_) | Ended::Asked(Asked::Status { status: NO_MEMORY, .. }) => START_AGAIN,
+            Ended::Asked(error) if error.may_pass() => START_AGAIN,
+            Ended::NoService(_) | Ended::Asked(_) | Ended::Output(_) => NOT_TO_START,
+        }
+    }
+}

@@ -1,0 +1,151 @@
+//! Commands that ask a service: what its jobs are, and a few calls that a user makes.
+mod ended;
+mod tables;
+mod words;
+
+pub use words::Ask;
+
+use crate::log;
+use crate::remote;
+use ended::Ended;
+use relkvanu_client::{Answer, Call, Job, Service};
+use serde_json::{json, Value};
+use std::io::{ErrorKind, Write};
+use std::process::ExitCode;
+use std::time::{Duration, Instant};
+
+/// How many calls of the log one request reads.
+const PAGE: u64 = 1000;
+/// How long one poll waits, in seconds.
+const POLL: u64 = 20;
+
+/// Does what the command says. Its exit status is that of [`Ended`].
+pub fn run(given: &Ask) -> ExitCode {
+    let runtime = tokio::runtime::Builder::new_current_thread().enable_all().build();
+    let asked = runtime.map_err(Ended::from).and_then(|runtime| runtime.block_on(asked(given)));
+    match asked {
+        Ok(()) => ExitCode::SUCCESS,
+        // whoever read the answer has read enough
+        Err(Ended::Output(error)) if error.kind() == ErrorKind::BrokenPipe => ExitCode::SUCCESS,
+        Err(ended) => {
+            log::error(&ended.to_string());
+            ExitCode::from(ended.status())
+        }
+    }
+}
+
+async fn asked(given: &Ask) -> Result<(), Ended> {
+    let at = given.at();
+    let service = remote::service(&at.urls, at.token_file.as_deref())?;
+    let service = service.within(Some(Duration::from_secs(at.within)));
+    match given {
+        Ask::Jobs(_) => said(at.json, &jobs(&service).await?, tables::jobs),
+        Ask::Show(given) => show(&service.job(&given.job), given).await,
+        Ask::Log(given) => print_log(&service.job(&given.job), given).await,
+        Ask::Files(given) => files(&service.job(&given.job), given).await,
+        Ask::Savepoint(given) => savepoint(&service.job(&given.job), given).await,
+        Ask::Dispose(given) => {
+            call(&service.job(&given.job), at.json, Call::Dispose { id: given.id }).await.map(|_| ())
+        }
+        Ask::Restore(given) => {
+            let restore = Call::Restore { savepoint: given.savepoint, shape: given.shape.clone() };
+            call(&service.job(&given.job), at.json, restore).await.map(|_| ())
+        }
+        Ask::Cancel(given) => call(&service.job(&given.job), at.json, Call::Cancel).await.map(|_| ()),
+    }
+}
+
+/// Prints an answer as JSON for programs, or as text for people.
+fn said(json: bool, value: &Value, text: impl FnOnce(&Value) -> String) -> Result<(), Ended> {
+    let text = if json { format!("{value}\n") } else { text(value) };
+    let mut out = std::io::stdout().lock();
+    out.write_all(text.as_bytes())?;
+    Ok(out.flush()?)
+}
+
+async fn jobs(service: &Service) -> Result<Value, Ended> {
+    let mut told = service.jobs().await?;
+    Ok(told["jobs"].take())
+}
+
+async fn show(job: &Job, given: &words::Show) -> Result<(), Ended> {
+    match given.id {
+        None => said(given.at.json, &job.state().await?, tables::job),
+        Some(id) => said(given.at.json, &job.record(id).await?, tables::record),
+    }
+}
+
+async fn files(job: &Job, given: &words::Files) -> Result<(), Ended> {
+    match given.file {
+        None => said(given.at.json, &job.files(given.most).await?, tables::files),
+        Some(file) => said(given.at.json, &job.file(file).await?, tables::file),
+    }
+}
+
+/// Prints the calls that the log has, in parts: a line for each.
+async fn print_log(job: &Job, given: &words::Log) -> Result<(), Ended> {
+    let (mut after, mut left) = (given.after, given.most.unwrap_or(u64::MAX));
+    while left > 0 {
+        let told = job.log(after, left.min(PAGE)).await?;
+        let calls = told["calls"].as_array().map(Vec::as_slice).unwrap_or_default();
+        let Some(last) = calls.last() else {
+            break;
+        };
+        after = last["seq"].as_u64().unwrap_or(u64::MAX);
+        left -= (calls.len() as u64).min(left);
+        calls.iter().try_for_each(|one| said(given.at.json, one, tables::call))?;
+    }
+    Ok(())
+}
+
+/// Makes a call, prints its answer, and returns it.
+async fn call(job: &Job, json: bool, call: Call) -> Result<Value, Ended> {
+    let mut answers = job.calls(&[call]).await?;
+    match answers.pop() {
+        Some(Answer::Made { reply, .. }) => {
+            said(json, &reply, tables::made)?;
+            Ok(reply)
+        }
+        Some(Answer::Refused { name, .. }) => Err(Ended::Refused(name)),
+        Some(Answer::NoMemory | Answer::NotMade) => Err(Ended::NoMemory),
+        None => Err(relkvanu_client::Error::Answer("has no answer of the call".to_string()).into()),
+    }
+}
+
+async fn savepoint(job: &Job, given: &words::Savepoint) -> Result<(), Ended> {
+    let began = Instant::now();
+    let reply = call(job, given.at.json, Call::Savepoint).await?;
+    if given.wait == 0 {
+        return Ok(());
+    }
+    let (id, seq) = (reply["id"].as_u64().unwrap_or(0), reply["seq"].as_u64().unwrap_or(0));
+    complete(job, id, seq, began + Duration::from_secs(given.wait)).await?;
+    said(given.at.json, &json!({"completed": id}), |_| format!("savepoint {id} is complete\n"))
+}
+
+/// Waits until a record is complete, by the events after its trigger.
+async fn complete(job: &Job, id: u64, seq: u64, until: Instant) -> Result<(), Ended> {
+    let mut after = seq;
+    loop {
+        let left = until.saturating_duration_since(Instant::now());
+        let (upto, events) = job.events(after, left.as_secs().min(POLL)).await?;
+        if events.iter().any(|event| event["event"] == "completed" && event["id"] == id) {
+            return Ok(());
+        }
+        if events.iter().any(|event| ends(event, id)) {
+            return Err(Ended::Incomplete(id));
+        }
+        if left.is_zero() {
+            return Err(Ended::Late(id));
+        }
+        if events.is_empty() && left < Duration::from_secs(1) {
+            tokio::time::sleep(left).await;
+        }
+        after = upto;
+    }
+}
+
+/// Whether an event ends a record.
+fn ends(event: &Value, id: u64) -> bool {
+    event["ended"].as_array().is_some_and(|ended| ended.iter().any(|one| *one == id))
+}

@@ -1,0 +1,182 @@
+//! Answers of a service as text for people. Programs ask for the JSON.
+use crate::model::shown;
+use serde_json::Value;
+use std::fmt::Write as _;
+use std::io::Write as _;
+use tabwriter::TabWriter;
+
+/// Rows, whose cells have tabs between them, as a table.
+pub fn table(rows: &[String]) -> String {
+    let mut writer = TabWriter::new(Vec::new()).padding(2);
+    // a write to memory does not fail
+    for row in rows {
+        let _ = writeln!(writer, "{row}");
+    }
+    let text = writer.into_inner().map(|bytes| String::from_utf8_lossy(&bytes).into_owned()).unwrap_or_default();
+    // the padding of the last cell is of no use
+    text.lines().flat_map(|line| [line.trim_end(), "\n"]).collect()
+}
+
+/// Jobs, as `GET /v1/jobs` has them.
+pub fn jobs(jobs: &Value) -> String {
+    let mut rows = vec!["JOB\tMODE\tCALLS\tPENDING\tIN USE\tWAITING\tTAKEN\tLAST COMPLETED".to_string()];
+    for job in items(jobs) {
+        let pending = items(&job["live"]).iter().filter(|record| record["done"] == false).count();
+        let files = ["in_use", "waiting", "taken"].map(|name| cell(&job["files"][name])).join("\t");
+        let (name, mode, calls, last) =
+            (cell(&job["name"]), cell(&job["mode"]), cell(&job["seq"]), at(&job["last_completed"]));
+        rows.push(format!("{name}\t{mode}\t{calls}\t{pending}\t{files}\t{last}"));
+    }
+    table(&rows)
+}
+
+/// The state of a job, and its live records.
+pub fn job(job: &Value) -> String {
+    let files = &job["files"];
+    let settings = job["settings"].as_object().map(|settings| {
+        settings.iter().map(|(name, value)| format!("{name} {}", cell(value))).collect::<Vec<_>>().join(", ")
+    });
+    let choice = &job["choice"];
+    let mut rows = vec![
+        format!("job\t{}", cell(&job["name"])),
+        format!("mode\t{}", cell(&job["mode"])),
+        format!("shape\t{}", list(&job["shape"])),
+        format!("settings\t{}", settings.unwrap_or_default()),
+        format!("opened\t{}", at(&job["opened"])),
+        format!("next checkpoint\t{}", at(&job["due"])),
+        format!("last completed\t{}", at(&job["last_completed"])),
+        format!("a restore begins from\t{} {}", cell(&choice["kind"]), cell(&choice["id"])),
+        format!(
+            "files\t{} in use, {} waiting, {} taken",
+            cell(&files["in_use"]),
+            cell(&files["waiting"]),
+            cell(&files["taken"])
+        ),
+        format!("calls\t{}, of which the log has those from {} on", cell(&job["seq"]), cell(&job["first"])),
+    ];
+    if let Some(image) = job["image"].as_object() {
+        rows.push(format!("image\tafter call {}, {} bytes", cell(&image["seq"]), cell(&image["bytes"])));
+    }
+    let mut records = vec!["RECORD\tKIND\tSTATE\tMISSING".to_string()];
+    for record in items(&job["live"]) {
+        let state = if record["done"] == true { "done" } else { "pending" };
+        records.push(format!(
+            "{}\t{}\t{state}\t{}",
+            cell(&record["id"]),
+            cell(&record["kind"]),
+            cell(&record["missing"])
+        ));
+    }
+    format!("{}\n{}", table(&rows), table(&records))
+}
+
+/// A record, and what is known of it.
+pub fn record(record: &Value) -> String {
+    let (live, history) = (&record["live"], &record["history"]);
+    let kind = if live.is_null() { &history["kind"] } else { &live["kind"] };
+    let mut rows = vec![format!("record\t{}", cell(&record["id"])), format!("kind\t{}", cell(kind))];
+    if !live.is_null() {
+        rows.push(format!("state\t{}", cell(&live["state"])));
+        let missing = items(&record["missing"]);
+        if !missing.is_empty() {
+            rows.push(format!("missing\t{} of {}: {}", missing.len(), count(&live["shape"]), list(&record["missing"])));
+        }
+    }
+    if !history.is_null() {
+        rows.push(format!("triggered\t{}", at(&history["started"])));
+        rows.push(format!("acknowledgements\t{}", cell(&history["acks"])));
+        rows.push(format!("slowest\t{}", cell(&history["slowest"])));
+        if !history["finished"].is_null() {
+            rows.push(format!("{}\t{}", cell(&history["how"]), at(&history["finished"])));
+        }
+        if !history["gone"].is_null() {
+            rows.push(format!("no longer live\t{}: {}", at(&history["gone"]), cell(&history["why"])));
+        }
+    }
+    table(&rows)
+}
+
+/// Files that were taken and not reported, and those that were deleted last.
+pub fn files(files: &Value) -> String {
+    let mut rows = vec!["FILE\tSTATE\tWRITTEN BY CALL\tRELEASED BY\tTAKEN BY\tDELETED BY".to_string()];
+    for (list, state) in [("taken", "taken"), ("deleted", "deleted")] {
+        for file in items(&files[list]) {
+            let calls = ["born", "released", "taken", "deleted"].map(|name| cell(&file[name])).join("\t");
+            rows.push(format!("{}\t{state}\t{calls}", cell(&file["file"])));
+        }
+    }
+    table(&rows)
+}
+
+/// Who uses a file, and what became of it.
+pub fn file(file: &Value) -> String {
+    let history = &file["history"];
+    let mut rows = vec![format!("file\t{}", cell(&file["file"])), format!("uses\t{}", cell(&file["uses"]))];
+    for user in items(&file["used_by"]) {
+        rows.push(format!("used by\trecord {}, subtask {}", cell(&user["record"]), cell(&user["subtask"])));
+    }
+    for (name, title) in [("born", "written"), ("released", "released"), ("taken", "taken"), ("deleted", "deleted")] {
+        let made = &history[name];
+        if !made.is_null() {
+            rows.push(format!("{title}\t{}, by call {}: {}", at(&made["at"]), cell(&made["seq"]), cell(&made["line"])));
+        }
+    }
+    if !history["why"].is_null() {
+        rows.push(format!("released because\t{}", cell(&history["why"])));
+    }
+    table(&rows)
+}
+
+/// A call of the log.
+pub fn call(call: &Value) -> String {
+    let (seq, line, answer) = (cell(&call["seq"]), cell(&call["line"]), cell(&call["answer"]));
+    format!("{seq:>8}  {}  {line}  ->  {answer}\n", at(&call["at"]))
+}
+
+/// What a call did that a user made.
+pub fn made(reply: &Value) -> String {
+    let of = |name: &str| cell(&reply[name]);
+    let mut text = match reply.as_object().and_then(|members| {
+        ["savepoint", "dispose", "restore", "cancel"]
+            .into_iter()
+            .find(|name| members.contains_key(*name) && reply[*name].is_string())
+    }) {
+        Some("savepoint") => format!("savepoint {} is triggered", of("id")),
+        Some("dispose") => "the savepoint is disposed of".to_string(),
+        Some("restore") if reply["id"].is_null() => "the job begins again, from nothing".to_string(),
+        Some("restore") => format!("the job begins again, from {} {}", of("restore"), of("id")),
+        Some("cancel") => format!("the job is cancelled; dropped records: {}", of("dropped")),
+        _ => reply.to_string(),
+    };
+    if !reply["released"].is_null() {
+        let _ = write!(text, "; files that wait for deletion now: {} more", of("released"));
+    }
+    text + "\n"
+}
+
+fn items(value: &Value) -> &[Value] {
+    value.as_array().map(Vec::as_slice).unwrap_or_default()
+}
+
+/// A value without quotes; nothing for null.
+fn cell(value: &Value) -> String {
+    match value {
+        Value::Null => String::new(),
+        Value::String(text) => text.clone(),
+        other => other.to_string(),
+    }
+}
+
+fn list(value: &Value) -> String {
+    items(value).iter().map(cell).collect::<Vec<_>>().join(" ")
+}
+
+/// How many subtasks a shape has.
+fn count(shape: &Value) -> u64 {
+    items(shape).iter().filter_map(Value::as_u64).sum()
+}
+
+/// A moment as text; nothing for null.
+fn at(value: &Value) -> String {
+    value.as_u64().map(shown).unwrap_or_default()
+}

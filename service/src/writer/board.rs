@@ -1,0 +1,210 @@
+//! The board: what the threads know of each other.
+use super::lag::Lag;
+use super::lease::Lease;
+use crate::model::{Job, Moment, Outcome};
+use serde_json::json;
+use std::collections::HashMap;
+use std::sync::atomic::{AtomicBool, AtomicU64, Ordering};
+use std::sync::{OnceLock, PoisonError, RwLock, RwLockReadGuard};
+use std::time::{Duration, Instant};
+use tokio::sync::watch;
+
+/// Whether this process leads, which jobs there are, and how far each is.
+pub struct Board {
+    ready: AtomicBool,
+    epoch: AtomicU64,
+    /// The log's identity since this process leads.
+    log: OnceLock<String>,
+    /// When this process no longer leads, in milliseconds since the machine's start.
+    lease_until: AtomicU64,
+    beat: AtomicU64,
+    /// When the commit began that is under way, in milliseconds since `started`, plus 1; 0 if none is.
+    commits: AtomicU64,
+    stopping: watch::Sender<bool>,
+    started: Instant,
+    jobs: RwLock<HashMap<String, Watched>>,
+}
+
+struct Watched {
+    number: i64,
+    /// How many calls were committed.
+    length: AtomicU64,
+    /// The first call that the log has.
+    first: AtomicU64,
+    /// How far the history has read.
+    read: AtomicU64,
+    lag: Lag,
+    last_event: watch::Sender<u64>,
+}
+
+impl Board {
+    pub fn new() -> Board {
+        let jobs = RwLock::new(HashMap::new());
+        Board {
+            ready: AtomicBool::new(false),
+            epoch: AtomicU64::new(0),
+            log: OnceLock::new(),
+            lease_until: AtomicU64::new(0),
+            beat: AtomicU64::new(0),
+            commits: AtomicU64::new(0),
+            stopping: watch::channel(false).0,
+            started: Instant::now(),
+            jobs,
+        }
+    }
+
+    /// This process leads, in this epoch, and the log has this identity.
+    pub fn lead(&self, epoch: u64, log: String) {
+        self.epoch.store(epoch, Ordering::SeqCst);
+        self.log.get_or_init(|| log);
+    }
+
+    /// All jobs are published. From now on requests are accepted.
+    pub fn open(&self) {
+        self.ready.store(true, Ordering::SeqCst);
+    }
+
+    /// The lease was renewed, until then.
+    pub fn set_lease(&self, lease: &Lease) {
+        self.lease_until.store(lease.until(), Ordering::SeqCst);
+    }
+
+    /// This process leads no longer.
+    pub fn end_lease(&self) {
+        self.lease_until.store(0, Ordering::SeqCst);
+    }
+
+    /// Whether this process leads, and its lease is not over.
+    pub fn is_ready(&self) -> bool {
+        self.ready.load(Ordering::SeqCst) && Moment::now().millis() < self.lease_until.load(Ordering::SeqCst)
+    }
+
+    pub fn epoch(&self) -> u64 {
+        self.epoch.load(Ordering::SeqCst)
+    }
+
+    /// The log's identity; empty before this process leads.
+    pub fn log(&self) -> &str {
+        self.log.get().map_or("", String::as_str)
+    }
+
+    /// The writer works, or the thread that waits to lead.
+    pub fn beat(&self) {
+        self.beat.store(self.now(), Ordering::SeqCst);
+    }
+
+    fn now(&self) -> u64 {
+        u64::try_from(self.started.elapsed().as_millis()).unwrap_or(u64::MAX)
+    }
+
+    /// A commit begins, or has been done.
+    pub fn commits(&self, begins: bool) {
+        self.commits.store(if begins { self.now() + 1 } else { 0 }, Ordering::SeqCst);
+    }
+
+    /// For how long the commit that is under way has not been possible; zero if none is.
+    pub fn commit_takes(&self) -> Duration {
+        match self.commits.load(Ordering::SeqCst) {
+            0 => Duration::ZERO,
+            since => Duration::from_millis(self.now().saturating_sub(since - 1)),
+        }
+    }
+
+    /// The process was told to stop: it begins nothing more.
+    pub fn stop(&self) {
+        self.stopping.send_replace(true);
+    }
+
+    pub fn is_stopping(&self) -> bool {
+        *self.stopping.borrow()
+    }
+
+    /// Ends once the process was told to stop.
+    pub async fn stopping(&self) {
+        let mut told = self.stopping.subscribe();
+        while !*told.borrow_and_update() {
+            if told.changed().await.is_err() {
+                return;
+            }
+        }
+    }
+
+    /// How long ago the last beat was.
+    pub fn silence(&self) -> Duration {
+        self.started.elapsed().saturating_sub(Duration::from_millis(self.beat.load(Ordering::SeqCst)))
+    }
+
+    /// The body that answers a request.
+    pub fn answers(&self, outcomes: &[Outcome]) -> String {
+        let answers: Vec<_> = outcomes.iter().map(Outcome::json).collect();
+        json!({"epoch": self.epoch(), "log": self.log(), "answers": answers}).to_string()
+    }
+
+    pub fn publish(&self, job: &Job) {
+        if let Some(watched) = self.read().get(&job.opening.name) {
+            watched.length.store(job.seq, Ordering::SeqCst);
+            watched.first.store(job.kept.first(), Ordering::SeqCst);
+            watched.lag.note(job.seq, watched.read.load(Ordering::SeqCst));
+            watched.last_event.send_if_modified(|last| std::mem::replace(last, job.last_event) != job.last_event);
+            return;
+        }
+        let watched = Watched {
+            number: job.opening.number,
+            length: AtomicU64::new(job.seq),
+            first: AtomicU64::new(job.kept.first()),
+            read: AtomicU64::new(0),
+            lag: Lag::default(),
+            last_event: watch::channel(job.last_event).0,
+        };
+        watched.lag.note(job.seq, 0);
+        let mut jobs = self.jobs.write().unwrap_or_else(PoisonError::into_inner);
+        jobs.insert(job.opening.name.clone(), watched);
+    }
+
+    /// A job's number in the database.
+    pub fn number(&self, job: &str) -> Option<i64> {
+        self.read().get(job).map(|watched| watched.number)
+    }
+
+    /// Each job's number, and how many calls of it were committed.
+    pub fn lengths(&self) -> Vec<(i64, u64)> {
+        self.read().values().map(|watched| (watched.number, watched.length.load(Ordering::SeqCst))).collect()
+    }
+
+    /// How many calls of a job were committed.
+    pub fn length(&self, job: &str) -> u64 {
+        self.read().get(job).map_or(0, |watched| watched.length.load(Ordering::SeqCst))
+    }
+
+    /// The first call that a job's log has.
+    pub fn first(&self, job: &str) -> u64 {
+        self.read().get(job).map_or(1, |watched| watched.first.load(Ordering::SeqCst))
+    }
+
+    /// The history has read a job's log up to here.
+    pub fn set_history(&self, job: &str, upto: u64) {
+        if let Some(watched) = self.read().get(job) {
+            watched.read.store(upto, Ordering::SeqCst);
+            watched.lag.note(watched.length.load(Ordering::SeqCst), upto);
+        }
+    }
+
+    /// For how long the history has not read what was committed of each job.
+    pub fn lags(&self) -> Vec<(String, Duration)> {
+        self.read().iter().map(|(job, watched)| (job.clone(), watched.lag.time())).collect()
+    }
+
+    /// How far the history has read a job's log.
+    pub fn history(&self, job: &str) -> u64 {
+        self.read().get(job).map_or(0, |watched| watched.read.load(Ordering::SeqCst))
+    }
+
+    /// The place of a job's last event, as it changes.
+    pub fn events(&self, job: &str) -> Option<watch::Receiver<u64>> {
+        self.read().get(job).map(|watched| watched.last_event.subscribe())
+    }
+
+    fn read(&self) -> RwLockReadGuard<'_, HashMap<String, Watched>> {
+        self.jobs.read().unwrap_or_else(PoisonError::into_inner)
+    }
+}

@@ -1,0 +1,118 @@
+//! Commits a round, and then answers its requests.
+use super::message::ForKeeping;
+use super::round::Round;
+use super::{state, Writer};
+use crate::exit;
+use crate::log;
+use crate::model::Moment;
+use crate::store::{Failure, Group};
+use std::time::{Duration, Instant};
+use tokio::sync::oneshot::Sender;
+
+/// For how long a group is tried again that the database certainly rolled back.
+const RETRY_FOR: Duration = Duration::from_secs(10);
+const RETRY_EACH: Duration = Duration::from_millis(200);
+
+impl Writer {
+    /// Commits a group, or ends the process: what it left uncommitted was never answered.
+    pub(super) fn commit(&mut self, round: &mut Round) {
+        if round.group.is_empty() && self.lease.age() < self.store.beat() {
+            return;
+        }
+        self.write(round);
+    }
+
+    fn write(&mut self, round: &mut Round) {
+        let first = Instant::now();
+        self.board.commits(true);
+        loop {
+            let since = Moment::now();
+            match self.store.commit(&round.group) {
+                Ok(()) => {
+                    self.lease.renewed(since);
+                    break;
+                }
+                // calls do not wait for an image that can't be written
+                Err(Failure::Again(why) | Failure::TooLarge(why)) if round.upkeep.is_some() => {
+                    self.keeper.put_off(&mut self.jobs, round, &self.metrics, &why.to_string());
+                }
+                Err(Failure::Again(why)) if first.elapsed() < RETRY_FOR => {
+                    log::warn(&format!("commit is tried again: {why}"));
+                    self.board.beat();
+                    std::thread::sleep(RETRY_EACH);
+                }
+                Err(why) => lose(&why),
+            }
+        }
+        self.board.commits(false);
+        self.board.set_lease(&self.lease);
+        self.board.beat();
+        self.keeper.written(round, &self.jobs, &self.metrics);
+        if !round.group.entries.is_empty() {
+            self.metrics.commit(round.group.entries.len(), first.elapsed());
+        }
+    }
+
+    /// Renews the lease if it is old: a leader answers only while it surely leads.
+    fn renew(&mut self) {
+        if !self.lease.is_sure() {
+            self.write(&mut Round::default());
+        }
+    }
+
+    /// Sends the answers to what was committed. A client may have gone away.
+    pub(super) fn answer(&mut self, round: Round) {
+        // a refusal needs no commit, but only a leader may answer it
+        if !round.done.is_empty() || !round.created.is_empty() {
+            self.renew();
+        }
+        for place in &round.touched {
+            self.publish(*place);
+        }
+        for (place, moment) in round.postponed {
+            self.timer.set(place, Some(moment));
+        }
+        for (done, reply) in round.done {
+            let _ = reply.send(done);
+        }
+        for (created, reply) in round.created {
+            let _ = reply.send(created);
+        }
+        for (read, reply) in round.reads {
+            self.renew();
+            let _ = reply.send(state::read(&mut self.jobs, read, self.clock.now()));
+        }
+    }
+
+    /// Commits what the history gives, apart from calls, so that these neither wait for it nor fail with it.
+    pub(super) fn keep(&mut self, given: Vec<(ForKeeping, Sender<bool>)>) {
+        for (one, reply) in given {
+            let (job, whole, group) = match one {
+                ForKeeping::Summary { job, part } => {
+                    let whole = (part.whole > 0).then_some(part.seq);
+                    (self.jobs.place(&job), whole, Group { summaries: vec![part], ..Group::default() })
+                }
+                ForKeeping::Past(past) => (None, None, Group { past, ..Group::default() }),
+            };
+            let is_written = match self.store.commit(&group) {
+                Ok(()) => true,
+                Err(Failure::Again(why) | Failure::TooLarge(why)) => {
+                    log::warn(&format!("a summary of the history was not written: {why}"));
+                    false
+                }
+                Err(Failure::Lost(why)) => lose(&why),
+            };
+            if let (true, Some(place), Some(seq)) = (is_written, job, whole) {
+                self.jobs.at(place).kept.add_summary(seq, self.keeper.keeping());
+                self.keeper.called(&[place].into());
+            }
+            let _ = reply.send(is_written);
+        }
+    }
+}
+
+/// Ends the process: nothing of the group was answered, and the next start reads what was committed.
+pub(super) fn lose(why: &dyn std::error::Error) -> ! {
+    log::error(&format!("the group was not committed, or that is not known; nothing of it was answered: {why}"));
+    exit::now(exit::START_AGAIN)
+}
