@@ -1,18 +1,20 @@
 # The library, its release, and the commands of README.md.
 #
 #   make                        the library, in build/: proved and built by the toolchain, unless it is up to date
-#   make install PREFIX=/usr/local DESTDIR=
+#   make install PREFIX=/usr/local LIBDIR=/usr/local/lib DESTDIR=
 #                               headers, libraries, pkg-config and CMake files, man pages, examples, and the programs that are built
-#   make dist                   build/relkvanu-VERSION.tar.gz with the built library, and its checksum
+#   make uninstall              takes them away again, with the same PREFIX, LIBDIR and DESTDIR
+#   make dist                   build/relkvanu-VERSION.tar.gz with the built library and the programs that are built, and its checksum
 #   make first                  a first look: a script of calls, unproved
 #   make job                    the script's program, proved, on that script
 #   make demo                   a job that runs for a minute with threads, a clock and files
 #   make programs               ckpt_job, ckpt_chart and ckpt_demo, proved and built
-#   make check                  all proofs, wrong bodies, tests and programs (.ci/run)
+#   make check                  all proofs, wrong bodies, tests and programs (.ci/run); in a release, the tests of its library (packaging/check)
 #   make clean                  removes build/
 #
-# A release has make and make install alone.
+# A release has make, install, uninstall and check alone.
 PREFIX = /usr/local
+LIBDIR = $(PREFIX)/lib
 DESTDIR =
 INSTALL = install
 LIBRARY = build/librelkvanu.a build/librelkvanu.so.0
@@ -20,9 +22,12 @@ PROGRAMS = ckpt_job ckpt_chart ckpt_demo
 VERSION := $(shell sed -n 's/^\#define RELKVANU_VERSION "\(.*\)"/\1/p' include/relkvanu.h)
 HEADERS = include/relkvanu.h include/relkvanu.hpp include/relkvanu_alloc.h
 into = $(DESTDIR)$(PREFIX)
-filled = sed -e 's|@PREFIX@|$(PREFIX)|g' -e 's|@VERSION@|$(VERSION)|g'
+libraries = $(DESTDIR)$(LIBDIR)
+filled = sed -e 's|@PREFIX@|$(PREFIX)|g' -e 's|@LIBDIR@|$(patsubst $(PREFIX)/%,$${prefix}/%,$(LIBDIR))|g' -e 's|@VERSION@|$(VERSION)|g'
+# The programs that are built: in a release in build/bin.
+BUILT = $(wildcard $(PROGRAMS:%=build/bin/%) $(foreach it,$(PROGRAMS),crates/$(it)/out/$(it)))
 
-.PHONY: library install dist first job demo programs check clean
+.PHONY: library install uninstall dist first job demo programs check clean
 
 library: $(LIBRARY)
 
@@ -35,7 +40,7 @@ SOURCES := $(wildcard crates/*/src/*.rt crates/*/src/*/*.rt crates/*/specs/*.ant
 $(ARCHIVE): $(SOURCES)
 	embed/archive
 
-build/librelkvanu.a: $(ARCHIVE) embed/c/heap.c embed/c/version.c include/relkvanu.h include/relkvanu_alloc.h packaging/relkvanu.map
+build/librelkvanu.a: $(ARCHIVE) embed/c/heap.c embed/c/version.c include/relkvanu.h include/relkvanu_alloc.h packaging/relkvanu.map packaging/link
 	embed/library build $(ARCHIVE)
 
 build/librelkvanu.so.0: build/librelkvanu.a
@@ -49,22 +54,32 @@ endif
 
 # All modes are given, because those that the umask would choose may hide a file from its users.
 install: $(LIBRARY) $(PAGES)/docs
-	$(INSTALL) -d $(into)/include $(into)/lib/pkgconfig $(into)/lib/cmake/relkvanu $(into)/bin
+	$(INSTALL) -d $(into)/include $(libraries)/pkgconfig $(libraries)/cmake/relkvanu $(into)/bin
 	$(INSTALL) -d $(into)/share/man/man1 $(into)/share/man/man3 $(into)/share/doc/relkvanu/examples/engine
 	$(INSTALL) -m 644 $(HEADERS) $(into)/include
-	$(INSTALL) -m 644 build/librelkvanu.a build/librelkvanu.so.0 $(into)/lib
-	ln -sf librelkvanu.so.0 $(into)/lib/librelkvanu.so
-	$(filled) packaging/relkvanu.pc.in | $(INSTALL) -m 644 /dev/stdin $(into)/lib/pkgconfig/relkvanu.pc
-	$(filled) packaging/relkvanu-config-version.cmake.in | $(INSTALL) -m 644 /dev/stdin $(into)/lib/cmake/relkvanu/relkvanu-config-version.cmake
-	$(INSTALL) -m 644 packaging/relkvanu-config.cmake $(into)/lib/cmake/relkvanu
+	$(INSTALL) -m 644 build/librelkvanu.a build/librelkvanu.so.0 $(libraries)
+	ln -sf librelkvanu.so.0 $(libraries)/librelkvanu.so
+	$(filled) packaging/relkvanu.pc.in | $(INSTALL) -m 644 /dev/stdin $(libraries)/pkgconfig/relkvanu.pc
+	$(filled) packaging/relkvanu-config-version.cmake.in | $(INSTALL) -m 644 /dev/stdin $(libraries)/cmake/relkvanu/relkvanu-config-version.cmake
+	$(INSTALL) -m 644 packaging/relkvanu-config.cmake $(libraries)/cmake/relkvanu
 	$(INSTALL) -m 644 packaging/man/*.3 $(into)/share/man/man3
 	$(INSTALL) -m 644 $(PAGES)/docs/*.md $(into)/share/doc/relkvanu
 	$(INSTALL) -m 644 examples/*.script examples/*.stdout $(into)/share/doc/relkvanu/examples
 	cp -R $(PAGES)/samples/. $(into)/share/doc/relkvanu/examples/engine
 	chmod -R u=rwX,go=rX $(into)/share/doc/relkvanu/examples/engine
-	for it in $(PROGRAMS); do if [ -x crates/$$it/out/$$it ]; then \
-	    $(INSTALL) crates/$$it/out/$$it $(into)/bin && $(INSTALL) -m 644 packaging/man/$$it.1 $(into)/share/man/man1 || exit 1; \
-	fi; done
+	for it in $(BUILT); do \
+	    $(INSTALL) -m 755 $$it $(into)/bin && $(INSTALL) -m 644 packaging/man/$${it##*/}.1 $(into)/share/man/man1 || exit 1; \
+	done
+	@[ -n "$(DESTDIR)" ] || echo "If programs are to find librelkvanu.so.0 in $(LIBDIR), run ldconfig as root, or set LD_LIBRARY_PATH."
+
+# Takes away what install puts there, and the folders that are then its own and empty. Give it the PREFIX and the LIBDIR of the install.
+uninstall:
+	rm -f $(HEADERS:include/%=$(into)/include/%)
+	rm -f $(libraries)/librelkvanu.a $(libraries)/librelkvanu.so $(libraries)/librelkvanu.so.0 $(libraries)/pkgconfig/relkvanu.pc
+	rm -f $(patsubst packaging/man/%,$(into)/share/man/man3/%,$(wildcard packaging/man/*.3))
+	rm -f $(PROGRAMS:%=$(into)/bin/%) $(PROGRAMS:%=$(into)/share/man/man1/%.1)
+	rm -rf $(libraries)/cmake/relkvanu $(into)/share/doc/relkvanu
+	@[ -n "$(DESTDIR)" ] || echo "If ldconfig was run after the install, run it again."
 
 # What only the repository has.
 ifneq ($(wildcard crates),)
@@ -91,5 +106,8 @@ check:
 clean:
 	rm -rf build
 else
+check:
+	packaging/check $(PARTS)
+
 clean: # the library of a release can't be made again
 endif

@@ -51,6 +51,16 @@ extern "C" {
 /* The version of the library that is linked, as RELKVANU_VERSION. */
 const char *relkvanu_version(void);
 
+/* A compiler warns where a program drops the answer of a call, because then nobody sees that the call was not made. A program that wants
+ * no such warning defines this name as nothing before it includes the header. */
+#ifndef RELKVANU_NODISCARD
+#ifdef __GNUC__
+#define RELKVANU_NODISCARD __attribute__((warn_unused_result))
+#else
+#define RELKVANU_NODISCARD
+#endif
+#endif
+
 /* {0}: closed */
 typedef struct {
     void *state;
@@ -212,6 +222,129 @@ typedef struct {
 #define RELKVANU_CALL_SHOW 11u
 #define RELKVANU_CALL_COUNT 12u
 
+/* The same numbers as types, for debuggers, and for a compiler that warns of a switch which lacks one: switch ((enum relkvanu_refusal)
+ * answer.what). A later version may give others. */
+enum relkvanu_code {
+    relkvanu_code_done = RELKVANU_DONE,
+    relkvanu_code_refused = RELKVANU_REFUSED,
+    relkvanu_code_no_memory = RELKVANU_NO_MEMORY,
+    relkvanu_code_closed = RELKVANU_CLOSED,
+    relkvanu_code_bad_argument = RELKVANU_BAD_ARGUMENT,
+    relkvanu_code_too_short = RELKVANU_TOO_SHORT,
+    relkvanu_code_bad_line = RELKVANU_BAD_LINE
+};
+
+enum relkvanu_reply {
+    relkvanu_reply_opened = RELKVANU_OPENED,
+    relkvanu_reply_tick_triggered = RELKVANU_TICK_TRIGGERED,
+    relkvanu_reply_tick_held_interval = RELKVANU_TICK_HELD_INTERVAL,
+    relkvanu_reply_tick_held_at_once = RELKVANU_TICK_HELD_AT_ONCE,
+    relkvanu_reply_tick_held_pause = RELKVANU_TICK_HELD_PAUSE,
+    relkvanu_reply_tick_failed = RELKVANU_TICK_FAILED,
+    relkvanu_reply_savepoint_triggered = RELKVANU_SAVEPOINT_TRIGGERED,
+    relkvanu_reply_ack_pending = RELKVANU_ACK_PENDING,
+    relkvanu_reply_ack_completed = RELKVANU_ACK_COMPLETED,
+    relkvanu_reply_ack_late = RELKVANU_ACK_LATE,
+    relkvanu_reply_decline_aborted = RELKVANU_DECLINE_ABORTED,
+    relkvanu_reply_decline_failed = RELKVANU_DECLINE_FAILED,
+    relkvanu_reply_decline_late = RELKVANU_DECLINE_LATE,
+    relkvanu_reply_disposed = RELKVANU_DISPOSED,
+    relkvanu_reply_restored_checkpoint = RELKVANU_RESTORED_CHECKPOINT,
+    relkvanu_reply_restored_savepoint = RELKVANU_RESTORED_SAVEPOINT,
+    relkvanu_reply_restored_fresh = RELKVANU_RESTORED_FRESH,
+    relkvanu_reply_cancelled = RELKVANU_CANCELLED,
+    relkvanu_reply_taken = RELKVANU_TAKEN,
+    relkvanu_reply_deleted = RELKVANU_DELETED,
+    relkvanu_reply_undeleted = RELKVANU_UNDELETED,
+    relkvanu_reply_shown = RELKVANU_SHOWN,
+    relkvanu_reply_counted = RELKVANU_COUNTED,
+    relkvanu_reply_mode_running = RELKVANU_MODE_RUNNING,
+    relkvanu_reply_mode_failed = RELKVANU_MODE_FAILED,
+    relkvanu_reply_mode_cancelled = RELKVANU_MODE_CANCELLED,
+    relkvanu_reply_due = RELKVANU_DUE,
+    relkvanu_reply_expires = RELKVANU_EXPIRES,
+    relkvanu_reply_none_pending = RELKVANU_NONE_PENDING,
+    relkvanu_reply_choice_checkpoint = RELKVANU_CHOICE_CHECKPOINT,
+    relkvanu_reply_choice_savepoint = RELKVANU_CHOICE_SAVEPOINT,
+    relkvanu_reply_choice_fresh = RELKVANU_CHOICE_FRESH,
+    relkvanu_reply_live_checkpoint = RELKVANU_LIVE_CHECKPOINT,
+    relkvanu_reply_live_savepoint = RELKVANU_LIVE_SAVEPOINT,
+    relkvanu_reply_live_none = RELKVANU_LIVE_NONE,
+    relkvanu_reply_missing = RELKVANU_MISSING,
+    relkvanu_reply_not_pending = RELKVANU_NOT_PENDING,
+    relkvanu_reply_moment = RELKVANU_MOMENT,
+    relkvanu_reply_skipped = RELKVANU_SKIPPED,
+    relkvanu_reply_line_skip = RELKVANU_LINE_SKIP,
+    relkvanu_reply_line_config = RELKVANU_LINE_CONFIG,
+    relkvanu_reply_line_job = RELKVANU_LINE_JOB,
+    relkvanu_reply_line_start = RELKVANU_LINE_START,
+    relkvanu_reply_line_call = RELKVANU_LINE_CALL,
+    relkvanu_reply_line_all = RELKVANU_LINE_ALL,
+    relkvanu_reply_written = RELKVANU_WRITTEN,
+    relkvanu_reply_saved = RELKVANU_SAVED,
+    relkvanu_reply_stands_pending = RELKVANU_STANDS_PENDING,
+    relkvanu_reply_stands_done = RELKVANU_STANDS_DONE,
+    relkvanu_reply_stands_ended = RELKVANU_STANDS_ENDED,
+    relkvanu_reply_stands_not_yet = RELKVANU_STANDS_NOT_YET,
+    relkvanu_reply_stands_never = RELKVANU_STANDS_NEVER,
+    relkvanu_reply_files = RELKVANU_FILES,
+    relkvanu_reply_not_acknowledged = RELKVANU_NOT_ACKNOWLEDGED,
+    relkvanu_reply_waiting = RELKVANU_WAITING,
+    relkvanu_reply_none_waits = RELKVANU_NONE_WAITS
+};
+
+enum relkvanu_refusal {
+    relkvanu_refusal_moment_too_large = RELKVANU_MOMENT_TOO_LARGE,
+    relkvanu_refusal_not_running = RELKVANU_NOT_RUNNING,
+    relkvanu_refusal_too_many_files = RELKVANU_TOO_MANY_FILES,
+    relkvanu_refusal_repeated_file = RELKVANU_REPEATED_FILE,
+    relkvanu_refusal_unknown_checkpoint = RELKVANU_UNKNOWN_CHECKPOINT,
+    relkvanu_refusal_unknown_subtask = RELKVANU_UNKNOWN_SUBTASK,
+    relkvanu_refusal_already_acknowledged = RELKVANU_ALREADY_ACKNOWLEDGED,
+    relkvanu_refusal_name_taken = RELKVANU_NAME_TAKEN,
+    relkvanu_refusal_file_gone = RELKVANU_FILE_GONE,
+    relkvanu_refusal_no_such_savepoint = RELKVANU_NO_SUCH_SAVEPOINT,
+    relkvanu_refusal_in_use = RELKVANU_IN_USE,
+    relkvanu_refusal_too_many_savepoints = RELKVANU_TOO_MANY_SAVEPOINTS,
+    relkvanu_refusal_not_taken = RELKVANU_NOT_TAKEN,
+    relkvanu_refusal_no_such_record = RELKVANU_NO_SUCH_RECORD,
+    relkvanu_refusal_ids_used_up = RELKVANU_IDS_USED_UP
+};
+
+enum relkvanu_argument {
+    relkvanu_argument_already_open = RELKVANU_ALREADY_OPEN,
+    relkvanu_argument_bad_config = RELKVANU_BAD_CONFIG,
+    relkvanu_argument_bad_shape = RELKVANU_BAD_SHAPE,
+    relkvanu_argument_bad_moment = RELKVANU_BAD_MOMENT,
+    relkvanu_argument_bad_first = RELKVANU_BAD_FIRST,
+    relkvanu_argument_bad_kind = RELKVANU_BAD_KIND,
+    relkvanu_argument_bad_image = RELKVANU_BAD_IMAGE
+};
+
+enum relkvanu_line_fault {
+    relkvanu_line_fault_too_long = RELKVANU_FAULT_TOO_LONG,
+    relkvanu_line_fault_word = RELKVANU_FAULT_WORD,
+    relkvanu_line_fault_missing = RELKVANU_FAULT_MISSING,
+    relkvanu_line_fault_number = RELKVANU_FAULT_NUMBER,
+    relkvanu_line_fault_extra = RELKVANU_FAULT_EXTRA,
+    relkvanu_line_fault_no_call = RELKVANU_FAULT_NO_CALL
+};
+
+enum relkvanu_call_kind {
+    relkvanu_call_kind_tick = RELKVANU_CALL_TICK,
+    relkvanu_call_kind_savepoint = RELKVANU_CALL_SAVEPOINT,
+    relkvanu_call_kind_ack = RELKVANU_CALL_ACK,
+    relkvanu_call_kind_decline = RELKVANU_CALL_DECLINE,
+    relkvanu_call_kind_dispose = RELKVANU_CALL_DISPOSE,
+    relkvanu_call_kind_restore = RELKVANU_CALL_RESTORE,
+    relkvanu_call_kind_cancel = RELKVANU_CALL_CANCEL,
+    relkvanu_call_kind_take = RELKVANU_CALL_TAKE,
+    relkvanu_call_kind_deleted = RELKVANU_CALL_DELETED,
+    relkvanu_call_kind_undeleted = RELKVANU_CALL_UNDELETED,
+    relkvanu_call_kind_show = RELKVANU_CALL_SHOW,
+    relkvanu_call_kind_count = RELKVANU_CALL_COUNT
+};
+
 /* Opens a coordinator in a closed handle, from the moment now on. Its first record has the number first, 1 to 2^62 - 1.
  * The shape is the parallelism of each vertex: 1 to 256 vertices, at least 1 each, at most 4096 in sum. Take the two words
  * from a source of random numbers. They key the maps of files, so that no choice of file numbers makes calls slow. They
@@ -220,7 +353,7 @@ typedef struct {
  * RELKVANU_OPENED; or RELKVANU_BAD_ARGUMENT, and the handle stays as it was: RELKVANU_ALREADY_OPEN,
  * RELKVANU_BAD_CONFIG, RELKVANU_BAD_SHAPE, RELKVANU_BAD_MOMENT, RELKVANU_BAD_FIRST, checked in this order. Takes memory: after
  * RELKVANU_NO_MEMORY the handle is closed, as before. */
-relkvanu_answer relkvanu_open(relkvanu *handle, const relkvanu_settings *settings, const uint64_t *shape, size_t shape_len, uint64_t now, uint64_t first, uint64_t first_word, uint64_t second_word);
+RELKVANU_NODISCARD relkvanu_answer relkvanu_open(relkvanu *handle, const relkvanu_settings *settings, const uint64_t *shape, size_t shape_len, uint64_t now, uint64_t first, uint64_t first_word, uint64_t second_word);
 
 /* Closes the coordinator and frees its memory. A closed handle stays closed. */
 void relkvanu_close(relkvanu *handle);
@@ -229,13 +362,13 @@ void relkvanu_close(relkvanu *handle);
  *
  * RELKVANU_TICK_TRIGGERED to RELKVANU_TICK_FAILED. Refused: RELKVANU_MOMENT_TOO_LARGE, RELKVANU_NOT_RUNNING, RELKVANU_IDS_USED_UP.
  * Takes memory only if it triggers. */
-relkvanu_answer relkvanu_tick(relkvanu *handle, uint64_t now);
+RELKVANU_NODISCARD relkvanu_answer relkvanu_tick(relkvanu *handle, uint64_t now);
 
 /* Triggers a savepoint. At most 1000 savepoints are pending or done.
  *
  * RELKVANU_SAVEPOINT_TRIGGERED. Refused: RELKVANU_MOMENT_TOO_LARGE, RELKVANU_NOT_RUNNING, RELKVANU_TOO_MANY_SAVEPOINTS,
  * RELKVANU_IDS_USED_UP. Takes memory. */
-relkvanu_answer relkvanu_savepoint(relkvanu *handle, uint64_t now);
+RELKVANU_NODISCARD relkvanu_answer relkvanu_savepoint(relkvanu *handle, uint64_t now);
 
 /* The subtask vertex.index has taken its part of record id. fresh has the files that it wrote. reused has files of
  * earlier records that it uses again. Both may be in any order, with at most 4096 files together.
@@ -245,18 +378,18 @@ relkvanu_answer relkvanu_savepoint(relkvanu *handle, uint64_t now);
  * RELKVANU_ALREADY_ACKNOWLEDGED, RELKVANU_NAME_TAKEN, RELKVANU_FILE_GONE. After a refusal the task must not delete a file that
  * an accepted acknowledgement ever named. The call first copies the two lists, which takes memory. So it may return
  * RELKVANU_NO_MEMORY instead of a refusal. */
-relkvanu_answer relkvanu_ack(relkvanu *handle, uint64_t now, uint64_t id, uint16_t vertex, uint16_t index, const uint64_t *fresh, size_t fresh_len, const uint64_t *reused, size_t reused_len);
+RELKVANU_NODISCARD relkvanu_answer relkvanu_ack(relkvanu *handle, uint64_t now, uint64_t id, uint16_t vertex, uint16_t index, const uint64_t *fresh, size_t fresh_len, const uint64_t *reused, size_t reused_len);
 
 /* The subtask vertex.index could not take its part of record id.
  *
  * RELKVANU_DECLINE_ABORTED, RELKVANU_DECLINE_FAILED (too many checkpoints failed in a row) or RELKVANU_DECLINE_LATE. Refused:
  * RELKVANU_MOMENT_TOO_LARGE, RELKVANU_UNKNOWN_CHECKPOINT, RELKVANU_UNKNOWN_SUBTASK. Takes no memory. */
-relkvanu_answer relkvanu_decline(relkvanu *handle, uint64_t now, uint64_t id, uint16_t vertex, uint16_t index);
+RELKVANU_NODISCARD relkvanu_answer relkvanu_decline(relkvanu *handle, uint64_t now, uint64_t id, uint16_t vertex, uint16_t index);
 
 /* A user disposes of the completed savepoint id.
  *
  * RELKVANU_DISPOSED. Refused: RELKVANU_NO_SUCH_SAVEPOINT, RELKVANU_IN_USE. Takes no memory. */
-relkvanu_answer relkvanu_dispose(relkvanu *handle, uint64_t id);
+RELKVANU_NODISCARD relkvanu_answer relkvanu_dispose(relkvanu *handle, uint64_t id);
 
 /* The job begins again: from a savepoint, or from the latest record if savepoint is 0. With shape_len above 0 it
  * begins in a new shape, within the limits of relkvanu_open. Otherwise it keeps its current shape.
@@ -265,42 +398,43 @@ relkvanu_answer relkvanu_dispose(relkvanu *handle, uint64_t id);
  * first. Refused: RELKVANU_MOMENT_TOO_LARGE, RELKVANU_NOT_RUNNING (cancelled), RELKVANU_NO_SUCH_SAVEPOINT. The call first copies the
  * shape, which takes memory. So it may return RELKVANU_NO_MEMORY instead of a refusal. Without a shape it takes
  * no memory. */
-relkvanu_answer relkvanu_restore(relkvanu *handle, uint64_t now, uint64_t savepoint, const uint64_t *shape, size_t shape_len);
+RELKVANU_NODISCARD relkvanu_answer relkvanu_restore(relkvanu *handle, uint64_t now, uint64_t savepoint, const uint64_t *shape, size_t shape_len);
 
 /* The job ends for good.
  *
  * RELKVANU_CANCELLED. Refused: RELKVANU_MOMENT_TOO_LARGE, RELKVANU_NOT_RUNNING (cancelled). Takes no memory. */
-relkvanu_answer relkvanu_cancel(relkvanu *handle, uint64_t now);
+RELKVANU_NODISCARD relkvanu_answer relkvanu_cancel(relkvanu *handle, uint64_t now);
 
 /* Fetches at most files_len files that wait for deletion, the longest waiting first, and writes them to the
  * start of files. Report each one by relkvanu_deleted or relkvanu_undeleted.
  *
  * RELKVANU_TAKEN; a is 0 if no file waits. Never refused. Takes memory: after RELKVANU_NO_MEMORY the files still
  * wait, and the buffer has not changed. */
-relkvanu_answer relkvanu_take(relkvanu *handle, uint64_t *files, size_t files_len);
+RELKVANU_NODISCARD relkvanu_answer relkvanu_take(relkvanu *handle, uint64_t *files, size_t files_len);
 
 /* A fetched file is deleted: the coordinator forgets it.
  *
  * RELKVANU_DELETED. Refused: RELKVANU_NOT_TAKEN. Takes no memory. */
-relkvanu_answer relkvanu_deleted(relkvanu *handle, uint64_t file);
+RELKVANU_NODISCARD relkvanu_answer relkvanu_deleted(relkvanu *handle, uint64_t file);
 
 /* A fetched file could not be deleted: it waits again, behind all others.
  *
  * RELKVANU_UNDELETED. Refused: RELKVANU_NOT_TAKEN. Takes no memory. */
-relkvanu_answer relkvanu_undeleted(relkvanu *handle, uint64_t file);
+RELKVANU_NODISCARD relkvanu_answer relkvanu_undeleted(relkvanu *handle, uint64_t file);
 
 /* Writes the metadata of a live record as JSON, without a zero at its end.
  *
  * RELKVANU_SHOWN; or RELKVANU_TOO_SHORT, and a is its number of bytes: call again with a buffer of that many. Refused:
  * RELKVANU_NO_SUCH_RECORD. Takes memory, even if the buffer is too short. Only RELKVANU_SHOWN changes the buffer. */
-relkvanu_answer relkvanu_show(relkvanu *handle, uint64_t id, uint8_t *json, size_t json_len);
+RELKVANU_NODISCARD relkvanu_answer relkvanu_show(relkvanu *handle, uint64_t id, uint8_t *json, size_t json_len);
 
 /* The number of uses of a file, by acknowledgements and pins of live records.
  *
  * RELKVANU_COUNTED. Never refused. Takes no memory. */
 relkvanu_answer relkvanu_count(relkvanu *handle, uint64_t file);
 
-/* Reads. None takes memory or changes anything. On an open handle each returns RELKVANU_DONE. */
+/* Reads. None takes memory or changes anything. On an open handle each returns RELKVANU_DONE. A read takes the state out of the handle
+ * meanwhile, so not even two reads of one handle may run at the same time: reads need the lock that calls need. */
 
 /* What the job is doing: RELKVANU_MODE_RUNNING, RELKVANU_MODE_FAILED or RELKVANU_MODE_CANCELLED. */
 relkvanu_answer relkvanu_mode(relkvanu *handle);
@@ -350,7 +484,7 @@ size_t relkvanu_refusal_text(uint32_t what, uint8_t *text, size_t text_len);
  * RELKVANU_BAD_SHAPE. A line that has no words or is a comment returns RELKVANU_SKIPPED. A line that can't be read, or makes no
  * call, returns RELKVANU_BAD_LINE. Only RELKVANU_TAKEN changes the buffer. The call takes memory as its own function does, and for the
  * lists of an ack, job or restore line. So such a line may return RELKVANU_NO_MEMORY instead of a refusal. */
-relkvanu_answer relkvanu_line(relkvanu *handle, const uint8_t *line, size_t line_len, uint64_t *files, size_t files_len);
+RELKVANU_NODISCARD relkvanu_answer relkvanu_line(relkvanu *handle, const uint8_t *line, size_t line_len, uint64_t *files, size_t files_len);
 
 /* Returns the kind of the line, RELKVANU_LINE_SKIP to RELKVANU_LINE_ALL. If the line makes no call, writes its numbers to the start
  * of numbers, in the line's order; keep is 1 and delete is 0. Checks no number against the limits of a job.
@@ -358,7 +492,7 @@ relkvanu_answer relkvanu_line(relkvanu *handle, const uint8_t *line, size_t line
  * RELKVANU_TOO_SHORT, and a is how many places it needs; or RELKVANU_BAD_LINE with the fault. Neither changes the buffer. A restore
  * line with a bad shape is RELKVANU_LINE_CALL: relkvanu_line says what is wrong with it. Takes memory only for the lists of an
  * ack, job or restore line. */
-relkvanu_answer relkvanu_line_says(const uint8_t *line, size_t line_len, uint64_t *numbers, size_t numbers_len);
+RELKVANU_NODISCARD relkvanu_answer relkvanu_line_says(const uint8_t *line, size_t line_len, uint64_t *numbers, size_t numbers_len);
 
 /* Writes the call that a line says: its kind and numbers to call, and its lists to the start of first and second. For an ack these
  * are the fresh and the reused files, each in ascending order. For a restore, first is the new shape, or empty. It is the
@@ -369,7 +503,7 @@ relkvanu_answer relkvanu_line_says(const uint8_t *line, size_t line_len, uint64_
  * RELKVANU_BAD_LINE or RELKVANU_BAD_ARGUMENT. A restore line with the savepoint 0 is RELKVANU_REFUSED with
  * RELKVANU_NO_SUCH_SAVEPOINT, since 0 stands for the latest record in a relkvanu_call. Only RELKVANU_LINE_CALL changes call and the
  * buffers. Takes memory only for the lists of an ack, job or restore line. */
-relkvanu_answer relkvanu_line_call(const uint8_t *line, size_t line_len, relkvanu_call *call, uint64_t *first, size_t first_len, uint64_t *second, size_t second_len);
+RELKVANU_NODISCARD relkvanu_answer relkvanu_line_call(const uint8_t *line, size_t line_len, relkvanu_call *call, uint64_t *first, size_t first_len, uint64_t *second, size_t second_len);
 
 /* Writes the line of a call, without a newline and without a zero at its end. relkvanu_line reads it as that call.
  *
@@ -377,14 +511,14 @@ relkvanu_answer relkvanu_line_call(const uint8_t *line, size_t line_len, relkvan
  * empty. RELKVANU_WRITTEN; RELKVANU_TOO_SHORT, and a is how many bytes it needs; RELKVANU_BAD_ARGUMENT with RELKVANU_BAD_KIND or
  * RELKVANU_BAD_SHAPE; RELKVANU_BAD_LINE with RELKVANU_FAULT_TOO_LONG if the line would be too long. No line is cut. Only
  * RELKVANU_WRITTEN changes the buffer. Takes memory. */
-relkvanu_answer relkvanu_call_line(const relkvanu_call *call, const uint64_t *first, size_t first_len, const uint64_t *second, size_t second_len, uint8_t *line, size_t line_len);
+RELKVANU_NODISCARD relkvanu_answer relkvanu_call_line(const relkvanu_call *call, const uint64_t *first, size_t first_len, const uint64_t *second, size_t second_len, uint8_t *line, size_t line_len);
 
 /* Writes the lines config, job and start of a coordinator whose first record has the number 1, each with its newline.
  *
  * RELKVANU_WRITTEN; RELKVANU_TOO_SHORT, and a is how many bytes it needs; RELKVANU_BAD_ARGUMENT if relkvanu_open returns it, with
  * the same argument: RELKVANU_BAD_CONFIG, RELKVANU_BAD_SHAPE or RELKVANU_BAD_MOMENT. Only RELKVANU_WRITTEN changes the buffer. Takes
  * memory. */
-relkvanu_answer relkvanu_opening_lines(const relkvanu_settings *settings, const uint64_t *shape, size_t shape_len, uint64_t now, uint8_t *lines, size_t lines_len);
+RELKVANU_NODISCARD relkvanu_answer relkvanu_opening_lines(const relkvanu_settings *settings, const uint64_t *shape, size_t shape_len, uint64_t now, uint8_t *lines, size_t lines_len);
 
 /* Images: save a coordinator, and open it again. docs/IMAGE.md has the format. */
 
@@ -393,14 +527,14 @@ relkvanu_answer relkvanu_opening_lines(const relkvanu_settings *settings, const 
  *
  * RELKVANU_SAVED; RELKVANU_TOO_SHORT, and a is its number of bytes: call again with a buffer of that many. Only RELKVANU_SAVED
  * changes the buffer, and nothing else changes. Takes memory, even if the buffer is too short. */
-relkvanu_answer relkvanu_save(relkvanu *handle, uint8_t *image, size_t image_len);
+RELKVANU_NODISCARD relkvanu_answer relkvanu_save(relkvanu *handle, uint8_t *image, size_t image_len);
 
 /* Opens the coordinator that an image describes in a closed handle. The two words have the meaning that they have in
  * relkvanu_open. They may differ from those of the coordinator that was saved.
  *
  * RELKVANU_OPENED; or RELKVANU_BAD_ARGUMENT, and the handle stays as it was: RELKVANU_ALREADY_OPEN, RELKVANU_BAD_IMAGE. Takes memory: after
  * RELKVANU_NO_MEMORY the handle is closed, as before. */
-relkvanu_answer relkvanu_open_saved(relkvanu *handle, const uint8_t *image, size_t image_len, uint64_t first_word, uint64_t second_word);
+RELKVANU_NODISCARD relkvanu_answer relkvanu_open_saved(relkvanu *handle, const uint8_t *image, size_t image_len, uint64_t first_word, uint64_t second_word);
 
 /* Reads for a recovery. They change nothing but a buffer. If a buffer is too short, it stays as it was, and the read returns
  * RELKVANU_TOO_SHORT: a is how many places it needs. */
@@ -417,13 +551,13 @@ relkvanu_answer relkvanu_standing(relkvanu *handle, uint64_t id);
 /* Writes the files that the subtask vertex.index acknowledged in the live record id, in ascending order.
  *
  * RELKVANU_FILES; RELKVANU_NOT_ACKNOWLEDGED; RELKVANU_TOO_SHORT. A binary search. Takes no memory. */
-relkvanu_answer relkvanu_files_of(relkvanu *handle, uint64_t id, uint16_t vertex, uint16_t index, uint64_t *files, size_t files_len);
+RELKVANU_NODISCARD relkvanu_answer relkvanu_files_of(relkvanu *handle, uint64_t id, uint16_t vertex, uint16_t index, uint64_t *files, size_t files_len);
 
 /* Writes the files that the pending record id pins, in ascending order: the files of the record that a restart would have begun
  * from at its trigger. Writes none if no record with this number is pending.
  *
  * RELKVANU_FILES; RELKVANU_TOO_SHORT. Takes memory only if the record is pending. */
-relkvanu_answer relkvanu_pins_of(relkvanu *handle, uint64_t id, uint64_t *files, size_t files_len);
+RELKVANU_NODISCARD relkvanu_answer relkvanu_pins_of(relkvanu *handle, uint64_t id, uint64_t *files, size_t files_len);
 
 /* The file at this place, from 0, among those that wait for deletion. The next to be fetched is the first. RELKVANU_WAITING;
  * RELKVANU_NONE_WAITS past the last. Takes constant time and no memory. */
@@ -432,7 +566,7 @@ relkvanu_answer relkvanu_waiting_file(relkvanu *handle, size_t place);
 /* Writes the files that were fetched for deletion and are not yet reported, in ascending order.
  *
  * RELKVANU_FILES; RELKVANU_TOO_SHORT. Visits each file that waits or was fetched. Takes memory. */
-relkvanu_answer relkvanu_taken_files(relkvanu *handle, uint64_t *files, size_t files_len);
+RELKVANU_NODISCARD relkvanu_answer relkvanu_taken_files(relkvanu *handle, uint64_t *files, size_t files_len);
 
 /* Null pointers. The symbols of the library take none. In a program that includes this header, the names of the symbols
  * stand for the functions below. For an empty list or buffer these pass the address of an element that nobody reads. */
@@ -457,7 +591,7 @@ static inline const uint8_t *relkvanu_text_of(const uint8_t *text, size_t len) {
     return len == 0 ? &none : text;
 }
 
-static inline relkvanu_answer relkvanu_open_nullable(relkvanu *handle, const relkvanu_settings *settings, const uint64_t *shape, size_t shape_len, uint64_t now, uint64_t first, uint64_t first_word, uint64_t second_word) {
+static inline RELKVANU_NODISCARD relkvanu_answer relkvanu_open_nullable(relkvanu *handle, const relkvanu_settings *settings, const uint64_t *shape, size_t shape_len, uint64_t now, uint64_t first, uint64_t first_word, uint64_t second_word) {
     return relkvanu_open(handle, settings, relkvanu_list_of(shape, shape_len), shape_len, now, first, first_word, second_word);
 }
 
@@ -467,19 +601,19 @@ static inline void relkvanu_close_nullable(relkvanu *handle) {
     }
 }
 
-static inline relkvanu_answer relkvanu_ack_nullable(relkvanu *handle, uint64_t now, uint64_t id, uint16_t vertex, uint16_t index, const uint64_t *fresh, size_t fresh_len, const uint64_t *reused, size_t reused_len) {
+static inline RELKVANU_NODISCARD relkvanu_answer relkvanu_ack_nullable(relkvanu *handle, uint64_t now, uint64_t id, uint16_t vertex, uint16_t index, const uint64_t *fresh, size_t fresh_len, const uint64_t *reused, size_t reused_len) {
     return relkvanu_ack(handle, now, id, vertex, index, relkvanu_list_of(fresh, fresh_len), fresh_len, relkvanu_list_of(reused, reused_len), reused_len);
 }
 
-static inline relkvanu_answer relkvanu_restore_nullable(relkvanu *handle, uint64_t now, uint64_t savepoint, const uint64_t *shape, size_t shape_len) {
+static inline RELKVANU_NODISCARD relkvanu_answer relkvanu_restore_nullable(relkvanu *handle, uint64_t now, uint64_t savepoint, const uint64_t *shape, size_t shape_len) {
     return relkvanu_restore(handle, now, savepoint, relkvanu_list_of(shape, shape_len), shape_len);
 }
 
-static inline relkvanu_answer relkvanu_take_nullable(relkvanu *handle, uint64_t *files, size_t files_len) {
+static inline RELKVANU_NODISCARD relkvanu_answer relkvanu_take_nullable(relkvanu *handle, uint64_t *files, size_t files_len) {
     return relkvanu_take(handle, relkvanu_places_of(files, files_len), files_len);
 }
 
-static inline relkvanu_answer relkvanu_show_nullable(relkvanu *handle, uint64_t id, uint8_t *json, size_t json_len) {
+static inline RELKVANU_NODISCARD relkvanu_answer relkvanu_show_nullable(relkvanu *handle, uint64_t id, uint8_t *json, size_t json_len) {
     return relkvanu_show(handle, id, relkvanu_bytes_of(json, json_len), json_len);
 }
 
@@ -487,43 +621,43 @@ static inline size_t relkvanu_refusal_text_nullable(uint32_t what, uint8_t *text
     return relkvanu_refusal_text(what, relkvanu_bytes_of(text, text_len), text_len);
 }
 
-static inline relkvanu_answer relkvanu_line_nullable(relkvanu *handle, const uint8_t *line, size_t line_len, uint64_t *files, size_t files_len) {
+static inline RELKVANU_NODISCARD relkvanu_answer relkvanu_line_nullable(relkvanu *handle, const uint8_t *line, size_t line_len, uint64_t *files, size_t files_len) {
     return relkvanu_line(handle, relkvanu_text_of(line, line_len), line_len, relkvanu_places_of(files, files_len), files_len);
 }
 
-static inline relkvanu_answer relkvanu_line_says_nullable(const uint8_t *line, size_t line_len, uint64_t *numbers, size_t numbers_len) {
+static inline RELKVANU_NODISCARD relkvanu_answer relkvanu_line_says_nullable(const uint8_t *line, size_t line_len, uint64_t *numbers, size_t numbers_len) {
     return relkvanu_line_says(relkvanu_text_of(line, line_len), line_len, relkvanu_places_of(numbers, numbers_len), numbers_len);
 }
 
-static inline relkvanu_answer relkvanu_line_call_nullable(const uint8_t *line, size_t line_len, relkvanu_call *call, uint64_t *first, size_t first_len, uint64_t *second, size_t second_len) {
+static inline RELKVANU_NODISCARD relkvanu_answer relkvanu_line_call_nullable(const uint8_t *line, size_t line_len, relkvanu_call *call, uint64_t *first, size_t first_len, uint64_t *second, size_t second_len) {
     return relkvanu_line_call(relkvanu_text_of(line, line_len), line_len, call, relkvanu_places_of(first, first_len), first_len, relkvanu_places_of(second, second_len), second_len);
 }
 
-static inline relkvanu_answer relkvanu_call_line_nullable(const relkvanu_call *call, const uint64_t *first, size_t first_len, const uint64_t *second, size_t second_len, uint8_t *line, size_t line_len) {
+static inline RELKVANU_NODISCARD relkvanu_answer relkvanu_call_line_nullable(const relkvanu_call *call, const uint64_t *first, size_t first_len, const uint64_t *second, size_t second_len, uint8_t *line, size_t line_len) {
     return relkvanu_call_line(call, relkvanu_list_of(first, first_len), first_len, relkvanu_list_of(second, second_len), second_len, relkvanu_bytes_of(line, line_len), line_len);
 }
 
-static inline relkvanu_answer relkvanu_opening_lines_nullable(const relkvanu_settings *settings, const uint64_t *shape, size_t shape_len, uint64_t now, uint8_t *lines, size_t lines_len) {
+static inline RELKVANU_NODISCARD relkvanu_answer relkvanu_opening_lines_nullable(const relkvanu_settings *settings, const uint64_t *shape, size_t shape_len, uint64_t now, uint8_t *lines, size_t lines_len) {
     return relkvanu_opening_lines(settings, relkvanu_list_of(shape, shape_len), shape_len, now, relkvanu_bytes_of(lines, lines_len), lines_len);
 }
 
-static inline relkvanu_answer relkvanu_save_nullable(relkvanu *handle, uint8_t *image, size_t image_len) {
+static inline RELKVANU_NODISCARD relkvanu_answer relkvanu_save_nullable(relkvanu *handle, uint8_t *image, size_t image_len) {
     return relkvanu_save(handle, relkvanu_bytes_of(image, image_len), image_len);
 }
 
-static inline relkvanu_answer relkvanu_open_saved_nullable(relkvanu *handle, const uint8_t *image, size_t image_len, uint64_t first_word, uint64_t second_word) {
+static inline RELKVANU_NODISCARD relkvanu_answer relkvanu_open_saved_nullable(relkvanu *handle, const uint8_t *image, size_t image_len, uint64_t first_word, uint64_t second_word) {
     return relkvanu_open_saved(handle, relkvanu_text_of(image, image_len), image_len, first_word, second_word);
 }
 
-static inline relkvanu_answer relkvanu_files_of_nullable(relkvanu *handle, uint64_t id, uint16_t vertex, uint16_t index, uint64_t *files, size_t files_len) {
+static inline RELKVANU_NODISCARD relkvanu_answer relkvanu_files_of_nullable(relkvanu *handle, uint64_t id, uint16_t vertex, uint16_t index, uint64_t *files, size_t files_len) {
     return relkvanu_files_of(handle, id, vertex, index, relkvanu_places_of(files, files_len), files_len);
 }
 
-static inline relkvanu_answer relkvanu_pins_of_nullable(relkvanu *handle, uint64_t id, uint64_t *files, size_t files_len) {
+static inline RELKVANU_NODISCARD relkvanu_answer relkvanu_pins_of_nullable(relkvanu *handle, uint64_t id, uint64_t *files, size_t files_len) {
     return relkvanu_pins_of(handle, id, relkvanu_places_of(files, files_len), files_len);
 }
 
-static inline relkvanu_answer relkvanu_taken_files_nullable(relkvanu *handle, uint64_t *files, size_t files_len) {
+static inline RELKVANU_NODISCARD relkvanu_answer relkvanu_taken_files_nullable(relkvanu *handle, uint64_t *files, size_t files_len) {
     return relkvanu_taken_files(handle, relkvanu_places_of(files, files_len), files_len);
 }
 

@@ -1,16 +1,44 @@
-# find_package(relkvanu) gives the targets relkvanu::relkvanu, the shared library, and relkvanu::static.
-get_filename_component(_relkvanu_prefix "${CMAKE_CURRENT_LIST_DIR}/../../.." ABSOLUTE)
+# find_package(relkvanu) gives the targets relkvanu::relkvanu, the shared library, and relkvanu::static. They are its components too.
+if(NOT CMAKE_SYSTEM_NAME STREQUAL "Linux" OR NOT CMAKE_SYSTEM_PROCESSOR MATCHES "^(x86_64|AMD64|amd64)$" OR NOT CMAKE_SIZEOF_VOID_P EQUAL 8)
+    set(relkvanu_FOUND FALSE)
+    set(relkvanu_NOT_FOUND_MESSAGE "this library is for Linux on x86-64, and the target is ${CMAKE_SYSTEM_NAME} on ${CMAKE_SYSTEM_PROCESSOR}")
+    return()
+endif()
+foreach(_relkvanu_component IN LISTS relkvanu_FIND_COMPONENTS)
+    if(NOT _relkvanu_component MATCHES "^(relkvanu|static)$")
+        set(relkvanu_${_relkvanu_component}_FOUND FALSE)
+        if(relkvanu_FIND_REQUIRED_${_relkvanu_component})
+            set(relkvanu_FOUND FALSE)
+            set(relkvanu_NOT_FOUND_MESSAGE "there is no component ${_relkvanu_component}, only relkvanu and static")
+            return()
+        endif()
+    else()
+        set(relkvanu_${_relkvanu_component}_FOUND TRUE)
+    endif()
+endforeach()
+
+# The libraries are two folders above this file, and the headers in the include of a folder above them.
+get_filename_component(_relkvanu_libraries "${CMAKE_CURRENT_LIST_DIR}/../.." ABSOLUTE)
+set(_relkvanu_prefix "${_relkvanu_libraries}")
+foreach(_relkvanu_step RANGE 3)
+    if(NOT EXISTS "${_relkvanu_prefix}/include/relkvanu.h")
+        get_filename_component(_relkvanu_prefix "${_relkvanu_prefix}/.." ABSOLUTE)
+    endif()
+endforeach()
 
 if(NOT TARGET relkvanu::relkvanu)
     add_library(relkvanu::relkvanu SHARED IMPORTED)
     set_target_properties(relkvanu::relkvanu PROPERTIES
-        IMPORTED_LOCATION "${_relkvanu_prefix}/lib/librelkvanu.so.0"
+        IMPORTED_LOCATION "${_relkvanu_libraries}/librelkvanu.so.0"
         IMPORTED_SONAME "librelkvanu.so.0"
         INTERFACE_INCLUDE_DIRECTORIES "${_relkvanu_prefix}/include")
     add_library(relkvanu::static STATIC IMPORTED)
     set_target_properties(relkvanu::static PROPERTIES
-        IMPORTED_LOCATION "${_relkvanu_prefix}/lib/librelkvanu.a"
+        IMPORTED_LOCATION "${_relkvanu_libraries}/librelkvanu.a"
         INTERFACE_INCLUDE_DIRECTORIES "${_relkvanu_prefix}/include")
 endif()
 
 unset(_relkvanu_prefix)
+unset(_relkvanu_libraries)
+unset(_relkvanu_component)
+unset(_relkvanu_step)

@@ -2,6 +2,7 @@
  * is shorter than its length, or files that nobody has written. The sanitizers tell none of these: the library is not compiled with
  * them. */
 #define _GNU_SOURCE
+#define RELKVANU_NODISCARD /* what is planted counts here, and no answer */
 #include "../../include/relkvanu.h"
 
 #include <pthread.h>

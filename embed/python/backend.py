@@ -1,7 +1,7 @@
 """Builds the package's wheel. So pip needs no index and no other package (PEP 517, PEP 427).
 
 The wheel has librelkvanu.so.0 beside the package. It comes from the folder that RELKVANU_LIB names, otherwise from `build`
-of this repository, where `make` leaves it.
+of this repository, where `make` leaves it. Without the library there is no wheel. The same files give the same bytes.
 """
 import base64
 import hashlib
@@ -10,7 +10,7 @@ import pathlib
 import re
 import sysconfig
 import zipfile
-from typing import Any, Dict, Optional
+from typing import Any, Dict
 
 HERE = pathlib.Path(__file__).resolve().parent
 LIBRARY = "librelkvanu.so.0"
@@ -23,27 +23,24 @@ def version() -> str:
     return found.group(1)
 
 
-def library() -> Optional[pathlib.Path]:
-    folder = pathlib.Path(os.environ.get("RELKVANU_LIB", HERE.parent.parent / "build"))
-    path = folder / LIBRARY
-    return path if path.is_file() else None
+def library() -> pathlib.Path:
+    path = pathlib.Path(os.environ.get("RELKVANU_LIB", HERE.parent.parent / "build")).resolve() / LIBRARY
+    if not path.is_file():
+        raise FileNotFoundError(f"{path} is not there: run make, or set RELKVANU_LIB to the folder that has the library")
+    return path
 
 
 def contents() -> Dict[str, bytes]:
     """The files of the wheel except its RECORD."""
     files = {f"relkvanu/{path.name}": path.read_bytes() for path in sorted((HERE / "relkvanu").glob("*.py"))}
     files["relkvanu/py.typed"] = b""
-    shared = library()
-    tag = "py3-none-any"
-    if shared is not None:
-        files[f"relkvanu/{LIBRARY}"] = shared.read_bytes()
-        tag = "py3-none-" + re.sub(r"[-.]", "_", sysconfig.get_platform())
+    files[f"relkvanu/{LIBRARY}"] = library().read_bytes()
+    tag = "py3-none-" + re.sub(r"[-.]", "_", sysconfig.get_platform())
     info = f"relkvanu-{version()}.dist-info"
     told = f"Metadata-Version: 2.1\nName: relkvanu\nVersion: {version()}\nRequires-Python: >=3.8\n"
     told += "Summary: The checkpoint coordinator of a stream processor\n"
     files[f"{info}/METADATA"] = told.encode()
-    pure = "true" if shared is None else "false"
-    files[f"{info}/WHEEL"] = f"Wheel-Version: 1.0\nGenerator: relkvanu\nRoot-Is-Purelib: {pure}\nTag: {tag}\n".encode()
+    files[f"{info}/WHEEL"] = f"Wheel-Version: 1.0\nGenerator: relkvanu\nRoot-Is-Purelib: false\nTag: {tag}\n".encode()
     return files
 
 
@@ -60,5 +57,8 @@ def build_wheel(wheel_directory: str, config_settings: Any = None, metadata_dire
     name = f"relkvanu-{version()}-{tag}.whl"
     with zipfile.ZipFile(os.path.join(wheel_directory, name), "w", zipfile.ZIP_DEFLATED) as wheel:
         for path, data in files.items():
-            wheel.writestr(path, data)
+            entry = zipfile.ZipInfo(path)  # of 1980, whatever the clock says
+            entry.external_attr = 0o644 << 16
+            entry.compress_type = zipfile.ZIP_DEFLATED
+            wheel.writestr(entry, data)
     return name

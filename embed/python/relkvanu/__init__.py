@@ -6,7 +6,7 @@ refused. All exceptions of the package are an Error.
 """
 from relkvanu import calls, lines
 from relkvanu.coordinator import (
-    BadArgument, BadLine, Closed, Coordinator, Error, OutOfMemory, OutOfRange, Refused, Settings, TooShort, version,
+    BadArgument, BadLine, Closed, Coordinator, Error, OutOfMemory, OutOfRange, Refused, Settings, TooShort, Unknown, version,
 )
 from relkvanu.discarder import Discarded, Discarder, Outbox, Patience
 from relkvanu.reads import Chosen, FileCounts, Kind, Live, Mode, Standing
@@ -20,6 +20,6 @@ __all__ = [
     "AckCompleted", "AckLate", "AckPending", "BadArgument", "BadLine", "Cancelled", "Chosen", "Closed", "Coordinator", "Counted",
     "DeclineAborted", "DeclineFailed", "DeclineLate", "Deleted", "Discarded", "Discarder", "Disposed", "Error", "Failed", "FileCounts", "HeldAtOnce",
     "HeldInterval", "HeldPause", "Kind", "Live", "Mode", "OutOfMemory", "OutOfRange", "Outbox", "Patience", "Refused", "Reply", "RestoredCheckpoint",
-    "RestoredFresh", "RestoredSavepoint", "SavepointTriggered", "Settings", "Shown", "Standing", "Taken", "TooShort", "Triggered", "Undeleted",
+    "RestoredFresh", "RestoredSavepoint", "SavepointTriggered", "Settings", "Shown", "Standing", "Taken", "TooShort", "Triggered", "Undeleted", "Unknown",
     "calls", "lines", "version",
 ]

@@ -6,7 +6,7 @@ import pathlib
 import secrets
 import threading
 from dataclasses import dataclass
-from typing import Any, Callable, Iterator, NoReturn, Optional, Sequence, Tuple, Union
+from typing import Any, Callable, Iterator, NoReturn, Optional, Sequence, Tuple, TypeVar, Union
 
 from relkvanu import header
 from relkvanu.reads import CHOSEN, LIVE, Chosen, FileCounts, Live, Mode, Standing
@@ -14,6 +14,7 @@ from relkvanu.replies import MADE, HeldAtOnce, Reply, Shown, Taken
 
 LIBRARY = "librelkvanu.so.0"
 U64 = ctypes.c_uint64
+T = TypeVar("T")
 DAY = 24 * 60 * 60 * 1000
 LAST_MOMENT = (1 << 62) - 1
 FAULTS = {
@@ -92,6 +93,19 @@ class Closed(Error):
     """The coordinator was closed."""
 
 
+class Unknown(Error):
+    """The library gave an answer that this package does not know, so it is of another version. After this exception alone the call may
+    have been made, if `code` is 0."""
+
+    def __init__(self, code: int, what: int) -> None:
+        super().__init__(code, what)
+        self.code = code
+        self.what = what
+
+    def __str__(self) -> str:
+        return f"version {version()} of the library gave an answer that the package does not know: code {self.code}, what {self.what}"
+
+
 @dataclass(frozen=True)
 class Settings:
     """The configuration. Durations are milliseconds. docs/RULES.md has the limits."""
@@ -105,9 +119,22 @@ class Settings:
     keep_on_cancel: bool = False
 
 
+def _check_version(library: ctypes.CDLL, path: str) -> None:
+    """Raises ImportError unless the first two numbers of its version are those of the package: before 1.0 each of these has an interface
+    of its own."""
+    library.relkvanu_version.restype = ctypes.c_char_p
+    told: str = library.relkvanu_version().decode()
+    if told.rpartition(".")[0] != header.VERSION.rpartition(".")[0]:
+        raise ImportError(
+            f"the package relkvanu {header.VERSION} can't use {path}, which is version {told} and has another interface: install version "
+            f"{header.VERSION} of the library",
+            name="relkvanu", path=path,
+        )
+
+
 def _loaded() -> ctypes.CDLL:
     """The library in the folder that RELKVANU_LIB names, else the one beside the package, else that of the system. Raises ImportError if
-    there is none, or if it lacks a function."""
+    there is none, if it lacks a function, or if it is of another version."""
     folder = os.environ.get("RELKVANU_LIB")
     beside = pathlib.Path(__file__).resolve().parent / LIBRARY
     if folder is not None:
@@ -116,6 +143,7 @@ def _loaded() -> ctypes.CDLL:
         path = str(beside) if beside.is_file() else LIBRARY
     try:
         library = ctypes.CDLL(path)
+        _check_version(library, path)
         for name, (result, parameters) in header.FUNCTIONS.items():
             function = getattr(library, name)
             function.argtypes, function.restype = parameters, result
@@ -166,7 +194,7 @@ def _settings(settings: Settings) -> header.relkvanu_settings:
 def _name(refusal: int) -> str:
     text = (ctypes.c_uint8 * 32)()
     length = _shared().relkvanu_refusal_text(refusal, text, len(text))
-    return bytes(text[:length]).decode()
+    return bytes(text[:length]).decode() or f"Unknown {refusal}"
 
 
 def _done(answer: header.relkvanu_answer) -> header.relkvanu_answer:
@@ -178,9 +206,26 @@ def _done(answer: header.relkvanu_answer) -> header.relkvanu_answer:
         raise OutOfMemory
     if answer.code == header.CLOSED:
         raise Closed
-    if answer.code == header.BAD_LINE:
+    if answer.code == header.BAD_LINE and answer.what in FAULTS:
         raise BadLine(FAULTS[answer.what])
-    raise BadArgument(ARGUMENTS[answer.what])
+    if answer.code == header.BAD_ARGUMENT and answer.what in ARGUMENTS:
+        raise BadArgument(ARGUMENTS[answer.what])
+    raise Unknown(answer.code, answer.what)
+
+
+def _made(answer: header.relkvanu_answer) -> Reply:
+    """The reply of an answer that is done."""
+    if answer.what not in MADE:
+        raise Unknown(answer.code, answer.what)
+    return MADE[answer.what](answer.a, answer.b)
+
+
+def _known(kind: Callable[[int], T], answer: header.relkvanu_answer) -> T:
+    """The enumeration's member for what an answer says."""
+    try:
+        return kind(_done(answer).what)
+    except ValueError:
+        raise Unknown(answer.code, answer.what) from None
 
 
 def _written(write: Callable[[Any, int], Any]) -> str:
@@ -203,6 +248,8 @@ def _shown(line: bytes) -> Optional[int]:
 
 def _live(answer: header.relkvanu_answer) -> Optional[Live]:
     live = _done(answer)
+    if live.what not in (*LIVE, header.LIVE_NONE):
+        raise Unknown(live.code, live.what)
     return Live(live.a, LIVE[live.what], live.b == 1) if live.what in LIVE else None
 
 
@@ -255,8 +302,7 @@ class Coordinator:
             return function(ctypes.byref(self._handle), *arguments)
 
     def _replied(self, name: str, *arguments: Any) -> Reply:
-        answer = _done(self._call(name, *arguments))
-        return MADE[answer.what](answer.a, answer.b)
+        return _made(_done(self._call(name, *arguments)))
 
     def _moved(self, name: str, *arguments: Any) -> Reply:
         """A call that may change what a timer waits for."""
@@ -383,12 +429,12 @@ class Coordinator:
                 raise TooShort(answer.a)
         if _done(answer).what == header.SKIPPED:
             return None
-        return Taken(tuple(files[: answer.a])) if answer.what == header.TAKEN else MADE[answer.what](answer.a, answer.b)
+        return Taken(tuple(files[: answer.a])) if answer.what == header.TAKEN else _made(answer)
 
     # Reads: none takes memory or changes anything. Each raises Closed after close(), and nothing else.
 
     def mode(self) -> Mode:
-        return Mode(_done(self._call("mode")).what)
+        return _known(Mode, self._call("mode"))
 
     def moment(self) -> int:
         """The greatest moment that the coordinator has seen. It takes an earlier one for this one."""
@@ -421,6 +467,8 @@ class Coordinator:
     def choice(self) -> Optional[Chosen]:
         """The record that a restore of the latest would begin from, or None if it would begin from nothing."""
         answer = _done(self._call("choice"))
+        if answer.what not in (*CHOSEN, header.CHOICE_FRESH):
+            raise Unknown(answer.code, answer.what)
         return Chosen(answer.a, CHOSEN[answer.what]) if answer.what in CHOSEN else None
 
     def live(self, place: int) -> Optional[Live]:
@@ -434,7 +482,7 @@ class Coordinator:
 
     def standing(self, id: int) -> Standing:
         """What a number is."""
-        return Standing(_done(self._call("standing", _u64(id))).what)
+        return _known(Standing, self._call("standing", _u64(id)))
 
     def files_of(self, id: int, vertex: int, index: int) -> Optional[Tuple[int, ...]]:
         """The files that a subtask acknowledged in a live record, ascending, or None if it has not acknowledged in one."""

@@ -4,7 +4,7 @@ from dataclasses import dataclass
 from typing import Optional, Sequence, Tuple, Union
 
 from relkvanu import header
-from relkvanu.coordinator import U64, BadArgument, Settings, _done, _settings, _shared, _text, _u64, _within, _words, _written
+from relkvanu.coordinator import U64, BadArgument, Settings, Unknown, _done, _settings, _shared, _text, _u64, _within, _words, _written
 
 
 @dataclass(frozen=True)
@@ -61,6 +61,8 @@ def line_says(line: bytes) -> Line:
         return Start(*of)
     if answer.what == header.LINE_ALL:
         return All(*of)
+    if answer.what not in (header.LINE_SKIP, header.LINE_CALL):
+        raise Unknown(answer.code, answer.what)
     return Skip() if answer.what == header.LINE_SKIP else Call()
 
 

@@ -8,7 +8,7 @@ import tempfile
 import unittest
 
 import relkvanu
-from relkvanu import BadArgument, BadLine, Closed, Coordinator, Error, OutOfMemory, OutOfRange, Refused, Settings, TooShort, Triggered
+from relkvanu import BadArgument, BadLine, Closed, Coordinator, Error, OutOfMemory, OutOfRange, Refused, Settings, TooShort, Triggered, Unknown, header
 
 ALL = [
     (Refused("NotRunning", None), "NotRunning", ("name", "file")),
@@ -19,6 +19,7 @@ ALL = [
     (OutOfRange("8 has more than 3 bits"), "8 has more than 3 bits", ()),
     (OutOfMemory(), "", ()),
     (Closed(), "", ()),
+    (Unknown(0, 999), f"version {header.VERSION} of the library gave an answer that the package does not know: code 0, what 999", ("code", "what")),
 ]
 
 

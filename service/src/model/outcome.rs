@@ -97,6 +97,7 @@ fn answer_json(answer: Answer) -> Value {
         Answer::Deleted(file) => json!({"deleted": file.to_string()}),
         Answer::Undeleted(file) => json!({"undeleted": file.to_string()}),
         Answer::Counted { file, uses } => json!({"counted": file.to_string(), "uses": uses}),
+        other => json!({"unknown": other.to_string()}), // of a library that is newer than this program
     }
 }
 
@@ -155,5 +156,6 @@ fn restored_json(from: Choice, released: u64) -> Value {
         Choice::Checkpoint(id) => json!({"restore": "checkpoint", "id": id, "released": released}),
         Choice::Savepoint(id) => json!({"restore": "savepoint", "id": id, "released": released}),
         Choice::Fresh => json!({"restore": "fresh", "released": released}),
+        other => json!({"restore": other.to_string(), "released": released}),
     }
 }

@@ -1,13 +1,17 @@
 //! What calls and reads return.
+use crate::fault::Fault;
 use relkvanu_sys as sys;
 use std::fmt;
 
 /// What the job would restart from.
 #[derive(Clone, Copy, Debug, PartialEq, Eq, Hash)]
+#[non_exhaustive]
 pub enum Choice {
     Checkpoint(u64),
     Savepoint(u64),
     Fresh,
+    /// A number that this crate does not know: the library is of another version.
+    Unknown(u32),
 }
 
 /// The record as a script names it, as "checkpoint 4" or "fresh".
@@ -17,34 +21,42 @@ impl fmt::Display for Choice {
             Choice::Checkpoint(id) => write!(f, "checkpoint {id}"),
             Choice::Savepoint(id) => write!(f, "savepoint {id}"),
             Choice::Fresh => f.write_str("fresh"),
+            Choice::Unknown(what) => write!(f, "unknown {what}"),
         }
     }
 }
 
 /// What the job is doing.
 #[derive(Clone, Copy, Debug, PartialEq, Eq, Hash)]
+#[non_exhaustive]
 pub enum Mode {
     Running,
     /// Too many checkpoints failed in a row: a restore starts the job again.
     Failed,
     /// The job has ended for good.
     Cancelled,
+    /// A number that this crate does not know.
+    Unknown(u32),
 }
 
 /// Whether a record is a checkpoint, which belongs to the coordinator, or a savepoint, which belongs to a user.
 #[derive(Clone, Copy, Debug, PartialEq, Eq, Hash)]
+#[non_exhaustive]
 pub enum Kind {
     Checkpoint,
     Savepoint,
+    /// A number that this crate does not know.
+    Unknown(u32),
 }
 
 /// "checkpoint" or "savepoint".
 impl fmt::Display for Kind {
     fn fmt(&self, f: &mut fmt::Formatter<'_>) -> fmt::Result {
-        f.write_str(match self {
-            Kind::Checkpoint => "checkpoint",
-            Kind::Savepoint => "savepoint",
-        })
+        match self {
+            Kind::Checkpoint => f.write_str("checkpoint"),
+            Kind::Savepoint => f.write_str("savepoint"),
+            Kind::Unknown(what) => write!(f, "unknown {what}"),
+        }
     }
 }
 
@@ -58,6 +70,7 @@ pub struct Live {
 
 /// What a number is.
 #[derive(Clone, Copy, Debug, PartialEq, Eq, Hash)]
+#[non_exhaustive]
 pub enum Standing {
     /// A live record has it, and lacks an acknowledgement.
     Pending,
@@ -69,6 +82,8 @@ pub enum Standing {
     NotYet,
     /// It is below the first number of the opening.
     Never,
+    /// A number that this crate does not know.
+    Unknown(u32),
 }
 
 /// How many files are in use by live records (each counted once), wait for deletion, and were fetched for deletion and
@@ -82,6 +97,7 @@ pub struct FileCounts {
 
 /// The answer to a call that was made.
 #[derive(Clone, Copy, Debug, PartialEq, Eq, Hash)]
+#[non_exhaustive]
 pub enum Answer {
     /// A checkpoint was triggered, after this many records expired.
     Triggered {
@@ -176,9 +192,9 @@ impl fmt::Display for Answer {
 }
 
 /// The answer to a call that was made and that writes to no buffer.
-pub(crate) fn answer(told: sys::relkvanu_answer) -> Answer {
+pub(crate) fn answer(told: sys::relkvanu_answer) -> Result<Answer, Fault> {
     let sys::relkvanu_answer { what, a, b, .. } = told;
-    match what {
+    Ok(match what {
         sys::RELKVANU_TICK_TRIGGERED => Answer::Triggered { expired: a, id: b },
         sys::RELKVANU_TICK_HELD_INTERVAL => Answer::HeldInterval { expired: a },
         sys::RELKVANU_TICK_HELD_AT_ONCE => Answer::HeldAtOnce { expired: a },
@@ -205,8 +221,8 @@ pub(crate) fn answer(told: sys::relkvanu_answer) -> Answer {
         sys::RELKVANU_DELETED => Answer::Deleted(a),
         sys::RELKVANU_UNDELETED => Answer::Undeleted(a),
         sys::RELKVANU_COUNTED => Answer::Counted { file: a, uses: b },
-        other => unreachable!("reply {other} of a call without a buffer"),
-    }
+        _ => return Err(Fault::unknown(told)),
+    })
 }
 
 fn restored(from: Choice, released: u64) -> Answer {
@@ -218,7 +234,7 @@ pub(crate) fn mode(told: sys::relkvanu_answer) -> Mode {
         sys::RELKVANU_MODE_RUNNING => Mode::Running,
         sys::RELKVANU_MODE_FAILED => Mode::Failed,
         sys::RELKVANU_MODE_CANCELLED => Mode::Cancelled,
-        other => unreachable!("mode {other}"),
+        other => Mode::Unknown(other),
     }
 }
 
@@ -227,7 +243,7 @@ pub(crate) fn choice(told: sys::relkvanu_answer) -> Choice {
         sys::RELKVANU_CHOICE_CHECKPOINT => Choice::Checkpoint(told.a),
         sys::RELKVANU_CHOICE_SAVEPOINT => Choice::Savepoint(told.a),
         sys::RELKVANU_CHOICE_FRESH => Choice::Fresh,
-        other => unreachable!("choice {other}"),
+        other => Choice::Unknown(other),
     }
 }
 
@@ -238,7 +254,7 @@ pub(crate) fn standing(told: sys::relkvanu_answer) -> Standing {
         sys::RELKVANU_STANDS_ENDED => Standing::Ended,
         sys::RELKVANU_STANDS_NOT_YET => Standing::NotYet,
         sys::RELKVANU_STANDS_NEVER => Standing::Never,
-        other => unreachable!("standing {other}"),
+        other => Standing::Unknown(other),
     }
 }
 
@@ -247,7 +263,7 @@ pub(crate) fn live(told: sys::relkvanu_answer) -> Option<Live> {
         sys::RELKVANU_LIVE_CHECKPOINT => Kind::Checkpoint,
         sys::RELKVANU_LIVE_SAVEPOINT => Kind::Savepoint,
         sys::RELKVANU_LIVE_NONE => return None,
-        other => unreachable!("kind {other}"),
+        other => Kind::Unknown(other),
     };
     Some(Live {
         id: told.a,

@@ -1,5 +1,5 @@
 //! A call as a line of a log (`docs/SCRIPT.md`), and the call that a line says.
-use crate::fault::{done, text, Fault};
+use crate::fault::{check_library, done, text, Fault};
 use relkvanu_sys as sys;
 use std::num::NonZeroU64;
 
@@ -63,6 +63,7 @@ impl<'a> Call<'a> {
         first: &'a mut Vec<u64>,
         second: &'a mut Vec<u64>,
     ) -> Result<Option<Call<'a>>, Fault> {
+        check_library()?;
         let (told, call) = loop {
             let (told, call) = said(line, first, second);
             if told.code != sys::RELKVANU_TOO_SHORT {
@@ -74,11 +75,11 @@ impl<'a> Call<'a> {
         let (first, second) = (&first[..told.a as usize], &second[..told.b as usize]);
         Ok(match told.what {
             sys::RELKVANU_SKIPPED => None,
-            _ => Some(Call::with(&call, first, second)),
+            _ => Some(Call::with(&call, first, second).ok_or_else(|| Fault::unknown(told))?),
         })
     }
 
-    fn with(call: &sys::relkvanu_call, first: &'a [u64], second: &'a [u64]) -> Call<'a> {
+    fn with(call: &sys::relkvanu_call, first: &'a [u64], second: &'a [u64]) -> Option<Call<'a>> {
         let &sys::relkvanu_call {
             kind,
             vertex,
@@ -87,7 +88,7 @@ impl<'a> Call<'a> {
             number,
         } = call;
         let subtask = (vertex, index);
-        match kind {
+        Some(match kind {
             sys::RELKVANU_CALL_TICK => Call::Tick { now },
             sys::RELKVANU_CALL_SAVEPOINT => Call::Savepoint { now },
             sys::RELKVANU_CALL_ACK => Call::Ack {
@@ -114,8 +115,8 @@ impl<'a> Call<'a> {
             sys::RELKVANU_CALL_UNDELETED => Call::Undeleted { file: number },
             sys::RELKVANU_CALL_SHOW => Call::Show { id: number },
             sys::RELKVANU_CALL_COUNT => Call::Count { file: number },
-            other => unreachable!("call {other}"),
-        }
+            _ => return None,
+        })
     }
 
     /// The line of the call, without a newline. A line that would be too long is a [`Fault::BadLine`]. None is cut.
@@ -126,6 +127,7 @@ impl<'a> Call<'a> {
         {
             return Err(Fault::BadShape);
         }
+        check_library()?;
         let call = self.fields();
         let (first, second) = self.lists();
         text(|bytes| {

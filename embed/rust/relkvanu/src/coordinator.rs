@@ -1,6 +1,6 @@
 //! The coordinator of one job, for one thread at a time.
 use crate::answer::{self, Answer, Choice, FileCounts, Live, Mode, Standing};
-use crate::fault::{done, text, text_in, Fault, Refusal};
+use crate::fault::{check_library, done, text, text_in, Fault, Refusal};
 use relkvanu_sys as sys;
 use std::cell::{Cell, UnsafeCell};
 use std::collections::hash_map::RandomState;
@@ -76,7 +76,7 @@ impl Drop for Coordinator {
 type Called = Result<Answer, Fault>;
 
 fn called(told: sys::relkvanu_answer) -> Called {
-    done(told).map(answer::answer)
+    done(told).and_then(answer::answer)
 }
 
 /// Calls. A call that returns a [`Fault`] has changed nothing.
@@ -120,6 +120,7 @@ impl Coordinator {
     fn opened(
         open: impl FnOnce(*mut sys::relkvanu, u64, u64) -> sys::relkvanu_answer,
     ) -> Result<Coordinator, Fault> {
+        check_library()?;
         let opened = Coordinator {
             handle: UnsafeCell::new(sys::relkvanu {
                 state: std::ptr::null_mut(),

@@ -6,6 +6,7 @@ use std::fmt;
 
 /// Why a call is refused: the first of these that applies.
 #[derive(Clone, Copy, Debug, PartialEq, Eq, Hash)]
+#[non_exhaustive]
 pub enum Refusal {
     MomentTooLarge,
     NotRunning,
@@ -25,6 +26,8 @@ pub enum Refusal {
     NotTaken,
     NoSuchRecord,
     IdsUsedUp,
+    /// A number that this crate does not know: the library is of another version.
+    Unknown(u32),
 }
 
 impl Refusal {
@@ -45,7 +48,7 @@ impl Refusal {
             sys::RELKVANU_NOT_TAKEN => Refusal::NotTaken,
             sys::RELKVANU_NO_SUCH_RECORD => Refusal::NoSuchRecord,
             sys::RELKVANU_IDS_USED_UP => Refusal::IdsUsedUp,
-            other => unreachable!("refusal {other}"),
+            other => Refusal::Unknown(other),
         }
     }
 
@@ -67,6 +70,7 @@ impl Refusal {
             Refusal::NotTaken => sys::RELKVANU_NOT_TAKEN,
             Refusal::NoSuchRecord => sys::RELKVANU_NO_SUCH_RECORD,
             Refusal::IdsUsedUp => sys::RELKVANU_IDS_USED_UP,
+            Refusal::Unknown(what) => *what,
         }
     }
 
@@ -84,7 +88,10 @@ impl Refusal {
         // SAFETY: the buffer is this function's own, and has as many bytes as is said.
         let len =
             unsafe { sys::relkvanu_refusal_text(self.number(), text.as_mut_ptr(), text.len()) };
-        String::from_utf8_lossy(&text[..len]).into_owned()
+        match text.get(..len) {
+            None | Some([]) => format!("Unknown {}", self.number()),
+            Some(name) => String::from_utf8_lossy(name).into_owned(),
+        }
     }
 }
 
@@ -101,8 +108,9 @@ impl fmt::Display for Refusal {
 
 impl Error for Refusal {}
 
-/// Why a call has changed nothing.
+/// Why a call has changed nothing. After [`Unknown`](Fault::Unknown) alone it may have been made.
 #[derive(Clone, Copy, Debug, PartialEq, Eq, Hash)]
+#[non_exhaustive]
 pub enum Fault {
     /// The call was refused.
     Refused(Refusal),
@@ -122,6 +130,30 @@ pub enum Fault {
     BadLine(LineFault),
     /// A `take` line would fetch this many files, and the buffer has fewer places.
     TooShort { places: u64 },
+    /// The library that is linked has this version, which does not fit the crate's.
+    OtherLibrary { library: &'static str },
+    /// The library gave an answer that this crate does not know, so it is of another version.
+    Unknown { code: u32, what: u32 },
+}
+
+impl Fault {
+    pub(crate) fn unknown(told: sys::relkvanu_answer) -> Fault {
+        Fault::Unknown {
+            code: told.code,
+            what: told.what,
+        }
+    }
+}
+
+/// Says whether the linked library fits the header that the crate was made from: the first two numbers of the versions are the
+/// same.
+pub(crate) fn check_library() -> Result<(), Fault> {
+    let series = |version: &'static str| version.rsplit_once('.').map(|(series, _)| series);
+    let library = crate::version();
+    match series(library) == series(sys::RELKVANU_VERSION) {
+        true => Ok(()),
+        false => Err(Fault::OtherLibrary { library }),
+    }
 }
 
 impl From<Refusal> for Fault {
@@ -142,6 +174,16 @@ impl fmt::Display for Fault {
             Fault::BadImage => f.write_str("the bytes are no image of a coordinator"),
             Fault::BadLine(why) => write!(f, "the line can't be read: {why}"),
             Fault::TooShort { places } => write!(f, "the buffer has to have {places} places"),
+            Fault::OtherLibrary { library } => write!(
+                f,
+                "the crate is for version {} of the library, and version {library}, which is linked, has another interface",
+                sys::RELKVANU_VERSION
+            ),
+            Fault::Unknown { code, what } => write!(
+                f,
+                "version {} of the library gave an answer that the crate does not know: code {code}, what {what}",
+                crate::version()
+            ),
         }
     }
 }
@@ -168,7 +210,7 @@ pub(crate) fn done(told: sys::relkvanu_answer) -> Result<sys::relkvanu_answer, F
         (sys::RELKVANU_BAD_ARGUMENT, sys::RELKVANU_BAD_MOMENT) => Fault::BadMoment,
         (sys::RELKVANU_BAD_ARGUMENT, sys::RELKVANU_BAD_FIRST) => Fault::BadFirst,
         (sys::RELKVANU_BAD_ARGUMENT, sys::RELKVANU_BAD_IMAGE) => Fault::BadImage,
-        (code, what) => unreachable!("code {code} {what} of an open handle"),
+        _ => Fault::unknown(told),
     })
 }
 

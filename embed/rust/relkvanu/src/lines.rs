@@ -2,13 +2,14 @@
 use crate::answer::{self, Answer};
 use crate::call::Call;
 use crate::coordinator::{Coordinator, Settings};
-use crate::fault::{done, text, Fault};
+use crate::fault::{check_library, done, text, Fault};
 use relkvanu_sys as sys;
 use std::error::Error;
 use std::fmt;
 
 /// What is wrong with a line: the first fault from the left.
 #[derive(Clone, Copy, Debug, PartialEq, Eq, Hash)]
+#[non_exhaustive]
 pub enum LineFault {
     /// It has more than 131,072 bytes.
     TooLong,
@@ -22,6 +23,8 @@ pub enum LineFault {
     Extra,
     /// It was read, and makes no call: a `config`, `job`, `start` or `all` line.
     NoCall,
+    /// A number that this crate does not know: the library is of another version.
+    Unknown(u32),
 }
 
 impl LineFault {
@@ -33,7 +36,7 @@ impl LineFault {
             sys::RELKVANU_FAULT_NUMBER => LineFault::Number,
             sys::RELKVANU_FAULT_EXTRA => LineFault::Extra,
             sys::RELKVANU_FAULT_NO_CALL => LineFault::NoCall,
-            other => unreachable!("line fault {other}"),
+            other => LineFault::Unknown(other),
         }
     }
 }
@@ -61,6 +64,7 @@ pub enum Said<'a> {
 
 /// Which line it is, with the numbers of one that makes no call.
 #[derive(Clone, Debug, PartialEq, Eq)]
+#[non_exhaustive]
 pub enum Line {
     Skip,
     Config(Settings),
@@ -79,6 +83,7 @@ pub enum Line {
 impl Line {
     /// What the bytes before a newline say. Checks no number against the limits of a job.
     pub fn of(line: &[u8]) -> Result<Line, Fault> {
+        check_library()?;
         let mut numbers = vec![0; 8];
         let says = loop {
             // SAFETY: the slice and the buffer outlive the call, and have as many elements as is said.
@@ -101,35 +106,32 @@ impl Line {
             (sys::RELKVANU_LINE_CALL, _) => Line::Call,
             (sys::RELKVANU_LINE_JOB, _) => Line::Job(numbers),
             (sys::RELKVANU_LINE_START, [now]) => Line::Start(*now),
-            (sys::RELKVANU_LINE_CONFIG, numbers) => Line::Config(settings(numbers)),
+            (
+                sys::RELKVANU_LINE_CONFIG,
+                [interval, pause, at_once, timeout, tolerable, retained, keep],
+            ) => Line::Config(Settings {
+                interval: *interval,
+                pause: *pause,
+                at_once: *at_once,
+                timeout: *timeout,
+                tolerable: *tolerable,
+                retained: *retained,
+                keep_on_cancel: *keep != 0,
+            }),
             (sys::RELKVANU_LINE_ALL, [now, id, threads, first]) => Line::All {
                 now: *now,
                 id: *id,
                 threads: *threads,
                 first: *first,
             },
-            (other, _) => unreachable!("line {other}"),
+            _ => return Err(Fault::unknown(says)),
         })
-    }
-}
-
-fn settings(numbers: &[u64]) -> Settings {
-    let [interval, pause, at_once, timeout, tolerable, retained, keep] = *numbers else {
-        unreachable!("a config line has {} numbers", numbers.len())
-    };
-    Settings {
-        interval,
-        pause,
-        at_once,
-        timeout,
-        tolerable,
-        retained,
-        keep_on_cancel: keep != 0,
     }
 }
 
 /// The lines `config`, `job` and `start` of a coordinator whose first record has the number 1, each with its newline.
 pub fn opening_lines(settings: &Settings, shape: &[u64], now: u64) -> Result<String, Fault> {
+    check_library()?;
     let settings = settings.into();
     text(|bytes| {
         // SAFETY: the settings, the slice and the buffer outlive the call, and have as many elements as is said.
@@ -173,7 +175,7 @@ impl Coordinator {
         Ok(match told.what {
             sys::RELKVANU_SKIPPED => Said::Skipped,
             sys::RELKVANU_TAKEN => Said::Taken(&files[..told.a as usize]),
-            _ => Said::Called(answer::answer(told)),
+            _ => Said::Called(answer::answer(told)?),
         })
     }
 }

@@ -1,0 +1,362 @@
+package relkvanu_test
+
+import (
+	"bytes"
+	"errors"
+	"fmt"
+	"math"
+	"os"
+	"runtime"
+	"strings"
+	"sync"
+	"testing"
+	"time"
+
+	"relkvanu"
+)
+
+const day = 24 * 60 * 60 * 1000
+
+func TestWhatACoordinatorIsNotOpenedWith(t *testing.T) {
+	one, good := []uint64{1}, relkvanu.Every(1000)
+	for _, it := range []struct{ err, wanted error }{
+		{errorOf(relkvanu.Open(relkvanu.Every(9), one, 0, 1)), relkvanu.BadConfig},
+		{errorOf(relkvanu.Open(good, nil, 0, 1)), relkvanu.BadShape},
+		{errorOf(relkvanu.Open(good, []uint64{4097}, 0, 1)), relkvanu.BadShape},
+		{errorOf(relkvanu.Open(good, one, 1<<62, 1)), relkvanu.BadMoment},
+		{errorOf(relkvanu.Open(good, one, 0, 0)), relkvanu.BadFirst},
+		{errorOf(relkvanu.OpenSaved(nil)), relkvanu.BadImage},
+	} {
+		if !errors.Is(it.err, it.wanted) {
+			t.Errorf("%v, not %v", it.err, it.wanted)
+		}
+	}
+	must(relkvanu.Open(good, one, 1<<62-1, 1<<62-1)).Close()
+}
+
+func TestErrorsAreFoundAndNamed(t *testing.T) {
+	job := opened(2)
+	defer job.Close()
+	must(job.Tick(1000))
+	_, err := job.Ack(1000, 1, relkvanu.Subtask{}, nil, []uint64{8, 7})
+	var refused *relkvanu.Refused
+	if !errors.Is(err, relkvanu.FileGone) || errors.Is(err, relkvanu.NameTaken) || !errors.As(err, &refused) || refused.File != 7 {
+		t.Error(err)
+	}
+	var why relkvanu.Refusal
+	if !errors.As(err, &why) || why != relkvanu.FileGone {
+		t.Error(why)
+	}
+	equal(t, err.Error(), "relkvanu: the call is refused: FileGone 7")
+	equal(t, job.Deleted(7).Error(), "relkvanu: the call is refused: NotTaken")
+	equal(t, relkvanu.Refusal(99).String(), "refusal 99")
+	equal(t, relkvanu.LineFault(99).String(), "number 99")
+	equal(t, relkvanu.BadShape.Error(), "relkvanu: an argument is outside its limits: BadShape")
+	equal(t, errorOf(job.RestoreSavepoint(0, 0, nil)), error(relkvanu.BadSavepoint))
+	equal(t, errorOf(job.Restore(0, []uint64{})), error(relkvanu.BadShape))
+}
+
+// The names are those of the header, in its order.
+func TestRefusalsHaveTheirNames(t *testing.T) {
+	names := strings.Fields("MomentTooLarge NotRunning TooManyFiles RepeatedFile UnknownCheckpoint UnknownSubtask AlreadyAcknowledged NameTaken " +
+		"FileGone NoSuchSavepoint InUse TooManySavepoints NotTaken NoSuchRecord IdsUsedUp")
+	all := []relkvanu.Refusal{
+		relkvanu.MomentTooLarge, relkvanu.NotRunning, relkvanu.TooManyFiles, relkvanu.RepeatedFile, relkvanu.UnknownCheckpoint,
+		relkvanu.UnknownSubtask, relkvanu.AlreadyAcknowledged, relkvanu.NameTaken, relkvanu.FileGone, relkvanu.NoSuchSavepoint,
+		relkvanu.InUse, relkvanu.TooManySavepoints, relkvanu.NotTaken, relkvanu.NoSuchRecord, relkvanu.IDsUsedUp,
+	}
+	for place, it := range all {
+		equal(t, it.String(), names[place])
+	}
+}
+
+func TestAMomentThatIsFarAheadIsRefused(t *testing.T) {
+	job := opened(1)
+	defer job.Close()
+	must(job.Tick(1000))
+	late := uint64(1000 + 600_000 + day + 1) // a timer may wait until checkpoint 1 expires
+	image := must(job.Save())
+	first := relkvanu.Subtask{}
+	for _, err := range []error{
+		errorOf(job.Tick(late)), errorOf(job.Savepoint(late)), errorOf(job.Ack(late, 1, first, []uint64{1}, nil)), errorOf(job.Decline(late, 1, first)),
+		errorOf(job.Restore(late, nil)), errorOf(job.Cancel(late)), errorOf(job.Tick(1<<62 - 1)), errorOf(job.Tick(1 << 62)), errorOf(job.Tick(math.MaxUint64)),
+	} {
+		if !errors.Is(err, relkvanu.MomentTooLarge) {
+			t.Error(err)
+		}
+	}
+	if !bytes.Equal(image, must(job.Save())) {
+		t.Error("a refused call has changed something")
+	}
+	must(job.Ack(late-1, 1, first, []uint64{1}, nil))
+	job.SetMostAhead(2 * day)
+	must(job.Tick(late + day))
+	equal(t, must(job.Moment()), late+day)
+}
+
+func TestATimerThatWaitsForLongIsNotAhead(t *testing.T) {
+	job := must(relkvanu.Open(relkvanu.Settings{Interval: 100 * day, AtOnce: 1, Timeout: 200 * day, Retained: 1}, []uint64{1}, 0, 1))
+	defer job.Close()
+	equal(t, must(job.Tick(must(job.Due()))), relkvanu.Ticked{End: relkvanu.Triggered, ID: 1})
+	equal(t, must(job.Tick(300*day)).Expired, 1)
+}
+
+func TestALineOfALogIsNotChecked(t *testing.T) {
+	job := opened(1)
+	defer job.Close()
+	must(job.Line([]byte("tick 1000000000000")))
+	equal(t, must(job.Moment()), 1000000000000)
+	must(job.Tick(1000000000000 + day))
+}
+
+// everyCall makes each call and read.
+func everyCall(job *relkvanu.Coordinator) []error {
+	it := relkvanu.Subtask{}
+	_, _, live := job.Live(0)
+	_, _, from := job.LiveFrom(0)
+	_, _, of := job.FilesOf(1, it)
+	_, _, waiting := job.WaitingFile(0)
+	_, _, missing := job.Missing(1)
+	_, _, expiry := job.OldestExpiry()
+	_, _, next := job.NextTick(relkvanu.Ticked{})
+	return []error{
+		errorOf(job.Tick(1000)), errorOf(job.Savepoint(1000)), errorOf(job.Ack(1000, 1, it, []uint64{1}, nil)), errorOf(job.Decline(1000, 1, it)),
+		errorOf(job.Dispose(1)), errorOf(job.Restore(1000, nil)), errorOf(job.Restore(1000, []uint64{2})), errorOf(job.Restore(1000, []uint64{})),
+		errorOf(job.RestoreSavepoint(1000, 1, nil)), errorOf(job.Cancel(1000)), errorOf(job.Take(make([]uint64, 1))), job.Deleted(1), job.Undeleted(1),
+		errorOf(job.Show(1)), errorOf(job.Count(1)), errorOf(job.Save()), errorOf(job.Line([]byte("tick 1000"))), errorOf(job.Line([]byte("show 1"))),
+		errorOf(job.Mode()), errorOf(job.Moment()), errorOf(job.Due()), errorOf(job.Choice()), errorOf(job.Standing(1)), errorOf(job.PinsOf(1)),
+		errorOf(job.TakenFiles()), errorOf(job.FileCounts()), live, from, of, waiting, missing, expiry, next,
+	}
+}
+
+func TestAClosedOneStaysClosed(t *testing.T) {
+	closed := opened(1)
+	equal(t, closed.Close(), nil)
+	equal(t, closed.Close(), nil)
+	var zero relkvanu.Coordinator
+	var escaped *relkvanu.Coordinator
+	open := opened(1)
+	defer open.Close()
+	equal(t, open.Locked(func(held *relkvanu.Coordinator) error { escaped = held; return nil }), nil)
+	for name, job := range map[string]*relkvanu.Coordinator{"closed": closed, "zero": &zero, "nil": nil, "escaped": escaped} {
+		for place, err := range everyCall(job) {
+			if err != relkvanu.ErrClosed {
+				t.Errorf("%s: call %d: %v", name, place, err)
+			}
+		}
+		equal(t, job.Close(), nil)
+		job.SetMostAhead(1)
+		<-job.Called(0)
+	}
+	must(open.Tick(0))
+}
+
+func TestAJobIsOpenedAnewFromItsLastCheckpoint(t *testing.T) {
+	first, second := relkvanu.Subtask{}, relkvanu.Subtask{Index: 1}
+	job := opened(2)
+	must(job.Tick(1000))
+	must(job.Ack(1000, 1, first, []uint64{1, 2}, nil))
+	must(job.Ack(1000, 1, second, []uint64{3}, []uint64{2}))
+	files := must(must(job.Show(1)).Files())
+	job.Close()
+	job = must(relkvanu.Open(relkvanu.Every(1000), []uint64{2}, 0, 2))
+	defer job.Close()
+	equal(t, must(job.Tick(2000)).ID, 2)
+	known := map[uint64]bool{}
+	for _, it := range []relkvanu.Subtask{first, second} {
+		var fresh, reused []uint64
+		for _, file := range files[it] {
+			if known[file] {
+				reused = append(reused, file)
+			} else {
+				fresh = append(fresh, file)
+			}
+			known[file] = true
+		}
+		must(job.Ack(2000, 2, it, fresh, reused))
+	}
+	equal(t, fmt.Sprint(must(must(job.Show(2)).Files())), "map[0.0:[1 2] 0.1:[2 3]]")
+	equal(t, must(job.Count(2)).Uses, 2)
+	equal(t, must(job.Restore(3000, nil)), relkvanu.Restored{From: relkvanu.Choice{Kind: relkvanu.Checkpoint, ID: 2}})
+}
+
+func TestMetadataThatIsLongerThanTheFirstBuffer(t *testing.T) {
+	job := opened(1)
+	defer job.Close()
+	must(job.Tick(1000))
+	files := make([]uint64, 1000)
+	for place := range files {
+		files[place] = math.MaxUint64 - 999 + uint64(place)
+	}
+	must(job.Ack(1000, 1, relkvanu.Subtask{}, files, nil))
+	shown := must(job.Show(1))
+	equal(t, fmt.Sprint(must(shown.Files())), fmt.Sprint(map[relkvanu.Subtask][]uint64{{}: files}))
+	told := must(shown.Metadata())
+	equal(t, fmt.Sprintf("%+v", told)[:67], "{ID:1 Kind:checkpoint State:done Started:1000 Shape:[1] Missing:0 A")
+}
+
+func TestTheNextTickIsWhenSomethingCanHappen(t *testing.T) {
+	job := must(relkvanu.Open(relkvanu.Settings{Interval: 1000, AtOnce: 1, Timeout: 5000, Retained: 1}, []uint64{1}, 0, 1))
+	defer job.Close()
+	next := func(last relkvanu.Ticked) string {
+		moment, is, err := job.NextTick(last)
+		return fmt.Sprint(moment, is, err)
+	}
+	equal(t, next(must(job.Tick(0))), "1000 true <nil>")
+	equal(t, next(must(job.Tick(1000))), "2000 true <nil>")
+	held := must(job.Tick(2000))
+	equal(t, held, relkvanu.Ticked{End: relkvanu.HeldAtOnce})
+	equal(t, next(held), "6000 true <nil>")
+	equal(t, next(must(job.Tick(6000))), "0 false <nil>")
+	equal(t, errors.Is(errorOf(job.Tick(7000)), relkvanu.NotRunning), true)
+	equal(t, next(relkvanu.Ticked{}), "0 false <nil>")
+	must(job.Restore(7000, nil))
+	equal(t, next(must(job.Tick(7000))), "8000 true <nil>")
+}
+
+func TestACallWakesWhoWaitsAndAReportDoesNot(t *testing.T) {
+	job := cancelled()
+	seen := job.Calls()
+	must(job.Take(make([]uint64, 1)))
+	equal(t, job.Deleted(1), nil)
+	equal(t, job.Calls(), seen)
+	waits := []<-chan struct{}{job.Called(seen), job.Called(seen)}
+	select {
+	case <-waits[0]:
+		t.Error("a report wakes")
+	case <-time.After(20 * time.Millisecond):
+	}
+	equal(t, errors.Is(errorOf(job.Tick(2000)), relkvanu.NotRunning), true)
+	<-waits[0]
+	<-waits[1]
+	<-job.Called(seen)
+	again := job.Called(job.Calls())
+	job.Close()
+	<-again
+}
+
+func TestCallsUnderOneLockHaveNoneBetween(t *testing.T) {
+	job := opened(1)
+	defer job.Close()
+	other := make(chan error)
+	err := job.Locked(func(held *relkvanu.Coordinator) error {
+		must(held.Tick(1000))
+		go func() { other <- errorOf(job.Ack(1000, 1, relkvanu.Subtask{}, []uint64{1}, nil)) }()
+		time.Sleep(10 * time.Millisecond)
+		missing, _, err := held.Missing(1)
+		equal(t, missing, 1)
+		return err
+	})
+	equal(t, err, nil)
+	equal(t, <-other, nil)
+	_, isPending, _ := job.Missing(1)
+	equal(t, isPending, false)
+}
+
+func TestGoroutinesShareIt(t *testing.T) {
+	job := opened(8)
+	defer job.Close()
+	for round := uint64(1); round <= 500; round++ {
+		equal(t, must(job.Tick(1000*round)), relkvanu.Ticked{End: relkvanu.Triggered, ID: round})
+		var group sync.WaitGroup
+		for index := uint16(0); index < 8; index++ {
+			group.Add(1)
+			go func(index uint16) {
+				defer group.Done()
+				must(job.Ack(1000*round, round, relkvanu.Subtask{Index: index}, []uint64{8*round + uint64(index)}, nil))
+				for _, file := range must(job.Take(make([]uint64, 4))) {
+					equal(t, job.Deleted(file), nil)
+				}
+			}(index)
+		}
+		group.Wait()
+	}
+	equal(t, must(job.FileCounts()).InUse, 8)
+}
+
+func TestClosedWhileOthersCall(t *testing.T) {
+	for round := 0; round < 100; round++ {
+		job := opened(1)
+		var group sync.WaitGroup
+		for index := 0; index < 7; index++ {
+			group.Add(1)
+			go func() {
+				defer group.Done()
+				for errorOf(job.Tick(0)) != relkvanu.ErrClosed {
+				}
+			}()
+		}
+		job.Close()
+		group.Wait()
+	}
+}
+
+// status is the number of a line of this process's status.
+func status(name string) (number int) {
+	text, _ := os.ReadFile("/proc/self/status")
+	_, after, _ := strings.Cut(string(text), name+":")
+	fmt.Sscan(after, &number)
+	return number
+}
+
+// No goroutine is pinned: a thread for each of these would be 2000.
+func TestManyGoroutinesNeedFewThreads(t *testing.T) {
+	var group sync.WaitGroup
+	for it := 0; it < 2000; it++ {
+		group.Add(1)
+		go func() {
+			defer group.Done()
+			job := opened(64)
+			defer job.Close()
+			for now := uint64(0); now < 100; now++ {
+				must(job.Tick(now))
+			}
+		}()
+	}
+	group.Wait()
+	if threads := status("Threads"); threads == 0 || threads > 200 {
+		t.Errorf("%d threads", threads)
+	}
+}
+
+// withFiles is a job whose checkpoint has 4096 files. It takes some 350 kB.
+func withFiles() *relkvanu.Coordinator {
+	job, files := opened(64), make([]uint64, 64)
+	must(job.Tick(1000))
+	for index := uint16(0); index < 64; index++ {
+		for place := range files {
+			files[place] = 64*uint64(index) + uint64(place)
+		}
+		must(job.Ack(1000, 1, relkvanu.Subtask{Index: index}, files, nil))
+	}
+	return job
+}
+
+// waitForFinalizers waits until those have run whose objects an earlier collection found: they run in turn.
+func waitForFinalizers() {
+	ran := make(chan struct{})
+	runtime.SetFinalizer(&struct{ ran chan struct{} }{ran}, func(last *struct{ ran chan struct{} }) { close(last.ran) })
+	runtime.GC()
+	<-ran
+}
+
+func loseMany() {
+	for lost := 1; lost <= 1000; lost++ {
+		withFiles()
+		if lost%100 == 0 {
+			runtime.GC()
+			waitForFinalizers()
+		}
+	}
+}
+
+// Lost coordinators are freed by their finalizers once the collector runs: others take their room. If none were freed, the second thousand
+// would take another 350 MB.
+func TestLostOnesAreFreed(t *testing.T) {
+	loseMany()
+	before := status("VmRSS")
+	loseMany()
+	if after := status("VmRSS"); before == 0 || after > before+175_000 {
+		t.Errorf("%d kB, and after 1000 lost coordinators %d kB", before, after)
+	}
+}

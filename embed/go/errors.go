@@ -1,0 +1,164 @@
+package relkvanu
+
+// #include <relkvanu.h>
+import "C"
+
+import (
+	"errors"
+	"fmt"
+)
+
+var (
+	// ErrNoMemory says that memory ran out. Make the same call again. If a log has its line already, make it before any other logged
+	// call.
+	ErrNoMemory = errors.New("relkvanu: out of memory")
+	// ErrClosed says that the coordinator was closed, or never opened.
+	ErrClosed = errors.New("relkvanu: the coordinator is closed")
+)
+
+// Refusal is why a call was refused: the first of these that applies.
+type Refusal uint32
+
+// The refusals, in the order in which they are checked.
+const (
+	MomentTooLarge      Refusal = C.RELKVANU_MOMENT_TOO_LARGE
+	NotRunning          Refusal = C.RELKVANU_NOT_RUNNING
+	TooManyFiles        Refusal = C.RELKVANU_TOO_MANY_FILES
+	RepeatedFile        Refusal = C.RELKVANU_REPEATED_FILE
+	UnknownCheckpoint   Refusal = C.RELKVANU_UNKNOWN_CHECKPOINT
+	UnknownSubtask      Refusal = C.RELKVANU_UNKNOWN_SUBTASK
+	AlreadyAcknowledged Refusal = C.RELKVANU_ALREADY_ACKNOWLEDGED // the files may be those of its first message: do not delete them
+	NameTaken           Refusal = C.RELKVANU_NAME_TAKEN           // a fresh file is known. It may be in use: do not delete it
+	FileGone            Refusal = C.RELKVANU_FILE_GONE            // a reused file is gone: the task writes its state again, under a new number
+	NoSuchSavepoint     Refusal = C.RELKVANU_NO_SUCH_SAVEPOINT
+	InUse               Refusal = C.RELKVANU_IN_USE
+	TooManySavepoints   Refusal = C.RELKVANU_TOO_MANY_SAVEPOINTS
+	NotTaken            Refusal = C.RELKVANU_NOT_TAKEN
+	NoSuchRecord        Refusal = C.RELKVANU_NO_SUCH_RECORD
+	IDsUsedUp           Refusal = C.RELKVANU_IDS_USED_UP
+)
+
+// String is the name of the refusal, such as "NotRunning".
+func (r Refusal) String() string {
+	var name [32]byte
+	at, room := text(name[:])
+	length := C.relkvanu_refusal_text(C.uint32_t(r), at, room)
+	if length == 0 || length > room {
+		return fmt.Sprintf("refusal %d", uint32(r))
+	}
+	return string(name[:length])
+}
+
+func (r Refusal) Error() string { return "relkvanu: the call is refused: " + r.String() }
+
+// Refused says that the coordinator refused a call. It wraps its Refusal, so errors.Is(err, NameTaken) finds it, whatever the file.
+type Refused struct {
+	Why  Refusal
+	File uint64 // the file that is to blame, after NameTaken and FileGone
+}
+
+// String is as a script prints it, such as "NameTaken 7".
+func (e *Refused) String() string {
+	if e.Why == NameTaken || e.Why == FileGone {
+		return fmt.Sprintf("%s %d", e.Why.String(), e.File)
+	}
+	return e.Why.String()
+}
+
+func (e *Refused) Error() string { return "relkvanu: the call is refused: " + e.String() }
+
+// Unwrap is the Refusal.
+func (e *Refused) Unwrap() error { return e.Why }
+
+// BadArgument is an argument that is outside its limits.
+type BadArgument uint32
+
+// The arguments that are checked. A shape is checked before any refusal.
+const (
+	BadConfig    BadArgument = C.RELKVANU_BAD_CONFIG
+	BadShape     BadArgument = C.RELKVANU_BAD_SHAPE
+	BadMoment    BadArgument = C.RELKVANU_BAD_MOMENT
+	BadFirst     BadArgument = C.RELKVANU_BAD_FIRST
+	BadImage     BadArgument = C.RELKVANU_BAD_IMAGE
+	BadSavepoint BadArgument = 1 << 31 // no savepoint has the number 0: only this package checks it
+)
+
+var arguments = map[BadArgument]string{
+	BadConfig: "BadConfig", BadShape: "BadShape", BadMoment: "BadMoment", BadFirst: "BadFirst", BadImage: "BadImage",
+	BadSavepoint: "BadSavepoint",
+}
+
+// String is the name of the argument, such as "BadShape".
+func (a BadArgument) String() string { return named(arguments, a) }
+
+func (a BadArgument) Error() string {
+	return "relkvanu: an argument is outside its limits: " + a.String()
+}
+
+// LineFault is what is wrong with a line: the first fault from the left.
+type LineFault uint32
+
+// The faults of lines.
+const (
+	LineTooLong LineFault = C.RELKVANU_FAULT_TOO_LONG // more than 131,072 bytes, also of the line that a call would have
+	LineWord    LineFault = C.RELKVANU_FAULT_WORD     // a word that does not belong there
+	LineMissing LineFault = C.RELKVANU_FAULT_MISSING  // the line ends before a word that it needs
+	LineNumber  LineFault = C.RELKVANU_FAULT_NUMBER   // not a number, or not a subtask
+	LineExtra   LineFault = C.RELKVANU_FAULT_EXTRA    // a word follows the last one
+	LineNoCall  LineFault = C.RELKVANU_FAULT_NO_CALL  // a config, job, start or all line, which was read and makes no call
+)
+
+var faults = map[LineFault]string{
+	LineTooLong: "TooLong", LineWord: "Word", LineMissing: "Missing", LineNumber: "Number", LineExtra: "Extra", LineNoCall: "NoCall",
+}
+
+// String is the name of the fault, such as "Missing".
+func (f LineFault) String() string { return named(faults, f) }
+
+func (f LineFault) Error() string { return "relkvanu: the line can't be read: " + f.String() }
+
+func named[Number ~uint32](names map[Number]string, number Number) string {
+	if name, is := names[number]; is {
+		return name
+	}
+	return fmt.Sprintf("number %d", uint32(number))
+}
+
+// OtherLibrary says that the linked library has another interface than the header with which this package was compiled.
+type OtherLibrary struct{ Package, Library string }
+
+func (e *OtherLibrary) Error() string {
+	return fmt.Sprintf("relkvanu: this program was compiled for version %s of the library, and it runs with version %s, which has another "+
+		"interface: install librelkvanu %[1]s, or compile the program again", e.Package, e.Library)
+}
+
+// Unknown says that the library gave an answer which this package does not know, so a library of another version is linked. If Code
+// is 0, the call was made.
+type Unknown struct{ Code, What uint32 }
+
+func (e *Unknown) Error() string {
+	return fmt.Sprintf("relkvanu: version %s of the library gave an answer that this package does not know: code %d, what %d", Version(), e.Code, e.What)
+}
+
+func unknown(answer C.relkvanu_answer) error {
+	return &Unknown{Code: uint32(answer.code), What: uint32(answer.what)}
+}
+
+// fault is nil if the call was made.
+func fault(answer C.relkvanu_answer) error {
+	switch answer.code {
+	case C.RELKVANU_DONE:
+		return nil
+	case C.RELKVANU_REFUSED:
+		return &Refused{Why: Refusal(answer.what), File: uint64(answer.a)}
+	case C.RELKVANU_NO_MEMORY:
+		return ErrNoMemory
+	case C.RELKVANU_CLOSED:
+		return ErrClosed
+	case C.RELKVANU_BAD_LINE:
+		return LineFault(answer.what)
+	case C.RELKVANU_BAD_ARGUMENT:
+		return BadArgument(answer.what)
+	}
+	return unknown(answer)
+}

@@ -1,0 +1,69 @@
+package relkvanu_test
+
+import (
+	"testing"
+	"time"
+
+	"relkvanu"
+)
+
+// must is the value of a call that has to be made.
+func must[Value any](value Value, err error) Value {
+	if err != nil {
+		panic(err)
+	}
+	return value
+}
+
+func errorOf[Value any](_ Value, err error) error { return err }
+
+func equal[Value any](t *testing.T, got, wanted Value) {
+	t.Helper()
+	if any(got) != any(wanted) {
+		t.Errorf("%v, not %v", got, wanted)
+	}
+}
+
+// within fails the test if the condition does not come.
+func within(t *testing.T, condition func() bool) {
+	t.Helper()
+	for end := time.Now().Add(30 * time.Second); !condition(); time.Sleep(time.Millisecond) {
+		if time.Now().After(end) {
+			t.Fatal("what is waited for does not come")
+		}
+	}
+}
+
+// settings are those of most tests: two checkpoints may be pending, for five seconds each.
+var settings = relkvanu.Settings{Interval: 1000, AtOnce: 2, Timeout: 5000, Retained: 1}
+
+func opened(subtasks uint64) *relkvanu.Coordinator {
+	return must(relkvanu.Open(relkvanu.Every(1000), []uint64{subtasks}, 0, 1))
+}
+
+// withCheckpoint3 is a job: checkpoint 1 is completed, savepoint 2 is pending, and checkpoint 3 replaces checkpoint 1.
+func withCheckpoint3() *relkvanu.Coordinator {
+	job := must(relkvanu.Open(settings, []uint64{2}, 0, 1))
+	first, second := relkvanu.Subtask{}, relkvanu.Subtask{Index: 1}
+	must(job.Tick(1000))
+	must(job.Ack(1100, 1, first, []uint64{1, 2}, nil))
+	must(job.Savepoint(1200))
+	must(job.Ack(1300, 1, second, []uint64{3}, nil))
+	must(job.Tick(2000))
+	must(job.Ack(2100, 3, first, []uint64{4}, []uint64{1}))
+	must(job.Ack(2100, 3, second, []uint64{5}, nil))
+	return job
+}
+
+// cancelled is a job whose files 1 to 20 wait for deletion.
+func cancelled() *relkvanu.Coordinator {
+	job := opened(1)
+	files := make([]uint64, 20)
+	for place := range files {
+		files[place] = uint64(place + 1)
+	}
+	must(job.Tick(1000))
+	must(job.Ack(1000, 1, relkvanu.Subtask{}, files, nil))
+	must(job.Cancel(1000))
+	return job
+}

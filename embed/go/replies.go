@@ -1,0 +1,209 @@
+package relkvanu
+
+// #include <relkvanu.h>
+import "C"
+
+import (
+	"encoding/json"
+	"fmt"
+	"strings"
+)
+
+// Reply is what a line's call returned: a Ticked, SavepointTriggered, Acked, Declined, Disposed, Restored, Cancelled, Taken,
+// FileDeleted, FileUndeleted, Shown or Counted. Each prints as a script does (docs/SCRIPT.md).
+type Reply interface {
+	fmt.Stringer
+	isReply()
+}
+
+// TickEnd is what a tick did after records had expired.
+type TickEnd uint32
+
+// The ends of ticks. The zero value is that of no tick.
+const (
+	Triggered    TickEnd = C.RELKVANU_TICK_TRIGGERED     // a checkpoint was triggered
+	HeldInterval TickEnd = C.RELKVANU_TICK_HELD_INTERVAL // no checkpoint is due yet
+	HeldAtOnce   TickEnd = C.RELKVANU_TICK_HELD_AT_ONCE  // as many are pending as may be at once
+	HeldPause    TickEnd = C.RELKVANU_TICK_HELD_PAUSE    // the pause after the last completion has not passed
+	TickFailed   TickEnd = C.RELKVANU_TICK_FAILED        // too many checkpoints failed in a row: the job fails over. Restore it
+)
+
+// Ticked is the reply to a tick.
+type Ticked struct {
+	End     TickEnd
+	Expired uint64 // records that expired
+	ID      uint64 // the checkpoint, if one was triggered
+}
+
+// SavepointTriggered is the reply to a savepoint.
+type SavepointTriggered struct{ ID uint64 }
+
+// AckEnd is what an accepted acknowledgement did.
+type AckEnd uint32
+
+// The ends of acknowledgements.
+const (
+	AckPending   AckEnd = C.RELKVANU_ACK_PENDING   // other subtasks are missing
+	AckCompleted AckEnd = C.RELKVANU_ACK_COMPLETED // the record is complete
+	AckLate      AckEnd = C.RELKVANU_ACK_LATE      // the record was done or had ended
+)
+
+// Acked is the reply to an accepted acknowledgement: its fresh files belong to the coordinator.
+type Acked struct {
+	End       AckEnd
+	Missing   uint64 // AckPending: subtasks
+	Dropped   uint64 // AckCompleted: records
+	Released  uint64 // AckCompleted: files
+	HandedOut uint64 // AckLate: fresh files that this call handed out for deletion
+}
+
+// DeclineEnd is what a decline did.
+type DeclineEnd uint32
+
+// The ends of declines.
+const (
+	DeclineAborted DeclineEnd = C.RELKVANU_DECLINE_ABORTED // the record is dropped
+	DeclineFailed  DeclineEnd = C.RELKVANU_DECLINE_FAILED  // the record is dropped, and the job fails over. Restore it
+	DeclineLate    DeclineEnd = C.RELKVANU_DECLINE_LATE    // the record was done or had ended
+)
+
+// Declined is the reply to a decline.
+type Declined struct {
+	End      DeclineEnd
+	Released uint64 // files
+}
+
+// Disposed is the reply to a dispose: so many files were released.
+type Disposed struct{ Released uint64 }
+
+// Restored is the reply to a restore: the job begins again from this record, and so many files were released.
+type Restored struct {
+	From     Choice
+	Released uint64
+}
+
+// Cancelled is the reply to a cancel: so many records were dropped, and so many files released.
+type Cancelled struct{ Dropped, Released uint64 }
+
+// Taken has the files that were fetched, in their order.
+type Taken struct{ Files []uint64 }
+
+// FileDeleted is the reply to the report of a deleted file.
+type FileDeleted struct{ File uint64 }
+
+// FileUndeleted is the reply to the report of a file that could not be deleted.
+type FileUndeleted struct{ File uint64 }
+
+// Counted is the number of uses of a file.
+type Counted struct{ File, Uses uint64 }
+
+// Shown is the metadata of a record.
+type Shown struct{ JSON []byte }
+
+// Metadata is what the JSON of a record says (docs/SCRIPT.md).
+type Metadata struct {
+	ID      uint64   `json:"id"`
+	Kind    string   `json:"kind"`  // "checkpoint" or "savepoint"
+	State   string   `json:"state"` // "pending" or "done"
+	Started uint64   `json:"started"`
+	Shape   []uint64 `json:"shape"`
+	Missing uint64   `json:"missing"` // subtasks
+	Acks    []struct {
+		Subtask string   `json:"subtask"`
+		Files   []uint64 `json:"files"`
+	} `json:"acks"`
+}
+
+// Metadata reads the JSON.
+func (s Shown) Metadata() (Metadata, error) {
+	var told Metadata
+	err := json.Unmarshal(s.JSON, &told)
+	return told, err
+}
+
+// Files has the files of each subtask that has acknowledged.
+func (s Shown) Files() (map[Subtask][]uint64, error) {
+	told, err := s.Metadata()
+	files := make(map[Subtask][]uint64, len(told.Acks))
+	for _, ack := range told.Acks {
+		var it Subtask
+		if _, bad := fmt.Sscanf(ack.Subtask, "%d.%d", &it.Vertex, &it.Index); bad != nil {
+			return nil, bad
+		}
+		files[it] = ack.Files
+	}
+	return files, err
+}
+
+func (Ticked) isReply()             {}
+func (SavepointTriggered) isReply() {}
+func (Acked) isReply()              {}
+func (Declined) isReply()           {}
+func (Disposed) isReply()           {}
+func (Restored) isReply()           {}
+func (Cancelled) isReply()          {}
+func (Taken) isReply()              {}
+func (FileDeleted) isReply()        {}
+func (FileUndeleted) isReply()      {}
+func (Shown) isReply()              {}
+func (Counted) isReply()            {}
+
+var ticks = map[TickEnd]string{HeldInterval: "held interval", HeldAtOnce: "held at-once", HeldPause: "held pause", TickFailed: "failed"}
+
+// String is the end as a script prints it, such as "held pause".
+func (e TickEnd) String() string {
+	if e == Triggered {
+		return "triggered"
+	}
+	return named(ticks, e)
+}
+
+func (r Ticked) String() string {
+	if r.End == Triggered {
+		return fmt.Sprintf("tick expired %d triggered %d", r.Expired, r.ID)
+	}
+	return fmt.Sprintf("tick expired %d %v", r.Expired, r.End)
+}
+
+func (r SavepointTriggered) String() string { return fmt.Sprintf("savepoint triggered %d", r.ID) }
+
+func (r Acked) String() string {
+	switch r.End {
+	case AckPending:
+		return fmt.Sprintf("ack pending %d", r.Missing)
+	case AckCompleted:
+		return fmt.Sprintf("ack completed %d %d", r.Dropped, r.Released)
+	}
+	return fmt.Sprintf("ack late %d", r.HandedOut)
+}
+
+func (r Declined) String() string {
+	switch r.End {
+	case DeclineAborted:
+		return fmt.Sprintf("decline aborted %d", r.Released)
+	case DeclineFailed:
+		return fmt.Sprintf("decline failed %d", r.Released)
+	}
+	return "decline late"
+}
+
+func (r Disposed) String() string { return fmt.Sprintf("disposed %d", r.Released) }
+
+func (r Restored) String() string { return fmt.Sprintf("restored %v %d", r.From, r.Released) }
+
+func (r Cancelled) String() string { return fmt.Sprintf("cancelled %d %d", r.Dropped, r.Released) }
+
+func (r Taken) String() string {
+	if len(r.Files) == 0 {
+		return "take none"
+	}
+	return "take " + strings.Trim(fmt.Sprint(r.Files), "[]")
+}
+
+func (r FileDeleted) String() string { return fmt.Sprintf("deleted %d", r.File) }
+
+func (r FileUndeleted) String() string { return fmt.Sprintf("undeleted %d", r.File) }
+
+func (r Shown) String() string { return string(r.JSON) }
+
+func (r Counted) String() string { return fmt.Sprintf("count %d %d", r.File, r.Uses) }

@@ -1,0 +1,59 @@
+//! Libraries that do not fit the crate (`embed/strange`): of another version, and with answers that no header has. It is empty without
+//! `--cfg other_version` or `--cfg unknown_answers`, since the library that is shipped fits.
+#![cfg(any(other_version, unknown_answers))]
+mod settings;
+
+use relkvanu::{Coordinator, Fault, Line};
+use settings::SETTINGS;
+
+#[cfg(other_version)]
+#[test]
+fn a_library_of_another_version_is_refused() {
+    use relkvanu::{opening_lines, Call};
+
+    let other = Fault::OtherLibrary { library: "0.99.0" };
+    assert_eq!(Coordinator::open(&SETTINGS, &[1], 0, 1).err(), Some(other));
+    assert_eq!(Coordinator::open_saved(b"{}").err(), Some(other));
+    assert_eq!(Line::of(b"tick 1"), Err(other));
+    assert_eq!(opening_lines(&SETTINGS, &[1], 0), Err(other));
+    assert_eq!(Call::Tick { now: 1 }.line(), Err(other));
+    let text = other.to_string();
+    assert!(
+        text.contains("0.99.0") && text.contains(env!("CARGO_PKG_VERSION")),
+        "{text}"
+    );
+}
+
+#[cfg(unknown_answers)]
+#[test]
+fn an_answer_that_nobody_knows_is_an_error_and_no_panic() {
+    use relkvanu::{Choice, Kind, LineFault, Mode, Refusal, Standing};
+
+    let done = Fault::Unknown { code: 0, what: 999 };
+    let mut job = Coordinator::open(&SETTINGS, &[1], 0, 1).unwrap();
+    assert_eq!(job.tick(0), Err(done));
+    assert_eq!(
+        job.ack(0, 1, (0, 0), &[], &[]),
+        Err(Fault::Refused(Refusal::Unknown(999)))
+    );
+    assert_eq!(
+        job.decline(0, 1, (0, 0)),
+        Err(Fault::Unknown { code: 999, what: 7 })
+    );
+    assert_eq!(
+        job.restore(0, None, None),
+        Err(Fault::Unknown { code: 4, what: 999 })
+    );
+    assert_eq!(job.line(b"", &mut []), Err(done));
+    assert_eq!(
+        job.line(b"x", &mut []),
+        Err(Fault::BadLine(LineFault::Unknown(999)))
+    );
+    assert_eq!(Line::of(b""), Err(done));
+    assert_eq!(job.mode(), Mode::Unknown(999));
+    assert_eq!(job.choice(), Choice::Unknown(999));
+    assert_eq!(job.standing(1), Standing::Unknown(999));
+    assert_eq!(job.live(0).map(|it| it.kind), Some(Kind::Unknown(999)));
+    assert!(done.to_string().contains("what 999"));
+    assert_eq!(Refusal::Unknown(999).name(), "Unknown 999");
+}
