@@ -1,0 +1,42 @@
+package relkvanu;
+
+/** An argument that was outside its limits. */
+public enum Argument {
+    /** The handle has a coordinator already. */
+    ALREADY_OPEN(Header.ALREADY_OPEN),
+    /** A value of the settings. */
+    BAD_CONFIG(Header.BAD_CONFIG),
+    /** The shape: 1 to 256 vertices, at least 1 subtask each, at most 4096 in sum. */
+    BAD_SHAPE(Header.BAD_SHAPE),
+    /** The moment of an opening: at most 2<sup>62</sup> - 1. */
+    BAD_MOMENT(Header.BAD_MOMENT),
+    /** The number of the first record: 1 to 2<sup>62</sup> - 1. */
+    BAD_FIRST(Header.BAD_FIRST),
+    /** The kind of a call that is to be written. */
+    BAD_KIND(Header.BAD_KIND),
+    /** The bytes are not an image, or the state is not sound, or no coordinator could be opened so. */
+    BAD_IMAGE(Header.BAD_IMAGE);
+
+    private static final Argument[] ALL = values();
+    private final int what;
+
+    Argument(int what) {
+        this.what = what;
+    }
+
+    static Argument of(int what) {
+        for (Argument it : ALL) {
+            if (it.what == what) {
+                return it;
+            }
+        }
+        throw new CoordinatorException.Unknown("argument", what);
+    }
+
+    /**
+     * {@return the name in scripts, such as "BadShape"}
+     */
+    public String text() {
+        return Names.inScripts(this);
+    }
+}

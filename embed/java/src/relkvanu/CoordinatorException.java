@@ -1,0 +1,154 @@
+package relkvanu;
+
+/**
+ * A call was not made, and nothing has changed, except maybe after {@link Unknown}. Each exception of this package is one of the classes below.
+ *
+ * <p>{@link Refused} and {@link NoMemory} are answers that a job gets every day, so they have no stack trace. With {@code
+ * -Drelkvanu.traces=true} they have one.
+ */
+public abstract sealed class CoordinatorException extends RuntimeException {
+    private static final long serialVersionUID = 1;
+    private static final boolean HAS_TRACES = Boolean.getBoolean("relkvanu.traces");
+
+    private CoordinatorException(String text, boolean hasTrace) {
+        super(text, null, true, hasTrace);
+    }
+
+    /** The coordinator refused the call. */
+    public static final class Refused extends CoordinatorException {
+        private static final long serialVersionUID = 1;
+        /** @serial why */
+        private final Refusal refusal;
+        /** @serial the file that is to blame, or 0 */
+        private final long file;
+
+        Refused(Refusal refusal, long file) {
+            super(hasFile(refusal) ? refusal.text() + " " + FileNumbers.toString(file) : refusal.text(), HAS_TRACES);
+            this.refusal = refusal;
+            this.file = file;
+        }
+
+        private static boolean hasFile(Refusal refusal) {
+            return refusal == Refusal.NAME_TAKEN || refusal == Refusal.FILE_GONE;
+        }
+
+        /**
+         * {@return why}
+         */
+        public Refusal refusal() {
+            return refusal;
+        }
+
+        /**
+         * {@return the file that is to blame, unsigned; 0 unless the refusal is {@code NAME_TAKEN} or {@code FILE_GONE}}
+         */
+        public long file() {
+            return file;
+        }
+    }
+
+    /** Memory of the library ran out: make the same call again. */
+    public static final class NoMemory extends CoordinatorException {
+        private static final long serialVersionUID = 1;
+
+        NoMemory() {
+            super("the library has no memory", HAS_TRACES);
+        }
+    }
+
+    /** The coordinator was closed. */
+    public static final class Closed extends CoordinatorException {
+        private static final long serialVersionUID = 1;
+
+        Closed() {
+            super("the coordinator was closed", true);
+        }
+    }
+
+    /** A value is outside its limits. */
+    public static final class BadArgument extends CoordinatorException {
+        private static final long serialVersionUID = 1;
+        /** @serial which one */
+        private final Argument argument;
+
+        BadArgument(Argument argument) {
+            super(argument.text(), true);
+            this.argument = argument;
+        }
+
+        /**
+         * {@return which one}
+         */
+        public Argument argument() {
+            return argument;
+        }
+    }
+
+    /** A line of a script can't be read or makes no call, or the line of a call would be too long. */
+    public static final class BadLine extends CoordinatorException {
+        private static final long serialVersionUID = 1;
+        /** @serial why */
+        private final LineFault fault;
+
+        BadLine(LineFault fault) {
+            super(fault.text(), true);
+            this.fault = fault;
+        }
+
+        /**
+         * {@return why}
+         */
+        public LineFault fault() {
+            return fault;
+        }
+    }
+
+    /** A take line would fetch more files than it may. */
+    public static final class TooShort extends CoordinatorException {
+        private static final long serialVersionUID = 1;
+        /** @serial how many files the line would fetch */
+        private final long places;
+
+        TooShort(long places) {
+            super("the line would fetch " + places + " files", true);
+            this.places = places;
+        }
+
+        /**
+         * {@return how many files it would fetch}
+         */
+        public long places() {
+            return places;
+        }
+    }
+
+    /** A number is negative, or has more bits than the call has for it, or an array can't have so many elements. */
+    public static final class OutOfRange extends CoordinatorException {
+        private static final long serialVersionUID = 1;
+
+        OutOfRange(String text) {
+            super(text, true);
+        }
+    }
+
+    /**
+     * The library has answered with a number that this package does not know, as one of a later version may. The call may have been made:
+     * this is the one exception after which something may have changed.
+     */
+    public static final class Unknown extends CoordinatorException {
+        private static final long serialVersionUID = 1;
+
+        Unknown(String kind, long what) {
+            super("this package has no " + kind + " " + what, true);
+        }
+    }
+
+    /** The native library is missing, can't be loaded, or is of another version. */
+    public static final class NoLibrary extends CoordinatorException {
+        private static final long serialVersionUID = 1;
+
+        NoLibrary(String text) {
+            super(text, true);
+        }
+    }
+}

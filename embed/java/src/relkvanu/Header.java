@@ -1,0 +1,180 @@
+package relkvanu;
+
+/** What include/relkvanu.h says, made from it by embed/bindings: change the header, and run that. */
+final class Header {
+    private Header() {}
+
+    static final int VERSION_MAJOR = 0;
+    static final int VERSION_MINOR = 1;
+    static final int VERSION_PATCH = 0;
+    static final String VERSION = "0.1.0";
+    /** the call was made: what is a reply */
+    static final int DONE = 0;
+    /** nothing has changed: what is a refusal */
+    static final int REFUSED = 1;
+    /** nothing has changed; what, a and b are 0: make the same call again later */
+    static final int NO_MEMORY = 2;
+    /** the handle has no coordinator; what, a and b are 0 */
+    static final int CLOSED = 3;
+    /** nothing has changed: what is an argument */
+    static final int BAD_ARGUMENT = 4;
+    /** nothing has changed: the buffer needs a places; what is 0, and b too but in relkvanu_line_call */
+    static final int TOO_SHORT = 5;
+    /** nothing has changed: what is a fault of a line */
+    static final int BAD_LINE = 6;
+    static final int OPENED = 0;
+    /** a: expired records, b: number */
+    static final int TICK_TRIGGERED = 1;
+    /** a: expired records */
+    static final int TICK_HELD_INTERVAL = 2;
+    /** a: expired records */
+    static final int TICK_HELD_AT_ONCE = 3;
+    /** a: expired records */
+    static final int TICK_HELD_PAUSE = 4;
+    /** a: expired records */
+    static final int TICK_FAILED = 5;
+    /** a: number */
+    static final int SAVEPOINT_TRIGGERED = 6;
+    /** a: subtasks missing */
+    static final int ACK_PENDING = 7;
+    /** a: records dropped, b: files released */
+    static final int ACK_COMPLETED = 8;
+    /** a: fresh files that this call handed out for deletion */
+    static final int ACK_LATE = 9;
+    /** a: files released */
+    static final int DECLINE_ABORTED = 10;
+    /** a: files released */
+    static final int DECLINE_FAILED = 11;
+    static final int DECLINE_LATE = 12;
+    /** a: files released */
+    static final int DISPOSED = 13;
+    /** a: files released, b: number */
+    static final int RESTORED_CHECKPOINT = 14;
+    /** a: files released, b: number */
+    static final int RESTORED_SAVEPOINT = 15;
+    /** a: files released */
+    static final int RESTORED_FRESH = 16;
+    /** a: records dropped, b: files released */
+    static final int CANCELLED = 17;
+    /** a: files at the start of the buffer */
+    static final int TAKEN = 18;
+    /** a: file */
+    static final int DELETED = 19;
+    /** a: file */
+    static final int UNDELETED = 20;
+    /** a: bytes at the start of the buffer */
+    static final int SHOWN = 21;
+    /** a: file, b: uses */
+    static final int COUNTED = 22;
+    static final int MODE_RUNNING = 23;
+    /** too many checkpoints failed in a row: restore the job */
+    static final int MODE_FAILED = 24;
+    /** the job has ended for good */
+    static final int MODE_CANCELLED = 25;
+    /** a: moment */
+    static final int DUE = 26;
+    /** a: moment */
+    static final int EXPIRES = 27;
+    static final int NONE_PENDING = 28;
+    /** a: number */
+    static final int CHOICE_CHECKPOINT = 29;
+    /** a: number */
+    static final int CHOICE_SAVEPOINT = 30;
+    static final int CHOICE_FRESH = 31;
+    /** a: number, b: 1 if it is done, 0 if it is pending */
+    static final int LIVE_CHECKPOINT = 32;
+    /** a: number, b: 1 if it is done, 0 if it is pending */
+    static final int LIVE_SAVEPOINT = 33;
+    /** there are fewer live records */
+    static final int LIVE_NONE = 34;
+    /** a: subtasks */
+    static final int MISSING = 35;
+    static final int NOT_PENDING = 36;
+    /** a: moment */
+    static final int MOMENT = 55;
+    /** the line makes no call: it has no words or is a comment */
+    static final int SKIPPED = 37;
+    /** a: 0 */
+    static final int LINE_SKIP = 38;
+    /** a: 7, the numbers at the start of the buffer: those of relkvanu_settings, in its order */
+    static final int LINE_CONFIG = 39;
+    /** a: how many numbers are at the start of the buffer: the parallelism of each vertex */
+    static final int LINE_JOB = 40;
+    /** a: 1, the number at the start of the buffer: the moment */
+    static final int LINE_START = 41;
+    /** a: 0; of relkvanu_line_call a, b: the items at the start of first and of second */
+    static final int LINE_CALL = 42;
+    /** a: 4, the numbers at the start of the buffer: moment, record, threads, first file */
+    static final int LINE_ALL = 43;
+    /** a: bytes at the start of the buffer */
+    static final int WRITTEN = 44;
+    /** a: bytes at the start of the buffer */
+    static final int SAVED = 45;
+    /** a live record has the number, and lacks an acknowledgement */
+    static final int STANDS_PENDING = 46;
+    /** a live record has the number, and is complete */
+    static final int STANDS_DONE = 47;
+    /** a record had the number, and is no longer live */
+    static final int STANDS_ENDED = 48;
+    /** no record has had the number so far */
+    static final int STANDS_NOT_YET = 49;
+    /** the number is below the first one of the opening */
+    static final int STANDS_NEVER = 50;
+    /** a: files at the start of the buffer */
+    static final int FILES = 51;
+    /** no live record has the number, or the subtask has not acknowledged in it */
+    static final int NOT_ACKNOWLEDGED = 52;
+    /** a: file */
+    static final int WAITING = 53;
+    /** there are fewer waiting files */
+    static final int NONE_WAITS = 54;
+    static final int MOMENT_TOO_LARGE = 1;
+    static final int NOT_RUNNING = 2;
+    static final int TOO_MANY_FILES = 3;
+    static final int REPEATED_FILE = 4;
+    static final int UNKNOWN_CHECKPOINT = 5;
+    static final int UNKNOWN_SUBTASK = 6;
+    static final int ALREADY_ACKNOWLEDGED = 7;
+    /** a: file */
+    static final int NAME_TAKEN = 8;
+    /** a: file */
+    static final int FILE_GONE = 9;
+    static final int NO_SUCH_SAVEPOINT = 10;
+    static final int IN_USE = 11;
+    static final int TOO_MANY_SAVEPOINTS = 12;
+    static final int NOT_TAKEN = 13;
+    static final int NO_SUCH_RECORD = 14;
+    static final int IDS_USED_UP = 15;
+    static final int ALREADY_OPEN = 1;
+    static final int BAD_CONFIG = 2;
+    static final int BAD_SHAPE = 3;
+    static final int BAD_MOMENT = 4;
+    static final int BAD_FIRST = 5;
+    static final int BAD_KIND = 6;
+    /** the bytes are not an image, or the state is not sound, or no coordinator could be opened so */
+    static final int BAD_IMAGE = 7;
+    /** a line has at most 131072 bytes */
+    static final int FAULT_TOO_LONG = 1;
+    /** a word that does not belong there */
+    static final int FAULT_WORD = 2;
+    /** the line ends before a word that it needs */
+    static final int FAULT_MISSING = 3;
+    /** not a number, or not a subtask */
+    static final int FAULT_NUMBER = 4;
+    /** a word follows the last one */
+    static final int FAULT_EXTRA = 5;
+    /** a config, job, start or all line: it was read, and makes no call */
+    static final int FAULT_NO_CALL = 6;
+    static final int CALL_TICK = 1;
+    static final int CALL_SAVEPOINT = 2;
+    static final int CALL_ACK = 3;
+    static final int CALL_DECLINE = 4;
+    static final int CALL_DISPOSE = 5;
+    static final int CALL_RESTORE = 6;
+    static final int CALL_CANCEL = 7;
+    static final int CALL_TAKE = 8;
+    static final int CALL_DELETED = 9;
+    static final int CALL_UNDELETED = 10;
+    static final int CALL_SHOW = 11;
+    static final int CALL_COUNT = 12;
+}

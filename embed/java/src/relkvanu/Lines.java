@@ -1,0 +1,223 @@
+package relkvanu;
+
+import java.nio.charset.StandardCharsets;
+import java.util.Objects;
+import java.util.OptionalLong;
+
+/**
+ * Lines of a script (docs/SCRIPT.md): a log of calls, which the library writes and reads. {@link Coordinator#line} makes the call of one.
+ *
+ * <p>A line that is written has no newline. It reads back as its call. If it would be too long, it throws {@code BadLine}: none is cut.
+ */
+public final class Lines {
+    private static final long[] NONE = {};
+
+    private Lines() {}
+
+    static String text(byte[] utf8) {
+        return new String(utf8, StandardCharsets.UTF_8);
+    }
+
+    /**
+     * Reads which line it is. Throws {@code BadLine}. Checks no number against the limits of a job.
+     *
+     * @param line the bytes before its newline
+     * @return the line
+     */
+    public static Line says(byte[] line) {
+        Objects.requireNonNull(line, "line");
+        Library.need();
+        long[] out = new long[4];
+        long[] numbers = Answers.numbers(0, out, (at, buffer, to) -> Native.lineSays(line, buffer, to));
+        return switch ((int) out[1]) {
+            case Header.LINE_SKIP -> new Line.Skip();
+            case Header.LINE_CONFIG -> new Line.Config(Settings.of(numbers));
+            case Header.LINE_JOB -> new Line.Job(numbers);
+            case Header.LINE_START -> new Line.Start(numbers[0]);
+            case Header.LINE_CALL -> new Line.Call();
+            case Header.LINE_ALL -> new Line.All(numbers[0], numbers[1], numbers[2], numbers[3]);
+            default -> throw new CoordinatorException.Unknown("line", out[1]);
+        };
+    }
+
+    /** The record of a show line; empty for a take line. The library reads the number from a job line with the same number. */
+    static OptionalLong shown(byte[] line) {
+        String job = new String(line, StandardCharsets.ISO_8859_1).replaceFirst("show", "job");
+        return says(job.getBytes(StandardCharsets.ISO_8859_1)) instanceof Line.Job it ? OptionalLong.of(it.shape()[0]) : OptionalLong.empty();
+    }
+
+    /**
+     * Writes the lines config, job and start of a coordinator whose first record has the number 1, each with its newline. Throws {@code
+     * BadArgument} if none could be opened so.
+     *
+     * @param settings the configuration
+     * @param shape the number of subtasks of each vertex
+     * @param now the moment of the opening
+     * @return the lines
+     */
+    public static String opening(Settings settings, long[] shape, long now) {
+        long[] numbers = settings.numbers();
+        Objects.requireNonNull(shape, "shape");
+        Library.need();
+        return text(Answers.bytes(0, new long[4], (at, lines, out) -> Native.openingLines(numbers, shape, now, lines, out)));
+    }
+
+    private static String line(int kind, int vertex, int index, long now, long number, long[] first, long[] second) {
+        long[] call = {kind, Checks.u16(vertex, "vertex"), Checks.u16(index, "index"), now, number};
+        Objects.requireNonNull(first, "fresh");
+        Objects.requireNonNull(second, "reused");
+        Library.need();
+        return text(Answers.bytes(0, new long[4], (at, line, out) -> Native.callLine(call, first, second, line, out)));
+    }
+
+    private static String line(int kind, long now, long number) {
+        return line(kind, 0, 0, now, number, NONE, NONE);
+    }
+
+    /**
+     * {@return the line of a tick}
+     *
+     * @param now the moment
+     */
+    public static String tick(long now) {
+        return line(Header.CALL_TICK, now, 0);
+    }
+
+    /**
+     * {@return the line of a savepoint}
+     *
+     * @param now the moment
+     */
+    public static String savepoint(long now) {
+        return line(Header.CALL_SAVEPOINT, now, 0);
+    }
+
+    /**
+     * {@return the line of an acknowledgement}
+     *
+     * @param now the moment
+     * @param id the record
+     * @param vertex the vertex of the subtask
+     * @param index its place in the vertex
+     * @param fresh the files that it wrote
+     * @param reused files that it uses again
+     */
+    public static String ack(long now, long id, int vertex, int index, long[] fresh, long... reused) {
+        return line(Header.CALL_ACK, vertex, index, now, id, fresh, reused);
+    }
+
+    /**
+     * {@return the line of a decline}
+     *
+     * @param now the moment
+     * @param id the record
+     * @param vertex the vertex of the subtask
+     * @param index its place in the vertex
+     */
+    public static String decline(long now, long id, int vertex, int index) {
+        return line(Header.CALL_DECLINE, vertex, index, now, id, NONE, NONE);
+    }
+
+    /**
+     * {@return the line of a dispose}
+     *
+     * @param id the savepoint
+     */
+    public static String dispose(long id) {
+        return line(Header.CALL_DISPOSE, 0, id);
+    }
+
+    /**
+     * {@return the line of a restore from the latest record}
+     *
+     * @param now the moment
+     */
+    public static String restoreLatest(long now) {
+        return line(Header.CALL_RESTORE, now, 0);
+    }
+
+    /**
+     * {@return the line of a restore from the latest record, in a new shape}
+     *
+     * @param now the moment
+     * @param shape the shape
+     */
+    public static String restoreLatest(long now, long[] shape) {
+        return line(Header.CALL_RESTORE, 0, 0, now, 0, Checks.shape(shape), NONE);
+    }
+
+    /**
+     * {@return the line of a restore from a savepoint}
+     *
+     * @param now the moment
+     * @param id the savepoint
+     */
+    public static String restoreSavepoint(long now, long id) {
+        return line(Header.CALL_RESTORE, now, Checks.savepoint(id));
+    }
+
+    /**
+     * {@return the line of a restore from a savepoint, in a new shape}
+     *
+     * @param now the moment
+     * @param id the savepoint
+     * @param shape the shape
+     */
+    public static String restoreSavepoint(long now, long id, long[] shape) {
+        return line(Header.CALL_RESTORE, 0, 0, now, Checks.savepoint(id), Checks.shape(shape), NONE);
+    }
+
+    /**
+     * {@return the line of a cancel}
+     *
+     * @param now the moment
+     */
+    public static String cancel(long now) {
+        return line(Header.CALL_CANCEL, now, 0);
+    }
+
+    /**
+     * {@return the line of a take}
+     *
+     * @param most the most files, unsigned
+     */
+    public static String take(long most) {
+        return line(Header.CALL_TAKE, 0, most);
+    }
+
+    /**
+     * {@return the line of a deleted}
+     *
+     * @param file the file
+     */
+    public static String deleted(long file) {
+        return line(Header.CALL_DELETED, 0, file);
+    }
+
+    /**
+     * {@return the line of an undeleted}
+     *
+     * @param file the file
+     */
+    public static String undeleted(long file) {
+        return line(Header.CALL_UNDELETED, 0, file);
+    }
+
+    /**
+     * {@return the line of a show}
+     *
+     * @param id the record
+     */
+    public static String show(long id) {
+        return line(Header.CALL_SHOW, 0, id);
+    }
+
+    /**
+     * {@return the line of a count}
+     *
+     * @param file the file
+     */
+    public static String count(long file) {
+        return line(Header.CALL_COUNT, 0, file);
+    }
+}

@@ -1,0 +1,231 @@
+package relkvanu;
+
+import java.lang.ref.Reference;
+import java.time.Duration;
+import java.util.Optional;
+import java.util.OptionalLong;
+import java.util.function.Supplier;
+
+/** The reads of a {@link Coordinator}, and what a timer waits for. */
+abstract sealed class Reads permits Coordinator {
+    final Handle handle = new Handle();
+
+    // The fence: no thread closes a lost coordinator while a call of it goes on.
+
+    final <T> T call(Handle.Call call, Handle.Read<T> read) {
+        try {
+            return handle.call(call, read);
+        } finally {
+            Reference.reachabilityFence(this);
+        }
+    }
+
+    final byte[] bytes(Answers.Write<byte[]> write) {
+        try {
+            return handle.bytes(write);
+        } finally {
+            Reference.reachabilityFence(this);
+        }
+    }
+
+    final Optional<long[]> files(Answers.Write<long[]> write) {
+        try {
+            return handle.files(write);
+        } finally {
+            Reference.reachabilityFence(this);
+        }
+    }
+
+    /**
+     * Makes calls with no other thread's call between them. Delete, send and wait outside of it.
+     *
+     * @param calls makes the calls
+     * @param <T> what they return
+     * @return what the calls return
+     */
+    public <T> T locked(Supplier<T> calls) {
+        handle.lock();
+        try {
+            return calls.get();
+        } finally {
+            handle.unlock();
+            Reference.reachabilityFence(this);
+        }
+    }
+
+    /**
+     * {@return the number of calls so far that may have changed what a timer waits for}
+     */
+    public long calls() {
+        return handle.calls();
+    }
+
+    /**
+     * Waits until {@link #calls} is above a number.
+     *
+     * @param seen the number
+     * @throws InterruptedException if the thread is interrupted
+     */
+    public void waitForCall(long seen) throws InterruptedException {
+        waitForNanos(seen, Long.MAX_VALUE);
+    }
+
+    /**
+     * Waits until {@link #calls} is above a number, or a time is over.
+     *
+     * @param seen the number
+     * @param atMost the time
+     * @throws InterruptedException if the thread is interrupted
+     */
+    public void waitForCall(long seen, Duration atMost) throws InterruptedException {
+        waitForNanos(seen, atMost.compareTo(Duration.ofNanos(Long.MAX_VALUE)) < 0 ? atMost.toNanos() : Long.MAX_VALUE);
+    }
+
+    private void waitForNanos(long seen, long nanos) throws InterruptedException {
+        try {
+            handle.waitForCall(seen, nanos);
+        } finally {
+            Reference.reachabilityFence(this);
+        }
+    }
+
+    // Reads: none changes anything. None but pinsOf and takenFiles wants memory of the library.
+
+    /**
+     * {@return what the job is doing}
+     */
+    public Mode mode() {
+        return call(Native::mode, (what, a, b) -> Mode.of(what));
+    }
+
+    /**
+     * {@return the greatest moment that the coordinator has seen; it takes an earlier one for this one}
+     */
+    public long moment() {
+        return call(Native::moment, (what, a, b) -> a);
+    }
+
+    /**
+     * {@return the moment before which no tick triggers a checkpoint; calls move it}
+     */
+    public long due() {
+        return call(Native::due, (what, a, b) -> a);
+    }
+
+    /**
+     * {@return the moment from which a pending record is expired; empty if none is pending}
+     */
+    public OptionalLong oldestExpiry() {
+        return call(Native::oldestExpiry, (what, a, b) -> what == Header.EXPIRES ? OptionalLong.of(a) : OptionalLong.empty());
+    }
+
+    /**
+     * The moment of the next tick after a tick, unless another call comes first: when a checkpoint is due or a pending record expires. While
+     * as many are pending as may be, it is the expiry, because {@link #due} has passed. After a tick that ran out of memory it has passed:
+     * wait for a second instead.
+     *
+     * @param ticked the reply of the tick; null if it threw
+     * @return the moment; empty if nothing changes before the next call, for example while the job has failed
+     */
+    public OptionalLong nextTick(Reply.Tick ticked) {
+        return locked(() -> {
+            if (mode() != Mode.RUNNING) {
+                return OptionalLong.empty();
+            }
+            OptionalLong expiry = oldestExpiry();
+            return ticked instanceof Reply.HeldAtOnce ? expiry : OptionalLong.of(Math.min(due(), expiry.orElse(Long.MAX_VALUE)));
+        });
+    }
+
+    /**
+     * {@return the record that a restore of the latest would begin from; empty if it would begin from nothing}
+     */
+    public Optional<Chosen> choice() {
+        return call(Native::choice, (what, a, b) -> Chosen.of(what, a));
+    }
+
+    /**
+     * {@return the live record at a place, in order of their numbers; empty past the last} Its time grows with the place.
+     *
+     * @param place the place, from 0
+     */
+    public Optional<Live> live(long place) {
+        return call((at, out) -> Native.live(at, place, out), Live::of);
+    }
+
+    /**
+     * {@return the live record with the least number that is at least this one; empty if there is none}
+     *
+     * @param id the number
+     */
+    public Optional<Live> liveFrom(long id) {
+        return call((at, out) -> Native.liveFrom(at, id, out), Live::of);
+    }
+
+    /**
+     * {@return what a number is}
+     *
+     * @param id the number
+     */
+    public Standing standing(long id) {
+        return call((at, out) -> Native.standing(at, id, out), (what, a, b) -> Standing.of(what));
+    }
+
+    /**
+     * {@return the files that a subtask acknowledged in a live record, ascending; empty if it has not acknowledged in one}
+     *
+     * @param id the record
+     * @param vertex the vertex of the subtask
+     * @param index its place in the vertex
+     */
+    public Optional<long[]> filesOf(long id, int vertex, int index) {
+        Checks.u16(vertex, "vertex");
+        Checks.u16(index, "index");
+        return files((at, files, out) -> Native.filesOf(at, id, vertex, index, files, out));
+    }
+
+    /**
+     * {@return the files that a pending record keeps beside those of its acknowledgements, ascending}
+     *
+     * @param id the record
+     */
+    public long[] pinsOf(long id) {
+        return files((at, files, out) -> Native.pinsOf(at, id, files, out)).orElseThrow();
+    }
+
+    /**
+     * {@return the files that were fetched and are not yet reported, ascending}
+     */
+    public long[] takenFiles() {
+        return files(Native::takenFiles).orElseThrow();
+    }
+
+    /**
+     * {@return the file at a place among those that wait for deletion, the next to be fetched first; empty past the last}
+     *
+     * @param place the place, from 0
+     */
+    public OptionalLong waitingFile(long place) {
+        return call((at, out) -> Native.waitingFile(at, place, out), (what, a, b) -> what == Header.WAITING ? OptionalLong.of(a) : OptionalLong.empty());
+    }
+
+    /**
+     * {@return how many subtasks of a record have not acknowledged; empty if no record with this number is pending}
+     *
+     * @param id the record
+     */
+    public OptionalLong missing(long id) {
+        return call((at, out) -> Native.missing(at, id, out), (what, a, b) -> what == Header.MISSING ? OptionalLong.of(a) : OptionalLong.empty());
+    }
+
+    /**
+     * {@return how many files are in use, wait for deletion, and were fetched}
+     */
+    public FileCounts fileCounts() {
+        try {
+            return handle.counts();
+        } finally {
+            Reference.reachabilityFence(this);
+        }
+    }
+}

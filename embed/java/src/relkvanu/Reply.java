@@ -1,0 +1,250 @@
+package relkvanu;
+
+import java.util.Arrays;
+import java.util.LinkedHashMap;
+import java.util.Map;
+import java.util.regex.Matcher;
+import java.util.regex.Pattern;
+
+/** The reply to a call that was made. A pattern over the records of a reply is complete without a default. */
+public sealed interface Reply {
+    /** The reply to a tick. */
+    sealed interface Tick extends Reply {
+        /**
+         * {@return how many records expired in it}
+         */
+        long expired();
+    }
+
+    /** The reply to an acknowledgement: the fresh files belong to the coordinator now. */
+    sealed interface Ack extends Reply {}
+
+    /** The reply to a decline. */
+    sealed interface Decline extends Reply {}
+
+    /** The reply to a restore. */
+    sealed interface Restore extends Reply {
+        /**
+         * {@return how many files it released}
+         */
+        long released();
+    }
+
+    /**
+     * A checkpoint was triggered.
+     *
+     * @param expired how many records expired before
+     * @param id its number
+     */
+    record Triggered(long expired, long id) implements Tick {}
+
+    /**
+     * No checkpoint is due yet.
+     *
+     * @param expired how many records expired
+     */
+    record HeldInterval(long expired) implements Tick {}
+
+    /**
+     * As many checkpoints are pending as may be at once.
+     *
+     * @param expired how many records expired
+     */
+    record HeldAtOnce(long expired) implements Tick {}
+
+    /**
+     * The pause after the last completion has not passed.
+     *
+     * @param expired how many records expired
+     */
+    record HeldPause(long expired) implements Tick {}
+
+    /**
+     * Too many checkpoints failed in a row: the job fails over.
+     *
+     * @param expired how many records expired
+     */
+    record Failed(long expired) implements Tick {}
+
+    /**
+     * A savepoint was triggered.
+     *
+     * @param id its number
+     */
+    record SavepointTriggered(long id) implements Reply {}
+
+    /**
+     * The record is not complete yet.
+     *
+     * @param missing how many subtasks are missing
+     */
+    record AckPending(long missing) implements Ack {}
+
+    /**
+     * The record is complete.
+     *
+     * @param dropped how many records were dropped
+     * @param released how many files were released
+     */
+    record AckCompleted(long dropped, long released) implements Ack {}
+
+    /**
+     * The record was done or had ended.
+     *
+     * @param handedOut how many of the fresh files wait for deletion now
+     */
+    record AckLate(long handedOut) implements Ack {}
+
+    /**
+     * The record is dropped.
+     *
+     * @param released how many files were released
+     */
+    record DeclineAborted(long released) implements Decline {}
+
+    /**
+     * The record is dropped, and the job fails over.
+     *
+     * @param released how many files were released
+     */
+    record DeclineFailed(long released) implements Decline {}
+
+    /** The record was done or had ended. */
+    record DeclineLate() implements Decline {}
+
+    /**
+     * The savepoint is gone.
+     *
+     * @param released how many files were released
+     */
+    record Disposed(long released) implements Reply {}
+
+    /**
+     * The job begins again from a checkpoint.
+     *
+     * @param id its number
+     * @param released how many files were released
+     */
+    record RestoredCheckpoint(long id, long released) implements Restore {}
+
+    /**
+     * The job begins again from a savepoint.
+     *
+     * @param id its number
+     * @param released how many files were released
+     */
+    record RestoredSavepoint(long id, long released) implements Restore {}
+
+    /**
+     * The job begins again from nothing.
+     *
+     * @param released how many files were released
+     */
+    record RestoredFresh(long released) implements Restore {}
+
+    /**
+     * The job has ended for good.
+     *
+     * @param dropped how many records were dropped
+     * @param released how many files were released
+     */
+    record Cancelled(long dropped, long released) implements Reply {}
+
+    /**
+     * Files were fetched for deletion. Two replies with the same files in the same order are equal.
+     *
+     * @param files the files, the longest waiting first
+     */
+    record Taken(long[] files) implements Reply {
+        /**
+         * Copies the array.
+         *
+         * @param files the files
+         */
+        public Taken {
+            files = files.clone();
+        }
+
+        /**
+         * {@return a copy of the files}
+         */
+        @Override
+        public long[] files() {
+            return files.clone();
+        }
+
+        @Override
+        public boolean equals(Object other) {
+            return other instanceof Taken it && Arrays.equals(files, it.files);
+        }
+
+        @Override
+        public int hashCode() {
+            return Arrays.hashCode(files);
+        }
+
+        @Override
+        public String toString() {
+            return "Taken[files=" + FileNumbers.toString(files) + "]";
+        }
+    }
+
+    /**
+     * A file was reported as deleted.
+     *
+     * @param file its number, unsigned
+     */
+    record Deleted(long file) implements Reply {
+        @Override
+        public String toString() {
+            return "Deleted[file=" + FileNumbers.toString(file) + "]";
+        }
+    }
+
+    /**
+     * A file was reported as not deleted.
+     *
+     * @param file its number, unsigned
+     */
+    record Undeleted(long file) implements Reply {
+        @Override
+        public String toString() {
+            return "Undeleted[file=" + FileNumbers.toString(file) + "]";
+        }
+    }
+
+    /**
+     * The metadata of a record.
+     *
+     * @param json the metadata, as docs/SCRIPT.md describes it
+     */
+    record Shown(String json) implements Reply {
+        private static final Pattern ACK = Pattern.compile("\\{\"files\":\\[([0-9,]*)\\],\"subtask\":\"([0-9]+)\\.([0-9]+)\"\\}");
+
+        /**
+         * {@return the files of each subtask that has acknowledged, ascending, in the order of the subtasks}
+         */
+        public Map<Subtask, long[]> files() {
+            Map<Subtask, long[]> found = new LinkedHashMap<>();
+            Matcher acks = ACK.matcher(json);
+            while (acks.find()) {
+                Subtask subtask = new Subtask(Integer.parseInt(acks.group(2)), Integer.parseInt(acks.group(3)));
+                found.put(subtask, Pattern.compile(",").splitAsStream(acks.group(1)).filter(it -> !it.isEmpty()).mapToLong(FileNumbers::parse).toArray());
+            }
+            return found;
+        }
+    }
+
+    /**
+     * How often a file is used.
+     *
+     * @param file its number, unsigned
+     * @param uses how many acknowledgements and pins of live records use it
+     */
+    record Counted(long file, long uses) implements Reply {
+        @Override
+        public String toString() {
+            return "Counted[file=" + FileNumbers.toString(file) + ", uses=" + uses + "]";
+        }
+    }
+}

@@ -1,0 +1,95 @@
+package relkvanu;
+
+import java.nio.charset.StandardCharsets;
+import java.util.Arrays;
+import java.util.Optional;
+
+/** The words of a line that makes a call, read here: makes the call by its method, or writes it again. */
+final class Words {
+    private final String[] words;
+
+    private Words(byte[] line) {
+        words = new String(line, StandardCharsets.ISO_8859_1).replaceFirst("\r$", "").replaceFirst("^ +", "").split(" +");
+    }
+
+    /** The words, if it makes a call. Throws its fault. */
+    private static Optional<Words> of(byte[] line) {
+        return Lines.says(line) instanceof Line.Call ? Optional.of(new Words(line)) : Optional.empty();
+    }
+
+    static Optional<Reply> byMethod(Coordinator job, byte[] line) {
+        return of(line).map(it -> it.call(job));
+    }
+
+    static Optional<Reply> writtenAgain(Coordinator job, byte[] line) {
+        return of(line).flatMap(it -> job.line(Jobs.line(it.written())));
+    }
+
+    private long number(int place) {
+        return FileNumbers.parse(words[place]);
+    }
+
+    private int subtask(int half) {
+        return Integer.parseInt(words[3].split("\\.")[half]);
+    }
+
+    private long[] files(String sign) {
+        return Arrays.stream(words).skip(4).filter(it -> it.startsWith(sign)).map(it -> it.substring(1)).mapToLong(FileNumbers::parse).toArray();
+    }
+
+    private long[] shape() {
+        return Arrays.stream(words).skip(3).mapToLong(FileNumbers::parse).toArray();
+    }
+
+    private Reply call(Coordinator job) {
+        return switch (words[0]) {
+            case "tick" -> job.tick(number(1));
+            case "savepoint" -> job.savepoint(number(1));
+            case "ack" -> job.ack(number(1), number(2), subtask(0), subtask(1), files("+"), files("="));
+            case "decline" -> job.decline(number(1), number(2), subtask(0), subtask(1));
+            case "dispose" -> job.dispose(number(1));
+            case "restore" -> restored(job);
+            case "cancel" -> job.cancel(number(1));
+            case "take" -> job.take(Long.compareUnsigned(number(1), Integer.MAX_VALUE) < 0 ? (int) number(1) : Integer.MAX_VALUE);
+            case "deleted" -> job.deleted(number(1));
+            case "undeleted" -> job.undeleted(number(1));
+            case "show" -> job.show(number(1));
+            case "count" -> job.count(number(1));
+            default -> throw new AssertionError(words[0]);
+        };
+    }
+
+    private Reply restored(Coordinator job) {
+        boolean isLatest = words[2].equals("latest");
+        if (words.length == 3) {
+            return isLatest ? job.restoreLatest(number(1)) : job.restoreSavepoint(number(1), number(2));
+        }
+        return isLatest ? job.restoreLatest(number(1), shape()) : job.restoreSavepoint(number(1), number(2), shape());
+    }
+
+    private String written() {
+        return switch (words[0]) {
+            case "tick" -> Lines.tick(number(1));
+            case "savepoint" -> Lines.savepoint(number(1));
+            case "ack" -> Lines.ack(number(1), number(2), subtask(0), subtask(1), files("+"), files("="));
+            case "decline" -> Lines.decline(number(1), number(2), subtask(0), subtask(1));
+            case "dispose" -> Lines.dispose(number(1));
+            case "restore" -> restoreLine();
+            case "cancel" -> Lines.cancel(number(1));
+            case "take" -> Lines.take(number(1));
+            case "deleted" -> Lines.deleted(number(1));
+            case "undeleted" -> Lines.undeleted(number(1));
+            case "show" -> Lines.show(number(1));
+            case "count" -> Lines.count(number(1));
+            default -> throw new AssertionError(words[0]);
+        };
+    }
+
+    private String restoreLine() {
+        boolean isLatest = words[2].equals("latest");
+        if (words.length == 3) {
+            return isLatest ? Lines.restoreLatest(number(1)) : Lines.restoreSavepoint(number(1), number(2));
+        }
+        return isLatest ? Lines.restoreLatest(number(1), shape()) : Lines.restoreSavepoint(number(1), number(2), shape());
+    }
+}
