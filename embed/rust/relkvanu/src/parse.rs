@@ -126,7 +126,7 @@ impl FromStr for Kind {
     }
 }
 
-/// Reads a name, and the file that is to blame, as `NameTaken 7`.
+/// Reads a name, and the file that is to blame, as `NameTaken 7`. A refusal that this crate does not know does not read back.
 impl FromStr for Refusal {
     type Err = ParseError;
 
@@ -289,6 +289,7 @@ mod tests {
             Refusal::NotTaken => 12,
             Refusal::NoSuchRecord => 13,
             Refusal::IdsUsedUp => 14,
+            Refusal::Unknown(_) => 15, // of another version: it does not read back
         };
         assert!(all(7).iter().map(place).eq(0..15), "a refusal is left out");
         for file in [0, 7, u64::MAX] {
@@ -306,6 +307,7 @@ mod tests {
             "InUse 0",
             "inuse",
             "InUse ",
+            "Unknown 99",
         ] {
             assert_eq!(other.parse::<Refusal>(), Err(ParseError), "{other:?}");
         }
