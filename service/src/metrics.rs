@@ -242,6 +242,7 @@ impl Gauges {
             Mode::Running => 1,
             Mode::Failed => 2,
             Mode::Cancelled => 3,
+            _ => 0,
         };
         set(&self.mode, &[name], mode);
         let settings = &job.opening.settings;

@@ -11,6 +11,7 @@ pub fn mode(mode: Mode) -> &'static str {
         Mode::Running => "running",
         Mode::Failed => "failed",
         Mode::Cancelled => "cancelled",
+        _ => "unknown",
     }
 }
 
@@ -19,6 +20,7 @@ pub fn choice(choice: Choice) -> Value {
         Choice::Checkpoint(id) => json!({"kind": "checkpoint", "id": id}),
         Choice::Savepoint(id) => json!({"kind": "savepoint", "id": id}),
         Choice::Fresh => json!({"kind": "fresh"}),
+        _ => json!({"kind": "unknown"}),
     }
 }
 
@@ -127,6 +129,7 @@ fn why(entry: &Entry) -> Option<String> {
         A::Restored { .. } => format!("the job was restored, and {dropped}"),
         A::Cancelled { .. } => format!("the job was cancelled, and {dropped}"),
         A::SavepointTriggered(_) | A::Deleted(_) | A::Undeleted(_) | A::Counted { .. } => return None,
+        _ => return None,
     })
 }
 

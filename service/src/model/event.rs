@@ -35,6 +35,7 @@ impl Event {
             Answer::Cancelled { .. } => Some(Event::Cancelled),
             Answer::AckPending { .. } | Answer::AckLate { .. } | Answer::DeclineLate => None,
             Answer::Deleted(_) | Answer::Undeleted(_) | Answer::Counted { .. } => None,
+            _ => None,
         }
     }
 
@@ -62,6 +63,7 @@ pub fn kind(reply: &Reply) -> Option<&'static str> {
             Choice::Checkpoint(_) => "checkpoint",
             Choice::Savepoint(_) => "savepoint",
             Choice::Fresh => "fresh",
+            _ => return None,
         }),
         _ => None,
     }
