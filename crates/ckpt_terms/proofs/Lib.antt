@@ -4,6 +4,7 @@ pub mod Fences
 pub mod Known
 pub mod Modes
 pub mod OnceIssued
+pub mod RangeLemmas
 pub mod SpanLemmas
 pub mod Stepping
 pub mod TermLemmas

@@ -1,15 +1,14 @@
 -- Ranges of names, and what is left of them.
-use Rattle.std.proofs.Common.{◌≡◌, ℕ, zero, suc, ◌+◌, ◌-◌, ◌<◌, ◌≤◌, Bool, true, false, not, ◌||◌, ltb, leb, eqb, List, [], ◌∷◌, ◌++◌, refl, sym, ap, subst, ◌∙◌, inl, inr, ⊎_elim, arith}
+use Rattle.std.proofs.Common.{◌≡◌, ℕ, zero, suc, ◌+◌, ◌-◌, ◌<◌, ◌≤◌, true, false, not, ◌||◌, ltb, leb, eqb, List, [], ◌∷◌, ◌++◌, refl, sym, ap, subst, ◌∙◌, inl, inr, ⊎_elim, arith}
 use Rattle.std.specs.List.{list_any, range_with_len}
 use Rattle.std.proofs.lemmas.Bool.{cases_Bool, both_ways, and_parts, and_from, ltb-true, lt-ltb, leb-true, le-leb, eqb-true, eq-eqb, ne_eqb}
 use Rattle.std.proofs.lemmas.List.{append-nil, append_assoc}
 use Rattle.std.proofs.lemmas.List.Folds.{list_any-append}
 use Rattle.std.proofs.Math.Seq.{drop-cons}
-use Rattle.std.proofs.Math.ListN.{drop_of_length-le}
 use Rattle.std.proofs.Common.{drop, get_or, length}
 use Rattle.ckpt_ids.specs.Ordered.{IsIn}
-use Rattle.ckpt_ids.specs.Ascending.{IsAscending, IsAscendingSet}
-use Rattle.ckpt_ids.proofs.OrderedLemmas.{IsIn-append_right, IsIn-append_cases, ComesBefore-at, filter-same, filter-all, list_any-none, list_any-from_IsIn, IsInOrder-append, IsInOrder-filter}
+use Rattle.ckpt_ids.specs.Ascending.{IsAscendingSet}
+use Rattle.ckpt_ids.proofs.OrderedLemmas.{IsIn-append_right, ComesBefore-at, filter-same, filter-all, list_any-none, list_any-from_IsIn, IsInOrder-append}
 use Rattle.ckpt_terms.specs.declared.names.Span.{Span}
 use Rattle.ckpt_terms.specs.Fencing.{without_all}
 use Rattle.ckpt_terms.specs.Spans.{row, in_span, names_in}
@@ -73,10 +72,7 @@ in_spans f [] = refl
 in_spans f (s ∷ spans) = list_any-append (λ g. eqb f g) (row s) (names_in spans) ∙ ap (λ b. b || list_any (λ g. eqb f g) (names_in spans)) (in_one f s) ∙ ap (λ b. in_span f s || b) (in_spans f spans)
 
 -- leaving names out
-pub keeps : List ℕ → ℕ → Bool
-keeps gone f = not (list_any (λ g. eqb f g) gone)
-
-without-append : (gone xs ys : List ℕ) → without_all gone (xs ++ ys) ≡ without_all gone xs ++ without_all gone ys
+pub without-append : (gone xs ys : List ℕ) → without_all gone (xs ++ ys) ≡ without_all gone xs ++ without_all gone ys
 without-append gone [] ys = refl
 without-append gone (x ∷ xs) ys =
     ⊎_elim
@@ -85,18 +81,18 @@ without-append gone (x ∷ xs) ys =
     (cases_Bool (list_any (λ g. eqb x g) gone))
 
 -- one that is below all of them
-without_below : (g : ℕ) (gone ys : List ℕ) → ((y : ℕ) → IsIn y ys → g < y) → without_all (g ∷ gone) ys ≡ without_all gone ys
+pub without_below : (g : ℕ) (gone ys : List ℕ) → ((y : ℕ) → IsIn y ys → g < y) → without_all (g ∷ gone) ys ≡ without_all gone ys
 without_below g gone ys above = filter-same (λ f. not (list_any (λ x. eqb f x) (g ∷ gone))) (λ f. not (list_any (λ x. eqb f x) gone)) ys (λ y h. let b : g < y = above y h in ap (λ t. not (t || list_any (λ x. eqb y x) gone)) (ne_eqb y g (λ e. absurd (omega arith))))
 
 -- those that are all above
-without_above : (gone ys : List ℕ) → ((y g : ℕ) → IsIn y ys → IsIn g gone → y < g) → without_all gone ys ≡ ys
+pub without_above : (gone ys : List ℕ) → ((y g : ℕ) → IsIn y ys → IsIn g gone → y < g) → without_all gone ys ≡ ys
 without_above gone ys below = filter-all (λ f. not (list_any (λ x. eqb f x) gone)) ys (λ y h. ap not (list_any-none (λ x. eqb y x) gone (λ g k. let b : y < g = below y g h k in ne_eqb y g (λ e. absurd (omega arith)))))
 
-without_itself : (g : ℕ) (gone ys : List ℕ) → without_all (g ∷ gone) (g ∷ ys) ≡ without_all (g ∷ gone) ys
+pub without_itself : (g : ℕ) (gone ys : List ℕ) → without_all (g ∷ gone) (g ∷ ys) ≡ without_all (g ∷ gone) ys
 without_itself g gone ys = let e : eqb g g ≡ true = eq-eqb g g refl in rw e refl
 
 -- in ascending lists
-append_rises : (xs ys : List ℕ) (x y : ℕ) → IsAscendingSet (xs ++ ys) → IsIn x xs → IsIn y ys → x < y
+pub append_rises : (xs ys : List ℕ) (x y : ℕ) → IsAscendingSet (xs ++ ys) → IsIn x xs → IsIn y ys → x < y
 append_rises [] ys x y a h k = absurd h
 append_rises (z ∷ xs) ys x y a h k =
     ⊎_elim
@@ -108,62 +104,6 @@ pub rises_behind : (xs ys : List ℕ) → IsAscendingSet (xs ++ ys) → IsAscend
 rises_behind [] ys a = a
 rises_behind (x ∷ xs) ys a = rises_behind xs ys a.1
 
-from_least : (g : ℕ) (gone : List ℕ) → IsAscending (g ∷ gone) → (x : ℕ) → IsIn x (g ∷ gone) → g ≤ x
-from_least g gone a x h = ⊎_elim (λ (e : x ≡ g). let s : x ≡ g = e in omega arith) (λ (k : IsIn x gone). leb-true g x (ComesBefore-at leb g x gone a.0 k)) h
-
--- What the walk through a range has done so far: `left` is what was left of the range before `from`, and `gone` are the
--- names that are still to be left out.
-pub record IsCarved (left0 left : List Span) (gone0 gone : List ℕ) (whole : Span) (from : ℕ) : Type 0 where
-  pub rises : IsAscending gone
-  pub ahead : (after : List ℕ) → IsAscendingSet (row whole ++ after) → IsAscendingSet (row (span from whole.to) ++ after)
-  pub same : (after : List ℕ) → IsAscendingSet (row whole ++ after) → names_in left ++ without_all gone (row (span from whole.to) ++ after) ≡ names_in left0 ++ without_all gone0 (row whole ++ after)
-
-pub carve_begins : (left : List Span) (gone : List ℕ) (whole : Span) → IsAscending gone → IsCarved left left gone gone whole whole.from
-carve_begins left gone whole a = record { rises = a; ahead = λ after h. h; same = λ after h. refl }
-
--- a name before the rest of the range
-pub carve_skips : (left0 left : List Span) (gone0 : List ℕ) (name : ℕ) (later : List ℕ) (whole : Span) (from : ℕ) → name < from → from < whole.to → IsCarved left0 left gone0 (name ∷ later) whole from → IsCarved left0 left gone0 later whole from
-carve_skips left0 left gone0 name later whole from below some c = record {
-  rises = (c.rises).1;
-  ahead = c.ahead;
-  same = λ after h.
-      let here : List ℕ = row (span from whole.to) in
-      let above : (y : ℕ) → IsIn y (here ++ after) → name < y = λ y k.
-      ⊎_elim
-      (λ (i : IsIn y here). let b : from ≤ y = (row-bounds from whole.to y i).0 in omega arith)
-      (λ (i : IsIn y after). let b : from < y = append_rises here after from y (c.ahead after h) (row-from_bounds from whole.to from (omega arith) some) i in omega arith)
-      (IsIn-append_cases y here after k) in
-      ap (λ xs. names_in left ++ xs) (sym (without_below name later (here ++ after) above)) ∙ c.same after h;
-}
-
--- a name in it
-pub carve_hits : (left0 left next : List Span) (gone0 : List ℕ) (name : ℕ) (later : List ℕ) (whole : Span) (from : ℕ) → from ≤ name → name < whole.to → names_in next ≡ names_in left ++ row (span from name) → IsCarved left0 left gone0 (name ∷ later) whole from → IsCarved left0 next gone0 later whole (name + 1)
-carve_hits left0 left next gone0 name later whole from l r put c =
-    let front : List ℕ = row (span from name) in
-    let back : List ℕ = row (span (name + 1) whole.to) in
-    let split : row (span from whole.to) ≡ front ++ name ∷ back = row_split from whole.to name l r in
-    let cut : (after : List ℕ) → row (span from whole.to) ++ after ≡ front ++ name ∷ (back ++ after) = λ after. ap (λ xs. xs ++ after) split ∙ append_assoc front (name ∷ back) after in
-    record {
-      rises = (c.rises).1;
-      ahead = λ after h. (rises_behind front (name ∷ (back ++ after)) (subst IsAscendingSet (cut after) (c.ahead after h))).1;
-      same = λ after h.
-          let gone : List ℕ = name ∷ later in
-          let rest : List ℕ = back ++ after in
-          let up : IsAscendingSet (name ∷ rest) = rises_behind front (name ∷ rest) (subst IsAscendingSet (cut after) (c.ahead after h)) in
-          let first : without_all gone front ≡ front = without_above gone front (λ y g i k. let b : y < name = (row-bounds from name y i).1 in let d : name ≤ g = from_least name later c.rises g k in omega arith) in
-          let last : without_all gone (name ∷ rest) ≡ without_all later rest = without_itself name later rest ∙ without_below name later rest (λ y i. ltb-true name y (ComesBefore-at ltb name y rest up.0 i)) in
-          let all : without_all gone (row (span from whole.to) ++ after) ≡ front ++ without_all later rest =
-          ap (without_all gone) (cut after) ∙ without-append gone front (name ∷ rest) ∙ ap (λ xs. xs ++ without_all gone (name ∷ rest)) first ∙ ap (λ xs. front ++ xs) last in
-          ap (λ xs. xs ++ without_all later rest) put ∙ append_assoc (names_in left) front (without_all later rest) ∙ ap (λ xs. names_in left ++ xs) (sym all) ∙ c.same after h;
-    }
-
--- the end of the range
-pub carve_ends : (left0 left next : List Span) (gone0 gone : List ℕ) (whole : Span) (from : ℕ) → ((y g : ℕ) → IsIn y (row (span from whole.to)) → IsIn g gone → y < g) → names_in next ≡ names_in left ++ row (span from whole.to) → IsCarved left0 left gone0 gone whole from → (after : List ℕ) → IsAscendingSet (row whole ++ after) → names_in next ++ without_all gone after ≡ names_in left0 ++ without_all gone0 (row whole ++ after)
-carve_ends left0 left next gone0 gone whole from beyond put c after h =
-    let here : List ℕ = row (span from whole.to) in
-    let all : without_all gone (here ++ after) ≡ here ++ without_all gone after = without-append gone here after ∙ ap (λ xs. xs ++ without_all gone after) (without_above gone here beyond) in
-    ap (λ xs. xs ++ without_all gone after) put ∙ append_assoc (names_in left) here (without_all gone after) ∙ ap (λ xs. names_in left ++ xs) (sym all) ∙ c.same after h
-
 -- an added range
 pub added_rises : (spans : List Span) (first count : ℕ) → IsAscendingSet (names_in spans) → ((f : ℕ) → IsIn f (names_in spans) → f < first) → IsAscendingSet (names_in (spans ++ span first (first + count) ∷ []))
 added_rises spans first count a above =
@@ -173,24 +113,6 @@ added_rises spans first count a above =
 pub added_is : (spans : List Span) (first count : ℕ) → names_in (spans ++ span first (first + count) ∷ []) ≡ names_in spans ++ range_with_len first count
 added_is spans first count = let e : (first + count) - first ≡ count = omega arith in names_push spans (span first (first + count)) ∙ ap (λ n. names_in spans ++ range_with_len first n) e
 
--- past the end, or below the next name, no name of the range is to be left out
-pub beyond_end : (from to : ℕ) (gone : List ℕ) → to ≤ from → (y g : ℕ) → IsIn y (row (span from to)) → IsIn g gone → y < g
-beyond_end from to gone h y g i k = let b : (from ≤ y) × (y < to) = row-bounds from to y i in let l : from ≤ y = b.0 in let r : y < to = b.1 in absurd (omega arith)
-
-pub beyond_name : (from to name : ℕ) (later gone : List ℕ) → gone ≡ name ∷ later → IsAscending gone → to ≤ name → (y g : ℕ) → IsIn y (row (span from to)) → IsIn g gone → y < g
-beyond_name from to name later gone e a h y g i k =
-    let In : List ℕ → Type 0 = λ xs. IsIn g xs in
-    let r : y < to = (row-bounds from to y i).1 in
-    let l : name ≤ g = from_least name later (subst IsAscending e a) g (subst In e k) in
-    omega arith
-
--- the steps of the walk, with the names still to be left out as the rest of a list
-pub carve_skips_at : (left0 left : List Span) (gone0 rest : List ℕ) (name : ℕ) (later : List ℕ) (whole : Span) (from : ℕ) → rest ≡ name ∷ later → name < from → from < whole.to → IsCarved left0 left gone0 rest whole from → IsCarved left0 left gone0 later whole from
-carve_skips_at left0 left gone0 rest name later whole from e below some c = let P : List ℕ → Type 0 = λ xs. IsCarved left0 left gone0 xs whole from in carve_skips left0 left gone0 name later whole from below some (subst P e c)
-
-pub carve_hits_at : (left0 left next : List Span) (gone0 rest : List ℕ) (name : ℕ) (later : List ℕ) (whole : Span) (from : ℕ) → rest ≡ name ∷ later → from ≤ name → name < whole.to → names_in next ≡ names_in left ++ row (span from name) → IsCarved left0 left gone0 rest whole from → IsCarved left0 next gone0 later whole (name + 1)
-carve_hits_at left0 left next gone0 rest name later whole from e l r put c = let P : List ℕ → Type 0 = λ xs. IsCarved left0 left gone0 xs whole from in carve_hits left0 left next gone0 name later whole from l r put (subst P e c)
-
 -- the rest of a list, at a place in it
 pub next_cons : {X : Type 0} (xs : List X) (i : ℕ) (d : X) → i < length xs → drop i xs ≡ get_or xs i d ∷ drop (i + 1) xs
 next_cons xs i d h = let s : suc i ≡ i + 1 = omega arith in drop-cons xs i d h ∙ ap (λ k. get_or xs i d ∷ drop k xs) s
@@ -198,13 +120,3 @@ next_cons xs i d h = let s : suc i ≡ i + 1 = omega arith in drop-cons xs i d h
 -- the ranges from a place on
 pub ranges_at : (spans : List Span) (i : ℕ) (d : Span) → i < length spans → names_in (drop i spans) ≡ row (get_or spans i d) ++ names_in (drop (i + 1) spans)
 ranges_at spans i d h = ap names_in (next_cons spans i d h)
-
-pub ranges_rise : (spans : List Span) (i : ℕ) (d : Span) → i < length spans → IsAscendingSet (names_in (drop i spans)) → IsAscendingSet (row (get_or spans i d) ++ names_in (drop (i + 1) spans))
-ranges_rise spans i d h a = subst IsAscendingSet (ranges_at spans i d h) a
-
--- what is left in the end
-pub left_is : (left spans : List Span) (i : ℕ) (gone0 gone : List ℕ) → length spans ≤ i → names_in left ++ without_all gone (names_in (drop i spans)) ≡ without_all gone0 (names_in spans) → names_in left ≡ without_all gone0 (names_in spans)
-left_is left spans i gone0 gone h e = sym (append-nil (names_in left)) ∙ sym (ap (λ xs. names_in left ++ without_all gone (names_in xs)) (drop_of_length-le spans h)) ∙ e
-
-pub left_rises : (left spans : List Span) (gone0 : List ℕ) → IsAscendingSet (names_in spans) → names_in left ≡ without_all gone0 (names_in spans) → IsAscendingSet (names_in left)
-left_rises left spans gone0 a e = subst IsAscendingSet (sym e) (IsInOrder-filter ltb (λ f. not (list_any (λ g. eqb f g) gone0)) (names_in spans) a)

@@ -1,7 +1,9 @@
 -- Ranges of names.
-use Rattle.std.specs.Prelude.{ℕ, ◌-◌, Bool, ◌&&◌, nat_lt, nat_le, List, flat_map}
-use Rattle.std.specs.List.{range_with_len}
+use Rattle.std.specs.Prelude.{◌≡◌, ℕ, ◌+◌, ◌-◌, ◌<◌, ◌≤◌, Bool, ◌&&◌, nat_lt, nat_le, List, [], ◌∷◌, flat_map, length}
+use Rattle.std.specs.List.{All, HoldsAt, range_with_len}
+use Rattle.ckpt_ids.specs.Ascending.{IsAscendingSet}
 use Rattle.ckpt_terms.specs.declared.names.Span.{Span}
+use Rattle.ckpt_terms.specs.Fencing.{without_all}
 
 -- the names of a range
 abbrev pub row : Span → List ℕ
@@ -12,3 +14,27 @@ in_span name s = nat_le s.from name && nat_lt name s.to
 
 abbrev pub names_in : List Span → List ℕ
 names_in spans = flat_map row spans
+
+-- in ascending order, and none is empty
+pub record AreRanges (spans : List Span) : Type 0 where
+  pub some : All (λ s. s.from < s.to) spans
+  pub ascending : IsAscendingSet (names_in spans)
+
+-- ranges with this many names, and room for as many ranges as these can be split into
+pub record AreKept (spans : List Span) (held len room : ℕ) : Type 0 where
+  pub ranges : AreRanges spans
+  pub names : length (names_in spans) ≡ held
+  pub fits : held + len ≤ room + room
+
+-- the range at this place has the name
+pub record HasAt (spans : List Span) (place : ℕ) (s : Span) (name : ℕ) : Type 0 where
+  pub within : place < length spans
+  pub there : HoldsAt (λ t. t ≡ s) spans place
+  pub from : s.from ≤ name
+  pub to : name < s.to
+
+-- a name is taken out
+pub record IsCut (old new : List Span) (name : ℕ) : Type 0 where
+  pub names : names_in new ≡ without_all (name ∷ []) (names_in old)
+  pub count : length (names_in new) + 1 ≡ length (names_in old)
+  pub ranges : AreRanges new

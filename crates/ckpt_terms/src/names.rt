@@ -1,12 +1,11 @@
 //! The names that tasks hold, as ranges.
 
-ghost use Rattle.std.specs.Prelude.{◌≡◌, ◌<◌, ◌≤◌, ◌+◌, ◌^◌, ℕ, List, [], ◌∷◌, ◌++◌, length, drop, find, not, None, IfSome, IfOk, OnOk, OnErr};
+ghost use Rattle.std.specs.Prelude.{◌≡◌, ◌<◌, ◌≤◌, ◌+◌, ◌^◌, ℕ, [], ◌∷◌, ◌++◌, length, find, nat_le, not, true, false, None, IfSome, OnOk, OnErr, vec_capacity, vec_len};
 ghost use Rattle.std.specs.List.{list_any, range_with_len};
 ghost use Rattle.std.specs.Prelude.{◌==◌};
-ghost use Rattle.ckpt_ids.specs.Ascending.{IsAscending, IsAscendingSet};
 ghost use Rattle.ckpt_ids.specs.Ordered.{IsIn};
 ghost use Rattle.ckpt_terms.specs.Fencing.{without_all};
-ghost use Rattle.ckpt_terms.specs.Spans.{in_span, names_in, row};
+ghost use Rattle.ckpt_terms.specs.Spans.{AreRanges, HasAt, IsCut, in_span, names_in};
 
 use ckpt_ids::{FileId, Files};
 use std::alloc::{AllocError, Global};
@@ -23,43 +22,44 @@ pub struct Span {
 
 impl Span {
     /// Whether the name is in the range.
-    fn has(&self, name: FileId) -> bool
+    fn has(&self, name: u64) -> bool
         ensures { result ≡ in_span name self.now }
     {
-        self.from <= name.0 && name.0 < self.to
+        self.from <= name && name < self.to
     }
 }
 
-/// Whether the name is in one of the ranges. Visits each.
-fn some_has(spans: &[Span], name: FileId) -> bool
-    ensures { result ≡ list_any (in_span name) spans.now }
-{
-    spans.iter().any(|span| span.has(name))
-}
-
 /// Names in ascending order, kept as ranges.
+///
+/// Names that are taken out can split a range. Room for that is reserved when names are added, at
+/// most 16 bytes for each name. So taking names out needs no memory.
 #[derive(Debug)]
 pub struct Names {
     alloc: Global,
     spans: Vec<Span>,
+    // How many names they have.
+    held: u64,
 }
 
 impl Drop for Names {
     fn drop(self) {
-        let Names { alloc: _, spans: _ } = self;
+        let Names {
+            alloc: _,
+            spans: _,
+            held: _,
+        } = self;
     }
 }
 
 impl Model for Names {
-    ghost use Rattle.std.specs.Prelude.{ℕ, List};
-    ghost use Rattle.ckpt_ids.specs.Ascending.{IsAscendingSet};
-    ghost use Rattle.ckpt_terms.specs.Spans.{names_in};
+    ghost use Rattle.std.specs.Prelude.{ℕ, List, vec_capacity, vec_len};
+    ghost use Rattle.ckpt_terms.specs.Spans.{AreKept, names_in};
 
     ghost Value = { List ℕ };
 
     ghost view = { λ n. names_in n.spans.items };
 
-    ghost invariant = { λ n. IsAscendingSet (names_in n.spans.items) };
+    ghost invariant = { λ n. AreKept n.spans.items n.held (vec_len n.spans) (vec_capacity n.spans) };
 }
 
 impl Names {
@@ -70,17 +70,18 @@ impl Names {
         Names {
             alloc,
             spans: Vec::new(alloc),
+            held: 0,
         }
     }
 
-    /// Whether the name is one of them. Visits each range.
+    /// Whether the name is one of them. Makes a binary search among the ranges.
     pub fn contains(&self, name: FileId) -> bool
         ensures { result ≡ list_any (λ g. name == g) self.now }
     {
-        some_has(&self.spans, name)
+        range_with(&self.spans, name.0).is_some()
     }
 
-    /// The first of these that is not one of them. Visits each range for each.
+    /// The first of the files whose name is not one of these.
     pub fn first_absent(&self, files: &[FileId]) -> Option<FileId>
         ensures { result ≡ find (λ f. not (list_any (λ g. f == g) self.now)) files.now }
     {
@@ -96,80 +97,109 @@ impl Names {
         ensures ok { OnOk result (self.new ≡ self.old ++ range_with_len first count) }
         ensures err { OnErr result (self.new ≡ self.old) }
     {
-        self.spans.push(Span {
+        if count == 0 {
+            return Ok(());
+        }
+        let Some(held) = self.held.checked_add(count) else {
+            return Err(AllocError);
+        };
+        make_room(&mut self.spans, held)?;
+        self.spans.push_reserved(Span {
             from: first,
             to: first + count,
-        })?;
+        });
+        self.held = held;
         Ok(())
     }
 
-    /// The names without these. Fails only if memory runs out.
-    pub fn without(&self, gone: &Files) -> Result<Names, AllocError>
-        ensures { IfOk result (λ left. left ≡ without_all gone.now self.now) }
+    /// Takes out those of these names that are there. Takes no memory.
+    pub fn remove_all(&mut self, gone: &Files)
+        ensures { self.new ≡ without_all gone.now self.old }
     {
         let numbers = gone.as_slice();
-        let mut next = 0;
-        let mut left = Vec::new(self.alloc);
-        let spans = self.spans.as_slice();
-        for place in 0..spans.len() {
-            let span = spans[place];
-            next = carve(&mut left, span, numbers, next)?;
+        for name in numbers {
+            self.remove(*name);
         }
-        Ok(Names {
-            alloc: self.alloc,
-            spans: left,
-        })
+    }
+
+    /// Takes the name out, if it is there.
+    fn remove(&mut self, name: FileId)
+        ensures { self.new ≡ without_all (name ∷ []) self.old }
+    {
+        if let Some((place, span)) = range_with(&self.spans, name.0) {
+            cut(&mut self.spans, place, span, name.0);
+            self.held -= 1;
+        }
     }
 }
 
-/// Puts what is left of a range without the names from this place on at the end of `left`. Returns
-/// the place of those that are to be left out after it. Fails only if memory runs out.
+/// The range that has this name with its place, if there is one. Makes a binary search.
 ///
-/// Condition: the names are in ascending order.
-fn carve(
-    left: &mut Vec<Span>,
-    span: Span,
-    gone: &[FileId],
-    place: usize,
-) -> Result<usize, AllocError>
-    requires ascending { IsAscending (drop place gone.now) }
-    ensures ascending { IfOk result (λ next. IsAscending (drop next gone.now)) }
-    ensures carved { IfOk result (λ next. (after : List ℕ) → IsAscendingSet (row span ++ after) → names_in left.new.items ++ without_all (drop next gone.now) after ≡ names_in left.old.items ++ without_all (drop place gone.now) (row span ++ after)) }
+/// Condition: the ranges are in ascending order, and none is empty.
+fn range_with(spans: &[Span], name: u64) -> Option<(usize, Span)>
+    requires { AreRanges spans.now }
+    ensures some { IfSome result (λ found. HasAt spans.now found.0 found.1 name) }
+    ensures none { result ≡ None → list_any (in_span name) spans.now ≡ false }
 {
-    let mut from = span.from;
-    let mut next = place;
-    while let Some(name) = name_within(gone, next, from, span.to) {
-        if from <= name {
-            push_span(left, from, name)?;
-            from = name + 1;
-        }
-        next += 1;
-    }
-    push_span(left, from, span.to)?;
-    Ok(next)
-}
-
-/// The name at this place, if it is below `to`, and the range from `from` to `to` has names.
-///
-/// Condition: the names from there on are in ascending order.
-fn name_within(gone: &[FileId], place: usize, from: u64, to: u64) -> Option<u64>
-    requires ascending { IsAscending (drop place gone.now) }
-    ensures some { IfSome result (λ name. (place < length gone.now) × (from < to) × (name < to) × (drop place gone.now ≡ name ∷ drop (place + 1) gone.now)) }
-    ensures none { result ≡ None → (y g : ℕ) → IsIn y (row (record { from = from; to = to })) → IsIn g (drop place gone.now) → y < g }
-{
-    if from >= to || place >= gone.len() {
+    let place = spans.partition_point(
+        |span: &Span| -> bool
+            ensures { result ≡ nat_le span.now.to name }
+        { span.to <= name },
+    );
+    if place == spans.len() {
         return None;
     }
-    let name = gone[place];
-    if name.0 < to { Some(name.0) } else { None }
+    let span = spans[place];
+    if span.has(name) {
+        Some((place, span))
+    } else {
+        None
+    }
 }
 
-/// Puts a range at the end, unless it has no names. Fails only if memory runs out.
-fn push_span(spans: &mut Vec<Span>, from: u64, to: u64) -> Result<(), AllocError>
-    ensures { OnOk result (names_in spans.new.items ≡ names_in spans.old.items ++ row (record { from = from; to = to })) }
+/// Makes room for one more range, and for as many as this many names can be split into. A growth at
+/// least doubles the room. Fails only if memory runs out.
+fn make_room(spans: &mut Vec<Span>, held: u64) -> Result<(), AllocError>
+    ensures items { spans.new.items ≡ spans.old.items }
+    ensures len { vec_len spans.new ≡ vec_len spans.old }
+    ensures capacity { vec_capacity spans.old ≤ vec_capacity spans.new }
+    ensures room { OnOk result (held + vec_len spans.old + 1 ≤ vec_capacity spans.new + vec_capacity spans.new) }
 {
-    if from < to {
-        spans.push(Span { from, to })?;
+    let room = held as usize / 2 + spans.len() / 2 + 2;
+    spans.reserve(room.saturating_sub(spans.len()))
+}
+
+/// Takes a name out of the range at this place, which may split it.
+///
+/// Conditions: the ranges are in ascending order, none is empty, this one is at the place and has
+/// the name, and there is room for as many ranges as the names can be split into.
+fn cut(spans: &mut Vec<Span>, place: usize, span: Span, name: u64)
+    requires at { HasAt spans.old.items place span name }
+    requires ranges { AreRanges spans.old.items }
+    requires room { length (names_in spans.old.items) + vec_len spans.old ≤ vec_capacity spans.old + vec_capacity spans.old }
+    ensures cut { IsCut spans.old.items spans.new.items name }
+    ensures room { length (names_in spans.new.items) + vec_len spans.new ≤ vec_capacity spans.new + vec_capacity spans.new }
+{
+    let before = Span {
+        from: span.from,
+        to: name,
+    };
+    let after = Span {
+        from: name + 1,
+        to: span.to,
+    };
+    match (before.from < before.to, after.from < after.to) {
+        (false, false) => {
+            spans.remove(place);
+        }
+        (true, false) => spans[place] = before,
+        (false, true) => spans[place] = after,
+        (true, true) => {
+            spans[place] = after;
+            match spans.insert(place, before) {
+                Ok(()) => (),
+                Err(_) => unreachable!(),
+            }
+        }
     }
-    Ok(())
 }

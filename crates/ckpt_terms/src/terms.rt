@@ -1,6 +1,6 @@
 //! A coordinator whose tasks reserve the names of their files.
 
-ghost use Rattle.std.specs.Prelude.{◌≡◌, ◌↔◌, ◌<◌, ◌≤◌, ◌+◌, ℕ, [], IfOk, IfSome, OnErr, None, find, length, not, true, unwrap_or, ◌^◌, if◌then◌else◌};
+ghost use Rattle.std.specs.Prelude.{◌≡◌, ◌↔◌, ◌<◌, ◌≤◌, ◌+◌, ℕ, [], IfOk, IfSome, OnErr, None, find, not, true, ◌^◌, if◌then◌else◌};
 ghost use Rattle.std.specs.Result.{result_err};
 ghost use Rattle.ckpt_ids.specs.declared.call.Call.TheVariants as call;
 ghost use Rattle.ckpt_model.specs.Soundness.{IsCall};
@@ -85,8 +85,8 @@ impl Terms {
 
     /// Makes a call, and returns its answer. Fails only if memory runs out, and then nothing has
     /// changed. Only these take memory, and only if they are not [`FencedAnswer::Fenced`]: a
-    /// reservation, names given up, an acknowledgement with fresh files, and what takes memory in
-    /// [`Core::apply`].
+    /// reservation, and what takes memory in [`Core::apply`]. So a call that the coordinator refuses
+    /// takes none.
     pub fn apply(&mut self, call: &FencedCall) -> Result<FencedAnswer, AllocError>
         ensures done { IfOk result (λ answer. fenced_step self.old call.now ≡ (self.new, answer)) }
         ensures memory { OnErr result (wants_memory self.old call.now ≡ true) }
@@ -95,7 +95,7 @@ impl Terms {
     {
         match call {
             FencedCall::Reserve { term, count } => self.reserve(*term, *count),
-            FencedCall::Forfeit { term, names } => self.forfeit(*term, names),
+            FencedCall::Forfeit { term, names } => Ok(self.forfeit(*term, names)),
             FencedCall::Make { term, call } => self.make(*term, call),
         }
     }
@@ -132,16 +132,14 @@ impl Terms {
         None
     }
 
-    fn forfeit(&mut self, term: u64, names: &Files) -> Result<FencedAnswer, AllocError>
-        ensures done { IfOk result (λ answer. fenced_step self.old (Forfeit term names.now) ≡ (self.new, answer)) }
-        ensures memory { OnErr result (wants_memory self.old (Forfeit term names.now) ≡ true) }
-        ensures unchanged { OnErr result (self.new ≡ self.old) }
+    fn forfeit(&mut self, term: u64, names: &Files) -> FencedAnswer
+        ensures { fenced_step self.old (Forfeit term names.now) ≡ (self.new, result) }
     {
         if term != self.term {
-            return Ok(FencedAnswer::Fenced(FencedRefusal::OldTerm));
+            return FencedAnswer::Fenced(FencedRefusal::OldTerm);
         }
-        self.unspent = self.unspent.without(names)?;
-        Ok(FencedAnswer::Forfeited)
+        self.unspent.remove_all(names);
+        FencedAnswer::Forfeited
     }
 
     fn make(&mut self, term: u64, call: &Call) -> Result<FencedAnswer, AllocError>
@@ -154,11 +152,10 @@ impl Terms {
         if let Some(why) = self.refuses_make(term, call) {
             return Ok(FencedAnswer::Fenced(why));
         }
-        // It is made before the coordinator changes, so that nothing can fail after that.
-        let left = self.left_by(call)?;
         match self.core.apply(call) {
             Ok(reply) => {
-                put_in(&mut self.unspent, left);
+                // Nothing may fail once the coordinator has changed, and this takes no memory.
+                spend(&mut self.unspent, self.alloc, call);
                 self.term = term_after(self.term, call);
                 Ok(FencedAnswer::Made {
                     term: self.term,
@@ -204,20 +201,6 @@ impl Terms {
         }
     }
 
-    /// The names that are held after the call, or `None` if they stay.
-    fn left_by(&self, call: &Call) -> Result<Option<Names>, AllocError>
-        ensures left { IfOk result (λ left. unwrap_or left self.now.unspent ≡ unspent_after self.now.unspent call.now) }
-        ensures memory { OnErr result (0 < length (fresh_of call.now)) }
-    {
-        if ends(call) {
-            return Ok(Some(Names::new(self.alloc)));
-        }
-        match fresh_of(call) {
-            Some(fresh) => Ok(Some(self.unspent.without(fresh)?)),
-            None => Ok(None),
-        }
-    }
-
     /// Whether the name was given out, and no live record uses its file, it does not wait for
     /// deletion and was not fetched for it, and no task of the running term may write it.
     pub fn is_garbage(&self, file: FileId) -> bool
@@ -249,24 +232,25 @@ fn is_of_task(call: &Call) -> bool
     matches!(call, Call::Ack { .. } | Call::Decline { .. })
 }
 
-/// The fresh files of an acknowledgement, if it has any.
+/// The fresh files of an acknowledgement.
 fn fresh_of(call: &Call) -> Option<&Files>
     ensures some { IfSome result (λ files. files.now ≡ fresh_of call.now) }
-    ensures any { IfSome result (λ files. 0 < length (fresh_of call.now)) }
     ensures none { result ≡ None → fresh_of call.now ≡ [] }
 {
     match call {
-        Call::Ack { fresh, .. } if !fresh.is_empty() => Some(fresh),
+        Call::Ack { fresh, .. } => Some(fresh),
         _ => None,
     }
 }
 
-/// Puts these names in the place of the others, if there are some.
-fn put_in(names: &mut Names, left: Option<Names>)
-    ensures { names.new ≡ unwrap_or left names.old }
+/// Leaves the names that are held after the call, if it is accepted.
+fn spend(names: &mut Names, alloc: Global, call: &Call)
+    ensures { names.new ≡ unspent_after names.old call.now }
 {
-    if let Some(left) = left {
-        *names = left;
+    if ends(call) {
+        *names = Names::new(alloc);
+    } else if let Some(fresh) = fresh_of(call) {
+        names.remove_all(fresh);
     }
 }
 

@@ -1,14 +1,33 @@
 -- Answers the goals of `Names::add`.
-use Rattle.std.proofs.Common.{ℕ, ◌<◌, sym, subst, List}
+use Rattle.std.proofs.Common.{◌≡◌, ◌<◌, ◌≤◌, ◌+◌, ◌++◌, ◌∷◌, [], ℕ, List, length, arith, sym, subst, ap, ◌∙◌, vec_len, vec_capacity}
 use Rattle.ckpt_ids.specs.Ordered.{IsIn}
-use Rattle.ckpt_ids.specs.Ascending.{IsAscendingSet}
 use Rattle.ckpt_terms.specs.declared.names.Span.{Span}
-use Rattle.ckpt_terms.specs.Spans.{names_in}
-use Rattle.ckpt_terms.proofs.SpanLemmas.{added_rises}
+use Rattle.ckpt_terms.specs.Spans.{AreKept, names_in}
+use Rattle.ckpt_terms.proofs.SpanLemmas.{span}
+use Rattle.ckpt_terms.proofs.RangeLemmas.{fewer, added}
 use Rattle.ckpt_terms.proofs.names.Names.add.Goals as goal
+
+pub push_reserved-requires : goal.push_reserved-requires
+push_reserved-requires c =
+    let xs : List Span = c.self.inside.spans.items in
+    let few : length xs ≤ length (names_in xs) = fewer xs c.self.invariant.ranges.some in
+    let same : length (names_in xs) ≡ c.self.inside.held = c.self.invariant.names in
+    let sum : c.in-Some.held ≡ c.self.inside.held + c.args.count = c.in-Some.ensures.1 in
+    omega (arith, c.in_ok-make_room.ensures.room, c.in_ok-make_room.ensures.len)
 
 pub invariant_of-self-2 : goal.invariant_of-self-2
 invariant_of-self-2 c =
-    let Rises : List Span → Type 0 = λ spans. IsAscendingSet (names_in spans) in
+    let xs : List Span = c.self.inside.spans.items in
+    let len : ℕ = vec_len c.self.inside.spans in
+    let room : ℕ = vec_capacity c.push_reserved.new.self in
+    let held : ℕ = c.in-Some.held in
+    let new : Span = span c.args.first (c.args.first + c.args.count) in
     let Below : List ℕ → Type 0 = λ names. (f : ℕ) → IsIn f names → f < c.args.first in
-    subst Rises (sym c.in_ok-push.ensures.items) (added_rises c.self.inside.spans.items c.args.first c.args.count c.self.invariant (subst Below (sym c.self.view_is) c.requires.above))
+    let Items : List Span → Type 0 = λ ys. AreKept ys held (vec_len c.push_reserved.new.self) room in
+    let Len : ℕ → Type 0 = λ n. AreKept (xs ++ new ∷ []) held n room in
+    let sum : held ≡ c.self.inside.held + c.args.count = c.in-Some.ensures.1 in
+    let put : c.push_reserved.new.self.items ≡ xs ++ new ∷ [] = c.push_reserved.ensures.items ∙ ap (λ ys. ys ++ new ∷ []) c.in_ok-make_room.ensures.items in
+    let longer : len + 1 ≡ vec_len c.push_reserved.new.self = omega (arith, c.in_ok-make_room.ensures.len, c.push_reserved.ensures.len) in
+    let fits : held + len + 1 ≤ room + room = omega (arith, c.in_ok-make_room.ensures.room, c.push_reserved.ensures.capacity) in
+    let some : 0 < c.args.count = omega arith in
+    subst Items (sym put) (subst Len longer (added xs c.args.first c.args.count c.self.inside.held len (vec_capacity c.self.inside.spans) held room c.self.invariant (subst Below (sym c.self.view_is) c.requires.above) some sum fits))

@@ -7,15 +7,15 @@ use Rattle.ckpt_terms.specs.Fencing.{Fenced, fenced_step}
 use Rattle.ckpt_terms.proofs.TermLemmas.{layer, forfeit_off, forfeit_on, forfeit_fenced}
 use Rattle.ckpt_terms.proofs.terms.Terms.forfeit.Goals as goal
 
-pub returns-then-term-self-clause-done : goal.returns-then-term-self-clause-done
-returns-then-term-self-clause-done c =
+pub returns-then-term-self : goal.returns-then-term-self
+returns-then-term-self c =
     let P : Fenced → Type 0 = λ m. fenced_step m (Forfeit c.args.term c.args.names.now) ≡ (m, answer.Fenced OldTerm) in
     subst P c.self.view_is (forfeit_off (layer c.self.inside.core c.self.inside.term c.self.inside.next_name c.self.inside.unspent) c.args.term c.args.names.now c.if-term-self.true)
 
 pub invariant_of-self : goal.invariant_of-self
-invariant_of-self c = forfeit_fenced (layer c.self.inside.core c.self.inside.term c.self.inside.next_name c.self.inside.unspent) c.args.names.now c.in_ok-self-inside.field-0 c.in_ok-self-inside.ensures c.self.invariant
+invariant_of-self c = forfeit_fenced (layer c.self.inside.core c.self.inside.term c.self.inside.next_name c.self.inside.unspent) c.args.names.now c.remove_all.new.self c.remove_all.ensures c.self.invariant
 
-pub returns-clause-done : goal.returns-clause-done
-returns-clause-done c =
-    let P : Fenced → Type 0 = λ m. fenced_step m (Forfeit c.args.term c.args.names.now) ≡ (layer c.self.inside.core c.self.inside.term c.self.inside.next_name c.in_ok-self-inside.field-0, answer.Forfeited) in
-    subst P c.self.view_is (forfeit_on (layer c.self.inside.core c.self.inside.term c.self.inside.next_name c.self.inside.unspent) c.args.term c.args.names.now c.in_ok-self-inside.field-0 c.if-term-self.false c.in_ok-self-inside.ensures)
+pub returns : goal.returns
+returns c =
+    let P : Fenced → Type 0 = λ m. fenced_step m (Forfeit c.args.term c.args.names.now) ≡ (layer c.self.inside.core c.self.inside.term c.self.inside.next_name c.remove_all.new.self, answer.Forfeited) in
+    subst P c.self.view_is (forfeit_on (layer c.self.inside.core c.self.inside.term c.self.inside.next_name c.self.inside.unspent) c.args.term c.args.names.now c.remove_all.new.self c.if-term-self.false c.remove_all.ensures)

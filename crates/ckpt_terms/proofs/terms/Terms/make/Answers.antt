@@ -1,6 +1,6 @@
 -- Answers the goals of `Terms::make`.
 use Rattle.std.proofs.Common.{◌≡◌, refl, sym, subst, ap, ◌∙◌, None, Some}
-use Rattle.std.specs.Prelude.{Err, unwrap_or}
+use Rattle.std.specs.Prelude.{Err}
 use Rattle.ckpt_ids.specs.declared.reply.Answer.TheVariants.{Done, Refused}
 use Rattle.ckpt_model.specs.State.{State}
 use Rattle.ckpt_model.specs.Refusals.{refusal}
@@ -8,7 +8,7 @@ use Rattle.ckpt_model.specs.Steps.{step}
 use Rattle.ckpt_model.proofs.Answering.StepCases.{step_refused}
 use Rattle.ckpt_terms.specs.declared.call.FencedCall.TheVariants.{Make}
 use Rattle.ckpt_terms.specs.declared.call.FencedAnswer.TheVariants as answer
-use Rattle.ckpt_terms.specs.Fencing.{Fenced, fence, fenced_step, unspent_after}
+use Rattle.ckpt_terms.specs.Fencing.{Fenced, fence, fenced_step}
 use Rattle.ckpt_terms.proofs.Stepping.{fenced_off}
 use Rattle.ckpt_terms.proofs.TermLemmas.{layer, make_on, make_fenced}
 use Rattle.ckpt_terms.proofs.terms.Terms.make.Goals as goal
@@ -20,16 +20,14 @@ pub invariant_of-self : goal.invariant_of-self
 invariant_of-self c =
     let m : Fenced = layer c.self.inside.core c.self.inside.term c.self.inside.next_name c.self.inside.unspent in
     let Passes : Fenced → Type 0 = λ m. fence m (Make c.args.term c.args.call.now) ≡ None in
-    let Leaves : Fenced → Type 0 = λ m. unwrap_or c.in_ok-left.left m.unspent ≡ unspent_after m.unspent c.args.call.now in
-    make_fenced m c.args.term c.args.call.now c.apply.new.self (Done c.in-Ok.reply) c.term_after-self-inside.result c.put_in.new.names c.recall_call.ensures (subst Passes (sym c.self.view_is) (sym c.refuses_make.ensures ∙ c.in_default.is)) c.in-Ok.ensures.done c.term_after-self-inside.ensures (c.put_in.ensures ∙ subst Leaves (sym c.self.view_is) c.in_ok-left.ensures.left) c.self.invariant
+    make_fenced m c.args.term c.args.call.now c.apply.new.self (Done c.in-Ok.reply) c.term_after-self-inside.result c.spend.new.names c.recall_call.ensures (subst Passes (sym c.self.view_is) (sym c.refuses_make.ensures ∙ c.in_default.is)) c.in-Ok.ensures.done c.term_after-self-inside.ensures c.spend.ensures c.self.invariant
 
 pub returns-in-Ok-clause-done : goal.returns-in-Ok-clause-done
 returns-in-Ok-clause-done c =
     let m : Fenced = layer c.self.inside.core c.self.inside.term c.self.inside.next_name c.self.inside.unspent in
     let Passes : Fenced → Type 0 = λ m. fence m (Make c.args.term c.args.call.now) ≡ None in
-    let Leaves : Fenced → Type 0 = λ m. unwrap_or c.in_ok-left.left m.unspent ≡ unspent_after m.unspent c.args.call.now in
-    let Goal : Fenced → Type 0 = λ m. fenced_step m (Make c.args.term c.args.call.now) ≡ (layer c.apply.new.self c.term_after-self-inside.result c.self.inside.next_name c.put_in.new.names, answer.Made c.term_after-self-inside.result (Done c.in-Ok.reply)) in
-    subst Goal c.self.view_is (make_on m c.args.term c.args.call.now c.apply.new.self (Done c.in-Ok.reply) c.term_after-self-inside.result c.put_in.new.names (subst Passes (sym c.self.view_is) (sym c.refuses_make.ensures ∙ c.in_default.is)) c.in-Ok.ensures.done c.term_after-self-inside.ensures (c.put_in.ensures ∙ subst Leaves (sym c.self.view_is) c.in_ok-left.ensures.left))
+    let Goal : Fenced → Type 0 = λ m. fenced_step m (Make c.args.term c.args.call.now) ≡ (layer c.apply.new.self c.term_after-self-inside.result c.self.inside.next_name c.spend.new.names, answer.Made c.term_after-self-inside.result (Done c.in-Ok.reply)) in
+    subst Goal c.self.view_is (make_on m c.args.term c.args.call.now c.apply.new.self (Done c.in-Ok.reply) c.term_after-self-inside.result c.spend.new.names (subst Passes (sym c.self.view_is) (sym c.refuses_make.ensures ∙ c.in_default.is)) c.in-Ok.ensures.done c.term_after-self-inside.ensures c.spend.ensures)
 
 pub returns-in-Err-Refused-clause-done : goal.returns-in-Err-Refused-clause-done
 returns-in-Err-Refused-clause-done c =

@@ -1,0 +1,7 @@
+-- The loop of `Names::remove_all`.
+use Rattle.std.proofs.Common.{◌≡◌, take}
+use Rattle.ckpt_terms.specs.Fencing.{without_all}
+use Rattle.ckpt_terms.proofs.names.Names.remove_all.Given as goal
+
+abbrev pub invariant-loop-name : goal.invariant-loop-name
+invariant-loop-name l = l.self ≡ without_all (take l.name-index l.numbers) l.fn.self
