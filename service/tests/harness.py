@@ -330,11 +330,11 @@ class PgArchive:
         return json.loads(self.database.sql(f"select coalesce(json_agg(seq), '[]') from ({rows}) it"))
 
 
-def until(said, seconds=20, each=0.05):
-    """Waits until `said()` is true, and returns it."""
+def until(said, seconds=20, each=0.05, told=lambda: ""):
+    """Waits until `said()` is true, and returns it. If it does not come to be, the error says what `told()` returns."""
     end = time.monotonic() + seconds
     while time.monotonic() < end:
         if found := said():
             return found
         time.sleep(each)
-    raise AssertionError("it did not come to be in time")
+    raise AssertionError(f"it did not come to be in time {told()}")

@@ -32,7 +32,7 @@ def test_a_database_that_stops():
                 database.start()
                 server.wait_ready(kept=True)
             # the connection of the writer alone
-            database.sql("select pg_terminate_backend(pid) from pg_stat_activity where application_name = 'relkvanu' and query like '%$9::bigint%'")
+            cut_writer(database)
             time.sleep(0.5)
             server.wait_ready(kept=True)
         kept.over.set()
@@ -67,6 +67,12 @@ def test_a_dump_of_a_service_that_runs():
         return f"{sum(counts)} of {sum(map(len, logs.values()))} calls in the copy, {sum(before.values())} before it was made"
 
 
+def cut_writer(database):
+    """Ends the connection of the leader's writer. It is known by its last statement, which may be another one than a commit just then."""
+    ended = "select pg_terminate_backend(pid) from pg_stat_activity where application_name = 'relkvanu' and query like '%$9::bigint%'"
+    until(lambda: database.sql(ended))
+
+
 def leads(server):
     return server.process.poll() is None and server.get("/readyz")[0] == 200
 
@@ -90,10 +96,10 @@ def test_take_over():
                 epochs.append(int(database.sql("select epoch from leader")))
                 started = time.monotonic()
                 if way == "cut":
-                    database.sql("select pg_terminate_backend(pid) from pg_stat_activity where application_name = 'relkvanu' and query like '%$9::bigint%'")
+                    cut_writer(database)
                 else:
                     leader.process.send_signal(signal.SIGSTOP if way == "stop" else signal.SIGKILL)
-                until(lambda: leads(standby), 20, 0.01)
+                until(lambda: leads(standby), 20, 0.01, lambda: (way, leader.log()[-400:], standby.log()[-400:]))
                 times.append(time.monotonic() - started)
                 time.sleep(random.uniform(0, 0.5))
                 leader.process.send_signal(signal.SIGCONT) if leader.process.poll() is None else None
