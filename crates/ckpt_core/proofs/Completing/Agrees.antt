@@ -87,7 +87,7 @@ its_above {p} {now} {id} {s} {fresh} {reused} {r} t checkpoint c h =
     let there = (IsIn-from_find (has_number id) r p.pending t.found).0 in
     let k = g.checkpoints_done c h in
     let pending : r.done ≡ false = (t.pending r there).not_done in
-    t.sound.sound.newer (with_pins p.registry r) c
+    t.sound.sound.records.newer (with_pins p.registry r) c
     (IsIn-in_order id_before (with_pins p.registry r) all (IsIn-append_left (with_pins p.registry r) pinned done (IsIn-map (with_pins p.registry) r p.pending there)))
     (IsIn-in_order id_before c all (IsIn-append_right c pinned done (IsIn-append_left c p.store.checkpoints p.store.savepoints h)))
     (and_from (is_pending r) (is_checkpoint r) (not_from_false r.done pending) (is_checkpoint-kind r checkpoint))

@@ -34,7 +34,7 @@ taken_apart {p} {now} {id} {s} {fresh} {reused} {r} t =
     let after : Parts = taken_in p now id s fresh reused in
     let P : List Record → Type 0 = λ rs. IsInOrder id_before rs in
     apart-from_in_order (grouped after.registry after.pending p.store.checkpoints p.store.savepoints)
-    (subst P (sym (taken_records t)) (replaced_in_order (records_in p) (with_ack (with_pins p.registry r) s fresh reused) t.sound.sound.in_order))
+    (subst P (sym (taken_records t)) (replaced_in_order (records_in p) (with_ack (with_pins p.registry r) s fresh reused) t.sound.sound.records.in_order))
 
 pub taken_groups : {p : Parts} {now id : ℕ} {s : SubtaskId} {fresh reused : List ℕ} {r : Record} → IsTaking p now id s fresh reused r → AreGroups (taken_in p now id s fresh reused).pending p.store.checkpoints p.store.savepoints
 taken_groups {p} {now} {id} {s} {fresh} {reused} {r} t =

@@ -4,4 +4,4 @@ use Rattle.ckpt_core.proofs.coordinator.Core.choice.Goals as goal
 
 pub choice-requires : goal.choice-requires
 unfolding state_of
-choice-requires c = c.self.invariant.sound.in_order
+choice-requires c = c.self.invariant.sound.records.in_order

@@ -12,7 +12,7 @@ drop_noted-requires-clause-tied c = noted_tied c.args.self.now c.note_all.new.en
 
 pub drop_noted-requires-clause-in_order : goal.drop_noted-requires-clause-in_order
 unfolding state_of
-drop_noted-requires-clause-in_order c = c.requires.sound.in_order
+drop_noted-requires-clause-in_order c = c.requires.sound.records.in_order
 
 pub drop_noted-requires-clause-unknown : goal.drop_noted-requires-clause-unknown
 drop_noted-requires-clause-unknown c = none_known c.args.self.now c.requires.tied c.requires.sound
