@@ -1,4 +1,5 @@
 """What the package adds to the calls: openings, numbers that do not fit, closing, threads."""
+import json
 import threading
 import unittest
 
@@ -22,6 +23,32 @@ class Openings(unittest.TestCase):
         self.refused("BadMoment", SETTINGS, [1], 1 << 62)
         self.refused("BadFirst", SETTINGS, [1], 0, 0)
         Coordinator(SETTINGS, [1], (1 << 62) - 1, (1 << 62) - 1).close()
+
+
+class OtherSettings(unittest.TestCase):
+    """An image whose settings were changed, as docs/EMBEDDING.md says."""
+
+    def reopened(self, **changed):
+        """Two completed checkpoints are retained, and the image is opened with these settings."""
+        with Coordinator(Settings(interval=1000, retained=2), [1], 0, 7) as job:
+            for id in (7, 8):
+                job.tick(1000 * (id - 6))
+                job.ack(1000 * (id - 6), id, 0, 0, [id])
+            image = json.loads(job.save())
+        self.assertEqual(image["opening"]["first"], 7)
+        image["opening"]["config"].update(changed)
+        return Coordinator.open_saved(json.dumps(image))
+
+    def test_the_job_goes_on_under_them(self):
+        with self.reopened(interval=5000, timeout=700) as job:
+            self.assertEqual(job.due(), 3000)  # it was due under the old ones
+            self.assertEqual(job.tick(3000), Triggered(0, 9))
+            self.assertEqual((job.due(), job.oldest_expiry()), (8000, 3700))
+
+    def test_a_state_that_breaks_them_is_refused(self):
+        with self.assertRaises(BadArgument) as raised:
+            self.reopened(retained=1)
+        self.assertEqual(raised.exception.name, "BadImage")
 
 
 class Moments(unittest.TestCase):
