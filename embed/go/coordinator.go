@@ -92,8 +92,8 @@ func (c *Coordinator) leave() {
 	}
 }
 
-// Locked calls f with the same coordinator, and keeps other goroutines' calls out meanwhile. Delete, send and wait outside of it. What f
-// gets is closed once f has returned.
+// Locked calls f with the same coordinator, and keeps other goroutines' calls out meanwhile. In f call what it gets: the coordinator
+// outside would wait for ever. Delete, send and wait outside of f. What f gets is closed once f has returned.
 func (c *Coordinator) Locked(f func(held *Coordinator) error) error {
 	o, err := c.enter()
 	if err != nil {

@@ -82,6 +82,19 @@ func byMethods(job *relkvanu.Coordinator, number int, line []byte) string {
 	return printed(number, reply, err)
 }
 
+// byCalls reads each line as a call, and makes the call of the line that the library writes of it.
+func byCalls(job *relkvanu.Coordinator, number int, line []byte) string {
+	call, is, err := relkvanu.CallOf(line)
+	if err != nil || !is {
+		return printed(number, nil, err)
+	}
+	again, err := call.Line()
+	if err != nil {
+		return err.Error()
+	}
+	return byLines(job, number, again)
+}
+
 func number(word string) uint64 {
 	it, err := strconv.ParseUint(strings.TrimLeft(word, "+="), 10, 64)
 	if err != nil {
@@ -206,7 +219,7 @@ func TestRows(t *testing.T) {
 			t.Fatal(err)
 		}
 		isOther := strings.Contains("\n"+string(others), "\n"+name+"\n")
-		for how, call := range map[string]func(*relkvanu.Coordinator, int, []byte) string{"lines": byLines, "methods": byMethods} {
+		for how, call := range map[string]func(*relkvanu.Coordinator, int, []byte) string{"lines": byLines, "methods": byMethods, "calls": byCalls} {
 			output, is := run(t, path, call)
 			if is == isOther {
 				t.Errorf("%s: a list of calls: %v", name, is)
@@ -291,6 +304,26 @@ func TestALogIsMadeAgain(t *testing.T) {
 	}
 	if _, err := job.Line([]byte("start 7")); err != relkvanu.LineNoCall {
 		t.Error(err)
+	}
+}
+
+func TestWhatALineSays(t *testing.T) {
+	call, is, err := relkvanu.CallOf([]byte("ack 5 1 1.2 =7 +12 +11"))
+	equal(t, fmt.Sprint(call, is, err), "{3 5 1 1.2 [11 12] [7]} true <nil>")
+	many := make([]uint64, 100)
+	for place := range many {
+		many[place] = uint64(place + 1)
+	}
+	call, is, err = relkvanu.CallOf(must(relkvanu.AckLine(5, 1, relkvanu.Subtask{}, many, nil)))
+	equal(t, fmt.Sprint(call.First, len(call.Second), is, err), fmt.Sprint(many, 0, true, nil))
+	_, is, err = relkvanu.CallOf([]byte("# tick 5"))
+	equal(t, fmt.Sprint(is, err), "false <nil>")
+	for line, wanted := range map[string]error{
+		"tick": relkvanu.LineMissing, "start 5": relkvanu.LineNoCall, "restore 5 latest 0": relkvanu.BadShape, "restore 5 0": relkvanu.NoSuchSavepoint,
+	} {
+		if _, _, err := relkvanu.CallOf([]byte(line)); !errors.Is(err, wanted) {
+			t.Errorf("%s: %v", line, err)
+		}
 	}
 }
 

@@ -1,0 +1,68 @@
+package relkvanu
+
+// #include <relkvanu.h>
+import "C"
+
+// CallKind is which call it is.
+type CallKind uint32
+
+// The kinds of calls.
+const (
+	CallTick      CallKind = C.RELKVANU_CALL_TICK
+	CallSavepoint CallKind = C.RELKVANU_CALL_SAVEPOINT
+	CallAck       CallKind = C.RELKVANU_CALL_ACK
+	CallDecline   CallKind = C.RELKVANU_CALL_DECLINE
+	CallDispose   CallKind = C.RELKVANU_CALL_DISPOSE
+	CallRestore   CallKind = C.RELKVANU_CALL_RESTORE
+	CallCancel    CallKind = C.RELKVANU_CALL_CANCEL
+	CallTake      CallKind = C.RELKVANU_CALL_TAKE
+	CallDeleted   CallKind = C.RELKVANU_CALL_DELETED
+	CallUndeleted CallKind = C.RELKVANU_CALL_UNDELETED
+	CallShow      CallKind = C.RELKVANU_CALL_SHOW
+	CallCount     CallKind = C.RELKVANU_CALL_COUNT
+)
+
+// Call is a call as a line of a log says it. Fields that its kind does not use are zero.
+type Call struct {
+	Kind          CallKind
+	Now           uint64
+	Number        uint64 // of the record or the file; for a restore the savepoint, or 0 for the latest; for a take the most files
+	Subtask       Subtask
+	First, Second []uint64 // of an ack the fresh and the reused files, ascending; of a restore First is the new shape, or empty
+}
+
+// CallOf is the call that a line says. The second value is false if the line has no words or is a comment. The error is a LineFault if
+// it can't be read or makes no call, BadShape, or NoSuchSavepoint for the savepoint 0.
+func CallOf(line []byte) (Call, bool, error) {
+	if wrongLibrary != nil {
+		return Call{}, false, wrongLibrary
+	}
+	at, length := text(line)
+	var call C.relkvanu_call
+	first, second := make([]uint64, 16), make([]uint64, 16)
+	for {
+		firstAt, firstLength := list(first)
+		secondAt, secondLength := list(second)
+		says := C.relkvanu_line_call(at, length, &call, firstAt, firstLength, secondAt, secondLength)
+		if says.code == C.RELKVANU_TOO_SHORT {
+			first, second = make([]uint64, says.a), make([]uint64, says.b)
+			continue
+		}
+		if err := fault(says); err != nil || says.what == C.RELKVANU_SKIPPED {
+			return Call{}, false, err
+		}
+		if says.what != C.RELKVANU_LINE_CALL {
+			return Call{}, false, unknown(says)
+		}
+		return Call{
+			Kind: CallKind(call.kind), Now: uint64(call.now), Number: uint64(call.number), First: first[:says.a], Second: second[:says.b],
+			Subtask: Subtask{Vertex: uint16(call.vertex), Index: uint16(call.index)},
+		}, true, nil
+	}
+}
+
+// Line is the line of the call, without a newline.
+func (c Call) Line() ([]byte, error) {
+	call := ofSubtask(C.uint32_t(c.Kind), c.Now, c.Number, c.Subtask)
+	return lineTo(call, c.First, c.Second)
+}
