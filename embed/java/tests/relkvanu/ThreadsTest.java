@@ -56,6 +56,33 @@ class ThreadsTest {
         }
     }
 
+    private static Callable<Void> again(Runnable read) {
+        return () -> {
+            for (int round = 0; round < 20_000; round++) {
+                read.run();
+            }
+            return null;
+        };
+    }
+
+    /** Threads that read and count while others call. Each gets its own answer, and never that the handle has no coordinator. */
+    @Test
+    void readsBesideCalls() throws Exception {
+        ExecutorService pool = Executors.newFixedThreadPool(6);
+        try (Coordinator job = Jobs.opened(SETTINGS, 2)) {
+            job.tick(1000);
+            job.ack(1000, 1, 0, 0, Jobs.files(1, 2));
+            List<Callable<Void>> readers = List.of(again(() -> assertEquals(new Reply.Counted(1, 1), job.count(1))), again(() -> assertEquals(OptionalLong.of(1), job.missing(1))),
+                again(() -> assertEquals(new FileCounts(2, 0, 0), job.fileCounts())), again(() -> assertEquals(2, job.filesOf(1, 0, 0).orElseThrow().length)),
+                again(() -> assertEquals(new Reply.HeldInterval(0), job.tick(1500))), again(() -> assertEquals(0, job.take(2).files().length)));
+            for (Future<Void> it : pool.invokeAll(readers)) {
+                it.get();
+            }
+        } finally {
+            pool.shutdown();
+        }
+    }
+
     /** What threads do until a coordinator is closed. Each call is made, or says that it is closed. */
     private static void untilClosed(Coordinator job, int kind) {
         for (long now = 0;; now++) {
