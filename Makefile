@@ -18,9 +18,11 @@ LIBDIR = $(PREFIX)/lib
 DESTDIR =
 INSTALL = install
 LIBRARY = build/librelkvanu.a build/librelkvanu.so.0
+# The durable coordinator, where SQLite and zlib are there to build it, or in a release that has it.
+STORE := $(if $(wildcard build/librelkvanu-store.a)$(shell pkg-config --exists sqlite3 zlib 2> /dev/null && echo yes),build/librelkvanu-store.a)
 PROGRAMS = ckpt_job ckpt_chart ckpt_demo
 VERSION := $(shell sed -n 's/^\#define RELKVANU_VERSION "\(.*\)"/\1/p' include/relkvanu.h)
-HEADERS = include/relkvanu.h include/relkvanu.hpp include/relkvanu_alloc.h
+HEADERS = include/relkvanu.h include/relkvanu.hpp include/relkvanu_alloc.h $(if $(STORE),include/relkvanu_store.h include/relkvanu_store.hpp)
 into = $(DESTDIR)$(PREFIX)
 libraries = $(DESTDIR)$(LIBDIR)
 filled = sed -e 's|@PREFIX@|$(PREFIX)|g' -e 's|@LIBDIR@|$(patsubst $(PREFIX)/%,$${prefix}/%,$(LIBDIR))|g' -e 's|@VERSION@|$(VERSION)|g'
@@ -29,7 +31,7 @@ BUILT = $(wildcard $(PROGRAMS:%=build/bin/%) $(foreach it,$(PROGRAMS),crates/$(i
 
 .PHONY: library install uninstall dist first job demo programs check clean
 
-library: $(LIBRARY)
+library: $(LIBRARY) $(STORE)
 
 # A release has no crates: its library, its pages and the samples are there already, and nothing makes them again.
 ifneq ($(wildcard crates),)
@@ -45,6 +47,9 @@ build/librelkvanu.a: $(ARCHIVE) embed/c/heap.c embed/c/version.c include/relkvan
 
 build/librelkvanu.so.0: build/librelkvanu.a
 
+build/librelkvanu-store.a: build/librelkvanu.a $(wildcard embed/store/src/*) include/relkvanu_store.h
+	embed/store/library build
+
 $(PAGES)/docs: $(wildcard docs/*.md) embed/samples packaging/pages
 	packaging/pages $(PAGES)
 	touch $@
@@ -53,13 +58,18 @@ PAGES = .
 endif
 
 # All modes are given, because those that the umask would choose may hide a file from its users.
-install: $(LIBRARY) $(PAGES)/docs
+install: $(LIBRARY) $(STORE) $(PAGES)/docs
 	$(INSTALL) -d $(into)/include $(libraries)/pkgconfig $(libraries)/cmake/relkvanu $(into)/bin
 	$(INSTALL) -d $(into)/share/man/man1 $(into)/share/man/man3 $(into)/share/doc/relkvanu/examples/engine
 	$(INSTALL) -m 644 $(HEADERS) $(into)/include
 	$(INSTALL) -m 644 build/librelkvanu.a build/librelkvanu.so.0 $(libraries)
 	ln -sf librelkvanu.so.0 $(libraries)/librelkvanu.so
 	$(filled) packaging/relkvanu.pc.in | $(INSTALL) -m 644 /dev/stdin $(libraries)/pkgconfig/relkvanu.pc
+	if [ -n "$(STORE)" ]; then \
+	    $(INSTALL) -m 644 build/librelkvanu-store.a build/librelkvanu-store.so.0 $(libraries) && \
+	    ln -sf librelkvanu-store.so.0 $(libraries)/librelkvanu-store.so && \
+	    $(filled) packaging/relkvanu-store.pc.in | $(INSTALL) -m 644 /dev/stdin $(libraries)/pkgconfig/relkvanu-store.pc; \
+	fi
 	$(filled) packaging/relkvanu-config-version.cmake.in | $(INSTALL) -m 644 /dev/stdin $(libraries)/cmake/relkvanu/relkvanu-config-version.cmake
 	$(INSTALL) -m 644 packaging/relkvanu-config.cmake $(libraries)/cmake/relkvanu
 	$(INSTALL) -m 644 packaging/man/*.3 $(into)/share/man/man3
@@ -76,6 +86,7 @@ install: $(LIBRARY) $(PAGES)/docs
 uninstall:
 	rm -f $(HEADERS:include/%=$(into)/include/%)
 	rm -f $(libraries)/librelkvanu.a $(libraries)/librelkvanu.so $(libraries)/librelkvanu.so.0 $(libraries)/pkgconfig/relkvanu.pc
+	rm -f $(libraries)/librelkvanu-store.* $(libraries)/pkgconfig/relkvanu-store.pc $(into)/include/relkvanu_store.h $(into)/include/relkvanu_store.hpp
 	rm -f $(patsubst packaging/man/%,$(into)/share/man/man3/%,$(wildcard packaging/man/*.3))
 	rm -f $(PROGRAMS:%=$(into)/bin/%) $(PROGRAMS:%=$(into)/share/man/man1/%.1)
 	rm -rf $(libraries)/cmake/relkvanu $(into)/share/doc/relkvanu
@@ -83,7 +94,7 @@ uninstall:
 
 # What only the repository has.
 ifneq ($(wildcard crates),)
-dist: $(LIBRARY)
+dist: $(LIBRARY) $(STORE)
 	packaging/dist build $(VERSION)
 
 first:

@@ -220,6 +220,67 @@ struct live_record {
 
 [[noreturn]] inline void abort_unknown() noexcept { abort_because("an answer that relkvanu.hpp does not have: the library is of another version"); }
 
+/* The answers of relkvanu.h as those of this header. */
+
+inline tick_answer tick_of(relkvanu_answer told) noexcept {
+    if (told.code != RELKVANU_DONE) {
+        return refusal(told);
+    }
+    switch (told.what) {
+    case RELKVANU_TICK_TRIGGERED: return triggered{told.a, told.b};
+    case RELKVANU_TICK_HELD_INTERVAL: return held_interval{told.a};
+    case RELKVANU_TICK_HELD_AT_ONCE: return held_at_once{told.a};
+    case RELKVANU_TICK_HELD_PAUSE: return held_pause{told.a};
+    case RELKVANU_TICK_FAILED: return failed{told.a};
+    default: abort_unknown();
+    }
+}
+
+inline ack_answer ack_of(relkvanu_answer told) noexcept {
+    if (told.code != RELKVANU_DONE) {
+        return refusal(told);
+    }
+    switch (told.what) {
+    case RELKVANU_ACK_PENDING: return ack_pending{told.a};
+    case RELKVANU_ACK_COMPLETED: return ack_completed{told.a, told.b};
+    case RELKVANU_ACK_LATE: return ack_late{told.a};
+    default: abort_unknown();
+    }
+}
+
+inline decline_answer decline_of(relkvanu_answer told) noexcept {
+    if (told.code != RELKVANU_DONE) {
+        return refusal(told);
+    }
+    switch (told.what) {
+    case RELKVANU_DECLINE_ABORTED: return decline_aborted{told.a};
+    case RELKVANU_DECLINE_FAILED: return decline_failed{told.a};
+    case RELKVANU_DECLINE_LATE: return decline_late{};
+    default: abort_unknown();
+    }
+}
+
+inline restore_answer restore_of(relkvanu_answer told) noexcept {
+    if (told.code != RELKVANU_DONE) {
+        return refusal(told);
+    }
+    switch (told.what) {
+    case RELKVANU_RESTORED_CHECKPOINT: return restored{checkpoint{told.b}, told.a};
+    case RELKVANU_RESTORED_SAVEPOINT: return restored{savepoint{told.b}, told.a};
+    case RELKVANU_RESTORED_FRESH: return restored{fresh{}, told.a};
+    default: abort_unknown();
+    }
+}
+
+inline choice choice_of(relkvanu_answer told) noexcept {
+    switch (told.what) {
+    case RELKVANU_CHOICE_CHECKPOINT: return checkpoint{told.a};
+    case RELKVANU_CHOICE_SAVEPOINT: return savepoint{told.a};
+    case RELKVANU_CHOICE_FRESH: return fresh{};
+    default: abort_unknown();
+    }
+}
+
 /* The result of writing into a buffer that is long enough. */
 template <class Write> text_answer written(Write write) {
     std::string text(256, '\0');
@@ -279,18 +340,7 @@ public:
         if (is_ahead(now)) {
             return too_large();
         }
-        relkvanu_answer told = relkvanu_tick(&handle_, now);
-        if (told.code != RELKVANU_DONE) {
-            return refusal(told);
-        }
-        switch (told.what) {
-        case RELKVANU_TICK_TRIGGERED: return triggered{told.a, told.b};
-        case RELKVANU_TICK_HELD_INTERVAL: return held_interval{told.a};
-        case RELKVANU_TICK_HELD_AT_ONCE: return held_at_once{told.a};
-        case RELKVANU_TICK_HELD_PAUSE: return held_pause{told.a};
-        case RELKVANU_TICK_FAILED: return failed{told.a};
-        default: abort_unknown();
-        }
+        return tick_of(relkvanu_tick(&handle_, now));
     }
 
     [[nodiscard]] savepoint_answer savepoint(std::uint64_t now) noexcept {
@@ -307,32 +357,14 @@ public:
         if (is_ahead(now)) {
             return too_large();
         }
-        relkvanu_answer told = relkvanu_ack(&handle_, now, id, vertex, index, fresh.data(), fresh.size(), reused.data(), reused.size());
-        if (told.code != RELKVANU_DONE) {
-            return refusal(told);
-        }
-        switch (told.what) {
-        case RELKVANU_ACK_PENDING: return ack_pending{told.a};
-        case RELKVANU_ACK_COMPLETED: return ack_completed{told.a, told.b};
-        case RELKVANU_ACK_LATE: return ack_late{told.a};
-        default: abort_unknown();
-        }
+        return ack_of(relkvanu_ack(&handle_, now, id, vertex, index, fresh.data(), fresh.size(), reused.data(), reused.size()));
     }
 
     decline_answer decline(std::uint64_t now, std::uint64_t id, std::uint16_t vertex, std::uint16_t index) noexcept {
         if (is_ahead(now)) {
             return too_large();
         }
-        relkvanu_answer told = relkvanu_decline(&handle_, now, id, vertex, index);
-        if (told.code != RELKVANU_DONE) {
-            return refusal(told);
-        }
-        switch (told.what) {
-        case RELKVANU_DECLINE_ABORTED: return decline_aborted{told.a};
-        case RELKVANU_DECLINE_FAILED: return decline_failed{told.a};
-        case RELKVANU_DECLINE_LATE: return decline_late{};
-        default: abort_unknown();
-        }
+        return decline_of(relkvanu_decline(&handle_, now, id, vertex, index));
     }
 
     dispose_answer dispose(std::uint64_t id) noexcept {
@@ -433,13 +465,7 @@ public:
     }
 
     [[nodiscard]] ckpt::choice choice() noexcept {
-        relkvanu_answer told = read(relkvanu_choice(&handle_));
-        switch (told.what) {
-        case RELKVANU_CHOICE_CHECKPOINT: return ckpt::checkpoint{told.a};
-        case RELKVANU_CHOICE_SAVEPOINT: return ckpt::savepoint{told.a};
-        case RELKVANU_CHOICE_FRESH: return ckpt::fresh{};
-        default: abort_unknown();
-        }
+        return choice_of(read(relkvanu_choice(&handle_)));
     }
 
     [[nodiscard]] std::optional<live_record> live(std::size_t place) noexcept {
@@ -582,16 +608,7 @@ private:
         if (is_ahead(now)) {
             return too_large();
         }
-        relkvanu_answer told = relkvanu_restore(&handle_, now, savepoint, of.data(), of.size());
-        if (told.code != RELKVANU_DONE) {
-            return refusal(told);
-        }
-        switch (told.what) {
-        case RELKVANU_RESTORED_CHECKPOINT: return restored{ckpt::checkpoint{told.b}, told.a};
-        case RELKVANU_RESTORED_SAVEPOINT: return restored{ckpt::savepoint{told.b}, told.a};
-        case RELKVANU_RESTORED_FRESH: return restored{ckpt::fresh{}, told.a};
-        default: abort_unknown();
-        }
+        return restore_of(relkvanu_restore(&handle_, now, savepoint, of.data(), of.size()));
     }
 };
 

@@ -1,7 +1,8 @@
 """Builds the package's wheel. So pip needs no index and no other package (PEP 517, PEP 427).
 
-The wheel has librelkvanu.so.0 beside the package. It comes from the folder that RELKVANU_LIB names, otherwise from `build`
-of this repository, where `make` leaves it. Without the library there is no wheel. The same files give the same bytes.
+The wheel has librelkvanu.so.0 beside the package, and librelkvanu-store.so.0 if it is there. They come from the folder that RELKVANU_LIB
+names, otherwise from `build` of this repository, where `make` leaves them. Without the first there is no wheel. The same files give the same
+bytes.
 """
 import base64
 import hashlib
@@ -14,6 +15,7 @@ from typing import Any, Dict
 
 HERE = pathlib.Path(__file__).resolve().parent
 LIBRARY = "librelkvanu.so.0"
+STORE = "librelkvanu-store.so.0"
 
 
 def version() -> str:
@@ -34,7 +36,10 @@ def contents() -> Dict[str, bytes]:
     """The files of the wheel except its RECORD."""
     files = {f"relkvanu/{path.name}": path.read_bytes() for path in sorted((HERE / "relkvanu").glob("*.py"))}
     files["relkvanu/py.typed"] = b""
-    files[f"relkvanu/{LIBRARY}"] = library().read_bytes()
+    shared = library()
+    files[f"relkvanu/{LIBRARY}"] = shared.read_bytes()
+    if shared.with_name(STORE).is_file():
+        files[f"relkvanu/{STORE}"] = shared.with_name(STORE).read_bytes()
     tag = "py3-none-" + re.sub(r"[-.]", "_", sysconfig.get_platform())
     info = f"relkvanu-{version()}.dist-info"
     told = f"Metadata-Version: 2.1\nName: relkvanu\nVersion: {version()}\nRequires-Python: >=3.8\n"

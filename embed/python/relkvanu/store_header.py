@@ -1,0 +1,136 @@
+"""What include/relkvanu_store.h says. embed/store/run compares it with the header."""
+from ctypes import CFUNCTYPE, POINTER, Structure, c_bool, c_char, c_char_p, c_int, c_size_t, c_uint8, c_uint32, c_uint64, c_void_p
+from typing import Any, Dict, List, Tuple
+
+from relkvanu.header import relkvanu, relkvanu_answer, relkvanu_call, relkvanu_settings
+
+OK = 0
+NO_MEMORY = 2
+TIMED_OUT = 12
+STOPPED = 14
+FAILED = 16
+NOT_MADE = 100
+CREATE = 1
+CREATE_ONLY = 2
+ADOPT = 4
+EARLIER_IMAGE = 8
+NOW = (1 << 64) - 1
+NO_IMAGES = (1 << 64) - 1
+MOST_CALLS = 4096
+
+# The names of the other statuses.
+STATUSES: Dict[int, str] = {
+    1: "BadArgument",
+    NO_MEMORY: "NoMemory",
+    3: "InUse",
+    4: "Absent",
+    5: "Present",
+    6: "NotAStore",
+    7: "Differs",
+    8: "Damaged",
+    9: "Storage",
+    10: "Closed",
+    11: "Forked",
+    TIMED_OUT: "TimedOut",
+    13: "NotNow",
+    STOPPED: "Stopped",
+    FAILED: "Failed",
+    17: "Full",
+    18: "ReadOnly",
+    19: "Busy",
+    20: "OutOfMemory",
+}
+
+
+class relkvanu_store_options(Structure):
+    _fields_ = [
+        ("flags", c_uint32),
+        ("patience", c_uint32),
+        ("image_calls", c_uint64),
+        ("most_ahead", c_uint64),
+        ("storage", c_char_p),
+        ("settings", relkvanu_settings),
+        ("shape", POINTER(c_uint64)),
+        ("shape_len", c_size_t),
+        ("reserved", c_uint64 * 4),
+    ]
+
+
+class relkvanu_store_report(Structure):
+    _fields_ = [
+        ("is_recovered", c_bool),
+        ("settings_differ", c_bool),
+        ("steps", c_uint32 * 8),
+        ("steps_len", c_size_t),
+        ("epoch", c_uint64),
+        ("job", c_uint64 * 2),
+        ("image_place", c_uint64),
+        ("replayed", c_uint64),
+        ("taken", c_uint64),
+        ("moment", c_uint64),
+        ("mode", relkvanu_answer),
+        ("choice", relkvanu_answer),
+        ("message", c_char * 512),
+        ("reserved", c_uint64 * 4),
+    ]
+
+
+class relkvanu_store_call(Structure):
+    _fields_ = [
+        ("call", relkvanu_call),
+        ("first", POINTER(c_uint64)),
+        ("first_len", c_size_t),
+        ("second", POINTER(c_uint64)),
+        ("second_len", c_size_t),
+        ("files", POINTER(c_uint64)),
+        ("files_len", c_size_t),
+        ("reserved", c_uint64 * 2),
+        ("answer", relkvanu_answer),
+        ("choice", relkvanu_answer),
+        ("place", c_uint64),
+    ]
+
+
+class relkvanu_store_completion(Structure):
+    _fields_ = [
+        ("token", c_uint64),
+        ("status", c_int),
+    ]
+
+
+class relkvanu_store_counts(Structure):
+    _fields_ = [
+        ("commits", c_uint64),
+        ("calls", c_uint64),
+        ("largest", c_uint64),
+        ("images", c_uint64),
+        ("failed_images", c_uint64),
+        ("checkpoints", c_uint64),
+        ("failed_checkpoints", c_uint64),
+        ("retries", c_uint64),
+        ("reserved", c_uint64 * 4),
+    ]
+
+
+relkvanu_store_delete = CFUNCTYPE(None, c_void_p, POINTER(c_uint64), c_size_t, POINTER(c_uint8))
+
+# Of each function, its result and its parameters. A store is a pointer that nobody looks into.
+FUNCTIONS: Dict[str, Tuple[Any, List[Any]]] = {
+    "relkvanu_store_open": (c_int, [POINTER(c_void_p), c_char_p, POINTER(relkvanu_store_options), POINTER(relkvanu_store_report)]),
+    "relkvanu_store_close": (None, [c_void_p]),
+    "relkvanu_store_calls": (c_int, [c_void_p, POINTER(relkvanu_store_call), c_size_t]),
+    "relkvanu_store_submit": (c_int, [c_void_p, POINTER(relkvanu_store_call), c_size_t, c_uint64]),
+    "relkvanu_store_completed": (c_size_t, [c_void_p, POINTER(relkvanu_store_completion), c_size_t]),
+    "relkvanu_store_descriptor": (c_int, [c_void_p]),
+    "relkvanu_store_read": (c_int, [c_void_p, POINTER(POINTER(relkvanu))]),
+    "relkvanu_store_read_end": (None, [c_void_p]),
+    "relkvanu_store_now": (c_uint64, [c_void_p]),
+    "relkvanu_store_next_tick": (c_int, [c_void_p, POINTER(c_uint64)]),
+    "relkvanu_store_await_tick": (c_int, [c_void_p, c_uint64, POINTER(relkvanu_store_call)]),
+    "relkvanu_store_unknown": (c_int, [c_void_p, POINTER(c_uint64), POINTER(c_size_t)]),
+    "relkvanu_store_folder": (c_int, [c_void_p]),
+    "relkvanu_store_discard": (c_int, [c_void_p, c_size_t, relkvanu_store_delete, c_void_p]),
+    "relkvanu_store_stop": (None, [c_void_p]),
+    "relkvanu_store_count": (None, [c_void_p, POINTER(relkvanu_store_counts)]),
+    "relkvanu_store_message": (c_size_t, [c_void_p, c_char_p, c_size_t]),
+}

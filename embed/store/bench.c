@@ -1,0 +1,142 @@
+/* bench FOLDER [SECONDS [ROUNDS]]: durable acknowledgements a second, of 1, 16 and 256 threads, beside commits of one row by SQLite alone in the
+ * same run. A job of 4096 subtasks, 3 files in each acknowledgement, an image every 10,000 calls, and nothing is discarded. */
+#define _GNU_SOURCE
+#include "../../include/relkvanu_store.h"
+
+#include <inttypes.h>
+#include <pthread.h>
+#include <sqlite3.h>
+#include <stdatomic.h>
+#include <stdio.h>
+#include <stdlib.h>
+#include <string.h>
+#include <time.h>
+#include <unistd.h>
+
+enum { SUBTASKS = 4096, VERTICES = 4, AHEAD = 4, MOST_THREADS = 256, MOST_TIMES = 1 << 22 };
+
+static relkvanu_store *store;
+static atomic_uint_fast64_t next_ack, times_len;
+static atomic_bool is_over;
+static uint32_t times[MOST_TIMES]; /* in units of 0.1 us */
+
+static void check(const char *what, bool is_so, const char *why) {
+    if (!is_so) {
+        fprintf(stderr, "%s: %s\n", what, why);
+        exit(1);
+    }
+}
+
+static uint64_t now_ns(void) {
+    struct timespec now;
+    clock_gettime(CLOCK_MONOTONIC, &now);
+    return (uint64_t)now.tv_sec * 1000000000 + (uint64_t)now.tv_nsec;
+}
+
+static void note(uint64_t began) {
+    times[atomic_fetch_add(&times_len, 1) % MOST_TIMES] = (uint32_t)((now_ns() - began) / 100);
+}
+
+static void trigger(uint64_t record) {
+    relkvanu_store_call call = {.call = {.kind = RELKVANU_CALL_TICK, .now = record * 1000}};
+    check("tick", relkvanu_store_calls(store, &call, 1) == RELKVANU_STORE_OK && call.answer.what == RELKVANU_TICK_TRIGGERED, "no trigger");
+}
+
+static void *acknowledges(void *unused) {
+    while (!atomic_load(&is_over)) {
+        uint64_t nth = atomic_fetch_add(&next_ack, 1), record = nth / SUBTASKS + 1, subtask = nth % SUBTASKS, fresh[3] = {nth * 3 + 1, nth * 3 + 2, nth * 3 + 3};
+        relkvanu_answer answer;
+        if (subtask == 0) {
+            trigger(record + AHEAD);
+        }
+        uint64_t began = now_ns();
+        int status = relkvanu_store_ack(store, record * 1000, record, (uint16_t)(subtask / 1024), (uint16_t)(subtask % 1024), fresh, 3, NULL, 0, &answer);
+        check("ack", status == RELKVANU_STORE_OK && answer.code == RELKVANU_DONE, "not accepted");
+        note(began);
+    }
+    return unused;
+}
+
+static int by_length(const void *one, const void *other) {
+    uint32_t a = *(const uint32_t *)one, b = *(const uint32_t *)other;
+    return (a > b) - (a < b);
+}
+
+static void tell(const char *what, uint64_t began) {
+    double seconds = (double)(now_ns() - began) / 1e9;
+    size_t len = times_len < MOST_TIMES ? times_len : MOST_TIMES;
+    qsort(times, len, sizeof *times, by_length);
+    printf("%-24s %8.0f a second, half of them within %.2f ms, 99 %% within %.2f ms\n", what, (double)times_len / seconds, times[len / 2] / 1e4, times[len * 99 / 100] / 1e4);
+    fflush(stdout);
+}
+
+static void remove_job(const char *path) {
+    static const char *const ends[] = {"", "-wal", "-shm", ".lock"};
+    char name[4200];
+    for (size_t i = 0; i < sizeof ends / sizeof *ends; i++) {
+        snprintf(name, sizeof name, "%s%s", path, ends[i]);
+        unlink(name);
+    }
+}
+
+static void measure(const char *path, unsigned len, unsigned seconds) {
+    pthread_t threads[MOST_THREADS];
+    char what[32];
+    relkvanu_store_report report;
+    uint64_t shape[VERTICES] = {1024, 1024, 1024, 1024};
+    relkvanu_store_options options = {.flags = RELKVANU_STORE_CREATE_ONLY,
+        .settings = {.interval = 10, .at_once = 64, .timeout = 1u << 30, .retained = 1}, .shape = shape, .shape_len = VERTICES};
+    check("open", relkvanu_store_open(&store, path, &options, &report) == RELKVANU_STORE_OK, report.message);
+    next_ack = times_len = 0;
+    is_over = false;
+    for (uint64_t record = 1; record <= AHEAD; record++) {
+        trigger(record);
+    }
+    uint64_t began = now_ns();
+    for (unsigned i = 0; i < len; i++) {
+        check("thread", pthread_create(&threads[i], NULL, acknowledges, NULL) == 0, "none");
+    }
+    sleep(seconds);
+    is_over = true;
+    for (unsigned i = 0; i < len; i++) {
+        pthread_join(threads[i], NULL);
+    }
+    snprintf(what, sizeof what, "store, %u threads:", len);
+    tell(what, began);
+    relkvanu_store_close(store);
+    remove_job(path);
+}
+
+static void measure_sqlite(const char *path, unsigned seconds) {
+    static const char setup[] = "PRAGMA locking_mode=EXCLUSIVE; PRAGMA journal_mode=WAL; PRAGMA synchronous=FULL; CREATE TABLE log(place INTEGER PRIMARY KEY, line TEXT)";
+    sqlite3 *db;
+    sqlite3_stmt *insert;
+    check("SQLite", sqlite3_open(path, &db) == SQLITE_OK && sqlite3_exec(db, setup, NULL, NULL, NULL) == SQLITE_OK &&
+                        sqlite3_prepare_v2(db, "INSERT INTO log(line) VALUES('ack 1000000 1000000 0.1000 +100000001 +100000002 +100000003')", -1, &insert, NULL) == SQLITE_OK,
+        sqlite3_errmsg(db));
+    times_len = 0;
+    uint64_t began = now_ns();
+    while (now_ns() - began < seconds * UINT64_C(1000000000)) {
+        uint64_t start = now_ns();
+        check("SQLite", sqlite3_step(insert) == SQLITE_DONE && sqlite3_reset(insert) == SQLITE_OK, sqlite3_errmsg(db));
+        note(start);
+    }
+    tell("SQLite, a row a commit:", began);
+    sqlite3_finalize(insert);
+    sqlite3_close(db);
+    remove_job(path);
+}
+
+int main(int argc, char **argv) {
+    char path[4096];
+    unsigned seconds = argc > 2 ? (unsigned)atoi(argv[2]) : 3, rounds = argc > 3 ? (unsigned)atoi(argv[3]) : 3;
+    check("bench FOLDER [SECONDS [ROUNDS]]", argc > 1, "a folder is missing");
+    snprintf(path, sizeof path, "%s/bench-%d.db", argv[1], (int)getpid());
+    for (unsigned i = 0; i < rounds; i++) {
+        measure_sqlite(path, seconds);
+        measure(path, 1, seconds);
+        measure(path, 16, seconds);
+        measure(path, 256, seconds);
+    }
+    return 0;
+}

@@ -1,0 +1,77 @@
+/* Calls: their lines are written in the caller's thread, and then they wait in the queue. */
+#include "parts.h"
+
+#include <stdlib.h>
+
+static bool is_well_formed(const relkvanu_store_call *call) {
+    uint32_t kind = call->call.kind;
+    return kind >= RELKVANU_CALL_TICK && kind <= RELKVANU_CALL_UNDELETED && call->reserved[0] == 0 && call->reserved[1] == 0 &&
+           (kind != RELKVANU_CALL_TAKE || call->call.number <= call->files_len);
+}
+
+/* Appends the line of a call. */
+static int write_line(const relkvanu_store_call *call, relkvanu_call made, struct rks_text *lines) {
+    for (size_t room = 128;;) {
+        if (!rks_room(lines, room)) {
+            return RELKVANU_STORE_NO_MEMORY;
+        }
+        relkvanu_answer answer = relkvanu_call_line(
+            &made, call->first, call->first_len, call->second, call->second_len, lines->at + lines->len, lines->room - lines->len);
+        if (answer.code == RELKVANU_DONE) {
+            lines->len += answer.a;
+            return RELKVANU_STORE_OK;
+        }
+        if (answer.code != RELKVANU_TOO_SHORT) {
+            return answer.code == RELKVANU_NO_MEMORY ? RELKVANU_STORE_NO_MEMORY : RELKVANU_STORE_BAD_ARGUMENT;
+        }
+        room = answer.a;
+    }
+}
+
+int rks_write_lines(relkvanu_store *s, struct rks_waiter *w) {
+    uint64_t now = relkvanu_store_now(s);
+    int status = RELKVANU_STORE_OK;
+    for (size_t i = 0; i < w->calls_len && status == RELKVANU_STORE_OK; i++) {
+        relkvanu_store_call *call = &w->calls[i];
+        relkvanu_call made = call->call;
+        call->answer = call->choice = (relkvanu_answer){0};
+        call->place = 0;
+        made.now = made.now == RELKVANU_STORE_NOW ? now : made.now;
+        status = is_well_formed(call) ? write_line(call, made, &w->lines) : RELKVANU_STORE_BAD_ARGUMENT;
+        w->ends[i] = w->lines.len;
+    }
+    return status;
+}
+
+int relkvanu_store_calls(relkvanu_store *s, relkvanu_store_call *calls, size_t calls_len) {
+    struct rks_waiter w = {.calls = calls, .calls_len = calls_len};
+    if (calls_len == 0 || calls_len > RELKVANU_STORE_MOST_CALLS) {
+        return RELKVANU_STORE_BAD_ARGUMENT;
+    }
+    w.ends = calls_len <= sizeof w.few / sizeof *w.few ? w.few : malloc(calls_len * sizeof *w.ends);
+    int status = w.ends == NULL ? RELKVANU_STORE_NO_MEMORY : rks_write_lines(s, &w);
+    if (status == RELKVANU_STORE_OK) {
+        status = rks_enter(s, &w);
+    }
+    if (status != RELKVANU_STORE_OK) {
+        rks_drop_answers(calls, calls_len);
+    } else {
+        if (!w.is_answered) {
+            rks_lead(s, &w);
+        }
+        status = w.status; /* who led wrote it, maybe before rks_enter returned */
+    }
+    free(w.lines.at);
+    if (w.ends != w.few) {
+        free(w.ends);
+    }
+    return status;
+}
+
+int relkvanu_store_ack(relkvanu_store *s, uint64_t now, uint64_t id, uint16_t vertex, uint16_t index, const uint64_t *fresh, size_t fresh_len, const uint64_t *reused, size_t reused_len, relkvanu_answer *answer) {
+    relkvanu_store_call call = {.call = {.kind = RELKVANU_CALL_ACK, .vertex = vertex, .index = index, .now = now, .number = id},
+        .first = fresh, .first_len = fresh_len, .second = reused, .second_len = reused_len};
+    int status = relkvanu_store_calls(s, &call, 1);
+    *answer = call.answer;
+    return status;
+}

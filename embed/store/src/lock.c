@@ -1,0 +1,195 @@
+/* One process at a time: locks that stay although this process opens and closes the job's file elsewhere. */
+#include "parts.h"
+
+#include <errno.h>
+#include <fcntl.h>
+#include <limits.h>
+#include <stdio.h>
+#include <stdlib.h>
+#include <string.h>
+#include <sys/file.h>
+#include <unistd.h>
+
+static pthread_mutex_t all_mutex = PTHREAD_MUTEX_INITIALIZER;
+static relkvanu_store *all;
+static pthread_once_t once = PTHREAD_ONCE_INIT;
+
+static void before_fork(void) {
+    pthread_mutex_lock(&all_mutex);
+}
+
+static void after_fork(void) {
+    pthread_mutex_unlock(&all_mutex);
+}
+
+/* Without this a child that goes on would keep the locks after the end of its parent. */
+static void in_child(void) {
+    for (relkvanu_store *s = all; s != NULL; s = s->older) {
+        close(s->lock);
+        close(s->shm);
+        s->lock = s->shm = -1;
+    }
+    pthread_mutex_unlock(&all_mutex);
+}
+
+static void watch_forks(void) {
+    pthread_atfork(before_fork, after_fork, in_child);
+}
+
+void rks_list(relkvanu_store *s) {
+    pthread_once(&once, watch_forks);
+    pthread_mutex_lock(&all_mutex);
+    s->older = all;
+    all = s;
+    pthread_mutex_unlock(&all_mutex);
+}
+
+void rks_unlist(relkvanu_store *s) {
+    pthread_mutex_lock(&all_mutex);
+    relkvanu_store **at = &all;
+    while (*at != s) {
+        at = &(*at)->older;
+    }
+    *at = s->older;
+    pthread_mutex_unlock(&all_mutex);
+}
+
+bool rks_is_forked(const relkvanu_store *s) {
+    return getpid() != s->process;
+}
+
+/* The same name in the folder, which has no symbolic links then. Sets errno if it returns NULL. */
+static char *in_real_folder(const char *path) {
+    const char *slash = strrchr(path, '/'), *name = slash == NULL ? path : slash + 1;
+    char *real = NULL, *folder = rks_folder_of(path), *within;
+    if (folder == NULL) {
+        errno = ENOMEM;
+        return NULL;
+    }
+    within = realpath(folder, NULL);
+    int error = errno;
+    free(folder);
+    if (within != NULL && asprintf(&real, "%s/%s", strcmp(within, "/") == 0 ? "" : within, name) < 0) {
+        real = NULL;
+        error = ENOMEM;
+    }
+    free(within);
+    errno = error;
+    return real;
+}
+
+/* The path without symbolic links, each of which would have a lock of its own. The file itself need not be there. */
+static int set_paths(relkvanu_store *s, const char *path) {
+    s->path = realpath(path, NULL);
+    if (s->path == NULL && errno == ENOENT) {
+        s->path = in_real_folder(path);
+    }
+    if (s->path == NULL) {
+        return rks_file_fault(s, path, errno);
+    }
+    if (asprintf(&s->wal, "%s-wal", s->path) < 0) {
+        s->wal = NULL;
+        return RELKVANU_STORE_NO_MEMORY;
+    }
+    return RELKVANU_STORE_OK;
+}
+
+static int opened_beside(relkvanu_store *s, const char *end, int *file) {
+    char *name = NULL;
+    if (asprintf(&name, "%s%s", s->path, end) < 0) {
+        return RELKVANU_STORE_NO_MEMORY;
+    }
+    *file = open(name, O_RDWR | O_CREAT | O_CLOEXEC, 0600);
+    int status = *file >= 0 ? RELKVANU_STORE_OK : rks_file_fault(s, name, errno);
+    free(name);
+    return status;
+}
+
+static int told_in_use(relkvanu_store *s) {
+    char holder[32];
+    ssize_t len = pread(s->lock, holder, sizeof holder - 1, 0);
+    holder[len > 0 ? len : 0] = 0;
+    holder[strcspn(holder, "\n")] = 0;
+    snprintf(s->fault, sizeof s->fault, "%.400s: in use by process %s", s->path, holder[0] != 0 ? holder : "?");
+    return RELKVANU_STORE_IN_USE;
+}
+
+/* Whether the name PATH.lock still stands for the file that is locked. */
+static int check_named(relkvanu_store *s) {
+    char *name = NULL;
+    struct stat held, named;
+    if (asprintf(&name, "%s.lock", s->path) < 0) {
+        return RELKVANU_STORE_NO_MEMORY;
+    }
+    bool is_same = fstat(s->lock, &held) == 0 && stat(name, &named) == 0 && held.st_ino == named.st_ino && held.st_dev == named.st_dev;
+    free(name);
+    return is_same ? RELKVANU_STORE_OK : told_in_use(s);
+}
+
+/* SQLite's own lock of PATH is a POSIX lock: it ends once anything in this process opens and closes PATH. So there are two others. The lock
+ * of PATH.lock keeps other stores out. That of PATH-shm keeps other connections of SQLite out, of any process: in the mode WAL they
+ * need it, and this store does not. */
+static int lock_files(relkvanu_store *s, const char *path) {
+    struct flock whole = {.l_type = F_WRLCK, .l_whence = SEEK_SET};
+    char pid[32];
+    int status = set_paths(s, path);
+    if (status != RELKVANU_STORE_OK || (status = opened_beside(s, ".lock", &s->lock)) != RELKVANU_STORE_OK) {
+        return status;
+    }
+    if (flock(s->lock, LOCK_EX | LOCK_NB) != 0) {
+        return errno == EWOULDBLOCK ? told_in_use(s) : rks_file_fault(s, s->path, errno);
+    }
+    if ((status = check_named(s)) != RELKVANU_STORE_OK) {
+        return status;
+    }
+    int len = snprintf(pid, sizeof pid, "%ld\n", (long)getpid());
+    if (ftruncate(s->lock, 0) != 0 || pwrite(s->lock, pid, (size_t)len, 0) != len) {
+        len = 0; /* it is for a message alone, so a full disk does not matter */
+    }
+    if ((status = opened_beside(s, "-shm", &s->shm)) != RELKVANU_STORE_OK) {
+        return status;
+    }
+    if (fcntl(s->shm, F_OFD_SETLK, &whole) != 0) {
+        snprintf(s->fault, sizeof s->fault, "%.400s-shm: in use by another program", s->path);
+        return RELKVANU_STORE_IN_USE;
+    }
+    return RELKVANU_STORE_OK;
+}
+
+/* No child is forked meanwhile, which would have files that it does not know of. */
+int rks_lock(relkvanu_store *s, const char *path) {
+    pthread_mutex_lock(&all_mutex);
+    int status = lock_files(s, path);
+    pthread_mutex_unlock(&all_mutex);
+    return status;
+}
+
+void rks_unlock(relkvanu_store *s) {
+    if (s->shm >= 0) {
+        close(s->shm);
+    }
+    if (s->lock >= 0) {
+        close(s->lock); /* the last one */
+    }
+    free(s->path);
+    free(s->wal);
+}
+
+static bool is_same_file(const struct stat *a, const struct stat *b) {
+    return a->st_ino == b->st_ino && a->st_dev == b->st_dev;
+}
+
+/* Whether the names still stand for the files that SQLite writes. The first time it notes them. */
+bool rks_in_place(relkvanu_store *s) {
+    struct stat path, wal;
+    bool is_there = stat(s->path, &path) == 0 && stat(s->wal, &wal) == 0;
+    if (is_there && s->path_is.st_ino == 0) {
+        s->path_is = path;
+        s->wal_is = wal;
+    }
+    if (is_there && is_same_file(&path, &s->path_is) && is_same_file(&wal, &s->wal_is)) {
+        return true;
+    }
+    snprintf(s->fault, sizeof s->fault, "%.400s: this file or its -wal is not there, or another program has replaced it", s->path);
+    return false;
+}

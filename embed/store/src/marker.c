@@ -1,0 +1,127 @@
+/* The marker of a storage folder: which job its files are of, and that the folder is mounted. */
+#include "parts.h"
+
+#include <dirent.h>
+#include <errno.h>
+#include <fcntl.h>
+#include <limits.h>
+#include <stdio.h>
+#include <string.h>
+#include <unistd.h>
+
+static const char MARKER[] = ".relkvanu-job", UNFINISHED[] = ".relkvanu-job.new";
+enum { MARKER_LEN = 64 };
+
+static int storage_fault(relkvanu_store *s, const char *folder, const char *words, const char *more) {
+    snprintf(s->fault, sizeof s->fault, "%.300s: %s%.80s", folder, words, more);
+    return RELKVANU_STORE_STORAGE;
+}
+
+int rks_open_folder(relkvanu_store *s, const char *folder) {
+    s->folder = open(folder, O_RDONLY | O_DIRECTORY | O_CLOEXEC);
+    return s->folder >= 0 ? RELKVANU_STORE_OK : storage_fault(s, folder, strerror(errno), "");
+}
+
+static void text_of(const relkvanu_store *s, char text[MARKER_LEN]) {
+    snprintf(text, MARKER_LEN, "relkvanu job %s\n", s->identity);
+}
+
+bool rks_has_marker(const relkvanu_store *s) {
+    return s->folder < 0 || faccessat(s->folder, MARKER, F_OK, 0) == 0;
+}
+
+/* Whether the name is that of the job's own files, which may be in the storage folder too. */
+static bool is_own(const relkvanu_store *s, const char *name) {
+    static const char *const ends[] = {"", "-wal", "-shm", ".lock", "-journal"};
+    const char *own = strrchr(s->path, '/') + 1;
+    size_t len = strlen(own);
+    bool is_found = false;
+    for (size_t i = 0; i < sizeof ends / sizeof *ends; i++) {
+        is_found = is_found || (strncmp(name, own, len) == 0 && strcmp(name + len, ends[i]) == 0);
+    }
+    return is_found;
+}
+
+/* Whether the folder of the storage is also that of PATH. */
+static bool has_own(const relkvanu_store *s) {
+    char name[PATH_MAX];
+    struct stat storage, other;
+    snprintf(name, sizeof name, "%.*s/.", (int)(strrchr(s->path, '/') - s->path), s->path);
+    return fstat(s->folder, &storage) == 0 && stat(name, &other) == 0 && storage.st_ino == other.st_ino && storage.st_dev == other.st_dev;
+}
+
+static bool is_ignored(const relkvanu_store *s, bool has_own_files, const char *name) {
+    return strcmp(name, ".") == 0 || strcmp(name, "..") == 0 || strcmp(name, "lost+found") == 0 || strcmp(name, UNFINISHED) == 0 ||
+           (has_own_files && is_own(s, name));
+}
+
+/* A file of the folder that is no file of a new job; "" if there is none. Returns false if the folder can't be read. */
+static bool found_file(const relkvanu_store *s, char *name, size_t name_len) {
+    int copy = openat(s->folder, ".", O_RDONLY | O_DIRECTORY | O_CLOEXEC);
+    DIR *listing = copy < 0 ? NULL : fdopendir(copy);
+    bool has_own_files = has_own(s);
+    struct dirent *entry;
+    name[0] = 0;
+    if (listing == NULL) {
+        if (copy >= 0) {
+            close(copy);
+        }
+        return false;
+    }
+    while (errno = 0, name[0] == 0 && (entry = readdir(listing)) != NULL) {
+        if (!is_ignored(s, has_own_files, entry->d_name)) {
+            snprintf(name, name_len, "%s", entry->d_name);
+        }
+    }
+    bool is_read = errno == 0;
+    closedir(listing);
+    return is_read;
+}
+
+int rks_check_new_folder(relkvanu_store *s, const char *folder) {
+    char name[256];
+    if (folder == NULL) {
+        return RELKVANU_STORE_OK;
+    }
+    if (faccessat(s->folder, MARKER, F_OK, 0) == 0) {
+        return storage_fault(s, folder, "it has the marker of another job, and this one is new", "");
+    }
+    if ((s->options.flags & RELKVANU_STORE_ADOPT) != 0) {
+        return RELKVANU_STORE_OK;
+    }
+    if (!found_file(s, name, sizeof name)) {
+        return storage_fault(s, folder, "can't be read", "");
+    }
+    return name[0] == 0 ? RELKVANU_STORE_OK : storage_fault(s, folder, "the job is new, and there are files, such as ", name);
+}
+
+int rks_write_marker(relkvanu_store *s, const char *folder) {
+    char text[MARKER_LEN];
+    text_of(s, text);
+    int file = openat(s->folder, UNFINISHED, O_WRONLY | O_CREAT | O_TRUNC | O_CLOEXEC, 0600);
+    if (file < 0) {
+        return rks_file_fault(s, folder, errno);
+    }
+    bool is_written = rks_write_whole(file, text, strlen(text), 0) && fsync(file) == 0;
+    int error = errno;
+    is_written = close(file) == 0 && is_written;
+    if (!is_written || renameat(s->folder, UNFINISHED, s->folder, MARKER) != 0 || fsync(s->folder) != 0) {
+        return rks_file_fault(s, folder, is_written ? errno : error);
+    }
+    return RELKVANU_STORE_OK;
+}
+
+int rks_check_marker(relkvanu_store *s, const char *folder) {
+    char text[MARKER_LEN], found[MARKER_LEN] = "";
+    text_of(s, text);
+    int file = openat(s->folder, MARKER, O_RDONLY | O_CLOEXEC);
+    if (file < 0) {
+        return storage_fault(s, folder, errno == ENOENT ? "it has no marker: is the storage mounted?" : strerror(errno), "");
+    }
+    ssize_t len = read(file, found, sizeof found - 1);
+    close(file);
+    if (len < 0 || strcmp(text, found) != 0) {
+        return storage_fault(s, folder, "it has the marker of another job than ", s->identity);
+    }
+    return RELKVANU_STORE_OK;
+}

@@ -1,0 +1,322 @@
+/* Opening and closing a store. */
+#include "parts.h"
+
+#include <errno.h>
+#include <inttypes.h>
+#include <limits.h>
+#include <stdio.h>
+#include <stdlib.h>
+#include <string.h>
+#include <sys/eventfd.h>
+#include <sys/random.h>
+#include <unistd.h>
+
+enum { APPLICATION = 0x52564b53, FORMAT = 1, LINES = 16384, NO_STORAGE = 0, TO_MARK = 1, MARKED = 2 };
+static const uint64_t DAY = 86400000, IMAGE_CALLS = 10000;
+
+/* The tables. The lines of the opening are kept as they are written, to compare them with those of a later opening. */
+static const char TABLES[] =
+    "BEGIN IMMEDIATE;"
+    "CREATE TABLE job(one INTEGER PRIMARY KEY CHECK (one = 1), identity TEXT NOT NULL, epoch INTEGER NOT NULL, storage INTEGER NOT NULL,"
+    " opening TEXT NOT NULL, library TEXT NOT NULL) STRICT;"
+    "CREATE TABLE log(place INTEGER PRIMARY KEY, line TEXT NOT NULL, what INTEGER NOT NULL, a INTEGER NOT NULL, b INTEGER NOT NULL,"
+    " files BLOB, chain INTEGER NOT NULL) STRICT;"
+    "CREATE TABLE image(place INTEGER PRIMARY KEY, chain INTEGER NOT NULL, sum INTEGER NOT NULL, text BLOB NOT NULL) STRICT;";
+
+/* What a file says of its job. */
+struct job {
+    int64_t is_there, epoch, storage;
+    char identity[RKS_IDENTITY + 1], opening[LINES];
+};
+
+static int told(relkvanu_store *s, int status, const char *words) {
+    snprintf(s->fault, sizeof s->fault, "%.400s: %s", s->path, words);
+    return status;
+}
+
+static bool may_create(const relkvanu_store *s) {
+    return (s->options.flags & (RELKVANU_STORE_CREATE | RELKVANU_STORE_CREATE_ONLY)) != 0;
+}
+
+/* Opens the file, which is made if there may be a new job. */
+static int open_files(relkvanu_store *s, const char *path) {
+    struct stat file;
+    if (stat(path, &file) != 0 && !(errno == ENOENT && may_create(s))) {
+        int error = errno, status = rks_file_fault(s, path, error);
+        return error == ENOENT ? RELKVANU_STORE_ABSENT : status;
+    }
+    int status = rks_lock(s, path);
+    if (status == RELKVANU_STORE_OK && s->options.storage != NULL) {
+        status = rks_open_folder(s, s->options.storage);
+    }
+    if (status == RELKVANU_STORE_OK && (stat(s->path, &file) != 0 || file.st_size == 0)) { /* a refusal makes no file */
+        status = may_create(s) ? rks_check_new_folder(s, s->options.storage) : told(s, RELKVANU_STORE_ABSENT, "it has no job");
+        status = status == RELKVANU_STORE_OK ? rks_make_file(s) : status;
+    } else if (status == RELKVANU_STORE_OK && file.st_nlink != 1) {
+        status = told(s, RELKVANU_STORE_FAILED, "it has several names, each of which would have a log of its own");
+    }
+    if (status == RELKVANU_STORE_OK) {
+        status = rks_write_again(s);
+    }
+    return status == RELKVANU_STORE_OK ? rks_open_database(s) : status;
+}
+
+static int read_job(relkvanu_store *s, struct job *job) {
+    int64_t application = 0, format = 0, tables = 0;
+    int status = rks_ask(s, "PRAGMA application_id", &application, NULL, 0);
+    status = status == RELKVANU_STORE_OK ? rks_ask(s, "PRAGMA user_version", &format, NULL, 0) : status;
+    status = status == RELKVANU_STORE_OK ? rks_ask(s, "SELECT count(*) FROM sqlite_schema", &tables, NULL, 0) : status;
+    if (status != RELKVANU_STORE_OK || (tables == 0 && application == 0)) {
+        return status;
+    }
+    if (application != APPLICATION) {
+        return told(s, RELKVANU_STORE_NOT_A_STORE, "it is another kind of database");
+    }
+    if (format != FORMAT) {
+        return told(s, RELKVANU_STORE_NOT_A_STORE, "a later version of the library made it");
+    }
+    status = rks_ask(s, "SELECT epoch FROM job", &job->epoch, NULL, 0);
+    status = status == RELKVANU_STORE_OK ? rks_ask(s, "SELECT storage FROM job", &job->storage, NULL, 0) : status;
+    status = status == RELKVANU_STORE_OK ? rks_ask(s, "SELECT identity FROM job", NULL, job->identity, sizeof job->identity) : status;
+    status = status == RELKVANU_STORE_OK ? rks_ask(s, "SELECT opening FROM job", NULL, job->opening, sizeof job->opening) : status;
+    job->is_there = status == RELKVANU_STORE_OK;
+    if (job->is_there && (strlen(job->identity) != RKS_IDENTITY || job->epoch < 1)) {
+        return told(s, RELKVANU_STORE_DAMAGED, "the row of the job is damaged");
+    }
+    memcpy(s->identity, job->identity, sizeof s->identity);
+    return status;
+}
+
+/* The lines of an opening, as a text with a zero; empty if no coordinator can be opened so. */
+static int opening_lines(const relkvanu_store_options *o, char lines[LINES]) {
+    relkvanu_answer answer = relkvanu_opening_lines(&o->settings, o->shape, o->shape_len, 0, (uint8_t *)lines, LINES - 1);
+    lines[answer.code == RELKVANU_DONE ? answer.a : 0] = 0;
+    return answer.code == RELKVANU_DONE ? RELKVANU_STORE_OK : answer.code == RELKVANU_NO_MEMORY ? RELKVANU_STORE_NO_MEMORY : RELKVANU_STORE_BAD_ARGUMENT;
+}
+
+/* Opens the coordinator of a new job, at the moment 0, and names the job. */
+static int begin_job(relkvanu_store *s, const relkvanu_store_options *o) {
+    uint64_t words[4];
+    if (getentropy(words, sizeof words) != 0) {
+        return told(s, RELKVANU_STORE_FAILED, "no random numbers");
+    }
+    snprintf(s->identity, sizeof s->identity, "%016" PRIx64 "%016" PRIx64, words[2], words[3]);
+    relkvanu_answer answer = relkvanu_open(&s->handle, &o->settings, o->shape, o->shape_len, 0, 1, words[0], words[1]);
+    return answer.code == RELKVANU_DONE ? rks_save(s) : answer.code == RELKVANU_NO_MEMORY ? RELKVANU_STORE_NO_MEMORY : told(s, RELKVANU_STORE_BAD_ARGUMENT, "bad settings or shape");
+}
+
+static int insert_job(relkvanu_store *s, const char *lines, int storage) {
+    sqlite3_stmt *it = NULL;
+    int code = sqlite3_prepare_v2(s->db, "INSERT INTO job VALUES(1, ?1, 1, ?2, ?3, ?4)", -1, &it, NULL);
+    code = code != SQLITE_OK ? code : sqlite3_bind_text(it, 1, s->identity, -1, SQLITE_STATIC);
+    code = code != SQLITE_OK ? code : sqlite3_bind_int(it, 2, storage);
+    code = code != SQLITE_OK ? code : sqlite3_bind_text(it, 3, lines, -1, SQLITE_STATIC);
+    code = code != SQLITE_OK ? code : sqlite3_bind_text(it, 4, relkvanu_version(), -1, SQLITE_STATIC);
+    int status = code == SQLITE_OK && sqlite3_step(it) == SQLITE_DONE ? RELKVANU_STORE_OK : rks_fault(s, "job");
+    sqlite3_finalize(it);
+    return status;
+}
+
+/* Makes the tables of a new job in one transaction, with the image of its opening. */
+static int write_job(relkvanu_store *s, const char *lines, int storage) {
+    char pragmas[96];
+    snprintf(pragmas, sizeof pragmas, "PRAGMA application_id=%d; PRAGMA user_version=%d", APPLICATION, FORMAT);
+    int status = rks_run(s, TABLES);
+    status = status == RELKVANU_STORE_OK ? rks_run(s, pragmas) : status;
+    status = status == RELKVANU_STORE_OK ? insert_job(s, lines, storage) : status;
+    status = status == RELKVANU_STORE_OK ? rks_prepare(s) : status;
+    status = status == RELKVANU_STORE_OK ? rks_write_image(s) : status;
+    return status == RELKVANU_STORE_OK ? rks_step(s, RKS_COMMIT, "commit") : status;
+}
+
+static int create(relkvanu_store *s, const relkvanu_store_options *o) {
+    char lines[LINES];
+    if (!may_create(s)) {
+        return told(s, RELKVANU_STORE_ABSENT, "it has no job");
+    }
+    int status = rks_check_new_folder(s, o->storage);
+    status = status == RELKVANU_STORE_OK ? opening_lines(o, lines) : status;
+    if (status == RELKVANU_STORE_BAD_ARGUMENT) {
+        return told(s, status, "bad settings or shape");
+    }
+    status = status == RELKVANU_STORE_OK ? begin_job(s, o) : status;
+    return status == RELKVANU_STORE_OK ? write_job(s, lines, o->storage == NULL ? NO_STORAGE : TO_MARK) : status;
+}
+
+/* Checks that the storage is that of the job. A process may have ended before the marker of a new job was there. */
+static int check_storage(relkvanu_store *s, const struct job *job, const char *folder) {
+    if (job->storage == NO_STORAGE) {
+        return folder == NULL ? RELKVANU_STORE_OK : told(s, RELKVANU_STORE_STORAGE, "the job was made without a storage folder");
+    }
+    if (folder == NULL) {
+        return told(s, RELKVANU_STORE_STORAGE, "the job has a storage folder, and the options name none");
+    }
+    if (job->storage == TO_MARK && !rks_has_marker(s)) {
+        return rks_check_new_folder(s, folder);
+    }
+    return rks_check_marker(s, folder);
+}
+
+/* An image after the one that was opened is damaged. */
+static int begin_epoch(relkvanu_store *s) {
+    char sql[128];
+    snprintf(sql, sizeof sql, "BEGIN IMMEDIATE; UPDATE job SET epoch = epoch + 1; DELETE FROM image WHERE place > %" PRIu64 "; COMMIT", s->image_place);
+    return rks_run(s, sql);
+}
+
+static int recover(relkvanu_store *s, const struct job *job, const relkvanu_store_options *o, relkvanu_store_report *report) {
+    char lines[LINES];
+    if ((o->flags & RELKVANU_STORE_CREATE_ONLY) != 0) {
+        return told(s, RELKVANU_STORE_PRESENT, "it has a job");
+    }
+    int status = check_storage(s, job, o->storage);
+    status = status == RELKVANU_STORE_OK ? rks_prepare(s) : status;
+    status = status == RELKVANU_STORE_OK ? rks_replay(s, report) : status;
+    status = status == RELKVANU_STORE_OK ? begin_epoch(s) : status;
+    if (status == RELKVANU_STORE_OK) {
+        report->is_recovered = true;
+        report->settings_differ = opening_lines(o, lines) != RELKVANU_STORE_OK || strcmp(lines, job->opening) != 0;
+    }
+    return status;
+}
+
+/* What is committed so far is in the file itself, and on the disk, before anybody acts on it. */
+static int settle(relkvanu_store *s) {
+    int status = rks_checkpoint(s, SQLITE_CHECKPOINT_TRUNCATE);
+    status = status == RELKVANU_STORE_OK ? rks_sync_folder_of(s, s->path) : status;
+    /* SQLite may say WAL and not be in it. Then there is no -wal. */
+    return status != RELKVANU_STORE_OK ? status : rks_in_place(s) ? RELKVANU_STORE_OK : RELKVANU_STORE_FAILED;
+}
+
+static int mark(relkvanu_store *s, const struct job *job, const char *folder) {
+    if (folder == NULL || job->storage == MARKED) {
+        return RELKVANU_STORE_OK;
+    }
+    int status = rks_has_marker(s) ? RELKVANU_STORE_OK : rks_write_marker(s, folder);
+    return status == RELKVANU_STORE_OK ? rks_run(s, "UPDATE job SET storage = 2") : status;
+}
+
+static void set_steps(relkvanu_store_report *report) {
+    static const uint32_t fresh[] = {RELKVANU_STORE_START_TASKS};
+    static const uint32_t ended[] = {RELKVANU_STORE_END_TASKS, RELKVANU_STORE_SWEEP, RELKVANU_STORE_DISCARD};
+    static const uint32_t again[] = {RELKVANU_STORE_END_TASKS, RELKVANU_STORE_RESTORE, RELKVANU_STORE_SWEEP, RELKVANU_STORE_START_TASKS};
+    bool is_cancelled = report->mode.what == RELKVANU_MODE_CANCELLED;
+    const uint32_t *steps = !report->is_recovered ? fresh : is_cancelled ? ended : again;
+    report->steps_len = !report->is_recovered ? 1 : is_cancelled ? 3 : 4;
+    memcpy(report->steps, steps, report->steps_len * sizeof *steps);
+}
+
+static void fill(relkvanu_store *s, const struct job *job, relkvanu_store_report *report) {
+    report->epoch = (uint64_t)job->epoch + 1;
+    sscanf(s->identity, "%16" SCNx64 "%16" SCNx64, &report->job[0], &report->job[1]);
+    report->taken = relkvanu_file_counts(&s->handle).taken;
+    report->moment = relkvanu_moment(&s->handle).a;
+    report->mode = relkvanu_mode(&s->handle);
+    report->choice = relkvanu_choice(&s->handle);
+    set_steps(report);
+    s->clock_offset = report->moment - rks_clock_ns() / 1000000;
+    s->may_sweep = report->is_recovered && report->mode.what == RELKVANU_MODE_CANCELLED;
+    s->next_image = s->image_place + s->options.image_calls;
+}
+
+static int open_job(relkvanu_store *s, const char *path, const relkvanu_store_options *o, relkvanu_store_report *report) {
+    static const struct job none;
+    struct job job = none;
+    int status = open_files(s, path);
+    status = status == RELKVANU_STORE_OK ? read_job(s, &job) : status;
+    if (status == RELKVANU_STORE_OK) {
+        status = job.is_there ? recover(s, &job, o, report) : create(s, o);
+    }
+    status = status == RELKVANU_STORE_OK ? settle(s) : status;
+    status = status == RELKVANU_STORE_OK ? mark(s, &job, o->storage) : status;
+    if (status == RELKVANU_STORE_OK) {
+        fill(s, &job, report);
+    }
+    return status;
+}
+
+static bool prepare(relkvanu_store *s) {
+    pthread_condattr_t by_clock;
+    s->lock = s->shm = s->folder = s->event = -1;
+    s->tail = &s->head;
+    s->completed_tail = &s->completed;
+    s->process = getpid();
+    s->event = eventfd(0, EFD_CLOEXEC | EFD_NONBLOCK);
+    bool is_done = pthread_mutex_init(&s->mutex, NULL) == 0 && pthread_condattr_init(&by_clock) == 0 &&
+                   pthread_condattr_setclock(&by_clock, CLOCK_MONOTONIC) == 0 && pthread_cond_init(&s->changed, &by_clock) == 0 &&
+                   sem_init(&s->work, 0, 0) == 0;
+    return is_done && s->event >= 0;
+}
+
+/* Frees all. A store that is not closed cleanly keeps its -wal. */
+static void release(relkvanu_store *s) {
+    rks_unlist(s);
+    rks_close_database(s);
+    relkvanu_close(&s->handle);
+    if (s->folder >= 0) {
+        close(s->folder);
+    }
+    if (s->event >= 0) {
+        close(s->event);
+    }
+    rks_unlock(s);
+    free(s->rows);
+    free(s->image.at);
+    free(s);
+}
+
+static bool are_known(const relkvanu_store_options *o) {
+    const uint32_t flags = RELKVANU_STORE_CREATE | RELKVANU_STORE_CREATE_ONLY | RELKVANU_STORE_ADOPT | RELKVANU_STORE_EARLIER_IMAGE;
+    return (o->flags & ~flags) == 0 && (o->reserved[0] | o->reserved[1] | o->reserved[2] | o->reserved[3]) == 0;
+}
+
+int relkvanu_store_open(relkvanu_store **store, const char *path, const relkvanu_store_options *options, relkvanu_store_report *report) {
+    *store = NULL;
+    *report = (relkvanu_store_report){0};
+    if (!are_known(options)) {
+        snprintf(report->message, sizeof report->message, "a flag that is not known, or a reserved field that is not 0");
+        return RELKVANU_STORE_BAD_ARGUMENT;
+    }
+    relkvanu_store *s = calloc(1, sizeof *s);
+    if (s == NULL || !prepare(s)) {
+        free(s);
+        return RELKVANU_STORE_NO_MEMORY;
+    }
+    s->options = *options;
+    s->options.image_calls = options->image_calls == 0 ? IMAGE_CALLS : options->image_calls > UINT64_MAX / 4 ? RELKVANU_STORE_NO_IMAGES : options->image_calls;
+    s->options.most_ahead = options->most_ahead == 0 ? DAY : options->most_ahead;
+    rks_list(s);
+    int status = open_job(s, path, options, report);
+    s->options.storage = NULL;
+    s->options.shape = NULL;
+    if (status != RELKVANU_STORE_OK) {
+        memcpy(report->message, s->fault, sizeof report->message);
+        status = status == RELKVANU_STORE_OUT_OF_MEMORY ? RELKVANU_STORE_NO_MEMORY : status == RELKVANU_STORE_BUSY ? RELKVANU_STORE_IN_USE : status;
+        release(s);
+        return status;
+    }
+    *store = s;
+    return RELKVANU_STORE_OK;
+}
+
+/* Makes an image, and brings all into the file. */
+static void close_cleanly(relkvanu_store *s) {
+    s->rows_len = 0;
+    bool has_calls = s->place > s->image_place && s->options.image_calls != RELKVANU_STORE_NO_IMAGES;
+    if (!has_calls || rks_commit(s, true) == RELKVANU_STORE_OK) {
+        rks_checkpoint(s, SQLITE_CHECKPOINT_TRUNCATE);
+    }
+}
+
+void relkvanu_store_close(relkvanu_store *s) {
+    relkvanu *handle;
+    if (s == NULL || rks_is_forked(s)) {
+        return; /* in a child SQLite would take the file for its own */
+    }
+    if (relkvanu_store_read(s, &handle) == RELKVANU_STORE_OK) {
+        close_cleanly(s);
+        relkvanu_store_read_end(s);
+    }
+    rks_end_submits(s);
+    release(s);
+}

@@ -1,0 +1,178 @@
+/* What the source files of the store share. include/relkvanu_store.h has what its users see. */
+#ifndef RELKVANU_STORE_PARTS_H
+#define RELKVANU_STORE_PARTS_H
+#ifndef _GNU_SOURCE
+#define _GNU_SOURCE
+#endif
+#include "../../../include/relkvanu_store.h"
+
+#include <pthread.h>
+#include <semaphore.h>
+#include <sqlite3.h>
+#include <stdbool.h>
+#include <sys/stat.h>
+#include <sys/types.h>
+
+/* After so many pages the -wal is brought into the file. Tests make it small. */
+#ifndef RKS_WAL_PAGES
+#define RKS_WAL_PAGES 1000
+#endif
+
+enum { RKS_CUT = 1000, RKS_MESSAGE = RELKVANU_STORE_MESSAGE, RKS_IDENTITY = 32 };
+
+/* Bytes that grow. */
+struct rks_text {
+    uint8_t *at;
+    size_t len, room;
+};
+
+/* Makes room for more bytes. Returns false if there is no memory; the bytes stay. */
+bool rks_room(struct rks_text *text, size_t more);
+
+/* Calls, a read (calls is NULL) or a submit that waits in the queue. */
+struct rks_waiter {
+    struct rks_waiter *next;
+    relkvanu_store_call *calls;
+    size_t calls_len;
+    struct rks_text lines; /* one after the other */
+    size_t *ends;          /* where each line ends */
+    sem_t turn;
+    int status;
+    bool is_answered;      /* otherwise its turn is to lead */
+    bool is_submitted;
+    uint64_t token;
+    size_t few[4];         /* what ends points to, if that is enough */
+};
+
+/* A call that was made, for the log. */
+struct rks_row {
+    const uint8_t *line;
+    size_t line_len;
+    relkvanu_answer answer;
+    const uint64_t *files; /* of a take */
+    uint64_t place;
+    uint32_t chain; /* the checksum of all calls so far */
+};
+
+enum rks_statement { RKS_BEGIN, RKS_COMMIT, RKS_ROLLBACK, RKS_INSERT, RKS_IMAGE, RKS_CUT_LOG, RKS_DROP_IMAGES, RKS_STATEMENTS };
+
+struct relkvanu_store {
+    relkvanu handle;
+    relkvanu_store_options options; /* its pointers are not kept */
+    pid_t process;
+
+    /* files */
+    char *path, *wal;
+    int lock, shm, folder;
+    struct stat path_is, wal_is;
+    char identity[RKS_IDENTITY + 1]; /* of the job, in hexadecimal digits */
+
+    /* SQLite and the log: only of the thread that leads */
+    sqlite3 *db;
+    sqlite3_stmt *statements[RKS_STATEMENTS];
+    uint64_t place, first, cut_to;                  /* the last call; the one before the first of the log; what may be cut */
+    uint64_t image_place, image_before, next_image; /* of the last two images; when the next one is due */
+    uint32_t chain;
+    struct rks_row *rows;
+    size_t rows_len, rows_room;
+    struct rks_text image;
+    int pages;                /* of the -wal */
+    int code;                 /* SQLite's, of the last failure */
+    char fault[RKS_MESSAGE];  /* its words */
+    bool is_held;             /* the last tick was held because of the checkpoints that are pending */
+    bool may_sweep;
+    uint64_t tick_after;      /* the moment before which no tick is made again after one without memory */
+    relkvanu_store_counts led; /* counts of the leaders */
+
+    uint64_t clock_offset; /* the moment minus the system's clock, modulo 2^64 */
+
+    /* the queue; all below is guarded by the mutex */
+    pthread_mutex_t mutex;
+    pthread_cond_t changed;
+    struct rks_waiter *head, **tail;
+    bool is_led;
+    int dead; /* the status that closed the store */
+    uint64_t version; /* of what is committed */
+    unsigned awaiting;
+    bool is_stopped, is_discarding;
+    relkvanu_store_counts counts;
+    char message[RKS_MESSAGE];
+
+    /* submits */
+    struct rks_waiter *completed, **completed_tail;
+    int event;
+    pthread_t helper; /* leads for submits */
+    bool has_helper, is_ending;
+    sem_t work;
+
+    relkvanu_store *older; /* in the list of all stores of the process */
+};
+
+/* lock.c */
+int rks_lock(relkvanu_store *s, const char *path);
+void rks_unlock(relkvanu_store *s);
+bool rks_is_forked(const relkvanu_store *s);
+bool rks_in_place(relkvanu_store *s);
+void rks_list(relkvanu_store *s);
+void rks_unlist(relkvanu_store *s);
+
+/* files.c */
+int rks_status_of_errno(int error);
+int rks_file_fault(relkvanu_store *s, const char *what, int error);
+char *rks_folder_of(const char *path);
+int rks_sync_folder_of(relkvanu_store *s, const char *path);
+int rks_write_again(relkvanu_store *s);
+int rks_make_file(relkvanu_store *s);
+bool rks_write_whole(int file, const void *bytes, size_t len, off_t at);
+
+/* marker.c */
+int rks_open_folder(relkvanu_store *s, const char *folder);
+int rks_check_new_folder(relkvanu_store *s, const char *folder);
+int rks_write_marker(relkvanu_store *s, const char *folder);
+int rks_check_marker(relkvanu_store *s, const char *folder);
+bool rks_has_marker(const relkvanu_store *s);
+
+/* lite.c */
+int rks_fault(relkvanu_store *s, const char *what);
+int rks_run(relkvanu_store *s, const char *sql);
+int rks_step(relkvanu_store *s, enum rks_statement statement, const char *what);
+int rks_ask(relkvanu_store *s, const char *sql, int64_t *number, char *text, size_t text_len);
+int rks_open_database(relkvanu_store *s);
+int rks_prepare(relkvanu_store *s);
+int rks_checkpoint(relkvanu_store *s, int mode);
+void rks_close_database(relkvanu_store *s);
+
+/* commit.c */
+uint32_t rks_chain(uint32_t chain, const struct rks_row *row);
+uint32_t rks_image_sum(uint64_t place, uint32_t chain, const void *image, size_t len);
+int rks_save(relkvanu_store *s);
+int rks_write_image(relkvanu_store *s);
+void rks_note_image(relkvanu_store *s);
+int rks_commit(relkvanu_store *s, bool wants_image);
+
+/* replay.c */
+int rks_replay(relkvanu_store *s, relkvanu_store_report *report);
+
+/* make.c */
+int rks_make(relkvanu_store *s, struct rks_waiter *group);
+
+/* queue.c */
+int rks_enter(relkvanu_store *s, struct rks_waiter *w);
+struct rks_waiter *rks_take_group(relkvanu_store *s);
+void rks_lead(relkvanu_store *s, struct rks_waiter *self);
+void rks_hand_on(relkvanu_store *s, int dead, bool is_changed);
+void rks_drop_answers(relkvanu_store_call *calls, size_t calls_len);
+
+/* submit.c */
+void rks_complete(relkvanu_store *s, struct rks_waiter *w);
+void rks_end_submits(relkvanu_store *s);
+void rks_free_waiter(struct rks_waiter *w);
+
+/* calls.c */
+int rks_write_lines(relkvanu_store *s, struct rks_waiter *w);
+
+/* timer.c */
+uint64_t rks_clock_ns(void);
+int rks_await(relkvanu_store *s, uint64_t seen, uint64_t until);
+
+#endif

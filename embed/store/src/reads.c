@@ -1,0 +1,101 @@
+/* Reads: they wait in the queue too, so they see what is committed and nothing else. */
+#include "parts.h"
+
+#include <stdio.h>
+#include <stdlib.h>
+#include <string.h>
+
+int relkvanu_store_read(relkvanu_store *s, relkvanu **handle) {
+    struct rks_waiter w = {0};
+    int status = rks_enter(s, &w);
+    if (status == RELKVANU_STORE_OK && w.is_answered) {
+        status = w.status;
+    }
+    if (status == RELKVANU_STORE_OK) {
+        rks_take_group(s); /* it is this read alone */
+        *handle = &s->handle;
+    }
+    return status;
+}
+
+void relkvanu_store_read_end(relkvanu_store *s) {
+    rks_hand_on(s, 0, false);
+}
+
+void relkvanu_store_count(relkvanu_store *s, relkvanu_store_counts *counts) {
+    *counts = (relkvanu_store_counts){0};
+    if (!rks_is_forked(s)) {
+        pthread_mutex_lock(&s->mutex);
+        *counts = s->counts;
+        pthread_mutex_unlock(&s->mutex);
+    }
+}
+
+size_t relkvanu_store_message(relkvanu_store *s, char *text, size_t text_len) {
+    if (rks_is_forked(s)) {
+        return (size_t)snprintf(text, text_len, "this process is a forked child");
+    }
+    pthread_mutex_lock(&s->mutex);
+    int len = snprintf(text, text_len, "%s", s->message);
+    pthread_mutex_unlock(&s->mutex);
+    return (size_t)len;
+}
+
+int relkvanu_store_folder(const relkvanu_store *s) {
+    return s->folder;
+}
+
+static int by_number(const void *one, const void *other) {
+    uint64_t a = *(const uint64_t *)one, b = *(const uint64_t *)other;
+    return (a > b) - (a < b);
+}
+
+/* The files that wait or are taken, in order. */
+static int released_files(relkvanu_store *s, uint64_t **released, size_t *len) {
+    relkvanu_counts counts = relkvanu_file_counts(&s->handle);
+    uint64_t *files = malloc((counts.waiting + counts.taken + 1) * sizeof *files);
+    if (files == NULL) {
+        return RELKVANU_STORE_NO_MEMORY;
+    }
+    relkvanu_answer answer = relkvanu_taken_files(&s->handle, files, counts.taken);
+    if (answer.code != RELKVANU_DONE) {
+        free(files);
+        return RELKVANU_STORE_NO_MEMORY;
+    }
+    for (size_t place = 0; place < counts.waiting; place++) {
+        files[answer.a + place] = relkvanu_waiting_file(&s->handle, place).a;
+    }
+    *released = files;
+    *len = answer.a + counts.waiting;
+    qsort(files, *len, sizeof *files, by_number);
+    return RELKVANU_STORE_OK;
+}
+
+/* Moves the files that nobody knows to the front. */
+static size_t unknown_of(relkvanu_store *s, const uint64_t *released, size_t released_len, uint64_t *files, size_t len) {
+    size_t found = 0;
+    for (size_t i = 0; i < len; i++) {
+        bool is_known = relkvanu_count(&s->handle, files[i]).b != 0 || bsearch(&files[i], released, released_len, sizeof *released, by_number) != NULL;
+        if (!is_known) {
+            files[found++] = files[i];
+        }
+    }
+    return found;
+}
+
+int relkvanu_store_unknown(relkvanu_store *s, uint64_t *files, size_t *files_len) {
+    relkvanu *handle;
+    uint64_t *released = NULL;
+    size_t released_len = 0;
+    int status = relkvanu_store_read(s, &handle);
+    if (status != RELKVANU_STORE_OK) {
+        return status;
+    }
+    status = s->may_sweep ? released_files(s, &released, &released_len) : RELKVANU_STORE_NOT_NOW;
+    if (status == RELKVANU_STORE_OK) {
+        *files_len = unknown_of(s, released, released_len, files, *files_len);
+    }
+    relkvanu_store_read_end(s);
+    free(released);
+    return status;
+}

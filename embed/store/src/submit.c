@@ -1,0 +1,131 @@
+/* Submits: calls whose caller does not wait. A thread of the store leads for them, and an eventfd tells of their completion. */
+#include "parts.h"
+
+#include <errno.h>
+#include <signal.h>
+#include <stdlib.h>
+#include <unistd.h>
+
+void rks_free_waiter(struct rks_waiter *w) {
+    if (w->ends != w->few) {
+        free(w->ends);
+    }
+    free(w->lines.at);
+    free(w);
+}
+
+/* Puts a submit that is answered into the queue of completions. */
+void rks_complete(relkvanu_store *s, struct rks_waiter *w) {
+    uint64_t one = 1;
+    w->next = NULL;
+    pthread_mutex_lock(&s->mutex);
+    bool is_first = s->completed == NULL;
+    *s->completed_tail = w;
+    s->completed_tail = &w->next;
+    while (is_first && write(s->event, &one, sizeof one) < 0 && errno == EINTR) {
+    }
+    pthread_mutex_unlock(&s->mutex);
+}
+
+static void *helps(void *with) {
+    relkvanu_store *s = with;
+    for (;;) {
+        while (sem_wait(&s->work) != 0) {
+        }
+        pthread_mutex_lock(&s->mutex);
+        bool is_ending = s->is_ending;
+        pthread_mutex_unlock(&s->mutex);
+        if (is_ending) {
+            return NULL;
+        }
+        rks_lead(s, NULL);
+    }
+}
+
+/* Starts the thread at the first submit. It gets no signals. */
+static bool has_helper(relkvanu_store *s) {
+    sigset_t every, before;
+    sigfillset(&every);
+    pthread_mutex_lock(&s->mutex);
+    if (!s->has_helper) {
+        pthread_sigmask(SIG_SETMASK, &every, &before);
+        s->has_helper = pthread_create(&s->helper, NULL, helps, s) == 0;
+        pthread_sigmask(SIG_SETMASK, &before, NULL);
+    }
+    bool is_there = s->has_helper;
+    pthread_mutex_unlock(&s->mutex);
+    return is_there;
+}
+
+int relkvanu_store_submit(relkvanu_store *s, relkvanu_store_call *calls, size_t calls_len, uint64_t token) {
+    if (rks_is_forked(s)) {
+        return RELKVANU_STORE_FORKED;
+    }
+    if (calls_len == 0 || calls_len > RELKVANU_STORE_MOST_CALLS) {
+        return RELKVANU_STORE_BAD_ARGUMENT;
+    }
+    struct rks_waiter *w = has_helper(s) ? calloc(1, sizeof *w) : NULL;
+    if (w == NULL) {
+        return RELKVANU_STORE_NO_MEMORY;
+    }
+    w->calls = calls;
+    w->calls_len = calls_len;
+    w->token = token;
+    w->is_submitted = true;
+    w->ends = calls_len <= sizeof w->few / sizeof *w->few ? w->few : malloc(calls_len * sizeof *w->ends);
+    int status = w->ends == NULL ? RELKVANU_STORE_NO_MEMORY : rks_write_lines(s, w);
+    if (status == RELKVANU_STORE_OK) {
+        status = rks_enter(s, w);
+    }
+    if (status != RELKVANU_STORE_OK) {
+        rks_drop_answers(calls, calls_len);
+        rks_free_waiter(w);
+    }
+    return status;
+}
+
+/* The first completion, or NULL. Without any the eventfd can't be read any more. */
+static struct rks_waiter *pop(relkvanu_store *s) {
+    uint64_t count;
+    pthread_mutex_lock(&s->mutex);
+    struct rks_waiter *w = s->completed;
+    if (w != NULL) {
+        s->completed = w->next;
+        if (s->completed == NULL) {
+            s->completed_tail = &s->completed;
+            while (read(s->event, &count, sizeof count) < 0 && errno == EINTR) {
+            }
+        }
+    }
+    pthread_mutex_unlock(&s->mutex);
+    return w;
+}
+
+size_t relkvanu_store_completed(relkvanu_store *s, relkvanu_store_completion *completions, size_t len) {
+    size_t found = 0;
+    struct rks_waiter *w;
+    while (!rks_is_forked(s) && found < len && (w = pop(s)) != NULL) {
+        completions[found++] = (relkvanu_store_completion){w->token, w->status};
+        rks_free_waiter(w);
+    }
+    return found;
+}
+
+int relkvanu_store_descriptor(const relkvanu_store *s) {
+    return s->event;
+}
+
+/* The queue is empty. */
+void rks_end_submits(relkvanu_store *s) {
+    struct rks_waiter *w;
+    if (s->has_helper) {
+        pthread_mutex_lock(&s->mutex);
+        s->is_ending = true;
+        pthread_mutex_unlock(&s->mutex);
+        sem_post(&s->work);
+        pthread_join(s->helper, NULL);
+    }
+    while ((w = pop(s)) != NULL) {
+        rks_free_waiter(w);
+    }
+}

@@ -1,0 +1,111 @@
+/* The clock, what a timer waits for, and how a thread waits for it. */
+#include "parts.h"
+
+#include <errno.h>
+#include <time.h>
+
+static uint64_t ns_of(clockid_t clock) {
+    struct timespec now;
+    clock_gettime(clock, &now);
+    return (uint64_t)now.tv_sec * 1000000000 + (uint64_t)now.tv_nsec;
+}
+
+/* A clock that never jumps, and goes on while the machine is suspended. */
+uint64_t rks_clock_ns(void) {
+    return ns_of(CLOCK_BOOTTIME);
+}
+
+uint64_t relkvanu_store_now(const relkvanu_store *s) {
+    return rks_clock_ns() / 1000000 + s->clock_offset;
+}
+
+void relkvanu_store_stop(relkvanu_store *s) {
+    if (rks_is_forked(s)) {
+        return;
+    }
+    pthread_mutex_lock(&s->mutex);
+    s->is_stopped = true;
+    pthread_cond_broadcast(&s->changed);
+    pthread_mutex_unlock(&s->mutex);
+}
+
+/* Waits for a commit after the version seen, or until a moment of rks_clock_ns. */
+int rks_await(relkvanu_store *s, uint64_t seen, uint64_t until) {
+    pthread_mutex_lock(&s->mutex);
+    s->awaiting++;
+    while (s->dead == 0 && !s->is_stopped && s->version == seen) {
+        uint64_t now = rks_clock_ns();
+        if (now >= until) {
+            break;
+        }
+        /* Conditions have no such clock as rks_clock_ns has. An hour at most, in case that the machine is suspended meanwhile. */
+        uint64_t left = until - now < UINT64_C(3600000000000) ? until - now : UINT64_C(3600000000000), end = ns_of(CLOCK_MONOTONIC) + left;
+        pthread_cond_timedwait(&s->changed, &s->mutex, &(struct timespec){(time_t)(end / 1000000000), (long)(end % 1000000000)});
+    }
+    s->awaiting--;
+    int status = s->dead != 0 ? RELKVANU_STORE_CLOSED : s->is_stopped ? RELKVANU_STORE_STOPPED : RELKVANU_STORE_OK;
+    pthread_mutex_unlock(&s->mutex);
+    return status;
+}
+
+/* The moment of the next tick; UINT64_MAX: only a call can bring one. */
+static uint64_t tick_moment(relkvanu_store *s) {
+    if (relkvanu_mode(&s->handle).what != RELKVANU_MODE_RUNNING) {
+        return UINT64_MAX; /* ticks are refused until the job is restored */
+    }
+    relkvanu_answer expires = relkvanu_oldest_expiry(&s->handle);
+    uint64_t expiry = expires.what == RELKVANU_EXPIRES ? expires.a : UINT64_MAX;
+    /* While as many are pending as may be, due has passed, and only the end of one lets another begin. */
+    uint64_t due = s->is_held ? UINT64_MAX : relkvanu_due(&s->handle).a, next = due < expiry ? due : expiry;
+    return next < s->tick_after ? s->tick_after : next;
+}
+
+static int wait_of(relkvanu_store *s, uint64_t *wait, uint64_t *seen) {
+    relkvanu *handle;
+    int status = relkvanu_store_read(s, &handle);
+    if (status != RELKVANU_STORE_OK) {
+        return status;
+    }
+    pthread_mutex_lock(&s->mutex);
+    *seen = s->version;
+    status = s->is_stopped ? RELKVANU_STORE_STOPPED : RELKVANU_STORE_OK;
+    pthread_mutex_unlock(&s->mutex);
+    uint64_t next = tick_moment(s), now = relkvanu_store_now(s);
+    *wait = next == UINT64_MAX ? UINT64_MAX : next > now ? next - now : 0;
+    relkvanu_store_read_end(s);
+    return status;
+}
+
+int relkvanu_store_next_tick(relkvanu_store *s, uint64_t *wait) {
+    uint64_t seen;
+    int status = wait_of(s, wait, &seen);
+    return status == RELKVANU_STORE_STOPPED ? RELKVANU_STORE_OK : status;
+}
+
+/* The moment of rks_clock_ns in so many ms. */
+static uint64_t after(uint64_t ms) {
+    uint64_t now = rks_clock_ns();
+    return ms > (UINT64_MAX - now) / 1000000 ? UINT64_MAX : now + ms * 1000000;
+}
+
+int relkvanu_store_await_tick(relkvanu_store *s, uint64_t longest, relkvanu_store_call *tick) {
+    *tick = (relkvanu_store_call){.call = {.kind = RELKVANU_CALL_TICK, .now = RELKVANU_STORE_NOW}};
+    for (uint64_t end = after(longest);;) {
+        uint64_t wait, seen;
+        int status = wait_of(s, &wait, &seen);
+        if (status == RELKVANU_STORE_OK && wait == 0) {
+            return relkvanu_store_calls(s, tick, 1);
+        }
+        if (status == RELKVANU_STORE_OK && rks_clock_ns() >= end) {
+            status = RELKVANU_STORE_TIMED_OUT;
+        }
+        if (status == RELKVANU_STORE_OK) {
+            uint64_t due = after(wait);
+            status = rks_await(s, seen, due < end ? due : end);
+        }
+        if (status != RELKVANU_STORE_OK) {
+            rks_drop_answers(tick, 1);
+            return status;
+        }
+    }
+}

@@ -1,0 +1,32 @@
+/* The cases of the store's tests. Each runs in a process and a folder of its own. */
+#ifndef STORE_TESTS_CASES_H
+#define STORE_TESTS_CASES_H
+#include "common.h"
+
+/* A name in the folder of the case; it stays until four more were asked for. */
+const char *in(const char *name);
+
+/* Opens FOLDER/x.db with these options, and expects the status. Returns NULL unless it is RELKVANU_STORE_OK. */
+relkvanu_store *opens(const relkvanu_store_options *options, int status);
+extern relkvanu_store_report report; /* of the last opening */
+
+relkvanu_store_options storage_options(uint32_t flags, uint64_t image_calls);
+
+/* A call of one kind with a number, and its answer, which has to be RELKVANU_DONE. */
+relkvanu_answer done(relkvanu_store *store, uint32_t kind, uint64_t now, uint64_t number);
+
+/* Triggers a checkpoint and acknowledges it for each subtask, with files from the number on, 2 each. Returns its number. */
+uint64_t checkpoint(relkvanu_store *store, uint64_t file);
+
+/* Runs the function in a child, and returns its exit status. */
+int in_child(int (*run)(void *with), void *with);
+
+bool says(const char *words); /* whether the report's message has the words */
+
+struct test {
+    const char *name;
+    void (*run)(void);
+};
+extern const struct test open_cases[], damage_cases[], storage_cases[], call_cases[], queue_cases[], discard_cases[];
+
+#endif

@@ -1,0 +1,176 @@
+/* The discarder. */
+#include "cases.h"
+
+#include <errno.h>
+#include <fcntl.h>
+#include <pthread.h>
+#include <stdatomic.h>
+#include <unistd.h>
+
+struct discarding {
+    pthread_t thread;
+    relkvanu_store *store;
+    size_t batch;
+    atomic_uint asked, deleted, largest;
+    atomic_uint_fast64_t stubborn; /* a file that can't be deleted */
+    int status;
+};
+
+static void file_name(uint64_t file, char *name) {
+    snprintf(name, 32, "%" PRIu64, file);
+}
+
+static void delete_files(void *with, const uint64_t *files, size_t len, uint8_t *is_gone) {
+    struct discarding *d = with;
+    char name[32];
+    CHECK(len >= 1 && len <= d->batch, "%zu files", len);
+    if (len > d->largest) {
+        d->largest = (unsigned)len;
+    }
+    for (size_t i = 0; i < len; i++) {
+        CHECK(is_gone[i] == 0, "file %zu", i);
+        file_name(files[i], name);
+        is_gone[i] = files[i] != d->stubborn && (unlinkat(relkvanu_store_folder(d->store), name, 0) == 0 || errno == ENOENT);
+        d->deleted += is_gone[i];
+        d->asked++;
+    }
+}
+
+static void *discards(void *with) {
+    struct discarding *d = with;
+    d->status = relkvanu_store_discard(d->store, d->batch, delete_files, d);
+    return NULL;
+}
+
+static void start(struct discarding *d, relkvanu_store *store, size_t batch) {
+    d->store = store;
+    d->batch = batch;
+    CHECK(pthread_create(&d->thread, NULL, discards, d) == 0, "a thread");
+}
+
+static void stop(struct discarding *d) {
+    relkvanu_store_stop(d->store);
+    CHECK(pthread_join(d->thread, NULL) == 0 && d->status == RELKVANU_STORE_STOPPED, "status %d", d->status);
+}
+
+/* A checkpoint with files that exist. */
+static void checkpoint_with_files(relkvanu_store *store, uint64_t file) {
+    char name[32];
+    for (uint64_t i = 0; i < 2 * SUBTASKS; i++) {
+        file_name(file + i, name);
+        int made = openat(relkvanu_store_folder(store), name, O_CREAT | O_WRONLY | O_EXCL, 0600);
+        CHECK(made >= 0, "%s", name);
+        close(made);
+    }
+    checkpoint(store, file);
+}
+
+static relkvanu_counts counts_of(relkvanu_store *store) {
+    relkvanu *handle;
+    CHECK(relkvanu_store_read(store, &handle) == RELKVANU_STORE_OK, "a read");
+    relkvanu_counts counts = relkvanu_file_counts(handle);
+    relkvanu_store_read_end(store);
+    return counts;
+}
+
+/* Waits until so many files wait or are taken. */
+static void await_released(relkvanu_store *store, uint64_t files) {
+    relkvanu_counts counts = {0};
+    for (int i = 0; i < 1000; i++) {
+        counts = counts_of(store);
+        if (counts.waiting + counts.taken == files) {
+            return;
+        }
+        usleep(10000);
+    }
+    CHECK(false, "%" PRIu64 " files wait, %" PRIu64 " are taken", counts.waiting, counts.taken);
+}
+
+static bool has_file(relkvanu_store *store, uint64_t file) {
+    char name[32];
+    file_name(file, name);
+    return faccessat(relkvanu_store_folder(store), name, F_OK, 0) == 0;
+}
+
+static void deletes_and_reports(void) {
+    relkvanu_store_options options = storage_options(RELKVANU_STORE_CREATE, 0);
+    relkvanu_store *store = opens(&options, RELKVANU_STORE_OK);
+    struct discarding d = {0}, second = {.store = store, .batch = 5};
+    CHECK(relkvanu_store_discard(store, 4096, delete_files, &d) == RELKVANU_STORE_BAD_ARGUMENT, "a large batch");
+    start(&d, store, 5);
+    for (uint64_t i = 0; i < 4; i++) {
+        checkpoint_with_files(store, 1 + i * 100);
+    }
+    await_released(store, 0);
+    discards(&second);
+    CHECK(second.status == RELKVANU_STORE_NOT_NOW, "a second discarder: status %d", second.status);
+    CHECK(d.deleted == 48 && d.largest > 1 && !has_file(store, 1) && !has_file(store, 216) && has_file(store, 301), "%u deleted", d.deleted);
+    stop(&d);
+    relkvanu_store_close(store);
+}
+
+static void never_gives_up(void) {
+    relkvanu_store_options options = storage_options(RELKVANU_STORE_CREATE, 0);
+    relkvanu_store *store = opens(&options, RELKVANU_STORE_OK);
+    struct discarding d = {0};
+    d.stubborn = 7;
+    start(&d, store, 4);
+    checkpoint_with_files(store, 1);
+    checkpoint_with_files(store, 101);
+    await_released(store, 1);
+    unsigned asked = d.asked;
+    usleep(500000);
+    CHECK(has_file(store, 7) && d.asked - asked <= 5, "it asks %u times in half a second", d.asked - asked);
+    checkpoint_with_files(store, 201);
+    await_released(store, 1); /* the others are deleted meanwhile */
+    d.stubborn = 0;
+    await_released(store, 0);
+    CHECK(!has_file(store, 7) && !has_file(store, 110), "file 7");
+    stop(&d);
+    relkvanu_store_close(store);
+}
+
+/* A process ended between a take and its reports: one file is deleted, the other is not. */
+static void settles(void) {
+    relkvanu_store_options options = storage_options(RELKVANU_STORE_CREATE, 0);
+    relkvanu_store *store = opens(&options, RELKVANU_STORE_OK);
+    uint64_t files[16];
+    relkvanu_store_call take = {.call = {.kind = RELKVANU_CALL_TAKE, .number = 16}, .files = files, .files_len = 16};
+    checkpoint_with_files(store, 1);
+    checkpoint_with_files(store, 101);
+    CHECK(relkvanu_store_calls(store, &take, 1) == RELKVANU_STORE_OK && take.answer.a == 16, "a take");
+    CHECK(unlinkat(relkvanu_store_folder(store), "3", 0) == 0, "file 3");
+    relkvanu_store_close(store);
+    options.flags = RELKVANU_STORE_RECOVER;
+    store = opens(&options, RELKVANU_STORE_OK);
+    CHECK(report.taken == 16, "%" PRIu64 " taken", report.taken);
+    struct discarding d = {0};
+    start(&d, store, 3);
+    await_released(store, 0);
+    CHECK(d.asked == 16 && d.deleted == 16 && !has_file(store, 1) && has_file(store, 101), "%u asked", d.asked);
+    stop(&d);
+    relkvanu_store_close(store);
+}
+
+/* Without the marker a missing file is not gone. */
+static void without_marker(void) {
+    relkvanu_store_options options = storage_options(RELKVANU_STORE_CREATE, 0);
+    relkvanu_store *store = opens(&options, RELKVANU_STORE_OK);
+    struct discarding d = {0};
+    CHECK(renameat(relkvanu_store_folder(store), ".relkvanu-job", relkvanu_store_folder(store), "away") == 0, "marker");
+    start(&d, store, 16);
+    checkpoint(store, 1);
+    checkpoint(store, 101);
+    for (int i = 0; i < 1000 && d.asked < 32; i++) {
+        usleep(10000);
+    }
+    CHECK(d.asked >= 32, "%u asked", d.asked);
+    stop(&d);
+    relkvanu_counts counts = counts_of(store);
+    CHECK(counts.waiting == 16 && counts.taken == 0, "%" PRIu64 " wait, %" PRIu64 " are taken", counts.waiting, counts.taken);
+    CHECK(renameat(relkvanu_store_folder(store), "away", relkvanu_store_folder(store), ".relkvanu-job") == 0, "marker");
+    relkvanu_store_close(store);
+}
+
+const struct test discard_cases[] = {{"deletes_and_reports", deletes_and_reports}, {"never_gives_up", never_gives_up}, {"settles", settles},
+    {"without_marker", without_marker}, {NULL, NULL}};

@@ -1,0 +1,132 @@
+/* Submits and threads: completions, order, and what a stop and a close do with those who wait. */
+#include "cases.h"
+
+#include <poll.h>
+#include <pthread.h>
+#include <unistd.h>
+
+static bool is_readable(relkvanu_store *store, int wait) {
+    struct pollfd it = {.fd = relkvanu_store_descriptor(store), .events = POLLIN};
+    return poll(&it, 1, wait) == 1 && it.revents == POLLIN;
+}
+
+static void submits(void) {
+    enum { MANY = 500 };
+    static relkvanu_store_call calls[MANY];
+    static bool is_seen[MANY];
+    relkvanu_store_completion some[7];
+    relkvanu_store_options options = job_options(RELKVANU_STORE_CREATE, 0);
+    relkvanu_store *store = opens(&options, RELKVANU_STORE_OK);
+    CHECK(!is_readable(store, 0) && relkvanu_store_completed(store, some, 7) == 0, "a completion of nothing");
+    CHECK(relkvanu_store_submit(store, calls, 1, 1) == RELKVANU_STORE_BAD_ARGUMENT && calls[0].answer.code == RELKVANU_STORE_NOT_MADE, "a bad call");
+    CHECK(relkvanu_store_submit(store, calls, 0, 1) == RELKVANU_STORE_BAD_ARGUMENT, "no call");
+    relkvanu *handle; /* all wait behind this read, and are one group */
+    CHECK(relkvanu_store_read(store, &handle) == RELKVANU_STORE_OK, "read");
+    for (uint64_t i = 0; i < MANY; i++) {
+        calls[i] = (relkvanu_store_call){.call = {.kind = RELKVANU_CALL_SAVEPOINT, .now = i}};
+        CHECK(relkvanu_store_submit(store, &calls[i], 1, i) == RELKVANU_STORE_OK, "submit");
+    }
+    CHECK(!is_readable(store, 10), "a completion before the read has ended");
+    relkvanu_store_read_end(store);
+    for (size_t found = 0; found < MANY;) {
+        CHECK(is_readable(store, 10000), "no completion");
+        size_t len = relkvanu_store_completed(store, some, 7);
+        for (size_t i = 0; i < len; i++, found++) {
+            CHECK(some[i].status == RELKVANU_STORE_OK && some[i].token == found && !is_seen[some[i].token], "token %" PRIu64, some[i].token);
+            is_seen[some[i].token] = true;
+            CHECK(calls[some[i].token].answer.what == RELKVANU_SAVEPOINT_TRIGGERED && calls[some[i].token].place == found + 1, "an answer");
+        }
+    }
+    CHECK(!is_readable(store, 0), "a completion too many");
+    relkvanu_store_counts counts;
+    relkvanu_store_count(store, &counts);
+    CHECK(counts.calls == MANY && counts.largest == MANY && counts.commits == 1, "%" PRIu64 " commits", counts.commits);
+    relkvanu_store_call last[2] = {{.call = {.kind = RELKVANU_CALL_DISPOSE, .number = 9}}, {.call = {.kind = RELKVANU_CALL_DECLINE, .now = 1, .number = 1}}};
+    CHECK(relkvanu_store_submit(store, last, 2, 77) == RELKVANU_STORE_OK, "submit");
+    relkvanu_store_close(store); /* which waits for it */
+    CHECK(last[0].answer.code == RELKVANU_REFUSED && last[1].answer.code == RELKVANU_DONE && last[1].place == MANY + 1, "the last submit");
+}
+
+struct caller {
+    pthread_t thread;
+    relkvanu_store *store;
+    unsigned number;
+    uint64_t made;
+};
+
+enum { CALLERS = 24, ROUNDS = 40 };
+
+/* Lists of calls of one thread have places one after the other. */
+static void *makes_lists(void *with) {
+    struct caller *caller = with;
+    for (unsigned i = 0; i < ROUNDS; i++) {
+        relkvanu_store_call calls[3];
+        relkvanu *handle;
+        for (size_t k = 0; k < 3; k++) {
+            calls[k] = (relkvanu_store_call){.call = {.kind = RELKVANU_CALL_TICK, .now = RELKVANU_STORE_NOW}};
+        }
+        CHECK(relkvanu_store_calls(caller->store, calls, 3) == RELKVANU_STORE_OK, "a list");
+        CHECK(calls[1].place == calls[0].place + 1 && calls[2].place == calls[0].place + 2, "another call is in between");
+        CHECK(relkvanu_store_read(caller->store, &handle) == RELKVANU_STORE_OK && relkvanu_mode(handle).code == RELKVANU_DONE, "a read");
+        relkvanu_store_read_end(caller->store);
+        caller->made += 3;
+    }
+    return NULL;
+}
+
+static void callers_and_readers(void) {
+    struct caller callers[CALLERS];
+    relkvanu_store_options options = job_options(RELKVANU_STORE_CREATE, 50);
+    relkvanu_store *store = opens(&options, RELKVANU_STORE_OK);
+    for (unsigned i = 0; i < CALLERS; i++) {
+        callers[i] = (struct caller){.store = store, .number = i};
+        CHECK(pthread_create(&callers[i].thread, NULL, makes_lists, &callers[i]) == 0, "a thread");
+    }
+    for (unsigned i = 0; i < CALLERS; i++) {
+        CHECK(pthread_join(callers[i].thread, NULL) == 0 && callers[i].made == 3 * ROUNDS, "a thread");
+    }
+    relkvanu_store_counts counts;
+    relkvanu_store_count(store, &counts);
+    CHECK(counts.calls == CALLERS * ROUNDS * 3 && counts.images > 1, "%" PRIu64 " calls", counts.calls);
+    relkvanu_store_close(store);
+    options.flags = RELKVANU_STORE_RECOVER;
+    store = opens(&options, RELKVANU_STORE_OK);
+    CHECK(report.image_place == CALLERS * ROUNDS * 3, "%" PRIu64, report.image_place);
+    relkvanu_store_close(store);
+}
+
+static void *awaits(void *with) {
+    struct caller *caller = with;
+    relkvanu_store_call tick;
+    int status;
+    while ((status = relkvanu_store_await_tick(caller->store, 600000, &tick)) == RELKVANU_STORE_OK) {
+        caller->made++;
+    }
+    CHECK(status == RELKVANU_STORE_STOPPED, "status %d", status);
+    return NULL;
+}
+
+/* A commit wakes a timer that waits for an expiry, and a stop ends it. */
+static void a_woken_timer(void) {
+    relkvanu_store_options options = job_options(RELKVANU_STORE_CREATE, 0);
+    relkvanu_store *store = opens(&options, RELKVANU_STORE_OK);
+    struct caller timer = {.store = store};
+    CHECK(pthread_create(&timer.thread, NULL, awaits, &timer) == 0, "a thread");
+    usleep(100000);
+    for (uint64_t id = 1; id <= 3; id++) { /* each decline lets the next one begin */
+        relkvanu_store_call call = {.call = {.kind = RELKVANU_CALL_DECLINE, .number = id}, .answer = {.code = RELKVANU_STORE_NOT_MADE}};
+        for (int i = 0; i < 500 && call.answer.code != RELKVANU_DONE; i++) {
+            usleep(10000);
+            CHECK(relkvanu_store_calls(store, &call, 1) == RELKVANU_STORE_OK, "a decline");
+        }
+        CHECK(call.answer.what == RELKVANU_DECLINE_ABORTED, "checkpoint %" PRIu64 ": what %" PRIu32 ", code %" PRIu32, id, call.answer.what, call.answer.code);
+    }
+    relkvanu_store_stop(store);
+    CHECK(pthread_join(timer.thread, NULL) == 0, "a thread");
+    relkvanu_store_counts counts;
+    relkvanu_store_count(store, &counts);
+    CHECK(counts.calls < 40, "the timer spins: %" PRIu64 " calls", counts.calls);
+    relkvanu_store_close(store);
+}
+
+const struct test queue_cases[] = {{"submits", submits}, {"callers_and_readers", callers_and_readers}, {"a_woken_timer", a_woken_timer}, {NULL, NULL}};

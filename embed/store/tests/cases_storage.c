@@ -1,0 +1,147 @@
+/* The storage folder: whose it is, and what a sweep may delete. */
+#include "cases.h"
+
+#include <fcntl.h>
+#include <sys/stat.h>
+#include <unistd.h>
+
+static void make_file(const char *name) {
+    int file = open(in(name), O_CREAT | O_WRONLY | O_EXCL, 0600);
+    CHECK(file >= 0, "%s", name);
+    close(file);
+}
+
+static bool has(const char *name) {
+    return access(in(name), F_OK) == 0;
+}
+
+static void a_folder_with_files(void) {
+    relkvanu_store_options options = storage_options(RELKVANU_STORE_CREATE, 0);
+    make_file("storage/17");
+    opens(&options, RELKVANU_STORE_STORAGE);
+    CHECK(says("17") && !has("x.db") && has("storage/17"), "%s", report.message);
+    options.flags |= RELKVANU_STORE_ADOPT;
+    relkvanu_store_close(opens(&options, RELKVANU_STORE_OK));
+    CHECK(has("storage/17") && has("storage/.relkvanu-job"), "the folder");
+    options.flags = RELKVANU_STORE_RECOVER;
+    relkvanu_store_close(opens(&options, RELKVANU_STORE_OK));
+}
+
+static void not_mounted(void) {
+    relkvanu_store_options options = storage_options(RELKVANU_STORE_CREATE, 0);
+    relkvanu_store_close(opens(&options, RELKVANU_STORE_OK));
+    CHECK(rename(in("storage"), in("away")) == 0, "storage");
+    opens(&options, RELKVANU_STORE_STORAGE);
+    CHECK(mkdir(in("storage"), 0700) == 0, "storage");
+    opens(&options, RELKVANU_STORE_STORAGE);
+    CHECK(says("no marker"), "%s", report.message);
+    CHECK(rmdir(in("storage")) == 0 && rename(in("away"), in("storage")) == 0, "storage");
+    relkvanu_store_close(opens(&options, RELKVANU_STORE_OK));
+}
+
+static void of_another_job(void) {
+    relkvanu_store_options options = storage_options(RELKVANU_STORE_CREATE, 0);
+    relkvanu_store_close(opens(&options, RELKVANU_STORE_OK));
+    CHECK(rename(in("x.db"), in("first.db")) == 0 && unlink(in("x.db-wal")) == 0, "x.db");
+    opens(&options, RELKVANU_STORE_STORAGE); /* a new job */
+    CHECK(says("another job") && !has("x.db"), "%s", report.message);
+    CHECK(rename(in("storage/.relkvanu-job"), in("marker")) == 0, "marker");
+    relkvanu_store_close(opens(&options, RELKVANU_STORE_OK));
+    CHECK(rename(in("marker"), in("storage/.relkvanu-job")) == 0, "marker");
+    opens(&options, RELKVANU_STORE_STORAGE);
+    CHECK(says("another job"), "%s", report.message);
+}
+
+static void named_or_not(void) {
+    relkvanu_store_options with = storage_options(RELKVANU_STORE_CREATE, 0), without = job_options(RELKVANU_STORE_CREATE, 0);
+    relkvanu_store_close(opens(&with, RELKVANU_STORE_OK));
+    opens(&without, RELKVANU_STORE_STORAGE);
+    CHECK(says("name none"), "%s", report.message);
+    unlink(in("x.db"));
+    unlink(in("x.db-wal"));
+    relkvanu_store *store = opens(&without, RELKVANU_STORE_OK);
+    CHECK(relkvanu_store_folder(store) == -1, "a folder");
+    relkvanu_store_close(store);
+    opens(&with, RELKVANU_STORE_STORAGE);
+    CHECK(says("without a storage folder"), "%s", report.message);
+}
+
+/* The files of the job itself are no files of the storage. */
+static void one_folder_for_all(void) {
+    char folder[PATHS];
+    relkvanu_store_options options = job_options(RELKVANU_STORE_CREATE, 0);
+    snprintf(folder, sizeof folder, "%s", in("."));
+    options.storage = folder;
+    relkvanu_store_close(opens(&options, RELKVANU_STORE_OK));
+    unlink(in(".relkvanu-job"));
+    unlink(in("x.db")); /* the other three are left */
+    relkvanu_store *store = opens(&options, RELKVANU_STORE_OK);
+    relkvanu_store_close(store);
+    relkvanu_store_close(opens(&options, RELKVANU_STORE_OK));
+    CHECK(report.is_recovered, "a new job");
+}
+
+/* A process ended between the first commit of a job and its marker. */
+static void before_the_marker(void) {
+    relkvanu_store_options options = storage_options(RELKVANU_STORE_CREATE, 0);
+    relkvanu_store_close(opens(&options, RELKVANU_STORE_OK));
+    run_sql(in("x.db"), "UPDATE job SET storage = 1");
+    CHECK(rename(in("storage/.relkvanu-job"), in("storage/.relkvanu-job.new")) == 0, "marker");
+    make_file("storage/5");
+    opens(&options, RELKVANU_STORE_STORAGE);
+    unlink(in("storage/5"));
+    relkvanu_store_close(opens(&options, RELKVANU_STORE_OK));
+    CHECK(has("storage/.relkvanu-job"), "no marker");
+    relkvanu_store_close(opens(&options, RELKVANU_STORE_OK));
+    run_sql(in("x.db"), "UPDATE job SET storage = 1"); /* it ended after the marker */
+    relkvanu_store_close(opens(&options, RELKVANU_STORE_OK));
+}
+
+static size_t sweep(relkvanu_store *store, uint64_t *files, size_t len, int status) {
+    int got = relkvanu_store_unknown(store, files, &len);
+    CHECK(got == status, "status %d, not %d", got, status);
+    return len;
+}
+
+static void a_sweep(void) {
+    relkvanu_store_options options = storage_options(RELKVANU_STORE_CREATE, 0);
+    relkvanu_store *store = opens(&options, RELKVANU_STORE_OK);
+    uint64_t taken[2], list[64], all[64];
+    size_t len = 0;
+    sweep(store, list, 0, RELKVANU_STORE_NOT_NOW);
+    checkpoint(store, 1);
+    checkpoint(store, 101); /* releases 1 to 16 */
+    relkvanu_store_call call = {.call = {.kind = RELKVANU_CALL_TAKE, .number = 2}, .files = taken, .files_len = 2};
+    CHECK(relkvanu_store_calls(store, &call, 1) == RELKVANU_STORE_OK && call.answer.a == 2 && call.place == 19, "a take");
+    done(store, RELKVANU_CALL_DELETED, 0, taken[0]); /* the first of the 16 is unknown now */
+    sweep(store, list, 0, RELKVANU_STORE_NOT_NOW);
+    relkvanu_store_close(store);
+    options.flags = RELKVANU_STORE_RECOVER;
+    store = opens(&options, RELKVANU_STORE_OK);
+    CHECK(report.taken == 1, "%" PRIu64 " taken", report.taken);
+    for (uint64_t file = 1; file <= 20; file++) {
+        all[len++] = file;
+        all[len++] = 100 + file;
+    }
+    memcpy(list, all, sizeof list);
+    sweep(store, list, len, RELKVANU_STORE_NOT_NOW);
+    CHECK(done(store, RELKVANU_CALL_RESTORE, 0, 0).what == RELKVANU_RESTORED_CHECKPOINT, "a restore");
+    size_t unknown = sweep(store, list, len, RELKVANU_STORE_OK);
+    uint64_t sum = 0;
+    for (size_t i = 0; i < unknown; i++) {
+        sum += list[i];
+    }
+    /* 17 to 20, 117 to 120 and the deleted one */
+    CHECK(unknown == 9 && sum == 74 + 474 + taken[0], "%zu unknown files", unknown);
+    checkpoint(store, 201);
+    sweep(store, list, len, RELKVANU_STORE_NOT_NOW);
+    done(store, RELKVANU_CALL_CANCEL, 100000, 0);
+    sweep(store, list, len, RELKVANU_STORE_NOT_NOW);
+    relkvanu_store_close(store);
+    store = opens(&options, RELKVANU_STORE_OK);
+    sweep(store, list, len, RELKVANU_STORE_OK);
+    relkvanu_store_close(store);
+}
+
+const struct test storage_cases[] = {{"a_folder_with_files", a_folder_with_files}, {"not_mounted", not_mounted}, {"of_another_job", of_another_job},
+    {"named_or_not", named_or_not}, {"one_folder_for_all", one_folder_for_all}, {"before_the_marker", before_the_marker}, {"a_sweep", a_sweep}, {NULL, NULL}};

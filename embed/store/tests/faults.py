@@ -1,0 +1,230 @@
+#!/usr/bin/env python3
+"""faults.py BIN [ROUNDS]: runs scenario and crowd of the folder BIN while something fails, as shim.c makes it fail, and has verify look at what is left.
+
+- The process ends before and after each call that writes, of a new job and of a recovery.
+- Each call that writes, syncs, makes or cuts a file fails once, and from then on; so do reads, short writes, full disks and quotas.
+- A crowd of threads is killed at random moments; loses power, so that only synced bytes are left, or a mix of both states sector by
+  sector; and goes on after syncs that fail. ROUNDS (default 1) multiplies these.
+
+The last line has the counts."""
+import concurrent.futures
+import os
+import pathlib
+import random
+import shutil
+import signal
+import subprocess
+import sys
+import tempfile
+import time
+
+LISTS = 14  # of the scenario
+WORKERS = 3
+SECTOR = 512
+
+
+class Run:
+    """A job in a folder of its own, and what its callers were told."""
+
+    def __init__(self, bin_folder, work):
+        self.bin, self.work = bin_folder, pathlib.Path(work)
+        self.folder, self.told, self.safe = self.work / "job", self.work / "told", self.work / "safe"
+
+    def begin(self):
+        (self.folder / "storage").mkdir(parents=True)
+        self.safe.mkdir()
+        return self
+
+    def copy(self, work):
+        shutil.copytree(self.work, work)
+        return Run(self.bin, work)
+
+    def environment(self, **what):
+        more = {f"STORE_{name.upper()}": str(value) for name, value in what.items()}
+        return {**os.environ, "LD_PRELOAD": str(self.bin / "shim.so"), "STORE_IN": str(self.folder), **more}
+
+    def scenario(self, lists=LISTS, images=20, **what):
+        """Returns the exit status and what it printed."""
+        command = [self.bin / "scenario", self.folder, self.told, str(lists), str(images)]
+        ran = subprocess.run(command, env=self.environment(**what), stdout=subprocess.PIPE, stderr=subprocess.STDOUT, text=True, timeout=120)
+        assert ran.returncode in (0, -signal.SIGKILL), ran.stdout
+        return ran.returncode, ran.stdout
+
+    def crowd(self, program, seconds, images, **what):
+        process = subprocess.Popen([self.bin / program, self.folder, self.told, str(images)], env=self.environment(**what), stdout=subprocess.PIPE, stderr=subprocess.STDOUT, text=True)
+        time.sleep(seconds)
+        process.kill()
+        told, _ = process.communicate()
+        assert process.returncode == -signal.SIGKILL, told
+
+    def verify(self, most):
+        ran = subprocess.run([self.bin / "verify", self.folder, self.told, str(most)], stdout=subprocess.PIPE, stderr=subprocess.STDOUT, text=True, timeout=120)
+        assert ran.returncode == 0, ran.stdout
+        words = ran.stdout.split()
+        return int(words[0]), words[-1] == "whole"
+
+    def safe_of(self, path):
+        return self.safe / ("%" + str(path.relative_to(self.folder)).replace("/", "%"))
+
+    def keep_safe(self):
+        """All that is there now is on the disk."""
+        shutil.rmtree(self.safe)
+        self.safe.mkdir()
+        for path in self.folder.rglob("*"):
+            if path.is_file():
+                shutil.copy(path, self.safe_of(path))
+
+    def lose_power(self, chance=None):
+        """Leaves what was synced. With a chance each other sector and size is of one state or of the other."""
+        for path in [it for it in self.folder.rglob("*") if it.is_file()]:
+            safe = self.safe_of(path)
+            if not safe.exists():
+                if chance is None or chance.random() < 0.5:
+                    path.unlink()
+                continue
+            kept = safe.read_bytes()
+            path.write_bytes(kept if chance is None else mixed(path.read_bytes(), kept, chance))
+        for safe in self.safe.glob("%*"):
+            path = self.folder / safe.name[1:].replace("%", "/")
+            if not path.exists():  # it was removed, and the folder was not synced
+                path.write_bytes(safe.read_bytes())
+        self.keep_safe()
+
+
+def mixed(now, kept, chance):
+    size = len(chance.choice((now, kept)))
+    now, kept = now.ljust(size, b"\0")[:size], kept.ljust(size, b"\0")[:size]
+    parts = [now[it:it + SECTOR] if chance.random() < 0.5 else kept[it:it + SECTOR] for it in range(0, size, SECTOR)]
+    return b"".join(parts)
+
+
+class Tests:
+    def __init__(self, bin_folder, rounds, work):
+        self.bin, self.rounds, self.work = pathlib.Path(bin_folder), rounds, pathlib.Path(work)
+        self.passed = self.failed = 0
+        self.number = 0
+
+    def folder(self):
+        self.number += 1
+        return self.work / str(self.number)
+
+    def note(self, name, run, *words):
+        try:
+            told = run(*words)
+        except (AssertionError, subprocess.TimeoutExpired) as error:
+            self.failed += 1
+            print(f"store: {name} failed: {error}")
+            return None
+        self.passed += 1
+        return told
+
+    def new(self):
+        folder = self.folder()
+        folder.mkdir()
+        return Run(self.bin, folder).begin()
+
+    def killed(self):
+        """A job whose process was killed among its calls, with a -wal that is not in the file."""
+        run = self.new()
+        run.scenario(lists=30, images=15, die=150)
+        copy = run.copy(self.folder())
+        copy.verify(5)
+        shutil.copy(copy.told, run.told)
+        return run
+
+    def at(self, base, number, what):
+        """One fault. Returns whether it was reached."""
+        folder = self.work / f"{base.work.name}-{'-'.join(map(str, what.values()))}-{number}"
+        run = base.copy(folder)
+        status, told = run.scenario(**{name: value if value != "N" else number for name, value in what.items()})
+        run.verify(5)
+        if self.rounds > 1 or number % 5 == 1:  # the job goes on
+            again, words = run.scenario(lists=3)
+            assert again == 0 and words.startswith("calls 0"), words
+            run.verify(5)
+        shutil.rmtree(folder)
+        return status != 0 or not told.startswith("calls 0")
+
+    def each(self, base, most, step=1, **what):
+        """The n-th call for each n, until the scenario ends without the fault."""
+        name = f"{base.work.name} {what}"
+        reached = 0
+        with concurrent.futures.ThreadPoolExecutor(WORKERS) as pool:
+            for begin in range(1, most, 30 * step):
+                numbers = range(begin, begin + 30 * step, step)
+                found = list(pool.map(lambda it: self.note(f"{name} at {it}", self.at, base, it, what), numbers))
+                reached += sum(it is True for it in found)
+                if not any(found):
+                    break
+        self.note(f"{name}: {reached} reached", lambda: check(reached > 0, "the fault was never reached"))
+        return reached
+
+    def step(self, step):
+        """With more rounds each call is tried."""
+        return step if self.rounds == 1 else 1
+
+    def ends(self, base):
+        """The end after one call and that before the next differ in nothing but what was told."""
+        self.each(base, 3000, die="N")
+        self.each(base, 3000, step=self.step(7), die="N", die_after=1)
+
+    def faults(self, base):
+        for often in (1, 0):
+            self.each(base, 3000, step=1 if often else self.step(3), fault="any", at="N", **{"for": often})
+            self.each(base, 3000, step=self.step(7), fault="short", at="N", **{"for": often})
+            self.each(base, 3000, step=self.step(11), fault="full", at="N", **{"for": often})
+        self.each(base, 3000, step=self.step(11), fault="quota", at="N")
+
+    def reads(self, base):
+        for often in (1, 0):
+            self.each(base, 600, step=self.step(5), fault="read", at="N", **{"for": often})
+
+    def crowd_run(self, run, chance, kind, images, most):
+        what = {"kill": {}, "power": {"safe": run.safe}, "mix": {"safe": run.safe}, "faults": {"safe": run.safe, "fault": "sync", "on": "-wal", "random": 100}}[kind]
+        run.keep_safe()
+        # in the second the -wal is long: what a failed sync has lost of it is soon brought into the file otherwise
+        run.crowd("crowd" if kind != "faults" else "crowd-long", 0.01 + chance.random() * (0.05 if chance.random() < 0.2 else 0.5), images, **what)
+        if kind != "kill":
+            run.lose_power(chance if kind == "mix" else None)
+        told, is_whole = run.verify(most)
+        return told if is_whole else -told
+
+    def crowds(self, kind):
+        chance = random.Random(f"{kind} {os.environ.get('SEED', time.time())}")
+        calls = whole = runs = 0
+        for job in range(2 * self.rounds):
+            run = self.new()
+            images = 10 ** 9 if job % 2 == 0 or kind == "faults" else 300
+            for _ in range(4):
+                told = self.note(f"a crowd with {kind} in {run.work}", self.crowd_run, run, chance, kind, images, 24 * 6 * (40 if kind == "faults" else 1))
+                runs += 1
+                if told is None:
+                    break
+                calls += abs(told)
+                whole += told > 0
+        self.note(f"crowds with {kind}", lambda: check(calls > 1000 and 2 * whole > runs, f"{calls} calls, {whole} of {runs} whole"))
+
+
+def check(is_so, words):
+    assert is_so, words
+
+
+def main(bin_folder, rounds="1"):
+    began = time.monotonic()
+    with tempfile.TemporaryDirectory() as work:
+        tests = Tests(bin_folder, int(rounds), work)
+        new, killed = tests.new(), tests.killed()
+        for name, part in [("ends", tests.ends), ("faults", tests.faults), ("reads", tests.reads)]:
+            for base in (new, killed):
+                before = tests.passed
+                part(base)
+                print(f"store: {name} of a {'new job' if base is new else 'recovery'}: {tests.passed - before} passed, {time.monotonic() - began:.0f} s", flush=True)
+        for kind in ("kill", "power", "mix", "faults"):
+            tests.crowds(kind)
+            print(f"store: crowds with {kind}: {tests.failed} failed so far, {time.monotonic() - began:.0f} s", flush=True)
+    print(f"{tests.passed} passed, {tests.failed} failed")
+    return 1 if tests.failed or not tests.passed else 0
+
+
+if __name__ == "__main__":
+    sys.exit(main(*sys.argv[1:]))

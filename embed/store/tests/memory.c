@@ -1,0 +1,289 @@
+/* memory FOLDER: makes a job, recovers it, calls, sweeps and discards, and refuses the n-th request for memory, once and from then on, for each n:
+ * those of the store and of the coordinator (malloc and its like, by the linker's --wrap), those of the coordinator alone (relkvanu_alloc.h)
+ * and those of SQLite. Each time the job then has exactly what was answered, or the group under way beside it. The last line has the counts. */
+#include "common.h"
+
+#include "../../c/refusing_heap.h"
+
+#include <errno.h>
+#include <stdarg.h>
+#include <sys/stat.h>
+#include <unistd.h>
+
+enum kind { OWN, COORDINATOR, SQLITE, KINDS };
+
+static const char *const names[] = {"the store and the coordinator", "the coordinator", "SQLite"};
+static unsigned long requests, refused_from, refused_to; /* of the kind that is refused */
+static bool is_own, is_lite;
+
+static bool refuses(bool is_this) {
+    return is_this && ++requests >= refused_from && requests < refused_to;
+}
+
+void *__real_malloc(size_t size);
+void *__real_calloc(size_t count, size_t size);
+void *__real_realloc(void *at, size_t size);
+char *__real_strdup(const char *text);
+char *__real_strndup(const char *text, size_t len);
+char *__real_realpath(const char *path, char *real);
+
+void *__wrap_malloc(size_t size) {
+    return refuses(is_own) ? NULL : __real_malloc(size);
+}
+
+void *__wrap_calloc(size_t count, size_t size) {
+    return refuses(is_own) ? NULL : __real_calloc(count, size);
+}
+
+void *__wrap_realloc(void *at, size_t size) {
+    return refuses(is_own) ? NULL : __real_realloc(at, size);
+}
+
+char *__wrap_strdup(const char *text) {
+    return refuses(is_own) ? NULL : __real_strdup(text);
+}
+
+char *__wrap_strndup(const char *text, size_t len) {
+    return refuses(is_own) ? NULL : __real_strndup(text, len);
+}
+
+char *__wrap_realpath(const char *path, char *real) {
+    if (refuses(is_own)) {
+        errno = ENOMEM;
+        return NULL;
+    }
+    return __real_realpath(path, real);
+}
+
+int __wrap_asprintf(char **text, const char *format, ...) {
+    va_list more;
+    va_start(more, format);
+    int len = refuses(is_own) ? -1 : vasprintf(text, format, more);
+    va_end(more);
+    return len;
+}
+
+static sqlite3_mem_methods lite;
+
+static void *lite_malloc(int size) {
+    return refuses(is_lite) ? NULL : lite.xMalloc(size);
+}
+
+static void *lite_realloc(void *at, int size) {
+    return refuses(is_lite) ? NULL : lite.xRealloc(at, size);
+}
+
+static void watch_sqlite(void) {
+    CHECK(sqlite3_config(SQLITE_CONFIG_GETMALLOC, &lite) == SQLITE_OK, "SQLite's allocator");
+    sqlite3_mem_methods mine = lite;
+    mine.xMalloc = lite_malloc;
+    mine.xRealloc = lite_realloc;
+    CHECK(sqlite3_config(SQLITE_CONFIG_MALLOC, &mine) == SQLITE_OK && sqlite3_config(SQLITE_CONFIG_LOOKASIDE, 0, 0) == SQLITE_OK, "SQLite's allocator");
+}
+
+static char path[PATHS], storage[PATHS];
+static struct told told[400];
+static size_t told_len;
+static char words[RELKVANU_STORE_MESSAGE]; /* of the last opening */
+
+static void set_refused(enum kind kind, unsigned long from, bool is_for_good) {
+    requests = 0;
+    refused_from = from;
+    refused_to = is_for_good ? ~0ul : from + 1;
+    is_own = kind == OWN;
+    is_lite = kind == SQLITE;
+    heap_refuse(kind == COORDINATOR ? from : 0);
+}
+
+static void set_none(void) {
+    is_own = is_lite = false;
+    heap_refuse(0);
+}
+
+/* Makes calls, and notes those that were answered. Returns the status, or RELKVANU_STORE_NO_MEMORY if a call had none. */
+static int make(relkvanu_store *store, relkvanu_store_call *calls, size_t len) {
+    int status = relkvanu_store_calls(store, calls, len);
+    bool was_own = is_own, was_lite = is_lite;
+    is_own = is_lite = false; /* told_of asks for memory too */
+    for (size_t i = 0; i < len; i++) {
+        if (status == RELKVANU_STORE_OK && calls[i].place != 0) {
+            told[told_len++] = told_of(&calls[i]);
+        }
+        bool has_none = status == RELKVANU_STORE_OK && (calls[i].answer.code == RELKVANU_NO_MEMORY || calls[i].answer.code == RELKVANU_STORE_NOT_MADE);
+        CHECK(status == RELKVANU_STORE_OK || calls[i].answer.code == RELKVANU_STORE_NOT_MADE, "an answer with the status %d", status);
+        status = has_none ? RELKVANU_STORE_NO_MEMORY : status;
+    }
+    is_own = was_own;
+    is_lite = was_lite;
+    return status;
+}
+
+static void deletes(void *with, const uint64_t *files, size_t len, uint8_t *is_gone) {
+    (void)files;
+    memset(is_gone, 1, len);
+    relkvanu_store_stop(with);
+}
+
+/* A checkpoint of all subtasks in one list, with a call that has much memory, and a sweep. */
+static int work(relkvanu_store *store, uint64_t file) {
+    uint64_t files[SUBTASKS][2], taken[4], list[] = {1, file};
+    size_t len = 2;
+    relkvanu *handle;
+    int status = relkvanu_store_read(store, &handle);
+    if (status != RELKVANU_STORE_OK) {
+        return status;
+    }
+    relkvanu_store_call calls[SUBTASKS + 2] = {{.call = {.kind = RELKVANU_CALL_TICK, .now = relkvanu_due(handle).a}}};
+    relkvanu_store_read_end(store);
+    if ((status = make(store, calls, 1)) != RELKVANU_STORE_OK) {
+        return status;
+    }
+    uint64_t id = calls[0].answer.b;
+    for (size_t i = 0; i < SUBTASKS; i++) {
+        files[i][0] = file + 2 * i;
+        files[i][1] = file + 2 * i + 1;
+        calls[i] = (relkvanu_store_call){.call = {.kind = RELKVANU_CALL_ACK, .number = id, .index = (uint16_t)i}, .first = files[i], .first_len = 2};
+    }
+    calls[SUBTASKS] = (relkvanu_store_call){.call = {.kind = RELKVANU_CALL_TAKE, .number = 4}, .files = taken, .files_len = 4};
+    calls[SUBTASKS + 1] = (relkvanu_store_call){.call = {.kind = RELKVANU_CALL_RESTORE}};
+    if ((status = make(store, calls, SUBTASKS + 2)) != RELKVANU_STORE_OK) {
+        return status;
+    }
+    status = relkvanu_store_unknown(store, list, &len);
+    CHECK(status != RELKVANU_STORE_OK || len <= 2, "a sweep");
+    return status;
+}
+
+static int open_and_work(uint64_t file, uint64_t images) {
+    relkvanu_store *store;
+    relkvanu_store_report report;
+    relkvanu_store_options options = job_options(RELKVANU_STORE_CREATE, images);
+    options.storage = storage;
+    int status = relkvanu_store_open(&store, path, &options, &report);
+    CHECK((store != NULL) == (status == RELKVANU_STORE_OK), "status %d", status);
+    snprintf(words, sizeof words, "%s", report.message);
+    for (uint64_t i = 0; i < 3 && status == RELKVANU_STORE_OK; i++) {
+        status = work(store, file + i * 100);
+    }
+    relkvanu_store_close(store);
+    return status;
+}
+
+static void remove_job(void) {
+    static const char *const ends[] = {"", "-wal", "-shm", ".lock", "-journal"};
+    char name[PATHS + 20];
+    for (size_t i = 0; i < sizeof ends / sizeof *ends; i++) {
+        snprintf(name, sizeof name, "%s%s", path, ends[i]);
+        unlink(name);
+    }
+    snprintf(name, sizeof name, "%s/.relkvanu-job", storage);
+    unlink(name);
+    told_len = 0;
+}
+
+/* The job has what was told, and at most one list beside. */
+static void check_job(void) {
+    relkvanu_store *store;
+    relkvanu_store_report report;
+    struct shadow shadow;
+    size_t len;
+    relkvanu_store_options options = job_options(RELKVANU_STORE_CREATE, RELKVANU_STORE_NO_IMAGES);
+    options.storage = storage;
+    int status = relkvanu_store_open(&store, path, &options, &report);
+    CHECK(status == RELKVANU_STORE_OK, "status %d: %s", status, report.message);
+    relkvanu_store_close(store);
+    struct told *rows = log_rows(path, 0, &len);
+    CHECK(len >= told_len && len <= told_len + SUBTASKS + 2, "%zu calls, %zu were told", len, told_len);
+    shadow_open(&shadow, &options);
+    for (size_t i = 0; i < len; i++) {
+        CHECK(i >= told_len || (rows[i].place == told[i].place && strcmp(rows[i].line, told[i].line) == 0 && rows[i].a == told[i].a), "call %zu: %s, not %s", i + 1,
+            rows[i].line, told[i].line);
+        shadow_make(&shadow, &rows[i]);
+    }
+    CHECK(relkvanu_store_open(&store, path, &options, &report) == RELKVANU_STORE_OK && shadow_equals(&shadow, store), "another image");
+    relkvanu_store_close(store);
+    relkvanu_close(&shadow.handle);
+    free(rows);
+}
+
+/* Returns whether the request was reached. The images are tried with the calls of the recovery: those before it are all in the log. */
+static bool refuse(enum kind kind, unsigned long nth, bool is_for_good, bool is_recovery) {
+    remove_job();
+    if (is_recovery) {
+        CHECK(open_and_work(1, RELKVANU_STORE_NO_IMAGES) == RELKVANU_STORE_OK, "without a refusal");
+    }
+    set_refused(kind, nth, is_for_good);
+    int status = open_and_work(10001, RELKVANU_STORE_NO_IMAGES);
+    bool is_reached = kind == COORDINATOR ? heap_requests() >= nth : requests >= nth;
+    set_none();
+    CHECK(status == RELKVANU_STORE_OK || status == RELKVANU_STORE_NO_MEMORY || status == RELKVANU_STORE_OUT_OF_MEMORY || status == RELKVANU_STORE_CLOSED ||
+              (kind == SQLITE && status == RELKVANU_STORE_FAILED),
+        "status %d: %s", status, words);
+    check_job();
+    return is_reached;
+}
+
+static unsigned refuse_each(enum kind kind, bool is_for_good, bool is_recovery) {
+    unsigned long nth = 1;
+    while (refuse(kind, nth, is_for_good, is_recovery)) {
+        nth += 1 + nth / 150;
+    }
+    CHECK(nth > 20, "no memory was asked for");
+    return (unsigned)nth;
+}
+
+/* An image that has no memory stops no call, and a discarder goes on. */
+static void images_wait(enum kind kind) {
+    relkvanu_store *store;
+    relkvanu_store_report report;
+    relkvanu_store_counts counts;
+    relkvanu_store_options options = job_options(RELKVANU_STORE_CREATE, 10);
+    remove_job();
+    options.storage = storage;
+    options.patience = 1000;
+    CHECK(relkvanu_store_open(&store, path, &options, &report) == RELKVANU_STORE_OK, "%s", report.message);
+    for (uint64_t i = 0; i < 4; i++) {
+        CHECK(work(store, 1 + i * 100) == RELKVANU_STORE_OK, "work");
+    }
+    relkvanu_store_count(store, &counts);
+    uint64_t images = counts.images;
+    CHECK(images >= 2 && counts.failed_images == 0, "%" PRIu64 " images", images);
+    for (unsigned long nth = 1; nth < 2000 && counts.failed_images == 0; nth++) { /* somewhere among these the image asks */
+        set_refused(kind, nth, false);
+        int status = work(store, 1000 + nth * 100);
+        set_none();
+        CHECK(status == RELKVANU_STORE_OK || status == RELKVANU_STORE_NO_MEMORY, "status %d", status);
+        relkvanu_store_count(store, &counts);
+    }
+    CHECK(counts.failed_images == 1, "no image had no memory");
+    for (uint64_t i = 0; i < 3; i++) {
+        CHECK(work(store, 1000000 + i * 100) == RELKVANU_STORE_OK, "work");
+    }
+    relkvanu_store_count(store, &counts);
+    CHECK(counts.images > images && relkvanu_store_discard(store, 50, deletes, store) == RELKVANU_STORE_STOPPED, "later");
+    relkvanu_store_close(store);
+}
+
+int main(int argc, char **argv) {
+    unsigned passed = 2;
+    CHECK(argc == 2, "memory FOLDER");
+    snprintf(path, sizeof path, "%s/x.db", argv[1]);
+    snprintf(storage, sizeof storage, "%s/storage", argv[1]);
+    CHECK(mkdir(storage, 0700) == 0, "%s", storage);
+    watch_sqlite();
+    for (int kind = OWN; kind < KINDS; kind++) {
+        for (int way = 0; way < 4; way++) {
+            bool is_for_good = way % 2 == 1;
+            if (kind == COORDINATOR && is_for_good) {
+                continue; /* the heap of the tests refuses one */
+            }
+            unsigned tried = refuse_each((enum kind)kind, is_for_good, way >= 2);
+            printf("store: memory of %s, %s, of a %s: up to request %u\n", names[kind], is_for_good ? "for good" : "once", way >= 2 ? "recovery" : "new job", tried);
+            passed++;
+        }
+    }
+    images_wait(COORDINATOR);
+    images_wait(SQLITE);
+    printf("%u passed, 0 failed\n", passed);
+    return 0;
+}

@@ -1,0 +1,154 @@
+/* store FOLDER: the class ckpt::Store of include/relkvanu_store.hpp: calls, refusals, errors, moves, reads that throw, submits and a discarder. */
+#include "../../../include/relkvanu_store.hpp"
+
+#include <chrono>
+#include <cstdio>
+#include <set>
+#include <stdexcept>
+#include <thread>
+
+#include <poll.h>
+#include <unistd.h>
+
+#define CHECK(condition)                                                        \
+    do {                                                                        \
+        if (!(condition)) {                                                     \
+            std::fprintf(stderr, "%s:%d: %s\n", __FILE__, __LINE__, #condition); \
+            std::abort();                                                       \
+        }                                                                       \
+    } while (0)
+
+static const std::uint64_t two[] = {2};
+
+static relkvanu_store_options options(std::uint32_t flags) {
+    relkvanu_store_options it = {};
+    it.flags = flags;
+    it.settings = relkvanu_settings{10, 0, 1, std::uint64_t{1} << 30, 1000, 1, false};
+    it.shape = two;
+    it.shape_len = 1;
+    return it;
+}
+
+static ckpt::Store opened(const std::string &path, std::uint32_t flags) {
+    auto it = ckpt::Store::open(path, options(flags));
+    if (auto *why = std::get_if<ckpt::not_opened>(&it)) {
+        std::fprintf(stderr, "%s\n", why->message.c_str());
+        std::abort();
+    }
+    return std::move(std::get<ckpt::Store>(it));
+}
+
+template <class Answer> static std::error_code why(const Answer &answer) {
+    const auto *refused = std::get_if<ckpt::refused>(&answer);
+    return refused ? refused->why : std::error_code();
+}
+
+static std::uint64_t due(ckpt::Store &job) {
+    std::uint64_t moment = 0;
+    CHECK(!job.read([&](relkvanu *handle) { moment = relkvanu_due(handle).a; }));
+    return moment;
+}
+
+static void complete(ckpt::Store &job, std::uint64_t file) {
+    std::uint64_t now = due(job);
+    auto ticked = std::get<ckpt::triggered>(job.tick(now));
+    for (std::uint16_t index = 0; index < 2; index++) {
+        const std::uint64_t fresh[] = {file + index};
+        auto answer = job.ack(ticked.id, 0, index, fresh, {}, now);
+        CHECK(index == 0 ? std::holds_alternative<ckpt::ack_pending>(answer) : std::holds_alternative<ckpt::ack_completed>(answer));
+    }
+}
+
+static void calls(const std::string &path) {
+    ckpt::Store job = opened(path, RELKVANU_STORE_CREATE_ONLY);
+    CHECK(!job.report().is_recovered && job.report().steps[0] == RELKVANU_STORE_START_TASKS);
+    complete(job, 1);
+    CHECK(why(job.tick(std::uint64_t{1} << 61)) == ckpt::error::moment_too_large);
+    CHECK(why(job.ack(9, 0, 0, {})) == ckpt::error::unknown_checkpoint);
+    const std::uint64_t bad[] = {0};
+    CHECK(why(job.restore(0, bad)) == ckpt::store_error::bad_argument); /* no line has such a shape */
+    auto other = ckpt::Store::open(path, options(RELKVANU_STORE_RECOVER));
+    CHECK(std::get<ckpt::not_opened>(other).why == ckpt::store_error::in_use && std::get<ckpt::not_opened>(other).message.find("process") != std::string::npos);
+    std::uint64_t wait = 0;
+    CHECK(!job.next_tick(wait) && wait <= 20);
+    CHECK(job.counts().calls == 3 && job.message().empty() && job.folder() == -1);
+    ckpt::Store moved = std::move(job);
+    CHECK(std::holds_alternative<ckpt::savepoint_triggered>(moved.savepoint()));
+    try {
+        CHECK(!moved.read([](relkvanu *) { throw std::runtime_error("look"); }));
+        CHECK(false);
+    } catch (const std::runtime_error &) {
+        complete(moved, 11); /* the read has ended */
+    }
+    moved = opened(path + "2", RELKVANU_STORE_CREATE);
+    complete(moved, 1);
+}
+
+static void recovery(const std::string &path) {
+    ckpt::Store job = opened(path, RELKVANU_STORE_RECOVER);
+    CHECK(job.report().is_recovered && job.report().epoch == 2);
+    std::vector<std::uint64_t> list = {1, 2, 5, 11};
+    CHECK(job.unknown(list) == ckpt::store_error::not_now);
+    auto restored = std::get<ckpt::restored>(job.restore());
+    CHECK(std::get<ckpt::checkpoint>(restored.from).id == 3);
+    list = {1, 2, 5, 11};
+    CHECK(!job.unknown(list) && list == std::vector<std::uint64_t>{5});
+}
+
+static void submits(const std::string &path) {
+    ckpt::Store job = opened(path + "3", RELKVANU_STORE_CREATE);
+    relkvanu_store_call list[20] = {};
+    std::set<std::uint64_t> tokens;
+    for (std::uint64_t i = 0; i < 20; i++) {
+        list[i].call.kind = RELKVANU_CALL_SAVEPOINT;
+        list[i].call.now = RELKVANU_STORE_NOW;
+        CHECK(!job.submit(ckpt::span<relkvanu_store_call>(&list[i], 1), i));
+    }
+    while (tokens.size() < 20) {
+        pollfd it = {job.descriptor(), POLLIN, 0};
+        CHECK(poll(&it, 1, 60000) == 1);
+        relkvanu_store_completion some[3];
+        std::size_t len = job.completed(some);
+        for (std::size_t i = 0; i < len; i++) {
+            CHECK(some[i].status == RELKVANU_STORE_OK && tokens.insert(some[i].token).second);
+        }
+    }
+    CHECK(list[19].answer.what == RELKVANU_SAVEPOINT_TRIGGERED && list[19].place == 20);
+}
+
+static void discarder(const std::string &path) {
+    ckpt::Store job = opened(path + "4", RELKVANU_STORE_CREATE);
+    std::set<std::uint64_t> gone;
+    int failures = 0;
+    std::error_code ended;
+    std::thread thread([&] {
+        ended = job.discard([&](std::uint64_t file) {
+            if (file == 2 && failures++ < 2) {
+                throw std::runtime_error("not yet");
+            }
+            return gone.insert(file).second;
+        });
+    });
+    complete(job, 1);
+    complete(job, 11);
+    relkvanu_counts counts = {};
+    do {
+        std::this_thread::sleep_for(std::chrono::milliseconds(5));
+        CHECK(!job.read([&](relkvanu *handle) { counts = relkvanu_file_counts(handle); }));
+    } while (counts.waiting + counts.taken != 0);
+    job.stop();
+    thread.join();
+    CHECK(ended == ckpt::store_error::stopped && failures == 3 && gone == (std::set<std::uint64_t>{1, 2}));
+    CHECK(why(job.await_tick(1000)) == ckpt::store_error::stopped);
+}
+
+int main(int argc, char **argv) {
+    CHECK(argc == 2);
+    std::string path = std::string(argv[1]) + "/x.db";
+    CHECK(std::get<ckpt::not_opened>(ckpt::Store::open(path, options(RELKVANU_STORE_RECOVER))).why == ckpt::store_error::absent);
+    calls(path);
+    recovery(path);
+    submits(path);
+    discarder(path);
+    return 0;
+}

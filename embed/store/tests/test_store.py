@@ -1,0 +1,243 @@
+"""The module relkvanu.store: replies and errors, threads, an event loop, the discarder, and its structs beside those of the header. STORE_LAYOUT is
+the program of layout.c."""
+import asyncio
+import ctypes
+import os
+import pathlib
+import subprocess
+import tempfile
+import threading
+import unittest
+
+from relkvanu import (
+    AckCompleted, AckPending, BadArgument, Chosen, Closed, Kind, Mode, OutOfRange, Refused, RestoredCheckpoint, Settings, Taken,
+    Triggered, store, store_header,
+)
+from relkvanu.store import Call, Made, Step, Store, StoreError
+
+SETTINGS = Settings(interval=10, timeout=1 << 30)
+
+
+class Folder(unittest.TestCase):
+    def setUp(self):
+        self.work = tempfile.TemporaryDirectory()
+        self.addCleanup(self.work.cleanup)
+        self.folder = pathlib.Path(self.work.name)
+        self.path = self.folder / "job.db"
+        self.storage = self.folder / "state"
+        self.storage.mkdir()
+
+    def open(self, **more):
+        return Store(self.path, SETTINGS, [2], **{"create": True, **more})
+
+    def raises(self, name, run, *words, closes=False):
+        with self.assertRaises(StoreError) as caught:
+            run(*words)
+        self.assertEqual((caught.exception.name, caught.exception.closes), (name, closes))
+        return str(caught.exception)
+
+    def complete(self, job, file):
+        """A checkpoint with two files from a number on."""
+        with job.read() as reads:
+            due = reads.due()
+        id = job.tick(due).reply.id
+        for index in range(2):
+            job.ack(id, 0, index, [file + index], now=due)
+        return id
+
+
+class Calls(Folder):
+    def test_replies_and_recovery(self):
+        with self.open() as job:
+            self.assertEqual((job.report.is_recovered, job.report.epoch, job.report.steps), (False, 1, (Step.START_TASKS,)))
+            self.assertEqual(job.tick(10), Made(Triggered(0, 1), 1, None))
+            self.assertEqual(job.ack(1, 0, 0, [1], now=11), Made(AckPending(1), 2, None))
+            with self.assertRaises(Refused) as caught:
+                job.ack(1, 0, 0, [3])
+            self.assertEqual(caught.exception.name, "AlreadyAcknowledged")
+            self.assertEqual(job.ack(1, 0, 1, [2], now=11), Made(AckCompleted(0, 0), 3, None))
+            identity = job.report.job
+        with self.open(create=False) as job:
+            report = job.report
+            self.assertEqual((report.is_recovered, report.settings_differ, report.epoch, report.job, report.image_place), (True, False, 2, identity, 3))
+            self.assertEqual(report.steps, (Step.END_TASKS, Step.RESTORE, Step.SWEEP, Step.START_TASKS))
+            self.assertEqual((report.mode, report.choice), (Mode.RUNNING, Chosen(1, Kind.CHECKPOINT)))
+            self.raises("NotNow", job.unknown, [1])
+            self.assertEqual(job.restore().reply, RestoredCheckpoint(1, 0))
+            self.assertEqual(job.unknown([1, 2, 3, 1 << 63]), [3, 1 << 63])
+            made = job.tick(job.now() + 20)
+            self.assertEqual((made.reply, made.choice), (Triggered(0, 2), Chosen(1, Kind.CHECKPOINT)))
+
+    def test_lists(self):
+        with self.open() as job:
+            self.complete(job, 1)
+            self.complete(job, 11)
+            outcomes = job.calls([Call.dispose(9), Call.take(1), Call.take(4), Call.savepoint(), Call.deleted(1), Call.undeleted(7)])
+            self.assertEqual([type(it) for it in outcomes], [Refused, Made, Made, Made, Made, Refused])
+            self.assertEqual((outcomes[1].reply, outcomes[2].reply, outcomes[4].place), (Taken((1,)), Taken((2,)), 10))
+            self.raises("BadArgument", job.calls, [])
+            with self.assertRaises(OutOfRange):
+                job.ack(1 << 64, 0, 0, [])
+            with self.assertRaises(BadArgument):
+                Call.restore(0)
+
+    def test_errors_of_an_opening(self):
+        self.raises("Absent", lambda: self.open(create=False))
+        with self.open(storage=self.storage):
+            self.assertIn(f"in use by process {os.getpid()}", self.raises("InUse", self.open))
+        self.raises("Present", lambda: self.open(create=False, only_create=True, storage=self.storage))
+        self.assertIn("name none", self.raises("Storage", self.open))
+        (self.storage / ".relkvanu-job").unlink()
+        self.raises("Storage", lambda: self.open(storage=self.storage))
+        with self.assertRaises(StoreError):
+            Store(self.folder / "other.db", Settings(interval=1), [2], create=True)
+
+    def test_close(self):
+        job = self.open()
+        job.close()
+        job.close()
+        self.raises("Closed", job.tick)
+        with self.assertRaises(TypeError):
+            job.__reduce__()
+
+    def test_reads(self):
+        with self.open(image_calls=None) as job:
+            self.complete(job, 1)
+            with job.read() as reads:
+                self.assertEqual((reads.mode(), reads.files_of(1, 0, 1), reads.file_counts().in_use), (Mode.RUNNING, (2,), 2))
+                with self.assertRaises(AttributeError):
+                    reads.tick(1)
+            with self.assertRaises(Closed):
+                reads.mode()
+            self.assertLessEqual(job.next_tick(), 20)
+            self.assertEqual(job.counts()["calls"], 3)
+
+    def test_a_failed_commit(self):
+        job = self.open()
+        self.path.rename(self.folder / "away")
+        self.assertIn("replaced", self.raises("Failed", job.savepoint, closes=True))
+        self.raises("Closed", job.savepoint)
+        job.close()
+        (self.folder / "away").rename(self.path)
+        self.open().close()
+
+    def test_a_forked_child(self):
+        with self.open() as job:
+            child = os.fork()
+            if child == 0:
+                try:
+                    job.tick()
+                except StoreError as error:
+                    job.close()
+                    os._exit(7 if error.name == "Forked" else 1)
+                os._exit(2)
+            self.assertEqual(os.waitstatus_to_exitcode(os.waitpid(child, 0)[1]), 7)
+            self.complete(job, 1)
+
+
+class Threads(Folder):
+    def test_callers(self):
+        job = self.open()
+
+        def call():
+            for _ in range(20):
+                job.savepoint()
+        threads = [threading.Thread(target=call) for _ in range(16)]
+        for it in threads:
+            it.start()
+        for it in threads:
+            it.join()
+        self.assertEqual(job.counts()["calls"], 320)
+        job.close()
+        with self.open() as job, job.read() as reads:
+            self.assertIsNotNone(reads.live(319))
+
+    def test_a_timer_that_close_ends(self):
+        job = self.open()
+        ends = []
+
+        def ticks():
+            try:
+                while True:
+                    job.await_tick(60_000)
+            except StoreError as error:
+                ends.append(error.name)
+        timer = threading.Thread(target=ticks)
+        timer.start()
+        while job.counts()["calls"] < 2:
+            pass
+        self.assertIsNone(job.await_tick(1))
+        job.close()
+        timer.join()
+        self.assertIn(ends, (["Stopped"], ["Closed"]))
+
+    def test_an_event_loop(self):
+        async def run(job):
+            loop, results, done = asyncio.get_running_loop(), {}, asyncio.Event()
+
+            def take():
+                results.update(job.completed())
+                if len(results) == 100:
+                    done.set()
+            loop.add_reader(job.fileno(), take)
+            tokens = [job.submit([Call.savepoint(), Call.dispose(9)]) for _ in range(100)]
+            await asyncio.wait_for(done.wait(), 60)
+            loop.remove_reader(job.fileno())
+            return tokens, results
+        with self.open() as job:
+            tokens, results = asyncio.run(run(job))
+            self.assertEqual(sorted(results), tokens)
+            self.assertEqual([results[it][0].place for it in tokens], list(range(1, 101)))
+            self.assertIsInstance(results[tokens[5]][1], Refused)
+
+    def test_a_discarder(self):
+        job = self.open(storage=self.storage)
+        tries = []
+
+        def delete(file):
+            tries.append(file)
+            if file == 2 and tries.count(2) < 3:
+                raise PermissionError
+            os.unlink(str(file), dir_fd=job.folder())
+            return True
+        discarder = threading.Thread(target=job.discard, args=(delete,))
+        for file in (1, 2, 11, 12):
+            (self.storage / str(file)).touch()
+        discarder.start()
+        self.complete(job, 1)
+        self.complete(job, 11)
+        while any((self.storage / it).exists() for it in "12"):
+            pass
+        job.stop()
+        discarder.join()
+        self.assertEqual(tries.count(2), 3)
+        self.assertTrue((self.storage / "12").exists())
+        job.close()
+
+
+class Header(unittest.TestCase):
+    def test_layout(self):
+        told = subprocess.run([os.environ["STORE_LAYOUT"]], stdout=subprocess.PIPE, text=True, check=True).stdout
+        numbers = {name: number for number, name in store_header.STATUSES.items()}
+        steps = {it.name: it.value for it in Step}
+        for line in told.splitlines():
+            kind, name, value = line.split()
+            with self.subTest(line):
+                if kind == "struct":
+                    self.assertEqual(ctypes.sizeof(getattr(store_header, name)), int(value))
+                elif kind == "field":
+                    struct, field = name.split(".")
+                    self.assertEqual(getattr(getattr(store_header, struct), field).offset, int(value))
+                else:
+                    camel = "".join(it.capitalize() for it in name.split("_"))
+                    found = getattr(store_header, name, numbers.get(camel, steps.get(name)))
+                    self.assertEqual(found, int(value))
+
+    def test_functions(self):
+        header = (pathlib.Path(store.__file__).resolve().parents[3] / "include/relkvanu_store.h").read_text()
+        for name in store_header.FUNCTIONS:
+            self.assertIn(f"{name}(", header)
+
+
+if __name__ == "__main__":
+    unittest.main()

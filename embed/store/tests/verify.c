@@ -1,0 +1,109 @@
+/* verify FOLDER TOLD MOST: opens the job FOLDER/x.db again, and checks that each call of TOLD is there as it was told, unless the log was cut
+ * there; that at most MOST calls are there beside those; and that a second coordinator answers all calls as they were answered, and then
+ * has the same image. The calls beside are appended to TOLD, for a next run. The last word of the line that it prints is "part" if the log was
+ * cut behind a call that nobody was told: then there is no second coordinator. */
+#include "common.h"
+
+#include <unistd.h>
+
+enum { MOST_TOLD = 400000 };
+
+static int by_place(const void *one, const void *other) {
+    uint64_t a = ((const struct told *)one)->place, b = ((const struct told *)other)->place;
+    return (a > b) - (a < b);
+}
+
+static struct told *read_told(const char *name, size_t *len) {
+    FILE *from = fopen(name, "r");
+    struct told *told = calloc(MOST_TOLD, sizeof *told);
+    char line[LINE + 100];
+    *len = 0;
+    CHECK(told != NULL, "no memory");
+    while (from != NULL && fgets(line, sizeof line, from) != NULL) {
+        struct told *it = &told[(*len)++];
+        CHECK(*len < MOST_TOLD, "too many calls");
+        CHECK(sscanf(line, "%" SCNu64 " %" SCNu32 " %" SCNu64 " %" SCNu64 " %399[^\n]", &it->place, &it->what, &it->a, &it->b, it->line) == 5, "%s", line);
+    }
+    if (from != NULL) {
+        fclose(from);
+    }
+    qsort(told, *len, sizeof *told, by_place);
+    return told;
+}
+
+struct check {
+    struct told *told, *rows;
+    size_t told_len, rows_len, beside;
+    struct shadow shadow;
+    bool is_whole;
+    int to;
+};
+
+static void check_same(const struct told *told, const struct told *row) {
+    CHECK(strcmp(row->line, told->line) == 0 && row->what == told->what && row->a == told->a && row->b == told->b,
+        "call %" PRIu64 " was told as %s: %" PRIu32 " %" PRIu64 " %" PRIu64 ", and the log has %s: %" PRIu32 " %" PRIu64 " %" PRIu64, told->place, told->line,
+        told->what, told->a, told->b, row->line, row->what, row->a, row->b);
+}
+
+static void make(struct check *c, const struct told *call) {
+    if (call->place != c->shadow.place + 1) {
+        c->is_whole = false;
+    }
+    if (c->is_whole) {
+        shadow_make(&c->shadow, call);
+    }
+}
+
+/* Goes through both by their places. */
+static void compare(struct check *c) {
+    size_t told = 0, row = 0;
+    while (told < c->told_len || row < c->rows_len) {
+        struct told *t = told < c->told_len ? &c->told[told] : NULL, *r = row < c->rows_len ? &c->rows[row] : NULL;
+        bool is_told = t != NULL && (r == NULL || t->place <= r->place), is_row = r != NULL && (t == NULL || r->place <= t->place);
+        if (is_told && is_row) {
+            check_same(t, r);
+        } else if (is_told) {
+            CHECK(row == 0 && r != NULL, "call %" PRIu64 ", %s, is not in the log", t->place, t->line);
+        } else {
+            c->beside++;
+            dprintf(c->to, "%" PRIu64 " %" PRIu32 " %" PRIu64 " %" PRIu64 " %s\n", r->place, r->what, r->a, r->b, r->line);
+        }
+        make(c, is_told ? t : r);
+        told += is_told;
+        row += is_row;
+    }
+}
+
+int main(int argc, char **argv) {
+    char path[PATHS];
+    relkvanu_store *store;
+    relkvanu_store_report report;
+    struct check c = {.is_whole = true};
+    CHECK(argc == 4, "verify FOLDER TOLD MOST");
+    relkvanu_store_options options = options_in(argv[1], RELKVANU_STORE_RECOVER, RELKVANU_STORE_NO_IMAGES);
+    c.told = read_told(argv[2], &c.told_len);
+    snprintf(path, sizeof path, "%s/x.db", argv[1]);
+    int status = relkvanu_store_open(&store, path, &options, &report);
+    if (status == RELKVANU_STORE_ABSENT && c.told_len == 0) {
+        options.flags = RELKVANU_STORE_CREATE;
+        status = relkvanu_store_open(&store, path, &options, &report);
+    }
+    CHECK(status == RELKVANU_STORE_OK, "status %d: %s", status, report.message);
+    relkvanu_store_close(store);
+    c.rows = log_rows(path, 0, &c.rows_len);
+    c.to = told_file(argv[2]);
+    shadow_open_as(&c.shadow, path);
+    compare(&c);
+    CHECK(c.beside <= strtoull(argv[3], NULL, 10), "%zu calls beside those that were told", c.beside);
+    status = relkvanu_store_open(&store, path, &options, &report);
+    CHECK(status == RELKVANU_STORE_OK, "status %d: %s", status, report.message);
+    uint64_t last = c.rows_len != 0 ? c.rows[c.rows_len - 1].place : 0;
+    CHECK(report.image_place + report.replayed == last, "%" PRIu64 " calls", report.image_place + report.replayed);
+    CHECK(!c.is_whole || shadow_equals(&c.shadow, store), "another image");
+    relkvanu_store_close(store);
+    printf("%zu told, %zu beside, %s\n", c.told_len, c.beside, c.is_whole ? "whole" : "part");
+    free(c.told);
+    free(c.rows);
+    relkvanu_close(&c.shadow.handle);
+    return 0;
+}

@@ -1,0 +1,211 @@
+/* A coordinator whose calls are durable: one SQLite file for each job, so that an engine writes no log, lock, sync, replay or recovery.
+ *
+ * Link librelkvanu-store.a, librelkvanu.a, SQLite (3.37 or later), zlib and threads, or use `pkg-config relkvanu-store`. For Linux.
+ * A call is made, its line and its answer are committed and synced, and only then does the function return. Any number of threads may
+ * call. While one of them commits, the calls of the others gather, and the first of them commits all of these together.
+ *
+ * Files: PATH (the log and the images), PATH-wal, PATH-shm and PATH.lock. Never delete one of them, also not when the store is closed.
+ * While a store is open no other program or connection can read PATH, and nobody may copy it. Use a local file system, not NFS.
+ *
+ * Conditions for the caller:
+ * - Nobody acts on an answer unless the status is RELKVANU_STORE_OK and its code is RELKVANU_DONE: no file is deleted or kept, no barrier
+ *   is sent. With any other status each answer is RELKVANU_STORE_NOT_MADE.
+ * - From RELKVANU_STORE_FAILED on a status closes the store: each later call returns RELKVANU_STORE_CLOSED. Calls that returned it may or may not
+ *   be in the log. Close the store and open it again, or end the process, and do what a recovery does.
+ * - A list or buffer that is passed stays as it is until the function returns, or until the completion of a submit.
+ * - A thread that reads (relkvanu_store_read) makes no call before relkvanu_store_read_end, except a submit.
+ * - In a forked child each function returns RELKVANU_STORE_FORKED, and relkvanu_store_close does nothing.
+ * - No call is made from a signal handler, and no thread is cancelled inside of one.
+ * - relkvanu_store_close comes after the last call of each other thread.
+ */
+#ifndef RELKVANU_STORE_H
+#define RELKVANU_STORE_H
+#include "relkvanu.h"
+
+#ifdef __cplusplus
+extern "C" {
+#endif
+
+typedef struct relkvanu_store relkvanu_store;
+
+/* Status. After the first group nothing was made, and the store is as it was. */
+#define RELKVANU_STORE_OK 0
+#define RELKVANU_STORE_BAD_ARGUMENT 1 /* of a call: its kind, shape, number of files or a reserved field; of an opening: its settings */
+#define RELKVANU_STORE_NO_MEMORY 2    /* make the same call again later */
+#define RELKVANU_STORE_IN_USE 3       /* open: another process, or this one, has the job open. The message names it */
+#define RELKVANU_STORE_ABSENT 4       /* open: there is no job, and the flags don't allow to make one */
+#define RELKVANU_STORE_PRESENT 5      /* open: there is a job, and RELKVANU_STORE_CREATE_ONLY forbids it */
+#define RELKVANU_STORE_NOT_A_STORE 6  /* open: another kind of file, or one of a later version */
+#define RELKVANU_STORE_DIFFERS 7      /* open: a call of the log gets another answer, or is refused. The message says which */
+#define RELKVANU_STORE_DAMAGED 8      /* open: an image, a call or the file is damaged. The message says which */
+#define RELKVANU_STORE_STORAGE 9      /* open: the storage folder is not that of this job, or a new job's has files */
+#define RELKVANU_STORE_CLOSED 10      /* an earlier commit failed */
+#define RELKVANU_STORE_FORKED 11      /* this process is a child of the one that opened the store */
+#define RELKVANU_STORE_TIMED_OUT 12   /* await: the time is up */
+#define RELKVANU_STORE_NOT_NOW 13     /* unknown: no sweep is safe now; discard: another thread discards */
+#define RELKVANU_STORE_STOPPED 14     /* await, discard: relkvanu_store_stop was called */
+/* What failed at an opening, or in a commit, which closes the store. */
+#define RELKVANU_STORE_FAILED 16        /* a read, write or sync */
+#define RELKVANU_STORE_FULL 17          /* the disk is full */
+#define RELKVANU_STORE_READ_ONLY 18     /* the file, its folder or the file system is read-only */
+#define RELKVANU_STORE_BUSY 19          /* another program keeps a lock of the file */
+#define RELKVANU_STORE_OUT_OF_MEMORY 20 /* SQLite has no memory for a commit */
+
+/* The code of an answer beside those of relkvanu.h: the call was not made, or may not be acted upon. */
+#define RELKVANU_STORE_NOT_MADE 100u
+
+/* Flags of an opening. */
+#define RELKVANU_STORE_RECOVER 0u       /* there has to be a job: a wrong path makes no new one */
+#define RELKVANU_STORE_CREATE 1u        /* makes a job if there is none */
+#define RELKVANU_STORE_CREATE_ONLY 2u   /* makes a job, and there may be none */
+#define RELKVANU_STORE_ADOPT 4u         /* makes a job also if the storage folder has files. A later sweep finds them to be unknown */
+#define RELKVANU_STORE_EARLIER_IMAGE 8u /* begins with the image before the last one, which is damaged. The log after it is whole */
+
+/* A moment of a call: that of the store's clock. The clock goes on from the greatest moment of the log, and never jumps. */
+#define RELKVANU_STORE_NOW UINT64_MAX
+
+#define RELKVANU_STORE_NO_IMAGES UINT64_MAX
+#define RELKVANU_STORE_MOST_CALLS 4096 /* of a list */
+#define RELKVANU_STORE_MESSAGE 512     /* no message is longer, with the zero at its end */
+
+typedef struct {
+    uint32_t flags;
+    uint32_t patience;          /* ms for which a commit tries again if the disk is full, SQLite has no memory or a lock is held */
+    uint64_t image_calls;       /* an image after so many calls; 0: 10000. RELKVANU_STORE_NO_IMAGES: none, and the log is never cut */
+    uint64_t most_ahead;        /* a moment may be so many ms ahead of the greatest one, or of what a timer waits for; 0: one day */
+    const char *storage;        /* the folder of the state files, which has to exist; NULL: the engine looks after it */
+    relkvanu_settings settings; /* of a new job. A recovered job keeps its own; report.settings_differ compares them */
+    const uint64_t *shape;
+    size_t shape_len;
+    uint64_t reserved[4]; /* 0 */
+} relkvanu_store_options;
+
+/* What an engine has to do after an opening, in this order. */
+#define RELKVANU_STORE_END_TASKS 1u   /* make sure that no earlier task runs, and that no message of one arrives */
+#define RELKVANU_STORE_RESTORE 2u     /* make a RELKVANU_CALL_RESTORE: its answer says where the job begins again */
+#define RELKVANU_STORE_SWEEP 3u       /* delete the files of the storage that relkvanu_store_unknown returns */
+#define RELKVANU_STORE_START_TASKS 4u /* start tasks, a timer (relkvanu_store_await_tick) and a discarder (relkvanu_store_discard) */
+#define RELKVANU_STORE_DISCARD 5u     /* start a discarder alone: the job is cancelled */
+#define RELKVANU_STORE_MOST_STEPS 8
+
+typedef struct {
+    bool is_recovered;    /* false: it is a new job */
+    bool settings_differ; /* the job was made with other settings or another shape, and keeps them */
+    uint32_t steps[RELKVANU_STORE_MOST_STEPS];
+    size_t steps_len;
+    uint64_t epoch;       /* 1 for a new job, and 1 more at each opening. Put it into messages, so that those of earlier tasks are dropped */
+    uint64_t job[2];      /* the identity of the job, random. The marker of the storage folder has it */
+    uint64_t image_place; /* how many calls the image covers */
+    uint64_t replayed;    /* how many calls were made again */
+    uint64_t taken;       /* files that were taken and not reported: a discarder begins with them */
+    uint64_t moment;      /* the greatest moment so far */
+    relkvanu_answer mode, choice;
+    char message[RELKVANU_STORE_MESSAGE]; /* what went wrong and where, if the status is not RELKVANU_STORE_OK; otherwise empty */
+    uint64_t reserved[4];
+} relkvanu_store_report;
+
+/* Makes or recovers the job at path. A recovery opens the last image, makes the calls after it again, and compares each answer.
+ * *store is NULL unless the status is RELKVANU_STORE_OK. The lock is kept until relkvanu_store_close or the end of the process.
+ *
+ * With options.storage a new job puts its marker, the file .relkvanu-job, into the folder, and a recovery looks for it. So it
+ * refuses a folder of another job and one that is not mounted. */
+int relkvanu_store_open(relkvanu_store **store, const char *path, const relkvanu_store_options *options, relkvanu_store_report *report);
+
+/* Waits for the group under way and for each submit, makes an image, so that the next opening replays nothing, and closes. NULL is
+ * allowed. The end of a process without it loses nothing. */
+void relkvanu_store_close(relkvanu_store *store);
+
+/* A call of a list. The fields up to reserved are read; the others are written. */
+typedef struct {
+    relkvanu_call call;     /* call.now may be RELKVANU_STORE_NOW */
+    const uint64_t *first;  /* ack: the fresh files; restore: the new shape */
+    size_t first_len;
+    const uint64_t *second; /* ack: the reused files */
+    size_t second_len;
+    uint64_t *files;        /* take: the buffer; call.number is at most files_len */
+    size_t files_len;
+    uint64_t reserved[2]; /* 0 */
+    relkvanu_answer answer;
+    relkvanu_answer choice; /* after a trigger: the record that its barrier names beside it */
+    uint64_t place;         /* of the call in the log, from 1; 0 if it changed nothing, and has no line */
+} relkvanu_store_call;
+
+/* Makes 1 to 4096 calls, in this order and with no other in between, and returns once they are committed. A refused call changes
+ * nothing, and the next ones are made. After an answer with RELKVANU_NO_MEMORY the later ones are RELKVANU_STORE_NOT_MADE, and the earlier ones
+ * stand. RELKVANU_CALL_SHOW and RELKVANU_CALL_COUNT are reads: see relkvanu_store_read. */
+int relkvanu_store_calls(relkvanu_store *store, relkvanu_store_call *calls, size_t calls_len);
+
+/* One acknowledgement, with flat arguments. */
+int relkvanu_store_ack(relkvanu_store *store, uint64_t now, uint64_t id, uint16_t vertex, uint16_t index, const uint64_t *fresh, size_t fresh_len, const uint64_t *reused, size_t reused_len, relkvanu_answer *answer);
+
+/* For event loops: as relkvanu_store_calls, but returns at once. calls and their lists and buffers stay until relkvanu_store_completed returns
+ * the token; then the answers are there. With another status than RELKVANU_STORE_OK nothing was submitted. */
+int relkvanu_store_submit(relkvanu_store *store, relkvanu_store_call *calls, size_t calls_len, uint64_t token);
+
+typedef struct {
+    uint64_t token;
+    int status; /* as that of relkvanu_store_calls */
+} relkvanu_store_completion;
+
+/* Writes at most len completions, and returns how many. Never waits. */
+size_t relkvanu_store_completed(relkvanu_store *store, relkvanu_store_completion *completions, size_t len);
+
+/* An eventfd that can be read (poll, epoll) while there are completions. Do not read or close it. */
+int relkvanu_store_descriptor(const relkvanu_store *store);
+
+/* Between the two the handle has exactly what is committed, and all callers wait. Use the reads of relkvanu.h, relkvanu_show,
+ * relkvanu_count and relkvanu_save only. */
+int relkvanu_store_read(relkvanu_store *store, relkvanu **handle);
+void relkvanu_store_read_end(relkvanu_store *store);
+
+/* The moment of the store's clock. */
+uint64_t relkvanu_store_now(const relkvanu_store *store);
+
+/* For a timer of the engine: after how many ms the next tick has to come, unless a call is made before; 0: now; UINT64_MAX: only a
+ * call can change it. So a timer never spins: not while the mode is not running, nor while as many checkpoints are pending as may be, nor
+ * after a tick without memory. */
+int relkvanu_store_next_tick(relkvanu_store *store, uint64_t *wait);
+
+/* A timer, as a loop in a thread of the engine: sleeps until a tick is due, at most longest ms, and makes it. Each commit wakes it.
+ * RELKVANU_STORE_TIMED_OUT: no tick was due. RELKVANU_STORE_STOPPED. */
+int relkvanu_store_await_tick(relkvanu_store *store, uint64_t longest, relkvanu_store_call *tick);
+
+/* The sweep of a recovery: moves those of the files that the coordinator does not know (neither in use, pinned, waiting nor taken) to the
+ * front, and writes how many they are. The engine deletes exactly these.
+ *
+ * RELKVANU_STORE_NOT_NOW unless the job was restored, or is cancelled, and no checkpoint was triggered or acknowledged since: a task may have
+ * written a file whose acknowledgement is on its way. */
+int relkvanu_store_unknown(relkvanu_store *store, uint64_t *files, size_t *files_len);
+
+/* The folder options.storage, which stays open: delete by unlinkat in it, so that no deletion reaches a folder that is mounted over it. -1
+ * if there is none. */
+int relkvanu_store_folder(const relkvanu_store *store);
+
+/* Deletes files, and sets is_gone[i] to 1 for each that does not exist any more, also if it did not exist before. All are 0 at first. */
+typedef void (*relkvanu_store_delete)(void *with, const uint64_t *files, size_t files_len, uint8_t *is_gone);
+
+/* The discarder, as a loop in a thread of the engine: takes up to batch files (1 to 4095; 0: 256), has them deleted, syncs the folder
+ * options.storage, reports each, and takes again. It begins with the files that were taken and not reported. A file that is not gone waits
+ * again. After a batch of which none is gone it waits longer each time, up to a minute, and never gives up. Without the marker in the
+ * folder no file counts as gone. Runs until relkvanu_store_stop, or until the store is closed by a failed commit. */
+int relkvanu_store_discard(relkvanu_store *store, size_t batch, relkvanu_store_delete delete_files, void *with);
+
+/* Lets relkvanu_store_await_tick and relkvanu_store_discard return RELKVANU_STORE_STOPPED, now and later. What was taken is reported first. */
+void relkvanu_store_stop(relkvanu_store *store);
+
+/* Counts since the opening. */
+typedef struct {
+    uint64_t commits, calls, largest; /* of a commit: its calls */
+    uint64_t images, failed_images;   /* an image that can't be written is tried again after as many calls */
+    uint64_t checkpoints, failed_checkpoints, retries;
+    uint64_t reserved[4];
+} relkvanu_store_counts;
+void relkvanu_store_count(relkvanu_store *store, relkvanu_store_counts *counts);
+
+/* What closed the store, as a text with a zero at its end; otherwise empty. Returns its length, also if text_len is too short. */
+size_t relkvanu_store_message(relkvanu_store *store, char *text, size_t text_len);
+
+#ifdef __cplusplus
+}
+#endif
+#endif

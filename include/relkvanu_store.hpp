@@ -1,0 +1,256 @@
+/* A coordinator whose calls are durable, for C++17: a class that owns its store, with the answers of relkvanu.hpp. relkvanu_store.h says what
+ * each function does, and lists the conditions for the caller.
+ *
+ * Threads share a Store. A call that was not committed is refused, and why is an error of store_category: nobody may act on it. From
+ * store_error::failed on the store is closed for good.
+ */
+#ifndef RELKVANU_STORE_HPP
+#define RELKVANU_STORE_HPP
+
+#include "relkvanu.hpp"
+#include "relkvanu_store.h"
+
+namespace ckpt {
+
+enum class store_error : int {
+    bad_argument = RELKVANU_STORE_BAD_ARGUMENT,
+    no_memory = RELKVANU_STORE_NO_MEMORY,
+    in_use = RELKVANU_STORE_IN_USE,
+    absent = RELKVANU_STORE_ABSENT,
+    present = RELKVANU_STORE_PRESENT,
+    not_a_store = RELKVANU_STORE_NOT_A_STORE,
+    differs = RELKVANU_STORE_DIFFERS,
+    damaged = RELKVANU_STORE_DAMAGED,
+    storage = RELKVANU_STORE_STORAGE,
+    closed = RELKVANU_STORE_CLOSED,
+    forked = RELKVANU_STORE_FORKED,
+    timed_out = RELKVANU_STORE_TIMED_OUT,
+    not_now = RELKVANU_STORE_NOT_NOW,
+    stopped = RELKVANU_STORE_STOPPED,
+    failed = RELKVANU_STORE_FAILED,
+    full = RELKVANU_STORE_FULL,
+    read_only = RELKVANU_STORE_READ_ONLY,
+    busy = RELKVANU_STORE_BUSY,
+    out_of_memory = RELKVANU_STORE_OUT_OF_MEMORY,
+    not_made = RELKVANU_STORE_NOT_MADE, /* a call before it in the same list ran out of memory */
+};
+
+class store_category_type final : public std::error_category {
+public:
+    const char *name() const noexcept override { return "relkvanu store"; }
+
+    std::string message(int value) const override {
+        switch (static_cast<store_error>(value)) {
+        case store_error::bad_argument: return "BadArgument";
+        case store_error::no_memory: return "NoMemory";
+        case store_error::in_use: return "InUse";
+        case store_error::absent: return "Absent";
+        case store_error::present: return "Present";
+        case store_error::not_a_store: return "NotAStore";
+        case store_error::differs: return "Differs";
+        case store_error::damaged: return "Damaged";
+        case store_error::storage: return "Storage";
+        case store_error::closed: return "Closed";
+        case store_error::forked: return "Forked";
+        case store_error::timed_out: return "TimedOut";
+        case store_error::not_now: return "NotNow";
+        case store_error::stopped: return "Stopped";
+        case store_error::failed: return "Failed";
+        case store_error::full: return "Full";
+        case store_error::read_only: return "ReadOnly";
+        case store_error::busy: return "Busy";
+        case store_error::out_of_memory: return "OutOfMemory";
+        case store_error::not_made: return "NotMade";
+        default: return "unknown";
+        }
+    }
+};
+
+inline const std::error_category &store_category() noexcept {
+    static const store_category_type it;
+    return it;
+}
+
+inline std::error_code make_error_code(store_error it) noexcept { return std::error_code(static_cast<int>(it), store_category()); }
+
+/* The error of a status; none for RELKVANU_STORE_OK. */
+inline std::error_code store_code(int status) noexcept {
+    return status == RELKVANU_STORE_OK ? std::error_code() : make_error_code(static_cast<store_error>(status));
+}
+
+/* Why a job was not opened, and where. */
+struct not_opened {
+    std::error_code why;
+    std::string message;
+};
+
+/* A durable coordinator. After a move the old one is empty: only its destructor and an assignment to it may be called. */
+class Store {
+public:
+    [[nodiscard]] static std::variant<Store, not_opened> open(const std::string &path, const relkvanu_store_options &options) {
+        relkvanu_store *made = nullptr;
+        relkvanu_store_report report;
+        int status = relkvanu_store_open(&made, path.c_str(), &options, &report);
+        if (status != RELKVANU_STORE_OK) {
+            return not_opened{store_code(status), report.message};
+        }
+        return Store(made, report);
+    }
+
+    Store(const Store &) = delete;
+    Store &operator=(const Store &) = delete;
+    Store(Store &&other) noexcept : store_(std::exchange(other.store_, nullptr)), report_(other.report_) {}
+
+    Store &operator=(Store &&other) noexcept {
+        if (this != &other) {
+            relkvanu_store_close(store_);
+            store_ = std::exchange(other.store_, nullptr);
+            report_ = other.report_;
+        }
+        return *this;
+    }
+
+    /* Comes after the last call of each thread. */
+    ~Store() { relkvanu_store_close(store_); }
+
+    [[nodiscard]] const relkvanu_store_report &report() const noexcept { return report_; }
+
+    /* The calls. Without a moment each has that of the store's clock. */
+
+    [[nodiscard]] tick_answer tick(std::uint64_t now = RELKVANU_STORE_NOW) noexcept { return one<tick_answer>(call(RELKVANU_CALL_TICK, now), tick_of); }
+
+    [[nodiscard]] savepoint_answer savepoint(std::uint64_t now = RELKVANU_STORE_NOW) noexcept {
+        return one<savepoint_answer>(call(RELKVANU_CALL_SAVEPOINT, now), [](relkvanu_answer told) noexcept {
+            return told.code == RELKVANU_DONE ? savepoint_answer(savepoint_triggered{told.a}) : refusal(told);
+        });
+    }
+
+    [[nodiscard]] ack_answer ack(std::uint64_t id, std::uint16_t vertex, std::uint16_t index, files fresh, files reused = {}, std::uint64_t now = RELKVANU_STORE_NOW) noexcept {
+        relkvanu_store_call it = call(RELKVANU_CALL_ACK, now, id, vertex, index);
+        it.first = fresh.data();
+        it.first_len = fresh.size();
+        it.second = reused.data();
+        it.second_len = reused.size();
+        return one<ack_answer>(it, ack_of);
+    }
+
+    decline_answer decline(std::uint64_t id, std::uint16_t vertex, std::uint16_t index, std::uint64_t now = RELKVANU_STORE_NOW) noexcept {
+        return one<decline_answer>(call(RELKVANU_CALL_DECLINE, now, id, vertex, index), decline_of);
+    }
+
+    /* From a savepoint, or from the latest record if it is 0. */
+    restore_answer restore(std::uint64_t savepoint = 0, shape of = {}, std::uint64_t now = RELKVANU_STORE_NOW) noexcept {
+        relkvanu_store_call it = call(RELKVANU_CALL_RESTORE, now, savepoint);
+        it.first = of.data();
+        it.first_len = of.size();
+        return one<restore_answer>(it, restore_of);
+    }
+
+    cancel_answer cancel(std::uint64_t now = RELKVANU_STORE_NOW) noexcept {
+        return one<cancel_answer>(call(RELKVANU_CALL_CANCEL, now), [](relkvanu_answer told) noexcept {
+            return told.code == RELKVANU_DONE ? cancel_answer(cancelled{told.a, told.b}) : refusal(told);
+        });
+    }
+
+    /* A list of calls, with no other in between. Without an error each has its answer. */
+    [[nodiscard]] std::error_code calls(span<relkvanu_store_call> list) noexcept { return store_code(relkvanu_store_calls(store_, list.data(), list.size())); }
+
+    /* For event loops: see relkvanu_store_submit. */
+    [[nodiscard]] std::error_code submit(span<relkvanu_store_call> list, std::uint64_t token) noexcept {
+        return store_code(relkvanu_store_submit(store_, list.data(), list.size(), token));
+    }
+
+    std::size_t completed(span<relkvanu_store_completion> list) noexcept { return relkvanu_store_completed(store_, list.data(), list.size()); }
+
+    [[nodiscard]] int descriptor() const noexcept { return relkvanu_store_descriptor(store_); }
+
+    /* Calls look with the handle, for reads of what is committed. Also if it throws the read ends. */
+    template <class Look> [[nodiscard]] std::error_code read(Look look) {
+        struct reading {
+            relkvanu_store *store;
+            ~reading() { relkvanu_store_read_end(store); }
+        };
+        relkvanu *handle = nullptr;
+        int status = relkvanu_store_read(store_, &handle);
+        if (status == RELKVANU_STORE_OK) {
+            reading until_the_end{store_};
+            look(handle);
+        }
+        return store_code(status);
+    }
+
+    [[nodiscard]] std::uint64_t now() const noexcept { return relkvanu_store_now(store_); }
+
+    /* After how many milliseconds the next tick has to come; RELKVANU_STORE_NOW: only a call can bring one. */
+    [[nodiscard]] std::error_code next_tick(std::uint64_t &wait) noexcept { return store_code(relkvanu_store_next_tick(store_, &wait)); }
+
+    /* Sleeps until a tick is due, at most so many milliseconds, and makes it. Refused as store_error::timed_out or stopped otherwise. */
+    [[nodiscard]] tick_answer await_tick(std::uint64_t longest) noexcept {
+        relkvanu_store_call tick = {};
+        int status = relkvanu_store_await_tick(store_, longest, &tick);
+        return status == RELKVANU_STORE_OK ? tick_of(tick.answer) : tick_answer(refused{store_code(status)});
+    }
+
+    /* For the sweep of a recovery: leaves those of the files that the coordinator does not know. */
+    [[nodiscard]] std::error_code unknown(std::vector<std::uint64_t> &list) {
+        std::size_t len = list.size();
+        int status = relkvanu_store_unknown(store_, list.data(), &len);
+        list.resize(status == RELKVANU_STORE_OK ? len : 0);
+        return store_code(status);
+    }
+
+    [[nodiscard]] int folder() const noexcept { return relkvanu_store_folder(store_); }
+
+    /* A discarder in a thread of the engine, until stop: gone(file) says whether the file is not there any more. A file for which it throws
+     * is tried again. */
+    template <class Gone> [[nodiscard]] std::error_code discard(Gone gone, std::size_t batch = 0) noexcept {
+        auto delete_files = [](void *with, const std::uint64_t *list, std::size_t len, std::uint8_t *is_gone) noexcept {
+            for (std::size_t place = 0; place < len; place++) {
+                try {
+                    is_gone[place] = (*static_cast<Gone *>(with))(list[place]) ? 1 : 0;
+                } catch (...) {
+                    is_gone[place] = 0;
+                }
+            }
+        };
+        return store_code(relkvanu_store_discard(store_, batch, delete_files, &gone));
+    }
+
+    void stop() noexcept { relkvanu_store_stop(store_); }
+
+    [[nodiscard]] relkvanu_store_counts counts() noexcept {
+        relkvanu_store_counts found;
+        relkvanu_store_count(store_, &found);
+        return found;
+    }
+
+    /* What closed the store. */
+    [[nodiscard]] std::string message() {
+        std::string text(RELKVANU_STORE_MESSAGE, '\0');
+        text.resize(relkvanu_store_message(store_, text.data(), text.size()));
+        return text;
+    }
+
+private:
+    relkvanu_store *store_;
+    relkvanu_store_report report_;
+
+    Store(relkvanu_store *made, const relkvanu_store_report &found) noexcept : store_(made), report_(found) {}
+
+    static relkvanu_store_call call(std::uint32_t kind, std::uint64_t now, std::uint64_t number = 0, std::uint16_t vertex = 0, std::uint16_t index = 0) noexcept {
+        relkvanu_store_call it = {};
+        it.call = relkvanu_call{kind, vertex, index, now, number};
+        return it;
+    }
+
+    template <class Answer, class Of> Answer one(relkvanu_store_call it, Of of) noexcept {
+        int status = relkvanu_store_calls(store_, &it, 1);
+        return status == RELKVANU_STORE_OK ? of(it.answer) : Answer(refused{store_code(status)});
+    }
+};
+
+} // namespace ckpt
+
+template <> struct std::is_error_code_enum<ckpt::store_error> : std::true_type {};
+
+#endif
