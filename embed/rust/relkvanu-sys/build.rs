@@ -34,5 +34,10 @@ fn main() {
         folder.join("librelkvanu.a").display()
     );
     println!("cargo:rustc-link-search=native={}", folder.display());
+    if env::var_os("CARGO_FEATURE_STORE").is_some() {
+        println!("cargo:rustc-link-lib=static=relkvanu-store");
+        println!("cargo:rustc-link-lib=sqlite3");
+        println!("cargo:rustc-link-lib=z");
+    }
     println!("cargo:rustc-link-lib=static=relkvanu");
 }

@@ -4,5 +4,7 @@
 #![allow(non_camel_case_types)]
 
 mod bindings;
+#[cfg(feature = "store")]
+pub mod store;
 
 pub use bindings::*;

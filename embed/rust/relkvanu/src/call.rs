@@ -146,7 +146,7 @@ impl<'a> Call<'a> {
         })
     }
 
-    fn lists(&self) -> (&[u64], &[u64]) {
+    pub(crate) fn lists(&self) -> (&[u64], &[u64]) {
         match self {
             Call::Ack { fresh, reused, .. } => (fresh, reused),
             Call::Restore { shape, .. } => (shape.unwrap_or(&[]), &[]),
@@ -154,7 +154,7 @@ impl<'a> Call<'a> {
         }
     }
 
-    fn fields(&self) -> sys::relkvanu_call {
+    pub(crate) fn fields(&self) -> sys::relkvanu_call {
         let of = |kind, now, number| sys::relkvanu_call {
             kind,
             vertex: 0,

@@ -134,6 +134,23 @@ impl Coordinator {
         done(told).map(|_| opened)
     }
 
+    /// A coordinator for the reads of a handle that stays another owner's.
+    #[cfg(feature = "store")]
+    pub(crate) fn over(handle: sys::relkvanu) -> Coordinator {
+        Coordinator {
+            handle: UnsafeCell::new(handle),
+            image_room: Cell::new(256),
+            most_ahead: DAY,
+        }
+    }
+
+    /// The handle for its owner, as the reads left it.
+    #[cfg(feature = "store")]
+    pub(crate) fn taken_back(&self) -> sys::relkvanu {
+        // SAFETY: `Coordinator` is not `Sync`, so no read runs. The owner does not drop the coordinator.
+        unsafe { self.handle.get().read() }
+    }
+
     /// The handle for a call: the library's own, which is used by one call at a time.
     pub(crate) fn handle(&mut self) -> *mut sys::relkvanu {
         self.handle.get_mut()

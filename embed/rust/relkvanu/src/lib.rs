@@ -4,6 +4,7 @@
 //! - A [`SharedCoordinator`] lets any number of threads call one, under a mutex.
 //! - A [`Call`] can be written as a line of a log and read from it, and [`Coordinator::line`] makes it again. The texts of an
 //!   [`Answer`] and of a [`Refusal`] read back as themselves.
+//! - With the feature `store` a `store::Store` makes its calls durable, in an SQLite file.
 //! - A [`Discarder`] deletes the files that no record uses any more, in threads of its own.
 //!
 //! The coordinator reads no clock and deletes no file by itself. The caller gives the moment of each call, in
@@ -23,6 +24,8 @@ mod fault;
 mod lines;
 mod parse;
 mod shared;
+#[cfg(feature = "store")]
+pub mod store;
 
 pub use answer::{Answer, Choice, FileCounts, Kind, Live, Mode, Standing};
 pub use call::Call;

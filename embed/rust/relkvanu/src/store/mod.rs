@@ -1,0 +1,343 @@
+//! A durable coordinator: one SQLite file for each job (`include/relkvanu_store.h`).
+mod calls;
+mod error;
+mod opening;
+
+pub use calls::{Made, Outcome};
+pub use error::{CallError, StoreError, StoreErrorKind};
+pub use opening::{Options, Report, Step};
+
+use crate::answer;
+use crate::call::Call;
+use crate::coordinator::Coordinator;
+use crate::fault::Fault;
+use calls::{made, List};
+use opening::step;
+use relkvanu_sys as sys;
+use std::collections::HashMap;
+use std::ffi::{c_int, c_void, CStr, CString};
+use std::fmt;
+use std::os::fd::{BorrowedFd, RawFd};
+use std::os::unix::ffi::OsStrExt;
+use std::panic::{catch_unwind, AssertUnwindSafe};
+use std::path::Path;
+use std::ptr::{self, NonNull};
+use std::sync::Mutex;
+
+/// The moment of a call that the store shall choose: that of its clock, which never jumps.
+pub const NOW: u64 = sys::store::RELKVANU_STORE_NOW;
+
+/// What a submit became: the outcomes of its calls, or why they were not committed.
+pub type Completion = (u64, Result<Vec<Result<Made, Fault>>, StoreError>);
+
+/// A durable coordinator. Threads share it; its drop closes it.
+///
+/// ```
+/// fn is_shared<T: Send + Sync>() {}
+/// is_shared::<relkvanu::store::Store>();
+/// ```
+#[derive(Debug)]
+pub struct Store {
+    store: NonNull<sys::store::relkvanu_store>,
+    report: Report,
+    submits: Mutex<Submits>,
+}
+
+#[derive(Default)]
+struct Submits {
+    last: u64,
+    lists: HashMap<u64, List>,
+}
+
+impl fmt::Debug for Submits {
+    fn fmt(&self, f: &mut fmt::Formatter<'_>) -> fmt::Result {
+        write!(f, "{} submits", self.lists.len())
+    }
+}
+
+// SAFETY: any number of threads may call the functions of the header, from any thread, until the close.
+unsafe impl Send for Store {}
+// SAFETY: as above.
+unsafe impl Sync for Store {}
+
+impl Drop for Store {
+    fn drop(&mut self) {
+        // SAFETY: nobody borrows the store. The close waits for each submit, whose lists are dropped after it.
+        unsafe { sys::store::relkvanu_store_close(self.store.as_ptr()) }
+    }
+}
+
+fn c_path(path: &Path) -> Result<CString, StoreError> {
+    CString::new(path.as_os_str().as_bytes()).map_err(|why| StoreError {
+        kind: StoreErrorKind::BadArgument,
+        message: why.to_string(),
+    })
+}
+
+impl Store {
+    /// Recovers the job at the path, or makes one if the options say so.
+    pub fn open(path: &Path, options: &Options) -> Result<Store, StoreError> {
+        let path = c_path(path)?;
+        let storage = options.storage.as_deref().map(c_path).transpose()?;
+        let given = sys::store::relkvanu_store_options {
+            flags: options.flags(),
+            patience: options.patience,
+            image_calls: options
+                .image_calls
+                .unwrap_or(sys::store::RELKVANU_STORE_NO_IMAGES),
+            most_ahead: options.most_ahead,
+            storage: storage.as_ref().map_or(ptr::null(), |it| it.as_ptr()),
+            settings: (&options.settings).into(),
+            shape: options.shape.as_ptr(),
+            shape_len: options.shape.len(),
+            reserved: [0; 4],
+        };
+        let mut store = ptr::null_mut();
+        // SAFETY: all zero is a report.
+        let mut found: sys::store::relkvanu_store_report = unsafe { std::mem::zeroed() };
+        // SAFETY: the path, the options and what they point to outlive the call, which keeps none of them.
+        let status = unsafe {
+            sys::store::relkvanu_store_open(&mut store, path.as_ptr(), &given, &mut found)
+        };
+        let Some(store) = NonNull::new(store) else {
+            // SAFETY: the message ends with a zero.
+            let message = unsafe { CStr::from_ptr(found.message.as_ptr()) };
+            return Err(StoreError {
+                kind: StoreErrorKind::of(status),
+                message: message.to_string_lossy().into_owned(),
+            });
+        };
+        let report = Report {
+            is_recovered: found.is_recovered,
+            settings_differ: found.settings_differ,
+            steps: found.steps[..found.steps_len].iter().map(step).collect(),
+            epoch: found.epoch,
+            job: found.job,
+            image_place: found.image_place,
+            replayed: found.replayed,
+            taken: found.taken,
+            moment: found.moment,
+            mode: answer::mode(found.mode),
+            choice: answer::choice(found.choice),
+        };
+        Ok(Store {
+            store,
+            report,
+            submits: Mutex::default(),
+        })
+    }
+
+    pub fn report(&self) -> &Report {
+        &self.report
+    }
+
+    fn at(&self) -> *mut sys::store::relkvanu_store {
+        self.store.as_ptr()
+    }
+
+    fn check(&self, status: c_int) -> Result<(), StoreError> {
+        if status == sys::store::RELKVANU_STORE_OK {
+            return Ok(());
+        }
+        Err(StoreError {
+            kind: StoreErrorKind::of(status),
+            message: self.message(),
+        })
+    }
+
+    fn message(&self) -> String {
+        let mut text = [0; sys::store::RELKVANU_STORE_MESSAGE];
+        // SAFETY: the buffer has as many bytes as is said, and gets a zero at the end.
+        unsafe {
+            sys::store::relkvanu_store_message(self.at(), text.as_mut_ptr(), text.len());
+            CStr::from_ptr(text.as_ptr()).to_string_lossy().into_owned()
+        }
+    }
+
+    /// Makes 1 to 4096 calls, with no other in between, and returns once they are committed. After one without memory the later ones
+    /// are not made.
+    pub fn calls(&self, calls: &[Call<'_>]) -> Result<Vec<Result<Made, Fault>>, StoreError> {
+        let mut list = List::of(calls);
+        // SAFETY: the calls and all that they point to stay until the call returns.
+        let status = unsafe {
+            sys::store::relkvanu_store_calls(self.at(), list.calls.as_mut_ptr(), list.calls.len())
+        };
+        self.check(status)?;
+        Ok(list.outcomes())
+    }
+
+    /// Makes one call. Its moment may be [`NOW`].
+    pub fn call(&self, call: Call<'_>) -> Result<Made, CallError> {
+        let mut outcomes = self.calls(&[call])?;
+        outcomes
+            .pop()
+            .unwrap_or(Err(Fault::Memory))
+            .map_err(CallError::Fault)
+    }
+
+    /// For event loops: as [`calls`](Self::calls), but returns a token at once. [`completed`](Self::completed) returns it with the outcomes.
+    pub fn submit(&self, calls: &[Call<'_>]) -> Result<u64, StoreError> {
+        let mut list = List::of(calls);
+        let (at, len) = (list.calls.as_mut_ptr(), list.calls.len());
+        let mut submits = self.submits.lock().unwrap_or_else(|it| it.into_inner());
+        submits.last += 1;
+        let token = submits.last;
+        submits.lists.insert(token, list);
+        // SAFETY: the calls and all that they point to are in vectors that stay in the map until the completion.
+        let status = unsafe { sys::store::relkvanu_store_submit(self.at(), at, len, token) };
+        if let Err(why) = self.check(status) {
+            submits.lists.remove(&token);
+            return Err(why);
+        }
+        Ok(token)
+    }
+
+    /// The submits that are committed, or failed, since the last time. Never waits.
+    pub fn completed(&self) -> Vec<Completion> {
+        let mut found = [sys::store::relkvanu_store_completion {
+            token: 0,
+            status: 0,
+        }; 64];
+        let mut submits = self.submits.lock().unwrap_or_else(|it| it.into_inner());
+        // SAFETY: the buffer has as many places as is said.
+        let len = unsafe {
+            sys::store::relkvanu_store_completed(self.at(), found.as_mut_ptr(), found.len())
+        };
+        let complete = |it: &sys::store::relkvanu_store_completion| {
+            let list = submits.lists.remove(&it.token)?;
+            Some((it.token, self.check(it.status).map(|()| list.outcomes())))
+        };
+        found[..len].iter().filter_map(complete).collect()
+    }
+
+    /// A descriptor that can be read while there are completions.
+    pub fn descriptor(&self) -> BorrowedFd<'_> {
+        // SAFETY: the eventfd stays open until the close.
+        unsafe { BorrowedFd::borrow_raw(sys::store::relkvanu_store_descriptor(self.at())) }
+    }
+
+    /// Reads of what is committed. All callers wait meanwhile, so be quick, and make no call.
+    pub fn read<T>(&self, look: impl FnOnce(&Coordinator) -> T) -> Result<T, StoreError> {
+        let mut handle = ptr::null_mut();
+        // SAFETY: the place for the handle is this function's own.
+        self.check(unsafe { sys::store::relkvanu_store_read(self.at(), &mut handle) })?;
+        let reading = Reading {
+            store: self.at(),
+            handle,
+            // SAFETY: until the end of the read the handle is this function's alone. Its state moves into the coordinator, and back.
+            job: std::mem::ManuallyDrop::new(Coordinator::over(unsafe { handle.read() })),
+        };
+        Ok(look(&reading.job))
+    }
+
+    /// The moment of the store's clock.
+    pub fn now(&self) -> u64 {
+        // SAFETY: the store is open.
+        unsafe { sys::store::relkvanu_store_now(self.at()) }
+    }
+
+    /// After how many milliseconds the next tick has to come, unless a call is made before; `None`: only a call can bring one.
+    pub fn next_tick(&self) -> Result<Option<u64>, StoreError> {
+        let mut wait = 0;
+        // SAFETY: the place is this function's own.
+        self.check(unsafe { sys::store::relkvanu_store_next_tick(self.at(), &mut wait) })?;
+        Ok((wait != u64::MAX).then_some(wait))
+    }
+
+    /// A timer in a loop of a thread: sleeps until a tick is due, at most so many milliseconds, and makes it. Otherwise the error is
+    /// `TimedOut` or `Stopped`.
+    pub fn await_tick(&self, longest: u64) -> Result<Made, CallError> {
+        let mut list = List::of(&[Call::Tick { now: NOW }]);
+        // SAFETY: the call is this function's own.
+        self.check(unsafe {
+            sys::store::relkvanu_store_await_tick(self.at(), longest, list.calls.as_mut_ptr())
+        })?;
+        made(&list.calls[0], Vec::new()).map_err(CallError::Fault)
+    }
+
+    /// For the sweep of a recovery: those of the files that the coordinator does not know. `NotNow` if a task may have written a file whose
+    /// acknowledgement is on its way.
+    pub fn unknown(&self, mut files: Vec<u64>) -> Result<Vec<u64>, StoreError> {
+        let mut len = files.len();
+        // SAFETY: the vector has as many elements as is said.
+        self.check(unsafe {
+            sys::store::relkvanu_store_unknown(self.at(), files.as_mut_ptr(), &mut len)
+        })?;
+        files.truncate(len);
+        Ok(files)
+    }
+
+    /// The descriptor of the storage folder, which stays open until the drop: delete within it.
+    pub fn folder(&self) -> Option<RawFd> {
+        // SAFETY: the store is open.
+        let folder = unsafe { sys::store::relkvanu_store_folder(self.at()) };
+        (folder >= 0).then_some(folder)
+    }
+
+    /// A discarder in a thread of the engine, until [`stop`](Self::stop): `gone(file)` says whether the file is not there any more, also if it
+    /// was not there before. A file for which it panics is tried again. Never gives up.
+    pub fn discard<F: FnMut(u64) -> bool>(
+        &self,
+        batch: usize,
+        mut gone: F,
+    ) -> Result<(), StoreError> {
+        unsafe extern "C" fn delete<F: FnMut(u64) -> bool>(
+            with: *mut c_void,
+            files: *const u64,
+            len: usize,
+            is_gone: *mut u8,
+        ) {
+            for place in 0..len {
+                // SAFETY: `with` is the closure, and the lists have so many elements.
+                let (gone, file) = unsafe { (&mut *with.cast::<F>(), *files.add(place)) };
+                let is = catch_unwind(AssertUnwindSafe(|| gone(file))).unwrap_or(false);
+                // SAFETY: as above.
+                unsafe { *is_gone.add(place) = u8::from(is) };
+            }
+        }
+        // SAFETY: the closure outlives the call, which calls it in this thread alone.
+        let status = unsafe {
+            sys::store::relkvanu_store_discard(
+                self.at(),
+                batch,
+                delete::<F>,
+                (&mut gone as *mut F).cast(),
+            )
+        };
+        match status {
+            sys::store::RELKVANU_STORE_STOPPED => Ok(()),
+            other => self.check(other),
+        }
+    }
+
+    /// Lets [`await_tick`](Self::await_tick) and [`discard`](Self::discard) end, now and later.
+    pub fn stop(&self) {
+        // SAFETY: the store is open.
+        unsafe { sys::store::relkvanu_store_stop(self.at()) }
+    }
+
+    /// Counts since the opening.
+    pub fn counts(&self) -> sys::store::relkvanu_store_counts {
+        let mut counts = Default::default();
+        // SAFETY: the place is this function's own.
+        unsafe { sys::store::relkvanu_store_count(self.at(), &mut counts) };
+        counts
+    }
+}
+
+/// A read, which ends with its drop, also by a panic: then the state is back in the store's handle.
+struct Reading {
+    store: *mut sys::store::relkvanu_store,
+    handle: *mut sys::relkvanu,
+    job: std::mem::ManuallyDrop<Coordinator>,
+}
+
+impl Drop for Reading {
+    fn drop(&mut self) {
+        // SAFETY: the handle is the store's own, and nobody else has it before the end of the read.
+        unsafe {
+            self.handle.write(self.job.taken_back());
+            sys::store::relkvanu_store_read_end(self.store);
+        }
+    }
+}

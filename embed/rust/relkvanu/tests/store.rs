@@ -1,0 +1,289 @@
+//! The durable coordinator: calls and refusals, a recovery, threads, submits, a read that panics, and the discarder.
+#![cfg(feature = "store")]
+use relkvanu::store::{Options, Outcome, Step, Store, StoreErrorKind, NOW};
+use relkvanu::{Answer, Call, Choice, Fault, Mode, Refusal, Settings};
+use std::collections::BTreeSet;
+use std::fs;
+use std::mem::size_of;
+use std::path::{Path, PathBuf};
+use std::sync::atomic::{AtomicU64, Ordering};
+use std::thread;
+use std::time::Duration;
+
+const SETTINGS: Settings = Settings {
+    interval: 10,
+    pause: 0,
+    at_once: 1,
+    timeout: 1 << 30,
+    tolerable: 1000,
+    retained: 1,
+    keep_on_cancel: false,
+};
+
+/// A folder of the test's own, which is removed.
+struct Folder(PathBuf);
+
+impl Folder {
+    fn new(name: &str) -> Folder {
+        let path =
+            std::env::temp_dir().join(format!("relkvanu-store-{name}-{}", std::process::id()));
+        fs::create_dir_all(path.join("state")).unwrap();
+        Folder(path)
+    }
+
+    fn open(&self) -> Store {
+        let mut options = Options::new(SETTINGS, &[2]);
+        options.create = true;
+        Store::open(&self.0.join("job.db"), &options).unwrap()
+    }
+}
+
+impl Drop for Folder {
+    fn drop(&mut self) {
+        fs::remove_dir_all(&self.0).unwrap();
+    }
+}
+
+fn ack(store: &Store, id: u64, index: u16, file: u64) -> Answer {
+    let call = Call::Ack {
+        now: 0,
+        id,
+        subtask: (0, index),
+        fresh: &[file],
+        reused: &[],
+    };
+    store.call(call).unwrap().called().unwrap()
+}
+
+/// A checkpoint with two files from a number on.
+fn complete(store: &Store, file: u64) -> u64 {
+    let due = store.read(|job| job.due()).unwrap();
+    let ticked = store.call(Call::Tick { now: due }).unwrap();
+    let Some(Answer::Triggered { id, .. }) = ticked.called() else {
+        panic!("{ticked:?}");
+    };
+    assert_eq!(ack(store, id, 0, file), Answer::AckPending { missing: 1 });
+    assert!(matches!(
+        ack(store, id, 1, file + 1),
+        Answer::AckCompleted { .. }
+    ));
+    id
+}
+
+#[test]
+fn calls_and_a_recovery() {
+    let folder = Folder::new("calls");
+    let store = folder.open();
+    assert!(!store.report().is_recovered);
+    assert_eq!(store.report().steps, [Step::StartTasks]);
+    complete(&store, 1);
+    complete(&store, 11);
+    let calls = [
+        Call::Dispose { id: 9 },
+        Call::Take { most: 1 },
+        Call::Savepoint { now: NOW },
+    ];
+    let outcomes = store.calls(&calls).unwrap();
+    assert_eq!(outcomes[0], Err(Fault::Refused(Refusal::NoSuchSavepoint)));
+    assert_eq!(
+        outcomes[1].as_ref().unwrap().answer,
+        Outcome::Taken(vec![1])
+    );
+    let savepoint = outcomes[2].as_ref().unwrap();
+    assert_eq!(
+        (savepoint.place, savepoint.choice),
+        (8, Some(Choice::Checkpoint(2)))
+    );
+    assert_eq!(
+        store.calls(&[]).unwrap_err().kind,
+        StoreErrorKind::BadArgument
+    );
+    let mut options = Options::new(SETTINGS, &[2]);
+    let second = Store::open(&folder.0.join("job.db"), &options).unwrap_err();
+    assert_eq!(second.kind, StoreErrorKind::InUse);
+    assert!(
+        second.message.contains(&std::process::id().to_string()),
+        "{second}"
+    );
+    let job = store.report().job;
+    drop(store);
+    options.settings.interval = 20;
+    let store = Store::open(&folder.0.join("job.db"), &options).unwrap();
+    let report = store.report();
+    assert!(
+        report.is_recovered && report.settings_differ && report.epoch == 2 && report.job == job
+    );
+    assert_eq!(
+        (report.taken, report.mode, report.choice),
+        (1, Mode::Running, Choice::Checkpoint(2))
+    );
+    assert_eq!(
+        report.steps,
+        [Step::EndTasks, Step::Restore, Step::Sweep, Step::StartTasks]
+    );
+    assert_eq!(
+        store.unknown(vec![1]).unwrap_err().kind,
+        StoreErrorKind::NotNow
+    );
+    let restore = Call::Restore {
+        now: NOW,
+        savepoint: None,
+        shape: None,
+    };
+    assert!(matches!(
+        store.call(restore).unwrap().called(),
+        Some(Answer::Restored { .. })
+    ));
+    assert_eq!(store.unknown(vec![1, 2, 3, 11, 12]).unwrap(), [3]);
+    assert!(store.next_tick().unwrap().is_some());
+}
+
+#[test]
+fn openings_that_are_refused() {
+    let folder = Folder::new("refused");
+    let path = folder.0.join("job.db");
+    let mut options = Options::new(SETTINGS, &[2]);
+    assert_eq!(
+        Store::open(&path, &options).unwrap_err().kind,
+        StoreErrorKind::Absent
+    );
+    assert_eq!(
+        Store::open(Path::new("a\0b"), &options).unwrap_err().kind,
+        StoreErrorKind::BadArgument
+    );
+    options.create = true;
+    options.storage = Some(folder.0.join("state"));
+    fs::write(folder.0.join("state/5"), "").unwrap();
+    let why = Store::open(&path, &options).unwrap_err();
+    assert!(
+        why.kind == StoreErrorKind::Storage && !why.closes(),
+        "{why}"
+    );
+}
+
+#[test]
+fn threads_share_it() {
+    let folder = Folder::new("threads");
+    let store = folder.open();
+    thread::scope(|scope| {
+        for _ in 0..16 {
+            scope.spawn(|| {
+                for _ in 0..20 {
+                    store.call(Call::Savepoint { now: NOW }).unwrap();
+                }
+            });
+        }
+    });
+    assert_eq!(store.counts().calls, 320);
+    assert_eq!(
+        store.read(|job| job.live(319).map(|it| it.id)).unwrap(),
+        Some(320)
+    );
+}
+
+#[test]
+fn a_read_that_panics() {
+    let folder = Folder::new("panics");
+    let store = folder.open();
+    complete(&store, 1);
+    let read = std::panic::catch_unwind(std::panic::AssertUnwindSafe(|| {
+        store.read(|job| panic!("{}", job.due()))
+    }));
+    assert!(read.is_err());
+    complete(&store, 11);
+    assert_eq!(store.read(|job| job.file_counts().waiting).unwrap(), 2);
+}
+
+#[test]
+fn submits() {
+    let folder = Folder::new("submits");
+    let store = folder.open();
+    let tokens: Vec<u64> = (0..100)
+        .map(|_| store.submit(&[Call::Savepoint { now: NOW }]).unwrap())
+        .collect();
+    let mut found = Vec::new();
+    while found.len() < 100 {
+        found.extend(store.completed());
+        thread::sleep(Duration::from_millis(1));
+    }
+    assert_eq!(found.iter().map(|it| it.0).collect::<Vec<_>>(), tokens);
+    let places = found
+        .iter()
+        .map(|it| it.1.as_ref().unwrap()[0].as_ref().unwrap().place);
+    assert!(places.eq(1..=100));
+    store.submit(&[Call::Savepoint { now: NOW }]).unwrap(); // the drop waits for it
+}
+
+#[test]
+fn a_discarder() {
+    let folder = Folder::new("discarder");
+    let store = folder.open();
+    let tries = AtomicU64::new(0);
+    thread::scope(|scope| {
+        let discarder = scope.spawn(|| {
+            let mut gone = BTreeSet::new();
+            let ended = store.discard(4, |file| {
+                assert!(
+                    file != 2 || tries.fetch_add(1, Ordering::Relaxed) >= 2,
+                    "not yet"
+                );
+                gone.insert(file)
+            });
+            (ended, gone)
+        });
+        complete(&store, 1);
+        complete(&store, 11);
+        while store
+            .read(|job| job.file_counts())
+            .is_ok_and(|it| it.waiting + it.taken != 0)
+        {
+            thread::sleep(Duration::from_millis(5));
+        }
+        store.stop();
+        let (ended, gone) = discarder.join().unwrap();
+        assert_eq!(ended, Ok(()));
+        assert_eq!(gone, BTreeSet::from([1, 2]));
+        assert_eq!(tries.load(Ordering::Relaxed), 3);
+    });
+    assert!(store.await_tick(1000).is_err());
+}
+
+/// The sizes and numbers of the header, as embed/store/tests/layout.c prints them.
+#[test]
+fn the_header_agrees() {
+    use relkvanu_sys::store as sys;
+    let Some(program) = std::env::var_os("STORE_LAYOUT") else {
+        return;
+    };
+    let told = std::process::Command::new(program).output().unwrap().stdout;
+    let told = String::from_utf8(told).unwrap();
+    let has = |line: String| assert!(told.lines().any(|it| it == line), "{line}");
+    has(format!(
+        "struct relkvanu_store_options {}",
+        size_of::<sys::relkvanu_store_options>()
+    ));
+    has(format!(
+        "struct relkvanu_store_report {}",
+        size_of::<sys::relkvanu_store_report>()
+    ));
+    has(format!(
+        "struct relkvanu_store_call {}",
+        size_of::<sys::relkvanu_store_call>()
+    ));
+    has(format!(
+        "struct relkvanu_store_completion {}",
+        size_of::<sys::relkvanu_store_completion>()
+    ));
+    has(format!(
+        "struct relkvanu_store_counts {}",
+        size_of::<sys::relkvanu_store_counts>()
+    ));
+    has(format!("number BUSY {}", sys::RELKVANU_STORE_BUSY));
+    has(format!("number STOPPED {}", sys::RELKVANU_STORE_STOPPED));
+    has(format!("number NOT_MADE {}", sys::RELKVANU_STORE_NOT_MADE));
+    has(format!(
+        "number EARLIER_IMAGE {}",
+        sys::RELKVANU_STORE_EARLIER_IMAGE
+    ));
+    has(format!("number DISCARD {}", sys::RELKVANU_STORE_DISCARD));
+}
