@@ -3,8 +3,6 @@ package relkvanu
 // #include <relkvanu.h>
 import "C"
 
-import "bytes"
-
 // Lines of a script (docs/SCRIPT.md): a log of calls, which the library writes and reads.
 
 // Line is what the bytes before a newline say: a LineSkip, LineConfig, LineJob, LineStart, LineAll or LineCall.
@@ -205,14 +203,12 @@ func (o *owner) shownReply(id uint64) (Reply, error) {
 	return shown, nil
 }
 
-// shown is the record of a show line, and false for a take line. The library reads the number from a job line with the same number.
+// shown is the record of a show line, and false for another line.
 func shown(line []byte) (uint64, bool) {
-	says, err := LineSays(bytes.Replace(line, []byte("show"), []byte("job"), 1))
-	job, is := says.(LineJob)
-	if err != nil || !is {
-		return 0, false
-	}
-	return job[0], true
+	at, length := text(line)
+	var call C.relkvanu_call
+	says := C.relkvanu_line_call(at, length, &call, nil, 0, nil, 0)
+	return uint64(call.number), says.code == C.RELKVANU_DONE && call.kind == C.RELKVANU_CALL_SHOW
 }
 
 // replyOf is the reply of a line, whose files are in taken if it fetched any.
