@@ -4,7 +4,7 @@ from dataclasses import dataclass
 from typing import Callable, Dict, Optional, Tuple, Union
 
 from relkvanu import header
-from relkvanu.coordinator import U64, _done, _shared, _text
+from relkvanu.coordinator import U64, Unknown, _done, _shared, _text
 from relkvanu.lines import (
     _line, ack_line, cancel_line, decline_line, deleted_line, dispose_line, restore_line, savepoint_line, take_line, tick_line,
     undeleted_line,
@@ -145,6 +145,8 @@ def line_call(line: bytes) -> Optional[Call]:
         fresh, reused = answer.a, answer.b
     if _done(answer).what == header.SKIPPED:
         return None
+    if answer.what != header.LINE_CALL:
+        raise Unknown(answer.code, answer.what)
     return _call(call, tuple(first[: answer.a]), tuple(second[: answer.b]))
 
 
@@ -157,4 +159,6 @@ def _call(it: header.relkvanu_call, first: Tuple[int, ...], second: Tuple[int, .
         return Ack(it.now, it.number, it.vertex, it.index, first, second)
     if it.kind == header.CALL_DECLINE:
         return Decline(it.now, it.number, it.vertex, it.index)
-    return Restore(it.now, it.number or None, first or None)
+    if it.kind == header.CALL_RESTORE:
+        return Restore(it.now, it.number or None, first or None)
+    raise Unknown(header.DONE, header.LINE_CALL)
