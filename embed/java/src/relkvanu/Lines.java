@@ -40,10 +40,11 @@ public final class Lines {
         };
     }
 
-    /** The record of a show line; empty for a take line. The library reads the number from a job line with the same number. */
+    /** The record of a show line; empty for another line. */
     static OptionalLong shown(byte[] line) {
-        String job = new String(line, StandardCharsets.ISO_8859_1).replaceFirst("show", "job");
-        return says(job.getBytes(StandardCharsets.ISO_8859_1)) instanceof Line.Job it ? OptionalLong.of(it.shape()[0]) : OptionalLong.empty();
+        long[] call = new long[5];
+        Native.lineCall(line, call, NONE, NONE, new long[4]);
+        return call[0] == Header.CALL_SHOW ? OptionalLong.of(call[4]) : OptionalLong.empty();
     }
 
     /**

@@ -62,6 +62,8 @@ final class Native {
 
     static native void lineSays(byte[] line, long[] numbers, long[] out);
 
+    static native void lineCall(byte[] line, long[] call, long[] first, long[] second, long[] out);
+
     static native void callLine(long[] call, long[] first, long[] second, byte[] line, long[] out);
 
     static native void openingLines(long[] settings, long[] shape, long now, byte[] lines, long[] out);
