@@ -7,5 +7,6 @@ pub mod OnceIssued
 pub mod RangeLemmas
 pub mod SpanLemmas
 pub mod Stepping
+pub mod Resuming
 pub mod TermLemmas
 pub mod Zombies

@@ -3,5 +3,6 @@ pub mod FencedExamples
 pub mod Fencing
 pub mod FencedLaws
 pub mod Spans
+pub mod TermsImages
 pub mod TermsOpening
 pub mod Wants

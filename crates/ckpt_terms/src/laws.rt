@@ -3,8 +3,9 @@
 ghost use Rattle.std.specs.Prelude.{ℕ, List};
 ghost use Rattle.ckpt_model.specs.State.{Opening};
 ghost use Rattle.ckpt_terms.specs.declared.call.FencedCall.{FencedCall};
-ghost use Rattle.ckpt_terms.specs.Fencing.{fenced, fenced_replay};
+ghost use Rattle.ckpt_terms.specs.Fencing.{Fenced, fenced, fenced_replay};
 ghost use Rattle.ckpt_terms.specs.FencedLaws.{CanFence, AreFencedCalls, IsFenced, Classified, GarbageForGood, DeletionsAreSafe, IssuedOnce, ZombiesAreFenced, SweepIsExact, CancelledIsSwept};
+ghost use Rattle.ckpt_terms.specs.TermsImages.{AreFencedAlike, CanHoldFenced, FencedGoesOnAs, IsFencedCut, fenced_settled};
 
 /// What always holds for a fenced coordinator holds after every list of calls.
 pub fn fenced_always()
@@ -48,4 +49,23 @@ pub fn sweep_is_exact()
 /// fetched for it, or is garbage.
 pub fn cancelled_is_swept()
     ensures { (o : Opening) (first : ℕ) (calls : List FencedCall) → CanFence o first → AreFencedCalls calls → CancelledIsSwept o first calls }
+{}
+
+/// A state that an image may have, with the fetched files in ascending order, is one too, and
+/// differs in that order alone.
+pub fn settling()
+    ensures held { (m : Fenced) → CanHoldFenced m → CanHoldFenced (fenced_settled m) }
+    ensures alike { (m : Fenced) → AreFencedAlike m (fenced_settled m) }
+{}
+
+/// Two states that differ in the order of the fetched files alone answer every list of calls the
+/// same, and stay so.
+pub fn resumes()
+    ensures { (m n : Fenced) (calls : List FencedCall) → AreFencedAlike m n → FencedGoesOnAs m n calls }
+{}
+
+/// A log may be cut at each place. A state with the fetched files in ascending order answers the
+/// calls after it as the log does, and is alike after them.
+pub fn cutting()
+    ensures { (m : Fenced) (before after : List FencedCall) → IsFencedCut m before after }
 {}
