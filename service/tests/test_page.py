@@ -65,12 +65,14 @@ def width(page, wanted, dark):
     page.execute_cdp_cmd("Emulation.setEmulatedMedia", {"features": [{"name": "prefers-color-scheme", "value": scheme}]})
 
 
-def picture(page, name):
+def picture(page, name, most=10000):
+    """Takes a picture of the page, or of so many pixels of it from the top."""
     if PICTURES:
         import base64
 
         time.sleep(1.5)
         size = page.execute_script("const it = document.documentElement; return {x: 0, y: 0, width: it.clientWidth, height: it.scrollHeight, scale: 1}")
+        size["height"] = min(size["height"], most)
         shot = page.execute_cdp_cmd("Page.captureScreenshot", {"captureBeyondViewport": True, "format": "png", "clip": size})
         with open(f"{PICTURES}/{name}.png", "wb") as it:
             it.write(base64.b64decode(shot["data"]))
@@ -198,6 +200,7 @@ def looked_at(page, server, engine):
     assert not wrong, wrong
     look_up(page, files[0])
     picture(page, "service-page")
+    picture(page, "service-page-top", 1130)
     least = [contrast(page)]
     width(page, 1200, True)
     page.refresh()

@@ -1,6 +1,8 @@
 // The two charts, in the page's colours.
 import { moment, tone } from "./views.js";
 
+Chart.defaults.font.size = 14;
+
 function colour(name) {
   return getComputedStyle(document.documentElement).getPropertyValue(`--${name}`).trim();
 }
